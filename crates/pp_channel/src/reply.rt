@@ -1,0 +1,17 @@
+//! What a channel answers.
+
+use crate::flags::Flags;
+use pp_word::Word12;
+
+/// The answer to one operation.
+#[derive(Clone, Copy, Debug, PartialEq, Eq)]
+pub enum Reply {
+    /// The flags that a probe asked for.
+    Flags(Flags),
+    /// The operation was made.
+    Done,
+    /// The word was taken.
+    Word(Word12),
+    /// The operation was not ready at these flags, and nothing changed.
+    Held(Flags),
+}
