@@ -1,0 +1,5 @@
+pub mod EachPlace
+pub mod LogicLemmas
+pub mod OperationCodeLemmas
+pub mod PlacesLemmas
+pub mod ShiftLemmas

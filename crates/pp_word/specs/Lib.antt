@@ -1,0 +1,5 @@
+pub mod Address
+pub mod BitPlaces
+pub mod CentralWord
+pub mod OnesComplement
+pub mod OperationCodes

@@ -1,0 +1,26 @@
+//! The words of a peripheral processor and of central memory: their ranges, ones' complement
+//! arithmetic, shifts and logic, addresses, operation codes, and the five parts of a central word.
+#![tactic(auto)]
+
+mod address;
+mod bit_places;
+mod central_word;
+mod ones_complement;
+mod opcode;
+mod word12;
+mod word18;
+mod word6;
+mod word60;
+
+pub use address::{index_address, next, relative};
+pub use bit_places::{and18, clear18, complement18, shift18, xor18};
+pub use central_word::{join60, split60};
+pub use ones_complement::{add18, sub18};
+pub use opcode::{Opcode, decode};
+pub use word6::Word6;
+pub use word12::Word12;
+pub use word18::Word18;
+pub use word60::Word60;
+
+#[cfg(test)]
+mod tests;

@@ -1,0 +1,36 @@
+//! Sum and difference in ones' complement.
+
+ghost use Rattle.std.specs.Prelude.{ℕ, ◌≡◌};
+ghost use Rattle.pp_word.specs.OnesComplement.{sum, difference, IsSum, IsDifference};
+
+use crate::word18::Word18;
+
+/// 777777: the other zero.
+const ALL_ONES: u32 = 0o777_777;
+
+/// The ones' complement sum; 777777 comes out only of two words 777777.
+pub fn add18(a: Word18, b: Word18) -> Word18
+    ensures congruence { IsSum a b result }
+    ensures value { result ≡ sum a b }
+{
+    let total = a.get() + b.get();
+    if total < ALL_ONES {
+        Word18::truncated(total)
+    } else {
+        Word18::truncated(total - ALL_ONES)
+    }
+}
+
+/// The ones' complement difference a - b; 777777 comes out only of 777777 less 000000.
+pub fn sub18(a: Word18, b: Word18) -> Word18
+    ensures congruence { IsDifference a b result }
+    ensures value { result ≡ difference a b }
+{
+    let minuend = a.get();
+    let subtrahend = b.get();
+    if subtrahend <= minuend {
+        Word18::truncated(minuend - subtrahend)
+    } else {
+        Word18::truncated(minuend + ALL_ONES - subtrahend)
+    }
+}

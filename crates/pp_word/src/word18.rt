@@ -1,0 +1,89 @@
+//! Words of 18 bits.
+
+ghost use Rattle.std.specs.Prelude.{ℕ, ◌≡◌, ◌%◌, ◌^◌, ◌<◌, ◌↔◌, IsSome, IfSome};
+
+use crate::word6::Word6;
+use crate::word12::Word12;
+use std::marker::Model;
+
+/// A word of 18 bits, 0 to 777777 (octal). Contracts see it as that number.
+#[derive(Clone, Copy, Debug, PartialEq, Eq)]
+pub struct Word18 {
+    value: u32,
+}
+
+impl Model for Word18 {
+    ghost Value = { ℕ };
+
+    ghost view = { λ w. w.value };
+
+    ghost invariant = { λ w. w.value < 2 ^ 18 };
+
+    ghost inverse = { λ n. record { value = n } };
+}
+
+impl Word18 {
+    /// The word 0.
+    pub const ZERO: Word18 = Word18 { value: 0 };
+
+    /// The word 1.
+    pub const ONE: Word18 = Word18 { value: 1 };
+
+    /// The word of this number, or nothing where it needs more than 18 bits.
+    pub fn new(value: u32) -> Option<Self>
+        ensures fits { IsSome result ↔ (value < 2 ^ 18) }
+        ensures value { IfSome result (λ w. w ≡ value) }
+    {
+        if value < 1 << 18 {
+            Some(Word18 { value })
+        } else {
+            None
+        }
+    }
+
+    /// The number of this word.
+    pub fn get(self) -> u32
+        ensures value { result ≡ self }
+        ensures small { result < 2 ^ 18 }
+    {
+        self.value
+    }
+
+    /// The low 18 bits of a number.
+    pub fn truncated(number: u32) -> Self
+        ensures { result ≡ number % 2 ^ 18 }
+    {
+        Word18 {
+            value: number & 0o777_777,
+        }
+    }
+
+    /// The low twelve bits of this word.
+    pub fn low(self) -> Word12
+        ensures { result ≡ self % 2 ^ 12 }
+    {
+        Word12::truncated(self.value)
+    }
+}
+
+/// The same number.
+impl From<Word6> for Word18 {
+    ghost from_gives = { λ word result. result ≡ word };
+
+    fn from(word: Word6) -> Word18 {
+        Word18 {
+            value: u32::from(word.get()),
+        }
+    }
+}
+
+/// The same number.
+impl From<Word12> for Word18 {
+    ghost from_gives = { λ word result. result ≡ word };
+
+    fn from(word: Word12) -> Word18 {
+        Word18 {
+            value: u32::from(word.get()),
+        }
+    }
+}
