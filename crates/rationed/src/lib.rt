@@ -1,8 +1,8 @@
 //! An allocator of the tests that refuses the Nth request.
 //!
-//! The counters are atomics, of whose contents no clause can speak: that the right request is
-//! refused is shown by the tests. What is proved is that each block is the inner allocator's, with
-//! the size that was asked for, and goes back to it once.
+//! Its counters are atomics, of whose contents no clause can speak: the tests show that the right
+//! request is refused. What is proved is that a block which it hands out is one of the inner
+//! allocator's, as large as was asked for, and goes back there with that size and never twice.
 #![tactic(auto)]
 
 mod ration;

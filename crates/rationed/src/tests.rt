@@ -1,5 +1,4 @@
 use super::*;
-use std::alloc::Global;
 use std::test::Fail;
 use std::thread;
 
@@ -81,18 +80,15 @@ fn asks_the_inner_allocator(rt: HostRuntime) {
     assert_eq!(rt; outer.asked(), 2);
 }
 
-fn boxed(heap: &Rationed<Global>) -> bool {
-    Box::new(heap, 5u8).is_ok()
-}
-
+// The blocks are given back in this thread, whichever one took them.
 #[test]
 fn refuses_one_of_two_threads(rt: HostRuntime) {
     let heap = Rationed::new(rt.alloc());
     for number in 1..4u64 {
         heap.refuse(number);
-        let (one, other) = thread::join(&rt, || boxed(&heap), || boxed(&heap));
-        assert_eq!(rt; one && other, number == 3);
-        assert!(rt; one || other);
+        let (one, other) = thread::join(&rt, || Box::new(&heap, 5u8), || Box::new(&heap, 6u8));
+        assert_eq!(rt; one.is_ok() && other.is_ok(), number == 3);
+        assert!(rt; one.is_ok() || other.is_ok());
         assert_eq!(rt; heap.asked(), 2);
     }
 }

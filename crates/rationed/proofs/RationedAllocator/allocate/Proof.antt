@@ -17,6 +17,7 @@ use denote.RattleType.{owns}
 use denote.Ref.{shr_vals}
 use denote.RawPtr.{block_ptr}
 use denote.Builtin.{usize, RefOf}
+use denote.Memory.{hidden_shr}
 use denote.Param.{bounded}
 use denote.Plain.{uint_vals, uint_Tells}
 use denote.Signature.{Slot, plain, types_at}
@@ -33,7 +34,6 @@ use Rattle.rationed.specs.contracts.RationedAllocator.allocate as f
 use Rattle.rationed.proofs.RationedAllocator.allocate.Statement.{statement}
 use Rattle.rationed.proofs.RationedAllocator.allocate.Code as code
 use Rattle.rationed.proofs.ration.Ration.refuses.Met.{met as asks}
-use denote.Memory.{hidden_shr}
 
 pub allocate_spec : {M : Type 1} → statement M
 allocate_spec 𝓤 𝓛 𝓜 𝓡 wired B laws g d dd met _ =
@@ -47,6 +47,8 @@ allocate_spec 𝓤 𝓛 𝓜 𝓡 wired B laws g d dd met _ =
     let args : Args = bounded (a_type ∷ []) (B, tt) (dcons d (dcons dd dnil)) in
     let fn : Fn = inst_fn args code.function in
     let self : Slot 2 = RefOf (0 ∷ []) tt (plain (λ _. Handle Z)) (λ _. tt) in
+    let request = Takes Z 𝓛 𝓜.mem 𝓡.returns in
+    let question = Asks 𝓛 𝓜.mem 𝓡.returns in
     let number = Goes-dropped 𝓛 2 (plain (λ _. usize)) yes (λ κs x w. refl) in
     proved 𝓛 ended stays c 𝓜 𝓡 (Goes-dropped 𝓛 2 self yes (λ κs x w. refl), (number, (number, tt)))
     (f.Key.name args) fn (code.unfolded 𝓤 𝓛.H 𝓜 𝓡 wired (B, tt) d dd)
@@ -55,12 +57,14 @@ allocate_spec 𝓤 𝓛 𝓜 𝓡 wired B laws g d dd met _ =
     let p : Place = a.0.ref_ptr in let h = a.0.now in let bytes = a.1.0 in let al = a.1.1.0 in
     let y : W.Ghost = ((κs, qs, bounds, a, (shr_vals a.0, (uint_vals w64 bytes, (uint_vals w64 al, tt)))), τ) in
     let Asked : Type 0 = (capped (size τ) ≡ bytes) × (capped (align τ) ≡ al) in
-    let x : (Takes Z 𝓛 𝓜.mem 𝓡.returns).Ghost = at_takes Z 𝓛 𝓜.mem 𝓡.returns κ q (inner_of Z p) h.inner bytes al τ in
-    let z : (Asks 𝓛 𝓜.mem 𝓡.returns).Ghost = at_ask 𝓛 𝓜.mem 𝓡.returns κ q (ration_of Z p) h.ration in
+    let passed : request.Ghost = at_takes Z 𝓛 𝓜.mem 𝓡.returns κ q (inner_of Z p) h.inner bytes al τ in
+    let put : question.Ghost = at_ask 𝓛 𝓜.mem 𝓡.returns κ q (ration_of Z p) h.ration in
     let tokens = ‵ (flft long qs.1.0) ⊛ ‵ ftrue in
+    -- the return, with an answer and the block that comes with it
     let ends : (v : Val) (r : Answer.Denot) → Sq 𝓛 (‵ (Answer.own_val r (v ∷ [])) ∷ ‵ (block_if_ok (token Z h.inner) τ r) ∷ ‵ (flft κ q) ∷ tokens ∷ []) (prop (W.post y v)) = λ v r.
     nothing ! $ nothing ! $ fjoin ! $ nothing ! $ fjoin ! $ nothing ! $ fjoin ! $ move ! (3 ∷ 4 ∷ []) $ join ! $
     by ! (leaves 𝓛 ended stays c y v r (tt, (tt, (tt, tt))) (tt, (tt, (tt, tt)))) in
+    -- the return with an `Err`
     let refused : Sq 𝓛 (‵ (flft κ q) ∷ tokens ∷ []) (prop (W.post y (answer_val false 0 0))) =
     nothing ! $ use0 𝓛 (‵ (Answer.own_val (Err (record {})) (answer_val false 0 0 ∷ []))) (Answer-err 𝓛) $ ends (answer_val false 0 0) (Err (record {})) in
     qed 𝓛 (((‵ (flft κ q) ⊛ tokens) ⊛ ‵ (owns (types_at ended.signature.params κs) a y.0.4)) ∷ (raw (fact 𝓤 (long ⊑ B.lives)) ⊛ raw (fact 𝓤 Asked)) ∷ []) ∵
@@ -70,8 +74,8 @@ allocate_spec 𝓤 𝓛 𝓜 𝓡 wired B laws g d dd met _ =
     -- [the ration; the token of κ; the inner allocator; the other tokens]
     enter ! _ _ _ _ _ $ alloc_all ! (λ l. pass_all ! refl ((tt, tt), ((tt, record { fits = are.1.0.1 }), ((tt, record { fits = are.1.1.0.1 }), tt))) $
     sets ! (addr ! (through ! refl (fld ! refl (stop !)))) refl (tt, tt) $
-    use2 𝓛 (raw ((Asks 𝓛 𝓜.mem 𝓡.returns).pre z)) (ask_goes 𝓛 𝓜.mem 𝓡.returns κ q (ration_of Z p) h.ration) $
-    calls_at ! framed_calls (Asks 𝓛 𝓜.mem 𝓡.returns) (asks 𝓤 𝓛 𝓜 𝓡 (code.calls-rationed::ration::Ration::refuses 𝓡.env wired)) z (and_then ! (get ! refl) (no_more !)) (λ v.
+    use2 𝓛 (raw (question.pre put)) (ask_goes 𝓛 𝓜.mem 𝓡.returns κ q (ration_of Z p) h.ration) $
+    calls_at ! framed_calls question (asks 𝓤 𝓛 𝓜 𝓡 (code.calls-rationed::ration::Ration::refuses 𝓡.env wired)) put (and_then ! (get ! refl) (no_more !)) (λ v.
     use1 𝓛 (later (some (λ (b : Bool). given (v ≡ vbool b) (‵ (flft κ q))))) (ask_tells 𝓛 𝓜.mem 𝓡.returns κ q (ration_of Z p) h.ration v) $ await ! tt $ pick ! (λ b. learn ! (λ e.
     lands_as ! e refl (tt, tt) $ move ! (0 ∷ 2 ∷ 1 ∷ []) $
     -- [the token of κ; the other tokens; the inner allocator]
@@ -80,8 +84,8 @@ allocate_spec 𝓤 𝓛 𝓜 𝓡 wired B laws g d dd met _ =
     returns_within ! (W.post y) refl (look_at ! 0 refl) $ free_all ! refl $ keep ! (0 ∷ 1 ∷ []) $ refused)
     (λ another. skips ! $ exec ! 𝓣.C 𝓣.Λ (env fn.locals l) (after 3 fn.body) (at_ret _ (W.post y)) $
     sets ! (addr ! (through ! refl (fld ! refl (stop !)))) refl (tt, tt) $ move ! (2 ∷ 0 ∷ []) $
-    use2 𝓛 (raw ((Takes Z 𝓛 𝓜.mem 𝓡.returns).pre x)) (Takes-goes Z 𝓛 𝓜.mem 𝓡.returns κ q (inner_of Z p) h.inner (⊑_trans κ long B.lives bounds.0 outlived) bytes al τ asked.0 asked.1 are.1.0.1 are.1.1.0.1) $
-    calls_at ! framed_calls (Takes Z 𝓛 𝓜.mem 𝓡.returns) (met.allocate dd) x (and_then ! (get ! refl) (and_then ! (get ! refl) (and_then ! (get ! refl) (no_more !)))) (λ u.
+    use2 𝓛 (raw (request.pre passed)) (Takes-goes Z 𝓛 𝓜.mem 𝓡.returns κ q (inner_of Z p) h.inner (⊑_trans κ long B.lives bounds.0 outlived) bytes al τ asked.0 asked.1 are.1.0.1 are.1.1.0.1) $
+    calls_at ! framed_calls request (met.allocate dd) passed (and_then ! (get ! refl) (and_then ! (get ! refl) (and_then ! (get ! refl) (no_more !)))) (λ u.
     use1 𝓛 (later (raw (Answered Z 𝓛 𝓜.mem 𝓡.returns h.inner τ u) ⊛ ‵ (flft κ q))) (Takes-gives Z 𝓛 𝓜.mem 𝓡.returns κ q (inner_of Z p) h.inner bytes al τ u) $ await ! tt $ split ! $
     answers Z ! 𝓜.mem 𝓡.returns h.inner τ u
     (λ b o is. fjoin ! $ lands_as ! is refl (Answer-typed true b o) $ returns ! (look_at ! 0 refl) $ free_all ! refl $

@@ -46,6 +46,7 @@ deallocate_spec 𝓤 𝓛 𝓜 𝓡 wired B laws g d dd met _ =
     let args : Args = bounded (a_type ∷ []) (B, tt) (dcons d (dcons dd dnil)) in
     let fn : Fn = inst_fn args code.function in
     let self : Slot 2 = RefOf (0 ∷ []) tt (plain (λ _. Handle Z)) (λ _. tt) in
+    let hand_back = Gives Z 𝓛 𝓜.mem 𝓡.returns in
     let pointer = Goes-dropped 𝓛 2 (plain (λ _. RawPtr)) yes (λ κs x w. refl) in
     let number = Goes-dropped 𝓛 2 (plain (λ _. usize)) yes (λ κs x w. refl) in
     proved 𝓛 ended stays c 𝓜 𝓡 (Goes-dropped 𝓛 2 self yes (λ κs x w. refl), (pointer, (number, (number, tt))))
@@ -60,7 +61,7 @@ deallocate_spec 𝓤 𝓛 𝓜 𝓡 wired B laws g d dd met _ =
     move ! (1 ∷ []) $ split3 ! $ heard ! (long ⊑ B.lives) (λ outlived. heard ! Asked (λ asked.
     in_a_block ! a.1.0 (owned_block (token Z h.inner) τ) (fst∗ 𝓤 (never 𝓤) (sem 𝓛 (token Z h.inner τ null_ptr))) (λ b o e.
     let block = block_ptr b o in
-    let x : (Gives Z 𝓛 𝓜.mem 𝓡.returns).Ghost = at_gives Z 𝓛 𝓜.mem 𝓡.returns κ q (inner_of Z p) h.inner b o bytes al τ in
+    let passed : hand_back.Ghost = at_gives Z 𝓛 𝓜.mem 𝓡.returns κ q (inner_of Z p) h.inner b o bytes al τ in
     regoal ! (λ (r : Ptr). prop (WpFn 𝓤 𝓛.H 𝓣.C 𝓣.Λ fn (W.args (y r)) (W.post (y r)))) e refl $
     move ! (1 ∷ []) $ split ! $ split ! $ move ! (2 ∷ []) $ fsplit ! $ fsplit ! $ keep ! (1 ∷ 3 ∷ 4 ∷ 5 ∷ []) $
     use1 𝓛 (‵ (seen Z κ (inner_of Z p) h.inner) ⊛ ‵ (hidden_shr Ration κ h.ration (ration_of Z p).0 (ration_of Z p).1)) (in_parts Z 𝓛 κ p h) $ split ! $ keep ! (0 ∷ 2 ∷ 3 ∷ 4 ∷ []) $
@@ -68,8 +69,8 @@ deallocate_spec 𝓤 𝓛 𝓜 𝓡 wired B laws g d dd met _ =
     join ! $ move ! (2 ∷ []) $ fsplit ! $ move ! (1 ∷ 2 ∷ []) $ join ! $ move ! (1 ∷ 0 ∷ []) $ join ! $
     enter ! _ _ _ _ _ $ alloc_all ! (λ l. pass_all ! refl ((tt, tt), ((tt, tt), ((tt, record { fits = are.1.1.0.1 }), ((tt, record { fits = are.1.1.1.0.1 }), tt)))) $
     sets ! (addr ! (through ! refl (fld ! refl (stop !)))) refl (tt, tt) $
-    use1 𝓛 (raw ((Gives Z 𝓛 𝓜.mem 𝓡.returns).pre x)) (Gives-goes Z 𝓛 𝓜.mem 𝓡.returns κ q (inner_of Z p) h.inner (⊑_trans κ long B.lives bounds.0 outlived) b o bytes al τ asked.0 asked.1 are.1.1.0.1 are.1.1.1.0.1) $
-    calls_at ! (framed 𝓤 𝓛.H 𝓜 𝓣) (Gives Z 𝓛 𝓜.mem 𝓡.returns) (met.deallocate dd) x (and_then ! (get ! refl) (and_then ! (get ! refl) (and_then ! (get ! refl) (and_then ! (get ! refl) (no_more !))))) (λ v.
+    use1 𝓛 (raw (hand_back.pre passed)) (Gives-goes Z 𝓛 𝓜.mem 𝓡.returns κ q (inner_of Z p) h.inner (⊑_trans κ long B.lives bounds.0 outlived) b o bytes al τ asked.0 asked.1 are.1.1.0.1 are.1.1.1.0.1) $
+    calls_at ! (framed 𝓤 𝓛.H 𝓜 𝓣) hand_back (met.deallocate dd) passed (and_then ! (get ! refl) (and_then ! (get ! refl) (and_then ! (get ! refl) (and_then ! (get ! refl) (no_more !))))) (λ v.
     use1 𝓛 (later (given (v ≡ vunit) (‵ (flft κ q)))) (Gives-Gives Z 𝓛 𝓜.mem 𝓡.returns κ q (inner_of Z p) h.inner b o bytes al τ v) $ await ! tt $ learn ! (λ is.
     lands_as ! is refl (tt, tt) $ sets ! (of_opd ! (unit_lit !)) refl (tt, tt) $ returns ! (look_at ! 0 refl) $ free_all ! refl $
     nothing ! $ feq_i ! (List Val) (vunit ∷ []) (vunit ∷ []) refl $
