@@ -1,0 +1,5 @@
+pub mod HistoryWalk
+pub mod CourseLemmas
+pub mod HistoryLemmas
+pub mod LawLemmas
+pub mod AnswerLemmas
