@@ -9,11 +9,11 @@ use Rattle.pp_channel.specs.declared.event.Event.{Event}
 use Rattle.pp_channel.specs.declared.chan_op.ChanOp.{ChanOp}
 use Rattle.pp_channel.specs.declared.reply.Reply.{Reply}
 use Rattle.pp_channel.specs.declared.flags.Flags.{Flags}
-use Rattle.pp_channel.specs.History.{IsLawful, HasTwelveBitWord, active, full, waiting}
+use Rattle.pp_channel.specs.History.{IsLawful, HasTwelveBitWord, full, waiting}
 use Rattle.pp_channel.specs.Answer.{operation_of, IsReady, IsAnswer, event_by, event_of, flags_of, flags_after, word_after, reply_by, reply_to, history_after}
 use Rattle.pp_channel.specs.Kept.{IsKept}
 use Rattle.pp_channel.proofs.HistoryWalk.{State, Inactive, Empty, Holding, step, step_take, walk, walk-append}
-use Rattle.pp_channel.proofs.HistoryLemmas.{is_active, held_word, Fits, fits_more, active_at, full_at, waiting_at, state_at, lawful_next, unlawful}
+use Rattle.pp_channel.proofs.HistoryLemmas.{is_active, held_word, Fits, active_at, full_at, waiting_at, state_at, lawful_next}
 
 -- the table at a state
 abbrev flags_at : State → Flags
@@ -131,8 +131,8 @@ step_before h e l more =
     (s.0, s.2, (t.0, on, t.2))
 
 -- READY: the event of the table is the one that keeps the history lawful
-pub ready_of_table : (h : List Event) → IsLawful h → (op : ChanOp) (e : Event) → event_of op h ≡ Some e → IsReady h op e
-ready_of_table h l op e is =
+ready_of_table : (h : List Event) (op : ChanOp) (e : Event) → IsLawful h → event_of op h ≡ Some e → IsReady h op e
+ready_of_table h op e l is =
     let s = state_at h l in
     let g = goes_on op s.0 e (sym (event_is op h s.0 s.2) ∙ is) in
     record { operation = g.0; lawful = lawful_next h l e g.1.0 g.1.1 }
@@ -143,7 +143,7 @@ table_of_ready h l op e r =
     event_is op h s.0 s.1 ∙ (ap (λ x. event_at x s.0) (sym r.operation) ∙ stepped_event s.0 e s.2.0 s.2.1)
 
 pub ready_by_table : (h : List Event) (op : ChanOp) (e : Event) → IsLawful h → IsReady h op e ↔ (event_of op h ≡ Some e)
-ready_by_table h op e l = (table_of_ready h l op e, ready_of_table h l op e)
+ready_by_table h op e l = (table_of_ready h l op e, ready_of_table h op e l)
 
 -- FLAGS: after an event they are those of the table
 pub flags_by_table : (h : List Event) (e : Event) → IsLawful h → IsLawful (h ++ e ∷ []) → flags_of (h ++ e ∷ []) ≡ flags_after e
@@ -158,7 +158,7 @@ word_by_table h e l more =
 
 -- ANSWER: the table's is the channel's
 answer_with : (h : List Event) → IsLawful h → (op : ChanOp) (o : Option Event) → event_of op h ≡ o → IsAnswer h op (reply_by op h o) (h ++ option_to_list o)
-answer_with h l op (Some e) is = inl (e, record { ready = ready_of_table h l op e is; answered = refl; recorded = refl })
+answer_with h l op (Some e) is = inl (e, record { ready = ready_of_table h op e l is; answered = refl; recorded = refl })
 answer_with h l op None is =
     inr (record { not_ready = λ e r. let some = table_of_ready h l op e r in cc; answered = refl; unchanged = append-nil h })
 
@@ -171,7 +171,7 @@ answered_by_table h op reply after l r a =
 -- and no other is
 none_without_ready : (h : List Event) → IsLawful h → (op : ChanOp) → ((e : Event) → ¬ IsReady h op e) → (o : Option Event) → event_of op h ≡ o → event_of op h ≡ None
 none_without_ready h l op never None is = is
-none_without_ready h l op never (Some e) is = absurd (never e (ready_of_table h l op e is))
+none_without_ready h l op never (Some e) is = absurd (never e (ready_of_table h op e l is))
 
 only_answer : (h : List Event) → IsLawful h → (op : ChanOp) (reply : Reply) (after : List Event) → IsAnswer h op reply after → (reply ≡ reply_to op h) × (after ≡ history_after op h)
 only_answer h l op reply after (inl (e, made)) =
@@ -185,9 +185,12 @@ pub answer_by_table : (h : List Event) (op : ChanOp) (reply : Reply) (after : Li
 answer_by_table h op reply after l = (only_answer h l op reply after, λ p. answered_by_table h op reply after l p.0 p.1)
 
 -- LAWFUL: it stays so
+pub lawful_with_event : (h : List Event) (op : ChanOp) (e : Event) → IsLawful h → event_of op h ≡ Some e → IsLawful (h ++ e ∷ [])
+lawful_with_event h op e l is = (ready_of_table h op e l is).lawful
+
 lawful_with : (h : List Event) → IsLawful h → (op : ChanOp) (o : Option Event) → event_of op h ≡ o → IsLawful (h ++ option_to_list o)
 lawful_with h l op None is = let P : List Event → Type 0 = λ x. IsLawful x in subst P (sym (append-nil h)) l
-lawful_with h l op (Some e) is = (ready_of_table h l op e is).lawful
+lawful_with h l op (Some e) is = lawful_with_event h op e l is
 
 pub stays_lawful : (h : List Event) (op : ChanOp) (after : List Event) → IsLawful h → after ≡ history_after op h → IsLawful after
 stays_lawful h op after l a =
@@ -195,9 +198,8 @@ stays_lawful h op after l a =
     subst P (sym a) (lawful_with h l op (event_of op h) refl)
 
 -- KEPT: what a channel keeps, with one more event
-pub kept_with_event : (flags : Flags) (register : Option ℕ) (h : List Event) → IsKept flags register h → (op : ChanOp) (e : Event) → event_of op h ≡ Some e → HasTwelveBitWord e → IsKept (flags_after e) (word_after e) (h ++ e ∷ [])
-kept_with_event flags register h k op e is bits =
-    let more = (ready_of_table h k.lawful op e is).lawful in
+pub kept_with_event : (flags : Flags) (register : Option ℕ) (h : List Event) (e : Event) → IsKept flags register h → IsLawful (h ++ e ∷ []) → HasTwelveBitWord e → IsKept (flags_after e) (word_after e) (h ++ e ∷ [])
+kept_with_event flags register h e k more bits =
     record {
       lawful = more;
       twelve_bits = All-push HasTwelveBitWord h e k.twelve_bits bits;

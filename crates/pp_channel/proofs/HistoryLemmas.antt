@@ -1,43 +1,24 @@
--- What the flags say of a history, and for which events it stays lawful.
-use Rattle.std.proofs.Common.{◌≡◌, ℕ, ◌+◌, ◌-◌, ◌==◌, Bool, true, false, not, cond, List, [], ◌∷◌, ◌++◌, length, drop, Option, Some, None, refl, sym, ap, ◌∙◌, subst, arith}
+-- What the state of a lawful history says of it, and for which events it stays lawful.
+use Rattle.std.proofs.Common.{◌≡◌, ℕ, ◌+◌, ◌==◌, Bool, true, false, List, [], ◌∷◌, ◌++◌, length, Option, Some, None, refl, sym, ap, ◌∙◌, subst, arith}
 use Rattle.std.specs.Prelude.{if◌then◌else◌, is_some, unwrap_or}
-use Rattle.std.specs.List.{filter_map, last_or, after_last, suffix_len, prefix_len, cons_option}
-use Rattle.std.proofs.lemmas.List.{append-nil, reverse-append, drop-append-le, drop_all, length_push}
+use Rattle.std.specs.List.{filter_map, last_or, cons_option}
+use Rattle.std.proofs.lemmas.List.{append-nil, length_push}
 use Rattle.std.proofs.lemmas.List.Elements.{filter_map-append}
 use Rattle.std.proofs.lemmas.Bool.{eq-eqb, ne_eqb, eqb-true}
 use Rattle.pp_channel.specs.declared.event.Event.{Event}
 use Rattle.pp_channel.specs.declared.event.Event.TheVariants.{Activate, Disconnect, Put, Take, Function}
 use Rattle.pp_channel.specs.Session.{Session, puts, takes}
 use Rattle.pp_channel.specs.History.{Course, events_of, IsLawful, switches_to, active, last_stretch, full, waiting}
+use Rattle.pp_channel.proofs.LastElements.{last_or-push, after_last-found, after_last-push}
 use Rattle.pp_channel.proofs.HistoryWalk.{State, Inactive, Empty, Holding, step, walk, along, walk_course, walk-append, state_of, state_in}
 use Rattle.pp_channel.proofs.CourseLemmas.{after_function, after_activate, after_disconnect, after_put, after_take}
 
-pub last_or-push : {A : Type 0} (o : Option A) (xs : List A) (x : A) → last_or o (xs ++ x ∷ []) ≡ Some x
-last_or-push o [] x = refl
-last_or-push o (y ∷ ys) x = last_or-push (Some y) ys x
+-- an Activate or a Disconnect begins a new stretch, any other event goes on with it
+last_stretch-switch : (h : List Event) (e : Event) → is_some (switches_to e) ≡ true → last_stretch (h ++ e ∷ []) ≡ []
+last_stretch-switch h e is = after_last-found (λ x. is_some (switches_to x)) h e is
 
-suffix_len-push : {A : Type 0} (q : A → Bool) (xs : List A) (x : A) → suffix_len q (xs ++ x ∷ []) ≡ cond (q x) (1 + suffix_len q xs) 0
-suffix_len-push q xs x = ap (prefix_len q) (reverse-append xs (x ∷ []))
-
-after_last-at : {A : Type 0} (p : A → Bool) (xs : List A) (x : A) → p x ≡ true → after_last p (xs ++ x ∷ []) ≡ []
-after_last-at {A} p xs x e =
-    let q : A → Bool = λ y. not (p y) in
-    let s : suffix_len q (xs ++ x ∷ []) ≡ 0 = suffix_len-push q xs x ∙ ap (λ b. cond (not b) (1 + suffix_len q xs) 0) e in
-    drop_all (length (xs ++ x ∷ []) - suffix_len q (xs ++ x ∷ [])) (xs ++ x ∷ []) (omega (arith, s))
-
-after_last-past : {A : Type 0} (p : A → Bool) (xs : List A) (x : A) → p x ≡ false → after_last p (xs ++ x ∷ []) ≡ after_last p xs ++ x ∷ []
-after_last-past {A} p xs x e =
-    let q : A → Bool = λ y. not (p y) in
-    let s : suffix_len q (xs ++ x ∷ []) ≡ 1 + suffix_len q xs = suffix_len-push q xs x ∙ ap (λ b. cond (not b) (1 + suffix_len q xs) 0) e in
-    let n : length (xs ++ x ∷ []) - suffix_len q (xs ++ x ∷ []) ≡ length xs - suffix_len q xs = omega (arith, s, length_push xs x) in
-    ap (λ k. drop k (xs ++ x ∷ [])) n ∙ drop-append-le (length xs - suffix_len q xs) xs (x ∷ []) (omega arith)
-
--- a switches_to ends what went before
-since_switch : (h : List Event) (e : Event) → is_some (switches_to e) ≡ true → last_stretch (h ++ e ∷ []) ≡ []
-since_switch h e is = after_last-at (λ x. is_some (switches_to x)) h e is
-
-since_more : (h : List Event) (e : Event) → is_some (switches_to e) ≡ false → last_stretch (h ++ e ∷ []) ≡ last_stretch h ++ e ∷ []
-since_more h e is = after_last-past (λ x. is_some (switches_to x)) h e is
+last_stretch-push : (h : List Event) (e : Event) → is_some (switches_to e) ≡ false → last_stretch (h ++ e ∷ []) ≡ last_stretch h ++ e ∷ []
+last_stretch-push h e is = after_last-push (λ x. is_some (switches_to x)) h e is
 
 active-push : (h : List Event) (e : Event) (o : Option Bool) → switches_to e ≡ o → active (h ++ e ∷ []) ≡ unwrap_or o (active h)
 active-push h e None is =
@@ -57,17 +38,17 @@ pub moved : (Q : State → Type 0) (s t : State) → Some s ≡ Some t → Q s �
 moved Q s t e q = let same : s ≡ t = cc in subst Q same q
 
 take_at : (h : List Event) (w v : ℕ) (b : Bool) → (v == w) ≡ b → (t : State) → Fits h (Holding w) → (if b then Some Empty else None) ≡ Some t → Fits (h ++ Take v ∷ []) t
-take_at h w v true same t f is = moved (Fits (h ++ Take v ∷ [])) Empty t is (active-push h (Take v) None refl ∙ f.0, rw (since_more h (Take v) refl) (simp (filter_map-append, append-nil) (f.1 ∙ ap (λ x. takes (last_stretch h) ++ x ∷ []) (sym (eqb-true v w same)))))
+take_at h w v true same t f is = moved (Fits (h ++ Take v ∷ [])) Empty t is (active-push h (Take v) None refl ∙ f.0, rw (last_stretch-push h (Take v) refl) (simp (filter_map-append, append-nil) (f.1 ∙ ap (λ x. takes (last_stretch h) ++ x ∷ []) (sym (eqb-true v w same)))))
 take_at h w v false same t f is = absurd cc
 
 pub fits_more : (h : List Event) (s : State) (e : Event) (t : State) → Fits h s → step s e ≡ Some t → Fits (h ++ e ∷ []) t
-fits_more h Inactive Activate t f is = moved (Fits (h ++ Activate ∷ [])) Empty t is (active-push h Activate (Some true) refl, rw (since_switch h Activate refl) refl)
+fits_more h Inactive Activate t f is = moved (Fits (h ++ Activate ∷ [])) Empty t is (active-push h Activate (Some true) refl, rw (last_stretch-switch h Activate refl) refl)
 fits_more h Inactive (Function w) t f is = moved (Fits (h ++ Function w ∷ [])) Inactive t is (active-push h (Function w) None refl ∙ f)
 fits_more h Inactive Disconnect t f is = absurd cc
 fits_more h Inactive (Put w) t f is = absurd cc
 fits_more h Inactive (Take w) t f is = absurd cc
 fits_more h Empty Disconnect t f is = moved (Fits (h ++ Disconnect ∷ [])) Inactive t is (active-push h Disconnect (Some false) refl)
-fits_more h Empty (Put w) t f is = moved (Fits (h ++ Put w ∷ [])) (Holding w) t is (active-push h (Put w) None refl ∙ f.0, rw (since_more h (Put w) refl) (simp (filter_map-append, append-nil) (ap (λ l. l ++ w ∷ []) f.1)), last_or-push None h (Put w))
+fits_more h Empty (Put w) t f is = moved (Fits (h ++ Put w ∷ [])) (Holding w) t is (active-push h (Put w) None refl ∙ f.0, rw (last_stretch-push h (Put w) refl) (simp (filter_map-append, append-nil) (ap (λ l. l ++ w ∷ []) f.1)), last_or-push None h (Put w))
 fits_more h Empty Activate t f is = absurd cc
 fits_more h Empty (Take w) t f is = absurd cc
 fits_more h Empty (Function w) t f is = absurd cc

@@ -1,4 +1,5 @@
--- A history event by event: what the channel is after each, and that no other events may come.
+-- A lawful history event by event: the state after each. The definitions in specs/ know no state: it
+-- is only the way by which their laws are proved.
 use Rattle.std.proofs.Common.{◌≡◌, ℕ, ◌==◌, List, [], ◌∷◌, ◌++◌, map, Option, Some, None, refl, sym, ap, ◌∙◌, subst, append_assoc}
 use Rattle.std.specs.Prelude.{if◌then◌else◌}
 use Rattle.std.specs.Option.{option_and_then, option_to_list}

@@ -1,6 +1,6 @@
 -- Lawful histories keep the law of the words that pass.
-use Rattle.std.proofs.Common.{◌≡◌, ◌≢◌, ℕ, ◌==◌, Bool, true, false, List, [], ◌∷◌, ◌++◌, length, Option, Some, None, refl, sym, ap, ◌∙◌, subst, arith, eq-eqb, append_assoc}
-use Rattle.std.specs.Prelude.{if◌then◌else◌, is_some}
+use Rattle.std.proofs.Common.{◌≡◌, ◌≢◌, ℕ, ◌==◌, Bool, true, false, List, [], ◌∷◌, ◌++◌, length, Option, Some, None, refl, sym, ap, ◌∙◌, subst, arith}
+use Rattle.std.specs.Prelude.{if◌then◌else◌}
 use Rattle.std.specs.List.{AllByRecursion, last_or}
 use Rattle.std.proofs.lemmas.List.{append-nil, length_push}
 use Rattle.std.proofs.lemmas.List.Elements.{filter_map-append, recursion_from_All}
@@ -11,7 +11,8 @@ use Rattle.pp_channel.specs.Session.{puts, takes}
 use Rattle.pp_channel.specs.History.{IsLawful, active}
 use Rattle.pp_channel.specs.Law.{IsSession, PassesInOrder, IsUntaken, IsFullWith, KeepsLaw}
 use Rattle.pp_channel.proofs.HistoryWalk.{State, Inactive, Empty, Holding, step, walk, along, walk-append, walk_none}
-use Rattle.pp_channel.proofs.HistoryLemmas.{Fits, fits_more, state_at, moved, held_word, full_at, waiting_at, last_or-push}
+use Rattle.pp_channel.proofs.HistoryLemmas.{Fits, fits_more, state_at, moved, held_word, full_at, waiting_at}
+use Rattle.pp_channel.proofs.LastElements.{last_or-push}
 
 -- what the state says of the words since the Activate
 abbrev Words : List Event → State → Type 0
@@ -70,12 +71,12 @@ full_with_held h (Holding v) w f is =
     subst P same (record { is_full = full_at h (Holding v) f; waits = waiting_at h (Holding v) f; put_last = f.2 })
 
 -- the state at a cut
-at_cut_by : (o : Option State) (ys : List Event) (t : State) → walk o ys ≡ Some t → (u : State) × (o ≡ Some u) × (walk (Some u) ys ≡ Some t)
-at_cut_by None ys t e = absurd (let n = walk_none ys in cc)
-at_cut_by (Some u) ys t e = (u, refl, e)
+cut_state_by : (o : Option State) (ys : List Event) (t : State) → walk o ys ≡ Some t → (u : State) × (o ≡ Some u) × (walk (Some u) ys ≡ Some t)
+cut_state_by None ys t e = absurd (let n = walk_none ys in cc)
+cut_state_by (Some u) ys t e = (u, refl, e)
 
-at_cut : (s : State) (xs ys : List Event) (t : State) → walk (Some s) (xs ++ ys) ≡ Some t → (u : State) × (walk (Some s) xs ≡ Some u) × (walk (Some u) ys ≡ Some t)
-at_cut s xs ys t e = at_cut_by (walk (Some s) xs) ys t (sym (walk-append (Some s) xs ys) ∙ e)
+cut_state : (s : State) (xs ys : List Event) (t : State) → walk (Some s) (xs ++ ys) ≡ Some t → (u : State) × (walk (Some s) xs ≡ Some u) × (walk (Some u) ys ≡ Some t)
+cut_state s xs ys t e = cut_state_by (walk (Some s) xs) ys t (sym (walk-append (Some s) xs ys) ∙ e)
 
 opened : (u : State) (inside : List Event) (t : State) → walk (Some u) (Activate ∷ inside) ≡ Some t → walk (Some Empty) inside ≡ Some t
 opened Inactive inside t e = e
@@ -87,8 +88,8 @@ session_end : (h : List Event) → IsLawful h → (before inside after : List Ev
 session_end h l before inside after session =
     let s = state_at h l in
     let all : walk (Some Inactive) ((before ++ Activate ∷ inside) ++ after) ≡ Some s.0 = ap (λ g. walk (Some Inactive) g) (sym session.place) ∙ s.1 in
-    let a = at_cut Inactive (before ++ Activate ∷ inside) after s.0 all in
-    let b = at_cut Inactive before (Activate ∷ inside) a.0 a.1 in
+    let a = cut_state Inactive (before ++ Activate ∷ inside) after s.0 all in
+    let b = cut_state Inactive before (Activate ∷ inside) a.0 a.1 in
     (a.0, along Fits fits_more [] Inactive refl (before ++ Activate ∷ inside) a.0 a.1, words_along inside a.0 (opened b.0 inside a.0 b.2) (recursion_from_All (λ e. e ≢ Disconnect) inside session.unbroken))
 
 untaken_waits : (h : List Event) → IsLawful h → (before inside after : List Event) (w : ℕ) → IsSession h before inside after → IsUntaken inside w → IsFullWith (before ++ Activate ∷ inside) w
@@ -120,9 +121,9 @@ law_of_lawful h l =
       lost = λ before inside later w session u. untaken_waits h l before inside (Disconnect ∷ later) w session u;
       kept = untaken_kept h l;
       no_put_outside = λ before later w e.
-          let a = at_cut Inactive before (Put w ∷ later) s.0 (ap (λ g. walk (Some Inactive) g) (sym e) ∙ s.1) in
+          let a = cut_state Inactive before (Put w ∷ later) s.0 (ap (λ g. walk (Some Inactive) g) (sym e) ∙ s.1) in
           put_inside before a.0 w later s.0 (along Fits fits_more [] Inactive refl before a.0 a.1) a.2;
       no_take_outside = λ before later w e.
-          let a = at_cut Inactive before (Take w ∷ later) s.0 (ap (λ g. walk (Some Inactive) g) (sym e) ∙ s.1) in
+          let a = cut_state Inactive before (Take w ∷ later) s.0 (ap (λ g. walk (Some Inactive) g) (sym e) ∙ s.1) in
           take_inside before a.0 w later s.0 (along Fits fits_more [] Inactive refl before a.0 a.1) a.2;
     }

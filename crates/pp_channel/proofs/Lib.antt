@@ -1,3 +1,4 @@
+pub mod LastElements
 pub mod HistoryWalk
 pub mod CourseLemmas
 pub mod HistoryLemmas

@@ -1,6 +1,6 @@
 //! A data channel.
 
-ghost use Rattle.std.specs.Prelude.{◌≡◌, [], ◌↔◌, IsTrue, None, IsSome, IfSome, IsOk, IfOk, OnOk, OnErr};
+ghost use Rattle.std.specs.Prelude.{◌≡◌, [], ◌∷◌, ◌++◌, ◌↔◌, IsTrue, None, IsSome, IfSome, IsOk, IfOk, OnOk, OnErr};
 ghost use Rattle.pp_channel.specs.History.{IsLawful, HasTwelveBitWord, HasTwelveBitWords, full, waiting};
 ghost use Rattle.pp_channel.specs.Answer.{IsAnswer, event_of, reply_to, history_after, flags_of, flags_after, word_after};
 ghost use Rattle.pp_channel.specs.Law.{KeepsLaw};
@@ -89,9 +89,9 @@ impl<A: Allocator> Channel<A> {
         })
     }
 
-    /// The event that the operation would make now; nothing where it would make none. It takes no
-    /// memory: a caller that records events beside the channel asks it first, and so takes memory
-    /// only where there is one to record.
+    /// The event that the operation would make now, or nothing where it would make none. It takes no
+    /// memory: who records events beside the channel asks it first, and so takes memory for a record
+    /// only where there is an event.
     pub fn next_event(&self, op: &ChanOp) -> Option<Event>
         ensures event { result ≡ event_of op.now self.now }
         ensures twelve_bits { IfSome result HasTwelveBitWord }
@@ -137,19 +137,33 @@ impl<A: Allocator> Channel<A> {
                 _ => Reply::Held(self.flags),
             });
         };
-        self.events.push(event)?;
-        self.flags = flags_after(event);
-        self.register = word_after(event);
+        self.record(event)?;
         Ok(match event {
             Event::Take(word) => Reply::Word(word),
             _ => Reply::Done,
         })
     }
+
+    /// Adds an event to the history, and keeps what it leaves in the flags and the register.
+    fn record(&mut self, event: Event) -> Result<(), Memory>
+        requires lawful { IsLawful (self.old ++ event ∷ []) }
+        requires twelve_bits { HasTwelveBitWord event }
+        ensures ok { OnOk result (self.new ≡ self.old ++ event ∷ []) }
+        ensures lawful { IsLawful self.new }
+        ensures err { OnErr result (self.new ≡ self.old) }
+    {
+        let flags = flags_after(&event);
+        let register = word_after(&event);
+        self.events.push(event)?;
+        self.flags = flags;
+        self.register = register;
+        Ok(())
+    }
 }
 
 /// The flags after an event.
-fn flags_after(event: Event) -> Flags
-    ensures { result ≡ flags_after event }
+fn flags_after(event: &Event) -> Flags
+    ensures { result ≡ flags_after event.now }
 {
     match event {
         Event::Activate | Event::Take(_) => Flags {
@@ -168,11 +182,11 @@ fn flags_after(event: Event) -> Flags
 }
 
 /// The word in the register after an event.
-fn word_after(event: Event) -> Option<Word12>
-    ensures { result ≡ word_after event }
+fn word_after(event: &Event) -> Option<Word12>
+    ensures { result ≡ word_after event.now }
 {
     match event {
-        Event::Put(word) => Some(word),
+        Event::Put(word) => Some(*word),
         _ => None,
     }
 }
