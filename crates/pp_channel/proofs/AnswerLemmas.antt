@@ -198,14 +198,17 @@ stays_lawful h op after l a =
     subst P (sym a) (lawful_with h l op (event_of op h) refl)
 
 -- KEPT: what a channel keeps, with one more event
-pub kept_with_event : (flags : Flags) (register : Option ℕ) (h : List Event) (e : Event) → IsKept flags register h → IsLawful (h ++ e ∷ []) → HasTwelveBitWord e → IsKept (flags_after e) (word_after e) (h ++ e ∷ [])
-kept_with_event flags register h e k more bits =
+pub kept_with_event : {flags flags' : Flags} {register register' : Option ℕ} {value h h' : List Event} → (e : Event) → IsKept flags register h → h ≡ value → IsLawful (value ++ e ∷ []) → HasTwelveBitWord e → flags' ≡ flags_after e → register' ≡ word_after e → h' ≡ h ++ e ∷ [] → IsKept flags' register' h'
+kept_with_event {h} e k same more bits flags_is register_is history_is =
+    let lawful_more : IsLawful (h ++ e ∷ []) = rw same more in
+    rw (flags_is, register_is, history_is) (
     record {
-      lawful = more;
+      lawful = lawful_more;
       twelve_bits = All-push HasTwelveBitWord h e k.twelve_bits bits;
-      flags_are = sym (flags_by_table h e k.lawful more);
-      register_is = sym (word_by_table h e k.lawful more);
+      flags_are = sym (flags_by_table h e k.lawful lawful_more);
+      register_is = sym (word_by_table h e k.lawful lawful_more);
     }
+    )
 
 -- a word is in the register exactly where the channel is full
 pub full_register : (flags : Flags) (register : Option ℕ) (h : List Event) → IsKept flags register h → is_some register ≡ full h
