@@ -130,7 +130,7 @@ step_before h e l more =
     let on : step s.0 e ≡ Some t.0 = sym (walk-append (Some Inactive) h (e ∷ []) ∙ ap (λ o. walk o (e ∷ [])) s.1) ∙ t.1 in
     (s.0, s.2, (t.0, on, t.2))
 
--- READY: the event of the table is the one that keeps the history lawful
+-- the event of the table is the one that keeps the history lawful
 ready_of_table : (h : List Event) (op : ChanOp) (e : Event) → IsLawful h → event_of op h ≡ Some e → IsReady h op e
 ready_of_table h op e l is =
     let s = state_at h l in
@@ -145,7 +145,7 @@ table_of_ready h l op e r =
 pub ready_by_table : (h : List Event) (op : ChanOp) (e : Event) → IsLawful h → IsReady h op e ↔ (event_of op h ≡ Some e)
 ready_by_table h op e l = (table_of_ready h l op e, ready_of_table h op e l)
 
--- FLAGS: after an event they are those of the table
+-- after an event the flags and the register are those of the table
 pub flags_by_table : (h : List Event) (e : Event) → IsLawful h → IsLawful (h ++ e ∷ []) → flags_of (h ++ e ∷ []) ≡ flags_after e
 flags_by_table h e l more =
     let s = step_before h e l more in
@@ -156,7 +156,7 @@ word_by_table h e l more =
     let s = step_before h e l more in
     waiting_at (h ++ e ∷ []) s.2.0 s.2.2 ∙ (leads s.0 e s.2.0 s.2.1).1
 
--- ANSWER: the table's is the channel's
+-- the answer of the table is the channel's
 answer_with : (h : List Event) → IsLawful h → (op : ChanOp) (o : Option Event) → event_of op h ≡ o → IsAnswer h op (reply_by op h o) (h ++ option_to_list o)
 answer_with h l op (Some e) is = inl (e, record { ready = ready_of_table h op e l is; answered = refl; recorded = refl })
 answer_with h l op None is =
@@ -184,7 +184,7 @@ only_answer h l op reply after (inr shown) =
 pub answer_by_table : (h : List Event) (op : ChanOp) (reply : Reply) (after : List Event) → IsLawful h → IsAnswer h op reply after ↔ ((reply ≡ reply_to op h) × (after ≡ history_after op h))
 answer_by_table h op reply after l = (only_answer h l op reply after, λ p. answered_by_table h op reply after l p.0 p.1)
 
--- LAWFUL: it stays so
+-- a lawful history stays lawful; callers that keep histories of their own use these too
 pub lawful_with_event : (h : List Event) (op : ChanOp) (e : Event) → IsLawful h → event_of op h ≡ Some e → IsLawful (h ++ e ∷ [])
 lawful_with_event h op e l is = (ready_of_table h op e l is).lawful
 
@@ -197,7 +197,7 @@ stays_lawful h op after l a =
     let P : List Event → Type 0 = λ x. IsLawful x in
     subst P (sym a) (lawful_with h l op (event_of op h) refl)
 
--- KEPT: what a channel keeps, with one more event
+-- what a channel keeps, with one more event
 pub kept_with_event : {flags flags' : Flags} {register register' : Option ℕ} {value h h' : List Event} → (e : Event) → IsKept flags register h → h ≡ value → IsLawful (value ++ e ∷ []) → HasTwelveBitWord e → flags' ≡ flags_after e → register' ≡ word_after e → h' ≡ h ++ e ∷ [] → IsKept flags' register' h'
 kept_with_event {h} e k same more bits flags_is register_is history_is =
     let lawful_more : IsLawful (h ++ e ∷ []) = rw same more in

@@ -58,6 +58,10 @@ fits_more h (Holding w) Activate t f is = absurd cc
 fits_more h (Holding w) (Put v) t f is = absurd cc
 fits_more h (Holding w) (Function v) t f is = absurd cc
 
+-- nothing happened: the course without a session
+pub lawful_empty : IsLawful []
+lawful_empty = (record { first_stretch = []; whole_sessions = []; open_session = None }, refl)
+
 -- each lawful history has a state, which fits it
 pub state_at : (h : List Event) → IsLawful h → (s : State) × (walk (Some Inactive) h ≡ Some s) × Fits h s
 state_at h l =

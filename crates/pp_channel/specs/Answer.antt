@@ -34,13 +34,14 @@ abbrev pub reply_shown : ChanOp → List Event → Reply
 reply_shown ChanOp.Probe h = Reply.Flags (flags_of h)
 reply_shown _ h = Reply.Held (flags_of h)
 
--- THE RELATION. An operation is ready on h where it makes an event with which h stays lawful.
+-- First the relation. An operation is ready on h where it makes an event with which h stays lawful.
 pub record IsReady (h : List Event) (op : ChanOp) (e : Event) : Type 0 where
   pub operation : operation_of e ≡ op
   pub lawful : IsLawful (h ++ e ∷ [])
 
 -- the event is made, and stands at the end of the history
-pub record IsMade (h : List Event) (op : ChanOp) (reply : Reply) (after : List Event) (e : Event) : Type 0 where
+pub record IsMade (h : List Event) (op : ChanOp) (reply : Reply) (after : List Event) (e : Event)
+    : Type 0 where
   pub ready : IsReady h op e
   pub answered : reply ≡ reply_made e
   pub recorded : after ≡ h ++ e ∷ []
@@ -55,7 +56,7 @@ pub record IsShown (h : List Event) (op : ChanOp) (reply : Reply) (after : List 
 abbrev pub IsAnswer : List Event → ChanOp → Reply → List Event → Type 0
 IsAnswer h op reply after = ((e : Event) × IsMade h op reply after e) ⊎ IsShown h op reply after
 
--- THE TABLE. Where an operation is ready, by the flags.
+-- Then the table. Where an operation is ready, by the flags:
 abbrev pub ready_at : ChanOp → Flags → Bool
 ready_at ChanOp.Probe f = true
 ready_at ChanOp.Activate f = not f.active

@@ -28,7 +28,10 @@ pub record Course : Type 0 where
 
 -- the events of a course, in order
 abbrev pub events_of : Course → List Event
-events_of c = idle_stretch c.first_stretch ++ flat_map whole_session c.whole_sessions ++ flat_map body (option_to_list c.open_session)
+events_of c =
+    idle_stretch c.first_stretch
+    ++ flat_map whole_session c.whole_sessions
+    ++ flat_map body (option_to_list c.open_session)
 
 -- A history is lawful where there is a course whose events it is.
 abbrev pub IsLawful : List Event → Type 0

@@ -44,12 +44,18 @@ pub record IsFullWith (h : List Event) (w : ℕ) : Type 0 where
 -- The law of a history.
 pub record KeepsLaw (h : List Event) : Type 0 where
   -- in every session
-  pub in_order : (before inside after : List Event) → IsSession h before inside after → PassesInOrder inside
+  pub in_order : (before inside after : List Event)
+      → IsSession h before inside after → PassesInOrder inside
   -- a word that is not taken when a Disconnect ends the session: the Disconnect finds the channel
   -- full with it, and comes directly after its Put
-  pub lost : (before inside later : List Event) (w : ℕ) → IsSession h before inside (Disconnect ∷ later) → IsUntaken inside w → IsFullWith (before ++ Activate ∷ inside) w
+  pub lost : (before inside later : List Event) (w : ℕ)
+      → IsSession h before inside (Disconnect ∷ later) → IsUntaken inside w
+      → IsFullWith (before ++ Activate ∷ inside) w
   -- a word that is not taken in the session that is going on
-  pub kept : (before inside : List Event) (w : ℕ) → IsSession h before inside [] → IsUntaken inside w → IsFullWith h w
+  pub kept : (before inside : List Event) (w : ℕ)
+      → IsSession h before inside [] → IsUntaken inside w → IsFullWith h w
   -- outside a session
-  pub no_put_outside : (before later : List Event) (w : ℕ) → h ≡ before ++ Put w ∷ later → IsTrue (active before)
-  pub no_take_outside : (before later : List Event) (w : ℕ) → h ≡ before ++ Take w ∷ later → IsTrue (active before)
+  pub no_put_outside : (before later : List Event) (w : ℕ)
+      → h ≡ before ++ Put w ∷ later → IsTrue (active before)
+  pub no_take_outside : (before later : List Event) (w : ℕ)
+      → h ≡ before ++ Take w ∷ later → IsTrue (active before)

@@ -17,7 +17,9 @@ pub record Session : Type 0 where
 
 -- its events: Activate, a Put and a Take for each word that passed, and a Put for the lone word
 abbrev pub body : Session → List Event
-body s = Activate ∷ flat_map (λ w. Put w ∷ Take w ∷ []) s.passed ++ map (λ w. Put w) (option_to_list s.lone)
+body s =
+    Activate ∷ flat_map (λ w. Put w ∷ Take w ∷ []) s.passed
+    ++ map (λ w. Put w) (option_to_list s.lone)
 
 abbrev pub word_put : Event → Option ℕ
 word_put (Put w) = Some w

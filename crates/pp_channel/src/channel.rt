@@ -98,6 +98,7 @@ impl<A: Allocator> Channel<A> {
         ensures lawful { IsLawful self.now }
     {
         let Flags { active, full } = self.flags;
+        // A word is known to have 12 bits once its number is read.
         match op {
             ChanOp::Activate if !active => Some(Event::Activate),
             ChanOp::Disconnect if active => Some(Event::Disconnect),
