@@ -2,8 +2,8 @@
 -- then as a function by the table of operations. On lawful histories the two agree.
 --
 -- Control Data 6400/6500/6600 Computer Systems Reference Manual, publication 60100000, part on
--- peripheral and control processors: the channel instructions 64 to 67 and 70 to 77, which wait
--- until the channel's flags let them go on.
+-- peripheral and control processors: the channel instructions, of which 64 to 67 (octal) test the
+-- flags of a channel, and 70 to 77 wait until its flags let them go on.
 use Rattle.std.specs.Prelude.{◌≡◌, ℕ, Bool, true, false, not, ◌&&◌, List, [], ◌∷◌, ◌++◌, Option, Some, None, ◌⊎◌, if◌then◌else◌}
 use Rattle.std.specs.Option.{option_map, option_to_list}
 use Rattle.pp_channel.specs.declared.event.Event.{Event}
