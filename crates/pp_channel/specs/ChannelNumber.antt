@@ -3,11 +3,10 @@
 -- Control Data 6400/6500/6600 Computer Systems Reference Manual, publication 60100000, part on
 -- peripheral and control processors: twelve data channels, numbered 0 to 13 (octal).
 use Rattle.std.specs.Prelude.{ℕ, Bool, nat_lt}
-use Rattle.pp_channel.specs.declared.channel_no.TheConstants.{CHANNELS}
 
 -- how many channels there are
 abbrev pub channel_count : ℕ
-channel_count = CHANNELS
+channel_count = 0o14
 
 -- whether a number is that of a channel
 abbrev pub names_channel : ℕ → Bool

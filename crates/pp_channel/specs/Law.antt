@@ -10,18 +10,11 @@ use Rattle.pp_channel.specs.declared.event.Event.TheVariants.{Activate, Disconne
 use Rattle.pp_channel.specs.History.{active, full, waiting}
 use Rattle.pp_channel.specs.Session.{puts, takes}
 
--- where a session ends: nothing comes after it, or a Disconnect does
-abbrev pub EndsSession : List Event → Type 0
-EndsSession [] = Unit {0}
-EndsSession (Disconnect ∷ later) = Unit {0}
-EndsSession _ = ⊥
-
--- A session of h: it begins with an Activate after the events `before`, `inside` is what happens in
--- it, and with `after` comes the next Disconnect or the end of h.
+-- A session of h up to some moment: an Activate after the events `before`, and then `inside`, in
+-- which no Disconnect comes; `after` is the rest of h.
 pub record IsSession (h before inside after : List Event) : Type 0 where
   pub place : h ≡ before ++ Activate ∷ inside ++ after
   pub unbroken : All (λ e. e ≢ Disconnect) inside
-  pub ended : EndsSession after
 
 abbrev pub IsPrefix : List ℕ → List ℕ → Type 0
 IsPrefix some all = (others : List ℕ) × (some ++ others ≡ all)
@@ -43,7 +36,7 @@ pub record IsFullWith (h : List Event) (w : ℕ) : Type 0 where
 
 -- The law of a history.
 pub record KeepsLaw (h : List Event) : Type 0 where
-  -- in every session
+  -- at every moment of every session
   pub in_order : (before inside after : List Event)
       → IsSession h before inside after → PassesInOrder inside
   -- a word that is not taken when a Disconnect ends the session: the Disconnect finds the channel

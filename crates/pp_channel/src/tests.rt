@@ -1,8 +1,5 @@
 use super::*;
 use pp_word::Word12;
-use rationed::Rationed;
-use std::alloc::Global;
-use std::process::Abort;
 use std::test::Fail;
 
 const INACTIVE: Flags = Flags {
@@ -85,72 +82,4 @@ fn numbers_of_channels(rt: HostRuntime) -> Result<(), Fail> {
 fn text_of_memory(rt: HostRuntime) -> Result<(), Fail> {
     assert_eq!(rt; Memory.to_string(rt.alloc())?.as_str(), "out of memory");
     Ok(())
-}
-
-/// Acts where a request may be refused, which is Memory. Nothing has changed then, and the operation
-/// is made once memory is there.
-fn act_again(
-    rt: &(impl Abort + AllocGlobal),
-    heap: &Rationed<Global>,
-    channel: &mut Channel<&Rationed<Global>>,
-    op: ChanOp,
-) -> Result<(), Fail> {
-    let events = channel.history().to_vec(rt.alloc())?;
-    let (flags, waiting) = (channel.flags(), channel.waiting());
-    let had_refused = heap.has_refused();
-    let answer = channel.act(op);
-    assert_eq!(rt; answer.is_err(), heap.has_refused() && !had_refused);
-    if answer.is_err() {
-        assert_eq!(rt; channel.history(), events.as_slice());
-        assert_eq!(rt; channel.flags(), flags);
-        assert_eq!(rt; channel.waiting(), waiting);
-        channel.act(op)?;
-    }
-    assert_eq!(rt; channel.history().len(), events.len() + 1);
-    Ok(())
-}
-
-#[test]
-fn act_refused(rt: HostRuntime) -> Result<(), Fail> {
-    let heap = Rationed::new(rt.alloc());
-    let operations = [
-        ChanOp::Function(word(0o12)?),
-        ChanOp::Activate,
-        ChanOp::Put(word(5)?),
-        ChanOp::Take,
-        ChanOp::Put(word(6)?),
-        ChanOp::Disconnect,
-    ];
-    for number in 1..100u64 {
-        heap.refuse(number);
-        let mut channel = Channel::new(&heap);
-        for op in &operations {
-            act_again(&rt, &heap, &mut channel, *op)?;
-        }
-        if !heap.has_refused() {
-            assert!(rt; number > 2, "the history grows more than once");
-            return Ok(());
-        }
-    }
-    panic!(rt; "a request is refused in each run")
-}
-
-#[test]
-fn copy_refused(rt: HostRuntime) -> Result<(), Fail> {
-    let heap = Rationed::new(rt.alloc());
-    let mut channel = Channel::new(&heap);
-    channel.act(ChanOp::Activate)?;
-    channel.act(ChanOp::Put(word(5)?))?;
-    for number in 1..100u64 {
-        heap.refuse(number);
-        let answer = channel.copy();
-        assert_eq!(rt; answer.is_err(), heap.has_refused());
-        if let Ok(copy) = answer {
-            assert_eq!(rt; copy.history(), channel.history());
-            assert!(rt; number > 1);
-            return Ok(());
-        }
-        assert_eq!(rt; channel.history().len(), 2);
-    }
-    panic!(rt; "a request is refused in each run")
 }
