@@ -1,0 +1,9 @@
+pub mod PpMemory
+pub mod Processor
+pub mod OperandAndPlace
+pub mod Step
+pub mod Effects
+pub mod Blocks
+pub mod InstructionTable
+pub mod NeedAndEffect
+pub mod Replay

@@ -1,0 +1,16 @@
+//! Peripheral processors, central memory and the machine that runs them by turns.
+#![tactic(auto)]
+
+mod answer;
+mod block;
+mod need;
+mod outcome;
+mod pp_no;
+mod pp_state;
+
+pub use answer::Answer;
+pub use block::{Block, BlockKind};
+pub use need::Need;
+pub use outcome::Outcome;
+pub use pp_no::{PROCESSORS, PpNo};
+pub use pp_state::PpState;
