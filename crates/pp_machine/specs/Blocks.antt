@@ -52,16 +52,16 @@ counts_down pp kind place =
     let counted = record pp { a = difference pp.a 1 } in
     if counted.a == 0 then ends counted else continues counted kind (next_place place)
 
--- CRM, CWM: a central word has gone; A rises by 1, and the block ends where none are left
-abbrev pub counts_up : Processor → (ℕ → BlockKind) → ℕ → ℕ → Processor
-counts_up pp kind left place =
+-- CRM, CWM: a central word has gone; A rises by 1, and the block ends where no more are left
+abbrev pub counts_up : Processor → ℕ → BlockKind → ℕ → Processor
+counts_up pp left kind place =
     let counted = record pp { a = sum pp.a 1 } in
-    if left - 1 == 0 then ends counted else continues counted (kind (left - 1)) ((place + 5) % place_count)
+    if left == 0 then ends counted else continues counted kind ((place + 5) % place_count)
 
 -- one word of a block in progress
 abbrev pub block_word : BlockKind → ℕ → Processor → Step
-block_word (CentralIn left) place pp = reads pp.a (λ central. counts_up (receives pp place central) CentralIn left place)
-block_word (CentralOut left) place pp = writes pp.a (central_from pp place) (counts_up pp CentralOut left place)
+block_word (CentralIn left) place pp = reads pp.a (λ central. counts_up (receives pp place central) (left - 1) (CentralIn (left - 1)) place)
+block_word (CentralOut left) place pp = writes pp.a (central_from pp place) (counts_up pp (left - 1) (CentralOut (left - 1)) place)
 block_word (Input channel) place pp = takes channel (λ word. counts_down (stores_at pp place word) (Input channel) place)
 block_word (Output channel) place pp = does channel (Put (word_at pp place)) (counts_down pp (Output channel) place)
 

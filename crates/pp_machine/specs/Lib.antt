@@ -7,3 +7,4 @@ pub mod Blocks
 pub mod InstructionTable
 pub mod NeedAndEffect
 pub mod Replay
+pub mod StepLaws

@@ -5,12 +5,17 @@ mod answer;
 mod block;
 mod need;
 mod outcome;
+mod pp;
+mod pp_memory;
 mod pp_no;
 mod pp_state;
+mod replay;
 
 pub use answer::Answer;
 pub use block::{Block, BlockKind};
 pub use need::Need;
 pub use outcome::Outcome;
+pub use pp::Pp;
 pub use pp_no::{PROCESSORS, PpNo};
 pub use pp_state::PpState;
+pub use replay::fits;

@@ -1,0 +1,4 @@
+pub mod MemoryLemmas
+pub mod ReplayLemmas
+pub mod SignLemmas
+pub mod StepLemmas
