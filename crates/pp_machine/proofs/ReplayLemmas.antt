@@ -1,9 +1,11 @@
 -- Replays, an answer at a time.
-use Rattle.std.proofs.Common.{◌≡◌, ℕ, ◌+◌, ◌<◌, ◌≤◌, refl, Bool, true, false, List, [], ◌∷◌, drop, length, get_or, ap, ◌∙◌}
+use Rattle.std.proofs.Common.{◌≡◌, ℕ, ◌+◌, ◌<◌, ◌≤◌, refl, Bool, true, false, List, [], ◌∷◌, drop, length, get_or, ap, ◌∙◌, if◌then◌else◌}
 use Rattle.std.proofs.lemmas.List.{drop_more, drop_all}
 use Rattle.pp_machine.specs.NeedAndEffect.{need, processor_after}
 use Rattle.pp_machine.specs.Processor.{Processor}
 use Rattle.pp_machine.specs.Replay.{fits, replayed, given_count}
+use Rattle.pp_machine.specs.StepLaws.{IsAtRest}
+use Rattle.pp_machine.proofs.StepLemmas.{rest_changes_nothing}
 use Rattle.pp_machine.specs.declared.answer.Answer.{Answer}
 
 -- the answers from i on are the one at i and the rest
@@ -33,3 +35,12 @@ given_count_stops pp xs i x h e f = rw (drop-front xs i x h e, f) refl
 pub given_count_end : (pp : Processor) (xs : List Answer) (i : ℕ) → length xs ≤ i → given_count pp (drop i xs) ≡ 0
 unfolding given_count
 given_count_end pp xs i h = rw (drop_all i xs h) refl
+
+-- a processor at rest stays as it is through all answers
+pub replayed-at_rest : (pp : Processor) (xs : List Answer) → IsAtRest pp → replayed pp xs ≡ pp
+unfolding replayed
+replayed-at_rest pp [] h = refl
+replayed-at_rest pp (x ∷ xs) h =
+    let same : processor_after pp x ≡ pp = rest_changes_nothing pp x h in
+    let more : replayed (processor_after pp x) xs ≡ pp = rw same (replayed-at_rest pp xs h) in
+    elim (fits (need pp) x) as (λ b. (if b then replayed (processor_after pp x) xs else pp) ≡ pp) [ true ↦ more | false ↦ refl ]

@@ -2,6 +2,7 @@
 
 ghost use Rattle.std.specs.Prelude.{◌≡◌};
 ghost use Rattle.pp_machine.specs.Replay.{fits, reply_fits, replayed, given_count};
+ghost use Rattle.pp_machine.specs.StepLaws.{IsAtRest};
 
 use crate::answer::Answer;
 use crate::need::Need;
@@ -43,6 +44,7 @@ impl Pp {
     pub fn replay(&mut self, answers: &[Answer]) -> usize
         ensures after { self.new ≡ replayed self.old answers.now }
         ensures count { result ≡ given_count self.old answers.now }
+        ensures rest_changes_nothing { IsAtRest self.old → self.new ≡ self.old }
     {
         for (i, answer) in answers.iter().enumerate() {
             if !fits(&self.wants(), answer) {

@@ -153,13 +153,21 @@ impl Pp {
     pub(super) fn replace_by_one_more(&mut self, place: Word12, words: u8)
         ensures { self.new ≡ replaces_by_one_more self.old (record { place = place; words = words }) }
     {
-        self.replace(place, add18(Word18::from(self.get(place)), Word18::ONE), words);
+        self.replace(
+            place,
+            add18(Word18::from(self.get(place)), Word18::ONE),
+            words,
+        );
     }
 
     /// Replace subtract one.
     pub(super) fn replace_by_one_less(&mut self, place: Word12, words: u8)
         ensures { self.new ≡ replaces_by_one_less self.old (record { place = place; words = words }) }
     {
-        self.replace(place, sub18(Word18::from(self.get(place)), Word18::ONE), words);
+        self.replace(
+            place,
+            sub18(Word18::from(self.get(place)), Word18::ONE),
+            words,
+        );
     }
 }

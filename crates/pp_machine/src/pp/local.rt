@@ -10,7 +10,9 @@ use crate::answer::Answer;
 use crate::block::BlockKind;
 use crate::pp::Pp;
 use pp_channel::ChannelNo;
-use pp_word::{Opcode, Word6, Word12, Word18, add18, and18, clear18, complement18, shift18, sub18, xor18};
+use pp_word::{
+    Opcode, Word6, Word12, Word18, add18, and18, clear18, complement18, shift18, sub18, xor18,
+};
 
 impl Pp {
     /// IAM: the start of a block that comes in from channel d.

@@ -1,11 +1,12 @@
 //! One step: what it needs, and what its answer does.
 
-ghost use Rattle.std.specs.Prelude.{◌≡◌, if◌then◌else◌, IsTrue};
+ghost use Rattle.std.specs.Prelude.{◌≡◌, ◌↔◌, if◌then◌else◌, IsTrue};
 ghost use Rattle.pp_machine.specs.Blocks.{block_word};
 ghost use Rattle.pp_machine.specs.InstructionTable.{instruction, names_channel};
 ghost use Rattle.pp_machine.specs.NeedAndEffect.{need, processor_after, outcome, is_held};
 ghost use Rattle.pp_machine.specs.Replay.{fits};
 ghost use Rattle.pp_machine.specs.Step.{need_of};
+ghost use Rattle.pp_machine.specs.StepLaws.{IsAtRest, IsAtFault, IsHeldAnswer, KeepsMemoryAndRegisters};
 
 use crate::answer::Answer;
 use crate::block::{Block, BlockKind};
@@ -51,9 +52,15 @@ impl Pp {
     {
         match &block.kind {
             BlockKind::CentralIn { left: _ } => Need::Read(self.a),
-            BlockKind::CentralOut { left: _ } => Need::Write(self.a, self.central_from(block.place)),
+            BlockKind::CentralOut { left: _ } => Need::Write(
+                self.a,
+                self.central_from(block.place),
+            ),
             BlockKind::Input { channel } => Need::Channel(*channel, ChanOp::Take),
-            BlockKind::Output { channel } => Need::Channel(*channel, ChanOp::Put(self.get(block.place))),
+            BlockKind::Output { channel } => Need::Channel(
+                *channel,
+                ChanOp::Put(self.get(block.place)),
+            ),
         }
     }
 
@@ -75,8 +82,23 @@ impl Pp {
     }
 
     /// Gives the answer to what `wants` gives.
-    #[tactic(auto, unfolding(crate::specs::NeedAndEffect::need, crate::specs::NeedAndEffect::processor_after, crate::specs::NeedAndEffect::outcome))]
+    #[tactic(auto, using(crate::proofs::StepLemmas::held_changes_nothing, crate::proofs::StepLemmas::held_by_answer, crate::proofs::StepLemmas::at_rest, crate::proofs::StepLemmas::rest_changes_nothing, crate::proofs::StepLemmas::fault_keeps))]
     pub fn give(&mut self, answer: Answer) -> Outcome
+        requires fits { IsTrue (fits (need self.old) answer) }
+        ensures after { self.new ≡ processor_after self.old answer }
+        ensures outcome { result ≡ outcome self.old answer }
+        ensures held_changes_nothing { result ≡ Outcome.Held → self.new ≡ self.old }
+        ensures held_by_channel { result ≡ Outcome.Held → IsHeldAnswer answer }
+        ensures at_rest_unless_running { (result ≡ Outcome.AtRest) ↔ IsAtRest self.old }
+        ensures rest_changes_nothing { IsAtRest self.old → self.new ≡ self.old }
+        ensures fault_keeps { self.old.state ≡ PpState.Running → IsAtFault self.new → KeepsMemoryAndRegisters self.old self.new }
+    {
+        self.advance(answer)
+    }
+
+    /// The step by the table.
+    #[tactic(auto, unfolding(crate::specs::NeedAndEffect::need, crate::specs::NeedAndEffect::processor_after, crate::specs::NeedAndEffect::outcome))]
+    fn advance(&mut self, answer: Answer) -> Outcome
         requires fits { IsTrue (fits (need self.old) answer) }
         ensures after { self.new ≡ processor_after self.old answer }
         ensures outcome { result ≡ outcome self.old answer }
@@ -90,7 +112,11 @@ impl Pp {
             None => self.run_instruction(answer),
             Some(block) => self.move_word(block, answer),
         }
-        if is_held { Outcome::Held } else { Outcome::Moved }
+        if is_held {
+            Outcome::Held
+        } else {
+            Outcome::Moved
+        }
     }
 
     /// Whether an answer holds the step, and changes nothing.
