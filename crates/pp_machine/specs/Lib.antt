@@ -8,3 +8,4 @@ pub mod InstructionTable
 pub mod NeedAndEffect
 pub mod Replay
 pub mod StepLaws
+pub mod BlockResults

@@ -3,6 +3,7 @@
 
 mod answer;
 mod block;
+mod block_law;
 mod need;
 mod outcome;
 mod pp;
@@ -13,6 +14,7 @@ mod replay;
 
 pub use answer::Answer;
 pub use block::{Block, BlockKind};
+pub use block_law::block_results;
 pub use need::Need;
 pub use outcome::Outcome;
 pub use pp::Pp;

@@ -1,0 +1,17 @@
+//! Whole block transfers.
+
+ghost use Rattle.pp_machine.specs.BlockResults.{WholeInput, ClosedInput, WholeOutput, CutOutput, CentralInput, CentralOutput};
+
+use crate::pp::Pp;
+
+/// The law of block transfers, of each processor: what a whole transfer leaves, without its single steps.
+pub fn block_results(pp: &Pp)
+    ensures whole_input { WholeInput pp.now }
+    ensures closed_input { ClosedInput pp.now }
+    ensures whole_output { WholeOutput pp.now }
+    ensures cut_output { CutOutput pp.now }
+    ensures central_input { CentralInput pp.now }
+    ensures central_output { CentralOutput pp.now }
+{
+    pp.has_widths();
+}
