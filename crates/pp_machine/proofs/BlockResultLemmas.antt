@@ -6,11 +6,12 @@ use Rattle.pp_word.specs.Address.{place_count, next_place}
 use Rattle.pp_word.specs.OnesComplement.{sum}
 use Rattle.pp_word.specs.declared.opcode.Opcode.{Opcode}
 use Rattle.pp_word.specs.declared.opcode.Opcode.TheVariants.{IAM, OAM, CRM, CWM}
+use Rattle.pp_channel.specs.ChannelNumber.{names_channel}
 use Rattle.pp_channel.specs.declared.chan_op.ChanOp.TheVariants.{Put, Take}
 use Rattle.pp_channel.specs.declared.reply.Reply.TheVariants.{Done, Word, Held}
 use Rattle.pp_machine.specs.Blocks.{starts}
 use Rattle.pp_machine.specs.BlockResults.{place_from, kept_memory, BringsWords, BeginsAt, EndsBlock, need_met, inactive, words_given, words_taken, centrals_given, centrals_taken, TakesWords, PutsWords, ReadsCentrals, WritesCentrals, WholeInput, ClosedInput, WholeOutput, CutOutput, CentralInput, CentralOutput, address_of, part_of, five_from}
-use Rattle.pp_machine.specs.InstructionTable.{instruction, names_channel, row}
+use Rattle.pp_machine.specs.InstructionTable.{instruction, row}
 use Rattle.pp_machine.specs.NeedAndEffect.{need, processor_after}
 use Rattle.pp_machine.specs.OperandAndPlace.{operation, lower_six, second_word}
 use Rattle.pp_machine.specs.PpMemory.{IsMemory}

@@ -4,12 +4,13 @@ use Rattle.pp_word.specs.Address.{relative_to}
 use Rattle.pp_word.specs.OnesComplement.{difference}
 use Rattle.pp_word.specs.declared.opcode.Opcode.{Opcode}
 use Rattle.pp_word.specs.declared.opcode.Opcode.TheVariants.{UJN, ZJN, NJN, PJN, MJN, EXN, RPN, CRM, CWM, AJM, IJM, FJM, EJM, IAN, IAM, OAM, CRD}
+use Rattle.pp_channel.specs.ChannelNumber.{names_channel}
 use Rattle.pp_channel.specs.declared.flags.Flags.{Flags}
 use Rattle.pp_channel.specs.declared.reply.Reply.{Reply}
 use Rattle.pp_channel.specs.declared.reply.Reply.TheVariants as replies
 use Rattle.pp_machine.specs.Blocks.{held, cut_short, block_word, starts, counts_down, counts_up, receives, stores_at}
 use Rattle.pp_machine.specs.Effects.{faults, stops, goes_to, jumps_where, branches_where, leads_to_itself, is_negative}
-use Rattle.pp_machine.specs.InstructionTable.{row, instruction, works_on_channel, names_channel}
+use Rattle.pp_machine.specs.InstructionTable.{row, instruction, works_on_channel}
 use Rattle.pp_machine.specs.NeedAndEffect.{answered, step_of, next_step, is_held, need, processor_after, outcome, after_in, outcome_in}
 use Rattle.pp_machine.specs.OperandAndPlace.{operation, lower_six, second_word}
 use Rattle.pp_machine.specs.Processor.{Processor, word_at}

@@ -6,9 +6,9 @@ use Rattle.pp_word.specs.CentralWord.{parts_of, joined}
 use Rattle.pp_word.specs.OnesComplement.{sum}
 use Rattle.pp_word.specs.declared.opcode.Opcode.{Opcode}
 use Rattle.pp_word.specs.declared.opcode.Opcode.TheVariants.{IAM, OAM, CRM, CWM}
+use Rattle.pp_channel.specs.ChannelNumber.{names_channel}
 use Rattle.pp_channel.specs.declared.chan_op.ChanOp.TheVariants.{Put, Take}
 use Rattle.pp_channel.specs.declared.reply.Reply.TheVariants.{Done, Word, Held}
-use Rattle.pp_machine.specs.InstructionTable.{names_channel}
 use Rattle.pp_machine.specs.NeedAndEffect.{need}
 use Rattle.pp_machine.specs.OperandAndPlace.{operation, lower_six, second_word}
 use Rattle.pp_machine.specs.Processor.{Processor, word_at}

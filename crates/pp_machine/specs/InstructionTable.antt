@@ -1,14 +1,14 @@
 -- The table of instructions, one line a code, in the order of the octal codes.
 -- (Manual 60100000, peripheral processors: list of instructions and their descriptions; Thornton, Design of
 -- a Computer, on the peripheral and control processors. Jumps of 00 and 77 and the two zeros are this project's choice.)
-use Rattle.std.specs.Prelude.{ℕ, ◌+◌, ◌==◌, ◌&&◌, not, nat_lt, nat_le, Bool, if◌then◌else◌}
+use Rattle.std.specs.Prelude.{ℕ, ◌+◌, ◌==◌, ◌&&◌, not, nat_le, Bool, if◌then◌else◌}
 use Rattle.pp_word.specs.BitPlaces.{shifted, complemented, conjunction, exclusive_or, without}
 use Rattle.pp_word.specs.OnesComplement.{sum, difference}
 use Rattle.pp_word.specs.OperationCodes.{code_of}
 use Rattle.pp_word.specs.declared.opcode.Opcode.{Opcode}
 use Rattle.pp_word.specs.declared.opcode.Opcode.TheVariants.{PSN, LJM, RJM, UJN, ZJN, NJN, PJN, MJN, SHN, LMN, LPN, SCN, LDN, LCN, ADN, SBN, LDC, ADC, LPC, LMC, PSN24, PSN25, EXN, RPN, LDD, ADD, SBD, LMD, STD, RAD, AOD, SOD, LDI, ADI, SBI, LMI, STI, RAI, AOI, SOI, LDM, ADM, SBM, LMM, STM, RAM, AOM, SOM, CRD, CRM, CWD, CWM, AJM, IJM, FJM, EJM, IAN, IAM, OAN, OAM, ACN, DCN, FAN, FNC}
+use Rattle.pp_channel.specs.ChannelNumber.{names_channel}
 use Rattle.pp_channel.specs.declared.chan_op.ChanOp.TheVariants.{Activate, Disconnect, Put, Function}
-use Rattle.pp_channel.specs.declared.channel_no.TheConstants.{CHANNELS}
 use Rattle.pp_machine.specs.Blocks.{receives, central_from, starts}
 use Rattle.pp_machine.specs.Effects.{goes_on, goes_to, faults, jumps_or_stops, jumps_where, branches_where, calls, is_negative, low_of, loads, loads_word, adds_word, subtracts_word, differs_from_word, stores_word, replaces_by_sum, replaces_by_one_more, replaces_by_one_less}
 use Rattle.pp_machine.specs.OperandAndPlace.{second_word, index, constant, direct, indirect, at_index}
@@ -83,14 +83,10 @@ row DCN pp d = does d Disconnect (goes_on pp 1)
 row FAN pp d = does d (Function (low_of pp.a)) (goes_on pp 1)
 row FNC pp d = does d (Function (second_word pp)) (goes_on pp 2)
 
--- codes 64 to 67 and 70 to 77 (octal) work on channel d
+-- codes 64 to 77 (octal) work on channel d
 abbrev pub works_on_channel : Opcode → Bool
 works_on_channel op = nat_le 0o64 (code_of op)
 
--- whether there is a channel d
-abbrev pub names_channel : ℕ → Bool
-names_channel d = nat_lt d CHANNELS
-
--- an instruction: its row, but fault 3 where it works on a channel that there is not
+-- an instruction: its row of the table, but fault 3 where it works on channel d and d names none
 abbrev pub instruction : Opcode → Processor → ℕ → Step
 instruction op pp d = if works_on_channel op && not (names_channel d) then local (faults pp 3) else row op pp d
