@@ -3,7 +3,6 @@
 
 mod answer;
 mod block;
-mod block_law;
 mod need;
 mod outcome;
 mod pp;
@@ -14,10 +13,9 @@ mod replay;
 
 pub use answer::Answer;
 pub use block::{Block, BlockKind};
-pub use block_law::block_results;
 pub use need::Need;
 pub use outcome::Outcome;
-pub use pp::Pp;
+pub use pp::{Pp, block_results};
 pub use pp_no::{PROCESSORS, PpNo};
 pub use pp_state::PpState;
 pub use replay::fits;

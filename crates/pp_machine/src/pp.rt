@@ -1,18 +1,21 @@
 //! A peripheral processor.
 
 mod block;
+mod block_law;
 mod effect;
+mod load;
 mod local;
 mod operand;
 mod reply;
 mod step;
 
-ghost use Rattle.std.specs.Prelude.{◌≡◌, None, slice_set};
-ghost use Rattle.pp_machine.specs.Processor.{IsProcessor, new_processor, word_at};
+ghost use Rattle.std.specs.Prelude.{◌≡◌};
+ghost use Rattle.pp_machine.specs.Processor.{new_processor, word_at};
 
 use crate::block::Block;
 use crate::pp_memory::PpMemory;
 use crate::pp_state::PpState;
+pub use block_law::block_results;
 use pp_word::{Word12, Word18};
 use std::marker::Model;
 
@@ -47,23 +50,6 @@ impl Pp {
             state: PpState::Stopped,
             block: None,
         }
-    }
-
-    /// Sets the word at a place.
-    pub fn set(&mut self, place: Word12, word: Word12)
-        ensures { self.new ≡ record self.old { memory = slice_set self.old.memory place word } }
-    {
-        self.memory.set(place, word);
-    }
-
-    /// Starts the program at P = p with A = a, on the memory as it is.
-    pub fn start(&mut self, p: Word12, a: Word18)
-        ensures { self.new ≡ record self.old { p = p; a = a; state = PpState.Running; block = None } }
-    {
-        self.p = p;
-        self.a = a;
-        self.state = PpState::Running;
-        self.block = None;
     }
 
     /// The word at a place.
@@ -107,19 +93,7 @@ impl Pp {
     {
         Pp {
             memory: self.memory.copy(),
-            a: self.a,
-            p: self.p,
-            state: self.state,
-            block: self.block,
+            ..*self
         }
-    }
-
-    /// What is true of each processor.
-    pub(crate) fn has_widths(&self)
-        ensures { IsProcessor self.now }
-    {
-        self.memory.has_widths();
-        let _a = self.a.get();
-        let _p = self.p.get();
     }
 }

@@ -1,5 +1,5 @@
 use Rattle.pp_machine.proofs.BlockResultLemmas.{whole_input, closed_input, whole_output, cut_output, central_input, central_output}
-use Rattle.pp_machine.proofs.block_law.block_results.Goals as goal
+use Rattle.pp_machine.proofs.pp.block_law.block_results.Goals as goal
 
 pub returns-clause-whole_input : goal.returns-clause-whole_input
 returns-clause-whole_input c = whole_input c.args.pp.now c.has_widths.ensures

@@ -1,8 +1,21 @@
 //! Whole block transfers.
 
+ghost use Rattle.std.specs.Prelude.{◌≡◌};
+ghost use Rattle.pp_machine.specs.Processor.{IsProcessor};
 ghost use Rattle.pp_machine.specs.BlockResults.{WholeInput, ClosedInput, WholeOutput, CutOutput, CentralInput, CentralOutput};
 
 use crate::pp::Pp;
+
+impl Pp {
+    /// What is true of each processor.
+    fn has_widths(&self)
+        ensures { IsProcessor self.now }
+    {
+        self.memory.has_widths();
+        let _a = self.a.get();
+        let _p = self.p.get();
+    }
+}
 
 /// The law of block transfers, of each processor: what a whole transfer leaves, without its single steps.
 pub fn block_results(pp: &Pp)
