@@ -11,16 +11,17 @@ use Rattle.pp_channel.specs.declared.reply.Reply.TheVariants as replies
 use Rattle.pp_machine.specs.Blocks.{held, cut_short, block_word, starts, counts_down, counts_up, receives, stores_at}
 use Rattle.pp_machine.specs.Effects.{faults, stops, goes_to, jumps_where, branches_where, leads_to_itself, is_negative}
 use Rattle.pp_machine.specs.InstructionTable.{row, instruction, works_on_channel}
-use Rattle.pp_machine.specs.NeedAndEffect.{answered, step_of, next_step, is_held, need, processor_after, outcome, after_in, outcome_in}
+use Rattle.pp_machine.specs.NeedAndEffect.{answered, step_of, next_step, is_held, need, processor_after, outcome, need_in, after_in, outcome_in}
 use Rattle.pp_machine.specs.OperandAndPlace.{operation, lower_six, second_word}
 use Rattle.pp_machine.specs.Processor.{Processor, word_at}
-use Rattle.pp_machine.specs.Step.{Step, local, probes, takes, does, reads, writes}
+use Rattle.pp_machine.specs.Step.{Step, need_of, local, probes, takes, does, reads, writes}
 use Rattle.pp_machine.specs.StepLaws.{IsAtRest, IsAtFault, IsHeldAnswer, KeepsMemoryAndRegisters}
 use Rattle.pp_machine.specs.declared.answer.Answer.{Answer}
 use Rattle.pp_machine.specs.declared.answer.Answer.TheVariants as answers
 use Rattle.pp_machine.specs.declared.block.Block.{Block}
 use Rattle.pp_machine.specs.declared.block.BlockKind.{BlockKind}
 use Rattle.pp_machine.specs.declared.block.BlockKind.TheVariants.{CentralIn, CentralOut, Input, Output}
+use Rattle.pp_machine.specs.declared.need.Need.TheVariants as needs
 use Rattle.pp_machine.specs.declared.outcome.Outcome.{Outcome}
 use Rattle.pp_machine.specs.declared.outcome.Outcome.TheVariants as outcomes
 use Rattle.pp_machine.specs.declared.pp_state.PpState.{PpState}
@@ -210,3 +211,26 @@ rest_after (Fault number) pp answer h = refl
 pub rest_changes_nothing : (pp : Processor) (answer : Answer) → IsAtRest pp → processor_after pp answer ≡ pp
 unfolding processor_after
 rest_changes_nothing pp answer h = rest_after pp.state pp answer h
+
+-- a step needs something, be it Local
+need_of-some : (step : Step) → need_of step ≢ needs.Nothing
+need_of-some (local after) e = cc
+need_of-some (probes channel after) e = cc
+need_of-some (takes channel after) e = cc
+need_of-some (does channel op after) e = cc
+need_of-some (reads address after) e = cc
+need_of-some (writes address word after) e = cc
+
+no_need_rest : (state : PpState) (pp : Processor) → need_in state pp ≡ needs.Nothing → state ≢ Running
+no_need_rest Running pp e h = need_of-some (next_step pp) e
+no_need_rest Stopped pp e h = cc
+no_need_rest (Fault number) pp e h = cc
+
+rest_no_need : (state : PpState) (pp : Processor) → state ≢ Running → need_in state pp ≡ needs.Nothing
+rest_no_need Running pp h = absurd (h refl)
+rest_no_need Stopped pp h = refl
+rest_no_need (Fault number) pp h = refl
+
+pub nothing_at_rest : (pp : Processor) → (need pp ≡ needs.Nothing) ↔ IsAtRest pp
+unfolding need
+nothing_at_rest pp = ((λ e h. no_need_rest pp.state pp e h), (λ h. rest_no_need pp.state pp h))

@@ -66,9 +66,10 @@ impl Pp {
     }
 
     /// What the next step needs from outside: nothing where it is at rest.
-    #[tactic(auto, unfolding(crate::specs::NeedAndEffect::need))]
+    #[tactic(auto, unfolding(crate::specs::NeedAndEffect::need), using(crate::proofs::StepLemmas::nothing_at_rest))]
     pub fn wants(&self) -> Need
-        ensures { result ≡ need self.now }
+        ensures need { result ≡ need self.now }
+        ensures nothing_unless_running { (result ≡ Need.Nothing) ↔ IsAtRest self.now }
     {
         match self.state {
             PpState::Running => match self.block {
