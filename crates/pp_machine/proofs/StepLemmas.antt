@@ -72,9 +72,9 @@ jumps_keep : (test : Bool) (pp : Processor) (d : ℕ) → pp.state ≡ Running �
 jumps_keep true pp d h = either (leads_to_itself d) pp pp (goes_to pp (relative_to pp.p d)) (runs_on pp pp h refl) (runs_on pp _ h refl)
 jumps_keep false pp d h = runs_on pp _ h refl
 
-branches_keep : (test : Bool) (pp : Processor) (m : ℕ) → pp.state ≡ Running → Keeps pp (branches_where test pp m)
-branches_keep true pp m h = runs_on pp _ h refl
-branches_keep false pp m h = runs_on pp _ h refl
+branches_keep : (test : Bool) (pp : Processor) → pp.state ≡ Running → Keeps pp (branches_where test pp)
+branches_keep true pp h = runs_on pp _ h refl
+branches_keep false pp h = runs_on pp _ h refl
 
 chosen_state : (test : Bool) (new other : Processor) (state : PpState) → new.state ≡ state → other.state ≡ state → (if test then new else other).state ≡ state
 chosen_state true new other state e f = e
@@ -100,10 +100,10 @@ row_keeps RPN pp d h = faulted pp 2
 row_keeps CRD pp d h = λ word. runs_on pp _ h refl
 row_keeps CRM pp d h = starts_keep pp _ _ h
 row_keeps CWM pp d h = starts_keep pp _ _ h
-row_keeps AJM pp d h = λ flags. branches_keep flags.active pp (second_word pp) h
-row_keeps IJM pp d h = λ flags. branches_keep (not flags.active) pp (second_word pp) h
-row_keeps FJM pp d h = λ flags. branches_keep flags.full pp (second_word pp) h
-row_keeps EJM pp d h = λ flags. branches_keep (not flags.full) pp (second_word pp) h
+row_keeps AJM pp d h = λ flags. branches_keep flags.active pp h
+row_keeps IJM pp d h = λ flags. branches_keep (not flags.active) pp h
+row_keeps FJM pp d h = λ flags. branches_keep flags.full pp h
+row_keeps EJM pp d h = λ flags. branches_keep (not flags.full) pp h
 row_keeps IAN pp d h = λ word. runs_on pp _ h refl
 row_keeps IAM pp d h = starts_keep pp _ _ h
 row_keeps OAM pp d h = starts_keep pp _ _ h

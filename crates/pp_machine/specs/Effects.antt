@@ -4,7 +4,7 @@ use Rattle.std.specs.Prelude.{ℕ, ◌%◌, ◌^◌, ◌==◌, ◌||◌, Bool, N
 use Rattle.pp_word.specs.Address.{next_place, relative_to}
 use Rattle.pp_word.specs.BitPlaces.{place, exclusive_or}
 use Rattle.pp_word.specs.OnesComplement.{sum, difference}
-use Rattle.pp_machine.specs.OperandAndPlace.{Operand, behind_p}
+use Rattle.pp_machine.specs.OperandAndPlace.{Operand, behind_p, second_word}
 use Rattle.pp_machine.specs.Processor.{Processor, word_at}
 use Rattle.pp_machine.specs.declared.pp_state.PpState.TheVariants.{Stopped, Fault}
 
@@ -38,8 +38,8 @@ jumps_where test pp d =
     if test then (if leads_to_itself d then pp else goes_to pp (relative_to pp.p d)) else goes_on pp 1
 
 -- a long jump to m where a test holds
-abbrev pub branches_where : Bool → Processor → ℕ → Processor
-branches_where test pp m = if test then goes_to pp m else goes_on pp 2
+abbrev pub branches_where : Bool → Processor → Processor
+branches_where test pp = if test then goes_to pp (second_word pp) else goes_on pp 2
 
 -- RJM: the place behind the instruction is stored at the target, and the program goes on behind that
 abbrev pub calls : Processor → ℕ → Processor

@@ -10,6 +10,8 @@ mod pp_memory;
 mod pp_no;
 mod pp_state;
 mod replay;
+#[cfg(test)]
+mod tests_of_processor;
 
 pub use answer::Answer;
 pub use block::{Block, BlockKind};

@@ -72,7 +72,7 @@ impl Pp {
     }
 
     /// A word of IAM or OAM has gone.
-    pub(super) fn count_down(&mut self, kind: BlockKind, place: Word12)
+    fn count_down(&mut self, kind: BlockKind, place: Word12)
         ensures { self.new ≡ counts_down self.old kind place }
     {
         self.a = sub18(self.a, Word18::ONE);

@@ -63,12 +63,12 @@ impl Pp {
         }
     }
 
-    /// A long jump where a test holds.
-    pub(super) fn branch_where(&mut self, test: bool, target: Word12)
-        ensures { self.new ≡ branches_where test self.old target }
+    /// A long jump to the second word where a test holds.
+    pub(super) fn branch_where(&mut self, test: bool)
+        ensures { self.new ≡ branches_where test self.old }
     {
         if test {
-            self.p = target;
+            self.p = self.second_word();
         } else {
             self.go_on(2);
         }

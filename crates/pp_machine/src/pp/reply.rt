@@ -19,22 +19,14 @@ impl Pp {
         ensures { self.new ≡ answered (row op self.old d) self.old (Answer.Channel reply) }
     {
         match (op, reply) {
-            (Opcode::AJM, Reply::Flags(flags)) => self.branch_where(
-                flags.active,
-                self.second_word(),
-            ),
-            (Opcode::IJM, Reply::Flags(flags)) => self.branch_where(
-                !flags.active,
-                self.second_word(),
-            ),
-            (Opcode::FJM, Reply::Flags(flags)) => self.branch_where(flags.full, self.second_word()),
-            (Opcode::EJM, Reply::Flags(flags)) => self.branch_where(
-                !flags.full,
-                self.second_word(),
-            ),
+            (Opcode::AJM, Reply::Flags(flags)) => self.branch_where(flags.active),
+            (Opcode::IJM, Reply::Flags(flags)) => self.branch_where(!flags.active),
+            (Opcode::FJM, Reply::Flags(flags)) => self.branch_where(flags.full),
+            (Opcode::EJM, Reply::Flags(flags)) => self.branch_where(!flags.full),
             (Opcode::IAN, Reply::Word(word)) => self.load(Word18::from(word), 1),
             (Opcode::OAN | Opcode::ACN | Opcode::DCN | Opcode::FAN, Reply::Done) => self.go_on(1),
             (Opcode::FNC, Reply::Done) => self.go_on(2),
+            // Held changes nothing, and no other reply fits.
             _ => {}
         }
     }
