@@ -37,7 +37,7 @@ abbrev pub jumps_where : Bool → Processor → ℕ → Processor
 jumps_where test pp d =
     if test then (if leads_to_itself d then pp else goes_to pp (relative_to pp.p d)) else goes_on pp 1
 
--- a long jump to m where a test holds
+-- a long jump to the second word where a test holds
 abbrev pub branches_where : Bool → Processor → Processor
 branches_where test pp = if test then goes_to pp (second_word pp) else goes_on pp 2
 

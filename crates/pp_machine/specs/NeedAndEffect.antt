@@ -25,7 +25,8 @@ step_of (Some block) pp = block_word block.kind block.place pp
 abbrev pub next_step : Processor → Step
 next_step pp = step_of pp.block pp
 
--- the processor after an answer to a step; fault 4 where central memory has no such address
+-- the processor after an answer to a step: fault 4 where central memory has no such address,
+-- and a channel that was not ready holds it; no other answer fits
 abbrev pub answered : Step → Processor → Answer → Processor
 answered (local after) pp Local = after
 answered (probes channel after) pp (Channel (Flags flags)) = after flags
@@ -44,6 +45,7 @@ is_held None (Channel (Held flags)) = true
 is_held (Some block) (Channel (Held flags)) = flags.active
 is_held block answer = false
 
+-- only a running processor has a next step: what it needs, what an answer leaves, and the outcome, by the state
 abbrev pub need_in : PpState → Processor → Need
 need_in Running pp = need_of (next_step pp)
 need_in Stopped pp = Nothing
