@@ -15,21 +15,24 @@ pub stored-nil : (memory : List ℕ) (m i : ℕ) → stored memory m i [] ≡ me
 unfolding stored
 stored-nil memory m i = refl
 
-pub stored-cons : (memory : List ℕ) (m i word : ℕ) (words : List ℕ) → stored memory m i (word ∷ words) ≡ stored (slice_set memory (place_from m i) word) m (i + 1) words
+pub stored-cons : (memory : List ℕ) (m i word : ℕ) (words : List ℕ) →
+    stored memory m i (word ∷ words) ≡ stored (slice_set memory (place_from m i) word) m (i + 1) words
 unfolding stored
 stored-cons memory m i word words = refl
 
 pub next-place_from : (m i : ℕ) → next_place (place_from m i) ≡ place_from m (i + 1)
 next-place_from m i = omega arith
 
-pub stored_from-place_from : (words memory : List ℕ) (m i : ℕ) → stored_from memory (place_from m i) words ≡ stored memory m i words
+pub stored_from-place_from : (words memory : List ℕ) (m i : ℕ) →
+    stored_from memory (place_from m i) words ≡ stored memory m i words
 unfolding stored
 stored_from-place_from [] memory m i = refl
 stored_from-place_from (word ∷ words) memory m i =
     ap (λ place. stored_from (slice_set memory (place_from m i) word) place words) (next-place_from m i)
     ∙ stored_from-place_from words (slice_set memory (place_from m i) word) m (i + 1)
 
-pub stored-append : (words more memory : List ℕ) (m i : ℕ) → stored memory m i (words ++ more) ≡ stored (stored memory m i words) m (i + length words) more
+pub stored-append : (words more memory : List ℕ) (m i : ℕ) →
+    stored memory m i (words ++ more) ≡ stored (stored memory m i words) m (i + length words) more
 unfolding stored
 stored-append [] more memory m i = let here : i + 0 ≡ i = omega arith in rw here refl
 stored-append (word ∷ words) more memory m i =
@@ -42,7 +45,8 @@ length-stored [] memory m i = refl
 length-stored (word ∷ words) memory m i =
     length-stored words (slice_set memory (place_from m i) word) m (i + 1) ∙ grind (arith, common_steps)
 
-stored_others : (words memory : List ℕ) (m i place : ℕ) → ((j : ℕ) → j < length words → place ≢ place_from m (i + j)) → slice_index (stored memory m i words) place ≡ slice_index memory place
+stored_others : (words memory : List ℕ) (m i place : ℕ) → ((j : ℕ) → j < length words →
+    place ≢ place_from m (i + j)) → slice_index (stored memory m i words) place ≡ slice_index memory place
 unfolding stored
 stored_others [] memory m i place apart = refl
 stored_others (word ∷ words) memory m i place apart =
@@ -54,7 +58,8 @@ stored_others (word ∷ words) memory m i place apart =
 apart_places : (m i j : ℕ) → i + 1 + j < place_count → place_from m i ≢ place_from m (i + 1 + j)
 apart_places m i j h = λ e. omega arith
 
-stored_words : (words memory : List ℕ) (m i j : ℕ) → i + length words ≤ place_count → length memory ≡ place_count → j < length words → slice_index (stored memory m i words) (place_from m (i + j)) ≡ slice_index words j
+stored_words : (words memory : List ℕ) (m i j : ℕ) → i + length words ≤ place_count → length memory ≡ place_count →
+    j < length words → slice_index (stored memory m i words) (place_from m (i + j)) ≡ slice_index words j
 unfolding stored
 stored_words [] memory m i j h l k = absurd (omega arith)
 stored_words (word ∷ words) memory m i zero h l k =
@@ -68,7 +73,9 @@ stored_words (word ∷ words) memory m i (suc j) h l k =
     rw further (stored_words words (slice_set memory (place_from m i) word) m (i + 1) j (omega arith) long (omega arith))
 
 -- they stand in their places, and all else is as before
-pub BringsWords-stored : (words memory : List ℕ) (m : ℕ) → length words ≤ place_count → length memory ≡ place_count → BringsWords memory (stored memory m 0 words) m (length words) (λ i. slice_index words i)
+pub BringsWords-stored : (words memory : List ℕ) (m : ℕ) → length words ≤ place_count →
+    length memory ≡ place_count →
+    BringsWords memory (stored memory m 0 words) m (length words) (λ i. slice_index words i)
 BringsWords-stored words memory m h l = record {
   words = λ i k. let here : i ≡ 0 + i = omega arith in ap (λ j. slice_index (stored memory m 0 words) (place_from m j)) here ∙ stored_words words memory m 0 i (omega arith) l k;
   others = λ place k apart. stored_others words memory m 0 place (λ j n. let here : 0 + j ≡ j = omega arith in rw here (apart j n));
@@ -80,7 +87,8 @@ pub parts_of_all : List ℕ → List ℕ
 parts_of_all [] = []
 parts_of_all (central ∷ centrals) = parts_of central ++ parts_of_all centrals
 
-pub stored-parts : (central : ℕ) (centrals memory : List ℕ) (m i : ℕ) → stored memory m i (parts_of_all (central ∷ centrals)) ≡ stored (stored_from memory (place_from m i) (parts_of central)) m (i + 5) (parts_of_all centrals)
+pub stored-parts : (central : ℕ) (centrals memory : List ℕ) (m i : ℕ) →
+    stored memory m i (parts_of_all (central ∷ centrals)) ≡ stored (stored_from memory (place_from m i) (parts_of central)) m (i + 5) (parts_of_all centrals)
 unfolding parts_of_all
 stored-parts central centrals memory m i =
     stored-append (parts_of central) (parts_of_all centrals) memory m i
@@ -95,7 +103,8 @@ unfolding parts_of_all
 length-parts_of_all [] = refl
 length-parts_of_all (central ∷ centrals) = let more = length-parts_of_all centrals in omega arith
 
-pub slice_index-parts_of_all : (centrals : List ℕ) (j : ℕ) → j < 5 * length centrals → slice_index (parts_of_all centrals) j ≡ part_of centrals j
+pub slice_index-parts_of_all : (centrals : List ℕ) (j : ℕ) → j < 5 * length centrals →
+    slice_index (parts_of_all centrals) j ≡ part_of centrals j
 unfolding parts_of_all
 slice_index-parts_of_all [] j h = absurd (omega arith)
 slice_index-parts_of_all (central ∷ centrals) zero h = refl

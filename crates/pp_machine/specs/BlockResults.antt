@@ -1,6 +1,7 @@
 -- Whole block transfers, told without their single steps: which place holds which word, and A, P and the state after.
+-- Codes are octal; d is the lower six bits of the instruction, m its second word.
 -- (Manual 60100000, peripheral processors: CRM, CWM, IAM, OAM.)
-use Rattle.std.specs.Prelude.{ℕ, ◌≡◌, ◌≢◌, ◌+◌, ◌-◌, ◌*◌, ◌/◌, ◌%◌, ◌<◌, ◌≤◌, ◌==◌, Bool, true, false, List, [], ◌∷◌, ◌++◌, Option, None, Some, if◌then◌else◌, length, map, replicate, take, slice_index, slice_set}
+use Rattle.std.specs.Prelude.{ℕ, ◌≡◌, ◌≢◌, ◌+◌, ◌-◌, ◌*◌, ◌/◌, ◌%◌, ◌<◌, ◌≤◌, ◌==◌, Bool, true, false, List, [], ◌∷◌, ◌++◌, None, Some, if◌then◌else◌, length, map, replicate, take, slice_index, slice_set}
 use Rattle.pp_word.specs.Address.{place_count, next_place}
 use Rattle.pp_word.specs.CentralWord.{parts_of, joined}
 use Rattle.pp_word.specs.OnesComplement.{sum}
@@ -30,7 +31,8 @@ kept_memory pp = slice_set pp.memory 0 (next_place pp.p)
 -- word i of so many comes to place i from m on, and all other places are as before
 pub record BringsWords (old new : List ℕ) (m count : ℕ) (word : ℕ → ℕ) : Type 0 where
   pub words : (i : ℕ) → i < count → slice_index new (place_from m i) ≡ word i
-  pub others : (place : ℕ) → place < place_count → ((i : ℕ) → i < count → place ≢ place_from m i) → slice_index new place ≡ slice_index old place
+  pub others : (place : ℕ) → place < place_count → ((i : ℕ) → i < count → place ≢ place_from m i) →
+      slice_index new place ≡ slice_index old place
   pub each_place : length new ≡ length old
 
 -- a running processor without a block in progress, with this operation at P
@@ -79,19 +81,22 @@ pub record TakesWords (pp : Processor) (answers : List Answer) (count : ℕ) (wo
 -- 71: as many words as A says
 abbrev pub WholeInput : Processor → Type 0
 WholeInput pp =
-    (words : List ℕ) → BeginsAt IAM pp → names_channel (lower_six pp) ≡ true → 0 < pp.a → length words ≡ pp.a → length words ≤ place_count →
+    (words : List ℕ) → BeginsAt IAM pp → names_channel (lower_six pp) ≡ true → 0 < pp.a → length words ≡ pp.a →
+    length words ≤ place_count →
     let answers = words_given words in EndsBlock pp answers 0 × TakesWords pp answers (length words) words
 
 -- 71: fewer words, and then the channel was inactive: a word 0 closes them, and A is what was left
 abbrev pub ClosedInput : Processor → Type 0
 ClosedInput pp =
-    (words : List ℕ) (full : Bool) → BeginsAt IAM pp → names_channel (lower_six pp) ≡ true → length words < pp.a → length words < place_count →
+    (words : List ℕ) (full : Bool) → BeginsAt IAM pp → names_channel (lower_six pp) ≡ true → length words < pp.a →
+    length words < place_count →
     let answers = words_given words ++ inactive full ∷ [] in
     EndsBlock pp answers (pp.a - length words) × TakesWords pp answers (length words) (words ++ 0 ∷ [])
 
 -- 73: the words from place m on are put, and no place but 0000 changes
 pub record PutsWords (pp : Processor) (answers : List Answer) (count : ℕ) : Type 0 where
-  pub puts : (i : ℕ) → i < count → need_met pp answers i ≡ needs.Channel (lower_six pp) (Put (slice_index (kept_memory pp) (place_from (second_word pp) i)))
+  pub puts : (i : ℕ) → i < count →
+      need_met pp answers i ≡ needs.Channel (lower_six pp) (Put (slice_index (kept_memory pp) (place_from (second_word pp) i)))
   pub memory : (replayed pp answers).memory ≡ kept_memory pp
 
 -- 73: as many words as A says
@@ -122,7 +127,8 @@ pub record ReadsCentrals (pp : Processor) (answers : List Answer) (centrals : Li
 -- 61: as many central words as place d says, from 1 to 819 (decimal)
 abbrev pub CentralInput : Processor → Type 0
 CentralInput pp =
-    (centrals : List ℕ) → BeginsAt CRM pp → 0 < length centrals → length centrals ≤ 819 → length centrals ≡ word_at pp (lower_six pp) →
+    (centrals : List ℕ) → BeginsAt CRM pp → 0 < length centrals → length centrals ≤ 819 →
+    length centrals ≡ word_at pp (lower_six pp) →
     let answers = centrals_given centrals in EndsBlock pp answers (sum pp.a (length centrals)) × ReadsCentrals pp answers centrals
 
 -- the central word of places j to j + 4 from m on
@@ -133,7 +139,8 @@ five_from memory m j =
 
 -- 63: central words are written from the words from place m on, five each, and no place but 0000 changes
 pub record WritesCentrals (pp : Processor) (answers : List Answer) (count : ℕ) : Type 0 where
-  pub writes : (i : ℕ) → i < count → need_met pp answers i ≡ needs.Write (address_of pp.a i) (five_from (kept_memory pp) (second_word pp) (5 * i))
+  pub writes : (i : ℕ) → i < count →
+      need_met pp answers i ≡ needs.Write (address_of pp.a i) (five_from (kept_memory pp) (second_word pp) (5 * i))
   pub memory : (replayed pp answers).memory ≡ kept_memory pp
 
 -- 63: as many central words as place d says

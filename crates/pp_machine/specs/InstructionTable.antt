@@ -1,7 +1,7 @@
 -- The table of instructions, one line a code, in the order of the octal codes.
 -- (Manual 60100000, peripheral processors: list of instructions and their descriptions; Thornton, Design of
 -- a Computer, on the peripheral and control processors. Jumps of 00 and 77 and the two zeros are this project's choice.)
-use Rattle.std.specs.Prelude.{ℕ, ◌+◌, ◌==◌, ◌&&◌, not, nat_le, Bool, if◌then◌else◌}
+use Rattle.std.specs.Prelude.{ℕ, ◌==◌, ◌&&◌, not, nat_le, Bool, if◌then◌else◌}
 use Rattle.pp_word.specs.BitPlaces.{shifted, complemented, conjunction, exclusive_or, without}
 use Rattle.pp_word.specs.OnesComplement.{sum, difference}
 use Rattle.pp_word.specs.OperationCodes.{code_of}

@@ -1,5 +1,5 @@
 -- What the next step of a processor needs from outside, the processor after its answer, and the outcome.
-use Rattle.std.specs.Prelude.{ℕ, Bool, true, false, Option, None, Some, if◌then◌else◌}
+use Rattle.std.specs.Prelude.{Bool, true, false, Option, None, Some, if◌then◌else◌}
 use Rattle.pp_channel.specs.declared.reply.Reply.TheVariants.{Flags, Done, Word, Held}
 use Rattle.pp_machine.specs.Blocks.{block_word, held}
 use Rattle.pp_machine.specs.Effects.{faults}

@@ -1,5 +1,5 @@
 -- What is true of each step, whatever the instruction.
-use Rattle.std.specs.Prelude.{ℕ, ◌≡◌, ◌≢◌, Option, None}
+use Rattle.std.specs.Prelude.{ℕ, ◌≡◌, ◌≢◌, None}
 use Rattle.pp_channel.specs.declared.flags.Flags.{Flags}
 use Rattle.pp_channel.specs.declared.reply.Reply.TheVariants.{Held}
 use Rattle.pp_machine.specs.Processor.{Processor}
