@@ -6,3 +6,7 @@ pub mod ReplayLemmas
 pub mod SignLemmas
 pub mod StepLemmas
 pub mod StoredLemmas
+pub mod HeadlineLemmas
+pub mod MachineStepLemmas
+pub mod RunLemmas
+pub mod RoundLemmas

@@ -9,3 +9,13 @@ pub mod NeedAndEffect
 pub mod Replay
 pub mod StepLaws
 pub mod BlockResults
+pub mod ProcessorNumber
+pub mod Central
+pub mod MachineState
+pub mod MachineStep
+pub mod Run
+pub mod Headline
+pub mod MachineInvariant
+pub mod Lending
+pub mod Rounds
+pub mod Direct

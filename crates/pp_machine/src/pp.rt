@@ -2,6 +2,7 @@
 
 mod block;
 mod block_law;
+mod direct;
 mod effect;
 mod load;
 mod local;
