@@ -1,0 +1,12 @@
+//! Decks that load a machine, runs of it, and the texts of these runs.
+#![tactic(auto)]
+
+mod deck;
+mod deck_fault;
+mod fields;
+mod flaw;
+mod keyword;
+mod octal_number;
+
+pub use deck::Deck;
+pub use deck_fault::{DeckCode, DeckFault};
