@@ -3,3 +3,6 @@ pub mod DeckText
 pub mod OctalNumber
 pub mod DeckLine
 pub mod DeckMeaning
+pub mod PrintedText
+pub mod TextAnswer
+pub mod CommandLine
