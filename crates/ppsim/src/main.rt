@@ -4,6 +4,7 @@
 
 use pp_sim::run_program;
 use std::alloc::{AllocError, Global};
+use std::env::Env;
 use std::io::ErrorKind;
 use std::process::ExitCode;
 use std::{env, io};
