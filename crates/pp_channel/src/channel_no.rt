@@ -1,7 +1,7 @@
 //! The number of a data channel.
 
-ghost use Rattle.std.specs.Prelude.{◌≡◌, ℕ, ◌<◌, ◌↔◌, IsSome, IfSome};
-ghost use Rattle.pp_channel.specs.declared.channel_no.TheConstants.{CHANNELS};
+ghost use Rattle.std.specs.Prelude.{◌≡◌, ℕ, ◌<◌, ◌↔◌, IsTrue, IsSome, IfSome};
+ghost use Rattle.pp_channel.specs.ChannelNumber.{channel_count, names_channel, channel_index};
 
 use std::marker::Model;
 
@@ -19,7 +19,7 @@ impl Model for ChannelNo {
 
     ghost view = { λ c. c.number };
 
-    ghost invariant = { λ c. c.number < CHANNELS };
+    ghost invariant = { λ c. IsTrue (names_channel c.number) };
 
     ghost inverse = { λ n. record { number = n } };
 }
@@ -27,10 +27,10 @@ impl Model for ChannelNo {
 impl ChannelNo {
     /// The channel of this number, or nothing from 14 (octal) on.
     pub fn new(number: u8) -> Option<Self>
-        ensures exists { IsSome result ↔ (number < CHANNELS) }
+        ensures exists { IsSome result ↔ IsTrue (names_channel number) }
         ensures value { IfSome result (λ c. c ≡ number) }
     {
-        if (number as usize) < CHANNELS {
+        if usize::from(number) < CHANNELS {
             Some(ChannelNo { number })
         } else {
             None
@@ -40,8 +40,18 @@ impl ChannelNo {
     /// Its number.
     pub fn get(self) -> u8
         ensures value { result ≡ self }
-        ensures small { result < CHANNELS }
+        ensures names { IsTrue (names_channel result) }
     {
         self.number
+    }
+
+    /// Its place in a list of all channels in order of number.
+    pub fn index(self) -> usize
+        ensures place { result ≡ channel_index self }
+        ensures below { result < channel_count }
+        // No other channel has this place.
+        ensures own { (n : ℕ) → IsTrue (names_channel n) → channel_index n ≡ result → n ≡ self }
+    {
+        usize::from(self.number)
     }
 }

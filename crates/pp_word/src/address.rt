@@ -1,7 +1,7 @@
 //! Addresses of the places of a processor's memory, modulo 10000 (octal).
 
-ghost use Rattle.std.specs.Prelude.{ℕ, ◌≡◌};
-ghost use Rattle.pp_word.specs.Address.{indexed, relative_to, next_place};
+ghost use Rattle.std.specs.Prelude.{ℕ, ◌≡◌, ◌+◌, ◌-◌, ◌%◌, ◌<◌, ◌≤◌};
+ghost use Rattle.pp_word.specs.Address.{indexed, next_place, place_count, relative_to};
 
 use crate::word6::Word6;
 use crate::word12::Word12;
@@ -23,7 +23,9 @@ pub fn index_address(m: Word12, x: Word12) -> Word12
 
 /// The place of a relative jump from p: p + d for d 00 to 37, p - (77 - d) for d 40 to 77 (octal).
 pub fn relative(p: Word12, d: Word6) -> Word12
-    ensures { result ≡ relative_to p d }
+    ensures value { result ≡ relative_to p d }
+    ensures forward { d < 0o40 → result ≡ (p + d) % place_count }
+    ensures backward { 0o40 ≤ d → (result + (0o77 - d)) % place_count ≡ p }
 {
     let from = u32::from(p.get());
     let by = u32::from(d.get());

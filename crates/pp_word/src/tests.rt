@@ -30,6 +30,10 @@ fn ranges(rt: HostRuntime) -> Result<(), Fail> {
     assert_eq!(rt; Word12::new(0o10_000), None);
     assert_eq!(rt; Word18::new(0o1_000_000), None);
     assert_eq!(rt; Word60::new(0o100_000_000_000_000_000_000), None);
+    assert_eq!(rt; Word12::ZERO.get(), 0);
+    assert_eq!(rt; Word18::ZERO.get(), 0);
+    assert_eq!(rt; Word18::ONE.get(), 1);
+    assert_eq!(rt; Word60::ZERO.get(), 0);
     assert_eq!(rt; Word6::truncated(0o177), six(0o77)?);
     assert_eq!(rt; Word12::truncated(0o12345), twelve(0o2345)?);
     assert_eq!(rt; Word18::truncated(0o1_234_567), eighteen(0o234_567)?);

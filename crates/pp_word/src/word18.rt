@@ -82,8 +82,7 @@ impl From<Word12> for Word18 {
     ghost from_gives = { λ word result. result ≡ word };
 
     fn from(word: Word12) -> Word18 {
-        Word18 {
-            value: u32::from(word.get()),
-        }
+        let value = u32::from(word.get());
+        Word18 { value }
     }
 }

@@ -1,0 +1,6 @@
+pub mod LastElements
+pub mod HistoryWalk
+pub mod CourseLemmas
+pub mod HistoryLemmas
+pub mod LawLemmas
+pub mod AnswerLemmas

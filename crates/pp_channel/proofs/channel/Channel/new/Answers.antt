@@ -1,0 +1,10 @@
+use Rattle.std.proofs.Common.{refl}
+use Rattle.std.proofs.lemmas.List.Elements.{All-nil}
+use Rattle.pp_channel.specs.History.{HasTwelveBitWord}
+use Rattle.pp_channel.proofs.HistoryLemmas.{lawful_empty}
+use Rattle.pp_channel.proofs.channel.Channel.new.Goals as goal
+
+-- what is kept of a history without events
+pub invariant_of-result : goal.invariant_of-result
+invariant_of-result g c =
+    rw c.new.ensures.items (record { lawful = lawful_empty; twelve_bits = All-nil HasTwelveBitWord; flags_are = refl; register_is = refl })

@@ -1,0 +1,108 @@
+-- What a channel answers to an operation, by its history: first as a relation to lawful histories,
+-- then as a function by the table of operations. On lawful histories the two agree.
+--
+-- Control Data 6400/6500/6600 Computer Systems Reference Manual, publication 60100000, part on
+-- peripheral and control processors: the channel instructions, of which 64 to 67 (octal) test the
+-- flags of a channel, and 70 to 77 wait until its flags let them go on.
+use Rattle.std.specs.Prelude.{◌≡◌, ℕ, Bool, true, false, not, ◌&&◌, List, [], ◌∷◌, ◌++◌, Option, Some, None, ◌⊎◌, if◌then◌else◌}
+use Rattle.std.specs.Option.{option_map, option_to_list}
+use Rattle.pp_channel.specs.declared.event.Event.{Event}
+use Rattle.pp_channel.specs.declared.chan_op.ChanOp.{ChanOp}
+use Rattle.pp_channel.specs.declared.reply.Reply.{Reply}
+use Rattle.pp_channel.specs.declared.flags.Flags.{Flags}
+use Rattle.pp_channel.specs.History.{IsLawful, active, full, waiting}
+
+-- the flags of a channel with the history h
+abbrev pub flags_of : List Event → Flags
+flags_of h = record { active = active h; full = full h }
+
+-- the operation that makes an event
+abbrev pub operation_of : Event → ChanOp
+operation_of Event.Activate = ChanOp.Activate
+operation_of Event.Disconnect = ChanOp.Disconnect
+operation_of (Event.Put w) = ChanOp.Put w
+operation_of (Event.Take w) = ChanOp.Take
+operation_of (Event.Function w) = ChanOp.Function w
+
+-- the reply where an event is made
+abbrev pub reply_made : Event → Reply
+reply_made (Event.Take w) = Reply.Word w
+reply_made _ = Reply.Done
+
+-- the reply where none is made: a probe shows the flags, any other operation is held
+abbrev pub reply_shown : ChanOp → List Event → Reply
+reply_shown ChanOp.Probe h = Reply.Flags (flags_of h)
+reply_shown _ h = Reply.Held (flags_of h)
+
+-- First the relation. An operation is ready on h where it makes an event with which h stays lawful.
+pub record IsReady (h : List Event) (op : ChanOp) (e : Event) : Type 0 where
+  pub operation : operation_of e ≡ op
+  pub lawful : IsLawful (h ++ e ∷ [])
+
+-- the event is made, and stands at the end of the history
+pub record IsMade (h : List Event) (op : ChanOp) (reply : Reply) (after : List Event) (e : Event)
+    : Type 0 where
+  pub ready : IsReady h op e
+  pub answered : reply ≡ reply_made e
+  pub recorded : after ≡ h ++ e ∷ []
+
+-- the operation is not ready: the flags are shown, and the history stays
+pub record IsShown (h : List Event) (op : ChanOp) (reply : Reply) (after : List Event) : Type 0 where
+  pub not_ready : (e : Event) → ¬ IsReady h op e
+  pub answered : reply ≡ reply_shown op h
+  pub unchanged : after ≡ h
+
+-- The answer of a channel with the history h to an operation: its reply, and its history after it.
+abbrev pub IsAnswer : List Event → ChanOp → Reply → List Event → Type 0
+IsAnswer h op reply after = ((e : Event) × IsMade h op reply after e) ⊎ IsShown h op reply after
+
+-- Then the table. Where an operation is ready, by the flags:
+abbrev pub ready_at : ChanOp → Flags → Bool
+ready_at ChanOp.Probe f = true
+ready_at ChanOp.Activate f = not f.active
+ready_at ChanOp.Disconnect f = f.active
+ready_at (ChanOp.Put w) f = f.active && not f.full
+ready_at ChanOp.Take f = f.active && f.full
+ready_at (ChanOp.Function w) f = not f.active
+
+-- the event that it makes, where `word` is the one in the register
+abbrev pub event_with : ChanOp → Option ℕ → Option Event
+event_with ChanOp.Probe word = None
+event_with ChanOp.Activate word = Some Event.Activate
+event_with ChanOp.Disconnect word = Some Event.Disconnect
+event_with (ChanOp.Put w) word = Some (Event.Put w)
+event_with ChanOp.Take word = option_map (λ w. Event.Take w) word
+event_with (ChanOp.Function w) word = Some (Event.Function w)
+
+-- the flags after an event
+abbrev pub flags_after : Event → Flags
+flags_after Event.Activate = record { active = true; full = false }
+flags_after Event.Disconnect = record { active = false; full = false }
+flags_after (Event.Put w) = record { active = true; full = true }
+flags_after (Event.Take w) = record { active = true; full = false }
+flags_after (Event.Function w) = record { active = false; full = false }
+
+-- the word in the register after an event
+abbrev pub word_after : Event → Option ℕ
+word_after (Event.Put w) = Some w
+word_after _ = None
+
+-- the event of an operation, by the flags and the register
+abbrev pub event_by : ChanOp → Flags → Option ℕ → Option Event
+event_by op f word = if ready_at op f then event_with op word else None
+
+-- The event of an operation on a channel with the history h; None where it makes none.
+abbrev pub event_of : ChanOp → List Event → Option Event
+event_of op h = event_by op (flags_of h) (waiting h)
+
+abbrev pub reply_by : ChanOp → List Event → Option Event → Reply
+reply_by op h None = reply_shown op h
+reply_by op h (Some e) = reply_made e
+
+-- The reply to an operation on a channel with the history h.
+abbrev pub reply_to : ChanOp → List Event → Reply
+reply_to op h = reply_by op h (event_of op h)
+
+-- The history after it: one event more, or the same.
+abbrev pub history_after : ChanOp → List Event → List Event
+history_after op h = h ++ option_to_list (event_of op h)

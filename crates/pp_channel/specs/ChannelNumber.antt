@@ -1,0 +1,17 @@
+-- The numbers of the data channels, and the place of each channel in a list of all channels.
+--
+-- Control Data 6400/6500/6600 Computer Systems Reference Manual, publication 60100000, part on
+-- peripheral and control processors: twelve data channels, numbered 0 to 13 (octal).
+use Rattle.std.specs.Prelude.{ℕ, Bool, nat_lt}
+
+-- how many channels there are
+abbrev pub channel_count : ℕ
+channel_count = 0o14
+
+-- whether a number is that of a channel
+abbrev pub names_channel : ℕ → Bool
+names_channel number = nat_lt number channel_count
+
+-- the place of the channel with this number in a list of all channels
+abbrev pub channel_index : ℕ → ℕ
+channel_index number = number

@@ -1,0 +1,71 @@
+-- The history of a channel is the list of its events: which histories are lawful, and what a
+-- history says of the channel now.
+--
+-- Control Data 6400/6500/6600 Computer Systems Reference Manual, publication 60100000, part on
+-- peripheral and control processors: a channel is active or inactive, and full or empty. Words
+-- pass while it is active, function codes go out while it is inactive.
+use Rattle.std.specs.Prelude.{◌≡◌, ℕ, ◌+◌, ◌^◌, ◌<◌, Bool, true, false, ◌&&◌, ◌==◌, List, ◌∷◌, ◌++◌, length, map, All, Option, Some, None, is_some, unwrap_or, if◌then◌else◌}
+use Rattle.std.specs.Option.{option_to_list}
+use Rattle.std.specs.List.{filter_map, flat_map, last_or, after_last}
+use Rattle.pp_channel.specs.declared.event.Event.{Event}
+use Rattle.pp_channel.specs.declared.event.Event.TheVariants.{Activate, Disconnect, Put, Take, Function}
+use Rattle.pp_channel.specs.Session.{Session, body, puts, takes}
+
+-- an idle stretch: function codes alone
+abbrev pub idle_stretch : List ℕ → List Event
+idle_stretch codes = map (λ code. Function code) codes
+
+-- a whole session, which a Disconnect ends, and the idle stretch after it
+abbrev pub whole_session : Session × List ℕ → List Event
+whole_session (session, codes) = body session ++ Disconnect ∷ idle_stretch codes
+
+-- The course of a channel: an idle stretch, any number of whole sessions, each with its idle
+-- stretch, and perhaps an open session.
+pub record Course : Type 0 where
+  pub first_stretch : List ℕ
+  pub whole_sessions : List (Session × List ℕ)
+  pub open_session : Option Session
+
+-- the events of a course, in order
+abbrev pub events_of : Course → List Event
+events_of c =
+    idle_stretch c.first_stretch
+    ++ flat_map whole_session c.whole_sessions
+    ++ flat_map body (option_to_list c.open_session)
+
+-- A history is lawful where there is a course whose events it is.
+abbrev pub IsLawful : List Event → Type 0
+IsLawful h = (course : Course) × (events_of course ≡ h)
+
+-- what Activate and Disconnect make of a channel: active or not
+abbrev pub switches_to : Event → Option Bool
+switches_to Activate = Some true
+switches_to Disconnect = Some false
+switches_to _ = None
+
+-- A channel is active where the last of Activate and Disconnect in its history is Activate.
+abbrev pub active : List Event → Bool
+active h = unwrap_or (last_or None (filter_map switches_to h)) false
+
+-- what came after the last of Activate and Disconnect
+abbrev pub last_stretch : List Event → List Event
+last_stretch h = after_last (λ e. is_some (switches_to e)) h
+
+-- A channel is full where its history ends in an open session with one more put than takes.
+abbrev pub full : List Event → Bool
+full h = active h && (length (puts (last_stretch h)) == length (takes (last_stretch h)) + 1)
+
+-- The word that waits in the register of a full channel: the last word put.
+abbrev pub waiting : List Event → Option ℕ
+waiting h = if full h then last_or None (puts (last_stretch h)) else None
+
+-- the word of an event, if it has one, is a word of 12 bits
+abbrev pub HasTwelveBitWord : Event → Type 0
+HasTwelveBitWord (Put w) = w < 2 ^ 12
+HasTwelveBitWord (Take w) = w < 2 ^ 12
+HasTwelveBitWord (Function w) = w < 2 ^ 12
+HasTwelveBitWord _ = Unit {0}
+
+-- Every word of a history has 12 bits.
+abbrev pub HasTwelveBitWords : List Event → Type 0
+HasTwelveBitWords h = All HasTwelveBitWord h

@@ -1,0 +1,38 @@
+-- What happens on a channel from one Activate to the next Disconnect, and the words that pass.
+--
+-- Control Data 6400/6500/6600 Computer Systems Reference Manual, publication 60100000, part on
+-- peripheral and control processors: the channel's register holds one word. A processor puts a
+-- word into the empty register, another takes it, and then the next word may come.
+use Rattle.std.specs.Prelude.{ℕ, List, [], ◌∷◌, ◌++◌, map, Option, Some, None}
+use Rattle.std.specs.Option.{option_to_list}
+use Rattle.std.specs.List.{filter_map, flat_map}
+use Rattle.pp_channel.specs.declared.event.Event.{Event}
+use Rattle.pp_channel.specs.declared.event.Event.TheVariants.{Activate, Put, Take}
+
+-- A session: the words that were put and then taken, in order, and perhaps a lone last word that
+-- was put and not taken.
+pub record Session : Type 0 where
+  pub passed : List ℕ
+  pub lone : Option ℕ
+
+-- its events: Activate, a Put and a Take for each word that passed, and a Put for the lone word
+abbrev pub body : Session → List Event
+body s =
+    Activate ∷ flat_map (λ w. Put w ∷ Take w ∷ []) s.passed
+    ++ map (λ w. Put w) (option_to_list s.lone)
+
+abbrev pub word_put : Event → Option ℕ
+word_put (Put w) = Some w
+word_put _ = None
+
+abbrev pub word_taken : Event → Option ℕ
+word_taken (Take w) = Some w
+word_taken _ = None
+
+-- the words put, in order
+abbrev pub puts : List Event → List ℕ
+puts events = filter_map word_put events
+
+-- the words taken, in order
+abbrev pub takes : List Event → List ℕ
+takes events = filter_map word_taken events

@@ -1,0 +1,193 @@
+//! A data channel.
+
+ghost use Rattle.std.specs.Prelude.{◌≡◌, [], ◌∷◌, ◌++◌, ◌↔◌, IsTrue, None, IsSome, IfSome, IsOk, IfOk, OnOk, OnErr};
+ghost use Rattle.pp_channel.specs.History.{IsLawful, HasTwelveBitWord, HasTwelveBitWords, full, waiting};
+ghost use Rattle.pp_channel.specs.Answer.{IsAnswer, event_of, reply_to, history_after, flags_of, flags_after, word_after};
+ghost use Rattle.pp_channel.specs.Law.{KeepsLaw};
+
+use crate::chan_op::ChanOp;
+use crate::event::Event;
+use crate::flags::Flags;
+use crate::memory::Memory;
+use crate::reply::Reply;
+use pp_word::Word12;
+use std::alloc::Allocator;
+use std::marker::Model;
+
+/// A data channel. Contracts see it as its history, the list of all its events.
+#[derive(Drop)]
+pub struct Channel<A: Allocator> {
+    flags: Flags,
+    register: Option<Word12>,
+    events: Vec<Event, A>,
+}
+
+impl<A: Allocator> Model for Channel<A> {
+    ghost use Rattle.std.specs.Prelude.{List};
+    ghost use Rattle.pp_channel.specs.declared.event.Event.{Event};
+    ghost use Rattle.pp_channel.specs.Kept.{IsKept};
+
+    ghost Value = { List Event };
+
+    ghost view = { λ c. c.events.items };
+
+    ghost invariant = { λ c. IsKept c.flags c.register c.events.items };
+}
+
+impl<A: Allocator> Channel<A> {
+    /// An inactive, empty channel on which nothing has happened.
+    pub fn new(alloc: A) -> Self
+        ensures { result ≡ [] }
+    {
+        Channel {
+            flags: Flags {
+                active: false,
+                full: false,
+            },
+            register: None,
+            events: Vec::new(alloc),
+        }
+    }
+
+    /// Its flags.
+    pub fn flags(&self) -> Flags
+        ensures { result ≡ flags_of self.now }
+    {
+        self.flags
+    }
+
+    /// The word that was put and not taken.
+    #[tactic(auto, using(crate::proofs::AnswerLemmas::full_register))]
+    pub fn waiting(&self) -> Option<Word12>
+        ensures word { result ≡ waiting self.now }
+        ensures where_full { IsSome result ↔ IsTrue (full self.now) }
+    {
+        self.register
+    }
+
+    /// All its events, in order.
+    #[tactic(auto, using(crate::proofs::LawLemmas::law_of_lawful))]
+    pub fn history(&self) -> &[Event]
+        ensures value { result.now ≡ self.now }
+        ensures lawful { IsLawful self.now }
+        ensures law { KeepsLaw self.now }
+        ensures twelve_bits { HasTwelveBitWords self.now }
+    {
+        self.events.as_slice()
+    }
+
+    /// An equal channel, in memory of its own.
+    pub fn copy(&self) -> Result<Channel<A>, Memory>
+    where
+        A: Clone,
+        ensures { IfOk result (λ c. c ≡ self.now) }
+    {
+        Ok(Channel {
+            flags: self.flags,
+            register: self.register,
+            events: self.events.clone()?,
+        })
+    }
+
+    /// The event that the operation would make now, or nothing where it would make none. It takes no
+    /// memory: who records events beside the channel asks it first, and so takes memory for a record
+    /// only where there is an event.
+    pub fn next_event(&self, op: &ChanOp) -> Option<Event>
+        ensures event { result ≡ event_of op.now self.now }
+        ensures twelve_bits { IfSome result HasTwelveBitWord }
+        ensures lawful { IsLawful self.now }
+    {
+        let Flags { active, full } = self.flags;
+        // A word is known to have 12 bits once its number is read.
+        match op {
+            ChanOp::Activate if !active => Some(Event::Activate),
+            ChanOp::Disconnect if active => Some(Event::Disconnect),
+            ChanOp::Put(word) if active && !full => {
+                prove!(word.get() < 0o10000);
+                Some(Event::Put(*word))
+            }
+            ChanOp::Take => {
+                let word = self.register?;
+                prove!(word.get() < 0o10000);
+                Some(Event::Take(word))
+            }
+            ChanOp::Function(word) if !active => {
+                prove!(word.get() < 0o10000);
+                Some(Event::Function(*word))
+            }
+            _ => None,
+        }
+    }
+
+    /// Makes the operation where it is ready; holds it where it is not, and then nothing changes.
+    #[tactic(auto, using(crate::proofs::AnswerLemmas::answered_by_table))]
+    pub fn act(&mut self, op: ChanOp) -> Result<Reply, Memory>
+        ensures answer { IfOk result (λ reply. IsAnswer self.old op reply self.new) }
+        ensures lawful { IsLawful self.new }
+
+        // The same answer by the table of operations.
+        ensures reply { IfOk result (λ reply. reply ≡ reply_to op self.old) }
+        ensures history { OnOk result (self.new ≡ history_after op self.old) }
+
+        ensures no_memory_without_event { event_of op self.old ≡ None → IsOk result }
+        ensures err { OnErr result (self.new ≡ self.old) }
+    {
+        let Some(event) = self.next_event(&op) else {
+            return Ok(match op {
+                ChanOp::Probe => Reply::Flags(self.flags),
+                _ => Reply::Held(self.flags),
+            });
+        };
+        self.record(event)?;
+        Ok(match event {
+            Event::Take(word) => Reply::Word(word),
+            _ => Reply::Done,
+        })
+    }
+
+    /// Adds an event to the history, and keeps what it leaves in the flags and the register.
+    fn record(&mut self, event: Event) -> Result<(), Memory>
+        requires lawful { IsLawful (self.old ++ event ∷ []) }
+        requires twelve_bits { HasTwelveBitWord event }
+        ensures ok { OnOk result (self.new ≡ self.old ++ event ∷ []) }
+        ensures lawful { IsLawful self.new }
+        ensures err { OnErr result (self.new ≡ self.old) }
+    {
+        let flags = flags_after(&event);
+        let register = word_after(&event);
+        self.events.push(event)?;
+        self.flags = flags;
+        self.register = register;
+        Ok(())
+    }
+}
+
+/// The flags after an event.
+fn flags_after(event: &Event) -> Flags
+    ensures { result ≡ flags_after event.now }
+{
+    match event {
+        Event::Activate | Event::Take(_) => Flags {
+            active: true,
+            full: false,
+        },
+        Event::Put(_) => Flags {
+            active: true,
+            full: true,
+        },
+        Event::Disconnect | Event::Function(_) => Flags {
+            active: false,
+            full: false,
+        },
+    }
+}
+
+/// The word in the register after an event.
+fn word_after(event: &Event) -> Option<Word12>
+    ensures { result ≡ word_after event.now }
+{
+    match event {
+        Event::Put(word) => Some(*word),
+        _ => None,
+    }
+}

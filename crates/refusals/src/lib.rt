@@ -1,0 +1,6 @@
+//! What each call does where a growth is refused, one request after another: tests over the
+//! allocator `Rationed`.
+#![tactic(auto)]
+
+#[cfg(test)]
+mod channel;
