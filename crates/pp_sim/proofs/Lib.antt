@@ -4,3 +4,4 @@ pub mod ByteLemmas
 pub mod TextLemmas
 pub mod CommandLemmas
 pub mod AnswerLemmas
+pub mod NumeralLemmas

@@ -9,6 +9,7 @@ mod fields;
 mod flaw;
 mod keyword;
 mod line_fault;
+mod numeral;
 mod octal_number;
 mod printed_line;
 mod printed_text;
@@ -22,8 +23,12 @@ mod work;
 pub use deck::{Deck, read_deck};
 pub use deck_fault::{DeckCode, DeckFault};
 pub use line_fault::LineFault;
+pub use numeral::numeral_law;
 pub use program::run_program;
 pub use text::barrel_text;
 pub use text_fault::TextFault;
 pub use words::read_words;
 pub use work::Work;
+
+#[cfg(test)]
+mod tests;
