@@ -21,11 +21,11 @@ or_length p xs false e =
 pub unwrap_or_position : (p : ℕ → Bool) (xs : List ℕ) → unwrap_or (position p xs) (length xs) ≡ position_or_len p xs
 unwrap_or_position p xs = or_length p xs (nat_lt (position_or_len p xs) (length xs)) refl
 
-at_position : (p : ℕ → Bool) (xs : List ℕ) (b : Bool) (i : ℕ) → cond b (Some (position_or_len p xs)) None ≡ Some i → i ≡ position_or_len p xs
+pub at_position : (p : ℕ → Bool) (xs : List ℕ) (b : Bool) (i : ℕ) → cond b (Some (position_or_len p xs)) None ≡ Some i → i ≡ position_or_len p xs
 at_position p xs true i e = cc
 at_position p xs false i e = absurd (cc)
 
-no_position : (p : ℕ → Bool) (xs : List ℕ) (b : Bool) → nat_lt (position_or_len p xs) (length xs) ≡ b → cond b (Some (position_or_len p xs)) None ≡ None → length xs ≤ position_or_len p xs
+pub no_position : (p : ℕ → Bool) (xs : List ℕ) (b : Bool) → nat_lt (position_or_len p xs) (length xs) ≡ b → cond b (Some (position_or_len p xs)) None ≡ None → length xs ≤ position_or_len p xs
 no_position p xs true e n = absurd (cc)
 no_position p xs false e n = ltb-false (position_or_len p xs) (length xs) e
 
@@ -71,20 +71,16 @@ record TakesPiece (text : List ℕ) (n : ℕ) (more : List (List ℕ)) : Type 0 
   behind : filter is_nonempty (slice_split is_blank (drop n text)) ≡ filter is_nonempty more
 
 piece_more : (x n : ℕ) (xs : List ℕ) (b : Bool) → is_blank x ≡ b → (more : List (List ℕ)) → TakesPiece xs n more → (rest : List (List ℕ)) × TakesPiece (x ∷ xs) (cond (not b) (1 + n) 0) rest
-piece_more x n xs true e more h = (
-  slice_split is_blank xs,
-  record {
-    pieces = slice_split-cons_yes is_blank x xs e;
-    behind = ap (filter is_nonempty) (slice_split-cons_yes is_blank x xs e);
-  },
-)
-piece_more x n xs false e more h = (
-  more,
-  record {
-    pieces = slice_split-cons_no is_blank x xs e ∙ ap (onto_first x) h.pieces ∙ ap (λ (i : ℕ). take i (x ∷ xs) ∷ more) (sym (one_more n));
-    behind = ap (λ (i : ℕ). filter is_nonempty (slice_split is_blank (drop i (x ∷ xs)))) (one_more n) ∙ h.behind;
-  },
-)
+piece_more x n xs true e more h =
+    (slice_split is_blank xs, record {
+      pieces = slice_split-cons_yes is_blank x xs e;
+      behind = ap (filter is_nonempty) (slice_split-cons_yes is_blank x xs e);
+    })
+piece_more x n xs false e more h =
+    (more, record {
+      pieces = slice_split-cons_no is_blank x xs e ∙ ap (onto_first x) h.pieces ∙ ap (λ (i : ℕ). take i (x ∷ xs) ∷ more) (sym (one_more n));
+      behind = ap (λ (i : ℕ). filter is_nonempty (slice_split is_blank (drop i (x ∷ xs)))) (one_more n) ∙ h.behind;
+    })
 
 first_piece : (xs : List ℕ) → (more : List (List ℕ)) × TakesPiece xs (position_or_len is_blank xs) more
 first_piece [] = ([], record { pieces = refl; behind = refl })

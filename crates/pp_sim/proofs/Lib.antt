@@ -5,3 +5,11 @@ pub mod TextLemmas
 pub mod CommandLemmas
 pub mod AnswerLemmas
 pub mod NumeralLemmas
+pub mod KeywordLemmas
+pub mod LinesLemmas
+pub mod ListLemmas
+pub mod MemoryLemmas
+pub mod ProgressLemmas
+pub mod ReadingLemmas
+pub mod SectionLemmas
+pub mod WordsLemmas

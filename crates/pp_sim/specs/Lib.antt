@@ -6,3 +6,4 @@ pub mod DeckMeaning
 pub mod PrintedText
 pub mod TextAnswer
 pub mod CommandLine
+pub mod DeckProgress

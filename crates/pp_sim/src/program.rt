@@ -3,7 +3,7 @@
 use crate::line_fault::LineFault;
 use crate::text::barrel_text;
 use crate::text_fault::TextFault;
-use crate::words::read_words;
+use crate::command_words::read_words;
 use crate::work::Work;
 use clap::Error;
 use std::alloc::{Allocator, Global};

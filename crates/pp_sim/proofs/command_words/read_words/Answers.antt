@@ -3,7 +3,7 @@ use Rattle.std.specs.Borrow.{Bor}
 use Rattle.clap.specs.Words.{found_of}
 use Rattle.pp_sim.specs.CommandLine.{IsWorkAmong}
 use Rattle.pp_sim.proofs.CommandLemmas.{by_no_number, met_command, met_none, refused_words, taken_words, work_by_rows, work_by_values}
-use Rattle.pp_sim.proofs.words.read_words.Goals as goal
+use Rattle.pp_sim.proofs.command_words.read_words.Goals as goal
 
 pub returns-in-Err-clause-refused : goal.returns-in-Err-clause-refused
 returns-in-Err-clause-refused c = refused_words _ _ c.in-Err.error _ c.in-Ok.ensures c.in-Err.ensures.kinds c.refusal.ensures
