@@ -1,6 +1,6 @@
 //! Numbers in octal and decimal digits.
 
-ghost use Rattle.std.specs.Prelude.{◌≡◌, ◌+◌, ◌/◌, ◌^◌, ◌<◌, ◌++◌, OnOk};
+ghost use Rattle.std.specs.Prelude.{◌≡◌, ◌/◌, ◌^◌, ◌++◌, OnOk};
 ghost use Rattle.pp_sim.specs.PrintedText.{digits, octal, unpadded};
 
 use std::alloc::{AllocError, Allocator};
@@ -8,50 +8,39 @@ use std::alloc::{AllocError, Allocator};
 /// The least count that has more than six decimal digits.
 const SEVEN_DIGITS: u64 = 1_000_000;
 
-/// The character of a digit.
-fn digit(n: u64) -> u8
-    requires { n < 10 }
-    ensures { result ≡ 48 + n }
-{
-    b'0' + n as u8
-}
-
 pub(crate) fn octal1(n: u8) -> [u8; 1]
     ensures { result ≡ octal 1 n }
 {
-    [digit(u64::from(n) % 8)]
+    [b'0' + n % 8]
 }
+
+// Each event's line has some of these fields, so their characters are put together in one register.
 
 pub(crate) fn octal2(n: u8) -> [u8; 2]
     ensures { result ≡ octal 2 n }
 {
-    let n = u64::from(n);
-    [digit(n / 8 % 8), digit(n % 8)]
+    let n = u16::from(n);
+    (0x3030 + n / 8 % 8 + n % 8 * 0x100).to_le_bytes()
 }
 
 pub(crate) fn octal4(n: u16) -> [u8; 4]
     ensures { result ≡ octal 4 n }
 {
-    let n = u64::from(n);
-    [
-        digit(n / 8 / 8 / 8 % 8),
-        digit(n / 8 / 8 % 8),
-        digit(n / 8 % 8),
-        digit(n % 8),
-    ]
+    let n = u32::from(n);
+    let first = 0x3030_3030 + n / 8 / 8 / 8 % 8 + n / 8 / 8 % 8 * 0x100;
+    (first + n / 8 % 8 * 0x1_0000 + n % 8 * 0x100_0000).to_le_bytes()
 }
 
 pub(crate) fn octal6(n: u32) -> [u8; 6]
     ensures { result ≡ octal 6 n }
 {
-    let n = u64::from(n);
     [
-        digit(n / 8 / 8 / 8 / 8 / 8 % 8),
-        digit(n / 8 / 8 / 8 / 8 % 8),
-        digit(n / 8 / 8 / 8 % 8),
-        digit(n / 8 / 8 % 8),
-        digit(n / 8 % 8),
-        digit(n % 8),
+        b'0' + (n / 8 / 8 / 8 / 8 / 8 % 8) as u8,
+        b'0' + (n / 8 / 8 / 8 / 8 % 8) as u8,
+        b'0' + (n / 8 / 8 / 8 % 8) as u8,
+        b'0' + (n / 8 / 8 % 8) as u8,
+        b'0' + (n / 8 % 8) as u8,
+        b'0' + (n % 8) as u8,
     ]
 }
 
@@ -59,17 +48,19 @@ pub(crate) fn octal6(n: u32) -> [u8; 6]
 pub(crate) fn decimal6(n: u64) -> [u8; 6]
     ensures { result ≡ digits 10 6 n }
 {
+    let n = (n % SEVEN_DIGITS) as u32;
     let tens = n / 10;
-    let hundreds = tens / 10;
-    let thousands = hundreds / 10;
-    let myriads = thousands / 10;
+    let hundreds = n / 100;
+    let thousands = n / 1000;
+    let ten_thousands = n / 10_000;
+    let hundred_thousands = n / 100_000;
     [
-        digit(myriads / 10 % 10),
-        digit(myriads % 10),
-        digit(thousands % 10),
-        digit(hundreds % 10),
-        digit(tens % 10),
-        digit(n % 10),
+        b'0' + hundred_thousands as u8,
+        b'0' + (ten_thousands - 10 * hundred_thousands) as u8,
+        b'0' + (thousands - 10 * ten_thousands) as u8,
+        b'0' + (hundreds - 10 * thousands) as u8,
+        b'0' + (tens - 10 * hundreds) as u8,
+        b'0' + (n - 10 * tens) as u8,
     ]
 }
 
@@ -96,6 +87,6 @@ fn push_unpadded<A: Allocator>(text: &mut Vec<u8, A>, n: u64, most: u32) -> Resu
         return Ok(());
     }
     push_unpadded(text, n / 10, most - 1)?;
-    text.push(digit(n % 10))?;
+    text.push(b'0' + (n % 10) as u8)?;
     Ok(())
 }
