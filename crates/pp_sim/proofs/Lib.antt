@@ -6,6 +6,7 @@ pub mod CommandLemmas
 pub mod AnswerLemmas
 pub mod NumeralLemmas
 pub mod KeywordLemmas
+pub mod LawLemmas
 pub mod LinesLemmas
 pub mod ListLemmas
 pub mod MemoryLemmas

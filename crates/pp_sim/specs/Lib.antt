@@ -7,3 +7,4 @@ pub mod PrintedText
 pub mod TextAnswer
 pub mod CommandLine
 pub mod DeckProgress
+pub mod DeckLaw

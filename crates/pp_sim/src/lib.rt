@@ -11,6 +11,7 @@ mod digits;
 mod fields;
 mod flaw;
 mod keyword;
+mod laws;
 mod line_fault;
 mod lines;
 mod numeral;
@@ -27,6 +28,7 @@ mod work;
 pub use command_words::read_words;
 pub use deck::{Deck, read_deck};
 pub use deck_fault::{DeckCode, DeckFault};
+pub use laws::{deck_law, reading_law};
 pub use line_fault::LineFault;
 pub use numeral::numeral_law;
 pub use program::run_program;
@@ -36,3 +38,5 @@ pub use work::Work;
 
 #[cfg(test)]
 mod tests;
+#[cfg(test)]
+mod tests_of_deck;
