@@ -6,7 +6,6 @@ use Rattle.pp_sim.specs.DeckMeaning.{LoadedDeck, deck_meaning}
 use Rattle.pp_sim.specs.PrintedText.{printed}
 use Rattle.pp_sim.specs.declared.deck_fault.DeckCode.TheVariants as code
 use Rattle.pp_sim.specs.declared.deck_fault.DeckFault.{DeckFault}
-use Rattle.pp_sim.specs.declared.streams.TheConstants.{MOST_BYTES}
 use Rattle.pp_sim.specs.declared.text_fault.TextFault.{TextFault}
 use Rattle.pp_sim.specs.declared.text_fault.TextFault.TheVariants as fault
 
@@ -21,6 +20,10 @@ text_of_meaning turns (Err f) = Err f
 -- the text of the run of the deck that the bytes spell, or the fault of that deck
 unfoldable pub text_of_deck : ℕ → List ℕ → Result (List ℕ) DeckFault
 text_of_deck turns bytes = text_of_meaning turns (deck_meaning bytes)
+
+-- how many bytes are read at most (decimal): one more than a deck may have
+abbrev pub most_bytes : ℕ
+most_bytes = 1048577
 
 -- known bytes stay at the front and grow by a front of the text
 abbrev pub AppendsFront : Option (List ℕ) → Option (List ℕ) → List ℕ → Type 0
@@ -43,7 +46,7 @@ IsAnswer (Err fault.Memory) text old new = Keeps old new
 -- that to the deck that they spell; and where it is Ok, they were all that the reader had.
 pub record AnswersTo (turns : ℕ) (answer : Result (Unit {0}) TextFault) (before after old new : Option (List ℕ)) (bytes : List ℕ) : Type 0 where
   pub consumed : Consumes before after bytes
-  pub bounded : length bytes ≤ MOST_BYTES
+  pub bounded : length bytes ≤ most_bytes
   pub answered : IsAnswer answer (text_of_deck turns bytes) old new
   pub whole : OnOk answer (IsAtEnd after)
 

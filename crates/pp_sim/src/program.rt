@@ -1,9 +1,9 @@
 //! The program, over any reader and writers.
 
+use crate::command_words::read_words;
 use crate::line_fault::LineFault;
 use crate::text::barrel_text;
 use crate::text_fault::TextFault;
-use crate::command_words::read_words;
 use crate::work::Work;
 use clap::Error;
 use std::alloc::{Allocator, Global};

@@ -2,14 +2,14 @@
 
 ghost use Rattle.std.specs.Prelude.{◌≡◌, ◌≢◌, ◌≤◌, ◌<◌, ℕ, List, length, OnOk, OnErr, IfOk, IfErr};
 ghost use Rattle.std.specs.Io.KnownBytes.{Appends, Consumes, IsAtEnd};
-ghost use Rattle.pp_sim.specs.TextAnswer.{AppendsFront, IsReadFault};
+ghost use Rattle.pp_sim.specs.TextAnswer.{AppendsFront, IsReadFault, most_bytes};
 
 use crate::text_fault::TextFault;
 use std::alloc::Allocator;
 use std::io::{Read, Write};
 
 /// How many bytes are read at most (decimal): one more than a deck may have.
-pub(crate) const MOST_BYTES: usize = 1_048_577;
+const MOST_BYTES: usize = 1_048_577;
 
 /// The bytes of a reader, up to its end or the limit.
 pub(crate) fn read_front<A: Allocator, R: Read>(
@@ -17,10 +17,10 @@ pub(crate) fn read_front<A: Allocator, R: Read>(
     reader: &mut R,
 ) -> Result<Vec<u8, A>, TextFault>
     ensures read { IfOk result (λ front. Consumes (R.remaining reader.old) (R.remaining reader.new) front.items) }
-    ensures end { IfOk result (λ front. length front.items < MOST_BYTES → IsAtEnd (R.remaining reader.new)) }
-    ensures bounded { IfOk result (λ front. length front.items ≤ MOST_BYTES) }
+    ensures end { IfOk result (λ front. length front.items < most_bytes → IsAtEnd (R.remaining reader.new)) }
+    ensures bounded { IfOk result (λ front. length front.items ≤ most_bytes) }
     ensures fault { IfErr result IsReadFault }
-    ensures limit { (bytes : List ℕ) × Consumes (R.remaining reader.old) (R.remaining reader.new) bytes × (length bytes ≤ MOST_BYTES) }
+    ensures limit { (bytes : List ℕ) × Consumes (R.remaining reader.old) (R.remaining reader.new) bytes × (length bytes ≤ most_bytes) }
 {
     let mut front = Vec::new(alloc);
     let mut buffer = [0u8; 4096];

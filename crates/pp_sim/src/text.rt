@@ -2,8 +2,7 @@
 
 ghost use Rattle.std.specs.Prelude.{◌≡◌, ◌≢◌, ◌<◌, ℕ, Ok, List, length, take, OnOk, IfOk, IfErr, IfSome};
 ghost use Rattle.std.specs.Io.KnownBytes.{Keeps};
-ghost use Rattle.pp_sim.specs.TextAnswer.{AnswersTo, IsAnswer, IsRunFault, text_of_deck};
-ghost use Rattle.pp_sim.specs.declared.streams.TheConstants.{MOST_BYTES};
+ghost use Rattle.pp_sim.specs.TextAnswer.{AnswersTo, IsAnswer, IsRunFault, most_bytes, text_of_deck};
 
 use crate::deck::read_deck;
 use crate::deck_fault::DeckCode;
@@ -24,7 +23,7 @@ pub fn barrel_text<A: Allocator + Copy, R: Read, W: Write>(
     ensures answer { (bytes : List ℕ) × AnswersTo turns result (R.remaining reader.old) (R.remaining reader.new)
         (W.contents writer.old) (W.contents writer.new) bytes }
     // For a reader that tells the bytes that it has.
-    ensures told { IfSome (R.remaining reader.old) (λ bytes. IsAnswer result (text_of_deck turns (take MOST_BYTES bytes))
+    ensures told { IfSome (R.remaining reader.old) (λ bytes. IsAnswer result (text_of_deck turns (take most_bytes bytes))
         (W.contents writer.old) (W.contents writer.new)) }
     // Every fault but Write comes before the first byte is written.
     ensures unwritten { IfErr result (λ fault. fault ≢ TextFault.Write → Keeps (W.contents writer.old) (W.contents writer.new)) }
@@ -41,7 +40,7 @@ fn write_run<A: Allocator + Copy, W: Write>(
     turns: u32,
 ) -> Result<(), TextFault>
     ensures answer { IsAnswer result (text_of_deck turns deck.now) (W.contents writer.old) (W.contents writer.new) }
-    ensures bounded { OnOk result (length deck.now < MOST_BYTES) }
+    ensures bounded { OnOk result (length deck.now < most_bytes) }
 {
     let text = run_text(alloc, deck, turns)?;
     write_whole(writer, text.as_slice())
@@ -51,7 +50,7 @@ fn write_run<A: Allocator + Copy, W: Write>(
 #[tactic(auto, unfolding(crate::specs::TextAnswer::text_of_deck))]
 fn run_text<A: Allocator + Copy>(alloc: A, deck: &[u8], turns: u32) -> Result<Vec<u8, A>, TextFault>
     ensures ok { IfOk result (λ text. text_of_deck turns deck.now ≡ Ok text.items) }
-    ensures bounded { OnOk result (length deck.now < MOST_BYTES) }
+    ensures bounded { OnOk result (length deck.now < most_bytes) }
     ensures fault { IfErr result (IsRunFault (text_of_deck turns deck.now)) }
 {
     let mut loaded = match read_deck(alloc, deck) {
