@@ -1,0 +1,82 @@
+-- From what clap ensures of a parse to what the words ask for.
+use Rattle.std.proofs.Common.{◌≡◌, ◌∙◌, ℕ, true, List, [], Option, Some, None, option_map, sym, subst, refl, inl, inr, codes}
+use Rattle.std.specs.Prelude.{Box, ◌≢◌, Ok, Err}
+use Rattle.std.specs.Box.{box_value}
+use Rattle.clap.specs.Words.{App, FailsBy, HasKind, IsAmong, Kinds, Text, Row, HasMatchesOf, fault_of, is_simple, is_simple_and_free, first_of, first_value, found_of, kind_of, rows_of, subcommand_of, subcommand_rows, subcommand_rows_of, subcommand_name_of}
+use Rattle.clap.specs.declared.error.Error.{Error}
+use Rattle.clap.specs.declared.error.kind.ErrorKind.TheVariants.{OutOfMemory}
+use Rattle.clap.specs.declared.parser.matches.Found.{Found}
+use Rattle.clap.specs.declared.parser.matches.SubCommand.{SubCommand}
+use Rattle.clap.specs.declared.parser.matches.ArgMatches.{ArgMatches}
+use Rattle.clap.specs.declared.parser.matches.ArgMatches.TheViews.{out-ArgMatches, out-SubCommand}
+use Rattle.clap.proofs.WalkLemmas.{first_value-rows}
+use Rattle.clap.proofs.OnLiterals.{clap_on_literals}
+use Rattle.pp_sim.specs.CommandLine.{IsFaultBy, IsOutOfRange, IsRefused, IsWorkAmong, IsWorkOf, ppsim, refusals}
+use Rattle.pp_sim.specs.declared.line_fault.LineFault.{LineFault}
+use Rattle.pp_sim.specs.declared.line_fault.LineFault.TheVariants.{Memory, Refused, Number}
+use Rattle.pp_sim.specs.declared.work.Work.{Work}
+use Rattle.pp_sim.specs.declared.work.Work.TheVariants.{Barrel}
+
+simple : is_simple ppsim ≡ true
+unfolding clap_on_literals ppsim
+simple = refl
+
+simple_and_free : is_simple_and_free ppsim ≡ true
+unfolding clap_on_literals ppsim
+simple_and_free = refl
+
+-- a parse that succeeds has no refusal
+pub taken_words : (words : List Text) (app : App) → app ≡ ppsim → (is_simple_and_free app ≡ true → fault_of app words ≡ []) → refusals words ≡ []
+unfolding refusals
+taken_words words app e h = subst (λ a. is_simple_and_free a ≡ true → fault_of a words ≡ []) e h simple_and_free
+
+among : (kinds : Kinds) (error : Error) → HasKind kinds error → kind_of error ≢ OutOfMemory → IsAmong (kind_of error) kinds
+among kinds error (inl memory) other = absurd (other memory)
+among kinds error (inr kind) other = kind
+
+-- one that fails for another cause than memory fails by one of the refusals
+pub refused_words : (words : List Text) (app : App) (error : Error) (fault : LineFault) → app ≡ ppsim → (is_simple_and_free app ≡ true → HasKind (fault_of app words) error)
+    → IsFaultBy error fault → IsRefused words fault
+unfolding refusals
+refused_words words app error Memory e h by = tt
+refused_words words app error (Refused told) e h by =
+    let kinds = subst (λ a. is_simple_and_free a ≡ true → HasKind (fault_of a words) error) e h simple_and_free in
+    rw (by.0) (among (fault_of ppsim words) error kinds by.1, by.1)
+refused_words words app error Number e h by = absurd by
+
+pub by_no_number : (words : List Text) (error : Error) (fault : LineFault) → IsFaultBy error fault → IsOutOfRange words fault
+by_no_number words error Memory by = tt
+by_no_number words error (Refused told) by = tt
+by_no_number words error Number by = absurd by
+
+pair_of : {Z : Type 0} (o : Option (Box SubCommand Z)) (name : Text) (rows : List Row) → Some name ≡ option_map (λ b. (out-SubCommand (box_value b)).name.now) o → Some rows ≡ option_map (λ p. p.1) (subcommand_rows o) → subcommand_rows o ≡ Some (name, rows)
+pair_of None name rows e h = cc
+pair_of (Some x) name rows e h =
+    let a : name ≡ (out-SubCommand (box_value x)).name.now = cc in
+    let b : rows ≡ rows_of (found_of (out-SubCommand (box_value x)).matches) = cc in
+    rw (a, b) refl
+
+-- the command that a parse met, by the words
+pub met_command : (words : List Text) (app : App) (m : ArgMatches) (name : Text) (f : Found) → app ≡ ppsim → HasMatchesOf app words m
+    → Some name ≡ subcommand_name_of m → Some (rows_of f) ≡ option_map (λ p. p.1) (subcommand_rows_of m)
+    → subcommand_of ppsim words ≡ Some (name, rows_of f)
+met_command words app m name f is h e k =
+    let met = subst (λ a. HasMatchesOf a words m) is h in
+    sym (met simple).1 ∙ pair_of (out-ArgMatches m).subcommand name (rows_of f) e k
+
+none_of : {Z : Type 0} (o : Option (Box SubCommand Z)) → None ≡ option_map (λ b. (out-SubCommand (box_value b)).name.now) o → subcommand_rows o ≡ None
+none_of None e = refl
+none_of (Some x) e = cc
+
+-- or none
+pub met_none : (words : List Text) (app : App) (m : ArgMatches) → app ≡ ppsim → HasMatchesOf app words m → None ≡ subcommand_name_of m → subcommand_of ppsim words ≡ None
+met_none words app m is h e =
+    let met = subst (λ a. HasMatchesOf a words m) is h in
+    sym (met simple).1 ∙ none_of (out-ArgMatches m).subcommand e
+
+-- an option's text is the same by its matches and by its rows
+pub work_by_rows : (name : Text) (f : Found) (work : Work) → IsWorkOf name (first_value f) work → IsWorkAmong (Some (name, rows_of f)) work
+work_by_rows name f (Barrel turns) k = (k.0, rw (← first_value-rows f (codes "turns")) k.1, k.2)
+
+pub work_by_values : (name : Text) (f : Found) (work : Work) → IsWorkAmong (Some (name, rows_of f)) work → IsWorkOf name (first_value f) work
+work_by_values name f (Barrel turns) k = (k.0, rw (first_value-rows f (codes "turns")) k.1, k.2)

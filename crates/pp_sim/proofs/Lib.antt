@@ -1,0 +1,16 @@
+pub mod DigitLemmas
+pub mod FieldLemmas
+pub mod ByteLemmas
+pub mod TextLemmas
+pub mod CommandLemmas
+pub mod AnswerLemmas
+pub mod NumeralLemmas
+pub mod KeywordLemmas
+pub mod LawLemmas
+pub mod LinesLemmas
+pub mod ListLemmas
+pub mod MemoryLemmas
+pub mod ProgressLemmas
+pub mod ReadingLemmas
+pub mod SectionLemmas
+pub mod WordsLemmas

@@ -1,0 +1,36 @@
+use Rattle.std.proofs.Common.{◌≡◌, List, ℕ, None, map, rules}
+use Rattle.std.specs.Borrow.{Bor}
+use Rattle.clap.specs.Words.{found_of}
+use Rattle.pp_sim.specs.CommandLine.{IsWorkAmong}
+use Rattle.pp_sim.proofs.CommandLemmas.{by_no_number, met_command, met_none, refused_words, taken_words, work_by_rows, work_by_values}
+use Rattle.pp_sim.proofs.command_words.read_words.Goals as goal
+
+pub returns-in-Err-clause-refused : goal.returns-in-Err-clause-refused
+returns-in-Err-clause-refused c = refused_words _ _ c.in-Err.error _ c.in-Ok.ensures c.in-Err.ensures.kinds c.refusal.ensures
+
+pub returns-in-Err-clause-number : goal.returns-in-Err-clause-number
+returns-in-Err-clause-number c = by_no_number _ c.in-Err.error _ c.refusal.ensures
+
+pub returns-in-Some-work_of-clause-taken : goal.returns-in-Some-work_of-clause-taken
+returns-in-Some-work_of-clause-taken c = taken_words _ _ c.in-Ok.ensures c.in-Ok-try_get_matches_from.ensures.kinds
+
+pub returns-in-Some-work_of-clause-work : goal.returns-in-Some-work_of-clause-work
+returns-in-Some-work_of-clause-work c =
+    let e = met_command _ _ c.in-Ok-try_get_matches_from.matches c.in-Some.name.now (found_of c.in-Some.inner.now)
+    c.in-Ok.ensures c.in-Ok-try_get_matches_from.ensures.matches c.in-Some.ensures.name c.in-Some.ensures.rows in
+    rw e (work_by_rows c.in-Some.name.now (found_of c.in-Some.inner.now) c.in-Some-work_of.work c.in-Some-work_of.ensures)
+
+pub returns-in-Some-clause-number : goal.returns-in-Some-clause-number
+returns-in-Some-clause-number c =
+    let e = met_command _ _ c.in-Ok-try_get_matches_from.matches c.in-Some.name.now (found_of c.in-Some.inner.now)
+    c.in-Ok.ensures c.in-Ok-try_get_matches_from.ensures.matches c.in-Some.ensures.name c.in-Some.ensures.rows in (
+      taken_words _ _ c.in-Ok.ensures c.in-Ok-try_get_matches_from.ensures.kinds,
+      λ work k. c.in-None-work_of.ensures work (work_by_values c.in-Some.name.now (found_of c.in-Some.inner.now) work (rw e at k)),
+    )
+
+pub returns-clause-number : goal.returns-clause-number
+returns-clause-number c =
+    let e = met_none _ _ c.in-Ok-try_get_matches_from.matches c.in-Ok.ensures c.in-Ok-try_get_matches_from.ensures.matches c.in-None.ensures.name in (
+      taken_words _ _ c.in-Ok.ensures c.in-Ok-try_get_matches_from.ensures.kinds,
+      λ work k. let bad : IsWorkAmong None work = rw e at k in bad,
+    )

@@ -1,0 +1,68 @@
+-- What a command line asks for, by the words that stand in it.
+use Rattle.std.specs.Prelude.{◌≡◌, ◌≢◌, ℕ, ◌≤◌, Bool, true, List, [], Option, Some, None, Ok, Result, codes}
+use Rattle.std.specs.Str.Parse.{ParsesUnsigned}
+use Rattle.clap.specs.Words.{App, IsAmong, Kinds, Row, Rule, Text, fault_of, first_of, kind_of, new_app, new_rule, subcommand_of, with_rule, with_subcommand}
+use Rattle.clap.specs.declared.builder.action.ArgAction.TheVariants.{Set}
+use Rattle.clap.specs.declared.error.Error.{Error}
+use Rattle.clap.specs.declared.error.kind.ErrorKind.TheVariants.{OutOfMemory}
+use Rattle.pp_sim.specs.declared.line_fault.LineFault.{LineFault}
+use Rattle.pp_sim.specs.declared.line_fault.LineFault.TheVariants.{Memory, Refused, Number}
+use Rattle.pp_sim.specs.declared.work.Work.{Work}
+use Rattle.pp_sim.specs.declared.work.Work.TheVariants.{Barrel}
+
+-- THE COMMAND LINE, as clap sees it: `ppsim barrel --turns N`, the command and its option required
+
+-- a required option whose value is a number
+abbrev pub number_option : Text → Rule
+number_option id = record (new_rule id) { long = Some id; action = Some Set; required = true; value_names = 1 }
+
+abbrev pub barrel : App
+barrel = with_rule (new_app (codes "barrel")) (number_option (codes "turns"))
+
+abbrev pub bare : App
+bare = record (new_app (codes "ppsim")) { top = record (new_app (codes "ppsim")).top { subcommand_required = true } }
+
+unfoldable pub ppsim : App
+ppsim = with_subcommand bare barrel.top
+
+-- the kinds of refusal that clap's parse may give to the words: none where they are a command line
+unfoldable pub refusals : List Text → Kinds
+refusals words = fault_of ppsim words
+
+-- ITS NUMBERS
+
+-- std's parse reads this number in an option's text
+abbrev pub ReadsNumber : Option Text → ℕ → Type 0
+ReadsNumber None n = ⊥
+ReadsNumber (Some text) n = ParsesUnsigned {E = ℕ} 32 10 text (Ok n)
+
+-- WHAT IT ASKS FOR
+
+-- the command of this name, with these texts of its options, asks for this work
+abbrev pub IsWorkOf : Text → (Text → Option Text) → Work → Type 0
+IsWorkOf name text_of (Barrel turns) = (name ≡ codes "barrel") × ReadsNumber (text_of (codes "turns")) turns × (turns ≤ 999999)
+
+abbrev pub IsWorkAmong : Option (Text × List Row) → Work → Type 0
+IsWorkAmong None work = ⊥
+IsWorkAmong (Some (name, rows)) work = IsWorkOf name (λ id. first_of id rows) work
+
+-- the words ask for this work
+abbrev pub AskFor : List Text → Work → Type 0
+AskFor words work = IsWorkAmong (subcommand_of ppsim words) work
+
+-- what each answer to the words says
+abbrev pub IsRefused : List Text → LineFault → Type 0
+IsRefused words Memory = Unit {0}
+IsRefused words (Refused error) = IsAmong (kind_of error) (refusals words) × (kind_of error ≢ OutOfMemory)
+IsRefused words Number = Unit {0}
+
+abbrev pub IsOutOfRange : List Text → LineFault → Type 0
+IsOutOfRange words Memory = Unit {0}
+IsOutOfRange words (Refused error) = Unit {0}
+IsOutOfRange words Number = (refusals words ≡ []) × ((work : Work) → ¬ AskFor words work)
+
+-- the fault that clap's error makes: want of memory is told as such
+abbrev pub IsFaultBy : Error → LineFault → Type 0
+IsFaultBy error Memory = kind_of error ≡ OutOfMemory
+IsFaultBy error (Refused told) = (told ≡ error) × (kind_of error ≢ OutOfMemory)
+IsFaultBy error Number = ⊥

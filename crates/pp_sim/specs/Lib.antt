@@ -1,0 +1,10 @@
+pub mod FlawCode
+pub mod DeckText
+pub mod OctalNumber
+pub mod DeckLine
+pub mod DeckMeaning
+pub mod PrintedText
+pub mod TextAnswer
+pub mod CommandLine
+pub mod DeckProgress
+pub mod DeckLaw

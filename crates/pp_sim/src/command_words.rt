@@ -1,0 +1,81 @@
+//! Reading the words of a command line.
+
+ghost use Rattle.std.specs.Prelude.{◌≡◌, ℕ, [], map, IfOk, IfErr, OnOk, MatchOption};
+ghost use Rattle.clap.specs.Words.{first_value, found_of};
+ghost use Rattle.pp_sim.specs.CommandLine.{AskFor, IsFaultBy, IsOutOfRange, IsRefused, IsWorkOf, ReadsNumber, refusals};
+ghost use Rattle.pp_sim.specs.declared.work.Work.{Work};
+
+use crate::command::command;
+use crate::line_fault::LineFault;
+use crate::work::Work;
+use clap::error::ErrorKind;
+use clap::{ArgMatches, Error};
+use std::alloc::Global;
+
+/// The largest number of turns (decimal).
+const MOST_TURNS: u32 = 999_999;
+
+/// The number in an option's text.
+fn number_of(matches: &ArgMatches<'_>, id: &str) -> Option<u32>
+    ensures { MatchOption result ((n : ℕ) → ¬ ReadsNumber (first_value (found_of matches.now) id.now) n)
+        (ReadsNumber (first_value (found_of matches.now) id.now)) }
+{
+    match matches.get_str(id) {
+        Some(text) => match text.parse::<u32>() {
+            Ok(number) => Some(number),
+            Err(_) => None,
+        },
+        None => None,
+    }
+}
+
+/// The work that a command asks for, if its numbers are in range.
+fn work_of(name: &str, matches: &ArgMatches<'_>) -> Option<Work>
+    ensures { MatchOption result ((work : Work) → ¬ IsWorkOf name.now (first_value (found_of matches.now)) work)
+        (IsWorkOf name.now (first_value (found_of matches.now))) }
+{
+    if name == "barrel" {
+        let turns = number_of(matches, "turns")?;
+        if turns > MOST_TURNS {
+            return None;
+        }
+        Some(Work::Barrel { turns })
+    } else {
+        None
+    }
+}
+
+/// The fault of a parse that failed.
+fn refusal(error: Error) -> LineFault
+    ensures { IsFaultBy error result }
+{
+    match error.kind() {
+        ErrorKind::OutOfMemory => LineFault::Memory,
+        _ => LineFault::Refused(error),
+    }
+}
+
+/// What the words of a command line ask for. The first word is the program's name.
+pub fn read_words<'a>(alloc: Global, words: &'a [&'a str]) -> Result<Work, LineFault>
+    ensures work { IfOk result (AskFor (map (λ s. s.now) words.entry.now)) }
+    ensures taken { OnOk result (refusals (map (λ s. s.now) words.entry.now) ≡ []) }
+    // One of clap's refusals of these words, and not for want of memory.
+    ensures refused { IfErr result (IsRefused (map (λ s. s.now) words.entry.now)) }
+    // The words are a command line, and no work is asked for within the ranges.
+    ensures number { IfErr result (IsOutOfRange (map (λ s. s.now) words.entry.now)) }
+{
+    let Ok(command) = command(alloc) else {
+        return Err(LineFault::Memory);
+    };
+    let matches = match command.try_get_matches_from(words) {
+        Ok(matches) => matches,
+        Err(error) => return Err(refusal(error)),
+    };
+    match matches.subcommand() {
+        Some((name, inner)) => match work_of(name, inner) {
+            Some(work) => Ok(work),
+            None => Err(LineFault::Number),
+        },
+        None => Err(LineFault::Number),
+    }
+}

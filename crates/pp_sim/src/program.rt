@@ -1,0 +1,87 @@
+//! The program, over any reader and writers.
+
+use crate::command_words::read_words;
+use crate::line_fault::LineFault;
+use crate::text::barrel_text;
+use crate::text_fault::TextFault;
+use crate::work::Work;
+use clap::Error;
+use std::alloc::{Allocator, Global};
+use std::io::{Read, Write};
+
+/// It is done, or help was asked for.
+const DONE: u8 = 0;
+/// The deck was refused.
+const DECK_REFUSED: u8 = 1;
+/// The command line was refused.
+const LINE_REFUSED: u8 = 2;
+/// The input or the output failed.
+const DEVICE_FAILED: u8 = 3;
+/// Memory was refused.
+const NO_MEMORY: u8 = 4;
+
+/// Does what the words ask for, the program's name first, and answers the status to exit with.
+/// The words are read first: where they are refused, nothing is read from `input`. A fault in
+/// writing to `error` is not told.
+pub fn run_program<'a, T, A, I, O, E>(
+    rt: &T,
+    alloc: A,
+    words: &'a [&'a str],
+    input: &mut I,
+    output: &mut O,
+    error: &mut E,
+) -> u8
+where
+    T: Alloc<A = Global>,
+    A: Allocator + Copy,
+    I: Read,
+    O: Write,
+    E: Write,
+{
+    let work = match read_words(rt.alloc(), words) {
+        Ok(work) => work,
+        Err(fault) => return tell_line_fault(&fault, output, error),
+    };
+    let done = match work {
+        Work::Barrel { turns } => barrel_text(alloc, input, output, turns),
+    };
+    match done {
+        Ok(()) => DONE,
+        Err(fault) => tell_text_fault(&fault, error),
+    }
+}
+
+fn tell_line_fault<O: Write, E: Write>(fault: &LineFault, output: &mut O, error: &mut E) -> u8 {
+    match fault {
+        LineFault::Refused(refusal) => show_refusal(refusal, output, error),
+        LineFault::Number => {
+            let _ = writeln!(error, "ppsim: {fault}");
+            LINE_REFUSED
+        }
+        LineFault::Memory => {
+            let _ = writeln!(error, "ppsim: {fault}");
+            NO_MEMORY
+        }
+    }
+}
+
+/// clap's text as it is: help on the output, all else on the error.
+fn show_refusal<O: Write, E: Write>(refusal: &Error, output: &mut O, error: &mut E) -> u8 {
+    if refusal.use_stderr() {
+        let _ = write!(error, "{refusal}");
+        return LINE_REFUSED;
+    }
+    match write!(output, "{refusal}") {
+        Ok(()) => DONE,
+        Err(_) => DEVICE_FAILED,
+    }
+}
+
+fn tell_text_fault<E: Write>(fault: &TextFault, error: &mut E) -> u8 {
+    let _ = writeln!(error, "ppsim: {fault}");
+    match fault {
+        TextFault::Deck(_) => DECK_REFUSED,
+        TextFault::Read | TextFault::Write => DEVICE_FAILED,
+        TextFault::Memory => NO_MEMORY,
+    }
+}

@@ -1,0 +1,58 @@
+//! Reading up to a limit, and writing all of a text. No error is tried again.
+
+ghost use Rattle.std.specs.Prelude.{◌≡◌, ◌≢◌, ◌≤◌, ◌<◌, ℕ, List, length, OnOk, OnErr, IfOk, IfErr};
+ghost use Rattle.std.specs.Io.KnownBytes.{Appends, Consumes, IsAtEnd};
+ghost use Rattle.pp_sim.specs.TextAnswer.{AppendsFront, IsReadFault, most_bytes};
+
+use crate::text_fault::TextFault;
+use std::alloc::Allocator;
+use std::io::{Read, Write};
+
+/// How many bytes are read at most (decimal): one more than a deck may have.
+const MOST_BYTES: usize = 1_048_577;
+
+/// The bytes of a reader, up to its end or the limit.
+pub(crate) fn read_front<A: Allocator, R: Read>(
+    alloc: A,
+    reader: &mut R,
+) -> Result<Vec<u8, A>, TextFault>
+    ensures read { IfOk result (λ front. Consumes (R.remaining reader.old) (R.remaining reader.new) front.items) }
+    ensures end { IfOk result (λ front. length front.items < most_bytes → IsAtEnd (R.remaining reader.new)) }
+    ensures bounded { IfOk result (λ front. length front.items ≤ most_bytes) }
+    ensures fault { IfErr result IsReadFault }
+    ensures limit { (bytes : List ℕ) × Consumes (R.remaining reader.old) (R.remaining reader.new) bytes × (length bytes ≤ most_bytes) }
+{
+    let mut front = Vec::new(alloc);
+    let mut buffer = [0u8; 4096];
+    while front.len() < MOST_BYTES {
+        let room = (MOST_BYTES - front.len()).min(buffer.len());
+        match reader.read(&mut buffer[..room]) {
+            Ok(0) => return Ok(front),
+            Ok(count) => front
+                .extend_from_slice(&buffer[..count])
+                .map_err(|_| TextFault::Memory)?,
+            Err(_) => return Err(TextFault::Read),
+        }
+    }
+    Ok(front)
+}
+
+/// Writes all of a text. An error ends it, and so does a write that takes nothing.
+pub(crate) fn write_whole<W: Write>(writer: &mut W, text: &[u8]) -> Result<(), TextFault>
+    ensures ok { OnOk result (Appends (W.contents writer.old) (W.contents writer.new) text.now) }
+    ensures err { IfErr result (λ fault. fault ≡ TextFault.Write) }
+    ensures front { OnErr result (AppendsFront (W.contents writer.old) (W.contents writer.new) text.now) }
+{
+    let mut done = 0;
+    while done < text.len() {
+        match writer.write(&text[done..]) {
+            Ok(0) => return Err(TextFault::Write),
+            Ok(count) => done += count,
+            Err(_) => return Err(TextFault::Write),
+        }
+    }
+    match writer.flush() {
+        Ok(()) => Ok(()),
+        Err(_) => Err(TextFault::Write),
+    }
+}

@@ -1,0 +1,157 @@
+use super::devices::{Drip, Failure, Trickle};
+use super::{HANDOFF, HANDOFF_TEXT};
+use crate::{LineFault, Work, read_words, run_program};
+use std::alloc::Global;
+use std::test::Fail;
+
+/// What came of a run of the program.
+#[derive(Drop)]
+struct Outcome {
+    status: u8,
+    output: Vec<u8>,
+    error: Vec<u8>,
+    calls_of_reader: u32,
+}
+
+fn run_words(rt: &impl Alloc<A = Global>, words: &[&str], deck: &str, fails_at: u32) -> Outcome {
+    let mut input = Trickle {
+        left: deck.as_bytes(),
+        calls: 0,
+        fails_at,
+    };
+    let mut output = Vec::new(rt.alloc());
+    let mut error = Vec::new(rt.alloc());
+    let status = run_program(rt, rt.alloc(), words, &mut input, &mut output, &mut error);
+    Outcome {
+        status,
+        output,
+        error,
+        calls_of_reader: input.calls,
+    }
+}
+
+#[test]
+fn words_of_a_run(rt: HostRuntime) -> Result<(), Fail> {
+    let words = ["ppsim", "barrel", "--turns", "40"];
+    assert!(rt;
+        matches!(
+            read_words(rt.alloc(), &words),
+            Ok(Work::Barrel { turns: 40 })
+        )
+    );
+    let most = ["ppsim", "barrel", "--turns=999999"];
+    assert!(rt;
+        matches!(
+            read_words(rt.alloc(), &most),
+            Ok(Work::Barrel { turns: 999_999 })
+        )
+    );
+    let past = ["ppsim", "barrel", "--turns", "1000000"];
+    assert!(rt; matches!(read_words(rt.alloc(), &past), Err(LineFault::Number)));
+    let bare = ["ppsim", "barrel"];
+    assert!(rt; matches!(read_words(rt.alloc(), &bare), Err(LineFault::Refused(_))));
+    Ok(())
+}
+
+#[test]
+fn whole_run(rt: HostRuntime) -> Result<(), Fail> {
+    let outcome = run_words(&rt, &["ppsim", "barrel", "--turns", "40"], HANDOFF, 0);
+    assert_eq!(rt; outcome.status, 0);
+    assert!(rt; outcome.output.as_slice() == HANDOFF_TEXT.as_bytes());
+    assert!(rt; outcome.error.is_empty());
+    Ok(())
+}
+
+/// Each with its status and what stands on the error; nothing stands on the output.
+#[test]
+fn told_on_the_error(rt: HostRuntime) -> Result<(), Fail> {
+    let table = [
+        ("40", "PP 12", 0, 1, "ppsim: deck fault 5 at line 1\n"),
+        ("1000000", HANDOFF, 0, 2, "ppsim: number out of range\n"),
+        ("forty", HANDOFF, 0, 2, "ppsim: number out of range\n"),
+        ("40", HANDOFF, 7, 3, "ppsim: read fault\n"),
+    ];
+    for (turns, deck, fails_at, status, text) in table {
+        let outcome = run_words(&rt, &["ppsim", "barrel", "--turns", turns], deck, fails_at);
+        assert_eq!(rt; outcome.status, status, "{text}");
+        assert!(rt; outcome.error.as_slice() == text.as_bytes(), "{text}");
+        assert!(rt; outcome.output.is_empty(), "{text}");
+        assert!(rt; (outcome.calls_of_reader == 0) == (status == 2), "{text}");
+    }
+    Ok(())
+}
+
+#[test]
+fn refused_words(rt: HostRuntime) -> Result<(), Fail> {
+    let table: [&[&str]; 5] = [
+        &["ppsim"],
+        &["ppsim", "bogus"],
+        &["ppsim", "barrel"],
+        &["ppsim", "barrel", "--turns"],
+        &["ppsim", "threads", "--steps", "5", "--patience", "5"],
+    ];
+    for words in table {
+        let outcome = run_words(&rt, words, HANDOFF, 0);
+        assert_eq!(rt; outcome.status, 2);
+        assert!(rt; !outcome.error.is_empty());
+        assert!(rt; outcome.output.is_empty());
+        assert_eq!(rt; outcome.calls_of_reader, 0);
+    }
+    Ok(())
+}
+
+#[test]
+fn help_that_was_asked_for(rt: HostRuntime) -> Result<(), Fail> {
+    let table: [(&[&str], &str); 2] = [
+        (&["ppsim", "--help"], "ppsim barrel --turns 40"),
+        (&["ppsim", "barrel", "--help"], "0 to 999999 (decimal)"),
+    ];
+    for (words, part) in table {
+        let outcome = run_words(&rt, words, HANDOFF, 0);
+        assert_eq!(rt; outcome.status, 0);
+        let text = String::from_utf8(outcome.output)?;
+        assert!(rt; text.contains(part), "{text}");
+        assert!(rt; outcome.error.is_empty());
+        assert_eq!(rt; outcome.calls_of_reader, 0);
+    }
+    Ok(())
+}
+
+/// A writer that fails at its first write.
+fn broken(rt: &impl Alloc<A = Global>) -> Drip {
+    Drip {
+        taken: Vec::new(rt.alloc()),
+        calls: 0,
+        fails_at: 1,
+        failure: Failure::Error,
+    }
+}
+
+#[test]
+fn writers_that_fail(rt: HostRuntime) -> Result<(), Fail> {
+    let mut input = HANDOFF.as_bytes();
+    let mut error = Vec::new(rt.alloc());
+    let words = ["ppsim", "barrel", "--turns", "40"];
+    let status = run_program(
+        &rt,
+        rt.alloc(),
+        &words,
+        &mut input,
+        &mut broken(&rt),
+        &mut error,
+    );
+    assert_eq!(rt; status, 3);
+    assert!(rt; error.as_slice() == b"ppsim: write fault\n".as_slice());
+    let mut output = Vec::new(rt.alloc());
+    let bad = ["ppsim", "barrel", "--turns", "1000000"];
+    let status = run_program(
+        &rt,
+        rt.alloc(),
+        &bad,
+        &mut input,
+        &mut output,
+        &mut broken(&rt),
+    );
+    assert_eq!(rt; status, 2);
+    Ok(())
+}

@@ -1,0 +1,68 @@
+//! Reading a deck, running it and writing the text of the run.
+
+ghost use Rattle.std.specs.Prelude.{◌≡◌, ◌≢◌, ◌<◌, ℕ, Ok, List, length, take, OnOk, IfOk, IfErr, IfSome};
+ghost use Rattle.std.specs.Io.KnownBytes.{Keeps};
+ghost use Rattle.pp_sim.specs.TextAnswer.{AnswersTo, IsAnswer, IsRunFault, most_bytes, text_of_deck};
+
+use crate::deck::read_deck;
+use crate::deck_fault::DeckCode;
+use crate::printed_text::printed_text;
+use crate::streams::{read_front, write_whole};
+use crate::text_fault::TextFault;
+use std::alloc::Allocator;
+use std::io::{Read, Write};
+
+/// Reads a deck, runs it in the barrel for so many turns (decimal), and writes the text of the run.
+pub fn barrel_text<A: Allocator + Copy, R: Read, W: Write>(
+    alloc: A,
+    reader: &mut R,
+    writer: &mut W,
+    turns: u32,
+) -> Result<(), TextFault>
+    // For every reader.
+    ensures answer { (bytes : List ℕ) × AnswersTo turns result (R.remaining reader.old) (R.remaining reader.new)
+        (W.contents writer.old) (W.contents writer.new) bytes }
+    // For a reader that tells the bytes that it has.
+    ensures told { IfSome (R.remaining reader.old) (λ bytes. IsAnswer result (text_of_deck turns (take most_bytes bytes))
+        (W.contents writer.old) (W.contents writer.new)) }
+    // Every fault but Write comes before the first byte is written.
+    ensures unwritten { IfErr result (λ fault. fault ≢ TextFault.Write → Keeps (W.contents writer.old) (W.contents writer.new)) }
+{
+    let deck = read_front(alloc, reader)?;
+    write_run(alloc, deck.as_slice(), writer, turns)
+}
+
+/// Writes the text of the run of a deck.
+fn write_run<A: Allocator + Copy, W: Write>(
+    alloc: A,
+    deck: &[u8],
+    writer: &mut W,
+    turns: u32,
+) -> Result<(), TextFault>
+    ensures answer { IsAnswer result (text_of_deck turns deck.now) (W.contents writer.old) (W.contents writer.new) }
+    ensures bounded { OnOk result (length deck.now < most_bytes) }
+{
+    let text = run_text(alloc, deck, turns)?;
+    write_whole(writer, text.as_slice())
+}
+
+/// The text of the run of a deck.
+#[tactic(auto, unfolding(crate::specs::TextAnswer::text_of_deck))]
+fn run_text<A: Allocator + Copy>(alloc: A, deck: &[u8], turns: u32) -> Result<Vec<u8, A>, TextFault>
+    ensures ok { IfOk result (λ text. text_of_deck turns deck.now ≡ Ok text.items) }
+    ensures bounded { OnOk result (length deck.now < most_bytes) }
+    ensures fault { IfErr result (IsRunFault (text_of_deck turns deck.now)) }
+{
+    let mut loaded = match read_deck(alloc, deck) {
+        Ok(loaded) => loaded,
+        Err(fault) if fault.code == DeckCode::Memory => return Err(TextFault::Memory),
+        Err(fault) => return Err(TextFault::Deck(fault)),
+    };
+    if loaded.machine.run_barrel(turns).is_err() {
+        return Err(TextFault::Memory);
+    }
+    match printed_text(alloc, &loaded.machine, &loaded.named) {
+        Ok(text) => Ok(text),
+        Err(_) => Err(TextFault::Memory),
+    }
+}

@@ -1,0 +1,22 @@
+//! Why a text was not written.
+
+use crate::deck_fault::DeckFault;
+use thiserror::Error;
+
+/// Why the text of a deck's run was not written. Every fault but `Write` comes before the first
+/// byte is written.
+#[derive(Clone, Copy, Debug, PartialEq, Eq, Error)]
+pub enum TextFault {
+    /// The reader failed.
+    #[error("read fault")]
+    Read,
+    /// The deck was refused, for another cause than memory.
+    #[error(transparent)]
+    Deck(DeckFault),
+    /// A growth was refused.
+    #[error("out of memory")]
+    Memory,
+    /// The writer failed, or took nothing.
+    #[error("write fault")]
+    Write,
+}
