@@ -30,7 +30,14 @@ fn main(rt: HostRuntime) -> anyhow::Result<()> {
         let mut input = deck.as_slice();
         let mut output = Vec::new(alloc);
         let mut error = Vec::new(alloc);
-        let status = run_program(&rt, words.as_slice(), &mut input, &mut output, &mut error);
+        let status = run_program(
+            &rt,
+            alloc,
+            words.as_slice(),
+            &mut input,
+            &mut output,
+            &mut error,
+        );
         let verdict = if status == 0 && output.as_slice() == text.as_slice() {
             "as expected"
         } else {
