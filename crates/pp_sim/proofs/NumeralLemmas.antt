@@ -13,7 +13,7 @@ use Rattle.std.proofs.lemmas.List.Sums.{fold-append}
 use Rattle.std.proofs.lemmas.Nat.{div-add-mod'}
 use Rattle.std.proofs.lemmas.Grind.{common_steps}
 use Rattle.pp_sim.specs.OctalNumber.{is_octal_digit, number, octal_value}
-use Rattle.pp_sim.specs.PrintedText.{IsDigit, IsNumeral, decimal, digit, digits, octal, unpadded, value_of}
+use Rattle.pp_sim.specs.Numeral.{IsDigit, IsNumeral, decimal, digit, digits, octal, unpadded, value_of}
 
 -- one digit more at the end
 value-end : (base : ℕ) (characters : List ℕ) (d : ℕ) → value_of base (characters ++ digit d) ≡ value_of base characters * base + d

@@ -2,7 +2,8 @@
 use Rattle.std.proofs.Common.{◌≡◌, ◌≢◌, ℕ, ◌+◌, ◌-◌, ◌/◌, ◌%◌, ◌^◌, ◌<◌, zero, suc, List, [], ◌∷◌, ◌++◌, refl, sym, ap, ◌∙◌, add-one, append_assoc, arith, codes}
 use Rattle.std.proofs.lemmas.List.{append-nil}
 use Rattle.pp_machine.specs.declared.trace.Trace.{Trace}
-use Rattle.pp_sim.specs.PrintedText.{decimal, digit, digits, each_below, event_line, event_text, line_end, octal, unpadded}
+use Rattle.pp_sim.specs.Numeral.{decimal, digit, digits, octal, unpadded}
+use Rattle.pp_sim.specs.PrintedText.{each_below, event_line, event_text, line_end}
 
 -- a text so far, before anything is said
 pub text_before : (text : List ℕ) (said : ℕ → List ℕ) → text ≡ text ++ each_below 0 said

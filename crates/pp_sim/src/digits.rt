@@ -1,7 +1,7 @@
 //! Numbers in octal and decimal digits.
 
 ghost use Rattle.std.specs.Prelude.{◌≡◌, ◌/◌, ◌^◌, ◌++◌, OnOk};
-ghost use Rattle.pp_sim.specs.PrintedText.{digits, octal, unpadded};
+ghost use Rattle.pp_sim.specs.Numeral.{digits, octal, unpadded};
 
 use std::alloc::{AllocError, Allocator};
 

@@ -1,7 +1,8 @@
 //! The lines of a printed text.
 
 ghost use Rattle.std.specs.Prelude.{◌≡◌, ◌++◌, codes, OnOk};
-ghost use Rattle.pp_sim.specs.PrintedText.{channel_line, digits, event_line, event_text, line_end, octal, processor_line};
+ghost use Rattle.pp_sim.specs.Numeral.{digits, octal};
+ghost use Rattle.pp_sim.specs.PrintedText.{channel_line, event_line, event_text, line_end, processor_line};
 
 use crate::digits::{decimal6, octal1, octal2, octal4, octal6, push_upper_digits};
 use pp_channel::{Channel, ChannelNo, Event};

@@ -4,3 +4,5 @@
 
 #[cfg(test)]
 mod channel;
+#[cfg(test)]
+mod texts;
