@@ -1,7 +1,7 @@
 //! The number of a peripheral processor.
 
-ghost use Rattle.std.specs.Prelude.{◌≡◌, ℕ, ◌<◌, ◌↔◌, IsSome, IfSome};
-ghost use Rattle.pp_machine.specs.declared.pp_no.TheConstants.{PROCESSORS};
+ghost use Rattle.std.specs.Prelude.{◌≡◌, ℕ, ◌+◌, ◌<◌, ◌↔◌, IsTrue, IsSome, IfSome};
+ghost use Rattle.pp_machine.specs.ProcessorNumber.{processor_count, names_processor, processor_index, processor_in_turn};
 
 use std::marker::Model;
 
@@ -19,18 +19,21 @@ impl Model for PpNo {
 
     ghost view = { λ n. n.number };
 
-    ghost invariant = { λ n. n.number < PROCESSORS };
+    ghost invariant = { λ n. IsTrue (names_processor n.number) };
 
     ghost inverse = { λ n. record { number = n } };
 }
 
 impl PpNo {
+    /// The processor with which the barrel begins.
+    pub const FIRST: PpNo = PpNo { number: 0 };
+
     /// The processor of this number, or nothing from 12 (octal) on.
     pub fn new(number: u8) -> Option<Self>
-        ensures exists { IsSome result ↔ (number < PROCESSORS) }
+        ensures exists { IsSome result ↔ IsTrue (names_processor number) }
         ensures value { IfSome result (λ n. n ≡ number) }
     {
-        if (number as usize) < PROCESSORS {
+        if usize::from(number) < PROCESSORS {
             Some(PpNo { number })
         } else {
             None
@@ -40,8 +43,41 @@ impl PpNo {
     /// Its number.
     pub fn get(self) -> u8
         ensures value { result ≡ self }
-        ensures small { result < PROCESSORS }
+        ensures names { IsTrue (names_processor result) }
     {
         self.number
+    }
+
+    /// Its place in a list of all processors in the barrel's order.
+    pub fn index(self) -> usize
+        ensures place { result ≡ processor_index self }
+        ensures below { result < processor_count }
+        // No other processor has this place.
+        ensures own { (n : ℕ) → IsTrue (names_processor n) → processor_index n ≡ result → n ≡ self }
+    {
+        usize::from(self.number)
+    }
+
+    /// The processor at a place in the barrel's order.
+    pub(crate) fn at(place: usize) -> Self
+        requires { place < processor_count }
+        ensures { result ≡ processor_in_turn place }
+    {
+        PpNo {
+            number: place as u8,
+        }
+    }
+
+    /// The processor that comes after it in the barrel.
+    pub fn next(self) -> Self
+        ensures { (turn : ℕ) → self ≡ processor_in_turn turn → result ≡ processor_in_turn (turn + 1) }
+    {
+        if self.index() + 1 < PROCESSORS {
+            PpNo {
+                number: self.number + 1,
+            }
+        } else {
+            PpNo::FIRST
+        }
     }
 }

@@ -5,4 +5,6 @@
 #[cfg(test)]
 mod channel;
 #[cfg(test)]
+mod machine;
+#[cfg(test)]
 mod texts;

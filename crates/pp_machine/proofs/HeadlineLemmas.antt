@@ -1,0 +1,76 @@
+-- What an event leaves of the headline.
+use Rattle.std.proofs.Common.{◌≡◌, ◌≢◌, ℕ, zero, suc, ◌<◌, ◌==◌, true, false, IsTrue, List, [], ◌∷◌, ◌++◌, length, replicate, slice_set, get_or, refl, sym, ap, subst, ◌∙◌, append_assoc, eq-eqb, inl, inr, arith, get_or-set_same, get_or-set_other}
+use Rattle.std.specs.Prelude.{if◌then◌else◌, Option, Some, None}
+use Rattle.std.specs.List.{filter_map}
+use Rattle.std.proofs.lemmas.List.{append-nil}
+use Rattle.std.proofs.lemmas.List.Elements.{filter_map-append}
+use Rattle.std.proofs.lemmas.Bool.{ne_eqb}
+use Rattle.std.proofs.lemmas.Bool.Decides.{eqb_tells}
+use Rattle.pp_channel.specs.ChannelNumber.{names_channel, channel_index}
+use Rattle.pp_channel.specs.History.{IsLawful}
+use Rattle.pp_channel.specs.Law.{KeepsLaw}
+use Rattle.pp_channel.specs.declared.event.Event.{Event}
+use Rattle.pp_machine.specs.Headline.{HoldsOnChannel, events_on}
+use Rattle.pp_machine.specs.declared.trace.Trace.{Trace}
+
+-- each of a row of channels without history has none, also past the last
+empty_at : (n c : ℕ) → get_or (replicate n (let h : List Event = [] in h)) c [] ≡ []
+empty_at zero c = refl
+empty_at (suc n) zero = refl
+empty_at (suc n) (suc c) = empty_at n c
+
+-- the headline holds of channels without history
+pub headline_of_none : (hs : List (List Event)) (n : ℕ) (h : List Event) → hs ≡ replicate n [] → h ≡ [] → IsLawful h → KeepsLaw h → (c : ℕ) → HoldsOnChannel [] [] (get_or hs c [])
+headline_of_none hs n h is none lawful law c =
+    let empty : get_or hs c [] ≡ [] = ap (λ gs. get_or gs c []) is ∙ empty_at n c in
+    let same : h ≡ get_or hs c [] = none ∙ sym empty in
+    record { traced = empty; lawful = subst IsLawful same lawful; law = subst KeepsLaw same law }
+
+events_on-append : (c : ℕ) (trace : List Trace) (entry : Trace) → events_on c (trace ++ entry ∷ []) ≡ events_on c trace ++ events_on c (entry ∷ [])
+events_on-append c trace entry = filter_map-append (λ (x : Trace). if x.channel == c then Some x.event else None) trace (entry ∷ [])
+
+-- an entry of the trace is on its own channel, and on no other
+own_entry : (entry : Trace) → events_on entry.channel (entry ∷ []) ≡ entry.event ∷ []
+own_entry entry = let same : (entry.channel == entry.channel) ≡ true = eq-eqb entry.channel entry.channel refl in rw same refl
+
+other_entry : (d : ℕ) (entry : Trace) → entry.channel ≢ d → events_on d (entry ∷ []) ≡ []
+other_entry d entry apart = let different : (entry.channel == d) ≡ false = ne_eqb entry.channel d apart in rw different refl
+
+-- the channel of the event
+on_own : (opening before : List Event) (trace : List Trace) (entry : Trace) (after : List Event) → HoldsOnChannel opening (events_on entry.channel trace) before → after ≡ before ++ entry.event ∷ [] → IsLawful after → KeepsLaw after → HoldsOnChannel opening (events_on entry.channel (trace ++ entry ∷ [])) after
+on_own opening before trace entry after old is lawful law =
+    let events : events_on entry.channel (trace ++ entry ∷ []) ≡ events_on entry.channel trace ++ entry.event ∷ [] = events_on-append entry.channel trace entry ∙ ap (λ es. events_on entry.channel trace ++ es) (own_entry entry) in
+    record {
+      traced = is ∙ ap (λ h. h ++ entry.event ∷ []) old.traced ∙ append_assoc opening (events_on entry.channel trace) (entry.event ∷ []) ∙ ap (λ es. opening ++ es) (sym events);
+      lawful = lawful;
+      law = law;
+    }
+
+-- any other channel
+on_other : (d : ℕ) (opening history : List Event) (trace : List Trace) (entry : Trace) → entry.channel ≢ d → HoldsOnChannel opening (events_on d trace) history → HoldsOnChannel opening (events_on d (trace ++ entry ∷ [])) history
+on_other d opening history trace entry apart old =
+    let events : events_on d (trace ++ entry ∷ []) ≡ events_on d trace = events_on-append d trace entry ∙ ap (λ es. events_on d trace ++ es) (other_entry d entry apart) ∙ append-nil (events_on d trace) in
+    record { traced = old.traced ∙ ap (λ es. opening ++ es) (sym events); lawful = old.lawful; law = old.law }
+
+-- the headline with one more event, whose entry of the trace names its channel
+pub headline_after_event : (opening : ℕ → List Event) (before after : List (List Event)) (trace : List Trace) (entry : Trace)
+    → after ≡ slice_set before (channel_index entry.channel) (get_or before (channel_index entry.channel) [] ++ entry.event ∷ [])
+    → channel_index entry.channel < length before
+    → IsTrue (names_channel entry.channel)
+    → ((d : ℕ) → IsTrue (names_channel d) → channel_index d ≡ channel_index entry.channel → d ≡ entry.channel)
+    → ((d : ℕ) → IsTrue (names_channel d) → HoldsOnChannel (opening d) (events_on d trace) (get_or before (channel_index d) []))
+    → IsLawful (get_or after (channel_index entry.channel) [])
+    → KeepsLaw (get_or after (channel_index entry.channel) [])
+    → (d : ℕ) → IsTrue (names_channel d) → HoldsOnChannel (opening d) (events_on d (trace ++ entry ∷ [])) (get_or after (channel_index d) [])
+headline_after_event opening before after trace entry is within named own old lawful law d names =
+    let i = channel_index entry.channel in
+    elim (eqb_tells (channel_index d) i) as (λ _. HoldsOnChannel (opening d) (events_on d (trace ++ entry ∷ [])) (get_or after (channel_index d) [])) [
+      | inl same ↦
+          let P : ℕ → Type 0 = λ c. HoldsOnChannel (opening c) (events_on c (trace ++ entry ∷ [])) (get_or after (channel_index c) []) in
+          let grown = ap (λ hs. get_or hs i []) is ∙ get_or-set_same before i (get_or before i [] ++ entry.event ∷ []) [] within in
+          subst P (sym (own d names same.1)) (on_own (opening entry.channel) (get_or before i []) trace entry (get_or after i []) (old entry.channel named) grown lawful law)
+      | inr apart ↦
+          let Q : List Event → Type 0 = λ h. HoldsOnChannel (opening d) (events_on d (trace ++ entry ∷ [])) h in
+          let kept = ap (λ hs. get_or hs (channel_index d) []) is ∙ get_or-set_other before i (channel_index d) (get_or before i [] ++ entry.event ∷ []) [] apart.1 in
+          subst Q (sym kept) (on_other d (opening d) (get_or before (channel_index d) []) trace entry (λ e. apart.1 (ap channel_index (sym e))) (old d names))
+    ]

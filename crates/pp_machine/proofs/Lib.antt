@@ -1,0 +1,12 @@
+pub mod BlockLemmas
+pub mod BlockResultLemmas
+pub mod GivenLemmas
+pub mod MemoryLemmas
+pub mod ReplayLemmas
+pub mod SignLemmas
+pub mod StepLemmas
+pub mod StoredLemmas
+pub mod HeadlineLemmas
+pub mod MachineStepLemmas
+pub mod RunLemmas
+pub mod RoundLemmas

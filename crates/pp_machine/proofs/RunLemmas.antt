@@ -1,0 +1,29 @@
+-- A run that goes on by one step.
+use Rattle.std.proofs.Common.{◌≡◌, ℕ, suc, ◌+◌, ◌<◌, List, [], ◌∷◌, ◌++◌, take, length, get_or, refl, ap, ◌∙◌, arith}
+use Rattle.std.specs.Prelude.{Option, Some, None, Result, Ok, Err, IsNone, IsSome, IsOk, IsErr}
+use Rattle.std.proofs.lemmas.List.{take_more}
+use Rattle.pp_machine.specs.MachineState.{MachineState}
+use Rattle.pp_machine.specs.MachineStep.{stepped}
+use Rattle.pp_machine.specs.ProcessorNumber.{processor_in_turn}
+use Rattle.pp_machine.specs.Run.{run, barrel}
+
+pub run-append : (ns : List ℕ) (n : ℕ) (m : MachineState) → run (ns ++ n ∷ []) m ≡ stepped n (run ns m)
+run-append [] n m = refl
+run-append (x ∷ ns) n m = run-append ns n (stepped x m)
+
+-- over one more entry of a list
+pub run_more : (ns : List ℕ) (i : ℕ) (m : MachineState) → i < length ns → run (take (i + 1) ns) m ≡ stepped (get_or ns i 0) (run (take i ns) m)
+run_more ns i m h = ap (λ ks. run ks m) (take_more ns i 0 h) ∙ run-append (take i ns) (get_or ns i 0) m
+
+-- over one more turn of the barrel
+pub barrel_more : (n : ℕ) (m : MachineState) → run (barrel (n + 1)) m ≡ stepped (processor_in_turn n) (run (barrel n) m)
+barrel_more n m = let more : n + 1 ≡ suc n = omega arith in rw more (run-append (barrel n) (processor_in_turn n) m)
+
+not_both : {X Y : Type 0} (answer : Result X Y) → IsErr answer → IsOk answer → ⊥
+not_both (Ok x) refused done = cc
+not_both (Err y) refused done = cc
+
+-- a step that was refused makes an event, where one that makes none is not refused
+pub some_event : {E X Y : Type 0} (event : Option E) (answer : Result X Y) → IsErr answer → (IsNone event → IsOk answer) → IsSome event
+some_event None answer refused none = absurd (not_both answer refused (none refl))
+some_event (Some e) answer refused none = refl

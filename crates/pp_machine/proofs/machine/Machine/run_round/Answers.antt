@@ -1,0 +1,22 @@
+use Rattle.std.proofs.Common.{arith, ◌≡◌, ◌+◌, ◌<◌, ◌≤◌, ap, sym, subst, ◌∙◌}
+use Rattle.pp_machine.specs.MachineState.{MachineState}
+use Rattle.pp_machine.specs.MachineStep.{stepped}
+use Rattle.pp_machine.specs.ProcessorNumber.{processor_in_turn}
+use Rattle.pp_machine.specs.Rounds.{PassesOverRest}
+use Rattle.pp_machine.specs.Run.{run, barrel}
+use Rattle.pp_machine.proofs.RoundLemmas.{passes_over_stepped}
+use Rattle.pp_machine.proofs.RunLemmas.{barrel_more}
+use Rattle.pp_machine.proofs.machine.Machine.run_round.Goals as goal
+
+pub loop-place-preserved : goal.loop-place-preserved
+loop-place-preserved g c =
+    let running = c.min-running.result in
+    let ok : c.step.new.self ≡ stepped (processor_in_turn running) c.pass_to.new.self = c.in-Ok.ensures.ok ∙ ap (λ n. stepped n c.pass_to.new.self) c.at.ensures in
+    let passed : c.pass_to.new.self ≡ run (barrel running) c.args.self.now = c.pass_to.ensures.ran c.args.self.now c.loop-place.invariant.ran in
+    let P : MachineState → Type 0 = λ m. PassesOverRest c.args.next.now m.processors in
+    record {
+      ran = ok ∙ ap (stepped (processor_in_turn running)) passed ∙ sym (barrel_more running c.args.self.now);
+      within = omega arith;
+      passes = subst P (sym ok) (passes_over_stepped c.args.next.now (processor_in_turn running) c.pass_to.new.self (subst (λ pps. PassesOverRest c.args.next.now pps) (sym c.pass_to.ensures.processors) c.loop-place.invariant.passes));
+      headline = c.step.ensures.headline;
+    }

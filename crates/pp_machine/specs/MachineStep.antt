@@ -1,0 +1,71 @@
+-- One step of one processor of a machine.
+-- (Manual 60100000, part on peripheral and control processors: a processor works on its own memory, exchanges
+-- words with the data channels, and reads and writes central memory. One step is one trip of it through the
+-- slot of the barrel: Thornton, Design of a Computer.)
+use Rattle.std.specs.Prelude.{ℕ, ◌+◌, ◌-◌, ◌^◌, min, List, ◌++◌, length, map, nat_lt, Option, None, slice_set}
+use Rattle.std.specs.Option.{option_to_list}
+use Rattle.pp_channel.specs.Answer.{event_of, reply_to, history_after}
+use Rattle.pp_channel.specs.ChannelNumber.{channel_index}
+use Rattle.pp_channel.specs.declared.event.Event.{Event}
+use Rattle.pp_machine.specs.Central.{central_word, with_central_word}
+use Rattle.pp_machine.specs.MachineState.{MachineState, processor_of, history_of}
+use Rattle.pp_machine.specs.NeedAndEffect.{need, processor_after, outcome}
+use Rattle.pp_machine.specs.ProcessorNumber.{processor_index}
+use Rattle.pp_machine.specs.declared.answer.Answer.{Answer}
+use Rattle.pp_machine.specs.declared.answer.Answer.TheVariants as answers
+use Rattle.pp_machine.specs.declared.need.Need.{Need}
+use Rattle.pp_machine.specs.declared.need.Need.TheVariants.{Nothing, Local, Channel, Read, Write}
+use Rattle.pp_machine.specs.declared.outcome.Outcome.{Outcome}
+use Rattle.pp_machine.specs.declared.trace.Trace.{Trace}
+
+-- what the channels and central memory answer to a need
+abbrev pub answer_to : Need → MachineState → Answer
+answer_to Nothing m = answers.Local
+answer_to Local m = answers.Local
+answer_to (Channel c op) m = answers.Channel (reply_to op (history_of c m))
+answer_to (Read a) m = answers.Read (central_word a m.central)
+answer_to (Write a w) m = answers.Wrote (nat_lt a (length m.central))
+
+-- the event that it makes
+abbrev pub event_for : Need → MachineState → Option Event
+event_for (Channel c op) m = event_of op (history_of c m)
+event_for _ m = None
+
+-- the histories after it
+abbrev pub histories_after : Need → MachineState → List (List Event)
+histories_after (Channel c op) m = slice_set m.histories (channel_index c) (history_after op (history_of c m))
+histories_after _ m = m.histories
+
+-- the central words after it
+abbrev pub central_after : Need → MachineState → List ℕ
+central_after (Write a w) m = with_central_word a w m.central
+central_after _ m = m.central
+
+-- the trace after it, where it is processor n's
+abbrev pub trace_after : ℕ → Need → MachineState → List Trace
+trace_after n (Channel c op) m = m.trace ++ map (λ e. record { turn = m.turns; pp = n; channel = c; event = e }) (option_to_list (event_of op (history_of c m)))
+trace_after n _ m = m.trace
+
+-- a machine that has answered a need of processor n
+abbrev pub served : ℕ → Need → MachineState → MachineState
+served n x m = record m { histories = histories_after x m; central = central_after x m; trace = trace_after n x m }
+
+-- one turn more; the greatest count stays
+abbrev pub counted : ℕ → ℕ
+counted turns = min (turns + 1) (2 ^ 64 - 1)
+
+-- a machine in which processor n has taken an answer, which counts one turn
+abbrev pub taken : ℕ → Answer → MachineState → MachineState
+taken n x m = record m { processors = slice_set m.processors (processor_index n) (processor_after (processor_of n m) x); turns = counted m.turns }
+
+-- a machine after one step of processor n
+unfoldable pub stepped : ℕ → MachineState → MachineState
+stepped n m = let x = need (processor_of n m) in taken n (answer_to x m) (served n x m)
+
+-- what the step does to the processor
+unfoldable pub step_outcome : ℕ → MachineState → Outcome
+step_outcome n m = outcome (processor_of n m) (answer_to (need (processor_of n m)) m)
+
+-- the event that the step makes
+unfoldable pub step_event : ℕ → MachineState → Option Event
+step_event n m = event_for (need (processor_of n m)) m

@@ -1,0 +1,74 @@
+-- What the next step of a processor needs from outside, the processor after its answer, and the outcome.
+use Rattle.std.specs.Prelude.{Bool, true, false, Option, None, Some, if◌then◌else◌}
+use Rattle.pp_channel.specs.declared.reply.Reply.TheVariants.{Flags, Done, Word, Held}
+use Rattle.pp_machine.specs.Blocks.{block_word, held}
+use Rattle.pp_machine.specs.Effects.{faults}
+use Rattle.pp_machine.specs.InstructionTable.{instruction}
+use Rattle.pp_machine.specs.OperandAndPlace.{operation, lower_six}
+use Rattle.pp_machine.specs.Processor.{Processor}
+use Rattle.pp_machine.specs.Step.{Step, need_of, local, probes, takes, does, reads, writes}
+use Rattle.pp_machine.specs.declared.answer.Answer.{Answer}
+use Rattle.pp_machine.specs.declared.answer.Answer.TheVariants.{Local, Channel, Read, Wrote}
+use Rattle.pp_machine.specs.declared.block.Block.{Block}
+use Rattle.pp_machine.specs.declared.need.Need.{Need}
+use Rattle.pp_machine.specs.declared.need.Need.TheVariants.{Nothing}
+use Rattle.pp_machine.specs.declared.outcome.Outcome.{Outcome}
+use Rattle.pp_machine.specs.declared.outcome.Outcome.TheVariants as outcomes
+use Rattle.pp_machine.specs.declared.pp_state.PpState.{PpState}
+use Rattle.pp_machine.specs.declared.pp_state.PpState.TheVariants.{Running, Stopped, Fault}
+
+-- the next step of a running processor: the next word of its block, else the instruction at P
+abbrev pub step_of : Option Block → Processor → Step
+step_of None pp = instruction (operation pp) pp (lower_six pp)
+step_of (Some block) pp = block_word block.kind block.place pp
+
+abbrev pub next_step : Processor → Step
+next_step pp = step_of pp.block pp
+
+-- the processor after an answer to a step: fault 4 where central memory has no such address,
+-- and a channel that was not ready holds it; no other answer fits
+abbrev pub answered : Step → Processor → Answer → Processor
+answered (local after) pp Local = after
+answered (probes channel after) pp (Channel (Flags flags)) = after flags
+answered (takes channel after) pp (Channel (Word word)) = after word
+answered (does channel operation after) pp (Channel Done) = after
+answered (reads address after) pp (Read (Some central)) = after central
+answered (reads address after) pp (Read None) = faults pp 4
+answered (writes address word after) pp (Wrote true) = after
+answered (writes address word after) pp (Wrote false) = faults pp 4
+answered step pp (Channel (Held flags)) = held pp.block pp flags
+answered step pp answer = pp
+
+-- a channel that was not ready holds an instruction, and a block only where it is active
+abbrev pub is_held : Option Block → Answer → Bool
+is_held None (Channel (Held flags)) = true
+is_held (Some block) (Channel (Held flags)) = flags.active
+is_held block answer = false
+
+-- only a running processor has a next step: what it needs, what an answer leaves, and the outcome, by the state
+abbrev pub need_in : PpState → Processor → Need
+need_in Running pp = need_of (next_step pp)
+need_in Stopped pp = Nothing
+need_in (Fault number) pp = Nothing
+
+abbrev pub after_in : PpState → Processor → Answer → Processor
+after_in Running pp answer = answered (next_step pp) pp answer
+after_in Stopped pp answer = pp
+after_in (Fault number) pp answer = pp
+
+abbrev pub outcome_in : PpState → Processor → Answer → Outcome
+outcome_in Running pp answer = if is_held pp.block answer then outcomes.Held else outcomes.Moved
+outcome_in Stopped pp answer = outcomes.AtRest
+outcome_in (Fault number) pp answer = outcomes.AtRest
+
+-- what the next step needs: nothing where there is none
+unfoldable pub need : Processor → Need
+need pp = need_in pp.state pp
+
+-- the processor after the answer to its next step
+unfoldable pub processor_after : Processor → Answer → Processor
+processor_after pp answer = after_in pp.state pp answer
+
+-- what the answer did
+unfoldable pub outcome : Processor → Answer → Outcome
+outcome pp answer = outcome_in pp.state pp answer

@@ -1,0 +1,49 @@
+-- Which operation an instruction is, and which place or constant it means.
+-- (Manual 60100000, peripheral processors: instruction formats; no-address, constant, direct, indirect
+-- and indexed addressing.)
+use Rattle.std.specs.Prelude.{ℕ, ◌+◌, ◌*◌, ◌/◌, ◌%◌, ◌^◌, ◌==◌, if◌then◌else◌}
+use Rattle.pp_word.specs.Address.{place_count, indexed}
+use Rattle.pp_word.specs.OperationCodes.{opcode_at}
+use Rattle.pp_word.specs.declared.opcode.Opcode.{Opcode}
+use Rattle.pp_machine.specs.Processor.{Processor, word_at}
+
+-- the place n places behind P
+abbrev pub behind_p : Processor → ℕ → ℕ
+behind_p pp n = (pp.p + n) % place_count
+
+-- the operation of the instruction at P: the upper six bits of its first word
+abbrev pub operation : Processor → Opcode
+operation pp = opcode_at (word_at pp pp.p / 2 ^ 6)
+
+-- d: the lower six bits of its first word
+abbrev pub lower_six : Processor → ℕ
+lower_six pp = word_at pp pp.p % 2 ^ 6
+
+-- m: the second word of a long instruction
+abbrev pub second_word : Processor → ℕ
+second_word pp = word_at pp (behind_p pp 1)
+
+-- the indexed place: m where d is 0, else m indexed by the word at place d
+abbrev pub index : Processor → ℕ → ℕ
+index pp d = if d == 0 then second_word pp else indexed (second_word pp) (word_at pp d)
+
+-- the constant dm: 18 bits, of which d is the upper six
+abbrev pub constant : Processor → ℕ → ℕ
+constant pp d = d * 2 ^ 12 + second_word pp
+
+-- an operand in memory: its place, and how many words the instruction has that names it
+pub record Operand : Type 0 where
+  pub place : ℕ
+  pub words : ℕ
+
+-- codes 30 to 37 (octal): the operand is at place d
+abbrev pub direct : Processor → ℕ → Operand
+direct pp d = record { place = d; words = 1 }
+
+-- codes 40 to 47 (octal): its place stands at place d
+abbrev pub indirect : Processor → ℕ → Operand
+indirect pp d = record { place = word_at pp d; words = 1 }
+
+-- codes 50 to 57 (octal): it is at the indexed place
+abbrev pub at_index : Processor → ℕ → Operand
+at_index pp d = record { place = index pp d; words = 2 }

@@ -1,0 +1,29 @@
+-- A peripheral processor as contracts see it.
+-- (Manual 60100000, peripheral processors: memory, the accumulator A, the program address P.)
+use Rattle.std.specs.Prelude.{ℕ, ◌<◌, ◌^◌, List, Option, None, slice_index}
+use Rattle.pp_machine.specs.PpMemory.{IsMemory, empty_memory}
+use Rattle.pp_machine.specs.declared.block.Block.{Block}
+use Rattle.pp_machine.specs.declared.pp_state.PpState.{PpState}
+use Rattle.pp_machine.specs.declared.pp_state.PpState.TheVariants.{Stopped}
+
+-- memory, A of 18 bits, P of 12 bits, whether it goes on, and perhaps a block transfer in progress
+pub record Processor : Type 0 where
+  pub memory : List ℕ
+  pub a : ℕ
+  pub p : ℕ
+  pub state : PpState
+  pub block : Option Block
+
+-- the word at a place
+abbrev pub word_at : Processor → ℕ → ℕ
+word_at pp place = slice_index pp.memory place
+
+-- a processor before anything is set
+abbrev pub new_processor : Processor
+new_processor = record { memory = empty_memory; a = 0; p = 0; state = Stopped; block = None }
+
+-- memory and registers have the widths that the manual gives
+pub record IsProcessor (pp : Processor) : Type 0 where
+  pub memory : IsMemory pp.memory
+  pub a : pp.a < 2 ^ 18
+  pub p : pp.p < 2 ^ 12

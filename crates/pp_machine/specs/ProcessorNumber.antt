@@ -1,0 +1,26 @@
+-- The numbers of the peripheral processors, the place of each in a list of all processors, and their turns.
+--
+-- Control Data 6400/6500/6600 Computer Systems Reference Manual, publication 60100000, part on peripheral and
+-- control processors: ten processors, numbered 0 to 11 (octal), which take turns in a barrel.
+use Rattle.std.specs.Prelude.{ℕ, ◌%◌, Bool, nat_lt}
+use Rattle.pp_machine.specs.declared.pp_no.TheConstants.{PROCESSORS}
+
+-- how many processors there are
+abbrev pub processor_count : ℕ
+processor_count = PROCESSORS
+
+-- whether a number is that of a processor
+abbrev pub names_processor : ℕ → Bool
+names_processor number = nat_lt number processor_count
+
+-- the place of the processor with this number in a list of all processors
+abbrev pub processor_index : ℕ → ℕ
+processor_index number = number
+
+-- the number of the processor at a place
+abbrev pub processor_number : ℕ → ℕ
+processor_number place = place
+
+-- the processor whose turn it is after so many turns of the barrel
+abbrev pub processor_in_turn : ℕ → ℕ
+processor_in_turn turn = processor_number (turn % processor_count)

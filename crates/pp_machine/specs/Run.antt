@@ -1,0 +1,15 @@
+-- Lists of steps.
+-- (Thornton, Design of a Computer: the peripheral processors take their turns in a barrel, one after another.)
+use Rattle.std.specs.Prelude.{ℕ, zero, suc, List, [], ◌∷◌, ◌++◌, fold}
+use Rattle.pp_machine.specs.MachineState.{MachineState}
+use Rattle.pp_machine.specs.MachineStep.{stepped}
+use Rattle.pp_machine.specs.ProcessorNumber.{processor_in_turn}
+
+-- a machine after one step of each processor of a list, in order
+abbrev pub run : List ℕ → MachineState → MachineState
+run ns m = fold (λ k n. stepped n k) m ns
+
+-- the processors of the first turns of the barrel, in order
+abbrev pub barrel : ℕ → List ℕ
+barrel zero = []
+barrel (suc turn) = barrel turn ++ processor_in_turn turn ∷ []

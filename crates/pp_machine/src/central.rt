@@ -1,0 +1,113 @@
+//! Central memory.
+
+ghost use Rattle.std.specs.Prelude.{◌≡◌, ◌<◌, ◌↔◌, length, replicate, IsTrue, IsErrOf, IfOk, OnOk};
+ghost use Rattle.std.specs.Bool.{OnFalse};
+
+use pp_word::{Word18, Word60};
+use std::alloc::{AllocError, AllocFailed, Allocator};
+use std::marker::Model;
+use thiserror::Error;
+
+/// Central memory has at most 400000 words (octal).
+const LARGEST_SIZE: u32 = 0o400_000;
+
+/// Why no central memory was made.
+#[derive(Clone, Copy, Debug, PartialEq, Eq, Error)]
+pub enum CentralFault {
+    /// A growth was refused.
+    #[error("out of memory")]
+    Memory = 1,
+    /// The size is 0 or past 400000 (octal). It comes before `Memory`.
+    #[error("central size out of range")]
+    BadSize = 2,
+}
+
+impl From<AllocError> for CentralFault {
+    ghost use Rattle.std.specs.Prelude.{◌≡◌};
+    ghost use Rattle.pp_machine.specs.declared.central.CentralFault.TheVariants.{Memory};
+
+    ghost from_gives = { λ _ fault. fault ≡ Memory };
+
+    fn from(_error: AllocError) -> CentralFault {
+        CentralFault::Memory
+    }
+}
+
+impl<T: Drop> From<AllocFailed<T>> for CentralFault {
+    ghost use Rattle.std.specs.Prelude.{◌≡◌};
+    ghost use Rattle.pp_machine.specs.declared.central.CentralFault.TheVariants.{Memory};
+
+    ghost from_gives = { λ _ fault. fault ≡ Memory };
+
+    fn from(_error: AllocFailed<T>) -> CentralFault {
+        CentralFault::Memory
+    }
+}
+
+/// The shared central memory: words of 60 bits. Contracts see it as the list of its words, by
+/// address.
+#[derive(Drop)]
+pub struct Central<A: Allocator> {
+    words: Vec<Word60, A>,
+}
+
+impl<A: Allocator> Model for Central<A> {
+    ghost use Rattle.std.specs.Prelude.{ℕ, List};
+    ghost use Rattle.pp_machine.specs.Central.{IsCentral};
+
+    ghost Value = { List ℕ };
+
+    ghost view = { λ c. c.words.items };
+
+    ghost invariant = { λ c. IsCentral c.words.items };
+}
+
+impl<A: Allocator> Central<A> {
+    ghost use Rattle.pp_machine.specs.Central.{IsCentral, IsCentralSize, central_word, with_central_word};
+
+    /// Central memory of this many words, all 0.
+    pub fn new(alloc: A, size: u32) -> Result<Self, CentralFault>
+        ensures zeros { IfOk result (λ c. c ≡ replicate size 0) }
+        ensures sized { OnOk result (IsCentralSize size) }
+        ensures sound { IfOk result IsCentral }
+        ensures bad_size { IsErrOf result CentralFault.BadSize ↔ ¬ IsCentralSize size }
+    {
+        if size == 0 || size > LARGEST_SIZE {
+            return Err(CentralFault::BadSize);
+        }
+        let words = vec![in alloc; Word60::ZERO; size as usize]?;
+        Ok(Central { words })
+    }
+
+    /// The word at an address, or nothing at or past the size.
+    pub fn read(&self, a: Word18) -> Option<Word60>
+        ensures { result ≡ central_word a self.now }
+    {
+        self.words.get(a.get() as usize).copied()
+    }
+
+    /// Writes the word at an address; at or past the size it answers false, and nothing changes.
+    pub fn write(&mut self, a: Word18, w: Word60) -> bool
+        ensures within { IsTrue result ↔ (a < length self.old) }
+        ensures written { self.new ≡ with_central_word a w self.old }
+        ensures refused { OnFalse result (self.new ≡ self.old) }
+        ensures sound { IsCentral self.new }
+    {
+        let _small = w.get();
+        match self.words.get_mut(a.get() as usize) {
+            Some(word) => {
+                *word = w;
+                true
+            }
+            None => false,
+        }
+    }
+
+    /// How many words it has (decimal).
+    pub fn size(&self) -> u32
+        ensures value { result ≡ length self.now }
+        ensures sound { IsCentral self.now }
+    {
+        self.words.len() as u32
+    }
+}

@@ -1,0 +1,11 @@
+//! The refusal of a run for want of memory.
+
+use thiserror::Error;
+
+/// A run ended early: memory was refused to the step after these.
+#[derive(Clone, Copy, Debug, PartialEq, Eq, Error)]
+#[error("cut after {done} steps")]
+pub struct Cut {
+    /// How many steps were done (decimal). The machine is as after them.
+    pub done: u64,
+}

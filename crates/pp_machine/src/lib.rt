@@ -1,0 +1,35 @@
+//! Peripheral processors, central memory and the machine that runs them by turns.
+#![tactic(auto)]
+
+mod answer;
+mod block;
+mod central;
+mod cut;
+mod machine;
+mod need;
+mod outcome;
+mod pp;
+mod pp_memory;
+mod pp_no;
+mod pp_state;
+mod replay;
+mod run;
+mod step;
+#[cfg(test)]
+mod tests_of_machine;
+#[cfg(test)]
+mod tests_of_processor;
+mod trace;
+
+pub use answer::Answer;
+pub use block::{Block, BlockKind};
+pub use central::{Central, CentralFault};
+pub use cut::Cut;
+pub use machine::Machine;
+pub use need::Need;
+pub use outcome::Outcome;
+pub use pp::{Pp, block_results};
+pub use pp_no::{PROCESSORS, PpNo};
+pub use pp_state::PpState;
+pub use replay::fits;
+pub use trace::Trace;

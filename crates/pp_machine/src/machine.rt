@@ -1,0 +1,154 @@
+//! The machine: processors, channels, central memory, turns and events.
+
+ghost use Rattle.std.specs.Prelude.{◌≡◌, ◌<◌, ℕ, ◌++◌, [], length, replicate, slice_index_or, IfOk, OnOk, OnErr, IsErrOf, IsTrue, ◌↔◌};
+ghost use Rattle.std.specs.Bool.{OnFalse};
+ghost use Rattle.pp_channel.specs.ChannelNumber.{channel_count};
+ghost use Rattle.pp_channel.specs.History.{IsLawful};
+ghost use Rattle.pp_channel.specs.Law.{KeepsLaw};
+ghost use Rattle.pp_machine.specs.Headline.{HoldsOnChannel};
+ghost use Rattle.pp_machine.specs.Processor.{new_processor};
+ghost use Rattle.pp_machine.specs.ProcessorNumber.{processor_count};
+
+use crate::central::{Central, CentralFault};
+use crate::pp::Pp;
+use crate::pp_no::{PROCESSORS, PpNo};
+use crate::trace::Trace;
+use pp_channel::{CHANNELS, Channel, ChannelNo};
+use pp_word::{Word18, Word60};
+use std::alloc::Allocator;
+use std::marker::Model;
+
+/// A machine. Contracts see it as a `MachineState`: its channels by their histories alone.
+#[derive(Drop)]
+pub struct Machine<A: Allocator> {
+    pub(crate) processors: Vec<Pp, A>,
+    pub(crate) channels: Vec<Channel<A>, A>,
+    pub(crate) central: Central<A>,
+    pub(crate) turns: u64,
+    pub(crate) trace: Vec<Trace, A>,
+}
+
+impl<A: Allocator> Model for Machine<A> {
+    ghost use Rattle.pp_machine.specs.MachineState.{MachineState};
+    ghost use Rattle.pp_machine.specs.MachineInvariant.{IsMachine};
+
+    ghost Value = { MachineState };
+
+    ghost view = { λ m. record { processors = m.processors.items; histories = m.channels.items; central = m.central; turns = m.turns; trace = m.trace.items } };
+
+    ghost invariant = { λ m. IsMachine (record { processors = m.processors.items; histories = m.channels.items; central = m.central; turns = m.turns; trace = m.trace.items }) };
+}
+
+impl<A: Allocator> Machine<A> {
+    ghost use Rattle.pp_machine.specs.Central.{IsCentralSize, with_central_word};
+    ghost use Rattle.pp_machine.specs.Headline.{events_on, opening_history};
+    ghost use Rattle.pp_machine.specs.MachineState.{history_of, new_machine, processor_of};
+
+    /// A machine with central memory of this many words, all 0: its processors as `Pp::new()`, its
+    /// channels without history, no turn counted.
+    pub fn new(alloc: A, size: u32) -> Result<Self, CentralFault>
+    where
+        A: Copy,
+        ensures ok { IfOk result (λ m. m ≡ new_machine size) }
+        ensures sized { OnOk result (IsCentralSize size) }
+        ensures bad_size { IsErrOf result CentralFault.BadSize ↔ ¬ IsCentralSize size }
+    {
+        let central = Central::new(alloc, size)?;
+        Ok(Machine {
+            processors: new_processors(alloc)?,
+            channels: new_channels(alloc)?,
+            central,
+            turns: 0,
+            trace: Vec::new(alloc),
+        })
+    }
+
+    /// How many turns it has counted (decimal); the greatest count stays.
+    pub fn turns(&self) -> u64
+        ensures { result ≡ self.now.turns }
+    {
+        self.turns
+    }
+
+    /// All events that its steps made, in order.
+    pub fn events(&self) -> &[Trace]
+        ensures { result.now ≡ self.now.trace }
+    {
+        self.trace.as_slice()
+    }
+
+    /// A processor.
+    pub fn pp(&self, n: PpNo) -> &Pp
+        ensures { result.now ≡ processor_of n self.now }
+    {
+        &self.processors[n.index()]
+    }
+
+    /// A channel.
+    pub fn channel(&self, ch: ChannelNo) -> &Channel<A>
+        ensures value { result.now ≡ history_of ch self.now }
+        ensures traced { result.now ≡ opening_history ch self.now ++ events_on ch self.now.trace }
+        ensures lawful { IsLawful result.now }
+        ensures law { KeepsLaw result.now }
+    {
+        &self.channels[ch.index()]
+    }
+
+    /// Central memory.
+    pub fn central(&self) -> &Central<A>
+        ensures { result.now ≡ self.now.central }
+    {
+        &self.central
+    }
+
+    /// Writes a central word, as `Central::write` does.
+    pub fn write_central(&mut self, a: Word18, w: Word60) -> bool
+        ensures within { IsTrue result ↔ (a < length self.old.central) }
+        ensures written { self.new ≡ record self.old { central = with_central_word a w self.old.central } }
+        ensures refused { OnFalse result (self.new ≡ self.old) }
+    {
+        self.central.write(a, w)
+    }
+}
+
+impl<A: Allocator> Machine<A> {
+    ghost use Rattle.std.specs.Prelude.{◌≡◌};
+    ghost use Rattle.std.specs.Borrow.{sem};
+    ghost use Rattle.pp_machine.specs.Lending.{LendsProcessor};
+    ghost use Rattle.pp_machine.specs.MachineState.{processor_of};
+
+    /// Lends a processor, to be loaded and started.
+    pub fn pp_mut(&mut self, n: PpNo) -> &mut Pp
+        ensures* lends { sem 𝓛 (LendsProcessor A.row A.Allocator self.entry n result) }
+        ensures value { result.now ≡ processor_of n self.old }
+    {
+        &mut self.processors[n.index()]
+    }
+}
+
+/// Processors at rest.
+fn new_processors<A: Allocator>(alloc: A) -> Result<Vec<Pp, A>, CentralFault>
+    ensures items { IfOk result (λ v. v.items ≡ replicate processor_count new_processor) }
+    ensures memory { OnErr result (result ≡ Err CentralFault.Memory) }
+{
+    let mut processors = Vec::with_capacity(alloc, PROCESSORS)?;
+    for _ in 0..PROCESSORS {
+        processors.push(Pp::new())?;
+    }
+    Ok(processors)
+}
+
+/// Channels on which nothing has happened.
+fn new_channels<A: Allocator + Copy>(alloc: A) -> Result<Vec<Channel<A>, A>, CentralFault>
+    ensures items { IfOk result (λ v. v.items ≡ replicate channel_count []) }
+    ensures headline { IfOk result (λ v. (k : ℕ) → k < channel_count → HoldsOnChannel [] [] (slice_index_or v.items k [])) }
+    ensures memory { OnErr result (result ≡ Err CentralFault.Memory) }
+{
+    let mut channels = Vec::with_capacity(alloc, CHANNELS)?;
+    for _ in 0..CHANNELS {
+        let channel = Channel::new(alloc);
+        let _history = channel.history();
+        channels.push(channel)?;
+    }
+    Ok(channels)
+}

@@ -1,0 +1,178 @@
+//! The parts of a step, for the machine, which makes it without an answer in between: the instruction
+//! is decoded once.
+
+ghost use Rattle.std.specs.Prelude.{◌≡◌, ℕ, None, IsTrue};
+ghost use Rattle.std.specs.Bool.{OnTrue, OnFalse};
+ghost use Rattle.pp_machine.specs.Direct.{IsAtInstruction, IsNext};
+ghost use Rattle.pp_machine.specs.InstructionTable.{instruction};
+ghost use Rattle.pp_machine.specs.NeedAndEffect.{need, processor_after, outcome};
+ghost use Rattle.pp_machine.specs.Processor.{Processor};
+ghost use Rattle.pp_machine.specs.Replay.{fits};
+ghost use Rattle.pp_machine.specs.Step.{need_of};
+
+use crate::answer::Answer;
+use crate::block::{Block, BlockKind};
+use crate::need::Need;
+use crate::outcome::Outcome;
+use crate::pp::Pp;
+use crate::pp_state::PpState;
+use pp_channel::Reply;
+use pp_word::{Opcode, Word6, Word60};
+
+/// Whether an operation needs nothing from outside, whatever its operands: codes 00 to 57 (octal).
+fn is_inner(op: Opcode) -> bool
+    ensures { (pp : Processor) (d : ℕ) → IsTrue result → need_of (instruction op pp d) ≡ Need.Local }
+{
+    op.code() < 0o60
+}
+
+impl Pp {
+    /// The operation of the next instruction of a running processor and the lower six bits of its
+    /// word; no operation where it is in a block.
+    pub(crate) fn next_instruction(&self) -> (Option<Opcode>, Word6)
+        requires { self.now.state ≡ PpState.Running }
+        ensures { IsNext result.0 result.1 self.now }
+    {
+        if self.block.is_some() {
+            return (None, Word6::truncated(0));
+        }
+        let (op, d) = self.instruction();
+        (Some(op), d)
+    }
+
+    /// Makes its next step where that is an instruction of the codes 00 to 57 (octal), and says
+    /// whether it was.
+    #[tactic(auto, unfolding(crate::specs::NeedAndEffect::need, crate::specs::NeedAndEffect::processor_after, crate::specs::NeedAndEffect::outcome))]
+    pub(crate) fn run_inner(&mut self, op: Opcode, d: Word6) -> bool
+        requires { IsAtInstruction op d self.old }
+        ensures local { OnTrue result (need self.old ≡ Need.Local) }
+        ensures after { OnTrue result (self.new ≡ processor_after self.old Answer.Local) }
+        ensures moved { OnTrue result (outcome self.old Answer.Local ≡ Outcome.Moved) }
+        ensures otherwise { OnFalse result (self.new ≡ self.old) }
+    {
+        if !is_inner(op) {
+            return false;
+        }
+        self.run_local(op, d);
+        true
+    }
+
+    /// What its next step needs, as `wants` says.
+    #[tactic(auto, unfolding(crate::specs::NeedAndEffect::need))]
+    pub(crate) fn wants_next(&self, next: &Option<Opcode>, d: Word6) -> Need
+        requires { IsNext next.now d self.now }
+        ensures { result ≡ need self.now }
+    {
+        match next {
+            Some(op) => self.instruction_need(*op, d),
+            None => match self.block {
+                Some(block) => self.block_need(block),
+                None => Need::Nothing,
+            },
+        }
+    }
+
+    /// Gives the reply of the channel that its next step needs, as `give` does.
+    #[tactic(auto, unfolding(crate::specs::NeedAndEffect::need, crate::specs::NeedAndEffect::processor_after, crate::specs::NeedAndEffect::outcome))]
+    pub(crate) fn give_reply(&mut self, next: &Option<Opcode>, d: Word6, reply: Reply) -> Outcome
+        requires next { IsNext next.now d self.old }
+        requires fits { IsTrue (fits (need self.old) (Answer.Channel reply)) }
+        ensures after { self.new ≡ processor_after self.old (Answer.Channel reply) }
+        ensures outcome { result ≡ outcome self.old (Answer.Channel reply) }
+    {
+        match next {
+            Some(op) => {
+                if matches!(&reply, Reply::Held(_)) {
+                    return Outcome::Held;
+                }
+                self.take_reply(*op, d, reply);
+                Outcome::Moved
+            }
+            None => self.move_by_reply(reply),
+        }
+    }
+
+    /// Gives the reply of the channel of its block.
+    #[tactic(auto, unfolding(crate::specs::NeedAndEffect::need, crate::specs::NeedAndEffect::processor_after, crate::specs::NeedAndEffect::outcome))]
+    fn move_by_reply(&mut self, reply: Reply) -> Outcome
+        requires next { IsNext None 0 self.old }
+        requires fits { IsTrue (fits (need self.old) (Answer.Channel reply)) }
+        ensures after { self.new ≡ processor_after self.old (Answer.Channel reply) }
+        ensures outcome { result ≡ outcome self.old (Answer.Channel reply) }
+    {
+        let is_held = matches!(&reply, Reply::Held(flags) if flags.active);
+        match self.block {
+            None => {}
+            Some(Block { kind, place }) => match &kind {
+                BlockKind::Input { channel } => self.move_input(
+                    *channel,
+                    place,
+                    Answer::Channel(reply),
+                ),
+                BlockKind::Output { channel } => self.move_output(
+                    *channel,
+                    place,
+                    Answer::Channel(reply),
+                ),
+                BlockKind::CentralIn { .. } | BlockKind::CentralOut { .. } => {}
+            },
+        }
+        if is_held {
+            Outcome::Held
+        } else {
+            Outcome::Moved
+        }
+    }
+
+    /// Gives the central word that its next step needs, or none past the size, as `give` does.
+    #[tactic(auto, unfolding(crate::specs::NeedAndEffect::need, crate::specs::NeedAndEffect::processor_after, crate::specs::NeedAndEffect::outcome))]
+    pub(crate) fn give_central(&mut self, next: &Option<Opcode>, d: Word6, word: Option<Word60>)
+        requires next { IsNext next.now d self.old }
+        requires fits { IsTrue (fits (need self.old) (Answer.Read word)) }
+        ensures after { self.new ≡ processor_after self.old (Answer.Read word) }
+        ensures moved { outcome self.old (Answer.Read word) ≡ Outcome.Moved }
+    {
+        match next {
+            Some(op) => self.take_central(*op, d, word),
+            None => match self.block {
+                None => {}
+                Some(Block { kind, place }) => match kind {
+                    BlockKind::CentralIn { left } => self.move_central_in(
+                        left,
+                        place,
+                        Answer::Read(word),
+                    ),
+                    BlockKind::CentralOut { .. }
+                    | BlockKind::Input { .. }
+                    | BlockKind::Output { .. } => {}
+                },
+            },
+        }
+    }
+
+    /// Gives whether the central word was written that its next step writes, as `give` does.
+    #[tactic(auto, unfolding(crate::specs::NeedAndEffect::need, crate::specs::NeedAndEffect::processor_after, crate::specs::NeedAndEffect::outcome))]
+    pub(crate) fn give_written(&mut self, next: &Option<Opcode>, d: Word6, written: bool)
+        requires next { IsNext next.now d self.old }
+        requires fits { IsTrue (fits (need self.old) (Answer.Wrote written)) }
+        ensures after { self.new ≡ processor_after self.old (Answer.Wrote written) }
+        ensures moved { outcome self.old (Answer.Wrote written) ≡ Outcome.Moved }
+    {
+        match next {
+            Some(op) => self.take_written(*op, d, written),
+            None => match self.block {
+                None => {}
+                Some(Block { kind, place }) => match kind {
+                    BlockKind::CentralOut { left } => self.move_central_out(
+                        left,
+                        place,
+                        Answer::Wrote(written),
+                    ),
+                    BlockKind::CentralIn { .. }
+                    | BlockKind::Input { .. }
+                    | BlockKind::Output { .. } => {}
+                },
+            },
+        }
+    }
+}

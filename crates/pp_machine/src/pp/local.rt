@@ -1,0 +1,110 @@
+//! Instructions that need nothing from outside.
+
+ghost use Rattle.std.specs.Prelude.{◌≡◌, true};
+ghost use Rattle.pp_machine.specs.InstructionTable.{instruction};
+ghost use Rattle.pp_machine.specs.NeedAndEffect.{answered};
+ghost use Rattle.pp_machine.specs.Replay.{fits};
+ghost use Rattle.pp_machine.specs.Step.{need_of};
+
+use crate::answer::Answer;
+use crate::block::BlockKind;
+use crate::pp::Pp;
+use pp_channel::ChannelNo;
+use pp_word::{
+    Opcode, Word6, Word12, Word18, add18, and18, clear18, complement18, shift18, sub18, xor18,
+};
+
+impl Pp {
+    /// IAM: the start of a block that comes in from channel d.
+    fn start_input(&mut self, d: Word6)
+        ensures { self.new ≡ answered (instruction Opcode.IAM self.old d) self.old Answer.Local }
+    {
+        match ChannelNo::new(d.get()) {
+            Some(channel) => self.start_block(self.a.get(), BlockKind::Input { channel }),
+            None => self.fault(3),
+        }
+    }
+
+    /// OAM: the start of a block that goes out on channel d.
+    fn start_output(&mut self, d: Word6)
+        ensures { self.new ≡ answered (instruction Opcode.OAM self.old d) self.old Answer.Local }
+    {
+        match ChannelNo::new(d.get()) {
+            Some(channel) => self.start_block(self.a.get(), BlockKind::Output { channel }),
+            None => self.fault(3),
+        }
+    }
+
+    /// An instruction that needs nothing from outside, in the order of the octal codes.
+    pub(super) fn run_local(&mut self, op: Opcode, d: Word6)
+        requires { fits (need_of (instruction op self.old d)) Answer.Local ≡ true }
+        ensures { self.new ≡ answered (instruction op self.old d) self.old Answer.Local }
+    {
+        match op {
+            Opcode::PSN => self.go_on(1),
+            Opcode::LJM => self.go_to(self.index(d)),
+            Opcode::RJM => self.call(self.index(d)),
+            Opcode::UJN => self.jump_or_stop(d),
+            Opcode::ZJN => self.jump_where(self.a.get() == 0, d),
+            Opcode::NJN => self.jump_where(self.a.get() != 0, d),
+            Opcode::PJN => self.jump_where(!self.is_negative(), d),
+            Opcode::MJN => self.jump_where(self.is_negative(), d),
+            Opcode::SHN => self.load(shift18(self.a, d), 1),
+            Opcode::LMN => self.load(xor18(self.a, Word18::from(d)), 1),
+            Opcode::LPN => self.load(and18(self.a, Word18::from(d)), 1),
+            Opcode::SCN => self.load(clear18(self.a, Word18::from(d)), 1),
+            Opcode::LDN => self.load(Word18::from(d), 1),
+            Opcode::LCN => self.load(complement18(Word18::from(d)), 1),
+            Opcode::ADN => self.load(add18(self.a, Word18::from(d)), 1),
+            Opcode::SBN => self.load(sub18(self.a, Word18::from(d)), 1),
+            Opcode::LDC => self.load(self.constant(d), 2),
+            Opcode::ADC => self.load(add18(self.a, self.constant(d)), 2),
+            Opcode::LPC => self.load(and18(self.a, self.constant(d)), 2),
+            Opcode::LMC => self.load(xor18(self.a, self.constant(d)), 2),
+            Opcode::PSN24 => self.go_on(1),
+            Opcode::PSN25 => self.go_on(1),
+            Opcode::EXN => self.fault(1),
+            Opcode::RPN => self.fault(2),
+            Opcode::LDD => self.load_word(Word12::from(d), 1),
+            Opcode::ADD => self.add_word(Word12::from(d), 1),
+            Opcode::SBD => self.subtract_word(Word12::from(d), 1),
+            Opcode::LMD => self.differ_from_word(Word12::from(d), 1),
+            Opcode::STD => self.store_word(Word12::from(d), 1),
+            Opcode::RAD => self.replace_by_sum(Word12::from(d), 1),
+            Opcode::AOD => self.replace_by_one_more(Word12::from(d), 1),
+            Opcode::SOD => self.replace_by_one_less(Word12::from(d), 1),
+            Opcode::LDI => self.load_word(self.indirect(d), 1),
+            Opcode::ADI => self.add_word(self.indirect(d), 1),
+            Opcode::SBI => self.subtract_word(self.indirect(d), 1),
+            Opcode::LMI => self.differ_from_word(self.indirect(d), 1),
+            Opcode::STI => self.store_word(self.indirect(d), 1),
+            Opcode::RAI => self.replace_by_sum(self.indirect(d), 1),
+            Opcode::AOI => self.replace_by_one_more(self.indirect(d), 1),
+            Opcode::SOI => self.replace_by_one_less(self.indirect(d), 1),
+            Opcode::LDM => self.load_word(self.index(d), 2),
+            Opcode::ADM => self.add_word(self.index(d), 2),
+            Opcode::SBM => self.subtract_word(self.index(d), 2),
+            Opcode::LMM => self.differ_from_word(self.index(d), 2),
+            Opcode::STM => self.store_word(self.index(d), 2),
+            Opcode::RAM => self.replace_by_sum(self.index(d), 2),
+            Opcode::AOM => self.replace_by_one_more(self.index(d), 2),
+            Opcode::SOM => self.replace_by_one_less(self.index(d), 2),
+            Opcode::CRD => unreachable!(),
+            Opcode::CRM => self.start_central_in(self.indirect(d)),
+            Opcode::CWD => unreachable!(),
+            Opcode::CWM => self.start_central_out(self.indirect(d)),
+            Opcode::AJM => self.fault(3),
+            Opcode::IJM => self.fault(3),
+            Opcode::FJM => self.fault(3),
+            Opcode::EJM => self.fault(3),
+            Opcode::IAN => self.fault(3),
+            Opcode::IAM => self.start_input(d),
+            Opcode::OAN => self.fault(3),
+            Opcode::OAM => self.start_output(d),
+            Opcode::ACN => self.fault(3),
+            Opcode::DCN => self.fault(3),
+            Opcode::FAN => self.fault(3),
+            Opcode::FNC => self.fault(3),
+        }
+    }
+}

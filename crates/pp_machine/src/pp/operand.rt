@@ -1,0 +1,58 @@
+//! The instruction at P, and the places and constants that it means.
+
+ghost use Rattle.std.specs.Prelude.{◌≡◌};
+ghost use Rattle.pp_machine.specs.OperandAndPlace.{behind_p, operation, lower_six, second_word, index, constant};
+ghost use Rattle.pp_machine.specs.Processor.{word_at};
+
+use crate::pp::Pp;
+use pp_word::{Opcode, Word6, Word12, Word18, decode, index_address};
+
+impl Pp {
+    /// The place so many places behind P.
+    pub(super) fn behind_p(&self, words: u8) -> Word12
+        ensures { result ≡ behind_p self.now words }
+    {
+        Word12::truncated(u32::from(self.p.get()) + u32::from(words))
+    }
+
+    /// The operation of the instruction at P, and the lower six bits of its word.
+    pub(super) fn instruction(&self) -> (Opcode, Word6)
+        ensures operation { result.0 ≡ operation self.now }
+        ensures lower_six { result.1 ≡ lower_six self.now }
+    {
+        decode(self.get(self.p))
+    }
+
+    /// The second word of a long instruction.
+    pub(super) fn second_word(&self) -> Word12
+        ensures { result ≡ second_word self.now }
+    {
+        self.get(self.behind_p(1))
+    }
+
+    /// The place that the second word means, indexed by place d.
+    pub(super) fn index(&self, d: Word6) -> Word12
+        ensures { result ≡ index self.now d }
+    {
+        let m = self.second_word();
+        if d.get() == 0 {
+            m
+        } else {
+            index_address(m, self.get(Word12::from(d)))
+        }
+    }
+
+    /// The place that stands at place d.
+    pub(super) fn indirect(&self, d: Word6) -> Word12
+        ensures { result ≡ word_at self.now d }
+    {
+        self.get(Word12::from(d))
+    }
+
+    /// The constant of d and the second word.
+    pub(super) fn constant(&self, d: Word6) -> Word18
+        ensures { result ≡ constant self.now d }
+    {
+        Word18::truncated(u32::from(d.get()) * 0o10000 + u32::from(self.second_word().get()))
+    }
+}

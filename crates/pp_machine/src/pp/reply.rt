@@ -1,0 +1,73 @@
+//! Instructions that asked something from outside, with the answer.
+
+ghost use Rattle.std.specs.Prelude.{◌≡◌, None, true};
+ghost use Rattle.pp_machine.specs.InstructionTable.{instruction, row};
+ghost use Rattle.pp_machine.specs.NeedAndEffect.{answered};
+ghost use Rattle.pp_machine.specs.OperandAndPlace.{operation, lower_six};
+ghost use Rattle.pp_machine.specs.Replay.{fits};
+ghost use Rattle.pp_machine.specs.Step.{need_of};
+
+use crate::answer::Answer;
+use crate::pp::Pp;
+use pp_channel::Reply;
+use pp_word::{Opcode, Word6, Word12, Word18, Word60};
+
+impl Pp {
+    /// An instruction that asked its channel, with the reply.
+    pub(super) fn take_reply(&mut self, op: Opcode, d: Word6, reply: Reply)
+        requires { self.old.block ≡ None }
+        ensures { self.new ≡ answered (row op self.old d) self.old (Answer.Channel reply) }
+    {
+        match (op, reply) {
+            (Opcode::AJM, Reply::Flags(flags)) => self.branch_where(flags.active),
+            (Opcode::IJM, Reply::Flags(flags)) => self.branch_where(!flags.active),
+            (Opcode::FJM, Reply::Flags(flags)) => self.branch_where(flags.full),
+            (Opcode::EJM, Reply::Flags(flags)) => self.branch_where(!flags.full),
+            (Opcode::IAN, Reply::Word(word)) => self.load(Word18::from(word), 1),
+            (Opcode::OAN | Opcode::ACN | Opcode::DCN | Opcode::FAN, Reply::Done) => self.go_on(1),
+            (Opcode::FNC, Reply::Done) => self.go_on(2),
+            // Held changes nothing, and no other reply fits.
+            _ => {}
+        }
+    }
+
+    /// CRD, with the central word.
+    pub(super) fn take_central(&mut self, op: Opcode, d: Word6, central: Option<Word60>)
+        ensures { self.new ≡ answered (row op self.old d) self.old (Answer.Read central) }
+    {
+        match (op, central) {
+            (Opcode::CRD, Some(word)) => {
+                self.receive(Word12::from(d), word);
+                self.go_on(1);
+            }
+            (Opcode::CRD, None) => self.fault(4),
+            _ => {}
+        }
+    }
+
+    /// CWD, with whether the central word was written.
+    pub(super) fn take_written(&mut self, op: Opcode, d: Word6, written: bool)
+        ensures { self.new ≡ answered (row op self.old d) self.old (Answer.Wrote written) }
+    {
+        match (op, written) {
+            (Opcode::CWD, true) => self.go_on(1),
+            (Opcode::CWD, false) => self.fault(4),
+            _ => {}
+        }
+    }
+
+    /// The instruction at P, with the answer to its need.
+    pub(super) fn run_instruction(&mut self, answer: Answer)
+        requires free { self.old.block ≡ None }
+        requires fits { fits (need_of (instruction (operation self.old) self.old (lower_six self.old))) answer ≡ true }
+        ensures { self.new ≡ answered (instruction (operation self.old) self.old (lower_six self.old)) self.old answer }
+    {
+        let (op, d) = self.instruction();
+        match answer {
+            Answer::Local => self.run_local(op, d),
+            Answer::Channel(reply) => self.take_reply(op, d, reply),
+            Answer::Read(central) => self.take_central(op, d, central),
+            Answer::Wrote(written) => self.take_written(op, d, written),
+        }
+    }
+}

@@ -1,0 +1,133 @@
+//! One step: what it needs, and what its answer does.
+
+ghost use Rattle.std.specs.Prelude.{◌≡◌, ◌↔◌, if◌then◌else◌, IsTrue};
+ghost use Rattle.pp_channel.specs.ChannelNumber.{names_channel};
+ghost use Rattle.pp_machine.specs.Blocks.{block_word};
+ghost use Rattle.pp_machine.specs.InstructionTable.{instruction};
+ghost use Rattle.pp_machine.specs.NeedAndEffect.{need, processor_after, outcome, is_held};
+ghost use Rattle.pp_machine.specs.Replay.{fits};
+ghost use Rattle.pp_machine.specs.Step.{need_of};
+ghost use Rattle.pp_machine.specs.StepLaws.{IsAtRest, IsAtFault, IsHeldAnswer, KeepsMemoryAndRegisters};
+
+use crate::answer::Answer;
+use crate::block::{Block, BlockKind};
+use crate::need::Need;
+use crate::outcome::Outcome;
+use crate::pp::Pp;
+use crate::pp_state::PpState;
+use pp_channel::{ChanOp, ChannelNo, Reply};
+use pp_word::{Opcode, Word6, Word12};
+
+/// The need of an operation on channel d: local where there is no such channel.
+fn channel_need(d: Word6, operation: ChanOp) -> Need
+    ensures { result ≡ (if names_channel d then Need.Channel d operation else Need.Local) }
+{
+    match ChannelNo::new(d.get()) {
+        Some(channel) => Need::Channel(channel, operation),
+        None => Need::Local,
+    }
+}
+
+impl Pp {
+    /// What an instruction needs.
+    pub(super) fn instruction_need(&self, op: Opcode, d: Word6) -> Need
+        ensures { result ≡ need_of (instruction op self.now d) }
+    {
+        match op {
+            Opcode::CRD => Need::Read(self.a),
+            Opcode::CWD => Need::Write(self.a, self.central_from(Word12::from(d))),
+            Opcode::AJM | Opcode::IJM | Opcode::FJM | Opcode::EJM => channel_need(d, ChanOp::Probe),
+            Opcode::IAN => channel_need(d, ChanOp::Take),
+            Opcode::OAN => channel_need(d, ChanOp::Put(self.a.low())),
+            Opcode::ACN => channel_need(d, ChanOp::Activate),
+            Opcode::DCN => channel_need(d, ChanOp::Disconnect),
+            Opcode::FAN => channel_need(d, ChanOp::Function(self.a.low())),
+            Opcode::FNC => channel_need(d, ChanOp::Function(self.second_word())),
+            _ => Need::Local,
+        }
+    }
+
+    /// What the next word of a block needs.
+    pub(super) fn block_need(&self, block: Block) -> Need
+        ensures { result ≡ need_of (block_word block.kind block.place self.now) }
+    {
+        match &block.kind {
+            BlockKind::CentralIn { left: _ } => Need::Read(self.a),
+            BlockKind::CentralOut { left: _ } => Need::Write(
+                self.a,
+                self.central_from(block.place),
+            ),
+            BlockKind::Input { channel } => Need::Channel(*channel, ChanOp::Take),
+            BlockKind::Output { channel } => Need::Channel(
+                *channel,
+                ChanOp::Put(self.get(block.place)),
+            ),
+        }
+    }
+
+    /// What the next step needs from outside: nothing where it is at rest.
+    #[tactic(auto, unfolding(crate::specs::NeedAndEffect::need), using(crate::proofs::StepLemmas::nothing_at_rest))]
+    pub fn wants(&self) -> Need
+        ensures need { result ≡ need self.now }
+        ensures nothing_unless_running { (result ≡ Need.Nothing) ↔ IsAtRest self.now }
+    {
+        match self.state {
+            PpState::Running => match self.block {
+                None => {
+                    let (op, d) = self.instruction();
+                    self.instruction_need(op, d)
+                }
+                Some(block) => self.block_need(block),
+            },
+            PpState::Stopped | PpState::Fault(_) => Need::Nothing,
+        }
+    }
+
+    /// Gives the answer to what `wants` gives.
+    #[tactic(auto, using(crate::proofs::StepLemmas::held_changes_nothing, crate::proofs::StepLemmas::held_by_answer, crate::proofs::StepLemmas::at_rest, crate::proofs::StepLemmas::rest_changes_nothing, crate::proofs::StepLemmas::fault_keeps))]
+    pub fn give(&mut self, answer: Answer) -> Outcome
+        requires fits { IsTrue (fits (need self.old) answer) }
+        ensures after { self.new ≡ processor_after self.old answer }
+        ensures outcome { result ≡ outcome self.old answer }
+        ensures held_changes_nothing { result ≡ Outcome.Held → self.new ≡ self.old }
+        ensures held_by_channel { result ≡ Outcome.Held → IsHeldAnswer answer }
+        ensures at_rest_unless_running { (result ≡ Outcome.AtRest) ↔ IsAtRest self.old }
+        ensures rest_changes_nothing { IsAtRest self.old → self.new ≡ self.old }
+        ensures fault_keeps { self.old.state ≡ PpState.Running → IsAtFault self.new → KeepsMemoryAndRegisters self.old self.new }
+    {
+        self.advance(answer)
+    }
+
+    /// The step by the table.
+    #[tactic(auto, unfolding(crate::specs::NeedAndEffect::need, crate::specs::NeedAndEffect::processor_after, crate::specs::NeedAndEffect::outcome))]
+    fn advance(&mut self, answer: Answer) -> Outcome
+        requires fits { IsTrue (fits (need self.old) answer) }
+        ensures after { self.new ≡ processor_after self.old answer }
+        ensures outcome { result ≡ outcome self.old answer }
+    {
+        match self.state {
+            PpState::Running => {}
+            PpState::Stopped | PpState::Fault(_) => return Outcome::AtRest,
+        }
+        let is_held = self.is_held(&answer);
+        match self.block {
+            None => self.run_instruction(answer),
+            Some(block) => self.move_word(block, answer),
+        }
+        if is_held {
+            Outcome::Held
+        } else {
+            Outcome::Moved
+        }
+    }
+
+    /// Whether an answer holds the step, and changes nothing.
+    fn is_held(&self, answer: &Answer) -> bool
+        ensures { result ≡ is_held self.now.block answer.now }
+    {
+        match answer {
+            Answer::Channel(Reply::Held(flags)) => self.block.is_none() || flags.active,
+            _ => false,
+        }
+    }
+}

@@ -1,0 +1,57 @@
+//! Which answers fit a need, and a processor's replay of answers.
+
+ghost use Rattle.std.specs.Prelude.{◌≡◌};
+ghost use Rattle.pp_machine.specs.Replay.{fits, reply_fits, replayed, given_count};
+ghost use Rattle.pp_machine.specs.StepLaws.{IsAtRest};
+
+use crate::answer::Answer;
+use crate::need::Need;
+use crate::pp::Pp;
+use pp_channel::{ChanOp, Reply};
+
+/// Whether a reply fits an operation.
+fn reply_fits(operation: &ChanOp, reply: &Reply) -> bool
+    ensures { result ≡ reply_fits operation.now reply.now }
+{
+    match operation {
+        ChanOp::Probe => matches!(reply, Reply::Flags(_)),
+        ChanOp::Take => matches!(reply, Reply::Word(_) | Reply::Held(_)),
+        ChanOp::Activate | ChanOp::Disconnect | ChanOp::Put(_) | ChanOp::Function(_) => {
+            matches!(reply, Reply::Done | Reply::Held(_))
+        }
+    }
+}
+
+/// Whether an answer fits a need: Nothing and Local go with Local, an operation on a channel with its
+/// replies, Read with Read, Write with Wrote.
+pub fn fits(need: &Need, answer: &Answer) -> bool
+    ensures { result ≡ fits need.now answer.now }
+{
+    match need {
+        Need::Nothing | Need::Local => matches!(answer, Answer::Local),
+        Need::Channel(_, operation) => match answer {
+            Answer::Channel(reply) => reply_fits(operation, reply),
+            Answer::Local | Answer::Read(_) | Answer::Wrote(_) => false,
+        },
+        Need::Read(_) => matches!(answer, Answer::Read(_)),
+        Need::Write(_, _) => matches!(answer, Answer::Wrote(_)),
+    }
+}
+
+impl Pp {
+    /// Gives the answers in order, up to the first that does not fit, and says how many were given.
+    #[tactic(auto, using(crate::proofs::ReplayLemmas::replayed_more, crate::proofs::ReplayLemmas::replayed_stops, crate::proofs::ReplayLemmas::given_count_more, crate::proofs::ReplayLemmas::given_count_stops, crate::proofs::ReplayLemmas::replayed_end, crate::proofs::ReplayLemmas::given_count_end))]
+    pub fn replay(&mut self, answers: &[Answer]) -> usize
+        ensures after { self.new ≡ replayed self.old answers.now }
+        ensures count { result ≡ given_count self.old answers.now }
+        ensures rest_changes_nothing { IsAtRest self.old → self.new ≡ self.old }
+    {
+        for (i, answer) in answers.iter().enumerate() {
+            if !fits(&self.wants(), answer) {
+                return i;
+            }
+            let _ = self.give(*answer);
+        }
+        answers.len()
+    }
+}

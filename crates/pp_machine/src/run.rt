@@ -1,0 +1,138 @@
+//! Lists of steps.
+
+ghost use Rattle.std.specs.Prelude.{◌≡◌, ◌<◌, ◌≤◌, length, take, slice_index, IfErr, IsSome, OnOk, vec_len};
+ghost use Rattle.pp_machine.specs.ProcessorNumber.{processor_count};
+ghost use Rattle.pp_machine.specs.Rounds.{RestBetween, PassesOverRest};
+
+use crate::cut::Cut;
+use crate::machine::Machine;
+use crate::pp::Pp;
+use crate::pp_no::{PROCESSORS, PpNo};
+use crate::pp_state::PpState;
+use std::alloc::Allocator;
+
+/// How many turns a round of the barrel has (decimal).
+const ROUND: u32 = PROCESSORS as u32;
+
+/// After how many turns of the barrel it looks again which processors are at rest (decimal): a look
+/// costs as much as some turns.
+const LOOK_AFTER: u32 = 640;
+
+impl<A: Allocator> Machine<A> {
+    ghost use Rattle.pp_machine.specs.Headline.{HoldsOnEachChannel};
+    ghost use Rattle.pp_machine.specs.MachineStep.{step_event};
+    ghost use Rattle.pp_machine.specs.ProcessorNumber.{processor_in_turn};
+    ghost use Rattle.pp_machine.specs.MachineState.{MachineState};
+    ghost use Rattle.pp_machine.specs.Run.{run, barrel};
+
+    /// One step of each processor of a list, in order, with any repeats.
+    #[tactic(auto, using(crate::proofs::RunLemmas::run_more, crate::proofs::RunLemmas::some_event))]
+    pub fn run_turns(&mut self, turns: &[PpNo]) -> Result<(), Cut>
+        ensures ok { OnOk result (self.new ≡ run turns.now self.old) }
+        ensures cut { IfErr result (λ c. self.new ≡ run (take c.done turns.now) self.old) }
+        ensures within { IfErr result (λ c. c.done < length turns.now) }
+        // A run is cut only at a step that makes an event.
+        ensures cut_at_event { IfErr result (λ c. IsSome (step_event (slice_index turns.now c.done) self.new)) }
+        ensures headline { HoldsOnEachChannel self.new }
+    {
+        let _sound = &self.turns;
+        for (i, n) in turns.iter().enumerate() {
+            if self.step(*n).is_err() {
+                return Err(Cut { done: i as u64 });
+            }
+        }
+        Ok(())
+    }
+
+    /// So many turns of the barrel, from its first processor on. Processors at rest are passed over.
+    #[tactic(auto, using(crate::proofs::RoundLemmas::barrel_rounds))]
+    pub fn run_barrel(&mut self, turns: u32) -> Result<(), Cut>
+        ensures ok { OnOk result (self.new ≡ run (barrel turns) self.old) }
+        ensures cut { IfErr result (λ c. self.new ≡ run (barrel c.done) self.old) }
+        ensures within { IfErr result (λ c. c.done < turns) }
+        // A run is cut only at a step that makes an event.
+        ensures cut_at_event { IfErr result (λ c. IsSome (step_event (processor_in_turn c.done) self.new)) }
+        ensures headline { HoldsOnEachChannel self.new }
+    {
+        let _sound = &self.turns;
+        let mut next = [0; PROCESSORS];
+        let mut look = 0;
+        let mut done = 0;
+        while done < turns {
+            if done >= look {
+                next = next_running(&self.processors);
+                look = done.saturating_add(LOOK_AFTER);
+            }
+            let round = (turns - done).min(ROUND);
+            if let Err(before) = self.run_round(round as usize, &next) {
+                return Err(Cut {
+                    done: u64::from(done) + before as u64,
+                });
+            }
+            done += round;
+        }
+        Ok(())
+    }
+
+    /// The first turns of a round of the barrel, where `next` tells which processors at rest to pass
+    /// over. Refused, it says how many steps were done.
+    #[tactic(auto, using(crate::proofs::RunLemmas::barrel_more, crate::proofs::RunLemmas::some_event, crate::proofs::RoundLemmas::rest_to, crate::proofs::RoundLemmas::passes_over_stepped))]
+    fn run_round(&mut self, turns: usize, next: &[usize; PROCESSORS]) -> Result<(), usize>
+        requires round { turns ≤ processor_count }
+        requires passes { PassesOverRest next.now self.old.processors }
+        requires sound { HoldsOnEachChannel self.old }
+        ensures ok { OnOk result (self.new ≡ run (barrel turns) self.old) }
+        ensures cut { IfErr result (λ done. self.new ≡ run (barrel done) self.old) }
+        ensures within { IfErr result (λ done. done < turns) }
+        ensures cut_at_event { IfErr result (λ done. IsSome (step_event (processor_in_turn done) self.new)) }
+        ensures passes { PassesOverRest next.now self.new.processors }
+        ensures headline { HoldsOnEachChannel self.new }
+    {
+        let mut place = 0;
+        while place < turns {
+            let running = next[place].min(turns);
+            self.pass_to(place, running);
+            if running == turns {
+                return Ok(());
+            }
+            let Ok(_outcome) = self.step(PpNo::at(running)) else {
+                return Err(running);
+            };
+            place = running + 1;
+        }
+        Ok(())
+    }
+
+    /// Counts the turns of processors at rest, from a place to a place.
+    #[tactic(auto, using(crate::proofs::RoundLemmas::passed_to))]
+    fn pass_to(&mut self, place: usize, running: usize)
+        requires { RestBetween place running self.old.processors }
+        ensures ran { (m : MachineState) → self.old ≡ run (barrel place) m → self.new ≡ run (barrel running) m }
+        ensures processors { self.new.processors ≡ self.old.processors }
+        ensures headline { HoldsOnEachChannel self.new }
+    {
+        let turns = self.turns;
+        if place < running {
+            self.turns = turns.saturating_add((running - place) as u64);
+        }
+    }
+}
+
+/// For each place of the barrel the first place from there on whose processor is running, or the
+/// number of processors where there is none.
+#[tactic(auto, using(crate::proofs::RoundLemmas::passes_from_end, crate::proofs::RoundLemmas::passes_from_running, crate::proofs::RoundLemmas::passes_from_rest, crate::proofs::RoundLemmas::passes_from_start))]
+fn next_running<A: Allocator>(processors: &Vec<Pp, A>) -> [usize; PROCESSORS]
+    requires { vec_len processors.now ≡ processor_count }
+    ensures { PassesOverRest result processors.now.items }
+{
+    let mut next = [PROCESSORS; PROCESSORS];
+    let mut running = PROCESSORS;
+    for place in (0..PROCESSORS).rev() {
+        match processors[place].state() {
+            PpState::Running => running = place,
+            PpState::Stopped | PpState::Fault(_) => {}
+        }
+        next[place] = running;
+    }
+    next
+}

@@ -1,0 +1,170 @@
+//! One step of a machine.
+
+ghost use Rattle.std.specs.Prelude.{◌≡◌, ◌++◌, [], None, IsTrue, vec_len, map, slice_set, slice_index_or, IfOk, IsOk, IsNone, OnOk, OnErr};
+ghost use Rattle.std.specs.Option.{option_to_list};
+ghost use Rattle.pp_channel.specs.Answer.{event_of, reply_to, history_after};
+ghost use Rattle.pp_channel.specs.ChannelNumber.{channel_count, channel_index};
+ghost use Rattle.pp_channel.specs.History.{IsLawful};
+ghost use Rattle.pp_channel.specs.Law.{KeepsLaw};
+ghost use Rattle.pp_machine.specs.Direct.{IsNext};
+ghost use Rattle.pp_machine.specs.Replay.{fits};
+ghost use Rattle.pp_machine.specs.StepLaws.{IsAtRest};
+
+use crate::answer::Answer;
+use crate::machine::Machine;
+use crate::need::Need;
+use crate::outcome::Outcome;
+use crate::pp_no::PpNo;
+use crate::pp_state::PpState;
+use crate::trace::Trace;
+use pp_channel::{ChanOp, Channel, ChannelNo, Memory, Reply};
+use pp_word::{Opcode, Word6};
+use std::alloc::Allocator;
+
+impl<A: Allocator> Machine<A> {
+    ghost use Rattle.pp_machine.specs.Headline.{HoldsOnEachChannel};
+    ghost use Rattle.pp_machine.specs.MachineState.{processor_of};
+    ghost use Rattle.pp_machine.specs.MachineStep.{answer_to, counted, event_for, served, stepped, step_event, step_outcome};
+
+    /// One step of a processor; a step that makes no event takes no memory.
+    #[tactic(auto, using(crate::proofs::MachineStepLemmas::stepped_at_rest, crate::proofs::MachineStepLemmas::outcome_at_rest))]
+    pub fn step(&mut self, n: PpNo) -> Result<Outcome, Memory>
+        ensures ok { OnOk result (self.new ≡ stepped n self.old) }
+        ensures outcome { IfOk result (λ o. o ≡ step_outcome n self.old) }
+        ensures err { OnErr result (self.new ≡ self.old) }
+        ensures no_event { IsNone (step_event n self.old) → IsOk result }
+        ensures at_rest { IsAtRest (processor_of n self.old) → self.new ≡ record self.old { turns = counted self.old.turns } }
+        ensures headline { HoldsOnEachChannel self.new }
+    {
+        match self.processors[n.index()].state() {
+            PpState::Running => self.go_on(n),
+            PpState::Stopped | PpState::Fault(_) => {
+                self.count_turn();
+                Ok(Outcome::AtRest)
+            }
+        }
+    }
+
+    /// One turn more; the greatest count stays.
+    fn count_turn(&mut self)
+        ensures turn { self.new ≡ record self.old { turns = counted self.old.turns } }
+        ensures headline { HoldsOnEachChannel self.new }
+    {
+        self.turns = self.turns.saturating_add(1);
+    }
+
+    /// The step of a processor that is running.
+    #[tactic(auto, using(crate::proofs::MachineStepLemmas::stepped_alone, crate::proofs::MachineStepLemmas::outcome_alone))]
+    fn go_on(&mut self, n: PpNo) -> Result<Outcome, Memory>
+        requires { (processor_of n self.old).state ≡ PpState.Running }
+        ensures ok { OnOk result (self.new ≡ stepped n self.old) }
+        ensures outcome { IfOk result (λ o. o ≡ step_outcome n self.old) }
+        ensures err { OnErr result (self.new ≡ self.old) }
+        ensures no_event { IsNone (step_event n self.old) → IsOk result }
+        ensures headline { HoldsOnEachChannel self.new }
+    {
+        let i = n.index();
+        let (next, d) = self.processors[i].next_instruction();
+        if let Some(op) = &next {
+            if self.processors[i].run_inner(*op, d) {
+                self.count_turn();
+                return Ok(Outcome::Moved);
+            }
+        }
+        self.step_with_answer(n, &next, d)
+    }
+
+    /// The step of a processor with the answer to its need.
+    #[tactic(auto, unfolding(crate::specs::MachineStep::stepped, crate::specs::MachineStep::step_event, crate::specs::MachineStep::step_outcome))]
+    fn step_with_answer(
+        &mut self,
+        n: PpNo,
+        next: &Option<Opcode>,
+        d: Word6,
+    ) -> Result<Outcome, Memory>
+        requires { IsNext next.now d (processor_of n self.old) }
+        ensures ok { OnOk result (self.new ≡ stepped n self.old) }
+        ensures outcome { IfOk result (λ o. o ≡ step_outcome n self.old) }
+        ensures err { OnErr result (self.new ≡ self.old) }
+        ensures no_event { IsNone (step_event n self.old) → IsOk result }
+        ensures headline { HoldsOnEachChannel self.new }
+    {
+        let i = n.index();
+        match self.processors[i].wants_next(next, d) {
+            Need::Nothing | Need::Local => {
+                let outcome = self.processors[i].give(Answer::Local);
+                self.count_turn();
+                Ok(outcome)
+            }
+            Need::Channel(channel, op) => {
+                let reply = self.exchange(n, channel, op)?;
+                let outcome = self.processors[i].give_reply(next, d, reply);
+                self.count_turn();
+                Ok(outcome)
+            }
+            Need::Read(address) => {
+                let word = self.central.read(address);
+                self.processors[i].give_central(next, d, word);
+                self.count_turn();
+                Ok(Outcome::Moved)
+            }
+            Need::Write(address, word) => {
+                let written = self.central.write(address, word);
+                self.processors[i].give_written(next, d, written);
+                self.count_turn();
+                Ok(Outcome::Moved)
+            }
+        }
+    }
+
+    /// One operation of a processor on a channel.
+    fn exchange(&mut self, n: PpNo, channel: ChannelNo, op: ChanOp) -> Result<Reply, Memory>
+        ensures reply { IfOk result (λ r. Answer.Channel r ≡ answer_to (Need.Channel channel op) self.old) }
+        ensures ok { OnOk result (self.new ≡ served n (Need.Channel channel op) self.old) }
+        ensures err { OnErr result (self.new ≡ self.old) }
+        ensures no_event { IsNone (event_for (Need.Channel channel op) self.old) → IsOk result }
+    {
+        let _named = channel.get();
+        let i = channel.index();
+        let made = self.channels[i].next_event(&op);
+        match &made {
+            None => act_on(&mut self.channels, channel, op),
+            Some(event) => {
+                let turn = self.turns;
+                self.trace.push(Trace {
+                    turn,
+                    pp: n,
+                    channel,
+                    event: *event,
+                })?;
+                match act_on(&mut self.channels, channel, op) {
+                    Ok(reply) => Ok(reply),
+                    Err(memory) => {
+                        let _ = self.trace.pop();
+                        Err(memory)
+                    }
+                }
+            }
+        }
+    }
+}
+
+/// One operation on one of the channels.
+fn act_on<A: Allocator>(
+    channels: &mut Vec<Channel<A>, A>,
+    channel: ChannelNo,
+    op: ChanOp,
+) -> Result<Reply, Memory>
+    requires { vec_len channels.old ≡ channel_count }
+    ensures reply { IfOk result (λ r. r ≡ reply_to op (slice_index_or channels.old.items (channel_index channel) [])) }
+    ensures ok { OnOk result (channels.new.items ≡ slice_set channels.old.items (channel_index channel) (history_after op (slice_index_or channels.old.items (channel_index channel) []))) }
+    ensures err { OnErr result (channels.new.items ≡ channels.old.items) }
+    ensures no_event { IsNone (event_of op (slice_index_or channels.old.items (channel_index channel) [])) → IsOk result }
+    ensures lawful { IsLawful (slice_index_or channels.new.items (channel_index channel) []) }
+    ensures law { KeepsLaw (slice_index_or channels.new.items (channel_index channel) []) }
+{
+    let channel = &mut channels[channel.index()];
+    let reply = channel.act(op);
+    let _history = channel.history();
+    reply
+}

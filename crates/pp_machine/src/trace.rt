@@ -1,0 +1,17 @@
+//! The record of the events that a machine's steps made.
+
+use crate::pp_no::PpNo;
+use pp_channel::{ChannelNo, Event};
+
+/// One event of a machine.
+#[derive(Clone, Copy, Debug, PartialEq, Eq)]
+pub struct Trace {
+    /// How many turns the machine had counted before the step that made it (decimal).
+    pub turn: u64,
+    /// The processor whose step it was.
+    pub pp: PpNo,
+    /// The channel on which it happened.
+    pub channel: ChannelNo,
+    /// What happened.
+    pub event: Event,
+}
