@@ -22,7 +22,7 @@ unpadded_more (suc most) n h k = grind arith
 
 -- the line of an event: what stands before the last six digits of its turn, those digits and the numbers, the event
 pub event_line_in_pieces : (text upper heading tail : List ℕ) (e : Trace) → upper ≡ unpadded 14 (e.turn / 10 ^ 6)
-    → heading ≡ digits 10 6 e.turn ++ codes " PP" ++ octal 2 e.pp ++ codes " CH" ++ octal 2 e.channel ++ codes " "
+    → heading ≡ digits 10 6 (e.turn % 10 ^ 6) ++ codes " PP" ++ octal 2 e.pp ++ codes " CH" ++ octal 2 e.channel ++ codes " "
     → tail ≡ event_text e.event ++ line_end
     → ((text ++ upper) ++ heading) ++ tail ≡ text ++ event_line e
 unfolding event_line decimal

@@ -22,7 +22,7 @@ unpadded (suc most) n = if n == 0 then [] else unpadded most (n / 10) ++ digit (
 -- a count in decimal: six digits, zeros in front, and more digits only where it needs more.
 -- Twenty digits are enough for every count of 64 bits.
 unfoldable pub decimal : ℕ → List ℕ
-decimal n = unpadded 14 (n / 10 ^ 6) ++ digits 10 6 n
+decimal n = unpadded 14 (n / 10 ^ 6) ++ digits 10 6 (n % 10 ^ 6)
 
 -- the number that digits spell in a base, the most significant first
 abbrev pub value_of : ℕ → List ℕ → ℕ
