@@ -13,7 +13,7 @@ use Rattle.std.proofs.lemmas.List.Sums.{fold-append}
 use Rattle.std.proofs.lemmas.Nat.{div-add-mod'}
 use Rattle.std.proofs.lemmas.Grind.{common_steps}
 use Rattle.pp_sim.specs.OctalNumber.{is_octal_digit, number, octal_value}
-use Rattle.pp_sim.specs.PrintedText.{IsDigit, IsNumeral, decimal, digit, digits, octal, unpadded, value_of}
+use Rattle.pp_sim.specs.Numeral.{IsDigit, IsNumeral, decimal, digit, digits, octal, unpadded, value_of}
 
 -- one digit more at the end
 value-end : (base : ℕ) (characters : List ℕ) (d : ℕ) → value_of base (characters ++ digit d) ≡ value_of base characters * base + d
@@ -101,17 +101,17 @@ value-append base (suc width) n characters =
 
 pub decimal_length : (n : ℕ) → 6 ≤ length (decimal n)
 unfolding decimal
-decimal_length n = omega (arith, length-append (unpadded 14 (n / 10 ^ 6)) (digits 10 6 n), digits-length 10 6 n)
+decimal_length n = omega (arith, length-append (unpadded 14 (n / 10 ^ 6)) (digits 10 6 (n % 10 ^ 6)), digits-length 10 6 (n % 10 ^ 6))
 
 pub short_decimal : (n : ℕ) → n < 10 ^ 6 → length (decimal n) ≡ 6
 unfolding decimal
-short_decimal n h = let none : n / 10 ^ 6 ≡ 0 = omega arith in rw none (digits-length 10 6 n)
+short_decimal n h = let none : n / 10 ^ 6 ≡ 0 = omega arith in rw none (digits-length 10 6 (n % 10 ^ 6))
 
 pub decimal_numeral : (n : ℕ) → n < 2 ^ 64 → IsNumeral 10 (decimal n) n
 unfolding decimal
 decimal_numeral n h = record {
-  digits = All-append (IsDigit 10) (unpadded 14 (n / 10 ^ 6)) (digits 10 6 n) (unpadded_below 14 (n / 10 ^ 6)) (digits_below 10 6 n (lit< tt));
+  digits = All-append (IsDigit 10) (unpadded 14 (n / 10 ^ 6)) (digits 10 6 (n % 10 ^ 6)) (unpadded_below 14 (n / 10 ^ 6)) (digits_below 10 6 (n % 10 ^ 6) (lit< tt));
   value =
-      value-append 10 6 n (unpadded 14 (n / 10 ^ 6))
-      ∙ rw (unpadded-value 14 (n / 10 ^ 6) (omega arith), digits-value 10 6 n (lit< tt)) (div-add-mod' n (10 ^ 6));
+      value-append 10 6 (n % 10 ^ 6) (unpadded 14 (n / 10 ^ 6))
+      ∙ rw (unpadded-value 14 (n / 10 ^ 6) (omega arith), digits-value 10 6 (n % 10 ^ 6) (lit< tt)) (omega arith);
 }

@@ -2,7 +2,8 @@
 use Rattle.std.proofs.Common.{◌≡◌, ◌≢◌, ℕ, ◌+◌, ◌-◌, ◌/◌, ◌%◌, ◌^◌, ◌<◌, zero, suc, List, [], ◌∷◌, ◌++◌, refl, sym, ap, ◌∙◌, add-one, append_assoc, arith, codes}
 use Rattle.std.proofs.lemmas.List.{append-nil}
 use Rattle.pp_machine.specs.declared.trace.Trace.{Trace}
-use Rattle.pp_sim.specs.PrintedText.{decimal, digit, digits, each_below, event_line, event_text, line_end, octal, unpadded}
+use Rattle.pp_sim.specs.Numeral.{decimal, digit, digits, octal, unpadded}
+use Rattle.pp_sim.specs.PrintedText.{each_below, event_line, event_text, line_end}
 
 -- a text so far, before anything is said
 pub text_before : (text : List ℕ) (said : ℕ → List ℕ) → text ≡ text ++ each_below 0 said
@@ -21,7 +22,7 @@ unpadded_more (suc most) n h k = grind arith
 
 -- the line of an event: what stands before the last six digits of its turn, those digits and the numbers, the event
 pub event_line_in_pieces : (text upper heading tail : List ℕ) (e : Trace) → upper ≡ unpadded 14 (e.turn / 10 ^ 6)
-    → heading ≡ digits 10 6 e.turn ++ codes " PP" ++ octal 2 e.pp ++ codes " CH" ++ octal 2 e.channel ++ codes " "
+    → heading ≡ digits 10 6 (e.turn % 10 ^ 6) ++ codes " PP" ++ octal 2 e.pp ++ codes " CH" ++ octal 2 e.channel ++ codes " "
     → tail ≡ event_text e.event ++ line_end
     → ((text ++ upper) ++ heading) ++ tail ≡ text ++ event_line e
 unfolding event_line decimal

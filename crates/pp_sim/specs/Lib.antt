@@ -3,6 +3,7 @@ pub mod DeckText
 pub mod OctalNumber
 pub mod DeckLine
 pub mod DeckMeaning
+pub mod Numeral
 pub mod PrintedText
 pub mod TextAnswer
 pub mod CommandLine

@@ -1,7 +1,7 @@
 //! Numbers in octal and decimal digits.
 
-ghost use Rattle.std.specs.Prelude.{◌≡◌, ◌/◌, ◌^◌, ◌++◌, OnOk};
-ghost use Rattle.pp_sim.specs.PrintedText.{digits, octal, unpadded};
+ghost use Rattle.std.specs.Prelude.{◌≡◌, ◌<◌, ◌/◌, ◌%◌, ◌^◌, ◌++◌, IfOk, OnOk};
+ghost use Rattle.pp_sim.specs.Numeral.{digits, octal, unpadded};
 
 use std::alloc::{AllocError, Allocator};
 
@@ -44,11 +44,11 @@ pub(crate) fn octal6(n: u32) -> [u8; 6]
     ]
 }
 
-/// The last six decimal digits of a count.
-pub(crate) fn decimal6(n: u64) -> [u8; 6]
+/// Six decimal digits.
+pub(crate) fn decimal6(n: u32) -> [u8; 6]
+    requires { n < 10 ^ 6 }
     ensures { result ≡ digits 10 6 n }
 {
-    let n = (n % SEVEN_DIGITS) as u32;
     let tens = n / 10;
     let hundreds = n / 100;
     let thousands = n / 1000;
@@ -64,18 +64,21 @@ pub(crate) fn decimal6(n: u64) -> [u8; 6]
     ]
 }
 
-/// Adds those decimal digits of a count that stand before its last six.
+/// Adds those decimal digits of a count that stand before its last six, and gives what is left for
+/// these.
 #[inline]
 pub(crate) fn push_upper_digits<A: Allocator>(
     text: &mut Vec<u8, A>,
     n: u64,
-) -> Result<(), AllocError>
-    ensures { OnOk result (text.new.items ≡ text.old.items ++ unpadded 14 (n / 10 ^ 6)) }
+) -> Result<u32, AllocError>
+    ensures text { OnOk result (text.new.items ≡ text.old.items ++ unpadded 14 (n / 10 ^ 6)) }
+    ensures rest { IfOk result (λ rest. rest ≡ n % 10 ^ 6) }
 {
     if n < SEVEN_DIGITS {
-        return Ok(());
+        return Ok(n as u32);
     }
-    push_unpadded(text, n / SEVEN_DIGITS, 14)
+    push_unpadded(text, n / SEVEN_DIGITS, 14)?;
+    Ok((n % SEVEN_DIGITS) as u32)
 }
 
 /// Adds a number in decimal digits, without zeros in front, but at most so many digits.

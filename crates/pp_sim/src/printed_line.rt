@@ -1,7 +1,8 @@
 //! The lines of a printed text.
 
-ghost use Rattle.std.specs.Prelude.{◌≡◌, ◌++◌, codes, OnOk};
-ghost use Rattle.pp_sim.specs.PrintedText.{channel_line, digits, event_line, event_text, line_end, octal, processor_line};
+ghost use Rattle.std.specs.Prelude.{◌≡◌, ◌<◌, ◌^◌, ◌++◌, codes, OnOk};
+ghost use Rattle.pp_sim.specs.Numeral.{digits, octal};
+ghost use Rattle.pp_sim.specs.PrintedText.{channel_line, event_line, event_text, line_end, processor_line};
 
 use crate::digits::{decimal6, octal1, octal2, octal4, octal6, push_upper_digits};
 use pp_channel::{Channel, ChannelNo, Event};
@@ -17,8 +18,8 @@ pub(crate) fn push_event<A: Allocator>(
 ) -> Result<(), AllocError>
     ensures { OnOk result (text.new.items ≡ text.old.items ++ event_line entry.now) }
 {
-    push_upper_digits(text, entry.turn)?;
-    text.extend_from_slice(&event_heading(entry))?;
+    let turn = push_upper_digits(text, entry.turn)?;
+    text.extend_from_slice(&event_heading(turn, entry.pp, entry.channel))?;
     push_event_end(text, entry.event)?;
     Ok(())
 }
@@ -37,12 +38,13 @@ fn push_event_end<A: Allocator>(text: &mut Vec<u8, A>, event: Event) -> Result<(
 }
 
 /// `000020 PP00 CH05 `
-fn event_heading(entry: &Trace) -> [u8; 17]
-    ensures { result ≡ digits 10 6 entry.now.turn ++ codes " PP" ++ octal 2 entry.now.pp ++ codes " CH" ++ octal 2 entry.now.channel ++ codes " " }
+fn event_heading(turn: u32, n: PpNo, c: ChannelNo) -> [u8; 17]
+    requires { turn < 10 ^ 6 }
+    ensures { result ≡ digits 10 6 turn ++ codes " PP" ++ octal 2 n ++ codes " CH" ++ octal 2 c ++ codes " " }
 {
-    let [t0, t1, t2, t3, t4, t5] = decimal6(entry.turn);
-    let [p0, p1] = octal2(entry.pp.get());
-    let [c0, c1] = octal2(entry.channel.get());
+    let [t0, t1, t2, t3, t4, t5] = decimal6(turn);
+    let [p0, p1] = octal2(n.get());
+    let [c0, c1] = octal2(c.get());
     [
         t0, t1, t2, t3, t4, t5, b' ', b'P', b'P', p0, p1, b' ', b'C', b'H', c0, c1, b' ',
     ]

@@ -19,11 +19,11 @@ pub fn barrel_text<A: Allocator + Copy, R: Read, W: Write>(
     writer: &mut W,
     turns: u32,
 ) -> Result<(), TextFault>
-    // For every reader.
-    ensures answer { (bytes : List ℕ) × AnswersTo turns result (R.remaining reader.old) (R.remaining reader.new)
+    // For every reader, whatever it tells.
+    ensures every_reader { (bytes : List ℕ) × AnswersTo turns result (R.remaining reader.old) (R.remaining reader.new)
         (W.contents writer.old) (W.contents writer.new) bytes }
     // For a reader that tells the bytes that it has.
-    ensures told { IfSome (R.remaining reader.old) (λ bytes. IsAnswer result (text_of_deck turns (take most_bytes bytes))
+    ensures telling_reader { IfSome (R.remaining reader.old) (λ bytes. IsAnswer result (text_of_deck turns (take most_bytes bytes))
         (W.contents writer.old) (W.contents writer.new)) }
     // Every fault but Write comes before the first byte is written.
     ensures unwritten { IfErr result (λ fault. fault ≢ TextFault.Write → Keeps (W.contents writer.old) (W.contents writer.new)) }

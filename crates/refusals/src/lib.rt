@@ -6,3 +6,5 @@
 mod channel;
 #[cfg(test)]
 mod machine;
+#[cfg(test)]
+mod texts;

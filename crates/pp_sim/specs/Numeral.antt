@@ -1,0 +1,38 @@
+-- Printed numbers: octal fields of a fixed width, and counts in decimal. A text is a list of ASCII codes.
+use Rattle.std.specs.Prelude.{◌≡◌, ℕ, zero, suc, ◌+◌, ◌-◌, ◌*◌, ◌<◌, ◌≤◌, fold, All, ◌/◌, ◌%◌, ◌^◌, List, [], ◌∷◌, ◌++◌, ◌==◌, if◌then◌else◌}
+
+-- the character of a digit, 0 to 9
+abbrev pub digit : ℕ → List ℕ
+digit n = (48 + n) ∷ []
+
+-- the last digits of a number, as many as asked for, the least significant at the end
+abbrev pub digits : ℕ → ℕ → ℕ → List ℕ
+digits base zero n = []
+digits base (suc width) n = digits base width (n / base) ++ digit (n % base)
+
+-- a number in just so many octal digits
+abbrev pub octal : ℕ → ℕ → List ℕ
+octal width n = digits 8 width n
+
+-- a number in decimal digits, without zeros in front, but at most so many digits
+abbrev pub unpadded : ℕ → ℕ → List ℕ
+unpadded zero n = []
+unpadded (suc most) n = if n == 0 then [] else unpadded most (n / 10) ++ digit (n % 10)
+
+-- a count in decimal: six digits, zeros in front, and more digits only where it needs more.
+-- Twenty digits are enough for every count of 64 bits.
+unfoldable pub decimal : ℕ → List ℕ
+decimal n = unpadded 14 (n / 10 ^ 6) ++ digits 10 6 (n % 10 ^ 6)
+
+-- the number that digits spell in a base, the most significant first
+abbrev pub value_of : ℕ → List ℕ → ℕ
+value_of base characters = fold (λ value character. value * base + (character - 48)) 0 characters
+
+-- the character is a digit of the base
+abbrev pub IsDigit : ℕ → ℕ → Type 0
+IsDigit base character = (48 ≤ character) × (character < 48 + base)
+
+-- the characters are digits of the base, and spell this number
+pub record IsNumeral (base : ℕ) (characters : List ℕ) (n : ℕ) : Type 0 where
+  pub digits : All (IsDigit base) characters
+  pub value : value_of base characters ≡ n
