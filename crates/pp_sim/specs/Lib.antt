@@ -1,0 +1,5 @@
+pub mod FlawCode
+pub mod DeckText
+pub mod OctalNumber
+pub mod DeckLine
+pub mod DeckMeaning

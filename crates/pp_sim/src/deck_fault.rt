@@ -1,0 +1,35 @@
+//! Why a deck is refused.
+
+use thiserror::Error;
+
+/// What is wrong with a deck.
+#[derive(Clone, Copy, Debug, PartialEq, Eq)]
+pub enum DeckCode {
+    /// The text has more than 1,048,576 bytes (decimal).
+    TooLong = 1,
+    /// A byte from 200 (octal) on.
+    NotAscii = 2,
+    /// A line of no known kind, in a place that is not its own, or with a field too few or too many.
+    UnknownLine = 3,
+    /// A field that is not a number of so many octal digits.
+    BadDigits = 4,
+    /// No processor has this number.
+    BadProcessor = 5,
+    /// Words or a start before the first processor.
+    NoProcessor = 6,
+    /// A word past place 7777 (octal).
+    PastEnd = 7,
+    /// A central size out of range, or a central word at or past the size.
+    CentralRange = 8,
+    /// A growth was refused.
+    Memory = 9,
+}
+
+/// Why a deck is refused, and the number of the faulty line, from 1 on. The line is 0 for `TooLong`
+/// and `Memory`.
+#[derive(Clone, Copy, Debug, PartialEq, Eq, Error)]
+#[error("deck fault {} at line {}", *code as u8, *line)]
+pub struct DeckFault {
+    pub line: u32,
+    pub code: DeckCode,
+}
