@@ -1,6 +1,6 @@
 -- The lines of a deck's text, and the fields of a line. Bytes are ASCII codes in decimal: a tab is 9, LF is 10,
 -- CR is 13, a space is 32, `*` is 42.
-use Rattle.std.specs.Prelude.{ℕ, ◌-◌, ◌==◌, Bool, not, ◌||◌, List, length, map, take, filter, slice_index, if◌then◌else◌}
+use Rattle.std.specs.Prelude.{ℕ, ◌-◌, ◌==◌, Bool, true, false, not, ◌||◌, List, [], ◌∷◌, length, map, take, filter, slice_index, if◌then◌else◌}
 use Rattle.std.specs.List.{slice_split, take_while}
 
 abbrev pub is_line_feed : ℕ → Bool
@@ -19,11 +19,16 @@ abbrev pub is_comment : List ℕ → Bool
 is_comment field = slice_index field 0 == 42
 
 abbrev pub is_nonempty : List ℕ → Bool
-is_nonempty piece = not (length piece == 0)
+is_nonempty [] = false
+is_nonempty (character ∷ piece) = true
 
--- the fields of a line: what stands between blanks, up to a comment
-unfoldable pub fields_of : List ℕ → List (List ℕ)
-fields_of line = take_while (λ field. not (is_comment field)) (filter is_nonempty (slice_split is_blank (without_return line)))
+-- the fields in some text: what stands between blanks, up to a comment
+unfoldable pub fields_in : List ℕ → List (List ℕ)
+fields_in text = take_while (λ field. not (is_comment field)) (filter is_nonempty (slice_split is_blank text))
+
+-- the fields of a line
+abbrev pub fields_of : List ℕ → List (List ℕ)
+fields_of line = fields_in (without_return line)
 
 -- the lines of a text, each as its fields. What stands behind the last LF is a line too
 unfoldable pub lines_of : List ℕ → List (List (List ℕ))

@@ -3,8 +3,10 @@
 
 mod deck;
 mod deck_fault;
+mod fields;
 mod flaw;
 mod keyword;
+mod octal_number;
 
 pub use deck::Deck;
 pub use deck_fault::{DeckCode, DeckFault};

@@ -1,0 +1,2 @@
+pub mod DigitLemmas
+pub mod FieldLemmas
