@@ -1,2 +1,3 @@
 pub mod DigitLemmas
 pub mod FieldLemmas
+pub mod WordsLemmas

@@ -35,27 +35,29 @@ abbrev pub begins_section : List (List ℕ) → Bool
 begins_section [] = false
 begins_section (field ∷ fields) = is_processor_keyword (keyword_of field)
 
--- why a line with this keyword may not stand behind these lines: `CENTRAL` comes before every line with fields, and
--- a start and words behind a `PP` line
-abbrev pub misplaced : List (List (List ℕ)) → Keyword → Option Flaw
-misplaced before keywords.Central = if list_any has_fields before then Some UnknownLine else None
-misplaced before keywords.Start = if list_any begins_section before then None else Some NoProcessor
-misplaced before keywords.Words = if list_any begins_section before then None else Some NoProcessor
-misplaced before keyword = None
+-- why a line with this keyword may not stand behind others, of which some have fields or one begins with `PP`:
+-- `CENTRAL` comes before every line with fields, and starts and words belong to the section of a processor
+abbrev pub misplaced : Bool → Bool → Keyword → Option Flaw
+misplaced is_behind_fields is_in_section keywords.Central = if is_behind_fields then Some UnknownLine else None
+misplaced is_behind_fields is_in_section keywords.Start = if is_in_section then None else Some NoProcessor
+misplaced is_behind_fields is_in_section keywords.Words = if is_in_section then None else Some NoProcessor
+misplaced is_behind_fields is_in_section keyword = None
 
 -- a misplaced line has that flaw before all others
 abbrev pub unless_misplaced : Option Flaw → Result Line Flaw → Result Line Flaw
 unless_misplaced (Some flaw) line = Err flaw
 unless_misplaced None line = line
 
--- what a line says behind these lines, in a central memory of this size
-abbrev pub line_behind : ℕ → List (List (List ℕ)) → List (List ℕ) → Result Line Flaw
-line_behind size before [] = Ok nothing
-line_behind size before (field ∷ fields) = unless_misplaced (misplaced before (keyword_of field)) (line_by size (keyword_of field) field fields)
+-- what a line says behind such lines, in a central memory of this size
+unfoldable pub line_behind : ℕ → Bool → Bool → List (List ℕ) → Result Line Flaw
+line_behind size is_behind_fields is_in_section [] = Ok nothing
+line_behind size is_behind_fields is_in_section (field ∷ fields) =
+    unless_misplaced (misplaced is_behind_fields is_in_section (keyword_of field)) (line_by size (keyword_of field) field fields)
 
 -- what line k says
 unfoldable pub line_at : ℕ → List (List (List ℕ)) → ℕ → Result Line Flaw
-line_at size lines k = line_behind size (take k lines) (slice_index_or lines k [])
+line_at size lines k =
+    line_behind size (list_any has_fields (take k lines)) (list_any begins_section (take k lines)) (slice_index_or lines k [])
 
 -- ---- the size of central memory: n of a line `CENTRAL n` that is the first with fields, else 10000 (octal)
 
@@ -84,18 +86,18 @@ abbrev pub processor_in : Line → Option ℕ
 processor_in (section n) = Some n
 processor_in line = None
 
--- the processor for which line k is: that of the last `PP` line before it
-unfoldable pub section_of : List Line → ℕ → Option ℕ
-section_of lines k = last_of (filter_map processor_in (take k lines))
+-- the processor of the last `PP` line among some
+unfoldable pub section_of : List Line → Option ℕ
+section_of lines = last_of (filter_map processor_in lines)
 
 abbrev pub is_for : ℕ → Option ℕ → Bool
 is_for n (Some m) = n == m
 is_for n None = false
 
--- the lines that are for processor n
+-- the lines that are for processor n: those of which the last `PP` line before is `PP n`
 unfoldable pub lines_for : ℕ → List Line → List Line
 lines_for n lines =
-    filter_map (λ k. if is_for n (section_of lines k) then Some (slice_index_or lines k nothing) else None) (range_with_len 0 (length lines))
+    filter_map (λ k. if is_for n (section_of (take k lines)) then Some (slice_index_or lines k nothing) else None) (range_with_len 0 (length lines))
 
 -- the word that a line sets at a place
 abbrev pub word_for : ℕ → Line → Option ℕ

@@ -3,3 +3,4 @@ pub mod DeckText
 pub mod OctalNumber
 pub mod DeckLine
 pub mod DeckMeaning
+pub mod DeckProgress

@@ -3,6 +3,7 @@
 
 mod deck;
 mod deck_fault;
+mod deck_line;
 mod fields;
 mod flaw;
 mod keyword;
