@@ -35,16 +35,30 @@ with_processor (Some n) change m = record m { processors = slice_set m.processor
 abbrev pub with_central_words : ℕ → List ℕ → MachineState → MachineState
 with_central_words a ws m = record m { central = with_words a ws m.central }
 
-abbrev pub in_section : ℕ → Progress → Progress
-in_section n progress = record progress { named = slice_set progress.named (processor_index n) true; current = Some n }
+-- what a line changes in the machine, where this processor is the current one
+abbrev pub machine_after : Option ℕ → Line → MachineState → MachineState
+machine_after current (central_words a ws) m = with_central_words a ws m
+machine_after current (start p a) m = with_processor current (started p a) m
+machine_after current (words x ws) m = with_processor current (loaded_from x ws) m
+machine_after current line m = m
 
--- what a line changes
+-- in the processors named
+abbrev pub named_after : Line → List Bool → List Bool
+named_after (section n) named = slice_set named (processor_index n) true
+named_after line named = named
+
+-- and in the current processor
+abbrev pub current_after : Line → Option ℕ → Option ℕ
+current_after (section n) current = Some n
+current_after line current = current
+
+-- what one line more leaves
 unfoldable pub after_line : Progress → Line → Progress
-after_line progress (central_words a ws) = record progress { machine = with_central_words a ws progress.machine }
-after_line progress (section n) = in_section n progress
-after_line progress (start p a) = record progress { machine = with_processor progress.current (started p a) progress.machine }
-after_line progress (words x ws) = record progress { machine = with_processor progress.current (loaded_from x ws) progress.machine }
-after_line progress line = progress
+after_line progress line = record {
+  machine = machine_after progress.current line progress.machine;
+  named = named_after line progress.named;
+  current = current_after line progress.current;
+}
 
 -- something that was read, put to use; a flaw stays
 abbrev pub on_read : {A B : Type 0} → (A → B) → Result A Flaw → Result B Flaw
