@@ -1,8 +1,8 @@
 -- A deck as far as its lines have been read, and what one line more changes: the meaning once more, line by line.
-use Rattle.std.specs.Prelude.{◌≡◌, ℕ, ◌+◌, Bool, true, List, [], ◌∷◌, Option, None, Some, Result, Ok, Err, slice_set, fold}
-use Rattle.pp_machine.specs.MachineState.{MachineState, processor_of}
+use Rattle.std.specs.Prelude.{◌≡◌, ℕ, ◌+◌, Bool, true, false, List, [], ◌∷◌, Option, None, Some, Result, Ok, Err, slice_set, replicate, fold}
+use Rattle.pp_machine.specs.MachineState.{MachineState, processor_of, new_machine}
 use Rattle.pp_machine.specs.Processor.{Processor}
-use Rattle.pp_machine.specs.ProcessorNumber.{processor_index}
+use Rattle.pp_machine.specs.ProcessorNumber.{processor_count, processor_index}
 use Rattle.pp_machine.specs.declared.pp_state.PpState.TheVariants.{Running}
 use Rattle.pp_sim.specs.DeckLine.{Line, nothing, central_size, central_words, section, start, words}
 use Rattle.pp_sim.specs.declared.flaw.Flaw.{Flaw}
@@ -12,6 +12,10 @@ pub record Progress : Type 0 where
   pub machine : MachineState
   pub named : List Bool
   pub current : Option ℕ
+
+-- before the first line, with central memory of this size
+unfoldable pub before_lines : ℕ → Progress
+before_lines size = record { machine = new_machine size; named = replicate processor_count false; current = None }
 
 -- a memory in which words come to a place and those behind it
 abbrev pub with_words : ℕ → List ℕ → List ℕ → List ℕ

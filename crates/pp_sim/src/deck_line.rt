@@ -1,13 +1,13 @@
 //! What the fields of a line set.
 
-ghost use Rattle.std.specs.Prelude.{◌≡◌, ◌≢◌, ◌≤◌, ◌^◌, [], length, IfErr, OnOk};
+ghost use Rattle.std.specs.Prelude.{ℕ, ◌≡◌, ◌≢◌, ◌≤◌, ◌^◌, [], length, IfErr, OnOk};
 ghost use Rattle.pp_word.specs.Address.{place_count};
-ghost use Rattle.pp_sim.specs.DeckLine.{words_in, central_size, central_line};
+ghost use Rattle.pp_sim.specs.DeckLine.{words_in, start, start_from, central_size, central_line};
 ghost use Rattle.pp_sim.specs.DeckProgress.{loaded_from, with_central_words, on_read, Leaves};
 
 use crate::fields::Fields;
 use crate::flaw::Flaw;
-use crate::octal_number::{number, word12, word60};
+use crate::octal_number::{number, word12, word18, word60};
 use pp_machine::{Machine, Pp};
 use pp_word::{Word12, Word18};
 use std::alloc::Allocator;
@@ -63,6 +63,18 @@ pub(crate) fn end_line(fields: &mut Fields) -> Result<(), Flaw>
         Some(_) => Err(Flaw::UnknownLine),
         None => Ok(()),
     }
+}
+
+/// The A of a `START` line, behind its P; 0 where it gives none.
+pub(crate) fn start_a(fields: &mut Fields) -> Result<Word18, Flaw>
+    ensures { (p : ℕ) → start_from p fields.old ≡ on_read (start p) result }
+{
+    let Some(field) = fields.next_field() else {
+        return Ok(Word18::ZERO);
+    };
+    let a = word18(field)?;
+    end_line(fields)?;
+    Ok(a)
 }
 
 /// The size of central memory that a `CENTRAL` line sets, behind its keyword.

@@ -8,6 +8,7 @@ mod fields;
 mod flaw;
 mod keyword;
 mod octal_number;
+mod reading;
 
 pub use deck::Deck;
 pub use deck_fault::{DeckCode, DeckFault};
