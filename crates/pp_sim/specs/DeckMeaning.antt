@@ -99,14 +99,18 @@ unfoldable pub lines_for : ℕ → List Line → List Line
 lines_for n lines =
     filter_map (λ k. if is_for n (section_of (take k lines)) then Some (slice_index_or lines k nothing) else None) (range_with_len 0 (length lines))
 
+-- the word that stands at a place where words stand from a first place on
+abbrev pub word_among : ℕ → List ℕ → ℕ → Option ℕ
+word_among first ws place = if nat_le first place then slice_get ws (place - first) else None
+
 -- the word that a line sets at a place
 abbrev pub word_for : ℕ → Line → Option ℕ
-word_for place (words x ws) = if nat_le x place then slice_get ws (place - x) else None
+word_for place (words x ws) = word_among x ws place
 word_for place line = None
 
 -- the central word that a line sets at an address
 abbrev pub central_word_for : ℕ → Line → Option ℕ
-central_word_for address (central_words a ws) = if nat_le a address then slice_get ws (address - a) else None
+central_word_for address (central_words a ws) = word_among a ws address
 central_word_for address line = None
 
 -- the P and A at which a line starts its processor
@@ -120,9 +124,13 @@ names n line = false
 
 -- ---- the loaded machine
 
+-- f 0, f 1, .., f (n - 1)
+unfoldable pub tabulate : {A : Type 0} → ℕ → (ℕ → A) → List A
+tabulate n f = map f (range_with_len 0 n)
+
 -- the memory that lines leave: each place holds the last word that they set there, else 0
 unfoldable pub memory_of : List Line → List ℕ
-memory_of lines = map (λ place. unwrap_or (last_of (filter_map (word_for place) lines)) 0) (range_with_len 0 place_count)
+memory_of lines = tabulate place_count (λ place. unwrap_or (last_of (filter_map (word_for place) lines)) 0)
 
 -- a processor with this memory: stopped, or running from its start
 abbrev pub processor_with : List ℕ → Option (ℕ × ℕ) → Processor
@@ -135,15 +143,15 @@ processor_loaded lines n = processor_with (memory_of (lines_for n lines)) (last_
 
 -- central memory of this size: each address holds the last word that a line sets there, else 0
 unfoldable pub central_loaded : ℕ → List Line → List ℕ
-central_loaded size lines = map (λ address. unwrap_or (last_of (filter_map (central_word_for address) lines)) 0) (range_with_len 0 size)
+central_loaded size lines = tabulate size (λ address. unwrap_or (last_of (filter_map (central_word_for address) lines)) 0)
 
 -- whether some line names processor n
 abbrev pub is_named : List Line → ℕ → Bool
 is_named lines n = list_any (names n) lines
 
 -- something for each processor, in the order of the barrel
-unfoldable pub each_processor : {A : Type 0} → (ℕ → A) → List A
-each_processor of = map (λ place. of (processor_number place)) (range_with_len 0 processor_count)
+abbrev pub each_processor : {A : Type 0} → (ℕ → A) → List A
+each_processor of = tabulate processor_count (λ place. of (processor_number place))
 
 -- what lines load, in a central memory of this size
 abbrev pub loaded : ℕ → List Line → LoadedDeck

@@ -5,6 +5,7 @@ use Rattle.pp_machine.specs.Processor.{Processor}
 use Rattle.pp_machine.specs.ProcessorNumber.{processor_count, processor_index}
 use Rattle.pp_machine.specs.declared.pp_state.PpState.TheVariants.{Running}
 use Rattle.pp_sim.specs.DeckLine.{Line, nothing, central_size, central_words, section, start, words}
+use Rattle.pp_sim.specs.DeckMeaning.{loaded, section_of}
 use Rattle.pp_sim.specs.declared.flaw.Flaw.{Flaw}
 
 -- the machine so far, the processors named so far, and the one whose section it is
@@ -62,6 +63,18 @@ after_line progress line = record {
   machine = machine_after progress.current line progress.machine;
   named = named_after line progress.named;
   current = current_after line progress.current;
+}
+
+-- what lines leave that are read one after another, with central memory of this size
+unfoldable pub after_lines : ℕ → List Line → Progress
+after_lines size lines = fold after_line (before_lines size) lines
+
+-- what lines load and name, and the section that they end in, told without an order of reading
+unfoldable pub progress_of : ℕ → List Line → Progress
+progress_of size lines = record {
+  machine = (loaded size lines).machine;
+  named = (loaded size lines).named;
+  current = section_of lines;
 }
 
 -- something that was read, put to use; a flaw stays
