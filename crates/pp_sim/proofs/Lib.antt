@@ -1,5 +1,6 @@
 pub mod DigitLemmas
 pub mod FieldLemmas
+pub mod KeywordLemmas
 pub mod ListLemmas
 pub mod MemoryLemmas
 pub mod ProgressLemmas
