@@ -21,11 +21,11 @@ or_length p xs false e =
 pub unwrap_or_position : (p : ℕ → Bool) (xs : List ℕ) → unwrap_or (position p xs) (length xs) ≡ position_or_len p xs
 unwrap_or_position p xs = or_length p xs (nat_lt (position_or_len p xs) (length xs)) refl
 
-at_position : (p : ℕ → Bool) (xs : List ℕ) (b : Bool) (i : ℕ) → cond b (Some (position_or_len p xs)) None ≡ Some i → i ≡ position_or_len p xs
+pub at_position : (p : ℕ → Bool) (xs : List ℕ) (b : Bool) (i : ℕ) → cond b (Some (position_or_len p xs)) None ≡ Some i → i ≡ position_or_len p xs
 at_position p xs true i e = cc
 at_position p xs false i e = absurd (cc)
 
-no_position : (p : ℕ → Bool) (xs : List ℕ) (b : Bool) → nat_lt (position_or_len p xs) (length xs) ≡ b → cond b (Some (position_or_len p xs)) None ≡ None → length xs ≤ position_or_len p xs
+pub no_position : (p : ℕ → Bool) (xs : List ℕ) (b : Bool) → nat_lt (position_or_len p xs) (length xs) ≡ b → cond b (Some (position_or_len p xs)) None ≡ None → length xs ≤ position_or_len p xs
 no_position p xs true e n = absurd (cc)
 no_position p xs false e n = ltb-false (position_or_len p xs) (length xs) e
 

@@ -96,6 +96,19 @@ read_blank lines k progress b h lt e =
     let same : (b || has_fields (get_or lines k [])) ≡ b = ap (λ (fields : List (List ℕ)). b || has_fields fields) e ∙ or_false b in
     record { faultless = next.faultless; progress_is = next.progress_is; behind = sym same ∙ next.behind; in_section = next.in_section }
 
+-- central memory keeps its size
+pub central_length : (lines : List (List (List ℕ))) (k : ℕ) (progress : Progress) (b : Bool) → ReadTo lines k progress b → length progress.machine.central ≡ size_of lines
+unfolding progress_of
+central_length lines k progress b h =
+    let said = filter_map (said_at lines) (range_with_len 0 k) in
+    ap (λ (p : Progress). length p.machine.central) (h.progress_is ∙ after_lines_is (size_of lines) said) ∙ length-central_loaded (size_of lines) said
+
+-- what a line says, with the size that central memory has
+line_here : (lines : List (List (List ℕ))) (k : ℕ) (progress : Progress) (b : Bool) (line fields : List (List ℕ)) → ReadTo lines k progress b → line ≡ fields → line_behind (size_of lines) b (is_some progress.current) line ≡ line_behind (length progress.machine.central) b (is_some progress.current) fields
+line_here lines k progress b line fields h e =
+    ap (line_behind (size_of lines) b (is_some progress.current)) e
+    ∙ ap (λ (size : ℕ). line_behind size b (is_some progress.current) fields) (sym (central_length lines k progress b h))
+
 read_as : (lines : List (List (List ℕ))) (k : ℕ) (progress new : Progress) (b : Bool) (r : Result Line Flaw) → ReadTo lines k progress b → k < length lines → has_fields (get_or lines k []) ≡ true → line_behind (size_of lines) b (is_some progress.current) (get_or lines k []) ≡ r → on_read (after_line progress) r ≡ Ok new → ReadTo lines (k + 1) new true
 read_as lines k progress new b (Ok line) h lt some is e =
     let next = read_more lines k progress b line h lt is in
@@ -110,20 +123,20 @@ read_as lines k progress new b (Ok line) h lt some is e =
 read_as lines k progress new b (Err flaw) h lt some is e = absurd (cc)
 
 -- a line with fields
-pub read_fields : (lines : List (List (List ℕ))) (k : ℕ) (progress new : Progress) (b : Bool) (first : List ℕ) (fields : List (List ℕ)) → ReadTo lines k progress b → k < length lines → get_or lines k [] ≡ first ∷ fields → on_read (after_line progress) (line_behind (size_of lines) b (is_some progress.current) (first ∷ fields)) ≡ Ok new → ReadTo lines (k + 1) new true
+pub read_fields : (lines : List (List (List ℕ))) (k : ℕ) (progress new : Progress) (b : Bool) (first : List ℕ) (fields : List (List ℕ)) → ReadTo lines k progress b → k < length lines → get_or lines k [] ≡ first ∷ fields → on_read (after_line progress) (line_behind (length progress.machine.central) b (is_some progress.current) (first ∷ fields)) ≡ Ok new → ReadTo lines (k + 1) new true
 read_fields lines k progress new b first fields h lt e read =
     read_as lines k progress new b (line_behind (size_of lines) b (is_some progress.current) (get_or lines k [])) h lt (ap has_fields e ∙ some_fields (length fields)) refl
-    (ap (λ (l : List (List ℕ)). on_read (after_line progress) (line_behind (size_of lines) b (is_some progress.current) l)) e ∙ read)
+    (ap (on_read (after_line progress)) (line_here lines k progress b (get_or lines k []) (first ∷ fields) h e) ∙ read)
 
 flaw_of : {A : Type 0} (use_of : Line → A) (r : Result Line Flaw) (flaw : Flaw) → on_read use_of r ≡ Err flaw → r ≡ Err flaw
 flaw_of use_of (Ok line) flaw e = absurd (cc)
 flaw_of use_of (Err other) flaw e = cc
 
 -- a faulty line is the first one
-pub read_flaw : (lines : List (List (List ℕ))) (k : ℕ) (progress : Progress) (b : Bool) (first : List ℕ) (fields : List (List ℕ)) (flaw : Flaw) → ReadTo lines k progress b → k < length lines → get_or lines k [] ≡ first ∷ fields → on_read (after_line progress) (line_behind (size_of lines) b (is_some progress.current) (first ∷ fields)) ≡ Err flaw → meaning_of_lines lines ≡ Err (record { line = k + 1; code = code_of flaw })
+pub read_flaw : (lines : List (List (List ℕ))) (k : ℕ) (progress : Progress) (b : Bool) (first : List ℕ) (fields : List (List ℕ)) (flaw : Flaw) → ReadTo lines k progress b → k < length lines → get_or lines k [] ≡ first ∷ fields → on_read (after_line progress) (line_behind (length progress.machine.central) b (is_some progress.current) (first ∷ fields)) ≡ Err flaw → meaning_of_lines lines ≡ Err (record { line = k + 1; code = code_of flaw })
 unfolding meaning_of_lines faults_in fault_at
 read_flaw lines k progress b first fields flaw h lt e read =
-    let there : line_at (size_of lines) lines k ≡ Err flaw = line_is lines k progress b h ∙ flaw_of (after_line progress) _ flaw (ap (λ (l : List (List ℕ)). on_read (after_line progress) (line_behind (size_of lines) b (is_some progress.current) l)) e ∙ read) in
+    let there : line_at (size_of lines) lines k ≡ Err flaw = line_is lines k progress b h ∙ flaw_of (after_line progress) _ flaw (ap (on_read (after_line progress)) (line_here lines k progress b (get_or lines k []) (first ∷ fields) h e) ∙ read) in
     let split : length lines ≡ k + (1 + (length lines - k - 1)) = omega (arith, lt) in
     ap (λ (faults : List DeckFault). unless_faulty faults (loaded (size_of lines) (lines_said lines)))
     (ap (λ (n : ℕ). filter_map (fault_at lines) (range_with_len 0 n)) split
@@ -133,13 +146,6 @@ read_flaw lines k progress b first fields flaw h lt e read =
         ∙ ap (λ (i : ℕ). filter_map (fault_at lines) (range_with_len i (1 + (length lines - k - 1)))) (from_zero k)
         ∙ ap (λ (n : ℕ). filter_map (fault_at lines) (range_with_len k n)) (one_first (length lines - k - 1))
         ∙ ap (λ (o : Option DeckFault). cons_option o (filter_map (fault_at lines) (range_with_len (k + 1) (length lines - k - 1)))) (ap (fault_in k) there))
-
--- central memory keeps its size
-pub central_length : (lines : List (List (List ℕ))) (k : ℕ) (progress : Progress) (b : Bool) → ReadTo lines k progress b → length progress.machine.central ≡ size_of lines
-unfolding progress_of
-central_length lines k progress b h =
-    let said = filter_map (said_at lines) (range_with_len 0 k) in
-    ap (λ (p : Progress). length p.machine.central) (h.progress_is ∙ after_lines_is (size_of lines) said) ∙ length-central_loaded (size_of lines) said
 
 -- all lines
 pub read_all : (lines : List (List (List ℕ))) (k : ℕ) (progress : Progress) (b : Bool) → ReadTo lines k progress b → k ≡ length lines → meaning_of_lines lines ≡ Ok (record { machine = progress.machine; named = progress.named })

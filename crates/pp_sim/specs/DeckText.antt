@@ -1,6 +1,7 @@
 -- The lines of a deck's text, and the fields of a line. Bytes are ASCII codes in decimal: a tab is 9, LF is 10,
 -- CR is 13, a space is 32, `*` is 42.
-use Rattle.std.specs.Prelude.{ℕ, ◌-◌, ◌==◌, Bool, true, false, not, ◌||◌, List, [], ◌∷◌, length, map, take, filter, slice_index, if◌then◌else◌}
+use Rattle.std.specs.Prelude.{ℕ, ◌-◌, ◌==◌, Bool, true, false, not, ◌||◌, List, [], ◌∷◌, length, map, take, filter, slice_index, if◌then◌else◌, Option, None, Some}
+use Rattle.std.specs.Borrow.{Bor}
 use Rattle.std.specs.List.{slice_split, take_while}
 
 abbrev pub is_line_feed : ℕ → Bool
@@ -33,3 +34,8 @@ fields_of line = fields_in (without_return line)
 -- the lines of a text, each as its fields. What stands behind the last LF is a line too
 unfoldable pub lines_of : List ℕ → List (List (List ℕ))
 lines_of text = map fields_of (slice_split is_line_feed text)
+
+-- the lines of what is left of a text; none where nothing is left
+abbrev pub lines_left : Option (Bor (List ℕ)) → List (List (List ℕ))
+lines_left None = []
+lines_left (Some text) = lines_of text.now

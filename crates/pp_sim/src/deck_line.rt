@@ -1,7 +1,8 @@
 //! What the fields of a line set.
 
-ghost use Rattle.std.specs.Prelude.{ℕ, ◌≡◌, ◌≢◌, ◌≤◌, ◌^◌, [], length, IfErr, OnOk};
+ghost use Rattle.std.specs.Prelude.{ℕ, ◌≡◌, ◌≢◌, ◌≤◌, ◌^◌, [], length, IfOk, IfErr, OnOk};
 ghost use Rattle.pp_word.specs.Address.{place_count};
+ghost use Rattle.pp_machine.specs.Central.{IsCentralSize};
 ghost use Rattle.pp_sim.specs.DeckLine.{words_in, start, start_from, central_size, central_line};
 ghost use Rattle.pp_sim.specs.DeckProgress.{loaded_from, with_central_words, on_read, Leaves};
 
@@ -80,7 +81,8 @@ pub(crate) fn start_a(fields: &mut Fields) -> Result<Word18, Flaw>
 /// The size of central memory that a `CENTRAL` line sets, behind its keyword.
 #[tactic(auto, unfolding(crate::specs::DeckLine::central_line))]
 pub(crate) fn central_size_in(fields: &mut Fields) -> Result<u32, Flaw>
-    ensures { central_line fields.old ≡ on_read central_size result }
+    ensures line { central_line fields.old ≡ on_read central_size result }
+    ensures range { IfOk result IsCentralSize }
 {
     let field = fields.next_field().ok_or(Flaw::UnknownLine)?;
     let size = number(field, 6)? as u32;

@@ -1,14 +1,16 @@
 //! Decks that load a machine, runs of it, and the texts of these runs.
 #![tactic(auto)]
 
+mod central_size;
 mod deck;
 mod deck_fault;
 mod deck_line;
 mod fields;
 mod flaw;
 mod keyword;
+mod lines;
 mod octal_number;
 mod reading;
 
-pub use deck::Deck;
+pub use deck::{Deck, read_deck};
 pub use deck_fault::{DeckCode, DeckFault};

@@ -5,6 +5,7 @@ ghost use Rattle.pp_sim.specs.DeckLine.{section_line, start_line, words_line, ce
 ghost use Rattle.pp_sim.specs.DeckMeaning.{line_behind, unless_misplaced};
 ghost use Rattle.pp_sim.specs.DeckProgress.{before_lines, after_line, on_read, Leaves};
 
+use crate::deck::Deck;
 use crate::deck_line::{central_size_in, end_line, set_central_words, set_words, start_a};
 use crate::fields::Fields;
 use crate::flaw::Flaw;
@@ -43,6 +44,19 @@ impl<A: Allocator> Reading<A> {
             named: [false; PROCESSORS],
             current: None,
         })
+    }
+
+    /// What was read.
+    pub(crate) fn into_deck(self) -> Deck<A>
+        ensures machine { result.machine ≡ self.machine }
+        ensures named { result.named ≡ self.named }
+    {
+        let Reading {
+            machine,
+            named,
+            current: _,
+        } = self;
+        Deck { machine, named }
     }
 
     /// Reads a line with this first field and these behind it. `is_behind_fields` says whether a line
