@@ -71,16 +71,20 @@ record TakesPiece (text : List ℕ) (n : ℕ) (more : List (List ℕ)) : Type 0 
   behind : filter is_nonempty (slice_split is_blank (drop n text)) ≡ filter is_nonempty more
 
 piece_more : (x n : ℕ) (xs : List ℕ) (b : Bool) → is_blank x ≡ b → (more : List (List ℕ)) → TakesPiece xs n more → (rest : List (List ℕ)) × TakesPiece (x ∷ xs) (cond (not b) (1 + n) 0) rest
-piece_more x n xs true e more h =
-    (slice_split is_blank xs, record {
-      pieces = slice_split-cons_yes is_blank x xs e;
-      behind = ap (filter is_nonempty) (slice_split-cons_yes is_blank x xs e);
-    })
-piece_more x n xs false e more h =
-    (more, record {
-      pieces = slice_split-cons_no is_blank x xs e ∙ ap (onto_first x) h.pieces ∙ ap (λ (i : ℕ). take i (x ∷ xs) ∷ more) (sym (one_more n));
-      behind = ap (λ (i : ℕ). filter is_nonempty (slice_split is_blank (drop i (x ∷ xs)))) (one_more n) ∙ h.behind;
-    })
+piece_more x n xs true e more h = (
+  slice_split is_blank xs,
+  record {
+    pieces = slice_split-cons_yes is_blank x xs e;
+    behind = ap (filter is_nonempty) (slice_split-cons_yes is_blank x xs e);
+  },
+)
+piece_more x n xs false e more h = (
+  more,
+  record {
+    pieces = slice_split-cons_no is_blank x xs e ∙ ap (onto_first x) h.pieces ∙ ap (λ (i : ℕ). take i (x ∷ xs) ∷ more) (sym (one_more n));
+    behind = ap (λ (i : ℕ). filter is_nonempty (slice_split is_blank (drop i (x ∷ xs)))) (one_more n) ∙ h.behind;
+  },
+)
 
 first_piece : (xs : List ℕ) → (more : List (List ℕ)) × TakesPiece xs (position_or_len is_blank xs) more
 first_piece [] = ([], record { pieces = refl; behind = refl })

@@ -69,6 +69,7 @@ start_begins fields = after_number 4 fields _ (Begins false) from_p
     with_a : (p : ℕ) (more : List (List ℕ)) (r : Result ℕ Flaw) → OnRead (r >>= λ a. ends_with (start p a) more) (Begins false)
     with_a p more (Ok a) = at_end (start p a) more (Begins false) refl
     with_a p more (Err flaw) = tt
+
     from_p : (p : ℕ) (more : List (List ℕ)) → OnRead (start_from p more) (Begins false)
     from_p p [] = refl
     from_p p (field ∷ more) = with_a p more (number 6 field)

@@ -38,9 +38,9 @@ tabulate_const {A} n f x same = const_from 0 n
 
 set_entry : {A : Type 0} (d : A) (n : ℕ) (f : ℕ → A) (k : ℕ) (x : A) (i : ℕ) → i < n → get_or (set (tabulate n f) k x) i d ≡ cond (eqb i k) x (f i)
 set_entry d n f k x i lt = elim (cases_eq i k) [
-    inl e ↦ ap (λ (j : ℕ). get_or (set (tabulate n f) j x) i d) (sym e) ∙ get_or-set_same (tabulate n f) i x d (omega (arith, lt, length-tabulate n f)) ∙ sym (cond-true (eqb i k) x (f i) (eq-eqb i k e))
-    | inr ne ↦ get_or-set_other (tabulate n f) k i x d ne ∙ get_or-tabulate n f i d lt ∙ sym (cond-false (eqb i k) x (f i) (ne_eqb i k ne))
-  ]
+  | inl e ↦ ap (λ (j : ℕ). get_or (set (tabulate n f) j x) i d) (sym e) ∙ get_or-set_same (tabulate n f) i x d (omega (arith, lt, length-tabulate n f)) ∙ sym (cond-true (eqb i k) x (f i) (eq-eqb i k e))
+  | inr ne ↦ get_or-set_other (tabulate n f) k i x d ne ∙ get_or-tabulate n f i d lt ∙ sym (cond-false (eqb i k) x (f i) (ne_eqb i k ne))
+]
 
 -- a table with one entry set
 pub set-tabulate : {A : Type 0} (d : A) (n : ℕ) (f : ℕ → A) (k : ℕ) (x : A) → set (tabulate n f) k x ≡ tabulate n (λ i. cond (eqb i k) x (f i))
@@ -53,8 +53,10 @@ range_more a n = ap (range_with_len a) (one n) ∙ from a n
   where
     one : (n : ℕ) → n + 1 ≡ suc n
     one n = omega arith
+
     next : (a n : ℕ) → (a + 1) + n ≡ a + suc n
     next a n = omega arith
+
     from : (a n : ℕ) → range_with_len a (suc n) ≡ range_with_len a n ++ (a + n) ∷ []
     from a zero = ap (λ (k : ℕ). k ∷ []) (sym (add-zero a))
     from a (suc n) = ap (λ (ks : List ℕ). a ∷ ks) (from (a + 1) n ∙ ap (λ (k : ℕ). range_with_len (a + 1) n ++ k ∷ []) (next a n))
@@ -69,6 +71,7 @@ range_append a (suc m) n = ap (range_with_len a) (suc_more m n) ∙ ap (λ (ks :
   where
     suc_more : (m n : ℕ) → suc m + n ≡ suc (m + n)
     suc_more m n = omega arith
+
     next : (a m : ℕ) → (a + 1) + m ≡ a + suc m
     next a m = omega arith
 

@@ -79,11 +79,11 @@ last_words_none word_of n = tabulate_const n (λ place. 0) 0 (λ i. refl)
 last_words_set : (word_of : ℕ → Line → Option ℕ) (n : ℕ) (lines : List Line) (line : Line) (first : ℕ) (ws : List ℕ) → ((place : ℕ) → word_of place line ≡ word_among first ws place) → tabulate n (last_word word_of (lines ++ line ∷ [])) ≡ with_words first ws (tabulate n (last_word word_of lines))
 last_words_set word_of n lines line first ws same =
     sym (tabulate_is 0 (with_words first ws (tabulate n (last_word word_of lines))) n (last_word word_of (lines ++ line ∷ []))
-        (length-with_words first ws (tabulate n (last_word word_of lines)) ∙ length-tabulate n (last_word word_of lines))
-        (λ i lt. get_or-with_words first ws (tabulate n (last_word word_of lines)) i (omega (arith, lt, length-tabulate n (last_word word_of lines)))
-            ∙ ap (unwrap_or (word_among first ws i)) (get_or-tabulate n (last_word word_of lines) i 0 lt)
-            ∙ ap (λ (o : Option ℕ). unwrap_or o (last_word word_of lines i)) (sym (same i))
-            ∙ sym (last_word_more word_of lines line i)))
+    (length-with_words first ws (tabulate n (last_word word_of lines)) ∙ length-tabulate n (last_word word_of lines))
+    (λ i lt. get_or-with_words first ws (tabulate n (last_word word_of lines)) i (omega (arith, lt, length-tabulate n (last_word word_of lines)))
+    ∙ ap (unwrap_or (word_among first ws i)) (get_or-tabulate n (last_word word_of lines) i 0 lt)
+    ∙ ap (λ (o : Option ℕ). unwrap_or o (last_word word_of lines i)) (sym (same i))
+    ∙ sym (last_word_more word_of lines line i)))
 
 last_words_kept : (word_of : ℕ → Line → Option ℕ) (n : ℕ) (lines : List Line) (line : Line) → ((place : ℕ) → word_of place line ≡ None) → tabulate n (last_word word_of (lines ++ line ∷ [])) ≡ tabulate n (last_word word_of lines)
 last_words_kept word_of n lines line none =

@@ -123,7 +123,7 @@ entry_changed lines line m i lt e =
     at_entry (inl same) =
         ap (λ (pp : Processor). cond (eqb i m) (own_after line pp) (processor_loaded lines i))
         (sym (get_or-tabulate processor_count (λ k. processor_loaded lines (processor_number k)) i new_processor lt)
-            ∙ ap (λ (k : ℕ). get_or (all_of lines) k new_processor) same)
+        ∙ ap (λ (k : ℕ). get_or (all_of lines) k new_processor) same)
     at_entry (inr other) =
         cond-false (eqb i m) (own_after line (processor_loaded lines i)) (processor_loaded lines i) (ne_eqb i m other)
         ∙ sym (cond-false (eqb i m) (own_after line (get_or (all_of lines) m new_processor)) (processor_loaded lines i) (ne_eqb i m other))
@@ -132,11 +132,11 @@ all_changed : (lines : List Line) (line : Line) (current : Option ℕ) → secti
 unfolding all_of
 all_changed lines line None e =
     sym (tabulate_same new_processor processor_count (λ i. processor_loaded (lines ++ line ∷ []) (processor_number i)) (λ i. processor_loaded lines (processor_number i))
-        (λ i lt. processor_more lines line i ∙ ap (λ (current : Option ℕ). own_if (is_for i current) line (processor_loaded lines i)) e))
+    (λ i lt. processor_more lines line i ∙ ap (λ (current : Option ℕ). own_if (is_for i current) line (processor_loaded lines i)) e))
 all_changed lines line (Some m) e =
     set-tabulate new_processor processor_count (λ i. processor_loaded lines (processor_number i)) m (own_after line (get_or (all_of lines) m new_processor))
     ∙ sym (tabulate_same new_processor processor_count (λ i. processor_loaded (lines ++ line ∷ []) (processor_number i)) (λ i. cond (eqb i m) (own_after line (get_or (all_of lines) m new_processor)) (processor_loaded lines i))
-        (λ i lt. entry_changed lines line m i lt e))
+    (λ i lt. entry_changed lines line m i lt e))
 
 -- ---- the machine
 
@@ -194,7 +194,7 @@ named_kept : (lines : List Line) (line : Line) → ((n : ℕ) → names n line �
 unfolding named_of
 named_kept lines line none =
     sym (tabulate_same false processor_count (λ i. is_named (lines ++ line ∷ []) (processor_number i)) (λ i. is_named lines (processor_number i))
-        (λ i lt. list_any-append (names i) lines (line ∷ []) ∙ ap (λ (t : Bool). is_named lines i || (t || false)) (none i) ∙ or_false (is_named lines i)))
+    (λ i lt. list_any-append (names i) lines (line ∷ []) ∙ ap (λ (t : Bool). is_named lines i || (t || false)) (none i) ∙ or_false (is_named lines i)))
 
 named_more : (lines : List Line) (line : Line) → named_after line (named_of lines) ≡ named_of (lines ++ line ∷ [])
 unfolding named_of
@@ -206,7 +206,7 @@ named_more lines (words x ws) = named_kept lines (words x ws) (λ n. refl)
 named_more lines (section m) =
     set-tabulate false processor_count (λ i. is_named lines (processor_number i)) m true
     ∙ sym (tabulate_same false processor_count (λ i. is_named (lines ++ section m ∷ []) (processor_number i)) (λ i. cond (eqb i m) true (is_named lines i))
-        (λ i lt. list_any-append (names i) lines (section m ∷ []) ∙ sym (or_test (is_named lines i) (eqb i m))))
+    (λ i lt. list_any-append (names i) lines (section m ∷ []) ∙ sym (or_test (is_named lines i) (eqb i m))))
 
 named_none : replicate processor_count false ≡ named_of []
 unfolding named_of

@@ -140,12 +140,12 @@ read_flaw lines k progress b first fields flaw h lt e read =
     let split : length lines ≡ k + (1 + (length lines - k - 1)) = omega (arith, lt) in
     ap (λ (faults : List DeckFault). unless_faulty faults (loaded (size_of lines) (lines_said lines)))
     (ap (λ (n : ℕ). filter_map (fault_at lines) (range_with_len 0 n)) split
-        ∙ ap (filter_map (fault_at lines)) (range_append 0 k (1 + (length lines - k - 1)))
-        ∙ filter_map-append (fault_at lines) (range_with_len 0 k) (range_with_len (0 + k) (1 + (length lines - k - 1)))
-        ∙ ap (λ (faults : List DeckFault). faults ++ filter_map (fault_at lines) (range_with_len (0 + k) (1 + (length lines - k - 1)))) h.faultless
-        ∙ ap (λ (i : ℕ). filter_map (fault_at lines) (range_with_len i (1 + (length lines - k - 1)))) (from_zero k)
-        ∙ ap (λ (n : ℕ). filter_map (fault_at lines) (range_with_len k n)) (one_first (length lines - k - 1))
-        ∙ ap (λ (o : Option DeckFault). cons_option o (filter_map (fault_at lines) (range_with_len (k + 1) (length lines - k - 1)))) (ap (fault_in k) there))
+    ∙ ap (filter_map (fault_at lines)) (range_append 0 k (1 + (length lines - k - 1)))
+    ∙ filter_map-append (fault_at lines) (range_with_len 0 k) (range_with_len (0 + k) (1 + (length lines - k - 1)))
+    ∙ ap (λ (faults : List DeckFault). faults ++ filter_map (fault_at lines) (range_with_len (0 + k) (1 + (length lines - k - 1)))) h.faultless
+    ∙ ap (λ (i : ℕ). filter_map (fault_at lines) (range_with_len i (1 + (length lines - k - 1)))) (from_zero k)
+    ∙ ap (λ (n : ℕ). filter_map (fault_at lines) (range_with_len k n)) (one_first (length lines - k - 1))
+    ∙ ap (λ (o : Option DeckFault). cons_option o (filter_map (fault_at lines) (range_with_len (k + 1) (length lines - k - 1)))) (ap (fault_in k) there))
 
 -- all lines
 pub read_all : (lines : List (List (List ℕ))) (k : ℕ) (progress : Progress) (b : Bool) → ReadTo lines k progress b → k ≡ length lines → meaning_of_lines lines ≡ Ok (record { machine = progress.machine; named = progress.named })
@@ -153,6 +153,6 @@ unfolding meaning_of_lines faults_in lines_said fault_at said_at progress_of
 read_all lines k progress b h e =
     let none : faults_in lines ≡ [] = ap (λ (n : ℕ). filter_map (fault_at lines) (range_with_len 0 n)) (sym e) ∙ h.faultless in
     let all : progress ≡ progress_of (size_of lines) (lines_said lines) =
-        h.progress_is ∙ ap (λ (n : ℕ). after_lines (size_of lines) (filter_map (said_at lines) (range_with_len 0 n))) e ∙ after_lines_is (size_of lines) (lines_said lines) in
+    h.progress_is ∙ ap (λ (n : ℕ). after_lines (size_of lines) (filter_map (said_at lines) (range_with_len 0 n))) e ∙ after_lines_is (size_of lines) (lines_said lines) in
     ap (λ (faults : List DeckFault). unless_faulty faults (loaded (size_of lines) (lines_said lines))) none
     ∙ ap (λ (p : Progress). Ok (record { machine = p.machine; named = p.named })) (sym all)

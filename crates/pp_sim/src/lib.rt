@@ -14,3 +14,6 @@ mod reading;
 
 pub use deck::{Deck, read_deck};
 pub use deck_fault::{DeckCode, DeckFault};
+
+#[cfg(test)]
+mod tests_of_deck;
