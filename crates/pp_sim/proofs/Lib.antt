@@ -1,6 +1,7 @@
 pub mod DigitLemmas
 pub mod FieldLemmas
 pub mod KeywordLemmas
+pub mod LawLemmas
 pub mod LinesLemmas
 pub mod ListLemmas
 pub mod MemoryLemmas

@@ -4,3 +4,4 @@ pub mod OctalNumber
 pub mod DeckLine
 pub mod DeckMeaning
 pub mod DeckProgress
+pub mod DeckLaw

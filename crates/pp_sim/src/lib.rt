@@ -8,12 +8,14 @@ mod deck_line;
 mod fields;
 mod flaw;
 mod keyword;
+mod laws;
 mod lines;
 mod octal_number;
 mod reading;
 
 pub use deck::{Deck, read_deck};
 pub use deck_fault::{DeckCode, DeckFault};
+pub use laws::{deck_law, reading_law};
 
 #[cfg(test)]
 mod tests_of_deck;
