@@ -2,10 +2,7 @@ pub mod FlawCode
 pub mod DeckText
 pub mod OctalNumber
 pub mod DeckLine
+pub mod DeckLoad
 pub mod DeckMeaning
-pub mod Numeral
-pub mod PrintedText
-pub mod TextAnswer
-pub mod CommandLine
 pub mod DeckProgress
 pub mod DeckLaw

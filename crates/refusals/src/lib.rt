@@ -5,6 +5,8 @@
 #[cfg(test)]
 mod channel;
 #[cfg(test)]
+mod deck;
+#[cfg(test)]
 mod machine;
 #[cfg(test)]
 mod texts;
