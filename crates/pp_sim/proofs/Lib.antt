@@ -9,3 +9,8 @@ pub mod ProgressLemmas
 pub mod ReadingLemmas
 pub mod SectionLemmas
 pub mod WordsLemmas
+pub mod ByteLemmas
+pub mod NumeralLemmas
+pub mod TextLemmas
+pub mod AnswerLemmas
+pub mod CommandLemmas

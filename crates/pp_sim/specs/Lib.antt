@@ -6,3 +6,7 @@ pub mod DeckLoad
 pub mod DeckMeaning
 pub mod DeckProgress
 pub mod DeckLaw
+pub mod Numeral
+pub mod PrintedText
+pub mod TextAnswer
+pub mod CommandLine
