@@ -1,5 +1,5 @@
 -- From what was read to all that a reader tells.
-use Rattle.std.proofs.Common.{◌≡◌, ℕ, ◌≤◌, ◌<◌, List, length, take, Option, Some, None, Result}
+use Rattle.std.proofs.Common.{ℕ, ◌≤◌, ◌<◌, List, length, take, Option, Some, None, Result}
 use Rattle.std.specs.Prelude.{IfSome}
 use Rattle.std.specs.Io.KnownBytes.{Consumes, IsAtEnd}
 use Rattle.std.proofs.lemmas.Bool.{cases_lt}

@@ -1,8 +1,8 @@
 -- From what clap ensures of a parse to what the words ask for.
-use Rattle.std.proofs.Common.{◌≡◌, ◌∙◌, ℕ, true, List, [], Option, Some, None, option_map, sym, subst, refl, inl, inr, codes}
-use Rattle.std.specs.Prelude.{Box, ◌≢◌, Ok, Err}
+use Rattle.std.proofs.Common.{◌≡◌, ◌∙◌, true, List, [], Option, Some, None, option_map, sym, subst, refl, inl, inr, codes}
+use Rattle.std.specs.Prelude.{Box, ◌≢◌}
 use Rattle.std.specs.Box.{box_value}
-use Rattle.clap.specs.Words.{App, FailsBy, HasKind, IsAmong, Kinds, Text, Row, HasMatchesOf, fault_of, is_simple, is_simple_and_free, first_of, first_value, found_of, kind_of, rows_of, subcommand_of, subcommand_rows, subcommand_rows_of, subcommand_name_of}
+use Rattle.clap.specs.Words.{App, HasKind, IsAmong, Kinds, Text, Row, HasMatchesOf, fault_of, is_simple, is_simple_and_free, first_value, found_of, kind_of, rows_of, subcommand_of, subcommand_rows, subcommand_rows_of, subcommand_name_of}
 use Rattle.clap.specs.declared.error.Error.{Error}
 use Rattle.clap.specs.declared.error.kind.ErrorKind.TheVariants.{OutOfMemory}
 use Rattle.clap.specs.declared.parser.matches.Found.{Found}

@@ -1,10 +1,5 @@
 pub mod DigitLemmas
 pub mod FieldLemmas
-pub mod ByteLemmas
-pub mod TextLemmas
-pub mod CommandLemmas
-pub mod AnswerLemmas
-pub mod NumeralLemmas
 pub mod KeywordLemmas
 pub mod LawLemmas
 pub mod LinesLemmas
@@ -14,3 +9,8 @@ pub mod ProgressLemmas
 pub mod ReadingLemmas
 pub mod SectionLemmas
 pub mod WordsLemmas
+pub mod ByteLemmas
+pub mod NumeralLemmas
+pub mod TextLemmas
+pub mod AnswerLemmas
+pub mod CommandLemmas

@@ -1,18 +1,16 @@
 -- Printed numbers spell what they stand for.
-use Rattle.std.proofs.Common.{◌≡◌, ◌∙◌, ℕ, zero, suc, ◌+◌, ◌-◌, ◌*◌, ◌/◌, ◌%◌, ◌^◌, ◌<◌, ◌≤◌, ◌≢◌, Bool, true, false, List, [], ◌∷◌, ◌++◌, length, refl, sym, ap, inl, inr, append_assoc, arith, lit<, length-append, add-one, rules, ◌&&◌}
-use Rattle.std.specs.Prelude.{All, fold, Ok, ◌==◌, nat_le, if◌then◌else◌}
+use Rattle.std.proofs.Common.{◌≡◌, ◌∙◌, ℕ, zero, suc, ◌+◌, ◌-◌, ◌*◌, ◌/◌, ◌%◌, ◌^◌, ◌<◌, ◌≤◌, true, List, ◌++◌, length, refl, sym, ap, inl, inr, append_assoc, arith, lit<, length-append}
+use Rattle.std.specs.Prelude.{All, Ok, nat_le}
 use Rattle.std.specs.List.{list_all}
 use Rattle.std.proofs.Math.Arith.{mod-mul}
 use Rattle.std.proofs.Math.Nat.{mod-eq_of_lt, mod-lt, one-le-pow, pow-suc, pow-zero}
-use Rattle.std.specs.Prelude.{◌⊎◌}
 use Rattle.std.proofs.lemmas.Bool.{cases_eq, le-leb, ne_eqb}
 use Rattle.std.proofs.lemmas.List.{append-nil}
 use Rattle.std.proofs.lemmas.List.Elements.{All-append}
 use Rattle.std.proofs.lemmas.List.Folds.{list_all-append}
 use Rattle.std.proofs.lemmas.List.Sums.{fold-append}
 use Rattle.std.proofs.lemmas.Nat.{div-add-mod'}
-use Rattle.std.proofs.lemmas.Grind.{common_steps}
-use Rattle.pp_sim.specs.OctalNumber.{is_octal_digit, number, octal_value}
+use Rattle.pp_sim.specs.OctalNumber.{is_octal_digit, number}
 use Rattle.pp_sim.specs.Numeral.{IsDigit, IsNumeral, decimal, digit, digits, octal, unpadded, value_of}
 
 -- one digit more at the end

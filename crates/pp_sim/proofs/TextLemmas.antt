@@ -1,5 +1,5 @@
 -- Steps of what prints.
-use Rattle.std.proofs.Common.{◌≡◌, ◌≢◌, ℕ, ◌+◌, ◌-◌, ◌/◌, ◌%◌, ◌^◌, ◌<◌, zero, suc, List, [], ◌∷◌, ◌++◌, refl, sym, ap, ◌∙◌, add-one, append_assoc, arith, codes}
+use Rattle.std.proofs.Common.{◌≡◌, ◌≢◌, ℕ, ◌+◌, ◌-◌, ◌/◌, ◌%◌, ◌^◌, ◌<◌, zero, suc, List, ◌++◌, sym, add-one, append_assoc, arith, codes}
 use Rattle.std.proofs.lemmas.List.{append-nil}
 use Rattle.pp_machine.specs.declared.trace.Trace.{Trace}
 use Rattle.pp_sim.specs.Numeral.{decimal, digit, digits, octal, unpadded}

@@ -4,9 +4,9 @@ pub mod OctalNumber
 pub mod DeckLine
 pub mod DeckLoad
 pub mod DeckMeaning
+pub mod DeckProgress
+pub mod DeckLaw
 pub mod Numeral
 pub mod PrintedText
 pub mod TextAnswer
 pub mod CommandLine
-pub mod DeckProgress
-pub mod DeckLaw

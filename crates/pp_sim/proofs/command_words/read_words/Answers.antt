@@ -1,5 +1,4 @@
-use Rattle.std.proofs.Common.{◌≡◌, List, ℕ, None, map, rules}
-use Rattle.std.specs.Borrow.{Bor}
+use Rattle.std.proofs.Common.{None}
 use Rattle.clap.specs.Words.{found_of}
 use Rattle.pp_sim.specs.CommandLine.{IsWorkAmong}
 use Rattle.pp_sim.proofs.CommandLemmas.{by_no_number, met_command, met_none, refused_words, taken_words, work_by_rows, work_by_values}

@@ -1,4 +1,4 @@
-use Rattle.std.proofs.Common.{◌≡◌, ◌<◌, ◌≢◌, arith, append_assoc, refl}
+use Rattle.std.proofs.Common.{◌<◌, arith, append_assoc, refl}
 use Rattle.pp_sim.proofs.TextLemmas.{unpadded_more}
 use Rattle.pp_sim.proofs.digits.+push_unpadded.Goals as goal
 

@@ -1,4 +1,4 @@
-use Rattle.std.proofs.Common.{ℕ, length, arith, length-append, length-take}
+use Rattle.std.proofs.Common.{ℕ, arith, length-append, length-take}
 use Rattle.pp_sim.proofs.ByteLemmas.{consumes_more}
 use Rattle.pp_sim.proofs.streams.read_front.Goals as goal
 

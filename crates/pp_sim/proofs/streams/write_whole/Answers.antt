@@ -1,4 +1,4 @@
-use Rattle.std.proofs.Common.{arith, rules}
+use Rattle.std.proofs.Common.{arith}
 use Rattle.std.proofs.lemmas.List.{take_rest}
 use Rattle.pp_sim.proofs.ByteLemmas.{appends_more}
 use Rattle.pp_sim.proofs.streams.write_whole.Goals as goal
