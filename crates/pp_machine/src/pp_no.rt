@@ -55,7 +55,7 @@ impl PpNo {
         // No other processor has this place.
         ensures own { (n : ℕ) → IsTrue (names_processor n) → processor_index n ≡ result → n ≡ self }
     {
-        usize::from(self.number)
+        usize::from(self.get())
     }
 
     /// The processor at a place in the barrel's order.
@@ -74,7 +74,7 @@ impl PpNo {
     {
         if self.index() + 1 < PROCESSORS {
             PpNo {
-                number: self.number + 1,
+                number: self.get() + 1,
             }
         } else {
             PpNo::FIRST
