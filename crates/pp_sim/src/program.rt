@@ -71,9 +71,9 @@ fn show_refusal<O: Write, E: Write>(refusal: &Error, output: &mut O, error: &mut
         let _ = write!(error, "{refusal}");
         return LINE_REFUSED;
     }
-    match write!(output, "{refusal}") {
+    match write!(output, "{refusal}").and_then(|()| output.flush()) {
         Ok(()) => DONE,
-        Err(_) => DEVICE_FAILED,
+        Err(_) => tell_text_fault(&TextFault::Write, error),
     }
 }
 

@@ -139,6 +139,7 @@ fn one_byte_a_call(rt: HostRuntime) -> Result<(), Fail> {
         };
         let done = barrel_text(rt.alloc(), &mut reader, &mut writer, 40);
         assert!(rt; done.is_ok() == (fails_at != FLUSH));
+        assert_eq!(rt; reader.calls, 73);
         assert!(rt; writer.taken.as_slice() == HANDOFF_TEXT.as_bytes());
     }
     Ok(())

@@ -123,7 +123,7 @@ fn broken(rt: &impl Alloc<A = Global>) -> Drip {
         taken: Vec::new(rt.alloc()),
         calls: 0,
         fails_at: 1,
-        failure: Failure::Error,
+        failure: Failure::TakesNothing,
     }
 }
 
@@ -153,5 +153,17 @@ fn writers_that_fail(rt: HostRuntime) -> Result<(), Fail> {
         &mut broken(&rt),
     );
     assert_eq!(rt; status, 2);
+    let mut told = Vec::new(rt.alloc());
+    let help = ["ppsim", "--help"];
+    let status = run_program(
+        &rt,
+        rt.alloc(),
+        &help,
+        &mut input,
+        &mut broken(&rt),
+        &mut told,
+    );
+    assert_eq!(rt; status, 3);
+    assert!(rt; told.as_slice() == b"ppsim: write fault\n".as_slice());
     Ok(())
 }
