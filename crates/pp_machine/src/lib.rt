@@ -28,7 +28,7 @@ pub use cut::Cut;
 pub use machine::Machine;
 pub use need::Need;
 pub use outcome::Outcome;
-pub use pp::{Pp, block_results};
+pub use pp::Pp;
 pub use pp_no::{PROCESSORS, PpNo};
 pub use pp_state::PpState;
 pub use replay::fits;

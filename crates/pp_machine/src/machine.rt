@@ -42,6 +42,7 @@ impl<A: Allocator> Model for Machine<A> {
 impl<A: Allocator> Machine<A> {
     ghost use Rattle.pp_machine.specs.Central.{IsCentralSize, with_central_word};
     ghost use Rattle.pp_machine.specs.Headline.{events_on, opening_history};
+    ghost use Rattle.pp_machine.specs.MachineInvariant.{IsMachine};
     ghost use Rattle.pp_machine.specs.MachineState.{history_of, new_machine, processor_of};
 
     /// A machine with central memory of this many words, all 0: its processors as `Pp::new()`, its
@@ -65,7 +66,8 @@ impl<A: Allocator> Machine<A> {
 
     /// How many turns it has counted (decimal); the greatest count stays.
     pub fn turns(&self) -> u64
-        ensures { result ≡ self.now.turns }
+        ensures value { result ≡ self.now.turns }
+        ensures sound { IsMachine self.now }
     {
         self.turns
     }

@@ -11,12 +11,12 @@ mod reply;
 mod step;
 
 ghost use Rattle.std.specs.Prelude.{◌≡◌};
-ghost use Rattle.pp_machine.specs.Processor.{new_processor, word_at};
+ghost use Rattle.pp_machine.specs.Processor.{IsProcessor, new_processor, word_at};
 
 use crate::block::Block;
 use crate::pp_memory::PpMemory;
 use crate::pp_state::PpState;
-pub use block_law::block_results;
+pub(crate) use block_law::block_results;
 use pp_word::{Word12, Word18};
 use std::marker::Model;
 
@@ -55,8 +55,10 @@ impl Pp {
 
     /// The word at a place.
     pub fn get(&self, place: Word12) -> Word12
-        ensures { result ≡ word_at self.now place }
+        ensures value { result ≡ word_at self.now place }
+        ensures widths { IsProcessor self.now }
     {
+        self.has_widths();
         self.memory.get(place)
     }
 

@@ -1,12 +1,13 @@
 //! Which answers fit a need, and a processor's replay of answers.
 
 ghost use Rattle.std.specs.Prelude.{◌≡◌};
+ghost use Rattle.pp_machine.specs.BlockResults.{WholeInput, ClosedInput, WholeOutput, CutOutput, CentralInput, CentralOutput};
 ghost use Rattle.pp_machine.specs.Replay.{fits, reply_fits, replayed, given_count};
 ghost use Rattle.pp_machine.specs.StepLaws.{IsAtRest};
 
 use crate::answer::Answer;
 use crate::need::Need;
-use crate::pp::Pp;
+use crate::pp::{Pp, block_results};
 use pp_channel::{ChanOp, Reply};
 
 /// Whether a reply fits an operation.
@@ -45,7 +46,16 @@ impl Pp {
         ensures after { self.new ≡ replayed self.old answers.now }
         ensures count { result ≡ given_count self.old answers.now }
         ensures rest_changes_nothing { IsAtRest self.old → self.new ≡ self.old }
+
+        // What a whole block transfer leaves, without its single steps.
+        ensures whole_input { WholeInput self.old }
+        ensures closed_input { ClosedInput self.old }
+        ensures whole_output { WholeOutput self.old }
+        ensures cut_output { CutOutput self.old }
+        ensures central_input { CentralInput self.old }
+        ensures central_output { CentralOutput self.old }
     {
+        block_results(self);
         for (i, answer) in answers.iter().enumerate() {
             if !fits(&self.wants(), answer) {
                 return i;

@@ -1,6 +1,6 @@
 //! A processor by its calls alone.
 
-use crate::{Answer, Block, BlockKind, Need, Outcome, Pp, PpState, block_results, fits};
+use crate::{Answer, Block, BlockKind, Need, Outcome, Pp, PpState, fits};
 use pp_channel::{ChanOp, ChannelNo, Flags, Reply};
 use pp_word::{Word12, Word18, next};
 use std::test::Fail;
@@ -80,7 +80,6 @@ fn input_block_by_steps(rt: HostRuntime) -> Result<(), Fail> {
     assert!(rt; need == Need::Channel(channel, ChanOp::Take));
     let last = Answer::Channel(Reply::Held(EMPTY_INACTIVE));
     assert!(rt; fits(&need, &last));
-    block_results(&pp);
     let before = pp.copy();
     assert!(rt; pp.give(last) == Outcome::Moved);
     assert!(rt; pp.block().is_none());

@@ -8,7 +8,7 @@ use crate::pp::Pp;
 
 impl Pp {
     /// What is true of each processor.
-    fn has_widths(&self)
+    pub(super) fn has_widths(&self)
         ensures { IsProcessor self.now }
     {
         self.memory.has_widths();
@@ -18,7 +18,7 @@ impl Pp {
 }
 
 /// The law of block transfers, of each processor: what a whole transfer leaves, without its single steps.
-pub fn block_results(pp: &Pp)
+pub(crate) fn block_results(pp: &Pp)
     ensures whole_input { WholeInput pp.now }
     ensures closed_input { ClosedInput pp.now }
     ensures whole_output { WholeOutput pp.now }
