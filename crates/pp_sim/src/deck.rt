@@ -42,7 +42,7 @@ pub fn read_deck<A: Allocator + Copy>(alloc: A, text: &[u8]) -> Result<Deck<A>, 
     }
     if let Some(i) = first_foreign(text) {
         return Err(DeckFault {
-            line: line_at(text, i),
+            line: line_of_byte(text, i),
             code: DeckCode::NotAscii,
         });
     }
@@ -67,7 +67,7 @@ fn first_foreign(text: &[u8]) -> Option<usize>
 }
 
 /// The number of the line in which a byte stands.
-fn line_at(text: &[u8], place: usize) -> u32
+fn line_of_byte(text: &[u8], place: usize) -> u32
     requires inside { place < length text.now }
     requires limit { length text.now ≤ LONGEST_TEXT }
     ensures { result ≡ line_of_byte text.now place }
