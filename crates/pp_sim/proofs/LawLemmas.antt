@@ -1,8 +1,8 @@
 -- The last line that sets something holds.
-use Rattle.std.proofs.Common.{◌≡◌, ℕ, zero, suc, ◌+◌, ◌-◌, ◌<◌, ◌≤◌, ◌⊎◌, ◌↔◌, Bool, true, false, cond, eqb, leb, List, [], ◌∷◌, ◌++◌, length, take, map, get_or, replicate, Option, Some, None, Result, Ok, Err, refl, sym, ap, subst, ◌∙◌, arith, inl, inr, append-nil, ltb}
-use Rattle.std.specs.Prelude.{filter_map, option_to_list, option_and_then, option_map, slice_get, unwrap_or, position}
+use Rattle.std.proofs.Common.{◌≡◌, ℕ, zero, suc, ◌+◌, ◌-◌, ◌<◌, ◌≤◌, ◌⊎◌, Bool, true, false, cond, leb, List, [], ◌∷◌, ◌++◌, length, take, map, get_or, Option, Some, None, Ok, Err, refl, sym, ap, subst, ◌∙◌, arith, inl, inr, append-nil}
+use Rattle.std.specs.Prelude.{filter_map, option_to_list, option_map, slice_get, unwrap_or, position}
 use Rattle.std.specs.List.{range_with_len, cons_option, list_any}
-use Rattle.std.proofs.lemmas.Bool.{leb-true, leb-false, le-leb, eqb-true, eq-eqb, cases_order}
+use Rattle.std.proofs.lemmas.Bool.{leb-true, le-leb, eqb-true, eq-eqb, cases_order}
 use Rattle.std.proofs.lemmas.List.{take_more, length-map, get_or_default}
 use Rattle.std.proofs.lemmas.List.Elements.{filter_map-append}
 use Rattle.std.proofs.lemmas.List.Folds.{Any-from_list_any, list_any_at}
@@ -18,7 +18,7 @@ use Rattle.pp_sim.specs.DeckMeaning.{LoadedDeck, last_of, word_among, word_for, 
 use Rattle.pp_sim.specs.DeckText.{lines_of}
 use Rattle.pp_sim.specs.declared.deck_fault.DeckFault.{DeckFault}
 use Rattle.pp_sim.specs.DeckProgress.{current_after}
-use Rattle.pp_sim.proofs.ListLemmas.{range_append, range_more, filter_map_same, last_of_more, filter_map_more, length-tabulate, get_or-tabulate}
+use Rattle.pp_sim.proofs.ListLemmas.{range_append, range_more, last_of_more, filter_map_more, length-tabulate, get_or-tabulate}
 use Rattle.pp_sim.proofs.SectionLemmas.{section_more}
 
 -- ---- the last number at which there is something

@@ -1,19 +1,18 @@
 -- Reading lines one after another leaves what they load all together.
-use Rattle.std.proofs.Common.{◌≡◌, ℕ, ◌+◌, ◌<◌, ◌⊎◌, Bool, true, false, cond, eqb, List, [], ◌∷◌, ◌++◌, length, get_or, set, replicate, Option, Some, None, refl, sym, ap, ◌∙◌, arith, inl, inr, fold, append_assoc, append-nil}
-use Rattle.std.specs.Prelude.{filter_map, option_to_list, slice_index_or, slice_set, ◌||◌}
-use Rattle.std.specs.List.{list_any}
-use Rattle.std.proofs.lemmas.Bool.{cond-true, cond-false, cases_eq, eq-eqb, ne_eqb}
+use Rattle.std.proofs.Common.{◌≡◌, ℕ, ◌<◌, ◌⊎◌, Bool, true, false, cond, eqb, List, [], ◌∷◌, ◌++◌, get_or, replicate, Option, Some, None, refl, sym, ap, ◌∙◌, inl, inr, fold, append_assoc, append-nil}
+use Rattle.std.specs.Prelude.{filter_map, slice_index_or, slice_set, ◌||◌}
+use Rattle.std.proofs.lemmas.Bool.{cond-false, cases_eq, ne_eqb}
 use Rattle.std.proofs.lemmas.List.Folds.{list_any-append}
 use Rattle.pp_word.specs.Address.{place_count}
-use Rattle.pp_machine.specs.MachineState.{MachineState, new_machine, processor_of}
+use Rattle.pp_machine.specs.MachineState.{MachineState, new_machine}
 use Rattle.pp_machine.specs.PpMemory.{empty_memory}
 use Rattle.pp_machine.specs.Processor.{Processor, new_processor}
 use Rattle.pp_machine.specs.ProcessorNumber.{processor_count, processor_number, processor_index}
 use Rattle.pp_sim.specs.DeckLine.{Line, nothing, central_size, central_words, section, start, words}
-use Rattle.pp_sim.specs.DeckMeaning.{last_of, section_of, is_for, lines_for, start_in, word_for, memory_of, central_loaded, processor_with, processor_loaded, is_named, names, tabulate, each_processor, loaded}
+use Rattle.pp_sim.specs.DeckMeaning.{last_of, section_of, is_for, lines_for, start_in, memory_of, central_loaded, processor_with, processor_loaded, is_named, names, each_processor}
 use Rattle.pp_sim.specs.DeckProgress.{Progress, before_lines, with_words, loaded_from, started, with_processor, machine_after, named_after, current_after, after_line, after_lines, progress_of}
-use Rattle.pp_sim.proofs.ListLemmas.{or_else, last_of_more, filter_map_more, length-tabulate, get_or-tabulate, tabulate_same, tabulate_const, set-tabulate}
-use Rattle.pp_sim.proofs.MemoryLemmas.{memory_none, memory_set, memory_kept, central_none, central_set, central_kept, length-central_loaded}
+use Rattle.pp_sim.proofs.ListLemmas.{or_else, last_of_more, filter_map_more, get_or-tabulate, tabulate_same, tabulate_const, set-tabulate}
+use Rattle.pp_sim.proofs.MemoryLemmas.{memory_none, memory_set, memory_kept, central_none, central_set, central_kept}
 use Rattle.pp_sim.proofs.SectionLemmas.{own, lines_for_more, section_more}
 
 -- ---- a processor, by the lines for it

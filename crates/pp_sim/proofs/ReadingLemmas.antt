@@ -1,6 +1,6 @@
 -- The lines of a deck, read one after another, up to the first fault.
-use Rattle.std.proofs.Common.{◌≡◌, ℕ, zero, suc, ◌+◌, ◌-◌, ◌<◌, ◌≤◌, Bool, true, false, List, [], ◌∷◌, ◌++◌, length, take, drop, get_or, Option, Some, None, Result, Ok, Err, refl, sym, ap, ◌∙◌, arith, fold, ltb, lt-ltb}
-use Rattle.std.specs.Prelude.{filter_map, option_to_list, is_some, slice_get, ◌||◌, find}
+use Rattle.std.proofs.Common.{◌≡◌, ℕ, suc, ◌+◌, ◌-◌, ◌<◌, Bool, true, false, List, [], ◌∷◌, ◌++◌, length, take, get_or, Option, Result, Ok, Err, refl, sym, ap, ◌∙◌, arith, fold, ltb, lt-ltb}
+use Rattle.std.specs.Prelude.{filter_map, option_to_list, is_some, ◌||◌}
 use Rattle.std.specs.List.{list_any, range_with_len, cons_option}
 use Rattle.std.proofs.lemmas.List.{append-nil}
 use Rattle.std.proofs.lemmas.List.Elements.{filter_map-append}
@@ -8,8 +8,8 @@ use Rattle.std.proofs.lemmas.List.Folds.{list_any_more}
 use Rattle.std.proofs.lemmas.List.Sums.{fold-append}
 use Rattle.pp_sim.specs.FlawCode.{code_of}
 use Rattle.pp_sim.specs.DeckLine.{Line, nothing}
-use Rattle.pp_sim.specs.DeckMeaning.{has_fields, begins_section, line_behind, line_at, size_of, fault_in, faults_in, line_in, lines_said, loaded, unless_faulty, meaning_of_lines, LoadedDeck}
-use Rattle.pp_sim.specs.DeckProgress.{Progress, before_lines, after_line, after_lines, progress_of, current_after, on_read}
+use Rattle.pp_sim.specs.DeckMeaning.{has_fields, begins_section, line_behind, line_at, size_of, fault_in, faults_in, line_in, lines_said, loaded, unless_faulty, meaning_of_lines}
+use Rattle.pp_sim.specs.DeckProgress.{Progress, before_lines, after_line, after_lines, progress_of, on_read}
 use Rattle.pp_sim.specs.declared.deck_fault.DeckFault.{DeckFault}
 use Rattle.pp_sim.specs.declared.flaw.Flaw.{Flaw}
 use Rattle.pp_sim.proofs.KeywordLemmas.{section_after}

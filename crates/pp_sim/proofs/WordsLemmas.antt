@@ -1,5 +1,5 @@
 -- The words of a line, taken one by one.
-use Rattle.std.proofs.Common.{◌≡◌, ℕ, ◌+◌, ◌<◌, ◌≤◌, Bool, true, false, List, [], ◌∷◌, Result, Ok, Err, refl, sym, ap, ◌∙◌, cond, ltb, lt-ltb, le-ltb}
+use Rattle.std.proofs.Common.{◌≡◌, ℕ, ◌+◌, ◌<◌, ◌≤◌, true, false, List, [], ◌∷◌, Result, Ok, Err, refl, ltb, lt-ltb, le-ltb}
 use Rattle.pp_sim.specs.OctalNumber.{number}
 use Rattle.pp_sim.specs.DeckLine.{words_in, ◌>>=◌}
 use Rattle.pp_sim.specs.DeckProgress.{on_read}

@@ -2,7 +2,7 @@
 use Rattle.std.specs.Prelude.{◌≡◌, ℕ, ◌+◌, ◌<◌, ◌↔◌, true, false, List, [], length, None, Some, slice_get, slice_index, slice_index_or, replicate}
 use Rattle.pp_word.specs.Address.{place_count}
 use Rattle.pp_channel.specs.ChannelNumber.{channel_count}
-use Rattle.pp_machine.specs.MachineState.{MachineState, processor_of}
+use Rattle.pp_machine.specs.MachineState.{processor_of}
 use Rattle.pp_machine.specs.Processor.{Processor, word_at}
 use Rattle.pp_machine.specs.ProcessorNumber.{processor_count, processor_index}
 use Rattle.pp_machine.specs.declared.pp_state.PpState.{PpState}

@@ -1,12 +1,11 @@
 -- What one line of a deck says, by its fields.
-use Rattle.std.specs.Prelude.{ℕ, ◌+◌, ◌&&◌, Bool, true, false, List, [], ◌∷◌, Option, None, Some, Result, Ok, Err, nat_lt, nat_le, codes, slice_index, if◌then◌else◌}
-use Rattle.std.specs.List.{list_any}
+use Rattle.std.specs.Prelude.{ℕ, ◌+◌, ◌&&◌, Bool, List, [], ◌∷◌, Result, Ok, Err, nat_lt, nat_le, codes, slice_index, if◌then◌else◌}
 use Rattle.std.specs.Str.{bytes_eq}
 use Rattle.pp_word.specs.Address.{place_count}
 use Rattle.pp_machine.specs.ProcessorNumber.{names_processor}
 use Rattle.pp_sim.specs.OctalNumber.{number}
 use Rattle.pp_sim.specs.declared.flaw.Flaw.{Flaw}
-use Rattle.pp_sim.specs.declared.flaw.Flaw.TheVariants.{UnknownLine, BadProcessor, NoProcessor, PastEnd, CentralRange}
+use Rattle.pp_sim.specs.declared.flaw.Flaw.TheVariants.{UnknownLine, BadProcessor, PastEnd, CentralRange}
 use Rattle.pp_sim.specs.declared.keyword.Keyword.{Keyword}
 use Rattle.pp_sim.specs.declared.keyword.Keyword.TheVariants.{Central, CentralWords, Processor, Start, Words, Unknown}
 

@@ -1,5 +1,5 @@
 -- What a whole deck means: the machine that it loads and the processors that it names, or why it is refused.
-use Rattle.std.specs.Prelude.{ℕ, ◌+◌, ◌-◌, ◌^◌, ◌==◌, Bool, true, false, List, [], ◌∷◌, length, map, take, Option, None, Some, Result, Ok, Err, slice_get, slice_index_or, unwrap_or, nat_lt, nat_le, count_by, find, filter_map, position, if◌then◌else◌}
+use Rattle.std.specs.Prelude.{ℕ, ◌+◌, ◌-◌, ◌==◌, Bool, true, false, List, [], ◌∷◌, length, map, take, Option, None, Some, Result, Ok, Err, slice_get, slice_index_or, unwrap_or, nat_lt, nat_le, count_by, find, filter_map, position, if◌then◌else◌}
 use Rattle.std.specs.List.{list_any, range_with_len}
 use Rattle.pp_word.specs.Address.{place_count}
 use Rattle.pp_machine.specs.MachineState.{MachineState, new_machine}

@@ -4,7 +4,7 @@ use Rattle.pp_machine.specs.MachineState.{MachineState, processor_of, new_machin
 use Rattle.pp_machine.specs.Processor.{Processor}
 use Rattle.pp_machine.specs.ProcessorNumber.{processor_count, processor_index}
 use Rattle.pp_machine.specs.declared.pp_state.PpState.TheVariants.{Running}
-use Rattle.pp_sim.specs.DeckLine.{Line, nothing, central_size, central_words, section, start, words}
+use Rattle.pp_sim.specs.DeckLine.{Line, central_words, section, start, words}
 use Rattle.pp_sim.specs.DeckMeaning.{loaded, section_of}
 use Rattle.pp_sim.specs.declared.flaw.Flaw.{Flaw}
 

@@ -1,4 +1,4 @@
-use Rattle.std.proofs.Common.{arith, refl, sym, ap, ◌∙◌}
+use Rattle.std.proofs.Common.{arith, ◌∙◌}
 use Rattle.pp_sim.specs.DeckText.{lines_of}
 use Rattle.pp_sim.proofs.LinesLemmas.{next_line, no_line, length-lines_of}
 use Rattle.pp_sim.proofs.ReadingLemmas.{read_none, read_blank, read_fields, read_flaw, read_all, central_length}

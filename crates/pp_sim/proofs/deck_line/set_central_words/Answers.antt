@@ -1,5 +1,4 @@
-use Rattle.std.proofs.Common.{◌≡◌, ◌<◌, ◌≤◌, ◌^◌, arith, refl, sym, ap, ◌∙◌, length}
-use Rattle.std.proofs.lemmas.Bool.{iff_false}
+use Rattle.std.proofs.Common.{◌<◌, ◌≤◌, ◌^◌, arith, sym, ap, ◌∙◌, length}
 use Rattle.std.proofs.lemmas.List.{length-set}
 use Rattle.std.proofs.lemmas.Result.{err_from_is_err_and}
 use Rattle.pp_sim.proofs.WordsLemmas.{words_more, words_past, words_bad, words_none}

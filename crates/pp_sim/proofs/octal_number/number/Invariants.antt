@@ -1,4 +1,4 @@
-use Rattle.std.proofs.Common.{◌≡◌, ◌<◌, ◌≤◌, ◌^◌, ℕ, true, length, take}
+use Rattle.std.proofs.Common.{◌≡◌, ◌<◌, ◌^◌, true, take}
 use Rattle.std.specs.List.{list_all}
 use Rattle.pp_sim.specs.OctalNumber.{is_octal_digit, octal_value}
 use Rattle.pp_sim.proofs.octal_number.number.Given as goal

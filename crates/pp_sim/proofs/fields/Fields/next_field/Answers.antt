@@ -1,6 +1,5 @@
-use Rattle.std.proofs.Common.{◌≡◌, ◌<◌, ◌≤◌, List, ℕ, ◌-◌, sym, ◌∙◌, ap, take, drop, length, arith}
+use Rattle.std.proofs.Common.{sym, ◌∙◌}
 use Rattle.std.proofs.lemmas.List.{take_rest}
-use Rattle.std.proofs.lemmas.List.Sums.{prefix_len-le-length}
 use Rattle.pp_sim.proofs.FieldLemmas.{fields_of_blanks, comment_first, field_first, field_length-le}
 use Rattle.pp_sim.proofs.fields.Fields.next_field.Goals as goal
 
