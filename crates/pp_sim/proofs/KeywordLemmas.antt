@@ -2,8 +2,8 @@
 use Rattle.std.proofs.Common.{◌≡◌, ℕ, Bool, true, false, cond, List, [], ◌∷◌, Option, Some, None, Result, Ok, Err, refl, ap, subst, ◌∙◌}
 use Rattle.std.specs.Prelude.{is_some, ◌||◌}
 use Rattle.pp_sim.specs.OctalNumber.{number}
-use Rattle.pp_sim.specs.DeckLine.{Line, nothing, central_size, central_words, section, start, words, keyword_of, line_by, number_then, ends_with, start_from, words_in, central_line, central_words_line, section_line, start_line, words_line, ◌>>=◌}
-use Rattle.pp_sim.specs.DeckMeaning.{begins_section, is_processor_keyword, misplaced, unless_misplaced, line_behind}
+use Rattle.pp_sim.specs.DeckLine.{Line, nothing, central_size, central_words, section, start, words, keyword_of, line_by, number_then, ends_with, start_from, words_in, central_line, central_words_line, section_line, start_line, words_line, ◌>>=◌, misplaced, unless_misplaced, line_behind}
+use Rattle.pp_sim.specs.DeckMeaning.{begins_section, is_processor_keyword}
 use Rattle.pp_sim.specs.DeckProgress.{current_after}
 use Rattle.pp_sim.specs.declared.flaw.Flaw.{Flaw}
 use Rattle.pp_sim.specs.declared.flaw.Flaw.TheVariants.{PastEnd}

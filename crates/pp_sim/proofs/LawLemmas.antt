@@ -14,7 +14,8 @@ use Rattle.pp_machine.specs.Processor.{Processor, new_processor, word_at}
 use Rattle.pp_machine.specs.ProcessorNumber.{processor_count, processor_number, processor_index}
 use Rattle.pp_sim.specs.DeckLaw.{IsFor, StandsAt, SetsWord, SetsCentralWord, Starts, Registers, registers_of, at_rest, started_at, HoldsLast, IsNamed, KeepsDeckLaw, line_of}
 use Rattle.pp_sim.specs.DeckLine.{Line, nothing, central_size, central_words, section, start, words}
-use Rattle.pp_sim.specs.DeckMeaning.{LoadedDeck, last_of, word_among, word_for, central_word_for, start_in, is_for, section_of, lines_for, names, is_named, memory_of, processor_with, processor_loaded, central_loaded, loaded, size_of, lines_said, faults_in, unless_faulty, meaning_of_lines, is_foreign, unless_foreign, deck_meaning}
+use Rattle.pp_sim.specs.DeckLoad.{last_of, word_among, word_for, central_word_for, start_in, is_for, section_of, lines_for, names, is_named, memory_of, processor_with, processor_loaded, central_loaded}
+use Rattle.pp_sim.specs.DeckMeaning.{LoadedDeck, loaded, size_of, lines_said, faults_in, unless_faulty, meaning_of_lines, is_foreign, unless_foreign, deck_meaning}
 use Rattle.pp_sim.specs.DeckText.{lines_of}
 use Rattle.pp_sim.specs.declared.deck_fault.DeckFault.{DeckFault}
 use Rattle.pp_sim.specs.DeckProgress.{current_after}

@@ -7,7 +7,7 @@ use Rattle.std.proofs.lemmas.List.{ext_get_or, append-nil, length-set, get_or-se
 use Rattle.std.proofs.lemmas.List.FromFn.{length-map-range_with_len, get_or-map-range_with_len}
 use Rattle.std.proofs.lemmas.List.Elements.{filter_map-append}
 use Rattle.std.proofs.lemmas.Option.{slice_get-get_or}
-use Rattle.pp_sim.specs.DeckMeaning.{tabulate, last_of}
+use Rattle.pp_sim.specs.DeckLoad.{tabulate, last_of}
 
 -- ---- tabulate
 

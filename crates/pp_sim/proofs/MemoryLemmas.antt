@@ -5,7 +5,7 @@ use Rattle.std.proofs.lemmas.Bool.{le-leb, lt-leb, cases_order}
 use Rattle.std.proofs.lemmas.List.{length-set, get_or-set_same, get_or-set_other}
 use Rattle.pp_word.specs.Address.{place_count}
 use Rattle.pp_sim.specs.DeckLine.{Line, central_words, words}
-use Rattle.pp_sim.specs.DeckMeaning.{last_of, word_among, word_for, central_word_for, memory_of, central_loaded, tabulate}
+use Rattle.pp_sim.specs.DeckLoad.{last_of, word_among, word_for, central_word_for, memory_of, central_loaded, tabulate}
 use Rattle.pp_sim.specs.DeckProgress.{with_words}
 use Rattle.pp_sim.proofs.ListLemmas.{or_else, last_of_more, filter_map_more, length-tabulate, get_or-tabulate, tabulate_is, tabulate_same, tabulate_const}
 

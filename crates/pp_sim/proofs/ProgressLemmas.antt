@@ -9,7 +9,7 @@ use Rattle.pp_machine.specs.PpMemory.{empty_memory}
 use Rattle.pp_machine.specs.Processor.{Processor, new_processor}
 use Rattle.pp_machine.specs.ProcessorNumber.{processor_count, processor_number, processor_index}
 use Rattle.pp_sim.specs.DeckLine.{Line, nothing, central_size, central_words, section, start, words}
-use Rattle.pp_sim.specs.DeckMeaning.{last_of, section_of, is_for, lines_for, start_in, memory_of, central_loaded, processor_with, processor_loaded, is_named, names, each_processor}
+use Rattle.pp_sim.specs.DeckLoad.{last_of, section_of, is_for, lines_for, start_in, memory_of, central_loaded, processor_with, processor_loaded, is_named, names, each_processor}
 use Rattle.pp_sim.specs.DeckProgress.{Progress, before_lines, with_words, loaded_from, started, with_processor, machine_after, named_after, current_after, after_line, after_lines, progress_of}
 use Rattle.pp_sim.proofs.ListLemmas.{or_else, last_of_more, filter_map_more, get_or-tabulate, tabulate_same, tabulate_const, set-tabulate}
 use Rattle.pp_sim.proofs.MemoryLemmas.{memory_none, memory_set, memory_kept, central_none, central_set, central_kept}

@@ -7,8 +7,8 @@ use Rattle.std.proofs.lemmas.List.Elements.{filter_map-append}
 use Rattle.std.proofs.lemmas.List.Folds.{list_any_more}
 use Rattle.std.proofs.lemmas.List.Sums.{fold-append}
 use Rattle.pp_sim.specs.FlawCode.{code_of}
-use Rattle.pp_sim.specs.DeckLine.{Line, nothing}
-use Rattle.pp_sim.specs.DeckMeaning.{has_fields, begins_section, line_behind, line_at, size_of, fault_in, faults_in, line_in, lines_said, loaded, unless_faulty, meaning_of_lines}
+use Rattle.pp_sim.specs.DeckLine.{Line, nothing, line_behind}
+use Rattle.pp_sim.specs.DeckMeaning.{has_fields, begins_section, line_at, size_of, fault_in, faults_in, line_in, lines_said, loaded, unless_faulty, meaning_of_lines}
 use Rattle.pp_sim.specs.DeckProgress.{Progress, before_lines, after_line, after_lines, progress_of, on_read}
 use Rattle.pp_sim.specs.declared.deck_fault.DeckFault.{DeckFault}
 use Rattle.pp_sim.specs.declared.flaw.Flaw.{Flaw}

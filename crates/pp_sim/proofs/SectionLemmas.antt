@@ -4,7 +4,7 @@ use Rattle.std.specs.Prelude.{filter_map, option_to_list}
 use Rattle.std.specs.List.{range_with_len}
 use Rattle.std.proofs.lemmas.List.{take-append-le, take_at, get_or_append_left, get_or_push, length_push}
 use Rattle.pp_sim.specs.DeckLine.{Line, nothing, central_size, central_words, section, start, words}
-use Rattle.pp_sim.specs.DeckMeaning.{last_of, processor_in, section_of, is_for, lines_for}
+use Rattle.pp_sim.specs.DeckLoad.{last_of, processor_in, section_of, is_for, lines_for}
 use Rattle.pp_sim.specs.DeckProgress.{current_after}
 use Rattle.pp_sim.proofs.ListLemmas.{or_else, last_of_more, filter_map_more, filter_map_same, range_more}
 

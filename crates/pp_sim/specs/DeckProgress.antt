@@ -5,7 +5,8 @@ use Rattle.pp_machine.specs.Processor.{Processor}
 use Rattle.pp_machine.specs.ProcessorNumber.{processor_count, processor_index}
 use Rattle.pp_machine.specs.declared.pp_state.PpState.TheVariants.{Running}
 use Rattle.pp_sim.specs.DeckLine.{Line, central_words, section, start, words}
-use Rattle.pp_sim.specs.DeckMeaning.{loaded, section_of}
+use Rattle.pp_sim.specs.DeckLoad.{section_of}
+use Rattle.pp_sim.specs.DeckMeaning.{loaded}
 use Rattle.pp_sim.specs.declared.flaw.Flaw.{Flaw}
 
 -- the machine so far, the processors named so far, and the one whose section it is

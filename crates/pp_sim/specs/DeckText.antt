@@ -4,6 +4,13 @@ use Rattle.std.specs.Prelude.{ℕ, ◌-◌, ◌==◌, Bool, true, false, not, �
 use Rattle.std.specs.Borrow.{Bor}
 use Rattle.std.specs.List.{slice_split, take_while}
 
+-- the characters of a field, and the fields of a line from left to right
+abbrev pub Field : Type 0
+Field = List ℕ
+
+abbrev pub Fields : Type 0
+Fields = List Field
+
 abbrev pub is_line_feed : ℕ → Bool
 is_line_feed byte = byte == 10
 
@@ -16,7 +23,7 @@ abbrev pub without_return : List ℕ → List ℕ
 without_return line = if slice_index line (length line - 1) == 13 then take (length line - 1) line else line
 
 -- a comment begins with `*`
-abbrev pub is_comment : List ℕ → Bool
+abbrev pub is_comment : Field → Bool
 is_comment field = slice_index field 0 == 42
 
 abbrev pub is_nonempty : List ℕ → Bool
@@ -24,18 +31,18 @@ is_nonempty [] = false
 is_nonempty (character ∷ piece) = true
 
 -- the fields in some text: what stands between blanks, up to a comment
-unfoldable pub fields_in : List ℕ → List (List ℕ)
+unfoldable pub fields_in : List ℕ → Fields
 fields_in text = take_while (λ field. not (is_comment field)) (filter is_nonempty (slice_split is_blank text))
 
 -- the fields of a line
-abbrev pub fields_of : List ℕ → List (List ℕ)
+abbrev pub fields_of : List ℕ → Fields
 fields_of line = fields_in (without_return line)
 
 -- the lines of a text, each as its fields. What stands behind the last LF is a line too
-unfoldable pub lines_of : List ℕ → List (List (List ℕ))
+unfoldable pub lines_of : List ℕ → List Fields
 lines_of text = map fields_of (slice_split is_line_feed text)
 
 -- the lines of what is left of a text; none where nothing is left
-abbrev pub lines_left : Option (Bor (List ℕ)) → List (List (List ℕ))
+abbrev pub lines_left : Option (Bor (List ℕ)) → List Fields
 lines_left None = []
 lines_left (Some text) = lines_of text.now

@@ -2,6 +2,7 @@ pub mod FlawCode
 pub mod DeckText
 pub mod OctalNumber
 pub mod DeckLine
+pub mod DeckLoad
 pub mod DeckMeaning
 pub mod PrintedText
 pub mod TextAnswer

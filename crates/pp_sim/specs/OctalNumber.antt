@@ -1,6 +1,7 @@
 -- Numbers in the fields of a deck.
 use Rattle.std.specs.Prelude.{ℕ, ◌+◌, ◌*◌, ◌-◌, ◌&&◌, Bool, List, length, nat_le, Result, Ok, Err, fold, if◌then◌else◌}
 use Rattle.std.specs.List.{list_all}
+use Rattle.pp_sim.specs.DeckText.{Field}
 use Rattle.pp_sim.specs.declared.flaw.Flaw.{Flaw}
 use Rattle.pp_sim.specs.declared.flaw.Flaw.TheVariants.{BadDigits}
 
@@ -13,7 +14,7 @@ abbrev pub octal_value : List ℕ → ℕ
 octal_value digits = fold (λ value digit. value * 8 + (digit - 48)) 0 digits
 
 -- the number in a field: one octal digit at least, and so many at most
-unfoldable pub number : ℕ → List ℕ → Result ℕ Flaw
+unfoldable pub number : ℕ → Field → Result ℕ Flaw
 number most field =
     if nat_le 1 (length field) && nat_le (length field) most && list_all is_octal_digit field then Ok (octal_value field)
     else Err BadDigits

@@ -1,8 +1,7 @@
 //! A deck as far as it was read.
 
 ghost use Rattle.std.specs.Prelude.{◌≡◌, ◌≤◌, ◌∷◌, ◌^◌, length, is_some, None, Some, IfOk, if◌then◌else◌};
-ghost use Rattle.pp_sim.specs.DeckLine.{section_line, start_line, words_line, central_words_line};
-ghost use Rattle.pp_sim.specs.DeckMeaning.{line_behind, unless_misplaced};
+ghost use Rattle.pp_sim.specs.DeckLine.{section_line, start_line, words_line, central_words_line, line_behind, unless_misplaced};
 ghost use Rattle.pp_sim.specs.DeckProgress.{before_lines, after_line, on_read, Leaves};
 
 use crate::deck::Deck;
@@ -61,7 +60,7 @@ impl<A: Allocator> Reading<A> {
 
     /// Reads a line with this first field and these behind it. `is_behind_fields` says whether a line
     /// with fields stands before it.
-    #[tactic(auto, unfolding(crate::specs::DeckMeaning::line_behind, crate::specs::DeckProgress::after_line))]
+    #[tactic(auto, unfolding(crate::specs::DeckLine::line_behind, crate::specs::DeckProgress::after_line))]
     pub(crate) fn read_line(
         &mut self,
         is_behind_fields: bool,
