@@ -1,6 +1,6 @@
 //! Decks.
 
-ghost use Rattle.std.specs.Prelude.{ℕ, ◌≡◌, ◌≢◌, ◌+◌, ◌≤◌, ◌<◌, ◌^◌, Ok, Err, IfOk, IfErr, OnOk, length, position};
+ghost use Rattle.std.specs.Prelude.{ℕ, ◌≡◌, ◌≢◌, ◌≤◌, ◌<◌, ◌^◌, Ok, Err, IfOk, IfErr, OnOk, length, position};
 ghost use Rattle.pp_sim.specs.DeckText.{lines_of};
 ghost use Rattle.pp_sim.specs.DeckMeaning.{deck_meaning, meaning_of_lines, size_of, is_foreign, line_of_byte};
 ghost use Rattle.pp_sim.specs.DeckProgress.{before_lines};
@@ -22,7 +22,8 @@ pub struct Deck<A: Allocator> {
     pub named: [bool; PROCESSORS],
 }
 
-/// The deck of a text. Only `Memory` takes the place of what the text means.
+/// The deck of a text: ASCII of at most 1,048,576 bytes (decimal), whose numbers are octal. What a
+/// text means is told in `specs/DeckMeaning`; only `Memory` takes the place of that.
 #[tactic(auto, unfolding(crate::specs::DeckMeaning::deck_meaning))]
 pub fn read_deck<A: Allocator + Copy>(alloc: A, text: &[u8]) -> Result<Deck<A>, DeckFault>
     ensures ok { IfOk result (λ deck. deck_meaning text.now ≡ Ok (record { machine = deck.machine; named = deck.named })) }

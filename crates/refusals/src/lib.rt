@@ -5,4 +5,6 @@
 #[cfg(test)]
 mod channel;
 #[cfg(test)]
+mod deck;
+#[cfg(test)]
 mod machine;

@@ -1,0 +1,65 @@
+//! A deck whose growths are refused.
+
+use pp_machine::PpNo;
+use pp_sim::{Deck, DeckCode, DeckFault, read_deck};
+use pp_word::{Word12, Word18, Word60};
+use rationed::Rationed;
+use std::alloc::Allocator;
+use std::test::Fail;
+
+const DECK: &[u8] = b"CENTRAL 7\nCM 5 00010002000300040005\nPP 1\n0200 7005 0300\nSTART 0200\n";
+
+/// Whether this is the deck, by what it loads and names.
+fn is_loaded<A: Allocator>(deck: &Deck<A>) -> bool {
+    let one = deck.machine.pp(PpNo::FIRST.next());
+    let central = deck.machine.central();
+    central.size() == 7
+        && central.read(Word18::truncated(5)) == Some(Word60::truncated(0o0001_0002_0003_0004_0005))
+        && one.get(Word12::truncated(0o201)) == Word12::truncated(0o300)
+        && one.p() == Word12::truncated(0o200)
+        && deck.named[1]
+}
+
+#[test]
+fn deck_refused(rt: HostRuntime) -> Result<(), Fail> {
+    let heap = Rationed::new(rt.alloc());
+    let no_memory = DeckFault {
+        line: 0,
+        code: DeckCode::Memory,
+    };
+    for number in 1..100u64 {
+        heap.refuse(number);
+        let deck = read_deck(&heap, DECK);
+        let refused = heap.has_refused();
+        heap.refuse(0);
+        if !refused {
+            assert!(rt; deck.is_ok_and(|deck| is_loaded(&deck)));
+            assert!(rt; number > 1, "a machine grows");
+            return Ok(());
+        }
+        assert_eq!(rt; deck.err(), Some(no_memory), "request {number}");
+    }
+    panic!(rt; "a request is refused in each run")
+}
+
+#[test]
+fn texts_that_ask_for_nothing(rt: HostRuntime) -> Result<(), Fail> {
+    let heap = Rationed::new(rt.alloc());
+    let long = vec![in rt.alloc(); b' '; 1_048_577]?;
+    heap.refuse(1);
+    let too_long = DeckFault {
+        line: 0,
+        code: DeckCode::TooLong,
+    };
+    assert_eq!(rt; read_deck(&heap, &long).err(), Some(too_long));
+    let not_ascii = DeckFault {
+        line: 2,
+        code: DeckCode::NotAscii,
+    };
+    assert_eq!(rt;
+        read_deck(&heap, b"PP 12\n\x80".as_slice()).err(),
+        Some(not_ascii)
+    );
+    assert_eq!(rt; heap.asked(), 0);
+    Ok(())
+}
