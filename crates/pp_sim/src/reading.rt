@@ -1,6 +1,7 @@
 //! A deck as far as it was read.
 
-ghost use Rattle.std.specs.Prelude.{◌≡◌, ◌≤◌, ◌∷◌, ◌^◌, length, is_some, None, Some, IfOk, if◌then◌else◌};
+ghost use Rattle.std.specs.Prelude.{◌≡◌, ◌≤◌, ◌∷◌, ◌^◌, length, is_some, None, Some, IfOk, IsErrOf, ◌↔◌, if◌then◌else◌};
+ghost use Rattle.pp_machine.specs.Central.{IsCentralSize};
 ghost use Rattle.pp_sim.specs.DeckLine.{section_line, start_line, words_line, central_words_line, line_behind, unless_misplaced};
 ghost use Rattle.pp_sim.specs.DeckProgress.{before_lines, after_line, on_read, Leaves};
 
@@ -36,7 +37,8 @@ impl<A: Allocator> Reading<A> {
     pub(crate) fn new(alloc: A, size: u32) -> Result<Self, CentralFault>
     where
         A: Copy,
-        ensures { IfOk result (λ reading. reading ≡ before_lines size) }
+        ensures ok { IfOk result (λ reading. reading ≡ before_lines size) }
+        ensures bad_size { IsErrOf result CentralFault.BadSize ↔ ¬ IsCentralSize size }
     {
         Ok(Reading {
             machine: Machine::new(alloc, size)?,
