@@ -35,7 +35,10 @@ fn text_refused(rt: HostRuntime) -> Result<(), Fail> {
         if !heap.has_refused() {
             assert!(rt; done.is_ok());
             assert!(rt; writer.as_slice() == TEXT.as_bytes());
-            assert!(rt; number > 5, "bytes, fields, processors, events and text grow");
+            assert!(rt;
+                number > 5,
+                "bytes, fields, processors, events and text grow"
+            );
             return Ok(());
         }
         assert!(rt; matches!(done, Err(TextFault::Memory)), "request {number}");
@@ -61,7 +64,10 @@ fn program_refused(rt: HostRuntime) -> Result<(), Fail> {
         }
         assert_eq!(rt; status, 4, "request {number}");
         assert!(rt; output.is_empty(), "request {number}");
-        assert!(rt; error.as_slice() == b"ppsim: out of memory\n".as_slice(), "request {number}");
+        assert!(rt;
+            error.as_slice() == b"ppsim: out of memory\n".as_slice(),
+            "request {number}"
+        );
     }
     panic!(rt; "a request is refused in each run")
 }
