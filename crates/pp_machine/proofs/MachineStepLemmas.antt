@@ -1,16 +1,23 @@
 -- A step of a processor at rest, and a step that needs nothing from outside.
-use Rattle.std.proofs.Common.{◌≡◌, ◌≢◌, ℕ, slice_set, refl, ap, ◌∙◌}
+use Rattle.std.proofs.Common.{◌≡◌, ◌≢◌, ℕ, List, [], ◌++◌, append-nil, slice_set, refl, sym, ap, ◌∙◌}
 use Rattle.std.specs.Prelude.{None}
 use Rattle.std.proofs.lemmas.List.{set-get_or}
-use Rattle.pp_machine.specs.MachineState.{MachineState, processor_of}
+use Rattle.pp_channel.specs.Answer.{flags_of}
+use Rattle.pp_channel.specs.ChannelNumber.{channel_index}
+use Rattle.pp_channel.specs.declared.chan_op.ChanOp.TheVariants.{Probe}
+use Rattle.pp_channel.specs.declared.event.Event.{Event}
+use Rattle.pp_channel.specs.declared.flags.Flags.{Flags}
+use Rattle.pp_channel.specs.declared.reply.Reply.TheVariants as replies
+use Rattle.pp_machine.specs.MachineState.{MachineState, processor_of, history_of}
 use Rattle.pp_machine.specs.MachineStep.{answer_to, counted, event_for, served, taken, stepped, step_event, step_outcome}
-use Rattle.pp_machine.specs.NeedAndEffect.{need, need_in, processor_after, outcome}
+use Rattle.pp_machine.specs.NeedAndEffect.{need, need_in, outcome}
 use Rattle.pp_machine.specs.Processor.{Processor, new_processor}
 use Rattle.pp_machine.specs.ProcessorNumber.{processor_index}
 use Rattle.pp_machine.specs.StepLaws.{IsAtRest}
 use Rattle.pp_machine.specs.declared.answer.Answer.TheVariants as answers
-use Rattle.pp_machine.specs.declared.need.Need.TheVariants.{Nothing, Local}
+use Rattle.pp_machine.specs.declared.need.Need.TheVariants.{Nothing, Local, Channel}
 use Rattle.pp_machine.specs.declared.outcome.Outcome.TheVariants.{AtRest, Moved}
+use Rattle.pp_machine.specs.declared.trace.Trace.{Trace}
 use Rattle.pp_machine.specs.declared.pp_state.PpState.{PpState}
 use Rattle.pp_machine.specs.declared.pp_state.PpState.TheVariants.{Running, Stopped, Fault}
 use Rattle.pp_machine.proofs.StepLemmas.{at_rest, rest_changes_nothing}
@@ -48,3 +55,21 @@ stepped_alone n m local = ap (λ x. taken n (answer_to x m) (served n x m)) loca
 pub outcome_alone : (n : ℕ) (m : MachineState) → need (processor_of n m) ≡ Local → outcome (processor_of n m) answers.Local ≡ Moved → step_outcome n m ≡ Moved
 unfolding step_outcome
 outcome_alone n m local moved = ap (λ x. outcome (processor_of n m) (answer_to x m)) local ∙ moved
+
+-- a test of the flags of a channel changes no history
+pub stepped_by_probe : (n c : ℕ) (flags : Flags) (m : MachineState) → need (processor_of n m) ≡ Channel c Probe → flags ≡ flags_of (history_of c m) → stepped n m ≡ taken n (answers.Channel (replies.Flags flags)) m
+unfolding stepped
+stepped_by_probe n c flags m probes shown =
+    let x = answers.Channel (replies.Flags (flags_of (history_of c m))) in
+    ap (λ x. taken n (answer_to x m) (served n x m)) probes
+    ∙ ap (λ (h : List Event). taken n x (record m { histories = slice_set m.histories (channel_index c) h; trace = m.trace ++ [] })) (append-nil (history_of c m))
+    ∙ ap (λ (hs : List (List Event)). taken n x (record m { histories = hs; trace = m.trace ++ [] })) (set-get_or m.histories (channel_index c) [])
+    ∙ ap (λ (t : List Trace). taken n x (record m { trace = t })) (append-nil m.trace)
+    ∙ ap (λ f. taken n (answers.Channel (replies.Flags f)) m) (sym shown)
+
+pub outcome_by_probe : (n c : ℕ) (flags : Flags) (m : MachineState) → need (processor_of n m) ≡ Channel c Probe → flags ≡ flags_of (history_of c m) → outcome (processor_of n m) (answers.Channel (replies.Flags flags)) ≡ Moved → step_outcome n m ≡ Moved
+unfolding step_outcome
+outcome_by_probe n c flags m probes shown moved =
+    ap (λ x. outcome (processor_of n m) (answer_to x m)) probes
+    ∙ ap (λ f. outcome (processor_of n m) (answers.Channel (replies.Flags f))) (sym shown)
+    ∙ moved

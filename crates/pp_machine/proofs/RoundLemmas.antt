@@ -1,12 +1,12 @@
 -- Processors at rest in the rounds of the barrel.
-use Rattle.std.proofs.Common.{◌≡◌, ◌≢◌, ℕ, zero, suc, ◌+◌, ◌-◌, ◌^◌, ◌%◌, ◌<◌, ◌≤◌, List, [], ◌∷◌, ◌++◌, slice_set, get_or, refl, sym, ap, subst, ◌∙◌, arith, inl, inr, get_or-set_same, get_or-set_other, length}
+use Rattle.std.proofs.Common.{◌≡◌, ◌≢◌, ℕ, zero, suc, ◌+◌, ◌-◌, ◌^◌, ◌%◌, ◌<◌, ◌≤◌, List, slice_set, get_or, refl, sym, ap, subst, ◌∙◌, arith, inl, inr, get_or-set_same, get_or-set_other, length}
 use Rattle.std.specs.Prelude.{min}
 use Rattle.std.proofs.lemmas.Bool.Decides.{eqb_tells}
 use Rattle.pp_machine.specs.MachineState.{MachineState, processor_of}
 use Rattle.pp_machine.specs.MachineStep.{answer_to, stepped}
 use Rattle.pp_machine.specs.NeedAndEffect.{need, processor_after}
 use Rattle.pp_machine.specs.Processor.{Processor, new_processor}
-use Rattle.pp_machine.specs.ProcessorNumber.{processor_count, processor_index, processor_number, processor_in_turn}
+use Rattle.pp_machine.specs.ProcessorNumber.{processor_count, processor_index, processor_in_turn}
 use Rattle.pp_machine.specs.Rounds.{RestBetween, PassesOverRest}
 use Rattle.pp_machine.specs.Run.{run, barrel}
 use Rattle.pp_machine.specs.StepLaws.{IsAtRest}
@@ -39,7 +39,7 @@ passes_over_stepped next n m passes = λ place named. record {
 -- so far all processors from place to running are at rest, and the list passes over them from each place on
 pub record PassesFrom (next : List ℕ) (place running : ℕ) (processors : List Processor) : Type 0 where
   pub ahead : RestBetween place running processors
-  pub further : (k : ℕ) → place ≤ k → k < processor_count → RestBetween k (get_or next k 0) processors
+  pub further : (k : ℕ) → place ≤ k → k ≤ processor_count → RestBetween k (get_or next k 0) processors
 
 none_between : (place : ℕ) (processors : List Processor) → place ≤ processor_count → RestBetween place place processors
 none_between place processors within = record {
@@ -48,15 +48,18 @@ none_between place processors within = record {
   at_rest = λ between after before. absurd (omega arith);
 }
 
-pub passes_from_end : (next : List ℕ) (processors : List Processor) → PassesFrom next processor_count processor_count processors
-passes_from_end next processors = record {
+pub passes_from_end : (next : List ℕ) (processors : List Processor) → get_or next processor_count 0 ≡ processor_count → PassesFrom next processor_count processor_count processors
+passes_from_end next processors last = record {
   ahead = none_between processor_count processors (omega arith);
-  further = λ k after within. absurd (omega arith);
+  further = λ k after within.
+      let here : processor_count ≡ k = omega arith in
+      let none = none_between processor_count processors (omega arith) in
+      subst (λ i. RestBetween i (get_or next i 0) processors) here (subst (λ running. RestBetween processor_count running processors) (sym last) none);
 }
 
 -- the list is set at the place before
 set_before : (next : List ℕ) (place running : ℕ) (processors : List Processor) → place < length next → RestBetween place running processors
-    → ((k : ℕ) → place + 1 ≤ k → k < processor_count → RestBetween k (get_or next k 0) processors)
+    → ((k : ℕ) → place + 1 ≤ k → k ≤ processor_count → RestBetween k (get_or next k 0) processors)
     → PassesFrom (slice_set next place running) place running processors
 set_before next place running processors inside ahead further = record {
   ahead = ahead;
@@ -122,15 +125,12 @@ passed_to place running m n forward rest is =
     ∙ ap (λ t. run (barrel t) m) here
 
 -- at rest as far as a place, and so to any place before it
-pub rest_to : (place running turns : ℕ) (processors : List Processor) → place ≤ turns → RestBetween place running processors → RestBetween place (min running turns) processors
-rest_to place running turns processors within rest =
-    let forward = rest.forward in
-    let bound = rest.within in
-    record {
-      forward = omega arith;
-      within = omega arith;
-      at_rest = λ between after before. rest.at_rest between after (omega arith);
-    }
+pub rest_to : (place running turns : ℕ) (processors : List Processor) → place ≤ turns → turns ≤ running → RestBetween place running processors → RestBetween place turns processors
+rest_to place running turns processors within before rest = record {
+  forward = within;
+  within = let bound = rest.within in omega arith;
+  at_rest = λ between after until. rest.at_rest between after (omega arith);
+}
 
 -- whole rounds, and then more turns
 pub barrel_rounds : (turns done : ℕ) (m : MachineState) → done % processor_count ≡ 0 → run (barrel (done + turns)) m ≡ run (barrel turns) (run (barrel done) m)

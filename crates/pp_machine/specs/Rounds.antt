@@ -1,6 +1,6 @@
 -- Rounds of the barrel in which processors at rest are passed over: a step of theirs counts a turn, and does
 -- nothing else.
-use Rattle.std.specs.Prelude.{ℕ, ◌<◌, ◌≤◌, List, slice_index, slice_index_or}
+use Rattle.std.specs.Prelude.{◌≡◌, ℕ, ◌%◌, ◌<◌, ◌≤◌, ◌⊎◌, List, slice_index, slice_index_or}
 use Rattle.pp_machine.specs.Processor.{Processor, new_processor}
 use Rattle.pp_machine.specs.ProcessorNumber.{processor_count}
 use Rattle.pp_machine.specs.StepLaws.{IsAtRest}
@@ -11,6 +11,10 @@ pub record RestBetween (place running : ℕ) (processors : List Processor) : Typ
   pub within : running ≤ processor_count
   pub at_rest : (between : ℕ) → place ≤ between → between < running → IsAtRest (slice_index_or processors between new_processor)
 
--- a list that has for each place of the barrel a place to which all processors are at rest
+-- a list that has for each place of the barrel, and for its end, a place to which all processors are at rest
 abbrev pub PassesOverRest : List ℕ → List Processor → Type 0
-PassesOverRest next processors = (place : ℕ) → place < processor_count → RestBetween place (slice_index next place) processors
+PassesOverRest next processors = (place : ℕ) → place ≤ processor_count → RestBetween place (slice_index next place) processors
+
+-- so many turns are whole rounds of the barrel, or a part of one
+abbrev pub AreRounds : ℕ → ℕ → Type 0
+AreRounds turns round = ((round ≡ processor_count) × (turns % processor_count ≡ 0)) ⊎ ((turns ≡ round) × (round ≤ processor_count))

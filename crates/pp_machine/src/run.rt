@@ -2,7 +2,7 @@
 
 ghost use Rattle.std.specs.Prelude.{◌≡◌, ◌<◌, ◌≤◌, length, take, slice_index, IfErr, IsSome, OnOk, vec_len};
 ghost use Rattle.pp_machine.specs.ProcessorNumber.{processor_count};
-ghost use Rattle.pp_machine.specs.Rounds.{RestBetween, PassesOverRest};
+ghost use Rattle.pp_machine.specs.Rounds.{AreRounds, RestBetween, PassesOverRest};
 
 use crate::cut::Cut;
 use crate::machine::Machine;
@@ -14,8 +14,8 @@ use std::alloc::Allocator;
 /// How many turns a round of the barrel has (decimal).
 const ROUND: u32 = PROCESSORS as u32;
 
-/// After how many turns of the barrel it looks again which processors are at rest (decimal): a look
-/// costs as much as some turns.
+/// After how many turns of the barrel, in whole rounds, it looks again which processors are at rest
+/// (decimal): a look costs as much as some turns.
 const LOOK_AFTER: u32 = 640;
 
 impl<A: Allocator> Machine<A> {
@@ -55,19 +55,48 @@ impl<A: Allocator> Machine<A> {
         ensures headline { HoldsOnEachChannel self.new }
     {
         let _sound = &self.turns;
-        let mut next = [0; PROCESSORS];
-        let mut look = 0;
         let mut done = 0;
         while done < turns {
-            if done >= look {
-                next = next_running(&self.processors);
-                look = done.saturating_add(LOOK_AFTER);
-            }
-            let round = (turns - done).min(ROUND);
-            if let Err(before) = self.run_round(round as usize, &next) {
+            let left = turns - done;
+            let round = left.min(ROUND);
+            let further = if left < ROUND {
+                left
+            } else {
+                (left - left % ROUND).min(LOOK_AFTER)
+            };
+            let next = next_running(&self.processors);
+            if let Err(before) = self.run_rounds(further, round, &next) {
                 return Err(Cut {
-                    done: u64::from(done) + before as u64,
+                    done: u64::from(done + before),
                 });
+            }
+            done += further;
+        }
+        Ok(())
+    }
+
+    /// So many turns in rounds of the barrel, where `next` tells which processors at rest to pass over.
+    /// Refused, it says how many steps were done.
+    #[tactic(auto, using(crate::proofs::RoundLemmas::barrel_rounds))]
+    fn run_rounds(
+        &mut self,
+        turns: u32,
+        round: u32,
+        next: &[usize; PROCESSORS + 1],
+    ) -> Result<(), u32>
+        requires rounds { AreRounds turns round }
+        requires passes { PassesOverRest next.now self.old.processors }
+        requires sound { HoldsOnEachChannel self.old }
+        ensures ok { OnOk result (self.new ≡ run (barrel turns) self.old) }
+        ensures cut { IfErr result (λ done. self.new ≡ run (barrel done) self.old) }
+        ensures within { IfErr result (λ done. done < turns) }
+        ensures cut_at_event { IfErr result (λ done. IsSome (step_event (processor_in_turn done) self.new)) }
+        ensures headline { HoldsOnEachChannel self.new }
+    {
+        let mut done = 0;
+        while done < turns {
+            if let Err(before) = self.run_round(round as usize, next) {
+                return Err(done + before as u32);
             }
             done += round;
         }
@@ -77,7 +106,7 @@ impl<A: Allocator> Machine<A> {
     /// The first turns of a round of the barrel, where `next` tells which processors at rest to pass
     /// over. Refused, it says how many steps were done.
     #[tactic(auto, using(crate::proofs::RunLemmas::barrel_more, crate::proofs::RunLemmas::some_event, crate::proofs::RoundLemmas::rest_to, crate::proofs::RoundLemmas::passes_over_stepped))]
-    fn run_round(&mut self, turns: usize, next: &[usize; PROCESSORS]) -> Result<(), usize>
+    fn run_round(&mut self, turns: usize, next: &[usize; PROCESSORS + 1]) -> Result<(), usize>
         requires round { turns ≤ processor_count }
         requires passes { PassesOverRest next.now self.old.processors }
         requires sound { HoldsOnEachChannel self.old }
@@ -89,18 +118,18 @@ impl<A: Allocator> Machine<A> {
         ensures headline { HoldsOnEachChannel self.new }
     {
         let mut place = 0;
-        while place < turns {
-            let running = next[place].min(turns);
-            self.pass_to(place, running);
-            if running == turns {
+        loop {
+            let running = next[place];
+            if running >= turns {
+                self.pass_to(place, turns);
                 return Ok(());
             }
+            self.pass_to(place, running);
             let Ok(_outcome) = self.step(PpNo::at(running)) else {
                 return Err(running);
             };
             place = running + 1;
         }
-        Ok(())
     }
 
     /// Counts the turns of processors at rest, from a place to a place.
@@ -118,14 +147,14 @@ impl<A: Allocator> Machine<A> {
     }
 }
 
-/// For each place of the barrel the first place from there on whose processor is running, or the
-/// number of processors where there is none.
+/// For each place of the barrel, and for its end, the first place from there on whose processor is
+/// running, or the number of processors where there is none.
 #[tactic(auto, using(crate::proofs::RoundLemmas::passes_from_end, crate::proofs::RoundLemmas::passes_from_running, crate::proofs::RoundLemmas::passes_from_rest, crate::proofs::RoundLemmas::passes_from_start))]
-fn next_running<A: Allocator>(processors: &Vec<Pp, A>) -> [usize; PROCESSORS]
+fn next_running<A: Allocator>(processors: &Vec<Pp, A>) -> [usize; PROCESSORS + 1]
     requires { vec_len processors.now ≡ processor_count }
     ensures { PassesOverRest result processors.now.items }
 {
-    let mut next = [PROCESSORS; PROCESSORS];
+    let mut next = [PROCESSORS; PROCESSORS + 1];
     let mut running = PROCESSORS;
     for place in (0..PROCESSORS).rev() {
         match processors[place].state() {

@@ -6,7 +6,8 @@ ghost use Rattle.pp_channel.specs.Answer.{event_of, reply_to, history_after};
 ghost use Rattle.pp_channel.specs.ChannelNumber.{channel_count, channel_index};
 ghost use Rattle.pp_channel.specs.History.{IsLawful};
 ghost use Rattle.pp_channel.specs.Law.{KeepsLaw};
-ghost use Rattle.pp_machine.specs.Direct.{IsNext};
+ghost use Rattle.pp_machine.specs.Direct.{IsAtInstruction, IsNext};
+ghost use Rattle.pp_machine.specs.NeedAndEffect.{need};
 ghost use Rattle.pp_machine.specs.Replay.{fits};
 ghost use Rattle.pp_machine.specs.StepLaws.{IsAtRest};
 
@@ -50,7 +51,9 @@ impl<A: Allocator> Machine<A> {
         ensures turn { self.new ≡ record self.old { turns = counted self.old.turns } }
         ensures headline { HoldsOnEachChannel self.new }
     {
-        self.turns = self.turns.saturating_add(1);
+        if self.turns < u64::MAX {
+            self.turns += 1;
+        }
     }
 
     /// The step of a processor that is running.
@@ -70,8 +73,26 @@ impl<A: Allocator> Machine<A> {
                 self.count_turn();
                 return Ok(Outcome::Moved);
             }
+            if let Some(channel) = self.processors[i].tested_channel(*op, d) {
+                self.test_flags(n, channel, *op, d);
+                return Ok(Outcome::Moved);
+            }
         }
         self.step_with_answer(n, &next, d)
+    }
+
+    /// The step of a processor that tests the flags of a channel.
+    #[tactic(auto, using(crate::proofs::MachineStepLemmas::stepped_by_probe, crate::proofs::MachineStepLemmas::outcome_by_probe))]
+    fn test_flags(&mut self, n: PpNo, channel: ChannelNo, op: Opcode, d: Word6)
+        requires next { IsAtInstruction op d (processor_of n self.old) }
+        requires probes { need (processor_of n self.old) ≡ Need.Channel channel ChanOp.Probe }
+        ensures stepped { self.new ≡ stepped n self.old }
+        ensures outcome { step_outcome n self.old ≡ Outcome.Moved }
+        ensures headline { HoldsOnEachChannel self.new }
+    {
+        let flags = self.channel(channel).flags();
+        self.processors[n.index()].test_flags(op, d, flags);
+        self.count_turn();
     }
 
     /// The step of a processor with the answer to its need.

@@ -1,7 +1,7 @@
 //! The parts of a step, for the machine, which makes it without an answer in between: the instruction
 //! is decoded once.
 
-ghost use Rattle.std.specs.Prelude.{◌≡◌, ℕ, None, IsTrue};
+ghost use Rattle.std.specs.Prelude.{◌≡◌, ℕ, None, IsTrue, IfSome};
 ghost use Rattle.std.specs.Bool.{OnTrue, OnFalse};
 ghost use Rattle.pp_machine.specs.Direct.{IsAtInstruction, IsNext};
 ghost use Rattle.pp_machine.specs.InstructionTable.{instruction};
@@ -16,7 +16,7 @@ use crate::need::Need;
 use crate::outcome::Outcome;
 use crate::pp::Pp;
 use crate::pp_state::PpState;
-use pp_channel::Reply;
+use pp_channel::{ChanOp, ChannelNo, Flags, Reply};
 use pp_word::{Opcode, Word6, Word60};
 
 /// Whether an operation needs nothing from outside, whatever its operands: codes 00 to 57 (octal).
@@ -55,6 +55,35 @@ impl Pp {
         }
         self.run_local(op, d);
         true
+    }
+
+    /// The channel whose flags its next step tests: that of AJM, IJM, FJM or EJM.
+    #[tactic(auto, unfolding(crate::specs::NeedAndEffect::need))]
+    pub(crate) fn tested_channel(&self, op: Opcode, d: Word6) -> Option<ChannelNo>
+        requires { IsAtInstruction op d self.now }
+        ensures { IfSome result (λ channel. need self.now ≡ Need.Channel channel ChanOp.Probe) }
+    {
+        if !matches!(op, Opcode::AJM | Opcode::IJM | Opcode::FJM | Opcode::EJM) {
+            return None;
+        }
+        ChannelNo::new(d.get())
+    }
+
+    /// Makes its next step, a test of a channel with these flags.
+    #[tactic(auto, unfolding(crate::specs::NeedAndEffect::need, crate::specs::NeedAndEffect::processor_after, crate::specs::NeedAndEffect::outcome))]
+    pub(crate) fn test_flags(&mut self, op: Opcode, d: Word6, flags: Flags)
+        requires next { IsAtInstruction op d self.old }
+        requires fits { IsTrue (fits (need self.old) (Answer.Channel (Reply.Flags flags))) }
+        ensures after { self.new ≡ processor_after self.old (Answer.Channel (Reply.Flags flags)) }
+        ensures moved { outcome self.old (Answer.Channel (Reply.Flags flags)) ≡ Outcome.Moved }
+    {
+        match op {
+            Opcode::AJM => self.branch_where(flags.active),
+            Opcode::IJM => self.branch_where(!flags.active),
+            Opcode::FJM => self.branch_where(flags.full),
+            Opcode::EJM => self.branch_where(!flags.full),
+            _ => {}
+        }
     }
 
     /// What its next step needs, as `wants` says.

@@ -36,6 +36,7 @@ impl Pp {
     }
 
     /// An instruction that needs nothing from outside, in the order of the octal codes.
+    #[inline(always)]
     pub(super) fn run_local(&mut self, op: Opcode, d: Word6)
         requires { fits (need_of (instruction op self.old d)) Answer.Local ≡ true }
         ensures { self.new ≡ answered (instruction op self.old d) self.old Answer.Local }

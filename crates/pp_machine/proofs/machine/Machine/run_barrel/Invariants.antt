@@ -1,7 +1,6 @@
-use Rattle.std.proofs.Common.{◌≡◌, ◌%◌, ◌-◌, ◌<◌, ◌≤◌, ◌⊎◌}
+use Rattle.std.proofs.Common.{◌≡◌, ◌%◌, ◌-◌, ◌≤◌, ◌⊎◌}
 use Rattle.pp_machine.specs.Headline.{HoldsOnEachChannel}
 use Rattle.pp_machine.specs.ProcessorNumber.{processor_count}
-use Rattle.pp_machine.specs.Rounds.{PassesOverRest}
 use Rattle.pp_machine.specs.Run.{run, barrel}
 use Rattle.pp_machine.proofs.machine.Machine.run_barrel.Given as goal
 
@@ -10,7 +9,6 @@ invariant-loop-done g l = record {
   ran : l.self ≡ run (barrel l.done) l.fn.self;
   within : l.done ≤ l.turns;
   whole_rounds : (l.done % processor_count ≡ 0) ⊎ (l.done ≡ l.turns);
-  passes : 0 < l.look → PassesOverRest l.next l.self.processors;
   headline : HoldsOnEachChannel l.self;
 }
 

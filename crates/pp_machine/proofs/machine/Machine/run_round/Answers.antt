@@ -1,4 +1,4 @@
-use Rattle.std.proofs.Common.{arith, ◌≡◌, ◌+◌, ◌<◌, ◌≤◌, ap, sym, subst, ◌∙◌}
+use Rattle.std.proofs.Common.{arith, ◌≡◌, ap, sym, subst, ◌∙◌, get_or}
 use Rattle.pp_machine.specs.MachineState.{MachineState}
 use Rattle.pp_machine.specs.MachineStep.{stepped}
 use Rattle.pp_machine.specs.ProcessorNumber.{processor_in_turn}
@@ -8,15 +8,15 @@ use Rattle.pp_machine.proofs.RoundLemmas.{passes_over_stepped}
 use Rattle.pp_machine.proofs.RunLemmas.{barrel_more}
 use Rattle.pp_machine.proofs.machine.Machine.run_round.Goals as goal
 
-pub loop-place-preserved : goal.loop-place-preserved
-loop-place-preserved g c =
-    let running = c.min-running.result in
-    let ok : c.step.new.self ≡ stepped (processor_in_turn running) c.pass_to.new.self = c.in-Ok.ensures.ok ∙ ap (λ n. stepped n c.pass_to.new.self) c.at.ensures in
-    let passed : c.pass_to.new.self ≡ run (barrel running) c.args.self.now = c.pass_to.ensures.ran c.args.self.now c.loop-place.invariant.ran in
+pub loop-self-preserved : goal.loop-self-preserved
+loop-self-preserved g c =
+    let running = get_or c.args.next.now c.loop-self.place 0 in
+    let ok : c.step.new.self ≡ stepped (processor_in_turn running) c.pass_to-in-loop-self.new.self = c.in-Ok.ensures.ok ∙ ap (λ n. stepped n c.pass_to-in-loop-self.new.self) c.at.ensures in
+    let passed : c.pass_to-in-loop-self.new.self ≡ run (barrel running) c.args.self.now = c.pass_to-in-loop-self.ensures.ran c.args.self.now c.loop-self.invariant.ran in
     let P : MachineState → Type 0 = λ m. PassesOverRest c.args.next.now m.processors in
     record {
       ran = ok ∙ ap (stepped (processor_in_turn running)) passed ∙ sym (barrel_more running c.args.self.now);
       within = omega arith;
-      passes = subst P (sym ok) (passes_over_stepped c.args.next.now (processor_in_turn running) c.pass_to.new.self (subst (λ pps. PassesOverRest c.args.next.now pps) (sym c.pass_to.ensures.processors) c.loop-place.invariant.passes));
+      passes = subst P (sym ok) (passes_over_stepped c.args.next.now (processor_in_turn running) c.pass_to-in-loop-self.new.self (subst (λ pps. PassesOverRest c.args.next.now pps) (sym c.pass_to-in-loop-self.ensures.processors) c.loop-self.invariant.passes));
       headline = c.step.ensures.headline;
     }
