@@ -130,8 +130,10 @@ impl<A: Allocator> Machine<A> {
                 Ok(Outcome::Moved)
             }
             Need::Write(address, word) => {
-                let written = self.central.write(address, word);
-                self.processors[i].give_written(next, d, written);
+                // The processor first, since no store then comes between its two looks at its block.
+                let is_within = address.get() < self.central.size();
+                self.processors[i].give_written(next, d, is_within);
+                let _written = self.central.write(address, word);
                 self.count_turn();
                 Ok(Outcome::Moved)
             }
