@@ -6,8 +6,9 @@ use std::alloc::Global;
 use std::fs;
 
 /// The examples and their turns.
-const EXAMPLES: [(&str, &str); 12] = [
+const EXAMPLES: [(&str, &str); 13] = [
     ("handoff", "40"),
+    ("no_turns", "0"),
     ("lost_word", "80"),
     ("short_block", "80"),
     ("function_codes", "40"),

@@ -1,6 +1,8 @@
 //! Block transfers: their start, each word, and their end.
 
-ghost use Rattle.std.specs.Prelude.{◌≡◌, ◌-◌, Some};
+ghost use Rattle.std.specs.Prelude.{◌≡◌, ◌-◌, ◌<◌, Some};
+ghost use Rattle.pp_word.specs.Address.{next_place};
+ghost use Rattle.pp_word.specs.OnesComplement.{sum};
 ghost use Rattle.pp_machine.specs.Blocks.{receives, central_from, ends, starts, counts_down, counts_up, block_word};
 ghost use Rattle.pp_machine.specs.NeedAndEffect.{answered};
 
@@ -17,25 +19,89 @@ fn one_less(left: Word12) -> Word12
     Word12::truncated(u32::from(left.get()).saturating_sub(1))
 }
 
+/// One more in A: the sum with 1, without its end-around cases where there are none.
+fn one_more(a: Word18) -> Word18
+    ensures { result ≡ sum a 1 }
+{
+    if a.get() < 0o777_776 {
+        Word18::truncated(a.get() + 1)
+    } else {
+        add18(a, Word18::ONE)
+    }
+}
+
+/// The last place (octal) with the four places behind it before the end of memory: five words from
+/// there on need no turn round to place 0000.
+const LAST_OF_FIVE: u16 = 0o7773;
+
+/// The place behind one that is not the last.
+fn place_behind(place: Word12) -> Word12
+    requires { place < 0o7777 }
+    ensures { result ≡ next_place place }
+{
+    match Word12::new(place.get() + 1) {
+        Some(behind) => behind,
+        None => place,
+    }
+}
+
 impl Pp {
     /// The five parts of a central word come to a place and the four behind it.
     pub(super) fn receive(&mut self, place: Word12, central: Word60)
         ensures { self.new ≡ receives self.old place central }
     {
+        if place.get() > LAST_OF_FIVE {
+            return self.receive_round(place, central);
+        }
         let [first, second, third, fourth, fifth] = split60(central);
         self.set(place, first);
-        let place = next(place);
+        let place = place_behind(place);
         self.set(place, second);
-        let place = next(place);
+        let place = place_behind(place);
         self.set(place, third);
-        let place = next(place);
+        let place = place_behind(place);
         self.set(place, fourth);
-        let place = next(place);
+        let place = place_behind(place);
         self.set(place, fifth);
+    }
+
+    /// The same, where place 0000 may follow 7777 (octal).
+    fn receive_round(&mut self, place: Word12, central: Word60)
+        ensures { self.new ≡ receives self.old place central }
+    {
+        let [one, two, three, four, five] = split60(central);
+        self.set(place, one);
+        let place = next(place);
+        self.set(place, two);
+        let place = next(place);
+        self.set(place, three);
+        let place = next(place);
+        self.set(place, four);
+        let place = next(place);
+        self.set(place, five);
     }
 
     /// The central word of the five words at a place and the four behind it.
     pub(super) fn central_from(&self, place: Word12) -> Word60
+        ensures { result ≡ central_from self.now place }
+    {
+        if place.get() > LAST_OF_FIVE {
+            return self.central_from_round(place);
+        }
+        let second = place_behind(place);
+        let third = place_behind(second);
+        let fourth = place_behind(third);
+        join60(&[
+            self.get(place),
+            self.get(second),
+            self.get(third),
+            self.get(fourth),
+            self.get(place_behind(fourth)),
+        ])
+    }
+
+    /// The same, where place 0000 may follow 7777 (octal).
+    fn central_from_round(&self, place: Word12) -> Word60
         ensures { result ≡ central_from self.now place }
     {
         let second = next(place);
@@ -88,7 +154,7 @@ impl Pp {
     fn count_up(&mut self, left: Word12, kind: BlockKind, place: Word12)
         ensures { self.new ≡ counts_up self.old left kind place }
     {
-        self.a = add18(self.a, Word18::ONE);
+        self.a = one_more(self.a);
         if left.get() == 0 {
             self.end();
         } else {
