@@ -147,6 +147,40 @@ fn central_block(rt: HostRuntime) -> Result<(), Fail> {
     Ok(())
 }
 
+/// PP 1 of a short block: IAM of five words to the places 0300 and on, which hold 7777.
+fn put_receiver(pp: &mut Pp) {
+    put_words(pp, 0o200, &[0o1405, 0o7105, 0o0300, 0o0300]);
+    put_words(pp, 0o300, &[0o7777, 0o7777, 0o7777]);
+    pp.start(word(0o200), Word18::ZERO);
+}
+
+#[test]
+fn short_block(rt: HostRuntime) -> Result<(), Fail> {
+    let sender = [
+        0o7405, 0o1401, 0o7205, 0o1402, 0o7205, 0o6605, 0o0105, 0o7505, 0o0300,
+    ];
+    let one = processor(1)?;
+    let mut machine = Machine::new(rt.alloc(), 1)?;
+    let pp = machine.pp_mut(processor(0)?);
+    put_words(pp, 0o100, &sender);
+    pp.start(word(0o100), Word18::ZERO);
+    put_receiver(machine.pp_mut(one));
+    machine.run_barrel(80)?;
+    let pp = machine.pp(one);
+    for (place, number) in [(0o300, 1), (0o301, 2), (0o302, 0), (0, 0o202)] {
+        assert_eq!(rt; pp.get(word(place)), word(number));
+    }
+
+    let mut alone = Machine::new(rt.alloc(), 1)?;
+    put_receiver(alone.pp_mut(one));
+    alone.run_barrel(40)?;
+    let pp = alone.pp(one);
+    for (place, number) in [(0o300, 0), (0o301, 0o7777)] {
+        assert_eq!(rt; pp.get(word(place)), word(number));
+    }
+    Ok(())
+}
+
 #[test]
 fn fault_codes(rt: HostRuntime) -> Result<(), Fail> {
     let mut machine = Machine::new(rt.alloc(), 1)?;
