@@ -3,11 +3,10 @@
 -- Control Data 6400/6500/6600 Computer Systems Reference Manual, publication 60100000, part on peripheral and
 -- control processors: ten processors, numbered 0 to 11 (octal), which take turns in a barrel.
 use Rattle.std.specs.Prelude.{ℕ, ◌%◌, Bool, nat_lt}
-use Rattle.pp_machine.specs.declared.pp_no.TheConstants.{PROCESSORS}
 
 -- how many processors there are
 abbrev pub processor_count : ℕ
-processor_count = PROCESSORS
+processor_count = 0o12
 
 -- whether a number is that of a processor
 abbrev pub names_processor : ℕ → Bool
