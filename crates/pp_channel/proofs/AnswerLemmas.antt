@@ -131,13 +131,13 @@ step_before h e l more =
     (s.0, s.2, (t.0, on, t.2))
 
 -- the event of the table is the one that keeps the history lawful
-ready_of_table : (h : List Event) (op : ChanOp) (e : Event) → IsLawful h → event_of op h ≡ Some e → IsReady h op e
+pub ready_of_table : (h : List Event) (op : ChanOp) (e : Event) → IsLawful h → event_of op h ≡ Some e → IsReady h op e
 ready_of_table h op e l is =
     let s = state_at h l in
     let g = goes_on op s.0 e (sym (event_is op h s.0 s.2) ∙ is) in
     record { operation = g.0; lawful = lawful_next h l e g.1.0 g.1.1 }
 
-table_of_ready : (h : List Event) → IsLawful h → (op : ChanOp) (e : Event) → IsReady h op e → event_of op h ≡ Some e
+pub table_of_ready : (h : List Event) → IsLawful h → (op : ChanOp) (e : Event) → IsReady h op e → event_of op h ≡ Some e
 table_of_ready h l op e r =
     let s = step_before h e l r.lawful in
     event_is op h s.0 s.1 ∙ (ap (λ x. event_at x s.0) (sym r.operation) ∙ stepped_event s.0 e s.2.0 s.2.1)
@@ -151,7 +151,7 @@ flags_by_table h e l more =
     let s = step_before h e l more in
     flags_are (h ++ e ∷ []) s.2.0 s.2.2 ∙ (leads s.0 e s.2.0 s.2.1).0
 
-word_by_table : (h : List Event) (e : Event) → IsLawful h → IsLawful (h ++ e ∷ []) → waiting (h ++ e ∷ []) ≡ word_after e
+pub word_by_table : (h : List Event) (e : Event) → IsLawful h → IsLawful (h ++ e ∷ []) → waiting (h ++ e ∷ []) ≡ word_after e
 word_by_table h e l more =
     let s = step_before h e l more in
     waiting_at (h ++ e ∷ []) s.2.0 s.2.2 ∙ (leads s.0 e s.2.0 s.2.1).1
@@ -169,7 +169,7 @@ answered_by_table h op reply after l r a =
     subst P (sym r) (subst Q (sym a) (answer_with h l op (event_of op h) refl))
 
 -- and no other is
-none_without_ready : (h : List Event) → IsLawful h → (op : ChanOp) → ((e : Event) → ¬ IsReady h op e) → (o : Option Event) → event_of op h ≡ o → event_of op h ≡ None
+pub none_without_ready : (h : List Event) → IsLawful h → (op : ChanOp) → ((e : Event) → ¬ IsReady h op e) → (o : Option Event) → event_of op h ≡ o → event_of op h ≡ None
 none_without_ready h l op never None is = is
 none_without_ready h l op never (Some e) is = absurd (never e (ready_of_table h op e l is))
 

@@ -75,7 +75,7 @@ cut_state_by : (o : Option State) (ys : List Event) (t : State) → walk o ys �
 cut_state_by None ys t e = absurd (let n = walk_none ys in cc)
 cut_state_by (Some u) ys t e = (u, refl, e)
 
-cut_state : (s : State) (xs ys : List Event) (t : State) → walk (Some s) (xs ++ ys) ≡ Some t → (u : State) × (walk (Some s) xs ≡ Some u) × (walk (Some u) ys ≡ Some t)
+pub cut_state : (s : State) (xs ys : List Event) (t : State) → walk (Some s) (xs ++ ys) ≡ Some t → (u : State) × (walk (Some s) xs ≡ Some u) × (walk (Some u) ys ≡ Some t)
 cut_state s xs ys t e = cut_state_by (walk (Some s) xs) ys t (sym (walk-append (Some s) xs ys) ∙ e)
 
 opened : (u : State) (inside : List Event) (t : State) → walk (Some u) (Activate ∷ inside) ≡ Some t → walk (Some Empty) inside ≡ Some t

@@ -16,8 +16,8 @@ pub record IsSession (h before inside after : List Event) : Type 0 where
   pub place : h ≡ before ++ Activate ∷ inside ++ after
   pub unbroken : All (λ e. e ≢ Disconnect) inside
 
-abbrev pub IsPrefix : List ℕ → List ℕ → Type 0
-IsPrefix some all = (others : List ℕ) × (some ++ others ≡ all)
+abbrev pub IsPrefix : {X : Type 0} → List X → List X → Type 0
+IsPrefix {X} some all = (others : List X) × (some ++ others ≡ all)
 
 -- the words taken are the first of the words put, and all but at most one
 pub record PassesInOrder (inside : List Event) : Type 0 where

@@ -4,3 +4,15 @@ pub mod History
 pub mod Answer
 pub mod Kept
 pub mod Law
+pub mod ChannelWord
+pub mod WordStep
+pub mod Locked
+pub mod LineLog
+pub mod Merge
+pub mod RisingLog
+pub mod SharedWords
+pub mod LineState
+pub mod LineSteps
+pub mod LineKept
+pub mod LineCalls
+pub mod ToldHistory

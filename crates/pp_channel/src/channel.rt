@@ -49,6 +49,28 @@ impl<A: Allocator> Channel<A> {
         }
     }
 
+    /// The channel with this history.
+    pub(crate) fn of_history(events: Vec<Event, A>) -> Self
+        requires lawful { IsLawful events.items }
+        requires twelve_bits { HasTwelveBitWords events.items }
+        ensures { result ≡ events.items }
+    {
+        let mut flags = Flags {
+            active: false,
+            full: false,
+        };
+        let mut register = None;
+        if let Some(last) = events.last() {
+            flags = flags_after(last);
+            register = word_after(last);
+        }
+        Channel {
+            flags,
+            register,
+            events,
+        }
+    }
+
     /// Its flags.
     pub fn flags(&self) -> Flags
         ensures { result ≡ flags_of self.now }
@@ -163,7 +185,7 @@ impl<A: Allocator> Channel<A> {
 }
 
 /// The flags after an event.
-fn flags_after(event: &Event) -> Flags
+pub(crate) fn flags_after(event: &Event) -> Flags
     ensures { result ≡ flags_after event.now }
 {
     match event {

@@ -25,6 +25,9 @@ impl Model for ChannelNo {
 }
 
 impl ChannelNo {
+    /// The first channel.
+    pub(crate) const FIRST: ChannelNo = ChannelNo { number: 0 };
+
     /// The channel of this number, or nothing from 14 (octal) on.
     pub fn new(number: u8) -> Option<Self>
         ensures exists { IsSome result ↔ IsTrue (names_channel number) }

@@ -5,21 +5,37 @@ mod answer;
 mod chan_op;
 mod channel;
 mod channel_no;
+mod entry;
 mod event;
 mod flags;
 mod law;
+mod line;
+mod line_log;
+mod locked;
 mod memory;
+mod numbered;
 mod reply;
+mod rule;
+mod shared_words;
+mod told_history;
+mod word_step;
+mod worn;
 
 pub use answer::answer_law;
 pub use chan_op::ChanOp;
 pub use channel::Channel;
 pub use channel_no::{CHANNELS, ChannelNo};
+pub use entry::{Entry, Seen};
 pub use event::Event;
 pub use flags::Flags;
 pub use law::session_law;
+pub use line::{Line, open_lines};
+pub use locked::Locked;
 pub use memory::Memory;
+pub use numbered::Numbered;
 pub use reply::Reply;
+pub use word_step::{WordStep, advance};
+pub use worn::Worn;
 
 #[cfg(test)]
 mod tests;

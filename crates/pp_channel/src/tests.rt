@@ -2,6 +2,10 @@ use super::*;
 use pp_word::Word12;
 use std::test::Fail;
 
+mod channel_words;
+mod lines;
+mod locked_channels;
+
 const INACTIVE: Flags = Flags {
     active: false,
     full: false,
@@ -19,6 +23,15 @@ const FULL: Flags = Flags {
 
 fn word(number: u16) -> Result<Word12, Fail> {
     Ok(Word12::new(number).ok_or("a number of more than 12 bits")?)
+}
+
+/// An answer at once.
+fn numbered(reply: Reply, number: u64) -> Numbered {
+    Numbered {
+        reply,
+        loaded: number,
+        number,
+    }
 }
 
 #[test]

@@ -1,0 +1,300 @@
+-- What the word of a history says, the word after one more event, and what a step from a word says of its histories.
+use Rattle.std.proofs.Common.{◌≡◌, ◌≢◌, ℕ, ◌+◌, ◌/◌, ◌%◌, ◌^◌, ◌<◌, ◌==◌, ◌&&◌, Bool, true, false, List, [], ◌∷◌, ◌++◌, length, Option, Some, None, refl, sym, ap, ◌∙◌, subst, inl, inr, arith}
+use Rattle.std.specs.Prelude.{if◌then◌else◌, unwrap_or, All, ◌⊎◌}
+use Rattle.std.specs.List.{AllByRecursion, last_or}
+use Rattle.std.proofs.lemmas.Bool.{eq-eqb, ne_eqb, eqb-true}
+use Rattle.std.proofs.lemmas.List.{length_push}
+use Rattle.std.proofs.lemmas.List.Elements.{All-nil, All-cons, All-head, All-tail, All-drop, recursion_from_All}
+use Rattle.pp_channel.specs.declared.event.Event.{Event}
+use Rattle.pp_channel.specs.declared.event.Event.TheVariants.{Activate, Disconnect, Put, Take, Function}
+use Rattle.pp_channel.specs.declared.chan_op.ChanOp.{ChanOp}
+use Rattle.pp_channel.specs.declared.flags.Flags.{Flags}
+use Rattle.pp_channel.specs.declared.reply.Reply.{Reply}
+use Rattle.pp_channel.specs.declared.word_step.WordStep.{WordStep}
+use Rattle.pp_channel.specs.Session.{puts, takes}
+use Rattle.pp_channel.specs.History.{IsLawful, HasTwelveBitWord, HasTwelveBitWords, active, full, waiting, last_stretch}
+use Rattle.pp_channel.specs.Answer.{IsReady, IsAnswer, reply_shown, operation_of, event_by, event_of, flags_of, flags_after, word_after, reply_made}
+use Rattle.pp_channel.specs.ChannelWord.{packed, history_word, number_in, flags_in, register_in, greatest_number}
+use Rattle.pp_channel.specs.WordStep.{waiting_in, event_in, word_with, step_by, step_from, StepsFrom}
+use Rattle.pp_channel.proofs.AnswerLemmas.{ready_of_table, table_of_ready, none_without_ready, lawful_with_event, flags_by_table, word_by_table}
+
+-- what was packed is read again
+number_packed : (n : ℕ) (a f : Bool) (r : ℕ) → r < 2 ^ 12 → number_in (packed n (record { active = a; full = f }) r) ≡ n
+number_packed n true true r low = omega arith
+number_packed n true false r low = omega arith
+number_packed n false true r low = omega arith
+number_packed n false false r low = omega arith
+
+register_packed : (n : ℕ) (a f : Bool) (r : ℕ) → r < 2 ^ 12 → register_in (packed n (record { active = a; full = f }) r) ≡ r
+register_packed n true true r low = omega arith
+register_packed n true false r low = omega arith
+register_packed n false true r low = omega arith
+register_packed n false false r low = omega arith
+
+active_packed : (n : ℕ) (a f : Bool) (r : ℕ) → r < 2 ^ 12 → (packed n (record { active = a; full = f }) r / 2 ^ 13 % 2 == 1) ≡ a
+active_packed n true true r low = eq-eqb (packed n (record { active = true; full = true }) r / 2 ^ 13 % 2) 1 (omega arith)
+active_packed n true false r low = eq-eqb (packed n (record { active = true; full = false }) r / 2 ^ 13 % 2) 1 (omega arith)
+active_packed n false true r low = ne_eqb (packed n (record { active = false; full = true }) r / 2 ^ 13 % 2) 1 (λ e. omega arith)
+active_packed n false false r low = ne_eqb (packed n (record { active = false; full = false }) r / 2 ^ 13 % 2) 1 (λ e. omega arith)
+
+full_packed : (n : ℕ) (a f : Bool) (r : ℕ) → r < 2 ^ 12 → (packed n (record { active = a; full = f }) r / 2 ^ 12 % 2 == 1) ≡ f
+full_packed n true true r low = eq-eqb (packed n (record { active = true; full = true }) r / 2 ^ 12 % 2) 1 (omega arith)
+full_packed n false true r low = eq-eqb (packed n (record { active = false; full = true }) r / 2 ^ 12 % 2) 1 (omega arith)
+full_packed n true false r low = ne_eqb (packed n (record { active = true; full = false }) r / 2 ^ 12 % 2) 1 (λ e. omega arith)
+full_packed n false false r low = ne_eqb (packed n (record { active = false; full = false }) r / 2 ^ 12 % 2) 1 (λ e. omega arith)
+
+flags_packed : (n : ℕ) (g : Flags) (r : ℕ) → r < 2 ^ 12 → flags_in (packed n g r) ≡ g
+flags_packed n g r low =
+    ap (λ x. record { active = x; full = packed n g r / 2 ^ 12 % 2 == 1 }) (active_packed n g.active g.full r low) ∙ ap (λ x. record { active = g.active; full = x }) (full_packed n g.active g.full r low)
+
+-- the waiting word of a history whose words have 12 bits has 12 bits
+puts_small : (h : List Event) → HasTwelveBitWords h → All (λ w. w < 2 ^ 12) (puts h)
+puts_small [] l = All-nil (λ w. w < 2 ^ 12)
+puts_small (Put w ∷ h) l = All-cons (λ v. v < 2 ^ 12) w (puts h) (All-head HasTwelveBitWord (Put w) h l) (puts_small h (All-tail HasTwelveBitWord (Put w) h l))
+puts_small (Activate ∷ h) l = puts_small h (All-tail HasTwelveBitWord Activate h l)
+puts_small (Disconnect ∷ h) l = puts_small h (All-tail HasTwelveBitWord Disconnect h l)
+puts_small (Take w ∷ h) l = puts_small h (All-tail HasTwelveBitWord (Take w) h l)
+puts_small (Function w ∷ h) l = puts_small h (All-tail HasTwelveBitWord (Function w) h l)
+
+last_small : (o : Option ℕ) (ws : List ℕ) → unwrap_or o 0 < 2 ^ 12 → AllByRecursion (λ w. w < 2 ^ 12) ws → unwrap_or (last_or o ws) 0 < 2 ^ 12
+last_small o [] low all = low
+last_small o (w ∷ ws) low all = last_small (Some w) ws all.0 all.1
+
+small_where : (b : Bool) (o : Option ℕ) → unwrap_or o 0 < 2 ^ 12 → unwrap_or (if b then o else None) 0 < 2 ^ 12
+small_where true o low = low
+small_where false o low = omega arith
+
+pub waiting_small : (h : List Event) → HasTwelveBitWords h → unwrap_or (waiting h) 0 < 2 ^ 12
+waiting_small h bits =
+    let stretch : HasTwelveBitWords (last_stretch h) = All-drop HasTwelveBitWord _ h bits in
+    small_where (full h) (last_or None (puts (last_stretch h))) (last_small None (puts (last_stretch h)) (omega arith) (recursion_from_All (λ w. w < 2 ^ 12) (puts (last_stretch h)) (puts_small (last_stretch h) stretch)))
+
+-- what the word of a history says of it, be the history lawful or not
+pub number_of_word : (h : List Event) → HasTwelveBitWords h → number_in (history_word h) ≡ length h
+number_of_word h bits = number_packed (length h) (active h) (full h) (unwrap_or (waiting h) 0) (waiting_small h bits)
+
+pub flags_of_word : (h : List Event) → HasTwelveBitWords h → flags_in (history_word h) ≡ flags_of h
+flags_of_word h bits = flags_packed (length h) (flags_of h) (unwrap_or (waiting h) 0) (waiting_small h bits)
+
+register_of_word : (h : List Event) → HasTwelveBitWords h → register_in (history_word h) ≡ unwrap_or (waiting h) 0
+register_of_word h bits = register_packed (length h) (active h) (full h) (unwrap_or (waiting h) 0) (waiting_small h bits)
+
+last_is : (w : ℕ) (ws : List ℕ) → Some (unwrap_or (last_or (Some w) ws) 0) ≡ last_or (Some w) ws
+last_is w [] = refl
+last_is w (v ∷ ws) = last_is v ws
+
+waits_in : (a : Bool) (ps ts : List ℕ) (b : Bool) → (length ps == length ts + 1) ≡ b
+    → (if a && (a && b) then Some (unwrap_or (if a && b then last_or None ps else None) 0) else None) ≡ (if a && b then last_or None ps else None)
+waits_in false ps ts b is = refl
+waits_in true ps ts false is = refl
+waits_in true (p ∷ ps) ts true is = last_is p ps
+waits_in true [] ts true is = absurd (omega (arith, eqb-true 0 (length ts + 1) is))
+
+pub waiting_of_word : (h : List Event) → HasTwelveBitWords h → waiting_in (history_word h) ≡ waiting h
+waiting_of_word h bits =
+    ap (λ g. if g.active && g.full then Some (register_in (history_word h)) else None) (flags_of_word h bits)
+    ∙ (ap (λ r. if active h && full h then Some r else None) (register_of_word h bits)
+    ∙ waits_in (active h) (puts (last_stretch h)) (takes (last_stretch h)) (length (puts (last_stretch h)) == length (takes (last_stretch h)) + 1) refl)
+
+pub event_of_word : (op : ChanOp) (h : List Event) → HasTwelveBitWords h → event_in op (history_word h) ≡ event_of op h
+event_of_word op h bits =
+    ap (λ g. event_by op g (waiting_in (history_word h))) (flags_of_word h bits) ∙ ap (λ w. event_by op (flags_of h) w) (waiting_of_word h bits)
+
+-- the same of a word that is known to be that of a history
+pub number_at_word : (word : ℕ) (h : List Event) → HasTwelveBitWords h → history_word h ≡ word → number_in word ≡ length h
+number_at_word word h bits same = ap number_in (sym same) ∙ number_of_word h bits
+
+pub flags_at_word : (word : ℕ) (h : List Event) → HasTwelveBitWords h → history_word h ≡ word → flags_in word ≡ flags_of h
+flags_at_word word h bits same = ap flags_in (sym same) ∙ flags_of_word h bits
+
+event_at_word : (op : ChanOp) (word : ℕ) (o : Option Event) (h : List Event) → HasTwelveBitWords h → history_word h ≡ word → event_in op word ≡ o → event_of op h ≡ o
+event_at_word op word o h bits same is = sym (event_of_word op h bits) ∙ (ap (λ w. event_in op w) same ∙ is)
+
+never_probe : (e : Event) (op : ChanOp) → operation_of e ≡ op → op ≢ ChanOp.Probe
+never_probe Activate op is = λ p. cc
+never_probe Disconnect op is = λ p. cc
+never_probe (Put w) op is = λ p. cc
+never_probe (Take w) op is = λ p. cc
+never_probe (Function w) op is = λ p. cc
+
+shown_held : (op : ChanOp) (h : List Event) → op ≢ ChanOp.Probe → reply_shown op h ≡ Reply.Held (flags_of h)
+shown_held ChanOp.Probe h acting = absurd (acting refl)
+shown_held ChanOp.Activate h acting = refl
+shown_held ChanOp.Disconnect h acting = refl
+shown_held (ChanOp.Put w) h acting = refl
+shown_held ChanOp.Take h acting = refl
+shown_held (ChanOp.Function w) h acting = refl
+
+-- the word of a lawful history with an event by which it stays lawful
+word_after_event : (h : List Event) (e : Event) → IsLawful h → HasTwelveBitWords h → IsLawful (h ++ e ∷ []) → word_with (history_word h) e ≡ history_word (h ++ e ∷ [])
+word_after_event h e l bits more =
+    let n : number_in (history_word h) + 1 ≡ length (h ++ e ∷ []) = ap (λ x. x + 1) (number_of_word h bits) ∙ sym (length_push h e) in
+    ap (λ x. packed x (flags_after e) (unwrap_or (word_after e) 0)) n
+    ∙ (ap (λ g. packed (length (h ++ e ∷ [])) g (unwrap_or (word_after e) 0)) (sym (flags_by_table h e l more))
+    ∙ ap (λ w. packed (length (h ++ e ∷ [])) (flags_of (h ++ e ∷ [])) (unwrap_or w 0)) (sym (word_by_table h e l more)))
+
+-- the step of an operation other than a probe
+abbrev acts_from : ChanOp → ℕ → WordStep
+acts_from op word = if number_in word == greatest_number then WordStep.Worn else step_by word (event_in op word)
+
+acts : (op : ChanOp) (word : ℕ) → op ≢ ChanOp.Probe → step_from op word ≡ acts_from op word
+acts ChanOp.Probe word acting = absurd (acting refl)
+acts ChanOp.Activate word acting = refl
+acts ChanOp.Disconnect word acting = refl
+acts (ChanOp.Put w) word acting = refl
+acts ChanOp.Take word acting = refl
+acts (ChanOp.Function w) word acting = refl
+
+acts_below : (op : ChanOp) (word : ℕ) (o : Option Event) → op ≢ ChanOp.Probe → number_in word ≢ greatest_number → event_in op word ≡ o → step_from op word ≡ step_by word o
+acts_below op word o acting room is =
+    acts op word acting
+    ∙ (ap (λ b. if b then WordStep.Worn else step_by word (event_in op word)) (ne_eqb (number_in word) greatest_number room)
+    ∙ ap (λ x. step_by word x) is)
+
+acts_worn : (op : ChanOp) (word : ℕ) → op ≢ ChanOp.Probe → number_in word ≡ greatest_number → step_from op word ≡ WordStep.Worn
+acts_worn op word acting most =
+    acts op word acting ∙ ap (λ b. if b then WordStep.Worn else step_by word (event_in op word)) (eq-eqb (number_in word) greatest_number most)
+
+-- what a step can be: a probe looks; any other operation finds the channel worn, or is held, or makes
+-- its event
+abbrev Looks : ChanOp → ℕ → WordStep → Type 0
+Looks op word step = (op ≡ ChanOp.Probe) × (step ≡ WordStep.Look (flags_in word))
+
+abbrev FindsWorn : ChanOp → ℕ → WordStep → Type 0
+FindsWorn op word step = (op ≢ ChanOp.Probe) × (number_in word ≡ greatest_number) × (step ≡ WordStep.Worn)
+
+abbrev IsHeld : ChanOp → ℕ → WordStep → Type 0
+IsHeld op word step = (op ≢ ChanOp.Probe) × (number_in word ≢ greatest_number) × (event_in op word ≡ None) × (step ≡ WordStep.Held (flags_in word))
+
+abbrev Makes : ChanOp → ℕ → WordStep → Type 0
+Makes op word step = (op ≢ ChanOp.Probe) × (number_in word ≢ greatest_number)
+    × ((e : Event) × (event_in op word ≡ Some e) × (step ≡ WordStep.Next (word_with word e) (reply_made e)))
+
+abbrev Kind : ChanOp → ℕ → WordStep → Type 0
+Kind op word step = Looks op word step ⊎ (FindsWorn op word step ⊎ (IsHeld op word step ⊎ Makes op word step))
+
+kind_below : (op : ChanOp) (word : ℕ) (step : WordStep) → op ≢ ChanOp.Probe → number_in word ≢ greatest_number → step ≡ step_from op word → (o : Option Event) → event_in op word ≡ o → Kind op word step
+kind_below op word step acting room is None at = inr (inr (inl (acting, room, at, is ∙ acts_below op word None acting room at)))
+kind_below op word step acting room is (Some e) at = inr (inr (inr (acting, room, (e, at, is ∙ acts_below op word (Some e) acting room at))))
+
+kind_acting : (op : ChanOp) (word : ℕ) (step : WordStep) → op ≢ ChanOp.Probe → step ≡ step_from op word → (b : Bool) → (number_in word == greatest_number) ≡ b → Kind op word step
+kind_acting op word step acting is true at =
+    let most = eqb-true (number_in word) greatest_number at in
+    inr (inl (acting, most, is ∙ acts_worn op word acting most))
+kind_acting op word step acting is false at =
+    kind_below op word step acting (λ most. let same = eq-eqb (number_in word) greatest_number most in cc) is (event_in op word) refl
+
+kind_of : (op : ChanOp) (word : ℕ) (step : WordStep) → step ≡ step_from op word → Kind op word step
+kind_of ChanOp.Probe word step is = inl (refl, is)
+kind_of ChanOp.Activate word step is = kind_acting ChanOp.Activate word step (λ p. cc) is (number_in word == greatest_number) refl
+kind_of ChanOp.Disconnect word step is = kind_acting ChanOp.Disconnect word step (λ p. cc) is (number_in word == greatest_number) refl
+kind_of (ChanOp.Put w) word step is = kind_acting (ChanOp.Put w) word step (λ p. cc) is (number_in word == greatest_number) refl
+kind_of ChanOp.Take word step is = kind_acting ChanOp.Take word step (λ p. cc) is (number_in word == greatest_number) refl
+kind_of (ChanOp.Function w) word step is = kind_acting (ChanOp.Function w) word step (λ p. cc) is (number_in word == greatest_number) refl
+
+looks_by_kind : (word : ℕ) (op : ChanOp) (f : Flags) → Kind op word (WordStep.Look f) → (op ≡ ChanOp.Probe) × (f ≡ flags_in word)
+looks_by_kind word op f (inl k) = (k.0, cc)
+looks_by_kind word op f (inr (inl k)) = absurd cc
+looks_by_kind word op f (inr (inr (inl k))) = absurd cc
+looks_by_kind word op f (inr (inr (inr k))) = absurd (let is = k.2.2 in cc)
+
+worn_by_kind : (word : ℕ) (op : ChanOp) → Kind op word WordStep.Worn → (op ≢ ChanOp.Probe) × (number_in word ≡ greatest_number)
+worn_by_kind word op (inl k) = absurd cc
+worn_by_kind word op (inr (inl k)) = (k.0, k.1)
+worn_by_kind word op (inr (inr (inl k))) = absurd cc
+worn_by_kind word op (inr (inr (inr k))) = absurd (let is = k.2.2 in cc)
+
+held_by_kind : (word : ℕ) (op : ChanOp) (f : Flags) → Kind op word (WordStep.Held f) → (op ≢ ChanOp.Probe) × (number_in word ≢ greatest_number) × (event_in op word ≡ None) × (f ≡ flags_in word)
+held_by_kind word op f (inl k) = absurd cc
+held_by_kind word op f (inr (inl k)) = absurd cc
+held_by_kind word op f (inr (inr (inl k))) = (k.0, k.1, k.2, cc)
+held_by_kind word op f (inr (inr (inr k))) = absurd (let is = k.2.2 in cc)
+
+next_by_kind : (word : ℕ) (op : ChanOp) (next : ℕ) (reply : Reply) → Kind op word (WordStep.Next next reply)
+    → (op ≢ ChanOp.Probe) × (number_in word ≢ greatest_number) × ((e : Event) × (event_in op word ≡ Some e) × (next ≡ word_with word e) × (reply ≡ reply_made e))
+next_by_kind word op next reply (inl k) = absurd cc
+next_by_kind word op next reply (inr (inl k)) = absurd cc
+next_by_kind word op next reply (inr (inr (inl k))) = absurd cc
+next_by_kind word op next reply (inr (inr (inr k))) = (k.0, k.1, (k.2.0, k.2.1, (let is = k.2.2 in cc), (let is = k.2.2 in cc)))
+
+-- what each step says of the word
+pub looks_by_table : (word : ℕ) (op : ChanOp) (f : Flags) → WordStep.Look f ≡ step_from op word → (op ≡ ChanOp.Probe) × (f ≡ flags_in word)
+looks_by_table word op f is = looks_by_kind word op f (kind_of op word (WordStep.Look f) is)
+
+pub worn_by_table : (word : ℕ) (op : ChanOp) → WordStep.Worn ≡ step_from op word → (op ≢ ChanOp.Probe) × (number_in word ≡ greatest_number)
+worn_by_table word op is = worn_by_kind word op (kind_of op word WordStep.Worn is)
+
+pub held_by_table : (word : ℕ) (op : ChanOp) (f : Flags) → WordStep.Held f ≡ step_from op word
+    → (op ≢ ChanOp.Probe) × (number_in word ≢ greatest_number) × (event_in op word ≡ None) × (f ≡ flags_in word)
+held_by_table word op f is = held_by_kind word op f (kind_of op word (WordStep.Held f) is)
+
+pub next_by_table : (word : ℕ) (op : ChanOp) (next : ℕ) (reply : Reply) → WordStep.Next next reply ≡ step_from op word
+    → (op ≢ ChanOp.Probe) × (number_in word ≢ greatest_number) × ((e : Event) × (event_in op word ≡ Some e) × (next ≡ word_with word e) × (reply ≡ reply_made e))
+next_by_table word op next reply is = next_by_kind word op next reply (kind_of op word (WordStep.Next next reply) is)
+
+-- the same where the event is at hand
+pub next_by_event : (word : ℕ) (op : ChanOp) (e : Event) (next : ℕ) (reply : Reply) → WordStep.Next next reply ≡ step_from op word → Some e ≡ event_in op word
+    → (op ≢ ChanOp.Probe) × (number_in word ≢ greatest_number) × (next ≡ word_with word e) × (reply ≡ reply_made e)
+next_by_event word op e next reply stepped made =
+    let k = next_by_table word op next reply stepped in
+    let same : k.2.0 ≡ e = let both : Some k.2.0 ≡ Some e = sym k.2.1 ∙ sym made in cc in
+    (k.0, k.1, k.2.2 ∙ ap (λ x. word_with word x) same, k.2.3 ∙ ap reply_made same)
+
+-- each history of the word goes on with the event to one of the next word
+pub next_word : (word : ℕ) (op : ChanOp) (e : Event) (next : ℕ) (reply : Reply) → WordStep.Next next reply ≡ step_from op word → Some e ≡ event_in op word → HasTwelveBitWord e
+    → (h : List Event) → IsLawful h → HasTwelveBitWords h → history_word h ≡ word
+    → IsLawful (h ++ e ∷ []) × HasTwelveBitWord e × (history_word (h ++ e ∷ []) ≡ next)
+next_word word op e next reply stepped made small h l bits same =
+    let event : event_of op h ≡ Some e = event_at_word op word (Some e) h bits same (sym made) in
+    let more = lawful_with_event h op e l event in
+    let is = next_by_event word op e next reply stepped made in
+    (more, small, sym (word_after_event h e l bits more) ∙ (ap (λ w. word_with w e) same ∙ sym is.2))
+
+-- what the answer is on a history of the word
+pub ready_at_word : (word : ℕ) (op : ChanOp) (e : Event) → Some e ≡ event_in op word → (h : List Event) → IsLawful h → HasTwelveBitWords h → history_word h ≡ word → IsReady h op e
+ready_at_word word op e made h l bits same = ready_of_table h op e l (event_at_word op word (Some e) h bits same (sym made))
+
+pub answer_made : (word : ℕ) (op : ChanOp) (e : Event) (next : ℕ) (reply : Reply) → WordStep.Next next reply ≡ step_from op word → Some e ≡ event_in op word
+    → (h : List Event) → IsLawful h → HasTwelveBitWords h → history_word h ≡ word → IsAnswer h op reply (h ++ e ∷ [])
+answer_made word op e next reply stepped made h l bits same =
+    inl (e, record { ready = ready_at_word word op e made h l bits same; answered = (next_by_event word op e next reply stepped made).3; recorded = refl })
+
+pub answer_held : (word : ℕ) (op : ChanOp) (f : Flags) → WordStep.Held f ≡ step_from op word
+    → (h : List Event) → IsLawful h → HasTwelveBitWords h → history_word h ≡ word → IsAnswer h op (Reply.Held f) h
+answer_held word op f is h l bits same =
+    let k = held_by_table word op f is in
+    inr (record {
+      not_ready = λ e r. let some = table_of_ready h l op e r in let none = event_at_word op word None h bits same k.2 in cc;
+      answered = ap (λ g. Reply.Held g) (k.3 ∙ flags_at_word word h bits same) ∙ sym (shown_held op h k.0);
+      unchanged = refl;
+    })
+
+pub answer_looked : (word : ℕ) (op : ChanOp) (f : Flags) → WordStep.Look f ≡ step_from op word
+    → (h : List Event) → HasTwelveBitWords h → history_word h ≡ word → IsAnswer h op (Reply.Flags f) h
+answer_looked word op f is h bits same =
+    let k = looks_by_table word op f is in
+    inr (record {
+      not_ready = λ e r. never_probe e op r.operation k.0;
+      answered = ap (λ g. Reply.Flags g) (k.1 ∙ flags_at_word word h bits same) ∙ sym (ap (λ o. reply_shown o h) k.0);
+      unchanged = refl;
+    })
+
+-- the step is the one by the histories
+steps_from_word : (h : List Event) (op : ChanOp) → IsLawful h → HasTwelveBitWords h → StepsFrom h op (step_from op (history_word h))
+steps_from_word h op l bits =
+    let n = number_of_word h bits in
+    record {
+      probe = λ is. ap (λ o. step_from o (history_word h)) is ∙ ap (λ g. WordStep.Look g) (flags_of_word h bits);
+      ready = λ e room r.
+          acts_below op (history_word h) (Some e) (never_probe e op r.operation) (λ most. omega arith) (event_of_word op h bits ∙ table_of_ready h l op e r)
+          ∙ ap (λ w. WordStep.Next w (reply_made e)) (word_after_event h e l bits r.lawful);
+      not_ready = λ acting room never.
+          acts_below op (history_word h) None acting (λ most. omega arith) (event_of_word op h bits ∙ none_without_ready h l op never (event_of op h) refl)
+          ∙ ap (λ g. WordStep.Held g) (flags_of_word h bits);
+      worn = λ acting most. acts_worn op (history_word h) acting (n ∙ most);
+    }
+
+pub steps_as_histories : (word : ℕ) (op : ChanOp) (step : WordStep) → step ≡ step_from op word → (h : List Event) → IsLawful h → HasTwelveBitWords h → history_word h ≡ word → StepsFrom h op step
+steps_as_histories word op step is h l bits same =
+    let P : WordStep → Type 0 = λ s. StepsFrom h op s in
+    subst P (ap (λ w. step_from op w) same ∙ sym is) (steps_from_word h op l bits)

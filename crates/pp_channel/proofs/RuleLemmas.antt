@@ -1,0 +1,116 @@
+-- What the rule of the shared words gives at one view, and a view in place of another.
+use Rattle.std.proofs.Common.{◌≡◌, ℕ, ◌+◌, ◌-◌, ◌<◌, List, [], length, get_or, set, refl, sym, ap, ◌∙◌, subst, arith}
+use mathlib.Core.Logic.{dite}
+use mathlib.Core.Option.{some}
+use native.Mathlib.Decide.{ℕ_discrete}
+use lib.ListN.{get_elem?}
+use Rattle.std.specs.Prelude.{IsTrue}
+use Rattle.std.specs.List.{All, flat_map, sum_by}
+use Rattle.std.proofs.lemmas.Bool.{ltb-true}
+use Rattle.std.proofs.lemmas.List.Elements.{All-set, All-weaker}
+use Rattle.pp_channel.specs.declared.event.Event.{Event}
+use Rattle.pp_channel.specs.declared.entry.Entry.{Entry}
+use Rattle.pp_channel.specs.declared.rule.LineView.{LineView}
+use Rattle.pp_channel.specs.ChannelNumber.{channel_count, names_channel}
+use Rattle.pp_channel.specs.ChannelWord.{number_in}
+use Rattle.pp_channel.specs.History.{IsLawful, HasTwelveBitWords}
+use Rattle.pp_channel.specs.LineSteps.{finds, SaysOf, Tells}
+use Rattle.pp_channel.specs.Merge.{IsTrueOf, Merges, no_opening, history_on, tells_event, times_told}
+use Rattle.pp_channel.specs.RisingLog.{seen_on}
+use Rattle.pp_channel.specs.SharedWords.{word_place, IsViewOf, KeepsRule}
+use Rattle.pp_channel.proofs.ListFacts.{All-read, All-part, flat_map-set_same, count_by-parts, sum_by-write, sum_by-sole}
+use Rattle.pp_channel.proofs.ChannelWordLemmas.{number_at_word}
+use Rattle.pp_channel.proofs.MergeLemmas.{once_inside, TellsOnce, tells_once, merges_by, times_within}
+use Rattle.pp_channel.proofs.ViewLemmas.{view_finds}
+
+-- the events of all views, how often they tell one, and the shares
+abbrev pub events_in : LineView → List Entry
+events_in v = v.events
+
+abbrev pub all_events : List LineView → List Entry
+all_events views = flat_map events_in views
+
+abbrev pub times_in : ℕ → ℕ → LineView → ℕ
+times_in c number v = times_told c number v.events
+
+abbrev pub shares_in : LineView → ℕ
+shares_in v = v.shares
+
+pub times-parts : (c number : ℕ) (views : List LineView) → times_told c number (all_events views) ≡ sum_by (times_in c number) views
+times-parts c number views = count_by-parts events_in (tells_event c number) views
+
+pub times-write : (c number : ℕ) (views : List LineView) (id : ℕ) (v w : LineView) → get_elem? views id ≡ some v
+    → times_told c number (all_events (set views id w)) + times_in c number v ≡ times_told c number (all_events views) + times_in c number w
+times-write c number views id v w at =
+    let a = times-parts c number views in
+    let b = times-parts c number (set views id w) in
+    let t = sum_by-write (times_in c number) views id v w at in
+    omega arith
+
+module _ (whole : ℕ) (words : List ℕ) (views : List LineView) (histories : List (List Event)) (k : KeepsRule whole words views histories) where
+  pub lawful_on : (c : ℕ) → c < channel_count → IsLawful (history_on c histories)
+  lawful_on c l = let n = k.channels in k.lawful c [] (omega arith)
+
+  pub low_on : (c : ℕ) → c < channel_count → HasTwelveBitWords (history_on c histories)
+  low_on c l = let n = k.channels in k.twelve_bits c [] (omega arith)
+
+  pub view_at : (id : ℕ) (v : LineView) → get_elem? views id ≡ some v → IsViewOf histories whole v
+  view_at id v at = All-read (IsViewOf histories whole) views id v k.views_are at
+
+  pub events_at : (id : ℕ) (v : LineView) → get_elem? views id ≡ some v → All (IsTrueOf histories) v.events
+  events_at id v at = All-part events_in (IsTrueOf histories) views id v k.merged.entries_true at
+
+  pub word_on : (c : ℕ) → IsTrue (names_channel c) → number_in (get_or words (word_place c) 0) ≡ length (history_on c histories)
+  word_on c names = number_at_word (get_or words (word_place c) 0) (history_on c histories) (low_on c (ltb-true c 12 names)) (sym (k.words_are c names))
+
+  -- a view with the same events and shares in place of another
+  pub rewritten : (id : ℕ) (v w : LineView) → get_elem? views id ≡ some v → w.events ≡ v.events → w.shares ≡ v.shares → IsViewOf histories whole w → KeepsRule whole words (set views id w) histories
+  rewritten id v w at events shares f = record {
+    channels = k.channels;
+    lawful = k.lawful;
+    twelve_bits = k.twelve_bits;
+    merged = subst (Merges no_opening histories) (sym (flat_map-set_same events_in views id v w at events)) k.merged;
+    places = k.places;
+    words_are = k.words_are;
+    shares = let t = sum_by-write shares_in views id v w at in let o = k.shares in omega arith;
+    views_are = All-set (IsViewOf histories whole) views id w f k.views_are;
+  }
+
+  -- a view with every share has every event
+  pub alone : (id : ℕ) (v : LineView) → get_elem? views id ≡ some v → v.shares ≡ whole → Merges no_opening histories v.events × ((c : ℕ) → seen_on c v.seen ≡ length (history_on c histories))
+  alone id v at has =
+      let f = view_at id v at in
+      let once : TellsOnce histories v.events = λ c number.
+      sym (sum_by-sole (times_in c number) shares_in views id v at (k.shares ∙ sym has)
+      (All-weaker (IsViewOf histories whole) (λ w. w.shares ≡ 0 → times_in c number w ≡ 0) (λ w g z. ap (times_told c number) (g.spent z)) views k.views_are))
+      ∙ (sym (times-parts c number views) ∙ tells_once histories (all_events views) k.merged c number) in (
+        merges_by histories v.events once (events_at id v at),
+        λ c. let top = f.seen_happened c in dite (ℕ_discrete (length (history_on c histories)) 0) (λ z. omega arith)
+            (λ n. let last : ℕ = length (history_on c histories) - 1 in
+            let o = once c last in
+            let i = once_inside last (length (history_on c histories)) (omega arith) in
+            let l = times_within c last v.seen v.events f.events_seen (omega arith) in
+            omega arith),
+      )
+
+  says_of : (id : ℕ) (v : LineView) → get_elem? views id ≡ some v → 0 < v.shares → SaysOf v histories
+  says_of id v at live =
+      let f = view_at id v at in
+      let same : v.whole ≡ whole = f.whole_is live in
+      record {
+        channels = k.channels;
+        lawful = k.lawful;
+        twelve_bits = k.twelve_bits;
+        events_true = events_at id v at;
+        view_is = subst (λ n. IsViewOf histories n v) (sym same) f;
+        all_shares = λ all. alone id v at (all ∙ same);
+      }
+
+  pub tells : (id : ℕ) (v : LineView) (c : ℕ) → IsTrue (names_channel c) → get_elem? views id ≡ some v → 0 < v.shares → Tells v c (get_or words (word_place c) 0)
+  tells id v c names at live = record { histories = histories; says = says_of id v at live; word_is = sym (k.words_are c names) }
+
+  -- the view of a line that found the word of a channel
+  pub found_kept : (id : ℕ) (v : LineView) (c : ℕ) → IsTrue (names_channel c) → get_elem? views id ≡ some v → KeepsRule whole words (set views id (finds v c (get_or words (word_place c) 0))) histories
+  found_kept id v c names at =
+      let n : ℕ = get_or words (word_place c) 0 in
+      rewritten id v (finds v c n) at refl refl (view_finds histories whole v c n (sym (k.words_are c names)) (word_on c names) (view_at id v at))

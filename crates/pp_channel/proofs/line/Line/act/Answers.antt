@@ -1,0 +1,103 @@
+use Rattle.std.proofs.Common.{ℕ, ◌≤◌, sym, ap, ◌∙◌, subst, arith}
+use Rattle.pp_channel.specs.declared.entry.Seen.TheVariants.{Did, Saw}
+use Rattle.pp_channel.specs.declared.numbered.Numbered.{Numbered}
+use Rattle.pp_channel.specs.declared.reply.Reply.TheVariants.{Flags, Held}
+use Rattle.pp_channel.specs.ChannelWord.{number_in, flags_in, greatest_number}
+use Rattle.pp_channel.specs.LineCalls.{with_look, HasMade, HasLost}
+use Rattle.pp_channel.specs.LineState.{LineState, IsActed}
+use Rattle.pp_channel.specs.RisingLog.{IsRising}
+use Rattle.pp_channel.proofs.ChannelWordLemmas.{next_word}
+use Rattle.pp_channel.proofs.LineKnowledge.{not_older_told}
+use Rattle.pp_channel.proofs.LineAnswers.{found_last, seen_last, acted_look, acted_held, worn_by_load, acted_made, acted_lost}
+use Rattle.pp_channel.proofs.RisingLemmas.{rising_appended, rising_looked}
+use Rattle.pp_channel.proofs.line.Line.act.Goals as goal
+use Rattle.pp_channel.proofs.line.Line.act.Goals.{in-Ok, in-Err}
+
+-- a worn channel
+pub returns-in-Worn-clause-worn : goal.returns-in-Worn-clause-worn
+returns-in-Worn-clause-worn g c =
+    worn_by_load c.load-word.ensures.tells c.args.op c.load-word.new.self (c.in-Worn.ensures).table c.load-word.ensures.after
+
+-- a probe
+pub look-requires-clause-found : goal.look-requires-clause-found
+look-requires-clause-found g c = found_last c.args.self.now c.load-word.new.self c.args.channel c.load-word.result c.load-word.ensures.after
+
+pub look-requires-clause-seen : goal.look-requires-clause-seen
+look-requires-clause-seen g c =
+    seen_last c.args.self.now c.load-word.new.self c.args.channel c.load-word.result c.load-word.ensures.tells.named c.load-word.ensures.each_channel c.load-word.ensures.after
+
+pub returns-in-Look-clause-ok : goal.returns-in-Look-clause-ok
+returns-in-Look-clause-ok g c =
+    let after = c.look.ensures.after ∙ ap (λ (line : LineState). with_look line c.args.channel c.load-word.result) c.load-word.ensures.after in
+    subst (λ (n : ℕ). IsActed c.args.self.now c.args.channel c.args.op (record { reply = Flags c.in-Look.flags; loaded = n; number = n }) c.look.new.self) (sym c.number_in-loaded.ensures.value)
+    (acted_look c.load-word.ensures.tells c.args.op c.in-Look.flags c.look.new.self (c.in-Look.ensures).table after)
+
+pub returns-in-Look-clause-rising : goal.returns-in-Look-clause-rising
+returns-in-Look-clause-rising g c rising =
+    let after = c.look.ensures.after ∙ ap (λ (line : LineState). with_look line c.args.channel c.load-word.result) c.load-word.ensures.after in
+    subst (λ (line : LineState). IsRising line.log.entries) (sym after)
+    (rising_looked c.args.self.now.seen c.args.self.now.log (record { channel = c.args.channel; number = number_in c.load-word.result; what = Saw (flags_in c.load-word.result) }) c.load-word.ensures.within (not_older_told c.load-word.ensures.tells) rising)
+
+-- an operation that is not ready
+pub look-requires-in-Held-clause-found : goal.look-requires-in-Held-clause-found
+look-requires-in-Held-clause-found g c = found_last c.args.self.now c.load-word.new.self c.args.channel c.load-word.result c.load-word.ensures.after
+
+pub look-requires-in-Held-clause-seen : goal.look-requires-in-Held-clause-seen
+look-requires-in-Held-clause-seen g c =
+    seen_last c.args.self.now c.load-word.new.self c.args.channel c.load-word.result c.load-word.ensures.tells.named c.load-word.ensures.each_channel c.load-word.ensures.after
+
+pub returns-in-Held-clause-ok : goal.returns-in-Held-clause-ok
+returns-in-Held-clause-ok g c =
+    let after = c.look-in-Held.ensures.after ∙ ap (λ (line : LineState). with_look line c.args.channel c.load-word.result) c.load-word.ensures.after in
+    let most = subst (λ (n : ℕ). n ≤ greatest_number) c.number_in-loaded.ensures.value c.number_in-loaded.ensures.at_most in
+    subst (λ (n : ℕ). IsActed c.args.self.now c.args.channel c.args.op (record { reply = Held c.in-Held.flags; loaded = n; number = n }) c.look-in-Held.new.self) (sym c.number_in-loaded.ensures.value)
+    (acted_held c.load-word.ensures.tells c.args.op c.in-Held.flags c.look-in-Held.new.self (c.in-Held.ensures).table most after)
+
+pub returns-in-Held-clause-rising : goal.returns-in-Held-clause-rising
+returns-in-Held-clause-rising g c rising =
+    let after = c.look-in-Held.ensures.after ∙ ap (λ (line : LineState). with_look line c.args.channel c.load-word.result) c.load-word.ensures.after in
+    subst (λ (line : LineState). IsRising line.log.entries) (sym after)
+    (rising_looked c.args.self.now.seen c.args.self.now.log (record { channel = c.args.channel; number = number_in c.load-word.result; what = Saw (flags_in c.load-word.result) }) c.load-word.ensures.within (not_older_told c.load-word.ensures.tells) rising)
+
+-- an operation that is ready
+pub try_event-requires-clause-next : goal.try_event-requires-clause-next
+try_event-requires-clause-next g c =
+    next_word c.load-word.result c.args.op c.in-Some.event c.in-Next.next c.in-Next.reply (c.in-Next.ensures).table (c.in-Some.ensures).event (c.in-Some.ensures).twelve_bits
+
+pub returns-after-try_event-clause-ok : goal.returns-after-try_event-clause-ok
+returns-after-try_event-clause-ok g c =
+    let tells = c.load-word.ensures.tells in
+    let word = c.load-word.result in
+    let e = c.in-Some.event in
+    let after = c.try_event.new.self in
+    let stepped = (c.in-Next.ensures).table in
+    let event = (c.in-Some.ensures).event in
+    let most = subst (λ (n : ℕ). n ≤ greatest_number) c.number_in-loaded.ensures.value c.number_in-loaded.ensures.at_most in
+    elim c.match-try_event.branch [
+      | in-Ok w ↦
+          let made = subst (λ (line : LineState). HasMade line c.args.channel word e after) c.load-word.ensures.after (w.in-Ok.ensures).made in
+          subst (λ (r : Numbered). IsActed c.args.self.now c.args.channel c.args.op r after) (sym (w.result-is ∙ (λ j. record { reply = c.in-Next.reply; loaded = c.number_in-loaded.ensures.value j; number = c.number_in-loaded.ensures.value j })))
+          (acted_made tells c.args.op e c.in-Next.next c.in-Next.reply after stepped event most made (c.in-Some.ensures).twelve_bits c.load-word.ensures.each_channel)
+      | in-Err w ↦
+          let lost = subst (λ (line : LineState). HasLost line c.args.channel word w.in-Err.found after) c.load-word.ensures.after (w.in-Err.ensures).lost in
+          subst (λ (r : Numbered). IsActed c.args.self.now c.args.channel c.args.op r after) (sym (w.result-is ∙ (λ j. record { reply = Held (w.flags_in.ensures j); loaded = c.number_in-loaded.ensures.value j; number = w.number_in.ensures.value j })))
+          (acted_lost tells c.args.op e c.in-Next.next c.in-Next.reply after stepped event most w.in-Err.found lost)
+    ]
+
+pub returns-after-try_event-clause-rising : goal.returns-after-try_event-clause-rising
+returns-after-try_event-clause-rising g c rising =
+    let word = c.load-word.result in
+    let e = c.in-Some.event in
+    let after = c.try_event.new.self in
+    let seen = not_older_told c.load-word.ensures.tells in
+    elim c.match-try_event.branch [
+      | in-Ok w ↦
+          let made = subst (λ (line : LineState). HasMade line c.args.channel word e after) c.load-word.ensures.after (w.in-Ok.ensures).made in
+          subst (λ (line : LineState). IsRising line.log.entries) (sym made.after_is)
+          (rising_appended c.args.self.now.seen c.args.self.now.log (record { channel = c.args.channel; number = number_in word; what = Did e }) c.load-word.ensures.within seen rising)
+      | in-Err w ↦
+          let lost = subst (λ (line : LineState). HasLost line c.args.channel word w.in-Err.found after) c.load-word.ensures.after (w.in-Err.ensures).lost in
+          let above = lost.later in
+          subst (λ (line : LineState). IsRising line.log.entries) (sym lost.after_is)
+          (rising_looked c.args.self.now.seen c.args.self.now.log (record { channel = c.args.channel; number = number_in w.in-Err.found; what = Saw (flags_in w.in-Err.found) }) c.load-word.ensures.within (omega arith) rising)
+    ]

@@ -1,0 +1,6 @@
+use Rattle.std.proofs.Common.{rules}
+use Rattle.pp_channel.proofs.StepLemmas.{load_allowed}
+use Rattle.pp_channel.proofs.shared_words.SharedWords.load.Goals as goal
+
+pub load-requires : goal.load-requires
+load-requires g c = (search rules, search rules, load_allowed _ _ _ _ c.args.channel _ c.place.ensures.place c.place.ensures.below)

@@ -1,0 +1,64 @@
+-- The log that a line writes of what it did and saw.
+use Rattle.std.specs.Prelude.{ℕ, ◌-◌, ◌==◌, ◌&&◌, Bool, true, false, not, List, [], ◌∷◌, ◌++◌, length, slice_set, Option, Some, None, if◌then◌else◌}
+use Rattle.std.specs.List.{last_or}
+use Rattle.pp_channel.specs.declared.chan_op.ChanOp.{ChanOp}
+use Rattle.pp_channel.specs.declared.event.Event.{Event}
+use Rattle.pp_channel.specs.declared.reply.Reply.{Reply}
+use Rattle.pp_channel.specs.declared.entry.Entry.{Entry}
+use Rattle.pp_channel.specs.declared.entry.Seen.{Seen}
+use Rattle.pp_channel.specs.declared.numbered.Numbered.{Numbered}
+use Rattle.pp_channel.specs.Answer.{event_with}
+
+-- A log: its entries in order, for how many more it has room, and whether its last entry is to stay.
+pub record LogState : Type 0 where
+  pub entries : List Entry
+  pub room : ℕ
+  pub kept : Bool
+
+-- a log without entries
+abbrev pub empty_log : ℕ → LogState
+empty_log room = record { entries = []; room = room; kept = true }
+
+-- an entry comes to the end
+abbrev pub appended : LogState → Entry → LogState
+appended log entry = record { entries = log.entries ++ entry ∷ []; room = log.room - 1; kept = false }
+
+-- whether an entry is a look at channel c
+abbrev pub is_look : Seen → Bool
+is_look (Seen.Did e) = false
+is_look (Seen.Saw f) = true
+
+abbrev pub is_look_at : ℕ → Option Entry → Bool
+is_look_at c None = false
+is_look_at c (Some entry) = is_look entry.what && (entry.channel == c)
+
+-- whether the log ends in a look at channel c that need not stay
+abbrev pub ends_in_look_at : ℕ → LogState → Bool
+ends_in_look_at c log = not log.kept && is_look_at c (last_or None log.entries)
+
+-- a look takes the place of such a last look, else it comes to the end
+abbrev pub looked : LogState → Entry → LogState
+looked log entry =
+    if ends_in_look_at entry.channel log
+    then record { entries = slice_set log.entries (length log.entries - 1) entry; room = log.room; kept = false }
+    else appended log entry
+
+-- the event of an operation that was answered so
+abbrev pub event_answered : ChanOp → Reply → Option Event
+event_answered ChanOp.Take (Reply.Word w) = Some (Event.Take w)
+event_answered op Reply.Done = event_with op None
+event_answered op reply = None
+
+-- an event is an entry of its own; Flags and Held are looks
+abbrev pub with_event : LogState → ℕ → ℕ → Option Event → LogState
+with_event log c number None = log
+with_event log c number (Some e) = appended log (record { channel = c; number = number; what = Seen.Did e })
+
+abbrev pub with_answer : LogState → ℕ → ChanOp → ℕ → Reply → LogState
+with_answer log c op number (Reply.Flags f) = looked log (record { channel = c; number = number; what = Seen.Saw f })
+with_answer log c op number (Reply.Held f) = looked log (record { channel = c; number = number; what = Seen.Saw f })
+with_answer log c op number reply = with_event log c number (event_answered op reply)
+
+-- The log after an answer to an operation on channel c.
+abbrev pub log_after : LogState → ℕ → ChanOp → Numbered → LogState
+log_after log c op r = with_answer log c op r.number r.reply

@@ -1,0 +1,51 @@
+-- Twelve channels as words that threads share without a lock: what each line knows of them, and the
+-- rule that holds between any two atomic steps, whichever line makes them.
+use Rattle.std.specs.Prelude.{◌≡◌, ℕ, ◌+◌, ◌*◌, ◌<◌, ◌≤◌, IsTrue, List, [], length, take, All, flat_map, sum_by, slice_index}
+use Rattle.atomic_table.specs.Table.{State}
+use Rattle.pp_channel.specs.declared.event.Event.{Event}
+use Rattle.pp_channel.specs.declared.rule.FoundWord.{FoundWord}
+use Rattle.pp_channel.specs.declared.rule.LineView.{LineView}
+use Rattle.pp_channel.specs.ChannelNumber.{channel_count, channel_index, names_channel}
+use Rattle.pp_channel.specs.ChannelWord.{history_word}
+use Rattle.pp_channel.specs.History.{IsLawful, HasTwelveBitWords}
+use Rattle.pp_channel.specs.Merge.{Merges, no_opening, history_on}
+use Rattle.pp_channel.specs.RisingLog.{IsWithin, seen_on}
+
+-- The words lie 16 apart, so that no two channels share a cache line.
+abbrev pub word_place : ℕ → ℕ
+word_place c = 16 * (channel_index c + 1)
+
+abbrev pub place_count : ℕ
+place_count = 16 * (channel_count + 1)
+
+-- A found word is that of its channel's history after some number of its events.
+abbrev pub IsFound : List (List Event) → FoundWord → Type 0
+IsFound histories found = (number : ℕ)
+    × (number ≤ length (history_on found.channel histories))
+    × (history_word (take number (history_on found.channel histories)) ≡ found.word)
+
+-- What a line knows: its events lie within what it has seen, what it has seen within the histories,
+-- and each word that it found was the word of its channel at some time. A line without a share is
+-- spent, and left no event behind.
+pub record IsViewOf (histories : List (List Event)) (whole : ℕ) (v : LineView) : Type 0 where
+  pub events_seen : IsWithin v.seen v.events
+  pub seen_happened : (c : ℕ) → seen_on c v.seen ≤ length (history_on c histories)
+  pub words_found : All (IsFound histories) v.found
+  pub whole_is : 0 < v.shares → v.whole ≡ whole
+  pub each_channel : 0 < v.shares → length v.seen ≡ channel_count
+  pub spent : v.shares ≡ 0 → v.events ≡ []
+
+-- The rule: the events of all lines merge to lawful histories, the word of each channel is that of its
+-- history, and the shares of all lines add up to the whole.
+pub record KeepsRule (whole : ℕ) (words : List ℕ) (views : List LineView) (histories : List (List Event)) : Type 0 where
+  pub channels : length histories ≡ channel_count
+  pub lawful : All IsLawful histories
+  pub twelve_bits : All HasTwelveBitWords histories
+  pub merged : Merges no_opening histories (flat_map (λ v. v.events) views)
+  pub places : length words ≡ place_count
+  pub words_are : (c : ℕ) → IsTrue (names_channel c) → slice_index words (word_place c) ≡ history_word (history_on c histories)
+  pub shares : sum_by (λ v. v.shares) views ≡ whole
+  pub views_are : All (IsViewOf histories whole) views
+
+abbrev pub Rule : ℕ → State Event LineView → Type 0
+Rule whole table = (histories : List (List Event)) × KeepsRule whole table.words table.views histories

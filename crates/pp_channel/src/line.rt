@@ -1,0 +1,311 @@
+//! One thread's access to the twelve channels.
+
+ghost use Rattle.std.specs.Prelude.{◌≡◌, ◌≤◌, ◌-◌, List, [], ◌∷◌, ◌++◌, Contains, true, IfOk, OnOk, OnErr, IfErr, length};
+ghost use Rattle.pp_channel.specs.declared.event.Event.{Event};
+ghost use Rattle.pp_channel.specs.ChannelNumber.{channel_count};
+ghost use Rattle.pp_channel.specs.RisingLog.{IsRising, IsWithin, seen_on};
+ghost use Rattle.pp_channel.specs.LineState.{LineState, IsOpened, IsSplitFrom, greater_of_each, joined, IsActed, IsWornOut, AreClosed};
+ghost use Rattle.pp_channel.specs.LineCalls.{with_word, with_look, TellsLine, HasMade, HasLost};
+ghost use Rattle.pp_channel.specs.ChannelWord.{history_word, number_in};
+ghost use Rattle.pp_channel.specs.History.{IsLawful, HasTwelveBitWord, HasTwelveBitWords};
+
+use crate::chan_op::ChanOp;
+use crate::channel::Channel;
+use crate::channel_no::{CHANNELS, ChannelNo};
+use crate::entry::Entry;
+use crate::event::Event;
+use crate::line_log::LineLog;
+use crate::memory::Memory;
+use crate::numbered::Numbered;
+use crate::reply::Reply;
+use crate::shared_words::SharedWords;
+use crate::told_history::told_channels;
+use crate::word_step::{WordStep, advance, flags_in, next_event_in, number_in};
+use crate::worn::Worn;
+use std::alloc::Allocator;
+use std::marker::Model;
+
+/// One thread's access to the twelve channels, which it shares with other lines without a lock.
+/// Contracts see its log, what it has seen and found, and its shares.
+#[derive(Drop)]
+pub struct Line<A: Allocator> {
+    alloc: A,
+    words: SharedWords<A>,
+    log: LineLog<A>,
+    seen: [u64; CHANNELS],
+    shares: u32,
+    whole: u32,
+}
+
+impl<A: Allocator> Model for Line<A> {
+    ghost use Rattle.pp_channel.specs.LineState.{LineState};
+    ghost use Rattle.pp_channel.specs.LineKept.{IsLineKept};
+
+    ghost Value = { LineState };
+
+    ghost view = { λ line. record { log = line.log; seen = line.seen; found = line.words.seat.me.0.found; shares = line.shares; whole = line.whole; table = line.words.seat.table_id } };
+
+    ghost invariant = { λ line. IsLineKept line.words.seat.me.0 (record { log = line.log; seen = line.seen; found = line.words.seat.me.0.found; shares = line.shares; whole = line.whole; table = line.words.seat.table_id }) };
+}
+
+/// Twelve channels without history, and the first line of their family, which holds all of `lines`
+/// shares, at least 1, with room for `room` entries in its log.
+pub fn open_lines<A: Allocator + Copy>(alloc: A, room: u32, lines: u32) -> Result<Line<A>, Memory>
+    requires { 1 ≤ lines }
+    ensures { IfOk result (λ line. IsOpened room lines line) }
+{
+    let log = LineLog::new(alloc, room)?;
+    let words = SharedWords::open(alloc, u64::from(lines))?;
+    Ok(Line {
+        alloc,
+        words,
+        log,
+        seen: [0; CHANNELS],
+        shares: lines,
+        whole: lines,
+    })
+}
+
+impl<A: Allocator + Copy> Line<A> {
+    /// What it did and saw, in order. Every entry lies within what it has seen: an event below
+    /// `seen` of its channel, a look at most there.
+    pub fn log(&self) -> &[Entry]
+        ensures value { result.now ≡ self.now.log.entries }
+        ensures within { IsWithin self.now.seen self.now.log.entries }
+        ensures each_channel { length self.now.seen ≡ channel_count }
+    {
+        self.log.entries()
+    }
+
+    /// For how many more entries its log has room.
+    pub fn room(&self) -> u32
+        ensures { result ≡ self.now.log.room }
+    {
+        self.log.room()
+    }
+
+    /// How many events of the channel it has seen.
+    pub fn seen(&self, channel: ChannelNo) -> u64
+        ensures { result ≡ seen_on channel self.now.seen }
+    {
+        self.seen[channel.index()]
+    }
+
+    /// Its shares.
+    pub fn shares(&self) -> u32
+        ensures value { result ≡ self.now.shares }
+        ensures at_least_one { 1 ≤ result }
+    {
+        self.shares
+    }
+
+    /// How many shares there are in all.
+    pub fn whole(&self) -> u32
+        ensures { result ≡ self.now.whole }
+    {
+        self.whole
+    }
+
+    /// Whether the last entry of its log is to stay: so on a new and on a joined line, and after
+    /// `keep`, until `act` answers.
+    pub fn kept(&self) -> bool
+        ensures { result ≡ self.now.log.kept }
+    {
+        self.log.kept()
+    }
+
+    /// The last entry of its log is to stay, also where a look at the same channel follows.
+    pub fn keep(&mut self)
+        ensures { self.new ≡ record self.old { log = record self.old.log { kept = true } } }
+    {
+        self.log.keep();
+    }
+
+    /// A line of one share, for another thread, with room for `room` entries in a log of its own. It has
+    /// seen what this line has seen. This line needs at least 2 shares, and has one less afterwards; after
+    /// `Memory` nothing has changed.
+    pub fn split(&mut self, room: u32) -> Result<Line<A>, Memory>
+        requires { 2 ≤ self.old.shares }
+        ensures parent { IfOk result (λ line. self.new ≡ record self.old { shares = self.old.shares - 1 }) }
+        ensures line { IfOk result (λ line. IsSplitFrom self.old room line) }
+        ensures whole { self.new.whole ≡ self.old.whole }
+        ensures table { self.new.table ≡ self.old.table }
+        ensures unchanged_after_memory { OnErr result (self.new ≡ self.old) }
+    {
+        let log = LineLog::new(self.alloc, room)?;
+        let words = self.words.split()?;
+        self.shares -= 1;
+        Ok(Line {
+            alloc: self.alloc,
+            words,
+            log,
+            seen: self.seen,
+            shares: 1,
+            whole: self.whole,
+        })
+    }
+
+    /// Makes the operation where the channel is ready for it, or looks: one load of the channel's word,
+    /// and at most one exchange. It needs room for 1 entry, takes no memory and never waits.
+    ///
+    /// `loaded` is how many events the load found. `number` is the same, and for an event its place in the
+    /// history; but an operation whose exchange was lost to another line is held with the flags and the
+    /// number that the exchange found. An event goes to the log, and so does a look, which takes the place
+    /// of a last look at the same channel that was not kept; `room` falls where the log grows. `seen` of
+    /// the channel becomes one more than the number of an event, and the number of a look; `kept` becomes
+    /// false. `Worn` comes only for an operation other than a probe, where the load found 2^50 - 1 events;
+    /// then `seen` of the channel alone has changed.
+    pub fn act(&mut self, channel: ChannelNo, op: ChanOp) -> Result<Numbered, Worn>
+        requires { 1 ≤ self.old.log.room }
+        ensures ok { IfOk result (λ r. IsActed self.old channel op r self.new) }
+        ensures worn { OnErr result (IsWornOut self.old channel op self.new) }
+        ensures rising { IsRising self.old.log.entries → IsRising self.new.log.entries }
+        ensures shares { self.new.shares ≡ self.old.shares }
+        ensures whole { self.new.whole ≡ self.old.whole }
+        ensures table { self.new.table ≡ self.old.table }
+        ensures within { IsWithin self.new.seen self.new.log.entries }
+    {
+        let word = self.load(channel);
+        let loaded = number_in(word);
+        match advance(word, op) {
+            WordStep::Worn => Err(Worn),
+            WordStep::Look(flags) => {
+                self.look(channel, word);
+                Ok(Numbered {
+                    reply: Reply::Flags(flags),
+                    loaded,
+                    number: loaded,
+                })
+            }
+            WordStep::Held(flags) => {
+                self.look(channel, word);
+                Ok(Numbered {
+                    reply: Reply::Held(flags),
+                    loaded,
+                    number: loaded,
+                })
+            }
+            WordStep::Next(next, reply) => {
+                let Some(event) = next_event_in(word, &op) else {
+                    unreachable!()
+                };
+                Ok(match self.try_event(channel, word, next, event) {
+                    Ok(()) => Numbered {
+                        reply,
+                        loaded,
+                        number: loaded,
+                    },
+                    Err(found) => Numbered {
+                        reply: Reply::Held(flags_in(found)),
+                        loaded,
+                        number: number_in(found),
+                    },
+                })
+            }
+        }
+    }
+
+    /// The word of the channel, whose events the line has then seen.
+    fn load(&mut self, channel: ChannelNo) -> u64
+        ensures after { self.new ≡ with_word self.old channel result }
+        ensures tells { TellsLine self.old channel result }
+        ensures within { IsWithin self.old.seen self.old.log.entries }
+        ensures each_channel { length self.old.seen ≡ channel_count }
+    {
+        let word = self.words.load(channel);
+        self.seen[channel.index()] = number_in(word);
+        word
+    }
+
+    /// Writes a look by a word that the line found on the channel.
+    fn look(&mut self, channel: ChannelNo, word: u64)
+        requires room { 1 ≤ self.old.log.room }
+        requires found { Contains self.old.found (record { channel = channel; word = word }) }
+        requires seen { number_in word ≤ seen_on channel self.old.seen }
+        ensures after { self.new ≡ with_look self.old channel word }
+        ensures within { IsWithin self.new.seen self.new.log.entries }
+    {
+        self.log.saw(channel, number_in(word), flags_in(word));
+    }
+
+    /// One try to make the event where the channel has the word that was loaded. Where another stands
+    /// there by now, that word is found, and a look by it written.
+    fn try_event(
+        &mut self,
+        channel: ChannelNo,
+        word: u64,
+        next: u64,
+        event: Event,
+    ) -> Result<(), u64>
+        requires room { 1 ≤ self.old.log.room }
+        requires loaded { (line : LineState) × (self.old ≡ with_word line channel word) }
+        requires next { (h : List Event) → IsLawful h → HasTwelveBitWords h → history_word h ≡ word
+            → IsLawful (h ++ event ∷ []) × HasTwelveBitWord event × (history_word (h ++ event ∷ []) ≡ next) }
+        ensures made { OnOk result (HasMade self.old channel word event self.new) }
+        ensures lost { IfErr result (λ found. HasLost self.old channel word found self.new) }
+        ensures within { IsWithin self.new.seen self.new.log.entries }
+    {
+        let found = self.words.exchange(channel, word, next, &event);
+        let number = number_in(found);
+        if found == word {
+            self.seen[channel.index()] = number + 1;
+            self.log.did(channel, number, event);
+            return Ok(());
+        }
+        self.seen[channel.index()] = number;
+        self.look(channel, found);
+        Err(found)
+    }
+
+    /// This line and another of its family, that is, from the same `open_lines`, as one: the log is this
+    /// line's entries and then the other's, the room is this line's, shares add up, and `seen` is the
+    /// greater for each channel. After `Memory` both come back unchanged.
+    pub fn join(mut self, other: Line<A>) -> Result<Line<A>, (Line<A>, Line<A>, Memory)>
+        requires { other.table ≡ self.table }
+        ensures ok { IfOk result (λ line. line ≡ joined self other) }
+        ensures unchanged_after_memory { IfErr result (λ refused. (refused.0 ≡ self) × (refused.1 ≡ other)) }
+    {
+        if let Err(memory) = self.log.append(&other.log) {
+            return Err((self, other, memory));
+        }
+        let Line {
+            alloc: _,
+            words,
+            log: _,
+            seen,
+            shares,
+            whole: _,
+        } = other;
+        self.words.join(words);
+        self.words.weigh(ChannelNo::FIRST);
+        self.shares += shares;
+        self.seen = greater_of_each(&self.seen, &seen);
+        Ok(self)
+    }
+
+    /// The channels, of the line that holds every share of its family: their histories are the events of
+    /// its log, each at its number. After `Memory` the line comes back unchanged.
+    pub fn close(mut self) -> Result<[Channel<A>; CHANNELS], (Line<A>, Memory)>
+        requires { self.shares ≡ self.whole }
+        ensures ok { IfOk result (λ channels. AreClosed self channels) }
+        ensures unchanged_after_memory { IfErr result (λ refused. refused.0 ≡ self) }
+    {
+        self.words.weigh(ChannelNo::FIRST);
+        let line = &self;
+        match told_channels(line.alloc, line.log.entries(), &line.seen) {
+            Ok(channels) => Ok(channels),
+            Err(memory) => Err((self, memory)),
+        }
+    }
+}
+
+/// The greater number for each channel.
+fn greater_of_each(one: &[u64; CHANNELS], other: &[u64; CHANNELS]) -> [u64; CHANNELS]
+    ensures { result ≡ greater_of_each one.now other.now }
+{
+    let mut greater = *one;
+    for (place, number) in other.iter().enumerate() {
+        greater[place] = greater[place].max(*number);
+    }
+    greater
+}

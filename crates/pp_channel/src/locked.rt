@@ -1,0 +1,56 @@
+//! A channel that threads share under a lock.
+
+ghost use Rattle.std.specs.Prelude.{◌≡◌, IfOk, IsOk};
+ghost use Rattle.pp_channel.specs.declared.chan_op.ChanOp.{ChanOp};
+ghost use Rattle.pp_channel.specs.History.{IsLawful, HasTwelveBitWords};
+ghost use Rattle.pp_channel.specs.Locked.{IsLockedAnswer};
+
+use crate::chan_op::ChanOp;
+use crate::channel::Channel;
+use crate::memory::Memory;
+use crate::numbered::Numbered;
+use std::alloc::Allocator;
+use std::sync::{Mutex, Wait};
+
+/// A channel behind a lock. Each value behind it has a lawful history.
+#[derive(Drop)]
+pub struct Locked<A: Allocator> {
+    channel: Mutex<Channel<A>>,
+}
+
+impl<A: Allocator> Locked<A> {
+    /// The channel, which threads may now share.
+    pub fn new(channel: Channel<A>) -> Self {
+        Locked {
+            channel: Mutex::new(channel),
+        }
+    }
+
+    /// Makes the operation under the lock where it is ready, and holds it where it is not. `number`
+    /// is the length of the history before the call, and `loaded` the same. After `Memory` nothing has
+    /// changed.
+    pub fn act(&self, rt: &impl Wait, op: ChanOp) -> Result<Numbered, Memory>
+        ensures answer { IfOk result (λ r. IsLockedAnswer op r) }
+        ensures probe_takes_no_memory { op ≡ ChanOp.Probe → IsOk result }
+    {
+        let mut channel = self.channel.lock(rt);
+        let number = channel.history().len() as u64;
+        let reply = channel.act(op)?;
+        Ok(Numbered {
+            reply,
+            loaded: number,
+            number,
+        })
+    }
+
+    /// The channel, which is shared no longer.
+    pub fn into_inner(self) -> Channel<A>
+        ensures lawful { IsLawful result }
+        ensures twelve_bits { HasTwelveBitWords result }
+    {
+        let Locked { channel } = self;
+        let channel = channel.into_inner();
+        let _history = channel.history();
+        channel
+    }
+}

@@ -1,0 +1,15 @@
+//! Answers with their place in a channel's history.
+
+use crate::reply::Reply;
+
+/// An answer, and where it stands in the history of its channel.
+#[derive(Clone, Copy, Debug, PartialEq, Eq)]
+pub struct Numbered {
+    /// The answer.
+    pub reply: Reply,
+    /// How many events the channel had had when its word was loaded; behind a lock, before the call.
+    pub loaded: u64,
+    /// For an event its place in the history, counted from 0; for a look how many events the channel
+    /// had had.
+    pub number: u64,
+}

@@ -1,0 +1,114 @@
+//! The words that lines share, and a line's seat at them.
+
+ghost use Rattle.std.specs.Prelude.{◌≡◌, ◌≢◌, ◌+◌, ◌-◌, ◌<◌, ◌≤◌, ◌==◌, ℕ, [], List, ◌∷◌, ◌++◌, IfOk, OnErr, IsTrue};
+ghost use Rattle.std.specs.Arc.{arc_value};
+ghost use Rattle.pp_channel.specs.declared.event.Event.{Event};
+ghost use Rattle.pp_channel.specs.declared.rule.LineView.{LineView};
+ghost use Rattle.pp_channel.specs.ChannelNumber.{names_channel};
+ghost use Rattle.pp_channel.specs.ChannelWord.{history_word, number_in};
+ghost use Rattle.pp_channel.specs.History.{IsLawful, HasTwelveBitWords, HasTwelveBitWord};
+ghost use Rattle.pp_channel.specs.SharedWords.{place_count, word_place};
+ghost use Rattle.pp_channel.specs.LineSteps.{first_view, parent_view, child_view, joined_view, finds, IsLoad, IsExchange, IsWeighing, Tells};
+
+use crate::channel_no::ChannelNo;
+use crate::event::Event;
+use crate::memory::Memory;
+use crate::rule::{ChannelRule, Exchange, LineView, Load, Share, Weigh};
+use atomic_table::{Seat, Table};
+use std::alloc::Allocator;
+use std::sync::Arc;
+
+/// How many words lie from one channel's word to the next: 128 bytes, so that no two channels share a
+/// cache line.
+const APART: usize = 16;
+
+/// The twelve words, which all lines of a family share, and one line's seat at them.
+#[derive(Drop)]
+pub struct SharedWords<A: Allocator> {
+    table: Arc<Table<Event, LineView, u64, ChannelRule, A>, A>,
+    pub seat: Seat<Event, LineView>,
+    ghost places: { (arc_value table).shared.table_id.words ≡ place_count },
+    ghost seated: { seat.table_id ≡ (arc_value table).shared.table_id },
+    ghost no_slots: { seat.me.1 ≡ [] },
+    ghost unspent: { 0 < seat.me.0.shares },
+}
+
+impl<A: Allocator + Copy> SharedWords<A> {
+    /// The words of twelve channels without history, and the seat of the first line, with all shares.
+    pub fn open(alloc: A, whole: u64) -> Result<SharedWords<A>, Memory>
+        requires { 0 < whole }
+        ensures { IfOk result (λ words. words.seat.me.0 ≡ first_view whole) }
+    {
+        let (table, seat) = Table::of_words(alloc, &[0; 208], &whole)?;
+        let table = Arc::new(alloc, table)?;
+        Ok(SharedWords { table, seat })
+    }
+
+    /// Another seat, with one share of this one's.
+    pub fn split(&mut self) -> Result<SharedWords<A>, Memory>
+        requires { 1 < self.old.seat.me.0.shares }
+        ensures table { self.new.seat.table_id ≡ self.old.seat.table_id }
+        ensures parent { IfOk result (λ words. self.new.seat.me.0 ≡ parent_view self.old.seat.me.0) }
+        ensures child { IfOk result (λ words. words.seat.me.0 ≡ child_view self.old.seat.me.0) }
+        ensures child_table { IfOk result (λ words. words.seat.table_id ≡ self.old.seat.table_id) }
+        ensures err { OnErr result (self.new ≡ self.old) }
+    {
+        let table = Arc::try_clone(&self.table)?;
+        let seat = table.shared.split_seat::<Share>(&mut self.seat);
+        Ok(SharedWords { table, seat })
+    }
+
+    /// The seat of another line is joined to this one.
+    pub fn join(&mut self, other: SharedWords<A>)
+        requires { other.seat.table_id ≡ self.old.seat.table_id }
+        ensures table { self.new.seat.table_id ≡ self.old.seat.table_id }
+        ensures view { self.new.seat.me.0 ≡ joined_view self.old.seat.me.0 other.seat.me.0 }
+    {
+        let SharedWords { table: _, seat } = other;
+        self.table.shared.join_seat::<Share>(&mut self.seat, seat);
+    }
+
+    /// The word of a channel.
+    pub fn load(&mut self, channel: ChannelNo) -> u64
+        ensures table { self.new.seat.table_id ≡ self.old.seat.table_id }
+        ensures load { IsLoad channel self.old.seat.me.0 result self.new.seat.me.0 }
+    {
+        self.table
+            .shared
+            .load::<Load>(&mut self.seat, place(channel))
+    }
+
+    /// One try to make an event: the word of the channel becomes `new` where it is `expected`. Answers
+    /// the word that it found.
+    pub fn exchange(&mut self, channel: ChannelNo, expected: u64, new: u64, event: &Event) -> u64
+        requires loaded { (v : LineView) × (self.old.seat.me.0 ≡ finds v channel expected) }
+        requires next { (h : List Event) → IsLawful h → HasTwelveBitWords h → history_word h ≡ expected
+            → IsLawful (h ++ event.now ∷ []) × HasTwelveBitWord event.now × (history_word (h ++ event.now ∷ []) ≡ new) }
+        ensures table { self.new.seat.table_id ≡ self.old.seat.table_id }
+        ensures exchange { IsExchange channel expected event.now self.old.seat.me.0 result self.new.seat.me.0 }
+    {
+        self.table
+            .shared
+            .compare_exchange_with::<Exchange>(&mut self.seat, place(channel), expected, new, event)
+    }
+
+    /// A load after which the line knows no more of the channels than before.
+    pub fn weigh(&mut self, channel: ChannelNo)
+        ensures table { self.new.seat.table_id ≡ self.old.seat.table_id }
+        ensures view { self.new.seat.me.0 ≡ self.old.seat.me.0 }
+        ensures shares_fit { self.old.seat.me.0.shares ≤ self.old.seat.me.0.whole }
+        ensures tells { (word : ℕ) × Tells self.old.seat.me.0 channel word }
+    {
+        self.table
+            .shared
+            .load::<Weigh>(&mut self.seat, place(channel));
+    }
+}
+
+/// Where the word of a channel lies.
+fn place(channel: ChannelNo) -> usize
+    ensures place { result ≡ word_place channel }
+    ensures below { result < place_count }
+{
+    APART * (channel.index() + 1)
+}

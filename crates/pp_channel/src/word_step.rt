@@ -1,0 +1,137 @@
+//! One step of a channel word.
+
+ghost use Rattle.std.specs.Prelude.{◌≡◌, ◌<◌, ◌≤◌, List, IfSome};
+ghost use Rattle.pp_channel.specs.declared.event.Event.{Event};
+ghost use Rattle.pp_channel.specs.Answer.{reply_made};
+ghost use Rattle.pp_channel.specs.ChannelWord.{history_word, number_in, flags_in, register_in, greatest_number};
+ghost use Rattle.pp_channel.specs.History.{IsLawful, HasTwelveBitWord, HasTwelveBitWords};
+ghost use Rattle.pp_channel.specs.WordStep.{step_from, event_in, word_with, StepsFrom};
+
+use crate::chan_op::ChanOp;
+use crate::channel::flags_after;
+use crate::event::Event;
+use crate::flags::Flags;
+use crate::reply::Reply;
+use pp_word::Word12;
+
+/// The full flag of a channel word.
+const FULL: u64 = 1 << 12;
+
+/// The active flag.
+const ACTIVE: u64 = 1 << 13;
+
+/// One event.
+const EVENT: u64 = 1 << 14;
+
+/// The greatest number of events that a word can count.
+const GREATEST_NUMBER: u64 = (1 << 50) - 1;
+
+/// What an operation does to a channel word.
+#[derive(Clone, Copy, Debug, PartialEq, Eq)]
+pub enum WordStep {
+    /// The word becomes this one, and the operation is answered so.
+    Next(u64, Reply),
+    /// The flags that a probe asked for.
+    Look(Flags),
+    /// The operation is not ready at these flags.
+    Held(Flags),
+    /// The word counts 2^50 - 1 events, and no more can be counted.
+    Worn,
+}
+
+/// The step of an operation from a channel word, which may be any number: bits 0 to 11 are the
+/// register, bit 12 the full flag, bit 13 the active flag, and bits 14 to 63 the number of events
+/// (decimal). For any operation but a probe `Worn` comes before `Held`.
+#[tactic(auto, using(crate::proofs::ChannelWordLemmas::steps_as_histories))]
+pub fn advance(word: u64, op: ChanOp) -> WordStep
+    ensures table { result ≡ step_from op word }
+    ensures history { (h : List Event) → IsLawful h → HasTwelveBitWords h → history_word h ≡ word → StepsFrom h op result }
+{
+    if matches!(&op, ChanOp::Probe) {
+        return WordStep::Look(flags_in(word));
+    }
+    if number_in(word) == GREATEST_NUMBER {
+        return WordStep::Worn;
+    }
+    match next_event_in(word, &op) {
+        Some(event) => WordStep::Next(word_with(word, &event), reply_made(&event)),
+        None => WordStep::Held(flags_in(word)),
+    }
+}
+
+/// The event that an operation makes, by the flags and the register of a word; nothing where it is a
+/// probe or not ready.
+pub(crate) fn next_event_in(word: u64, op: &ChanOp) -> Option<Event>
+    ensures event { result ≡ event_in op.now word }
+    ensures twelve_bits { IfSome result HasTwelveBitWord }
+{
+    let Flags { active, full } = flags_in(word);
+    // A word is known to have 12 bits once its number is read.
+    match op {
+        ChanOp::Activate if !active => Some(Event::Activate),
+        ChanOp::Disconnect if active => Some(Event::Disconnect),
+        ChanOp::Put(put) if active && !full => {
+            prove!(put.get() < 0o10000);
+            Some(Event::Put(*put))
+        }
+        ChanOp::Take if active && full => {
+            let taken = register_in(word);
+            prove!(taken.get() < 0o10000);
+            Some(Event::Take(taken))
+        }
+        ChanOp::Function(code) if !active => {
+            prove!(code.get() < 0o10000);
+            Some(Event::Function(*code))
+        }
+        _ => None,
+    }
+}
+
+/// How many events a word counts.
+pub(crate) fn number_in(word: u64) -> u64
+    ensures value { result ≡ number_in word }
+    ensures at_most { result ≤ greatest_number }
+{
+    word / EVENT
+}
+
+/// Its flags.
+pub(crate) fn flags_in(word: u64) -> Flags
+    ensures { result ≡ flags_in word }
+{
+    Flags {
+        active: word / ACTIVE % 2 == 1,
+        full: word / FULL % 2 == 1,
+    }
+}
+
+/// Its register.
+fn register_in(word: u64) -> Word12
+    ensures { result ≡ register_in word }
+{
+    Word12::truncated((word % FULL) as u32)
+}
+
+/// The word after an event.
+fn word_with(word: u64, event: &Event) -> u64
+    requires { number_in word < greatest_number }
+    ensures { result ≡ word_with word event.now }
+{
+    let Flags { active, full } = flags_after(event);
+    let register = match event {
+        Event::Put(put) => u64::from(put.get()),
+        _ => 0,
+    };
+    let flags = u64::from(active) * ACTIVE + u64::from(full) * FULL;
+    (number_in(word) + 1) * EVENT + flags + register
+}
+
+/// The reply where an event is made.
+fn reply_made(event: &Event) -> Reply
+    ensures { result ≡ reply_made event.now }
+{
+    match event {
+        Event::Take(taken) => Reply::Word(*taken),
+        _ => Reply::Done,
+    }
+}

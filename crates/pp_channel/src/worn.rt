@@ -1,0 +1,8 @@
+//! The refusal of a channel that has had too many events.
+
+use thiserror::Error;
+
+/// The channel has had as many events as its word can count, 2^50 - 1: refusal 2 of a channel.
+#[derive(Clone, Copy, Debug, PartialEq, Eq, Error)]
+#[error("channel is worn")]
+pub struct Worn;
