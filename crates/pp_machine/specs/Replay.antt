@@ -1,7 +1,9 @@
 -- A replay: a processor is given answers in order, up to the first that does not fit its need.
-use Rattle.std.specs.Prelude.{ℕ, ◌+◌, Bool, true, false, List, [], ◌∷◌, ◌++◌, if◌then◌else◌}
+use Rattle.std.specs.Prelude.{ℕ, ◌+◌, Bool, true, false, List, [], ◌∷◌, ◌++◌, map, if◌then◌else◌}
 use Rattle.pp_channel.specs.declared.chan_op.ChanOp.{ChanOp}
 use Rattle.pp_channel.specs.declared.chan_op.ChanOp.TheVariants as operations
+use Rattle.pp_channel.specs.declared.entry.Seen.{Seen}
+use Rattle.pp_channel.specs.declared.entry.Seen.TheVariants.{Did, Saw}
 use Rattle.pp_channel.specs.declared.event.Event.{Event}
 use Rattle.pp_channel.specs.declared.event.Event.TheVariants as events
 use Rattle.pp_channel.specs.declared.flags.Flags.{Flags}
@@ -92,3 +94,20 @@ unfoldable pub looks_given : Processor → List Answer → List ChannelLook
 looks_given pp [] = []
 looks_given pp (answer ∷ more) =
     if fits (need pp) answer then looks_of (need pp) answer ++ looks_given (processor_after pp answer) more else []
+
+-- an event or a look, with the channel's number
+pub record ChannelSight : Type 0 where
+  pub channel : ℕ
+  pub what : Seen
+
+-- the event or the look of an answer to a need
+abbrev pub sights_of : Need → Answer → List ChannelSight
+sights_of need answer =
+    map (λ e. record { channel = e.channel; what = Did e.event }) (events_of need answer)
+    ++ map (λ l. record { channel = l.channel; what = Saw l.flags }) (looks_of need answer)
+
+-- the events and the looks of a replay together, in order
+unfoldable pub sights_given : Processor → List Answer → List ChannelSight
+sights_given pp [] = []
+sights_given pp (answer ∷ more) =
+    if fits (need pp) answer then sights_of (need pp) answer ++ sights_given (processor_after pp answer) more else []

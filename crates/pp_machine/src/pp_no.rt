@@ -59,7 +59,7 @@ impl PpNo {
     }
 
     /// The processor at a place in the barrel's order.
-    pub(crate) fn at(place: usize) -> Self
+    pub fn at(place: usize) -> Self
         requires { place < processor_count }
         ensures { result ≡ processor_in_turn place }
     {

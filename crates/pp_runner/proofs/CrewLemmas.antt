@@ -1,0 +1,164 @@
+-- A worker and its line more.
+use Rattle.std.proofs.Common.{◌≡◌, ℕ, suc, ◌+◌, ◌-◌, ◌<◌, ◌≤◌, List, [], ◌∷◌, ◌++◌, length, drop, get_or, refl, sym, ap, ◌∙◌, subst, arith}
+use Rattle.std.specs.Prelude.{Some, Result, Ok, Err, IfOk, All}
+use Rattle.std.proofs.lemmas.List.{drop_more, drop_all, append-nil, length-append}
+use Rattle.std.proofs.lemmas.List.Elements.{All-pop, All-push, All-weaker}
+use Rattle.pp_channel.specs.LineState.{LineState, IsSplitFrom, joined}
+use Rattle.pp_channel.specs.RisingLog.{IsRising}
+use Rattle.pp_channel.specs.declared.entry.Entry.{Entry}
+use Rattle.pp_machine.specs.MachineState.{MachineState, processor_of}
+use Rattle.pp_machine.specs.Processor.{Processor, new_processor}
+use Rattle.pp_machine.specs.ProcessorNumber.{processor_count, processor_index, processor_in_turn}
+use Rattle.pp_machine.specs.Replay.{sights_given}
+use Rattle.pp_runner.proofs.LogLemmas.{settles, stands_settled}
+use Rattle.pp_runner.specs.Crew.{IsKin, IsFresh, AreReady, IsEnded, IsAlone, AreEnded}
+use Rattle.pp_runner.specs.Labour.{IsAtWork, IsSameShare}
+use Rattle.pp_runner.specs.WorkerEnd.{IsEnd}
+use Rattle.pp_runner.specs.WorkerLog.{events_in, sights_in, StandsIn}
+use Rattle.pp_runner.specs.WorkerReport.{IsWorker, AreWorkers, logs_of}
+use Rattle.pp_runner.specs.declared.crew.Crew.{Crew}
+use Rattle.pp_runner.specs.declared.worker.Worker.{Worker}
+
+-- the workers after one that has ended
+ended_first : {A : Type 0} (loads : List Processor) (size steps count : ℕ) (load : Processor) (family line mine others after : LineState) (w : Worker A) (ws : List (Worker A))
+    → IsEnded load size steps line w mine → AreEnded loads size steps count family ws others → line.shares ≡ 1 → IsKin family line → after ≡ joined mine others
+    → AreEnded (load ∷ loads) size steps (1 + count) family (w ∷ ws) after
+ended_first loads size steps count load family line mine others after w ws one all share kin is = record {
+  workers = (one.worker, all.workers);
+  log = ap (λ l. l.log.entries) is ∙ (λ i. one.log i ++ all.log i);
+  shares = omega (arith, ap (λ l. l.shares) is, one.same_share.shares, all.shares, share);
+  kin = record {
+    whole = ap (λ l. l.whole) is ∙ (one.same_share.whole ∙ kin.whole);
+    table = ap (λ l. l.table) is ∙ (one.same_share.table ∙ kin.table);
+  };
+}
+
+-- the worker after which there is none
+ended_last : {A : Type 0} (size steps : ℕ) (load : Processor) (family line mine : LineState) (w : Worker A) → IsEnded load size steps line w mine → line.shares ≡ 1 → IsKin family line
+    → AreEnded (load ∷ []) size steps 1 family (w ∷ []) mine
+ended_last size steps load family line mine w one share kin = record {
+  workers = (one.worker, tt);
+  log = one.log ∙ sym (append-nil w.log.items);
+  shares = one.same_share.shares ∙ share;
+  kin = record { whole = one.same_share.whole ∙ kin.whole; table = one.same_share.table ∙ kin.table };
+}
+
+alone_ended : {A : Type 0} (size steps : ℕ) (load : Processor) (family line mine : LineState) (ws : List (Worker A)) → IsAlone load size steps line ws mine → line.shares ≡ 1 → IsKin family line
+    → AreEnded (load ∷ []) size steps 1 family ws mine
+alone_ended size steps load family line mine [] one share kin = absurd one
+alone_ended size steps load family line mine (w ∷ []) one share kin = ended_last size steps load family line mine w one share kin
+alone_ended size steps load family line mine (w ∷ v ∷ ws) one share kin = absurd one
+
+-- a worker that makes no further step, with a copy of its log
+pub work_ended : {A : Type 0} (load : Processor) (size steps : ℕ) (line : LineState) (w : Worker A) → IsAtWork load size steps w.pp w.answers.items line.log → length w.answers.items ≤ steps
+    → IsEnd steps w.finish w.pp w.answers.items line.log.entries → w.log.items ≡ line.log.entries → IsEnded load size steps line w line
+work_ended load size steps line w work few finish copied =
+    let s = settles line.log (λ k. ((work.held k).channel, (work.held k).looked)) in record {
+      worker = record {
+        pp = work.pp_is;
+        all_given = work.all_given;
+        all_moved = work.all_moved;
+        by_size = work.by_size;
+        events = ap events_in copied ∙ work.events;
+        sights = subst (λ (l : List Entry). StandsIn (sights_given load w.answers.items) (sights_in l)) (sym copied) (stands_settled line.log (sights_given load w.answers.items) s work.sights);
+        rising = subst (λ (l : List Entry). IsRising l) (sym copied) work.rising;
+        few_answers = few;
+        few_entries = omega (arith, s.few, work.few_entries, ap length copied);
+        finish = subst (λ (l : List Entry). IsEnd steps w.finish w.pp w.answers.items l) (sym copied) finish;
+      };
+      log = sym copied;
+      same_share = record { shares = refl; whole = refl; table = refl };
+    }
+
+-- the processors from a place on begin with the one at that place
+pub processors_from : (m : MachineState) (n : ℕ) → processor_index n < length m.processors → drop (processor_index n) m.processors ≡ processor_of n m ∷ drop (processor_index n + 1) m.processors
+processors_from m n below = drop_more m.processors (processor_index n) new_processor below
+
+-- the processor after one that is not the last
+pub place_after : (n next : ℕ) → ((turn : ℕ) → n ≡ processor_in_turn turn → next ≡ processor_in_turn (turn + 1)) → processor_index n + 2 ≤ processor_count → processor_index next ≡ processor_index n + 1
+place_after n next is below = omega (arith, is n (omega arith))
+
+-- the line that is taken first, and those that are left
+pub record IsTaken (m : MachineState) (n room : ℕ) (family line : LineState) (others : List LineState) : Type 0 where
+  pub each : length m.processors ≡ processor_count
+  pub count : processor_index n + (length others + 1) ≡ processor_count
+  pub fresh : IsFresh room family line
+  pub fresh_others : All (IsFresh room family) others
+
+pub taken_of : (m : MachineState) (n room : ℕ) (family line : LineState) (lines others : List LineState) → lines ≡ others ++ line ∷ [] → AreReady m n room family lines → IsTaken m n room family line others
+taken_of m n room family line lines others is ready =
+    let parts = All-pop (IsFresh room family) lines others (Some line) is ready.fresh in record {
+      each = ready.each;
+      count = omega (arith, ready.count, ap length is, length-append others (line ∷ []));
+      fresh = parts.1;
+      fresh_others = parts.0;
+    }
+
+-- where there were several lines, some are left
+pub some_left : (lines others : List LineState) (line : LineState) → lines ≡ others ++ line ∷ [] → 1 < length lines → 0 < length others
+some_left lines others line is several = omega (arith, several, ap length is, length-append others (line ∷ []))
+
+-- those after the first are ready too
+pub ready_after : (m : MachineState) (n next room : ℕ) (family line : LineState) (others : List LineState) → IsTaken m n room family line others → 0 < length others →
+    ((turn : ℕ) → n ≡ processor_in_turn turn → next ≡ processor_in_turn (turn + 1)) → AreReady m next room family others
+ready_after m n next room family line others taken some is = record {
+  each = taken.each;
+  count = omega (arith, taken.count, place_after n next is (omega (arith, taken.count, some)));
+  some = some;
+  fresh = taken.fresh_others;
+}
+
+-- the last worker
+pub ended_alone : {A E : Type 0} (m : MachineState) (n room size steps total : ℕ) (load : Processor) (family line : LineState) (lines others : List LineState) (r : Result (Crew A) E) → AreReady m n room family lines
+    → lines ≡ others ++ line ∷ [] → total ≡ length lines → total ≤ 1 → load ≡ processor_of n m
+    → IfOk r (λ crew. IsAlone load size steps line crew.workers.items crew.line)
+    → IfOk r (λ crew. AreEnded (drop (processor_index n) m.processors) size steps total family crew.workers.items crew.line)
+ended_alone m n room size steps total load family line lines others (Err e) ready is sum few load_is one = tt
+ended_alone {A} m n room size steps total load family line lines others (Ok crew) ready is sum few load_is one =
+    let taken = taken_of m n room family line lines others is ready in
+    let only : total ≡ 1 = omega (arith, sum, few, ready.some) in
+    let none : drop (processor_index n + 1) m.processors ≡ [] = drop_all (processor_index n + 1) m.processors (omega (arith, ready.count, ready.each, sum, only)) in
+    let loads : drop (processor_index n) m.processors ≡ load ∷ [] =
+    processors_from m n (omega (arith, taken.count, taken.each)) ∙ ((λ i. processor_of n m ∷ none i) ∙ ap (λ p. p ∷ []) (sym load_is)) in
+    subst (λ (ps : List Processor). AreEnded ps size steps total family crew.workers.items crew.line) (sym loads)
+    (subst (λ (k : ℕ). AreEnded (load ∷ []) size steps k family crew.workers.items crew.line) (sym only)
+    (alone_ended size steps load family line crew.line crew.workers.items one taken.fresh.shares taken.fresh.kin))
+
+-- a worker and those after it
+pub ended_beside : {A E : Type 0} (m : MachineState) (n next room size steps left total : ℕ) (family line mine after : LineState) (others : List LineState) (w : Worker A) (ws : List (Worker A)) (r : Result (Crew A) E)
+    → IsTaken m n room family line others → 0 < length others → ((turn : ℕ) → n ≡ processor_in_turn turn → next ≡ processor_in_turn (turn + 1)) → total ≡ 1 + left
+    → IsEnded (processor_of n m) size steps line w mine → AreEnded (drop (processor_index next) m.processors) size steps left family ws after
+    → IfOk r (λ crew. crew.workers.items ≡ w ∷ ws) → IfOk r (λ crew. crew.line ≡ joined mine after)
+    → IfOk r (λ crew. AreEnded (drop (processor_index n) m.processors) size steps total family crew.workers.items crew.line)
+ended_beside m n next room size steps left total family line mine after others w ws (Err e) taken some is sum one all workers_are line_is = tt
+ended_beside {A} m n next room size steps left total family line mine after others w ws (Ok crew) taken some is sum one all workers_are line_is =
+    let place : processor_index next ≡ processor_index n + 1 = place_after n next is (omega (arith, taken.count, some)) in
+    let loads : drop (processor_index n) m.processors ≡ processor_of n m ∷ drop (processor_index next) m.processors =
+    processors_from m n (omega (arith, taken.count, taken.each)) ∙ ap (λ i. processor_of n m ∷ drop i m.processors) (sym place) in
+    let ended : AreEnded (processor_of n m ∷ drop (processor_index next) m.processors) size steps (1 + left) family (w ∷ ws) crew.line =
+    ended_first (drop (processor_index next) m.processors) size steps left (processor_of n m) family line mine after crew.line w ws one all taken.fresh.shares taken.fresh.kin line_is in
+    subst (λ (ps : List Processor). AreEnded ps size steps total family crew.workers.items crew.line) (sym loads)
+    (subst (λ (k : ℕ). AreEnded (processor_of n m ∷ drop (processor_index next) m.processors) size steps k family crew.workers.items crew.line) (sym sum)
+    (subst (λ (vs : List (Worker A)). AreEnded (processor_of n m ∷ drop (processor_index next) m.processors) size steps (1 + left) family vs crew.line) (sym workers_are) ended))
+
+-- what a promise says, in the words of what it was made from
+pub promised : {A : Type 0} (load was : Processor) (size size_was steps steps_was : ℕ) (line line_was : LineState) (w : Worker A) (after : LineState) → was ≡ load → size_was ≡ size → steps_was ≡ steps → line_was ≡ line
+    → IsEnded was size_was steps_was line_was w after → IsEnded load size steps line w after
+promised load was size size_was steps steps_was line line_was w after a b c d h = rw (← a, ← b, ← c, ← d) h
+
+-- a line that gives a share to another is of the same family as before
+pub split_kin : (room : ℕ) (first after line : LineState) (lines : List LineState) → after ≡ record first { shares = first.shares - 1 } → IsSplitFrom first room line →
+    All (IsFresh room first) lines → All (IsFresh room after) (lines ++ line ∷ [])
+split_kin room first after line lines is split all =
+    let whole : after.whole ≡ first.whole = ap (λ l. l.whole) is in
+    let table : after.table ≡ first.table = ap (λ l. l.table) is in
+    All-push (IsFresh room after) lines line
+    (All-weaker (IsFresh room first) (IsFresh room after) (λ other b. record { log = b.log; shares = b.shares; kin = record { whole = b.kin.whole ∙ sym whole; table = b.kin.table ∙ sym table } }) lines all)
+    (record { log = split.log; shares = split.shares; kin = record { whole = split.whole ∙ sym whole; table = split.table ∙ sym table } })
+
+-- there are as many workers as processors
+pub workers_count : {A : Type 0} (loads : List Processor) (size steps : ℕ) (ws : List (Worker A)) → AreWorkers loads size steps ws → length ws ≡ length loads
+workers_count [] size steps [] all = refl
+workers_count [] size steps (w ∷ ws) all = absurd all
+workers_count (p ∷ loads) size steps [] all = absurd all
+workers_count (p ∷ loads) size steps (w ∷ ws) all = ap suc (workers_count loads size steps ws all.1)

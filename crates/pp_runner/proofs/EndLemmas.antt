@@ -1,0 +1,78 @@
+-- Each end, by what the processor, the answers and the log are.
+use Rattle.std.proofs.Common.{◌≡◌, ℕ, ◌<◌, List, Option, None, Some, length, refl}
+use Rattle.std.specs.Prelude.{IfNone, IfSome, unwrap_or}
+use Rattle.pp_channel.specs.declared.entry.Entry.{Entry}
+use Rattle.pp_machine.specs.NeedAndEffect.{need}
+use Rattle.pp_machine.specs.Processor.{Processor}
+use Rattle.pp_machine.specs.declared.answer.Answer.{Answer}
+use Rattle.pp_machine.specs.declared.pp_state.PpState.{PpState}
+use Rattle.pp_machine.specs.declared.pp_state.PpState.TheVariants as states
+use Rattle.pp_runner.specs.WorkerEnd.{IsEnd, HasStepsLeft, NeedsChannel, WasHeld}
+use Rattle.pp_runner.specs.declared.end.End.{End}
+use Rattle.pp_runner.specs.declared.end.End.TheVariants as ends
+
+pub end_stopped : (steps : ℕ) (pp : Processor) (xs : List Answer) (log : List Entry) → pp.state ≡ states.Stopped → IsEnd steps ends.Stopped pp xs log
+end_stopped steps pp xs log is = record {
+  stopped = (λ e. is, λ s. refl);
+  fault = λ n. (λ e. absurd cc, λ s. absurd cc);
+  all_steps = λ e. absurd cc;
+  patience = λ e. absurd cc;
+  memory = λ e. absurd cc;
+  worn = λ e. absurd cc;
+}
+
+pub end_fault : (steps number : ℕ) (pp : Processor) (xs : List Answer) (log : List Entry) → pp.state ≡ states.Fault number → IsEnd steps (ends.Fault number) pp xs log
+end_fault steps number pp xs log is = record {
+  stopped = (λ e. absurd cc, λ s. absurd cc);
+  fault = λ n. (λ e. cc, λ s. cc);
+  all_steps = λ e. absurd cc;
+  patience = λ e. absurd cc;
+  memory = λ e. absurd cc;
+  worn = λ e. absurd cc;
+}
+
+pub end_steps : (steps : ℕ) (pp : Processor) (xs : List Answer) (log : List Entry) → pp.state ≡ states.Running → length xs ≡ steps → IsEnd steps ends.Steps pp xs log
+end_steps steps pp xs log running all = record {
+  stopped = (λ e. absurd cc, λ s. absurd cc);
+  fault = λ n. (λ e. absurd cc, λ s. absurd cc);
+  all_steps = λ e. (running, all);
+  patience = λ e. absurd cc;
+  memory = λ e. absurd cc;
+  worn = λ e. absurd cc;
+}
+
+pub end_patience : (steps : ℕ) (pp : Processor) (xs : List Answer) (log : List Entry) → pp.state ≡ states.Running → length xs < steps → WasHeld pp log → IsEnd steps ends.Patience pp xs log
+end_patience steps pp xs log running fewer held = record {
+  stopped = (λ e. absurd cc, λ s. absurd cc);
+  fault = λ n. (λ e. absurd cc, λ s. absurd cc);
+  all_steps = λ e. absurd cc;
+  patience = λ e. (record { running = running; fewer = fewer }, held);
+  memory = λ e. absurd cc;
+  worn = λ e. absurd cc;
+}
+
+pub end_memory : (steps : ℕ) (pp : Processor) (xs : List Answer) (log : List Entry) → pp.state ≡ states.Running → length xs < steps → IsEnd steps ends.Memory pp xs log
+end_memory steps pp xs log running fewer = record {
+  stopped = (λ e. absurd cc, λ s. absurd cc);
+  fault = λ n. (λ e. absurd cc, λ s. absurd cc);
+  all_steps = λ e. absurd cc;
+  patience = λ e. absurd cc;
+  memory = λ e. record { running = running; fewer = fewer };
+  worn = λ e. absurd cc;
+}
+
+pub end_worn : (steps : ℕ) (pp : Processor) (xs : List Answer) (log : List Entry) (channel : ℕ) → pp.state ≡ states.Running → length xs < steps → NeedsChannel (need pp) channel → IsEnd steps ends.Worn pp xs log
+end_worn steps pp xs log channel running fewer needs = record {
+  stopped = (λ e. absurd cc, λ s. absurd cc);
+  fault = λ n. (λ e. absurd cc, λ s. absurd cc);
+  all_steps = λ e. absurd cc;
+  patience = λ e. absurd cc;
+  memory = λ e. absurd cc;
+  worn = λ e. (record { running = running; fewer = fewer }, (channel, needs));
+}
+
+-- the end after the last step of the limit: that of a processor at rest, if it is
+pub end_at_last : (steps : ℕ) (pp : Processor) (xs : List Answer) (log : List Entry) (rest : Option End) → IfNone rest (pp.state ≡ states.Running)
+    → IfSome rest (λ finish. (n : ℕ) (ys : List Answer) (other : List Entry) → IsEnd n finish pp ys other) → length xs ≡ steps → IsEnd steps (unwrap_or rest ends.Steps) pp xs log
+end_at_last steps pp xs log None running ended all = end_steps steps pp xs log running all
+end_at_last steps pp xs log (Some finish) running ended all = ended steps xs log

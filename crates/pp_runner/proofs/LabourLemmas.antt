@@ -1,0 +1,294 @@
+-- What a try of a step keeps of what a worker has.
+use Rattle.std.proofs.Common.{◌≡◌, ℕ, ◌+◌, ◌-◌, ◌*◌, ◌<◌, ◌≤◌, Bool, true, false, List, [], ◌∷◌, ◌++◌, length, map, take, Option, None, Some, refl, sym, ap, ◌∙◌, subst, inl, inr, arith, append_assoc}
+use Rattle.std.specs.Prelude.{◌⊎◌, ◌==◌, ◌≢◌, IsTrue, slice_get, is_none}
+use Rattle.std.specs.List.{last_or, filter_map}
+use Rattle.std.proofs.lemmas.Bool.{both_ways, eq-eqb, cases_Bool, cases_lt, cases_eq}
+use Rattle.std.proofs.lemmas.List.{append-nil, length-append, take-append-le}
+use Rattle.std.proofs.lemmas.List.Elements.{filter_map-append}
+use Rattle.std.proofs.lemmas.Option.{slice_get_within, slice_get-get_or}
+use Rattle.std.proofs.Math.ListN.{get_or-append}
+use Rattle.std.proofs.Math.Seq.{take-append_seam, get_or-append_seam}
+use Rattle.pp_channel.proofs.LastElements.{last_or-push}
+use Rattle.pp_channel.specs.LineLog.{LogState, empty_log, appended, looked, is_look_at}
+use Rattle.pp_channel.specs.RisingLog.{IsRising}
+use Rattle.pp_channel.specs.declared.chan_op.ChanOp.{ChanOp}
+use Rattle.pp_channel.specs.declared.chan_op.ChanOp.TheVariants as operations
+use Rattle.pp_channel.specs.declared.entry.Entry.{Entry}
+use Rattle.pp_channel.specs.declared.entry.Seen.{Seen}
+use Rattle.pp_channel.specs.declared.entry.Seen.TheVariants.{Did, Saw}
+use Rattle.pp_channel.specs.declared.flags.Flags.{Flags}
+use Rattle.pp_channel.specs.declared.reply.Reply.TheVariants as replies
+use Rattle.pp_machine.proofs.GivenLemmas.{replayed-push, given_count-push, events_given-push, sights_given-push}
+use Rattle.pp_machine.specs.NeedAndEffect.{need, processor_after, outcome}
+use Rattle.pp_machine.specs.Processor.{Processor}
+use Rattle.pp_machine.specs.Replay.{ChannelEvent, ChannelLook, ChannelSight, fits, replayed, given_count, events_given, sights_given, events_of, looks_of, sights_of}
+use Rattle.pp_machine.specs.StepLaws.{IsHeldAnswer}
+use Rattle.pp_machine.specs.declared.answer.Answer.{Answer}
+use Rattle.pp_machine.specs.declared.answer.Answer.TheVariants as answers
+use Rattle.pp_machine.specs.declared.need.Need.{Need}
+use Rattle.pp_machine.specs.declared.need.Need.TheVariants as needs
+use Rattle.pp_machine.specs.declared.outcome.Outcome.TheVariants.{Moved}
+use Rattle.pp_runner.proofs.LogLemmas.{IsLooked, looked_at, settled_kept, settled_held, settled_look, IsSettled, settles, events_settled, events_in-push, sights_in-push, stands_more, stands_push, stands_settled}
+use Rattle.pp_runner.proofs.ReplyLemmas.{IsSight, sight_of, IsReplyTo, reply_to_channel}
+use Rattle.pp_runner.specs.AnswersGiven.{OfEachAnswer, AllMoved, AllBySize, IsBySize}
+use Rattle.pp_runner.specs.Labour.{IsAtWork, IsAnswered, IsNoted, noted_as, settled}
+use Rattle.pp_runner.specs.WorkerEnd.{WasHeld, NeedsChannel}
+use Rattle.pp_runner.specs.WorkerLog.{event_in, events_in, sights_in, StandsIn}
+
+-- what is true of each answer is true of each of one more
+each_front : (P : Processor → Answer → Type 0) (load : Processor) (xs : List Answer) (x : Answer) (i : ℕ) (y : Answer) → OfEachAnswer P load xs →
+    i < length xs → slice_get (xs ++ x ∷ []) i ≡ Some y → P (replayed load (take i (xs ++ x ∷ []))) y
+each_front P load xs x i y h below is =
+    let all : i < length (xs ++ x ∷ []) = omega (arith, length-append xs (x ∷ [])) in
+    let same : slice_get xs i ≡ Some y = slice_get-get_or xs i x below ∙ (ap Some (sym (get_or-append xs (x ∷ []) x i below)) ∙ (sym (slice_get-get_or (xs ++ x ∷ []) i x all) ∙ is)) in
+    subst (λ (ys : List Answer). P (replayed load ys) y) (sym (take-append-le i xs (x ∷ []) (omega arith))) (h i y same)
+
+each_last : (P : Processor → Answer → Type 0) (load : Processor) (xs : List Answer) (x : Answer) (i : ℕ) (y : Answer) → P (replayed load xs) x →
+    i ≡ length xs → slice_get (xs ++ x ∷ []) i ≡ Some y → P (replayed load (take i (xs ++ x ∷ []))) y
+each_last P load xs x i y p at is =
+    let all : length xs < length (xs ++ x ∷ []) = omega (arith, length-append xs (x ∷ [])) in
+    let last : Some x ≡ Some y = ap Some (sym (get_or-append_seam xs x [] x)) ∙ (sym (slice_get-get_or (xs ++ x ∷ []) (length xs) x all) ∙ (ap (slice_get (xs ++ x ∷ [])) (sym at) ∙ is)) in
+    let same : x ≡ y = cc in
+    subst (λ (z : Answer). P (replayed load (take i (xs ++ x ∷ []))) z) same
+    (subst (λ (ys : List Answer). P (replayed load ys) x) (sym (ap (λ k. take k (xs ++ x ∷ [])) at ∙ take-append_seam xs (x ∷ []))) p)
+
+each_push : (P : Processor → Answer → Type 0) (load : Processor) (xs : List Answer) (x : Answer) → OfEachAnswer P load xs → P (replayed load xs) x →
+    OfEachAnswer P load (xs ++ x ∷ [])
+each_push P load xs x h p i y is =
+    let within : i < length (xs ++ x ∷ []) = slice_get_within (xs ++ x ∷ []) i y is in
+    elim (cases_lt i (length xs)) [
+      | inl below ↦ each_front P load xs x i y h below is
+      | inr above ↦ each_last P load xs x i y p (omega (arith, length-append xs (x ∷ []))) is
+    ]
+
+-- the events among sights
+abbrev events_among : List ChannelSight → List ChannelEvent
+events_among ss = filter_map (λ s. event_in s.channel s.what) ss
+
+among_events : (es : List ChannelEvent) → events_among (map (λ e. record { channel = e.channel; what = Did e.event }) es) ≡ es
+among_events [] = refl
+among_events (e ∷ es) = ap (λ l. e ∷ l) (among_events es)
+
+among_looks : (ls : List ChannelLook) → events_among (map (λ l. record { channel = l.channel; what = Saw l.flags }) ls) ≡ []
+among_looks [] = refl
+among_looks (l ∷ ls) = among_looks ls
+
+among_sights : (n : Need) (x : Answer) → events_among (sights_of n x) ≡ events_of n x
+among_sights n x =
+    filter_map-append (λ s. event_in s.channel s.what) (map (λ e. record { channel = e.channel; what = Did e.event }) (events_of n x)) (map (λ l. record { channel = l.channel; what = Saw l.flags }) (looks_of n x))
+    ∙ ((λ i. among_events (events_of n x) i ++ among_looks (looks_of n x) i) ∙ append-nil (events_of n x))
+
+-- a log after the sights of an answer
+record IsLogged (ss : List ChannelSight) (before after : LogState) : Type 0 where
+  pub events : events_in after.entries ≡ events_in before.entries ++ events_among ss
+  pub sights : (old : List ChannelSight) → StandsIn old (sights_in (settled before)) → StandsIn (old ++ ss) (sights_in after.entries)
+  pub few : length after.entries ≤ length (settled before) + 2 * length ss
+  pub room : after.room + length after.entries ≡ before.room + length before.entries
+
+-- where the log does not end with an entry that is to stay, it ends with a look at the channel of the only sight
+record IsHeldAt (ss : List ChannelSight) (log : LogState) : Type 0 where
+  pub channel : ℕ
+  pub what : Seen
+  pub only : ss ≡ record { channel = channel; what = what } ∷ []
+  pub looked : IsTrue (is_look_at channel (last_or None log.entries))
+
+logged_did : (c number : ℕ) (what : Seen) (before after : LogState) → 1 ≤ before.room → IsSettled before → after ≡ appended before (record { channel = c; number = number; what = what })
+    → IsLogged (record { channel = c; what = what } ∷ []) before after
+logged_did c number what before after room s is =
+    let entry : Entry = record { channel = c; number = number; what = what } in
+    let entries : after.entries ≡ before.entries ++ entry ∷ [] = ap (λ l. l.entries) is in
+    let n : length after.entries ≡ length before.entries + 1 = ap length entries ∙ length-append before.entries (entry ∷ []) in
+    let left : after.room ≡ before.room - 1 = ap (λ l. l.room) is in record {
+      events = ap events_in entries ∙ events_in-push before.entries (entry ∷ []);
+      sights = λ old h. subst (λ (l : List ChannelSight). StandsIn (old ++ record { channel = c; what = what } ∷ []) l) (sym (ap sights_in entries ∙ sights_in-push before.entries (entry ∷ []))) (stands_push old (sights_in before.entries) (record { channel = c; what = what }) (stands_settled before old s h));
+      few = omega (arith, s.few, n);
+      room = omega (arith, n, left);
+    }
+
+logged_saw : (c number : ℕ) (what : Seen) (before after : LogState) → 1 ≤ before.room → IsSettled before → (before.kept ≡ false → IsTrue (is_look_at c (last_or None before.entries)))
+    → after ≡ looked before (record { channel = c; number = number; what = what }) → IsLogged (record { channel = c; what = what } ∷ []) before after
+logged_saw c number what before after room s held is =
+    let entry : Entry = record { channel = c; number = number; what = what } in
+    let look = looked_at before entry held in
+    let entries : after.entries ≡ settled before ++ entry ∷ [] = ap (λ l. l.entries) is ∙ look.entries in record {
+      events = ap events_in entries ∙ (events_in-push (settled before) (entry ∷ []) ∙ ap (λ l. l ++ events_in (entry ∷ [])) (events_settled before s));
+      sights = λ old h. subst (λ (l : List ChannelSight). StandsIn (old ++ record { channel = c; what = what } ∷ []) l) (sym (ap sights_in entries ∙ sights_in-push (settled before) (entry ∷ []))) (stands_push old (sights_in (settled before)) (record { channel = c; what = what }) h);
+      few = omega (arith, ap length entries, length-append (settled before) (entry ∷ []));
+      room = ap (λ l. l.room + length l.entries) is ∙ look.room room;
+    }
+
+logged_as : (c number : ℕ) (what : Seen) (before after : LogState) → 1 ≤ before.room → IsSettled before → (before.kept ≡ false → IsTrue (is_look_at c (last_or None before.entries)))
+    → after ≡ noted_as before c number what → IsLogged (record { channel = c; what = what } ∷ []) before after
+logged_as c number (Did e) before after room s held is = logged_did c number (Did e) before after room s is
+logged_as c number (Saw f) before after room s held is = logged_saw c number (Saw f) before after room s held is
+
+heads : {X : Type 0} (x y : X) → (x ∷ []) ≡ (y ∷ []) → x ≡ y
+heads x y e = cc
+
+nil_only : {X : Type 0} (x : X) → [] ≡ x ∷ [] → ⊥
+nil_only x e = cc
+
+none_held : (log : LogState) → IsHeldAt [] log → ⊥
+none_held log h = nil_only _ h.only
+
+logged_none : (before after : LogState) → before.kept ≡ true → after ≡ before → IsLogged [] before after
+logged_none before after k is =
+    let whole : settled before ≡ before.entries = settled_kept before k in
+    let entries : after.entries ≡ before.entries = ap (λ l. l.entries) is in record {
+      events = ap events_in entries ∙ sym (append-nil (events_in before.entries));
+      sights = λ old h. subst (λ (l : List ChannelSight). StandsIn l (sights_in after.entries)) (sym (append-nil old)) (subst (λ (l : List Entry). StandsIn old (sights_in l)) (whole ∙ sym entries) h);
+      few = omega (arith, ap length entries, ap length whole);
+      room = ap (λ l. l.room + length l.entries) is;
+    }
+
+-- a single sight is at the channel at which the log ends with a look
+held_at_channel : (c : ℕ) (what : Seen) (log : LogState) → IsHeldAt (record { channel = c; what = what } ∷ []) log → IsTrue (is_look_at c (last_or None log.entries))
+held_at_channel c what log h =
+    let same : record { channel = c; what = what } ≡ record { channel = h.channel; what = h.what } = heads _ _ h.only in
+    subst (λ (k : ℕ). IsTrue (is_look_at k (last_or None log.entries))) (sym (ap (λ (s : ChannelSight). s.channel) same)) h.looked
+
+logged : (ss : List ChannelSight) (before after : LogState) → 1 ≤ before.room → (before.kept ≡ false → IsHeldAt ss before) → IsNoted ss before after → IsLogged ss before after
+logged [] before after room held is = elim (cases_Bool before.kept) [ inl k ↦ logged_none before after k is | inr k ↦ absurd (none_held before (held k)) ]
+logged (s ∷ []) before after room held is =
+    logged_as s.channel is.0 s.what before after room (settles before (λ k. (s.channel, held_at_channel s.channel s.what before (held k)))) (λ k. held_at_channel s.channel s.what before (held k)) is.1
+logged (s ∷ t ∷ more) before after room held is = absurd is
+
+-- where the processor was held and the answer fits, the only sight is at the channel at which it was held
+held_sight : (pp : Processor) (x : Answer) (log : LogState) → WasHeld pp log.entries → fits (need pp) x ≡ true → IsHeldAt (sights_of (need pp) x) log
+held_sight pp x log h fit =
+    let n : need pp ≡ needs.Channel h.channel h.needs.operation = h.needs.is in
+    let r = reply_to_channel h.channel h.needs.operation x (ap (λ m. fits m x) (sym n) ∙ fit) in
+    let s = sight_of h.channel h.needs.operation r.reply r.fits in record {
+      channel = h.channel;
+      what = s.what;
+      only = ap (λ m. sights_of m x) n ∙ (ap (λ y. sights_of (needs.Channel h.channel h.needs.operation) y) r.is ∙ s.is);
+      looked = h.looked;
+    }
+
+-- an answer that fits is one event or one look at most
+one_sight : (n : Need) (x : Answer) → fits n x ≡ true → length (sights_of n x) ≤ 1
+one_sight needs.Nothing x fit = omega arith
+one_sight needs.Local x fit = omega arith
+one_sight (needs.Channel c operation) x fit =
+    let r = reply_to_channel c operation x fit in
+    let s = sight_of c operation r.reply r.fits in
+    omega (arith, ap (λ y. length (sights_of (needs.Channel c operation) y)) r.is, ap length s.is)
+one_sight (needs.Read a) x fit = omega arith
+one_sight (needs.Write a w) x fit = omega arith
+
+-- how much room a worker with steps left has
+pub room_left : (load : Processor) (size steps : ℕ) (pp : Processor) (xs : List Answer) (log : LogState) → IsAtWork load size steps pp xs log → length xs < steps → 1 ≤ log.room
+room_left load size steps pp xs log work fewer =
+    let s = settles log (λ k. ((work.held k).channel, (work.held k).looked)) in
+    omega (arith, s.few, work.few_entries, work.few_sights, work.room)
+
+true_kept : (kept after : LogState) → kept ≡ record after { kept = true } → kept.kept ≡ false → ⊥
+true_kept kept after is k = let e : kept.kept ≡ true = ap (λ l. l.kept) is in cc
+
+-- a step that moved the processor
+pub work_moved : (load : Processor) (size steps : ℕ) (pp new : Processor) (xs : List Answer) (x : Answer) (before after kept : LogState) → IsAtWork load size steps pp xs before →
+    length xs < steps → IsAnswered size (need pp) x before after → outcome pp x ≡ Moved → new ≡ processor_after pp x → kept ≡ record after { kept = true } →
+    IsAtWork load size steps new (xs ++ x ∷ []) kept
+work_moved load size steps pp new xs x before after kept work fewer told moved new_is kept_is =
+    let same : pp ≡ replayed load xs = work.pp_is in
+    let fit : fits (need (replayed load xs)) x ≡ true = subst (λ (q : Processor). fits (need q) x ≡ true) same told.fits in
+    let room : 1 ≤ before.room = room_left load size steps pp xs before work fewer in
+    let log = logged (sights_of (need pp) x) before after room (λ k. held_sight pp x before (work.held k) told.fits) told.noted in
+    let stays : settled kept ≡ after.entries = settled_kept kept (ap (λ l. l.kept) kept_is) ∙ ap (λ l. l.entries) kept_is in
+    let n : length (xs ++ x ∷ []) ≡ length xs + 1 = length-append xs (x ∷ []) in
+    let more : sights_given load (xs ++ x ∷ []) ≡ sights_given load xs ++ sights_of (need pp) x =
+    sights_given-push xs load x work.all_given fit ∙ ap (λ q. sights_given load xs ++ sights_of (need q) x) (sym same) in
+    let count : length (sights_given load (xs ++ x ∷ [])) ≡ length (sights_given load xs) + length (sights_of (need pp) x) =
+    ap length more ∙ length-append (sights_given load xs) (sights_of (need pp) x) in record {
+      pp_is = new_is ∙ (ap (λ q. processor_after q x) same ∙ sym (replayed-push xs load x work.all_given fit));
+      all_given = given_count-push xs load x work.all_given fit;
+      all_moved = each_push (λ q y. outcome q y ≡ Moved) load xs x work.all_moved (ap (λ q. outcome q x) (sym same) ∙ moved);
+      by_size = each_push (λ q y. IsBySize size (need q) y) load xs x work.by_size (subst (λ (q : Processor). IsBySize size (need q) x) same told.by_size);
+      events = ap (λ l. events_in l.entries) kept_is ∙ (log.events ∙ ((λ i. work.events i ++ among_sights (need pp) x i) ∙ (ap (λ q. events_given load xs ++ events_of (need q) x) same ∙ sym (events_given-push xs load x work.all_given fit))));
+      sights = subst (λ (ss : List ChannelSight). StandsIn ss (sights_in (settled kept))) (sym more)
+          (subst (λ (l : List Entry). StandsIn (sights_given load xs ++ sights_of (need pp) x) (sights_in l)) (sym stays) (log.sights (sights_given load xs) work.sights));
+      rising = subst (λ (l : List Entry). IsRising l) (sym (ap (λ l. l.entries) kept_is)) (told.rising work.rising);
+      few_entries = omega (arith, ap length stays, log.few, work.few_entries, count);
+      few_sights = omega (arith, work.few_sights, count, one_sight (need pp) x told.fits, n);
+      held = λ k. absurd (true_kept kept after kept_is k);
+      room = ap (λ l. l.room + length l.entries) kept_is ∙ (log.room ∙ work.room);
+    }
+
+-- a held answer is a look at the channel of the operation, which is no probe
+record IsHold (pp : Processor) (x : Answer) : Type 0 where
+  pub channel : ℕ
+  pub needs : NeedsChannel (need pp) channel
+  pub flags : Flags
+  pub only : sights_of (need pp) x ≡ record { channel = channel; what = Saw flags } ∷ []
+
+hold_of : (n : Need) (pp : Processor) (f : Flags) → need pp ≡ n → fits n (answers.Channel (replies.Held f)) ≡ true → IsHold pp (answers.Channel (replies.Held f))
+hold_of (needs.Channel c operations.Activate) pp f n fit = record { channel = c; needs = record { operation = operations.Activate; is = n; no_probe = λ e. cc }; flags = f; only = rw n refl }
+hold_of (needs.Channel c operations.Disconnect) pp f n fit = record { channel = c; needs = record { operation = operations.Disconnect; is = n; no_probe = λ e. cc }; flags = f; only = rw n refl }
+hold_of (needs.Channel c (operations.Put w)) pp f n fit = record { channel = c; needs = record { operation = operations.Put w; is = n; no_probe = λ e. cc }; flags = f; only = rw n refl }
+hold_of (needs.Channel c operations.Take) pp f n fit = record { channel = c; needs = record { operation = operations.Take; is = n; no_probe = λ e. cc }; flags = f; only = rw n refl }
+hold_of (needs.Channel c (operations.Function w)) pp f n fit = record { channel = c; needs = record { operation = operations.Function w; is = n; no_probe = λ e. cc }; flags = f; only = rw n refl }
+hold_of (needs.Channel c operations.Probe) pp f n fit = absurd cc
+hold_of needs.Nothing pp f n fit = absurd cc
+hold_of needs.Local pp f n fit = absurd cc
+hold_of (needs.Read a) pp f n fit = absurd cc
+hold_of (needs.Write a w) pp f n fit = absurd cc
+
+hold : (pp : Processor) (x : Answer) → IsHeldAnswer x → fits (need pp) x ≡ true → IsHold pp x
+hold pp x held fit =
+    subst (λ (y : Answer). IsHold pp y) (sym held.1) (hold_of (need pp) pp held.0 refl (ap (fits (need pp)) (sym held.1) ∙ fit))
+
+-- a try at which the processor was held
+pub record IsHeldAtWork (load : Processor) (size steps : ℕ) (new : Processor) (xs : List Answer) (after : LogState) : Type 0 where
+  pub work : IsAtWork load size steps new xs after
+  pub was : WasHeld new after.entries
+
+pub work_held : (load : Processor) (size steps : ℕ) (pp new : Processor) (xs : List Answer) (x : Answer) (before after : LogState) → IsAtWork load size steps pp xs before →
+    length xs < steps → IsAnswered size (need pp) x before after → IsHeldAnswer x → new ≡ pp → IsHeldAtWork load size steps new xs after
+work_held load size steps pp new xs x before after work fewer told held new_is =
+    let room : 1 ≤ before.room = room_left load size steps pp xs before work fewer in
+    let h = hold pp x held told.fits in
+    let noted : IsNoted (record { channel = h.channel; what = Saw h.flags } ∷ []) before after = subst (λ (ss : List ChannelSight). IsNoted ss before after) h.only told.noted in
+    let entry : Entry = record { channel = h.channel; number = noted.0; what = Saw h.flags } in
+    let before_held : before.kept ≡ false → IsTrue (is_look_at h.channel (last_or None before.entries)) =
+    λ k. held_at_channel h.channel (Saw h.flags) before (subst (λ (ss : List ChannelSight). IsHeldAt ss before) h.only (held_sight pp x before (work.held k) told.fits)) in
+    let look = looked_at before entry before_held in
+    let entries : after.entries ≡ settled before ++ entry ∷ [] = ap (λ l. l.entries) noted.1 ∙ look.entries in
+    let stays : settled after ≡ settled before = ap settled noted.1 ∙ settled_look before entry look in
+    let s = settles before (λ k. (h.channel, before_held k)) in
+    let log = logged_as h.channel noted.0 (Saw h.flags) before after room s before_held noted.1 in
+    let last : last_or None after.entries ≡ Some entry = ap (last_or None) entries ∙ last_or-push None (settled before) entry in
+    let was : WasHeld pp after.entries = record { channel = h.channel; needs = h.needs; looked = ap (is_look_at h.channel) last ∙ eq-eqb h.channel h.channel refl } in
+    let new_was : WasHeld new after.entries = subst (λ (q : Processor). WasHeld q after.entries) (sym new_is) was in
+    let same : IsAtWork load size steps new xs after = record {
+      pp_is = new_is ∙ work.pp_is;
+      all_given = work.all_given;
+      all_moved = work.all_moved;
+      by_size = work.by_size;
+      events = log.events ∙ (append-nil (events_in before.entries) ∙ work.events);
+      sights = subst (λ (l : List Entry). StandsIn (sights_given load xs) (sights_in l)) (sym stays) work.sights;
+      rising = told.rising work.rising;
+      few_entries = omega (arith, ap length stays, work.few_entries);
+      few_sights = work.few_sights;
+      held = λ k. new_was;
+      room = log.room ∙ work.room;
+    } in
+    record { work = same; was = new_was }
+
+-- a worker before its first step
+pub work_begins : (load pp : Processor) (size steps : ℕ) (xs : List Answer) (log : LogState) → pp ≡ load → xs ≡ [] → log ≡ empty_log (2 * steps + 1) → IsAtWork load size steps pp xs log
+unfolding replayed given_count events_given sights_given
+work_begins load pp size steps xs log pp_is none is =
+    let entries : log.entries ≡ [] = ap (λ l. l.entries) is in
+    let stays : settled log ≡ [] = settled_kept log (ap (λ l. l.kept) is) ∙ entries in record {
+      pp_is = rw none pp_is;
+      all_given = rw none refl;
+      all_moved = rw none (λ i x e. absurd cc);
+      by_size = rw none (λ i x e. absurd cc);
+      events = rw (none, entries) refl;
+      sights = rw none tt;
+      rising = rw entries (λ i j d below within. absurd (omega arith));
+      few_entries = omega (arith, ap length stays);
+      few_sights = rw none (omega arith);
+      held = λ k. absurd (both_ways log.kept k (ap (λ l. l.kept) is));
+      room = omega (arith, ap length entries, ap (λ l. l.room) is);
+    }

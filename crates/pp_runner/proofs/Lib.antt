@@ -1,0 +1,5 @@
+pub mod LogLemmas
+pub mod ReplyLemmas
+pub mod LabourLemmas
+pub mod EndLemmas
+pub mod CrewLemmas

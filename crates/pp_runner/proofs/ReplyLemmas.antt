@@ -1,0 +1,122 @@
+-- Replies of a line: each goes with its operation, and the log tells what it did or saw.
+use Rattle.std.proofs.Common.{◌≡◌, ℕ, Bool, true, false, List, [], ◌∷◌, ◌++◌, map, refl, sym, ap, ◌∙◌, subst, inl, inr}
+use Rattle.std.specs.Prelude.{◌⊎◌, ◌≢◌, take}
+use Rattle.std.proofs.lemmas.Bool.{cases_eq}
+use Rattle.pp_channel.specs.Answer.{IsAnswer, operation_of, reply_made, reply_shown}
+use Rattle.pp_channel.specs.LineLog.{LogState, log_after, with_answer}
+use Rattle.pp_channel.specs.LineState.{LineState, IsActed, IsAnsweredBy, IsLost, answered}
+use Rattle.pp_channel.specs.Merge.{history_on}
+use Rattle.pp_channel.specs.RisingLog.{IsRising}
+use Rattle.pp_channel.specs.declared.chan_op.ChanOp.{ChanOp}
+use Rattle.pp_channel.specs.declared.chan_op.ChanOp.TheVariants as operations
+use Rattle.pp_channel.specs.declared.entry.Seen.{Seen}
+use Rattle.pp_channel.specs.declared.entry.Seen.TheVariants.{Did, Saw}
+use Rattle.pp_channel.specs.declared.event.Event.{Event}
+use Rattle.pp_channel.specs.declared.event.Event.TheVariants as events
+use Rattle.pp_channel.specs.declared.flags.Flags.{Flags}
+use Rattle.pp_channel.specs.declared.numbered.Numbered.{Numbered}
+use Rattle.pp_channel.specs.declared.reply.Reply.{Reply}
+use Rattle.pp_channel.specs.declared.reply.Reply.TheVariants as replies
+use Rattle.pp_machine.specs.Replay.{ChannelSight, fits, reply_fits, sights_of}
+use Rattle.pp_machine.specs.declared.answer.Answer.{Answer}
+use Rattle.pp_machine.specs.declared.answer.Answer.TheVariants as answers
+use Rattle.pp_machine.specs.declared.need.Need.{Need}
+use Rattle.pp_machine.specs.declared.need.Need.TheVariants as needs
+use Rattle.pp_runner.specs.Labour.{IsAnswered, IsNoted, noted_as}
+
+made_fits : (e : Event) → reply_fits (operation_of e) (reply_made e) ≡ true
+made_fits events.Activate = refl
+made_fits events.Disconnect = refl
+made_fits (events.Put w) = refl
+made_fits (events.Take w) = refl
+made_fits (events.Function w) = refl
+
+shown_fits : (op : ChanOp) (h : List Event) → reply_fits op (reply_shown op h) ≡ true
+shown_fits operations.Probe h = refl
+shown_fits operations.Activate h = refl
+shown_fits operations.Disconnect h = refl
+shown_fits (operations.Put w) h = refl
+shown_fits operations.Take h = refl
+shown_fits (operations.Function w) h = refl
+
+held_fits : (e : Event) (f : Flags) → reply_fits (operation_of e) (replies.Held f) ≡ true
+held_fits events.Activate f = refl
+held_fits events.Disconnect f = refl
+held_fits (events.Put w) f = refl
+held_fits (events.Take w) f = refl
+held_fits (events.Function w) f = refl
+
+answer_fits : (h after : List Event) (op : ChanOp) (reply : Reply) → IsAnswer h op reply after → reply_fits op reply ≡ true
+answer_fits h after op reply is =
+    elim is [
+      | inl made ↦ rw (made.1.answered, ← made.1.ready.operation) (made_fits made.0)
+      | inr shown ↦ rw shown.answered (shown_fits op h)
+    ]
+
+lost_fits : (h : List Event) (op : ChanOp) (r : Numbered) → IsLost h op r → reply_fits op r.reply ≡ true
+lost_fits h op r lost = rw (lost.held, ← lost.was_ready.1.operation) (held_fits lost.was_ready.0 _)
+
+-- the reply of a line goes with its operation
+pub line_reply_fits : (h : List Event) (op : ChanOp) (r : Numbered) → IsAnsweredBy h op r → reply_fits op r.reply ≡ true
+line_reply_fits h op r by =
+    elim (cases_eq r.number r.loaded) [
+      | inl same ↦ answer_fits (take r.loaded h) h op r.reply (by.at_once same)
+      | inr other ↦ lost_fits h op r (by.lost other)
+    ]
+
+-- what a reply did or saw on channel c, and how the log takes it
+pub record IsSight (c : ℕ) (op : ChanOp) (reply : Reply) : Type 0 where
+  pub what : Seen
+  pub is : sights_of (needs.Channel c op) (answers.Channel reply) ≡ record { channel = c; what = what } ∷ []
+  pub noted : (log : LogState) (number : ℕ) → with_answer log c op number reply ≡ noted_as log c number what
+
+pub sight_of : (c : ℕ) (op : ChanOp) (reply : Reply) → reply_fits op reply ≡ true → IsSight c op reply
+sight_of c operations.Probe (replies.Flags f) fit = record { what = Saw f; is = refl; noted = λ log n. refl }
+sight_of c operations.Activate (replies.Held f) fit = record { what = Saw f; is = refl; noted = λ log n. refl }
+sight_of c operations.Disconnect (replies.Held f) fit = record { what = Saw f; is = refl; noted = λ log n. refl }
+sight_of c (operations.Put w) (replies.Held f) fit = record { what = Saw f; is = refl; noted = λ log n. refl }
+sight_of c operations.Take (replies.Held f) fit = record { what = Saw f; is = refl; noted = λ log n. refl }
+sight_of c (operations.Function w) (replies.Held f) fit = record { what = Saw f; is = refl; noted = λ log n. refl }
+sight_of c operations.Activate replies.Done fit = record { what = Did events.Activate; is = refl; noted = λ log n. refl }
+sight_of c operations.Disconnect replies.Done fit = record { what = Did events.Disconnect; is = refl; noted = λ log n. refl }
+sight_of c (operations.Put w) replies.Done fit = record { what = Did (events.Put w); is = refl; noted = λ log n. refl }
+sight_of c operations.Take (replies.Word w) fit = record { what = Did (events.Take w); is = refl; noted = λ log n. refl }
+sight_of c (operations.Function w) replies.Done fit = record { what = Did (events.Function w); is = refl; noted = λ log n. refl }
+sight_of c operations.Probe replies.Done fit = absurd cc
+sight_of c operations.Probe (replies.Word w) fit = absurd cc
+sight_of c operations.Probe (replies.Held f) fit = absurd cc
+sight_of c operations.Activate (replies.Flags f) fit = absurd cc
+sight_of c operations.Activate (replies.Word w) fit = absurd cc
+sight_of c operations.Disconnect (replies.Flags f) fit = absurd cc
+sight_of c operations.Disconnect (replies.Word w) fit = absurd cc
+sight_of c (operations.Put v) (replies.Flags f) fit = absurd cc
+sight_of c (operations.Put v) (replies.Word w) fit = absurd cc
+sight_of c operations.Take (replies.Flags f) fit = absurd cc
+sight_of c operations.Take replies.Done fit = absurd cc
+sight_of c (operations.Function v) (replies.Flags f) fit = absurd cc
+sight_of c (operations.Function v) (replies.Word w) fit = absurd cc
+
+-- an answer to an operation is a reply that goes with it
+pub record IsReplyTo (op : ChanOp) (x : Answer) : Type 0 where
+  pub reply : Reply
+  pub is : x ≡ answers.Channel reply
+  pub fits : reply_fits op reply ≡ true
+
+pub reply_to_channel : (c : ℕ) (op : ChanOp) (x : Answer) → fits (needs.Channel c op) x ≡ true → IsReplyTo op x
+reply_to_channel c op (answers.Channel reply) fit = record { reply = reply; is = refl; fits = fit }
+reply_to_channel c op answers.Local fit = absurd cc
+reply_to_channel c op (answers.Read word) fit = absurd cc
+reply_to_channel c op (answers.Wrote written) fit = absurd cc
+
+-- what a line answers, as the answer to the need
+pub acted_answer : (size c : ℕ) (op : ChanOp) (r : Numbered) (before after : LineState) → IsActed before c op r after → (IsRising before.log.entries → IsRising after.log.entries)
+    → IsAnswered size (needs.Channel c op) (answers.Channel r.reply) before.log after.log
+acted_answer size c op r before after acted rising =
+    let fit : reply_fits op r.reply ≡ true = line_reply_fits (history_on c acted.histories) op r acted.answer in
+    let s = sight_of c op r.reply fit in
+    let log : after.log ≡ noted_as before.log c r.number s.what = ap (λ l. l.log) acted.after_is ∙ s.noted before.log r.number in record {
+      fits = fit;
+      by_size = tt;
+      noted = subst (λ (ss : List ChannelSight). IsNoted ss before.log after.log) (sym s.is) (r.number, log);
+      rising = rising;
+    }

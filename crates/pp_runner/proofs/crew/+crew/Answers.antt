@@ -1,0 +1,43 @@
+use Rattle.std.proofs.Common.{◌≡◌, ◌+◌, ◌*◌, ◌∙◌, sym, ap, subst, length, vec_len, rules, arith}
+use Rattle.std.specs.Prelude.{IfOk}
+use Rattle.pp_machine.specs.MachineState.{processor_of}
+use Rattle.pp_machine.specs.Processor.{Processor}
+use Rattle.pp_runner.proofs.CrewLemmas.{IsTaken, taken_of, some_left, ready_after, ended_alone, ended_beside, promised}
+use Rattle.pp_runner.specs.Crew.{AreReady, IsEnded, IsAlone}
+use Rattle.pp_runner.specs.declared.crew.EndOf.{EndOf}
+use Rattle.pp_runner.proofs.crew.+crew.Goals as goal
+
+pub beside-scope-run_from-others-requires-after_bounds : goal.beside-scope-run_from-others-requires-after_bounds
+beside-scope-run_from-others-requires-after_bounds g t c κs within =
+    ready_after c.captures.machine.now c.captures.number c.next.result (2 * c.captures.site.now.limits.steps + 1) c.captures.family.value c.in-Some.line c.pop.new.self.items
+    (taken_of c.captures.machine.now c.captures.number (2 * c.captures.site.now.limits.steps + 1) c.captures.family.value c.in-Some.line c.captures.lines.items c.pop.new.self.items c.in-Some.ensures.items c.requires.6)
+    (some_left c.captures.lines.items c.pop.new.self.items c.in-Some.line c.in-Some.ensures.items (omega (arith, c.requires.5, c.captures.lines.ok.0))) c.next.ensures
+
+pub beside-scope-combined-requires : goal.beside-scope-combined-requires
+beside-scope-combined-requires g t c =
+    let mine = c.in_ok-mine.field-0 in
+    let one : IsEnded c.of.result.value c.size.result c.steps.result c.of-2.result.value mine.worker mine.line =
+    subst (λ (p : EndOf g.row.A.Denot). IsEnded p.load.value p.size p.steps p.line.value mine.worker mine.line) c.in_ok-child.ensures.ok c.in_ok-mine.ensures in
+    let taken = taken_of c.captures.machine.now c.captures.number (2 * c.captures.site.now.limits.steps + 1) c.captures.family.value c.in-Some.line c.captures.lines.items c.pop.new.self.items c.in-Some.ensures.items c.requires.6 in
+    c.in_ok-others.ensures.kin.table ∙ sym (one.same_share.table ∙ (ap (λ l. l.table) c.of-2.ensures ∙ taken.fresh.kin.table))
+
+pub beside-scope-returns : goal.beside-scope-returns
+beside-scope-returns g t c =
+    let mine = c.in_ok-mine.field-0 in
+    let others = c.in_ok-others.field-0 in
+    let one : IsEnded (processor_of c.captures.number c.captures.machine.now) c.captures.site.now.central c.captures.site.now.limits.steps c.in-Some.line mine.worker mine.line =
+    promised (processor_of c.captures.number c.captures.machine.now) c.of.result.value c.captures.site.now.central c.size.result c.captures.site.now.limits.steps c.steps.result c.in-Some.line c.of-2.result.value mine.worker mine.line (c.of.ensures ∙ c.pp-load.ensures) c.size.ensures c.steps.ensures.value c.of-2.ensures
+    (subst (λ (p : EndOf g.row.A.Denot). IsEnded p.load.value p.size p.steps p.line.value mine.worker mine.line) c.in_ok-child.ensures.ok c.in_ok-mine.ensures) in
+    ended_beside c.captures.machine.now c.captures.number c.next.result (2 * c.captures.site.now.limits.steps + 1) c.captures.site.now.central c.captures.site.now.limits.steps (vec_len c.pop.new.self) (vec_len c.captures.lines)
+    c.captures.family.value c.in-Some.line mine.line others.line c.pop.new.self.items mine.worker others.workers.items c.combined.result
+    (taken_of c.captures.machine.now c.captures.number (2 * c.captures.site.now.limits.steps + 1) c.captures.family.value c.in-Some.line c.captures.lines.items c.pop.new.self.items c.in-Some.ensures.items c.requires.6)
+    (some_left c.captures.lines.items c.pop.new.self.items c.in-Some.line c.in-Some.ensures.items (omega (arith, c.requires.5, c.captures.lines.ok.0))) c.next.ensures
+    (omega (arith, c.in-Some.ensures.len)) one c.in_ok-others.ensures c.combined.ensures.workers c.combined.ensures.line
+
+pub fn::beside::scope+FnOnce::call_once-scope-requires : goal.fn::beside::scope+FnOnce::call_once-scope-requires
+fn::beside::scope+FnOnce::call_once-scope-requires g t c = search rules
+
+pub run_from-returns : goal.run_from-returns
+run_from-returns g t c =
+    ended_alone c.args.machine.now c.args.number (2 * c.args.site.now.limits.steps + 1) c.args.site.now.central c.args.site.now.limits.steps (vec_len c.args.lines) c.pp.result.now c.args.family.value c.in-Some.line c.args.lines.items c.pop.new.self.items c.alone.result
+    c.requires c.in-Some.ensures.items c.args.lines.ok.0 (omega (arith, c.len.ensures, c.if-len-gt1.false)) c.pp.ensures c.alone.ensures

@@ -1,0 +1,47 @@
+-- Workers that run at once, with their lines.
+use Rattle.std.specs.Prelude.{◌≡◌, ◌+◌, ◌<◌, ℕ, List, [], ◌∷◌, All, length}
+use Rattle.pp_channel.specs.LineLog.{empty_log}
+use Rattle.pp_channel.specs.LineState.{LineState}
+use Rattle.pp_machine.specs.MachineState.{MachineState}
+use Rattle.pp_machine.specs.Processor.{Processor}
+use Rattle.pp_machine.specs.ProcessorNumber.{processor_count, processor_index}
+use Rattle.pp_runner.specs.Labour.{IsSameShare}
+use Rattle.pp_runner.specs.WorkerReport.{IsWorker, AreWorkers, logs_of}
+use Rattle.pp_runner.specs.declared.worker.Worker.{Worker}
+
+-- two lines of one family: they stand at the same channels
+pub record IsKin (line other : LineState) : Type 0 where
+  pub whole : other.whole ≡ line.whole
+  pub table : other.table ≡ line.table
+
+-- the line of a worker that has not begun, of the family of this one
+pub record IsFresh (room : ℕ) (family line : LineState) : Type 0 where
+  pub log : line.log ≡ empty_log room
+  pub shares : line.shares ≡ 1
+  pub kin : IsKin family line
+
+-- The worker of processor n and those of all after it are ready to begin, each on one of these lines.
+pub record AreReady (m : MachineState) (n room : ℕ) (family : LineState) (lines : List LineState) : Type 0 where
+  pub each : length m.processors ≡ processor_count
+  pub count : processor_index n + length lines ≡ processor_count
+  pub some : 0 < length lines
+  pub fresh : All (IsFresh room family) lines
+
+-- a worker that began with this processor and this line has ended, and left its log on the line
+pub record IsEnded {A : Type 0} (load : Processor) (size steps : ℕ) (line : LineState) (w : Worker A) (after : LineState) : Type 0 where
+  pub worker : IsWorker load size steps w
+  pub log : after.log.entries ≡ w.log.items
+  pub same_share : IsSameShare line after
+
+-- one such worker, and no other
+abbrev pub IsAlone : {A : Type 0} → Processor → ℕ → ℕ → LineState → List (Worker A) → LineState → Type 0
+IsAlone load size steps line [] after = ⊥
+IsAlone load size steps line (w ∷ []) after = IsEnded load size steps line w after
+IsAlone load size steps line (w ∷ v ∷ ws) after = ⊥
+
+-- the workers of these processors have ended, and so many lines of a family are one
+pub record AreEnded {A : Type 0} (loads : List Processor) (size steps count : ℕ) (family : LineState) (ws : List (Worker A)) (after : LineState) : Type 0 where
+  pub workers : AreWorkers loads size steps ws
+  pub log : after.log.entries ≡ logs_of ws
+  pub shares : after.shares ≡ count
+  pub kin : IsKin family after

@@ -1,0 +1,58 @@
+-- What holds of a worker between any two tries of a step.
+use Rattle.std.specs.Prelude.{◌≡◌, ◌≤◌, ◌+◌, ◌-◌, ◌*◌, ℕ, true, false, List, [], ◌∷◌, length, take, if◌then◌else◌}
+use Rattle.pp_channel.specs.LineLog.{LogState, appended, looked}
+use Rattle.pp_channel.specs.LineState.{LineState}
+use Rattle.pp_channel.specs.RisingLog.{IsRising}
+use Rattle.pp_channel.specs.declared.entry.Entry.{Entry}
+use Rattle.pp_channel.specs.declared.entry.Seen.{Seen}
+use Rattle.pp_channel.specs.declared.entry.Seen.TheVariants.{Did, Saw}
+use Rattle.pp_machine.specs.Processor.{Processor}
+use Rattle.pp_machine.specs.Replay.{ChannelSight, fits, replayed, given_count, events_given, sights_of, sights_given}
+use Rattle.pp_machine.specs.declared.answer.Answer.{Answer}
+use Rattle.pp_machine.specs.declared.need.Need.{Need}
+use Rattle.pp_runner.specs.AnswersGiven.{AllMoved, AllBySize, IsBySize}
+use Rattle.pp_runner.specs.WorkerEnd.{WasHeld}
+use Rattle.pp_runner.specs.WorkerLog.{events_in, sights_in, StandsIn}
+
+-- the entries that stay whatever comes: all but a last look that held the processor
+abbrev pub settled : LogState → List Entry
+settled log = if log.kept then log.entries else take (length log.entries - 1) log.entries
+
+-- The processor is the replay of its answers, and the log tells what that replay did and saw. Each event and each look of
+-- the replay has two entries at most, and there is one more while the processor is held; the log has room for the rest.
+pub record IsAtWork (load : Processor) (size steps : ℕ) (pp : Processor) (answers : List Answer) (log : LogState) : Type 0 where
+  pub pp_is : pp ≡ replayed load answers
+  pub all_given : given_count load answers ≡ length answers
+  pub all_moved : AllMoved load answers
+  pub by_size : AllBySize size load answers
+  pub events : events_in log.entries ≡ events_given load answers
+  pub sights : StandsIn (sights_given load answers) (sights_in (settled log))
+  pub rising : IsRising log.entries
+  pub few_entries : length (settled log) ≤ 2 * length (sights_given load answers)
+  pub few_sights : length (sights_given load answers) ≤ length answers
+  pub held : log.kept ≡ false → WasHeld pp log.entries
+  pub room : log.room + length log.entries ≡ 2 * steps + 1
+
+-- an event comes to the end of the log, a look as the log's rule says
+abbrev pub noted_as : LogState → ℕ → ℕ → Seen → LogState
+noted_as log channel number (Did e) = appended log (record { channel = channel; number = number; what = Did e })
+noted_as log channel number (Saw f) = looked log (record { channel = channel; number = number; what = Saw f })
+
+-- the log after an answer tells what the answer did or saw, and nothing else
+abbrev pub IsNoted : List ChannelSight → LogState → LogState → Type 0
+IsNoted [] before after = after ≡ before
+IsNoted (sight ∷ []) before after = (number : ℕ) × (after ≡ noted_as before sight.channel number sight.what)
+IsNoted (sight ∷ other ∷ more) before after = ⊥
+
+-- An answer to a need, and the log before and after it.
+pub record IsAnswered (size : ℕ) (need : Need) (answer : Answer) (before after : LogState) : Type 0 where
+  pub fits : fits need answer ≡ true
+  pub by_size : IsBySize size need answer
+  pub noted : IsNoted (sights_of need answer) before after
+  pub rising : IsRising before.entries → IsRising after.entries
+
+-- a line that stands at the same channels, with as many shares
+pub record IsSameShare (before after : LineState) : Type 0 where
+  pub shares : after.shares ≡ before.shares
+  pub whole : after.whole ≡ before.whole
+  pub table : after.table ≡ before.table

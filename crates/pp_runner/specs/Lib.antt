@@ -1,0 +1,9 @@
+pub mod RunLimits
+pub mod Banks
+pub mod WorkerLog
+pub mod AnswersGiven
+pub mod WorkerEnd
+pub mod WorkerReport
+pub mod Labour
+pub mod Crew
+pub mod Report

@@ -1,0 +1,18 @@
+//! How a worker ends.
+
+/// Why a worker made no further step.
+#[derive(Clone, Copy, Debug, PartialEq, Eq)]
+pub enum End {
+    /// Its processor has stopped.
+    Stopped,
+    /// Its processor is at the fault of this number.
+    Fault(u8),
+    /// It has made all the steps of its limit.
+    Steps,
+    /// It was held at one step as often in a row as its patience allows.
+    Patience,
+    /// It was refused memory for one more answer.
+    Memory,
+    /// The channel that its next step needs has had as many events as its word can count.
+    Worn,
+}

@@ -1,0 +1,209 @@
+//! A worker, from its load to its end.
+
+ghost use Rattle.std.specs.Prelude.{◌≡◌, ◌<◌, ◌≤◌, ◌+◌, ◌*◌, ◌++◌, ◌∷◌, [], true, ℕ, List, vec_len, vec_capacity, IfOk, IfErr, IfSome, IfNone, OnErr};
+ghost use Rattle.pp_channel.specs.LineLog.{empty_log};
+ghost use Rattle.pp_channel.specs.declared.entry.Entry.{Entry};
+ghost use Rattle.pp_machine.specs.NeedAndEffect.{need};
+ghost use Rattle.pp_machine.specs.declared.answer.Answer.{Answer};
+ghost use Rattle.pp_runner.specs.Crew.{IsEnded};
+ghost use Rattle.pp_runner.specs.Labour.{IsAtWork, IsAnswered, IsSameShare};
+ghost use Rattle.pp_runner.specs.WorkerEnd.{IsEnd, NeedsChannel, WasHeld};
+
+use crate::end::End;
+use crate::gate::Gate;
+use crate::locked_central::LockedCentral;
+use crate::site::Site;
+use crate::worker::Worker;
+use pp_channel::{Line, Memory, Worn};
+use pp_machine::{Answer, Need, Outcome, Pp, PpNo, PpState};
+use std::alloc::Allocator;
+use std::sync::Wait;
+use std::thread;
+
+/// A worker between two tries of a step.
+#[derive(Drop)]
+pub struct Labour<A: Allocator> {
+    pub number: PpNo,
+    pub pp: Pp,
+    pub answers: Vec<Answer, A>,
+    pub line: Line<A>,
+    pub tries: u64,
+}
+
+/// A worker that has ended, with its line.
+#[derive(Drop)]
+pub struct Ended<A: Allocator> {
+    pub worker: Worker<A>,
+    pub line: Line<A>,
+}
+
+/// What one try of a step did.
+#[derive(Clone, Copy, PartialEq, Eq)]
+enum Try {
+    Moved,
+    Held,
+    Worn,
+}
+
+/// What a channel or central memory answers to a need. `Worn` leaves the log as it was.
+fn ask<R: Wait, A: Allocator + Copy>(
+    rt: &R,
+    central: &LockedCentral<A>,
+    line: &mut Line<A>,
+    needed: Need,
+) -> Result<Answer, Worn>
+    requires { 1 ≤ line.old.log.room }
+    ensures answered { IfOk result (λ x. IsAnswered central.now needed x line.old.log line.new.log) }
+    ensures worn { OnErr result ((channel : ℕ) × NeedsChannel needed channel) }
+    ensures unchanged_when_worn { OnErr result (line.new.log ≡ line.old.log) }
+    ensures same_share { IsSameShare line.old line.new }
+{
+    match needed {
+        Need::Nothing | Need::Local => Ok(Answer::Local),
+        Need::Channel(channel, op) => {
+            let numbered = line.act(channel, op)?;
+            Ok(Answer::Channel(numbered.reply))
+        }
+        Need::Read(address) => Ok(Answer::Read(central.read(rt, address))),
+        Need::Write(address, word) => Ok(Answer::Wrote(central.write(rt, address, word))),
+    }
+}
+
+impl<A: Allocator + Copy> Labour<A> {
+    /// The answer moved the processor: a look that gave it stays in the log.
+    fn note(&mut self, answer: Answer)
+        requires { vec_len self.old.answers < vec_capacity self.old.answers }
+        ensures items { self.new.answers.items ≡ self.old.answers.items ++ (answer ∷ []) }
+        ensures len { vec_len self.new.answers ≡ vec_len self.old.answers + 1 }
+        ensures line { self.new.line ≡ record self.old.line { log = record self.old.line.log { kept = true } } }
+        ensures pp { self.new.pp ≡ self.old.pp }
+    {
+        self.line.keep();
+        self.answers.push_reserved(answer);
+    }
+
+    /// One try of the next step. Only where the processor moves is there one more answer.
+    fn try_step<R: Wait>(&mut self, rt: &R, site: &Site<A>, load: &Pp) -> Try
+        requires running { self.old.pp.state ≡ PpState.Running }
+        requires steps_left { vec_len self.old.answers < site.now.limits.steps }
+        requires place { vec_len self.old.answers < vec_capacity self.old.answers }
+        requires work { IsAtWork load.now site.now.central site.now.limits.steps self.old.pp self.old.answers.items self.old.line.log }
+        ensures work { IsAtWork load.now site.now.central site.now.limits.steps self.new.pp self.new.answers.items self.new.line.log }
+        ensures same_share { IsSameShare self.old.line self.new.line }
+        ensures moved { result ≡ Try.Moved → vec_len self.new.answers ≡ vec_len self.old.answers + 1 }
+        ensures held { result ≡ Try.Held → (self.new.pp ≡ self.old.pp) × (self.new.answers ≡ self.old.answers) × WasHeld self.new.pp self.new.line.log.entries }
+        ensures worn { result ≡ Try.Worn → (self.new.pp ≡ self.old.pp) × (self.new.answers ≡ self.old.answers) × ((channel : ℕ) × NeedsChannel (need self.new.pp) channel) }
+    {
+        let told = ask(rt, &site.central, &mut self.line, self.pp.wants());
+        match &told {
+            Err(_) => Try::Worn,
+            Ok(answer) => match self.pp.give(*answer) {
+                Outcome::Held => Try::Held,
+                Outcome::Moved => {
+                    self.note(*answer);
+                    Try::Moved
+                }
+                Outcome::AtRest => unreachable!(),
+            },
+        }
+    }
+    /// Tries the next step until the processor moves, and answers `None` where it did.
+    fn take_step<R: Wait, G: Gate>(
+        &mut self,
+        rt: &R,
+        site: &Site<A>,
+        gate: &G,
+        load: &Pp,
+    ) -> Option<End>
+        requires running { self.old.pp.state ≡ PpState.Running }
+        requires steps_left { vec_len self.old.answers < site.now.limits.steps }
+        requires work { IsAtWork load.now site.now.central site.now.limits.steps self.old.pp self.old.answers.items self.old.line.log }
+        ensures work { IsAtWork load.now site.now.central site.now.limits.steps self.new.pp self.new.answers.items self.new.line.log }
+        ensures same_share { IsSameShare self.old.line self.new.line }
+        ensures moved { IfNone result (vec_len self.new.answers ≡ vec_len self.old.answers + 1) }
+        ensures few { IfSome result (λ _. vec_len self.new.answers ≤ site.now.limits.steps) }
+        ensures ended { IfSome result (λ finish. IsEnd site.now.limits.steps finish self.new.pp self.new.answers.items self.new.line.log.entries) }
+    {
+        if self.answers.reserve(1).is_err() {
+            return Some(End::Memory);
+        }
+        for held in 0..site.limits.patience() {
+            gate.pass(self.number, self.tries);
+            self.tries = self.tries.wrapping_add(1);
+            match self.try_step(rt, site, load) {
+                Try::Moved => return None,
+                Try::Held => thread::yield_now(),
+                Try::Worn => return Some(End::Worn),
+            }
+        }
+        Some(End::Patience)
+    }
+
+    /// What is left once no further step is made: the log is copied before the line is given back.
+    fn ended(self, site: &Site<A>, load: &Pp, finish: End) -> Result<Ended<A>, Memory>
+        requires work { IsAtWork load.now site.now.central site.now.limits.steps self.pp self.answers.items self.line.log }
+        requires few { vec_len self.answers ≤ site.now.limits.steps }
+        requires finish { IsEnd site.now.limits.steps finish self.pp self.answers.items self.line.log.entries }
+        ensures { IfOk result (λ ended. IsEnded load.now site.now.central site.now.limits.steps self.line ended.worker ended.line) }
+    {
+        let mut log = Vec::new(site.alloc);
+        log.extend_from_slice(self.line.log())?;
+        let Labour {
+            number: _,
+            pp,
+            answers,
+            line,
+            tries: _,
+        } = self;
+        let worker = Worker {
+            pp,
+            log,
+            answers,
+            finish,
+        };
+        Ok(Ended { worker, line })
+    }
+}
+
+/// The end of a processor at rest.
+fn rest(pp: &Pp) -> Option<End>
+    ensures running { IfNone result (pp.now.state ≡ PpState.Running) }
+    ensures ended { IfSome result (λ finish. (steps : ℕ) (answers : List Answer) (log : List Entry) → IsEnd steps finish pp.now answers log) }
+{
+    match pp.state() {
+        PpState::Running => None,
+        PpState::Stopped => Some(End::Stopped),
+        PpState::Fault(number) => Some(End::Fault(number)),
+    }
+}
+
+/// A worker from its load to its end, on a line of its own.
+pub fn work<R: Wait, G: Gate, A: Allocator + Copy>(
+    rt: &R,
+    site: &Site<A>,
+    gate: &G,
+    number: PpNo,
+    load: &Pp,
+    line: Line<A>,
+) -> Result<Ended<A>, Memory>
+    requires { line.log ≡ empty_log (2 * site.now.limits.steps + 1) }
+    ensures { IfOk result (λ ended. IsEnded load.now site.now.central site.now.limits.steps line ended.worker ended.line) }
+{
+    let mut labour = Labour {
+        number,
+        pp: load.copy(),
+        answers: Vec::new(site.alloc),
+        line,
+        tries: 0,
+    };
+    for done in 0..site.limits.steps() {
+        if let Some(finish) = rest(&labour.pp) {
+            return labour.ended(site, load, finish);
+        }
+        if let Some(finish) = labour.take_step(rt, site, gate, load) {
+            return labour.ended(site, load, finish);
+        }
+    }
+    let finish = rest(&labour.pp).unwrap_or(End::Steps);
+    labour.ended(site, load, finish)
+}

@@ -1,0 +1,26 @@
+//! Processors that run at once, each in a thread of its own, over shared channels and central memory.
+#![tactic(auto)]
+
+mod crew;
+mod end;
+mod gate;
+mod labour;
+mod limits;
+mod locked_central;
+mod report;
+mod run_fault;
+mod site;
+mod threads;
+mod worker;
+
+pub use end::End;
+pub use gate::{Gate, NoGate};
+pub use limits::Limits;
+pub use locked_central::LockedCentral;
+pub use report::Report;
+pub use run_fault::RunFault;
+pub use threads::run_threads;
+pub use worker::Worker;
+
+#[cfg(test)]
+mod tests;

@@ -1,0 +1,38 @@
+//! Why there is no report.
+
+use pp_channel::Memory;
+use std::alloc::{AllocError, AllocFailed};
+use std::thread::SpawnError;
+use thiserror::Error;
+
+/// Why a run left no report.
+#[derive(Clone, Copy, Debug, PartialEq, Eq, Error)]
+pub enum RunFault {
+    /// A growth was refused, or the system could not start a worker.
+    #[error("out of memory")]
+    Memory = 1,
+}
+
+impl From<Memory> for RunFault {
+    fn from(_refused: Memory) -> RunFault {
+        RunFault::Memory
+    }
+}
+
+impl From<AllocError> for RunFault {
+    fn from(_refused: AllocError) -> RunFault {
+        RunFault::Memory
+    }
+}
+
+impl<T: Drop> From<AllocFailed<T>> for RunFault {
+    fn from(_refused: AllocFailed<T>) -> RunFault {
+        RunFault::Memory
+    }
+}
+
+impl<F: Drop> From<SpawnError<F>> for RunFault {
+    fn from(_refused: SpawnError<F>) -> RunFault {
+        RunFault::Memory
+    }
+}
