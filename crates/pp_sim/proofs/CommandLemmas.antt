@@ -15,7 +15,7 @@ use Rattle.pp_sim.specs.CommandLine.{IsFaultBy, IsOutOfRange, IsRefused, IsWorkA
 use Rattle.pp_sim.specs.declared.line_fault.LineFault.{LineFault}
 use Rattle.pp_sim.specs.declared.line_fault.LineFault.TheVariants.{Memory, Refused, Number}
 use Rattle.pp_sim.specs.declared.work.Work.{Work}
-use Rattle.pp_sim.specs.declared.work.Work.TheVariants.{Barrel}
+use Rattle.pp_sim.specs.declared.work.Work.TheVariants.{Barrel, Threads}
 
 simple : is_simple ppsim ≡ true
 unfolding clap_on_literals ppsim
@@ -77,6 +77,10 @@ met_none words app m is h e =
 -- an option's text is the same by its matches and by its rows
 pub work_by_rows : (name : Text) (f : Found) (work : Work) → IsWorkOf name (first_value f) work → IsWorkAmong (Some (name, rows_of f)) work
 work_by_rows name f (Barrel turns) k = (k.0, rw (← first_value-rows f (codes "turns")) k.1, k.2)
+work_by_rows name f (Threads limits) k =
+    (k.0, rw (← first_value-rows f (codes "steps")) k.1, rw (← first_value-rows f (codes "patience")) k.2, k.3)
 
 pub work_by_values : (name : Text) (f : Found) (work : Work) → IsWorkAmong (Some (name, rows_of f)) work → IsWorkOf name (first_value f) work
 work_by_values name f (Barrel turns) k = (k.0, rw (first_value-rows f (codes "turns")) k.1, k.2)
+work_by_values name f (Threads limits) k =
+    (k.0, rw (first_value-rows f (codes "steps")) k.1, rw (first_value-rows f (codes "patience")) k.2, k.3)

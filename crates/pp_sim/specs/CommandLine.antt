@@ -5,12 +5,14 @@ use Rattle.clap.specs.Words.{App, IsAmong, Kinds, Row, Rule, Text, fault_of, fir
 use Rattle.clap.specs.declared.builder.action.ArgAction.TheVariants.{Set}
 use Rattle.clap.specs.declared.error.Error.{Error}
 use Rattle.clap.specs.declared.error.kind.ErrorKind.TheVariants.{OutOfMemory}
+use Rattle.pp_runner.specs.RunLimits.{AreLimits}
 use Rattle.pp_sim.specs.declared.line_fault.LineFault.{LineFault}
 use Rattle.pp_sim.specs.declared.line_fault.LineFault.TheVariants.{Memory, Refused, Number}
 use Rattle.pp_sim.specs.declared.work.Work.{Work}
-use Rattle.pp_sim.specs.declared.work.Work.TheVariants.{Barrel}
+use Rattle.pp_sim.specs.declared.work.Work.TheVariants.{Barrel, Threads}
 
--- THE COMMAND LINE, as clap sees it: `ppsim barrel --turns N`, the command and its option required
+-- THE COMMAND LINE, as clap sees it: `ppsim barrel --turns N` or `ppsim threads --steps N --patience N`, the command
+-- and all its options required
 
 -- a required option whose value is a number
 abbrev pub number_option : Text → Rule
@@ -19,11 +21,14 @@ number_option id = record (new_rule id) { long = Some id; action = Some Set; req
 abbrev pub barrel : App
 barrel = with_rule (new_app (codes "barrel")) (number_option (codes "turns"))
 
+abbrev pub threads : App
+threads = with_rule (with_rule (new_app (codes "threads")) (number_option (codes "steps"))) (number_option (codes "patience"))
+
 abbrev pub bare : App
 bare = record (new_app (codes "ppsim")) { top = record (new_app (codes "ppsim")).top { subcommand_required = true } }
 
 unfoldable pub ppsim : App
-ppsim = with_subcommand bare barrel.top
+ppsim = with_subcommand (with_subcommand bare barrel.top) threads.top
 
 -- the kinds of refusal that clap's parse may give to the words: none where they are a command line
 unfoldable pub refusals : List Text → Kinds
@@ -41,6 +46,9 @@ ReadsNumber (Some text) n = ParsesUnsigned {E = ℕ} 32 10 text (Ok n)
 -- the command of this name, with these texts of its options, asks for this work
 abbrev pub IsWorkOf : Text → (Text → Option Text) → Work → Type 0
 IsWorkOf name text_of (Barrel turns) = (name ≡ codes "barrel") × ReadsNumber (text_of (codes "turns")) turns × (turns ≤ 999999)
+IsWorkOf name text_of (Threads limits) = (name ≡ codes "threads")
+    × ReadsNumber (text_of (codes "steps")) limits.steps × ReadsNumber (text_of (codes "patience")) limits.patience
+    × AreLimits limits
 
 abbrev pub IsWorkAmong : Option (Text × List Row) → Work → Type 0
 IsWorkAmong None work = ⊥

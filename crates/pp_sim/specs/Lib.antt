@@ -9,4 +9,7 @@ pub mod DeckLaw
 pub mod Numeral
 pub mod PrintedText
 pub mod TextAnswer
+pub mod BarrelText
+pub mod ThreadsText
+pub mod Authors
 pub mod CommandLine

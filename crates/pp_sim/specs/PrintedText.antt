@@ -4,9 +4,10 @@ use Rattle.std.specs.Prelude.{ℕ, zero, suc, Bool, false, ◌&&◌, List, [], �
 use Rattle.std.specs.List.{flat_map}
 use Rattle.pp_channel.specs.ChannelNumber.{names_channel}
 use Rattle.pp_channel.specs.History.{active, waiting}
+use Rattle.pp_channel.specs.Merge.{history_on}
 use Rattle.pp_channel.specs.declared.event.Event.{Event}
 use Rattle.pp_channel.specs.declared.event.Event.TheVariants.{Activate, Disconnect, Put, Take, Function}
-use Rattle.pp_machine.specs.MachineState.{MachineState, history_of, processor_of}
+use Rattle.pp_machine.specs.MachineState.{MachineState, processor_of}
 use Rattle.pp_machine.specs.Processor.{Processor}
 use Rattle.pp_machine.specs.ProcessorNumber.{names_processor, processor_index}
 use Rattle.pp_machine.specs.declared.pp_state.PpState.{PpState}
@@ -36,9 +37,9 @@ state_text Running = codes "RUNNING"
 state_text Stopped = codes "STOPPED"
 state_text (Fault number) = codes "FAULT " ++ octal 1 number
 
--- `PP00 P=0103 A=000007 STOPPED`
-unfoldable pub processor_line : ℕ → Processor → List ℕ
-processor_line n pp = codes "PP" ++ octal 2 n ++ codes " P=" ++ octal 4 pp.p ++ codes " A=" ++ octal 6 pp.a ++ codes " " ++ state_text pp.state ++ line_end
+-- `PP00 P=0103 A=000007 STOPPED`, with what is said of the processor last
+unfoldable pub processor_line : ℕ → Processor → List ℕ → List ℕ
+processor_line n pp said = codes "PP" ++ octal 2 n ++ codes " P=" ++ octal 4 pp.p ++ codes " A=" ++ octal 6 pp.a ++ codes " " ++ said ++ line_end
 
 -- `ACTIVE FULL 0007`, by whether the channel is active and by the word that waits
 abbrev pub channel_text : Bool → Option ℕ → List ℕ
@@ -57,15 +58,19 @@ unfoldable pub each_below : ℕ → (ℕ → List ℕ) → List ℕ
 each_below zero said = []
 each_below (suc k) said = each_below k said ++ said k
 
--- the line of the processor with this number, where there is one and the deck names it
+-- whether there is a processor with this number and the deck names it
+abbrev pub is_named : List Bool → ℕ → Bool
+is_named named n = names_processor n && slice_index_or named (processor_index n) false
+
+-- the line of the processor with this number, where the deck names it
 abbrev pub named_processor_line : List Bool → MachineState → ℕ → List ℕ
-named_processor_line named m n = if names_processor n && slice_index_or named (processor_index n) false then processor_line n (processor_of n m) else []
+named_processor_line named m n = if is_named named n then (let pp = processor_of n m in processor_line n pp (state_text pp.state)) else []
 
 -- the line of the channel with this number, where there is one and it has a history
-abbrev pub used_channel_line : MachineState → ℕ → List ℕ
-used_channel_line m c = if names_channel c then channel_line c (history_of c m) else []
+abbrev pub used_channel_line : List (List Event) → ℕ → List ℕ
+used_channel_line histories c = if names_channel c then channel_line c (history_on c histories) else []
 
 -- the text of a machine: its events in order, then the processors named and the channels used, in order of number.
 -- Numbers have two octal digits.
 unfoldable pub printed : List Bool → MachineState → List ℕ
-printed named m = flat_map event_line m.trace ++ each_below 0o100 (named_processor_line named m) ++ each_below 0o100 (used_channel_line m)
+printed named m = flat_map event_line m.trace ++ each_below 0o100 (named_processor_line named m) ++ each_below 0o100 (used_channel_line m.histories)

@@ -3,7 +3,7 @@
 ghost use Rattle.std.specs.Prelude.{◌≡◌, false, IfOk};
 ghost use Rattle.clap.specs.Words.{app_of, rule_of};
 ghost use Rattle.clap.specs.declared.builder.command.Command.TheViews.{out-Command as fields_of};
-ghost use Rattle.pp_sim.specs.CommandLine.{barrel, number_option, ppsim};
+ghost use Rattle.pp_sim.specs.CommandLine.{barrel, number_option, ppsim, threads};
 
 use clap::{Arg, ArgAction, Command};
 use std::alloc::{AllocError, Global};
@@ -29,6 +29,24 @@ Runs a deck in the barrel: processors 0, 1, .. and 11 (octal) take one step a tu
 Reads the deck from standard input. Prints to standard output a line for each channel event, in
 order; the P, the A and the state of each processor that the deck names; and the state of each
 channel that has a history. A fault is one line on standard error.";
+
+const THREADS_ABOUT: &str = "Runs a deck with one thread per processor, and prints what happened";
+
+const THREADS_LONG_ABOUT: &str = "\
+Runs a deck with one thread per processor, all ten at once. Each goes on at its own speed, so the
+order of events on different channels, and sometimes the events themselves, differ from run to run.
+
+A processor ends where its program stops or faults, after its steps are done (STEPS), or where a
+channel held one step too often in a row (PATIENCE).
+
+Reads the deck from standard input. Prints to standard output, channel by channel, a line for each
+event in order; the P, the A and the end of each processor that the deck names; and the state of
+each channel that has a history. A fault is one line on standard error.";
+
+const STEPS_HELP: &str = "How many steps each processor may do, 1 to 100000 (decimal)";
+
+const PATIENCE_HELP: &str =
+    "How often in a row a channel may hold a step, 1 to 4294967295 (decimal)";
 
 const TURNS_HELP: &str = "How many turns to run, 0 to 999999 (decimal)";
 
@@ -59,16 +77,32 @@ fn barrel_command<'a>(alloc: Global) -> Result<Command<'a>, AllocError>
     Ok(command)
 }
 
+/// `threads --steps N --patience N`
+fn threads_command<'a>(alloc: Global) -> Result<Command<'a>, AllocError>
+    ensures app { IfOk result (λ c. app_of c ≡ threads) }
+    ensures local { IfOk result (λ c. (fields_of c).has_globals ≡ false) }
+{
+    let steps = number_option(alloc, "steps", STEPS_HELP);
+    let patience = number_option(alloc, "patience", PATIENCE_HELP);
+    let command = Command::new(alloc, "threads")
+        .about(THREADS_ABOUT)
+        .long_about(THREADS_LONG_ABOUT)
+        .arg(steps)?;
+    let command = command.arg(patience)?;
+    Ok(command)
+}
+
 /// The whole command line.
 #[tactic(auto, unfolding(crate::specs::CommandLine::ppsim))]
 pub(crate) fn command<'a>(alloc: Global) -> Result<Command<'a>, AllocError>
     ensures { IfOk result (λ c. app_of c ≡ ppsim) }
 {
     let barrel = barrel_command(alloc)?;
+    let threads = threads_command(alloc)?;
     let bare = Command::new(alloc, "ppsim")
         .about(ABOUT)
         .after_help(EXAMPLE)
         .subcommand_required(true);
-    let whole = bare.subcommand(barrel)?;
+    let whole = bare.subcommand(barrel)?.subcommand(threads)?;
     Ok(whole)
 }

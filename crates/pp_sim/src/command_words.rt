@@ -10,6 +10,7 @@ use crate::line_fault::LineFault;
 use crate::work::Work;
 use clap::error::ErrorKind;
 use clap::{ArgMatches, Error};
+use pp_runner::Limits;
 use std::alloc::Global;
 
 /// The largest number of turns (decimal).
@@ -40,6 +41,11 @@ fn work_of(name: &str, matches: &ArgMatches<'_>) -> Option<Work>
             return None;
         }
         Some(Work::Barrel { turns })
+    } else if name == "threads" {
+        let steps = number_of(matches, "steps")?;
+        let patience = number_of(matches, "patience")?;
+        let limits = Limits::new(steps, patience)?;
+        Some(Work::Threads { limits })
     } else {
         None
     }

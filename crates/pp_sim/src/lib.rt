@@ -1,6 +1,7 @@
 //! Decks that load a machine, runs of it, and the texts of these runs.
 #![tactic(auto)]
 
+mod authors;
 mod central_size;
 mod command;
 mod command_words;
@@ -22,7 +23,9 @@ mod program;
 mod reading;
 mod streams;
 mod text;
+mod text_by_threads;
 mod text_fault;
+mod threads_printed;
 mod work;
 
 pub use command_words::read_words;
@@ -33,6 +36,7 @@ pub use line_fault::LineFault;
 pub use numeral::numeral_law;
 pub use program::run_program;
 pub use text::barrel_text;
+pub use text_by_threads::threads_text;
 pub use text_fault::TextFault;
 pub use work::Work;
 

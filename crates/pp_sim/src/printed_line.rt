@@ -1,12 +1,14 @@
 //! The lines of a printed text.
 
-ghost use Rattle.std.specs.Prelude.{◌≡◌, ◌<◌, ◌^◌, ◌++◌, codes, OnOk};
-ghost use Rattle.pp_sim.specs.Numeral.{digits, octal};
-ghost use Rattle.pp_sim.specs.PrintedText.{channel_line, event_line, event_text, line_end, processor_line};
+ghost use Rattle.std.specs.Prelude.{◌≡◌, ◌<◌, ◌^◌, ◌++◌, Some, codes, OnOk};
+ghost use Rattle.pp_sim.specs.Numeral.{decimal, digits, octal};
+ghost use Rattle.pp_sim.specs.PrintedText.{channel_line, event_line, event_text, line_end, processor_line, state_text};
+ghost use Rattle.pp_sim.specs.ThreadsText.{worker_line};
 
 use crate::digits::{decimal6, octal1, octal2, octal4, octal6, push_upper_digits};
 use pp_channel::{Channel, ChannelNo, Event};
 use pp_machine::{Pp, PpNo, PpState, Trace};
+use pp_runner::{End, Worker};
 use pp_word::Word12;
 use std::alloc::{AllocError, Allocator};
 
@@ -22,6 +24,34 @@ pub(crate) fn push_event<A: Allocator>(
     text.extend_from_slice(&event_heading(turn, entry.pp, entry.channel))?;
     push_event_end(text, entry.event)?;
     Ok(())
+}
+
+/// Adds `CH05 000001 PP00 PUT 0007` and a line feed.
+#[tactic(auto, using(crate::proofs::TextLemmas::numbered_line_in_pieces))]
+pub(crate) fn push_numbered_event<A: Allocator>(
+    text: &mut Vec<u8, A>,
+    c: ChannelNo,
+    number: u64,
+    author: PpNo,
+    event: Event,
+) -> Result<(), AllocError>
+    ensures { OnOk result (text.new.items ≡ text.old.items ++ (codes "CH" ++ octal 2 c ++ codes " " ++ decimal number ++ codes " PP" ++ octal 2 author ++ codes " " ++ event_text event ++ line_end)) }
+{
+    let [c0, c1] = octal2(c.get());
+    text.extend_from_slice(&[b'C', b'H', c0, c1, b' '])?;
+    let lower = push_upper_digits(text, number)?;
+    text.extend_from_slice(&author_heading(lower, author))?;
+    push_event_end(text, event)
+}
+
+/// `000001 PP00 `
+fn author_heading(number: u32, author: PpNo) -> [u8; 12]
+    requires { number < 10 ^ 6 }
+    ensures { result ≡ digits 10 6 number ++ codes " PP" ++ octal 2 author ++ codes " " }
+{
+    let [n0, n1, n2, n3, n4, n5] = decimal6(number);
+    let [p0, p1] = octal2(author.get());
+    [n0, n1, n2, n3, n4, n5, b' ', b'P', b'P', p0, p1, b' ']
 }
 
 /// Adds `PUT 0007` and a line feed.
@@ -66,17 +96,42 @@ pub(crate) fn push_processor<A: Allocator>(
     n: PpNo,
     pp: &Pp,
 ) -> Result<(), AllocError>
-    ensures { OnOk result (text.new.items ≡ text.old.items ++ processor_line n pp.now) }
+    ensures { OnOk result (text.new.items ≡ text.old.items ++ processor_line n pp.now (state_text pp.now.state)) }
 {
     text.extend_from_slice(&processor_heading(n, pp))?;
     match pp.state() {
         PpState::Running => text.extend_from_slice(b"RUNNING\n"),
         PpState::Stopped => text.extend_from_slice(b"STOPPED\n"),
-        PpState::Fault(number) => {
-            let [f0] = octal1(number);
-            text.extend_from_slice(&[b'F', b'A', b'U', b'L', b'T', b' ', f0, b'\n'])
-        }
+        PpState::Fault(number) => push_fault(text, number),
     }
+}
+
+/// Adds `PP00 P=0103 A=000007 PATIENCE` and a line feed.
+#[tactic(auto, unfolding(crate::specs::PrintedText::processor_line))]
+pub(crate) fn push_worker<A: Allocator, B: Allocator>(
+    text: &mut Vec<u8, A>,
+    n: PpNo,
+    worker: &Worker<B>,
+) -> Result<(), AllocError>
+    ensures { OnOk result (text.new.items ≡ text.old.items ++ worker_line n (Some worker.now)) }
+{
+    text.extend_from_slice(&processor_heading(n, &worker.pp))?;
+    match worker.finish {
+        End::Stopped => text.extend_from_slice(b"STOPPED\n"),
+        End::Fault(number) => push_fault(text, number),
+        End::Steps => text.extend_from_slice(b"STEPS\n"),
+        End::Patience => text.extend_from_slice(b"PATIENCE\n"),
+        End::Memory => text.extend_from_slice(b"MEMORY\n"),
+        End::Worn => text.extend_from_slice(b"WORN\n"),
+    }
+}
+
+/// Adds `FAULT 4` and a line feed.
+fn push_fault<A: Allocator>(text: &mut Vec<u8, A>, number: u8) -> Result<(), AllocError>
+    ensures { OnOk result (text.new.items ≡ text.old.items ++ (codes "FAULT " ++ octal 1 number ++ line_end)) }
+{
+    let [f0] = octal1(number);
+    text.extend_from_slice(&[b'F', b'A', b'U', b'L', b'T', b' ', f0, b'\n'])
 }
 
 /// `PP00 P=0103 A=000007 `

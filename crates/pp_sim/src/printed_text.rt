@@ -10,7 +10,7 @@ use pp_machine::{Machine, PROCESSORS, PpNo, Trace};
 use std::alloc::{AllocError, Allocator};
 
 /// How many numbers two octal digits can show.
-const NUMBERS: u8 = 0o100;
+pub(crate) const NUMBERS: u8 = 0o100;
 
 /// The length of the longest line of an event, where its turn has six digits.
 const EVENT_LINE: usize = 26;
@@ -80,7 +80,7 @@ fn push_channels<A: Allocator>(
     text: &mut Vec<u8, A>,
     machine: &Machine<A>,
 ) -> Result<(), AllocError>
-    ensures { OnOk result (text.new.items ≡ text.old.items ++ each_below NUMBERS (used_channel_line machine.now)) }
+    ensures { OnOk result (text.new.items ≡ text.old.items ++ each_below NUMBERS (used_channel_line machine.now.histories)) }
 {
     for number in 0..NUMBERS {
         push_used_channel(text, machine, number)?;
@@ -93,7 +93,7 @@ fn push_used_channel<A: Allocator>(
     machine: &Machine<A>,
     number: u8,
 ) -> Result<(), AllocError>
-    ensures { OnOk result (text.new.items ≡ text.old.items ++ used_channel_line machine.now number) }
+    ensures { OnOk result (text.new.items ≡ text.old.items ++ used_channel_line machine.now.histories number) }
 {
     match ChannelNo::new(number) {
         Some(c) => push_channel(text, c, machine.channel(c)),

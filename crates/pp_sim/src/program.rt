@@ -1,13 +1,18 @@
 //! The program, over any reader and writers.
 
+ghost use Rattle.pp_runner.specs.Report.{ReportFitsInMemory};
+
 use crate::command_words::read_words;
 use crate::line_fault::LineFault;
 use crate::text::barrel_text;
+use crate::text_by_threads::threads_text;
 use crate::text_fault::TextFault;
 use crate::work::Work;
 use clap::Error;
 use std::alloc::{Allocator, Global};
 use std::io::{Read, Write};
+use std::sync::Wait;
+use std::thread::Threads;
 
 /// It is done, or help was asked for.
 const DONE: u8 = 0;
@@ -23,20 +28,15 @@ const NO_MEMORY: u8 = 4;
 /// Does what the words ask for, the program's name first, and answers the status to exit with.
 /// The words are read first: where they are refused, nothing is read from `input`. A fault in
 /// writing to `error` is not told.
-pub fn run_program<'a, T, A, I, O, E>(
-    rt: &T,
-    alloc: A,
-    words: &'a [&'a str],
-    input: &mut I,
-    output: &mut O,
-    error: &mut E,
-) -> u8
-where
-    T: Alloc<A = Global>,
-    A: Allocator + Copy,
+pub fn run_program<
+    'a,
+    T: Alloc<A = Global> + Threads + Wait + Sync,
     I: Read,
+    A: Allocator + Copy + Send + Sync,
     O: Write,
     E: Write,
+>(rt: &T, alloc: A, words: &'a [&'a str], input: &mut I, output: &mut O, error: &mut E) -> u8
+    requires { ReportFitsInMemory A.row A.Allocator }
 {
     let work = match read_words(rt.alloc(), words) {
         Ok(work) => work,
@@ -44,6 +44,7 @@ where
     };
     let done = match work {
         Work::Barrel { turns } => barrel_text(alloc, input, output, turns),
+        Work::Threads { limits } => threads_text(rt, alloc, input, output, limits),
     };
     match done {
         Ok(()) => DONE,

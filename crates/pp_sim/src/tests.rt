@@ -4,6 +4,7 @@ mod devices;
 mod faults;
 mod program;
 mod texts;
+mod threads;
 
 /// A deck of 72 bytes in which one processor puts a word on a channel and another takes it.
 const HANDOFF: &str = "\

@@ -1,8 +1,9 @@
 //! Reading a deck, running it and writing the text of the run.
 
-ghost use Rattle.std.specs.Prelude.{◌≡◌, ◌≢◌, ◌<◌, ℕ, Ok, List, length, take, OnOk, IfOk, IfErr, IfSome};
+ghost use Rattle.std.specs.Prelude.{◌≡◌, ◌≢◌, ◌<◌, ℕ, List, length, take, OnOk, IfOk, IfErr, IfSome};
 ghost use Rattle.std.specs.Io.KnownBytes.{Keeps};
-ghost use Rattle.pp_sim.specs.TextAnswer.{AnswersTo, IsAnswer, IsRunFault, most_bytes, text_of_deck};
+ghost use Rattle.pp_sim.specs.BarrelText.{IsBarrelText};
+ghost use Rattle.pp_sim.specs.TextAnswer.{AnswersTo, IsAnswer, IsRunFault, IsTextOf, most_bytes};
 
 use crate::deck::read_deck;
 use crate::deck_fault::DeckCode;
@@ -20,10 +21,10 @@ pub fn barrel_text<A: Allocator + Copy, R: Read, W: Write>(
     turns: u32,
 ) -> Result<(), TextFault>
     // For every reader, whatever it tells.
-    ensures every_reader { (bytes : List ℕ) × AnswersTo turns result (R.remaining reader.old) (R.remaining reader.new)
+    ensures every_reader { (bytes : List ℕ) × AnswersTo (IsBarrelText turns) result (R.remaining reader.old) (R.remaining reader.new)
         (W.contents writer.old) (W.contents writer.new) bytes }
     // For a reader that tells the bytes that it has.
-    ensures telling_reader { IfSome (R.remaining reader.old) (λ bytes. IsAnswer result (text_of_deck turns (take most_bytes bytes))
+    ensures telling_reader { IfSome (R.remaining reader.old) (λ bytes. IsAnswer (IsBarrelText turns) result (take most_bytes bytes)
         (W.contents writer.old) (W.contents writer.new)) }
     // Every fault but Write comes before the first byte is written.
     ensures unwritten { IfErr result (λ fault. fault ≢ TextFault.Write → Keeps (W.contents writer.old) (W.contents writer.new)) }
@@ -39,7 +40,7 @@ fn write_run<A: Allocator + Copy, W: Write>(
     writer: &mut W,
     turns: u32,
 ) -> Result<(), TextFault>
-    ensures answer { IsAnswer result (text_of_deck turns deck.now) (W.contents writer.old) (W.contents writer.new) }
+    ensures answer { IsAnswer (IsBarrelText turns) result deck.now (W.contents writer.old) (W.contents writer.new) }
     ensures bounded { OnOk result (length deck.now < most_bytes) }
 {
     let text = run_text(alloc, deck, turns)?;
@@ -47,11 +48,10 @@ fn write_run<A: Allocator + Copy, W: Write>(
 }
 
 /// The text of the run of a deck.
-#[tactic(auto, unfolding(crate::specs::TextAnswer::text_of_deck))]
 fn run_text<A: Allocator + Copy>(alloc: A, deck: &[u8], turns: u32) -> Result<Vec<u8, A>, TextFault>
-    ensures ok { IfOk result (λ text. text_of_deck turns deck.now ≡ Ok text.items) }
+    ensures ok { IfOk result (λ text. IsTextOf (IsBarrelText turns) deck.now text.items) }
     ensures bounded { OnOk result (length deck.now < most_bytes) }
-    ensures fault { IfErr result (IsRunFault (text_of_deck turns deck.now)) }
+    ensures fault { IfErr result (IsRunFault deck.now) }
 {
     let mut loaded = match read_deck(alloc, deck) {
         Ok(loaded) => loaded,

@@ -42,6 +42,41 @@ fn deck_refused(rt: HostRuntime) -> Result<(), Fail> {
     panic!(rt; "a request is refused in each run")
 }
 
+/// Decks with their faults, or none: where a request is refused, Memory at line 0 takes their place.
+const DECKS: [(&str, Option<(u32, DeckCode)>); 9] = [
+    ("", None),
+    ("PP 12", Some((1, DeckCode::BadProcessor))),
+    ("0100 0001", Some((1, DeckCode::NoProcessor))),
+    ("PP 0\n0100 0109", Some((2, DeckCode::BadDigits))),
+    ("PP 0\n7776 0001 0002", None),
+    ("PP 0\n7776 0001 0002 0003", Some((2, DeckCode::PastEnd))),
+    ("CENTRAL 400001", Some((1, DeckCode::CentralRange))),
+    ("CENTRAL 10\nCM 7 1 2", Some((2, DeckCode::CentralRange))),
+    ("PP", Some((1, DeckCode::UnknownLine))),
+];
+
+#[test]
+fn faulty_decks_refused(rt: HostRuntime) -> Result<(), Fail> {
+    let heap = Rationed::new(rt.alloc());
+    let mut refusals = 0u32;
+    for (text, fault) in DECKS {
+        for number in 1..10u64 {
+            heap.refuse(number);
+            let answer = read_deck(&heap, text.as_bytes()).err();
+            let expected = if heap.has_refused() {
+                refusals = refusals.saturating_add(1);
+                Some((0, DeckCode::Memory))
+            } else {
+                fault
+            };
+            let told = answer.map(|fault| (fault.line, fault.code));
+            assert_eq!(rt; told, expected, "{text}, request {number}");
+        }
+    }
+    assert!(rt; refusals >= 9, "each deck takes memory");
+    Ok(())
+}
+
 #[test]
 fn texts_that_ask_for_nothing(rt: HostRuntime) -> Result<(), Fail> {
     let heap = Rationed::new(rt.alloc());

@@ -7,6 +7,14 @@ mod channel;
 #[cfg(test)]
 mod deck;
 #[cfg(test)]
+mod lines;
+#[cfg(test)]
+mod locked;
+#[cfg(test)]
 mod machine;
 #[cfg(test)]
+mod no_memory;
+#[cfg(test)]
 mod texts;
+#[cfg(test)]
+mod threads;

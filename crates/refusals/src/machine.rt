@@ -22,15 +22,29 @@ fn load(pp: &mut Pp, start: u16, words: &[u16]) {
     pp.start(word(start), Word18::ZERO);
 }
 
+/// The programs of processors 0 and 1, from the places 0100 and 0200 on (octal).
+#[derive(Clone, Copy)]
+struct Programs {
+    zero: &'static [u16],
+    one: &'static [u16],
+}
+
 /// PP 0 activates channel 5, puts 0007 and stops; PP 1 takes it and stops.
-fn handoff<A: Allocator + Copy>(alloc: A) -> Result<Machine<A>, CentralFault> {
+const HANDOFF: Programs = Programs {
+    zero: &[0o7405, 0o1407, 0o7205, 0o0300],
+    one: &[0o7005, 0o0300],
+};
+
+/// PP 1 activates channel 5 and disconnects it, again and again; PP 0 is held.
+const FLAPPING: Programs = Programs {
+    zero: &[0o7005, 0o0300],
+    one: &[0o7405, 0o7505, 0o0375],
+};
+
+fn loaded<A: Allocator + Copy>(alloc: A, programs: Programs) -> Result<Machine<A>, CentralFault> {
     let mut machine = Machine::new(alloc, 0o10000)?;
-    load(
-        machine.pp_mut(PpNo::FIRST),
-        0o100,
-        &[0o7405, 0o1407, 0o7205, 0o0300],
-    );
-    load(machine.pp_mut(PpNo::FIRST.next()), 0o200, &[0o7005, 0o0300]);
+    load(machine.pp_mut(PpNo::FIRST), 0o100, programs.zero);
+    load(machine.pp_mut(PpNo::FIRST.next()), 0o200, programs.one);
     Ok(machine)
 }
 
@@ -57,108 +71,172 @@ fn expect_same<R: Abort, A: Allocator, B: Allocator>(rt: &R, one: &Machine<A>, o
     assert_eq!(rt; one.events(), other.events());
 }
 
+/// The fault where memory is refused.
+fn no_memory(refused: bool) -> Option<CentralFault> {
+    if refused {
+        Some(CentralFault::Memory)
+    } else {
+        None
+    }
+}
+
 #[test]
 fn making_refused(rt: HostRuntime) -> Result<(), Fail> {
     let heap = Rationed::new(rt.alloc());
     for number in 1..10u64 {
         heap.refuse(number);
-        let central = Central::new(&heap, 7);
+        let central = Central::new(&heap, 0o41);
         let refused = heap.has_refused();
         heap.refuse(0);
         assert_eq!(rt; refused, number == 1);
-        assert_eq!(rt;
-            central.err(),
-            if refused {
-                Some(CentralFault::Memory)
-            } else {
-                None
-            }
-        );
+        assert_eq!(rt; central.err(), no_memory(refused));
         heap.refuse(number);
-        let machine = Machine::new(&heap, 7);
+        let machine = Machine::new(&heap, 0o41);
         let refused = heap.has_refused();
         heap.refuse(0);
         assert_eq!(rt; refused, number <= 3);
-        assert_eq!(rt;
-            machine.err(),
-            if refused {
-                Some(CentralFault::Memory)
-            } else {
-                None
-            }
-        );
+        assert_eq!(rt; machine.err(), no_memory(refused));
     }
+    heap.refuse(1);
+    for size in [0, 0o400_001] {
+        let bad_size = Some(CentralFault::BadSize);
+        assert_eq!(rt; Central::new(&heap, size).err(), bad_size);
+        assert_eq!(rt; Machine::new(&heap, size).err(), bad_size);
+    }
+    assert_eq!(rt; heap.asked(), 0, "a bad size comes before memory");
     Ok(())
 }
 
+/// A step whose request is refused leaves the machine, and is made once memory is there.
 #[test]
 fn step_refused(rt: HostRuntime) -> Result<(), Fail> {
     let heap = Rationed::new(rt.alloc());
-    for number in 1..5u64 {
-        let before = handoff(rt.alloc())?;
-        let mut machine = handoff(&heap)?;
+    let zero = PpNo::FIRST;
+    let steps = [
+        (zero.next(), Outcome::Held),
+        (zero, Outcome::Moved),
+        (zero, Outcome::Moved),
+        (zero, Outcome::Moved),
+        (zero.next(), Outcome::Moved),
+        (zero, Outcome::Moved),
+        (zero, Outcome::AtRest),
+    ];
+    for number in 1..20u64 {
+        let mut twin = loaded(rt.alloc(), HANDOFF)?;
+        let mut machine = loaded(&heap, HANDOFF)?;
         heap.refuse(number);
-        let answer = machine.step(PpNo::FIRST);
+        for (n, outcome) in &steps {
+            let had_refused = heap.has_refused();
+            let answer = machine.step(*n);
+            if heap.has_refused() == had_refused {
+                assert_eq!(rt; answer, Ok(*outcome));
+            } else {
+                assert_eq!(rt; answer, Err(Memory));
+                expect_same(&rt, &machine, &twin);
+                assert_eq!(rt; machine.step(*n)?, *outcome);
+            }
+            assert_eq!(rt; twin.step(*n)?, *outcome);
+            expect_same(&rt, &machine, &twin);
+        }
         let refused = heap.has_refused();
         heap.refuse(0);
-        assert_eq!(rt; refused, number <= 2);
-        if refused {
-            assert_eq!(rt; answer, Err(Memory));
-            expect_same(&rt, &machine, &before);
-        } else {
-            assert_eq!(rt; answer, Ok(Outcome::Moved));
-            assert_eq!(rt; machine.events().len(), 1);
+        if !refused {
+            assert!(rt; number > 2, "both lists grow");
+            return Ok(());
         }
+    }
+    panic!(rt; "a request is refused in each run")
+}
+
+/// A run that is cut is as after the steps that it did, and goes on from there. This gives the number
+/// of the first request that is not made.
+fn runs_refused(
+    rt: &(impl Abort + AllocGlobal),
+    programs: Programs,
+    turns: &[PpNo],
+) -> Result<u64, Fail> {
+    let heap = Rationed::new(rt.alloc());
+    for number in 1..100u64 {
+        let mut machine = loaded(&heap, programs)?;
+        let mut twin = loaded(rt.alloc(), programs)?;
+        heap.refuse(number);
+        let answer = machine.run_turns(turns);
+        let refused = heap.has_refused();
+        heap.refuse(0);
+        assert_eq!(rt; answer.is_err(), refused);
+        if let Err(cut) = answer {
+            let done = turns.get(..cut.done as usize).ok_or("too many")?;
+            let left = turns.get(cut.done as usize..).ok_or("too many")?;
+            assert!(rt; !left.is_empty(), "no step was refused");
+            twin.run_turns(done)?;
+            expect_same(rt, &machine, &twin);
+            machine.run_turns(left)?;
+            twin.run_turns(left)?;
+        } else {
+            twin.run_turns(turns)?;
+        }
+        expect_same(rt, &machine, &twin);
+        if !refused {
+            return Ok(number);
+        }
+    }
+    panic!(rt; "a request is refused in each run")
+}
+
+#[test]
+fn turns_refused(rt: HostRuntime) -> Result<(), Fail> {
+    let zero = PpNo::FIRST;
+    let one = zero.next();
+    assert!(rt; runs_refused(&rt, HANDOFF, &[one, zero, zero, zero, one])? > 2);
+    assert!(rt;
+        runs_refused(&rt, FLAPPING, &[one; 60])? > 6,
+        "the lists grow again and again"
+    );
+    Ok(())
+}
+
+/// So many turns of the barrel, each by a call of `step`.
+fn step_in_turn<A: Allocator>(machine: &mut Machine<A>, turns: u64) -> Result<(), Memory> {
+    let mut n = PpNo::FIRST;
+    for _ in 0..turns {
+        machine.step(n)?;
+        n = n.next();
     }
     Ok(())
 }
 
-#[test]
-fn runs_refused(rt: HostRuntime) -> Result<(), Fail> {
+/// As for lists of turns: the number of the first request that is not made.
+fn rounds_refused(
+    rt: &(impl Abort + AllocGlobal),
+    programs: Programs,
+    turns: u32,
+) -> Result<u64, Fail> {
     let heap = Rationed::new(rt.alloc());
-    let zero = PpNo::FIRST;
-    let one = zero.next();
-    let turns = [one, zero, zero, zero, one];
-    for number in 1..20u64 {
-        let mut machine = handoff(&heap)?;
-        let mut again = handoff(rt.alloc())?;
+    for number in 1..100u64 {
+        let mut machine = loaded(&heap, programs)?;
+        let mut twin = loaded(rt.alloc(), programs)?;
         heap.refuse(number);
-        let answer = machine.run_turns(&turns);
+        let answer = machine.run_barrel(turns);
         let refused = heap.has_refused();
         heap.refuse(0);
         assert_eq!(rt; answer.is_err(), refused);
-        let done = answer.err().map_or(5, |cut| cut.done);
-        again.run_turns(&turns[..5.min(done as usize)])?;
-        expect_same(&rt, &machine, &again);
+        let done = answer.err().map_or(u64::from(turns), |cut| cut.done);
+        assert_eq!(rt; done < u64::from(turns), refused);
+        step_in_turn(&mut twin, done)?;
+        expect_same(rt, &machine, &twin);
         if !refused {
-            assert!(rt; number > 2);
-            return Ok(());
+            return Ok(number);
         }
     }
-    assert!(rt; false, "a refusal in each run");
-    Ok(())
+    panic!(rt; "a request is refused in each run")
 }
 
 #[test]
 fn barrel_refused(rt: HostRuntime) -> Result<(), Fail> {
-    let heap = Rationed::new(rt.alloc());
-    for number in 1..20u64 {
-        let mut machine = handoff(&heap)?;
-        let mut again = handoff(rt.alloc())?;
-        heap.refuse(number);
-        let answer = machine.run_barrel(40);
-        let refused = heap.has_refused();
-        heap.refuse(0);
-        assert_eq!(rt; answer.is_err(), refused);
-        let done = answer.err().map_or(40, |cut| cut.done);
-        assert!(rt; done <= 40);
-        again.run_barrel(done as u32)?;
-        expect_same(&rt, &machine, &again);
-        if !refused {
-            assert!(rt; number > 2);
-            return Ok(());
-        }
-    }
-    assert!(rt; false, "a refusal in each run");
+    assert!(rt; rounds_refused(&rt, HANDOFF, 40)? > 2);
+    assert!(rt;
+        rounds_refused(&rt, FLAPPING, 1405)? > 8,
+        "the lists grow again and again"
+    );
     Ok(())
 }

@@ -2,7 +2,10 @@
 
 use pp_sim::{TextFault, barrel_text, run_program};
 use rationed::Rationed;
+use std::process::Abort;
+use std::sync::Wait;
 use std::test::Fail;
+use std::thread::Threads;
 
 /// A deck in which one processor puts a word on a channel and another takes it.
 const DECK: &str = "\
@@ -47,20 +50,26 @@ fn text_refused(rt: HostRuntime) -> Result<(), Fail> {
     panic!(rt; "a request is refused in each run")
 }
 
-#[test]
-fn program_refused(rt: HostRuntime) -> Result<(), Fail> {
+/// Where no request is refused, these turns and this deck end with this status.
+fn program_refused(
+    rt: &(impl Abort + AllocGlobal + Threads + Wait + Sync),
+    turns: &str,
+    deck: &str,
+    last: u8,
+) -> Result<u64, Fail> {
     let heap = Rationed::new(rt.alloc());
-    let words = ["ppsim", "barrel", "--turns", "40"];
+    let words = ["ppsim", "barrel", "--turns", turns];
     for number in 1..1000u64 {
         heap.refuse(number);
-        let mut reader = DECK.as_bytes();
+        let mut reader = deck.as_bytes();
         let mut output = Vec::new(rt.alloc());
         let mut error = Vec::new(rt.alloc());
-        let status = run_program(&rt, &heap, &words, &mut reader, &mut output, &mut error);
+        let status = run_program(rt, &heap, &words, &mut reader, &mut output, &mut error);
         if !heap.has_refused() {
-            assert_eq!(rt; status, 0);
-            assert!(rt; output.as_slice() == TEXT.as_bytes());
-            return Ok(());
+            assert_eq!(rt; status, last);
+            let text = if last == 0 { TEXT } else { "" };
+            assert!(rt; output.as_slice() == text.as_bytes());
+            return Ok(number);
         }
         assert_eq!(rt; status, 4, "request {number}");
         assert!(rt; output.is_empty(), "request {number}");
@@ -70,4 +79,16 @@ fn program_refused(rt: HostRuntime) -> Result<(), Fail> {
         );
     }
     panic!(rt; "a request is refused in each run")
+}
+
+#[test]
+fn programs_refused(rt: HostRuntime) -> Result<(), Fail> {
+    assert!(rt; program_refused(&rt, "40", DECK, 0)? > 5);
+    assert!(rt; program_refused(&rt, "40", "PP 12", 1)? > 2);
+    assert_eq!(rt;
+        program_refused(&rt, "1000000", DECK, 2)?,
+        1,
+        "no deck is read"
+    );
+    Ok(())
 }

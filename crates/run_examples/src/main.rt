@@ -3,10 +3,12 @@
 
 use pp_sim::run_program;
 use std::alloc::Global;
-use std::fs;
+use std::fs::{self, Files};
+use std::sync::Wait;
+use std::thread::Threads;
 
-/// The examples and their turns.
-const EXAMPLES: [(&str, &str); 13] = [
+/// The examples that run in the barrel, and their turns.
+const IN_THE_BARREL: [(&str, &str); 13] = [
     ("handoff", "40"),
     ("no_turns", "0"),
     ("lost_word", "80"),
@@ -22,29 +24,62 @@ const EXAMPLES: [(&str, &str); 13] = [
     ("central_copy", "200"),
 ];
 
+/// The examples that run with one thread per processor, and the two texts that may come of each.
+const BY_THREADS: [(&str, &str, &str); 4] = [
+    ("block_by_threads", "text", "text"),
+    ("token_ring", "threads", "threads"),
+    ("two_takers", "text", "other"),
+    ("disconnect_race", "text", "other"),
+];
+
+/// How many steps each processor may do, and how often in a row it may be held.
+const STEPS: &str = "100";
+
+const PATIENCE: &str = "4294967295";
+
 fn main(rt: HostRuntime) -> anyhow::Result<()> {
-    for (name, turns) in EXAMPLES {
-        let alloc = rt.alloc();
-        let deck = fs::read(&rt, format!(in alloc; "{name}.deck")?.as_str())?;
-        let text = fs::read(&rt, format!(in alloc; "{name}.text")?.as_str())?;
+    for (name, turns) in IN_THE_BARREL {
         let words = ["ppsim", "barrel", "--turns", turns];
-        let mut input = deck.as_slice();
-        let mut output = Vec::new(alloc);
-        let mut error = Vec::new(alloc);
-        let status = run_program(
-            &rt,
-            alloc,
-            words.as_slice(),
-            &mut input,
-            &mut output,
-            &mut error,
-        );
-        let verdict = if status == 0 && output.as_slice() == text.as_slice() {
-            "as expected"
-        } else {
-            "DIFFERS"
-        };
-        println!(rt; "{name}: {verdict}")?;
+        let output = run(&rt, name, words.as_slice())?;
+        let text = read(&rt, name, "text")?;
+        println!(rt; "{name}: {}", verdict(output == text))?;
+    }
+    for (name, one, other) in BY_THREADS {
+        let words = ["ppsim", "threads", "--steps", STEPS, "--patience", PATIENCE];
+        let output = run(&rt, name, words.as_slice())?;
+        let is_one = output == read(&rt, name, one)?;
+        let is_other = output == read(&rt, name, other)?;
+        println!(rt; "{name} by threads: {}", verdict(is_one || is_other))?;
     }
     Ok(())
+}
+
+fn verdict(as_expected: bool) -> &'static str {
+    if as_expected {
+        "as expected"
+    } else {
+        "DIFFERS"
+    }
+}
+
+/// What the program prints for the deck of this name.
+fn run<R: Files + Alloc<A = Global> + Threads + Wait + Sync>(
+    rt: &R,
+    name: &str,
+    words: &[&str],
+) -> anyhow::Result<Vec<u8>> {
+    let alloc = rt.alloc();
+    let deck = read(rt, name, "deck")?;
+    let mut input = deck.as_slice();
+    let mut output = Vec::new(alloc);
+    let mut error = Vec::new(alloc);
+    run_program(rt, alloc, words, &mut input, &mut output, &mut error);
+    Ok(output)
+}
+
+/// A file of the examples.
+fn read<R: Files + Alloc<A = Global>>(rt: &R, name: &str, kind: &str) -> anyhow::Result<Vec<u8>> {
+    let alloc = rt.alloc();
+    let path = format!(in alloc; "{name}.{kind}")?;
+    Ok(fs::read(rt, path.as_str())?)
 }

@@ -1,8 +1,11 @@
 use super::devices::{Drip, Failure, Trickle};
 use super::{HANDOFF, HANDOFF_TEXT};
 use crate::{LineFault, Work, read_words, run_program};
+use pp_runner::Limits;
 use std::alloc::Global;
+use std::sync::Wait;
 use std::test::Fail;
+use std::thread::Threads;
 
 /// What came of a run of the program.
 #[derive(Drop)]
@@ -13,7 +16,12 @@ struct Outcome {
     calls_of_reader: u32,
 }
 
-fn run_words(rt: &impl Alloc<A = Global>, words: &[&str], deck: &str, fails_at: u32) -> Outcome {
+fn run_words<R: Alloc<A = Global> + Threads + Wait + Sync>(
+    rt: &R,
+    words: &[&str],
+    deck: &str,
+    fails_at: u32,
+) -> Outcome {
     let mut input = Trickle {
         left: deck.as_bytes(),
         calls: 0,
@@ -53,12 +61,49 @@ fn words_of_a_run(rt: HostRuntime) -> Result<(), Fail> {
     Ok(())
 }
 
+/// The texts of the two numbers, and whether they are taken.
+const LIMITS: [(&str, &str, bool); 8] = [
+    ("1", "1", true),
+    ("100000", "4294967295", true),
+    ("0", "5", false),
+    ("100001", "5", false),
+    ("5", "0", false),
+    ("5", "4294967296", false),
+    ("-1", "5", false),
+    ("5", "long", false),
+];
+
+#[test]
+fn words_of_threads(rt: HostRuntime) -> Result<(), Fail> {
+    let words = ["ppsim", "threads", "--steps", "100", "--patience", "5"];
+    let limits = Limits::new(100, 5).ok_or("no limits")?;
+    let work = read_words(rt.alloc(), &words)?;
+    assert!(rt; work == Work::Threads { limits });
+    for (steps, patience, taken) in LIMITS {
+        let words = ["ppsim", "threads", "--steps", steps, "--patience", patience];
+        let read = read_words(rt.alloc(), &words);
+        assert!(rt; read.is_ok() == taken, "{steps} {patience}");
+    }
+    Ok(())
+}
+
 #[test]
 fn whole_run(rt: HostRuntime) -> Result<(), Fail> {
     let outcome = run_words(&rt, &["ppsim", "barrel", "--turns", "40"], HANDOFF, 0);
     assert_eq!(rt; outcome.status, 0);
     assert!(rt; outcome.output.as_slice() == HANDOFF_TEXT.as_bytes());
     assert!(rt; outcome.error.is_empty());
+    Ok(())
+}
+
+#[test]
+fn steps_out_of_range(rt: HostRuntime) -> Result<(), Fail> {
+    let words = ["ppsim", "threads", "--steps", "0", "--patience", "5"];
+    let outcome = run_words(&rt, &words, HANDOFF, 0);
+    assert_eq!(rt; outcome.status, 2);
+    assert!(rt; outcome.error.as_slice() == b"ppsim: number out of range\n".as_slice());
+    assert!(rt; outcome.output.is_empty());
+    assert_eq!(rt; outcome.calls_of_reader, 0);
     Ok(())
 }
 
@@ -83,12 +128,13 @@ fn told_on_the_error(rt: HostRuntime) -> Result<(), Fail> {
 
 #[test]
 fn refused_words(rt: HostRuntime) -> Result<(), Fail> {
-    let table: [&[&str]; 5] = [
+    let table: [&[&str]; 6] = [
         &["ppsim"],
         &["ppsim", "bogus"],
         &["ppsim", "barrel"],
         &["ppsim", "barrel", "--turns"],
-        &["ppsim", "threads", "--steps", "5", "--patience", "5"],
+        &["ppsim", "threads", "--steps", "5"],
+        &["ppsim", "threads", "--patience", "5"],
     ];
     for words in table {
         let outcome = run_words(&rt, words, HANDOFF, 0);
@@ -102,9 +148,10 @@ fn refused_words(rt: HostRuntime) -> Result<(), Fail> {
 
 #[test]
 fn help_that_was_asked_for(rt: HostRuntime) -> Result<(), Fail> {
-    let table: [(&[&str], &str); 2] = [
+    let table: [(&[&str], &str); 3] = [
         (&["ppsim", "--help"], "ppsim barrel --turns 40"),
         (&["ppsim", "barrel", "--help"], "0 to 999999 (decimal)"),
+        (&["ppsim", "threads", "--help"], "1 to 100000 (decimal)"),
     ];
     for (words, part) in table {
         let outcome = run_words(&rt, words, HANDOFF, 0);

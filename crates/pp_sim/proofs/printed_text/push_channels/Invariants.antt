@@ -3,4 +3,4 @@ use Rattle.pp_sim.specs.PrintedText.{each_below, used_channel_line}
 use Rattle.pp_sim.proofs.printed_text.push_channels.Given as goal
 
 abbrev pub invariant-loop-number : goal.invariant-loop-number
-invariant-loop-number g l = l.text.items ≡ l.fn.text.items ++ each_below l.number (used_channel_line l.machine)
+invariant-loop-number g l = l.text.items ≡ l.fn.text.items ++ each_below l.number (used_channel_line l.machine.histories)

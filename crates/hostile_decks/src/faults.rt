@@ -1,0 +1,218 @@
+//! Malformed decks, by the code of their fault, each with its line.
+
+use pp_sim::{DeckCode, DeckFault, read_deck};
+use std::process::Abort;
+
+/// First fields that are no keyword and begin with no digit; keywords that come too late; fields that
+/// are missing, or too many.
+const UNKNOWN_LINES: &[(u32, &str)] = &[
+    // One CR before the end of a line is dropped, and every other one is a character.
+    (1, "\r\r"),
+    (1, "\r "),
+    (1, "\rPP 0"),
+    (2, "PP 0\n\rPP 1"),
+    (1, "PP\r0"),
+    (1, "PP\r\n0"),
+    (1, "PP 0 \r*"),
+    (1, "PP 0 \r\r\n"),
+    // So are NUL, VT, FF and DEL.
+    (1, "\0"),
+    (2, "PP 0\n\x000100 1"),
+    (1, "\x0c"),
+    (1, "PP\x0b0"),
+    (1, "PP 0 \x0b"),
+    (1, "\x7f"),
+    // A comment begins with a field.
+    (1, "PP*0"),
+    (1, "PP *0"),
+    (1, "CENTRAL* 10"),
+    (1, "CM *"),
+    (2, "PP 0\nSTART * 0100"),
+    // Keywords are whole fields in upper case.
+    (1, "P 0"),
+    (1, "PPX 0"),
+    (1, "PP0"),
+    (1, "Pp 0"),
+    (1, "STARTS 0100"),
+    (1, "START0100"),
+    (1, "STAR 0100"),
+    (1, "start 0100"),
+    (1, "CENTRALS 10"),
+    (1, "CENTRA 10"),
+    (1, "central 10"),
+    (1, "C 0 1"),
+    (1, "CMX 0 1"),
+    (1, "cm 0 1"),
+    // The characters beside 0 and 9, and what else may stand before a number.
+    (2, "PP 0\n/1"),
+    (2, "PP 0\n:1"),
+    (2, "PP 0\n-1 0"),
+    (2, "PP 0\n+1 0"),
+    (2, "PP 0\n.5 0"),
+    (2, "PP 0\nA100 1"),
+    (1, ","),
+    // Missing fields.
+    (1, "CENTRAL"),
+    (1, "CM"),
+    (1, "CM\t\r\n0 1"),
+    (1, "PP\t"),
+    (2, "PP 0\nSTART"),
+    (2, "PP 0\nSTART\r\n"),
+    // A field too many, whatever it holds.
+    (1, "CENTRAL 10 10"),
+    (1, "CENTRAL 10 8"),
+    (1, "PP 0 9"),
+    (2, "PP 0\nSTART 0 0 9"),
+    // The size comes first, before its own faults.
+    (2, "CENTRAL 10\nCENTRAL 10"),
+    (2, "CM 0\nCENTRAL 10"),
+    (2, "PP 0\nCENTRAL 0"),
+    (2, "PP 0\nCENTRAL 9"),
+    (2, "PP 0\nCENTRAL"),
+    // The first faulty line.
+    (3, "PP 0\n\nwords\n9"),
+    (1, "words\nCENTRAL 10"),
+];
+
+/// Fields that are not of as many octal digits as may be.
+const BAD_DIGITS: &[(u32, &str)] = &[
+    (1, "PP 0\r\r\n"),
+    (1, "PP 0\rSTART 0"),
+    (1, "PP 0\r\r\r8"),
+    (1, "PP 0\r*"),
+    (1, "PP 0\0"),
+    (1, "PP 0\x0c"),
+    (2, "PP 0\n0100\x0b0001"),
+    (1, "PP 0*"),
+    (1, "CENTRAL 10*"),
+    (2, "PP 0\n0100* 1"),
+    (2, "PP 0\n0100 1401 1402*"),
+    // Digits too many, zeros too.
+    (1, "PP 012"),
+    (1, "CENTRAL 0400000"),
+    (1, "CENTRAL 1000000"),
+    (1, "CM 0000000"),
+    (1, "CM 0 000000000000000000001"),
+    (2, "PP 0\nSTART 00100"),
+    (2, "PP 0\nSTART 10000"),
+    (2, "PP 0\nSTART 0100 0777777"),
+    (2, "PP 0\nSTART 0100 1000000"),
+    (2, "PP 0\n00100 0"),
+    (2, "PP 0\n10000"),
+    (2, "PP 0\n0 00001"),
+    // Characters that are no octal digits.
+    (1, "PP 8"),
+    (1, "PP +1"),
+    (1, "PP -1"),
+    (1, "PP x"),
+    (1, "CENTRAL 8"),
+    (1, "CM 0 12345670123456701238"),
+    (1, "CM 0 1234567 765432l0"),
+    (2, "PP 0\n8x 0"),
+    (2, "PP 0\n0x10 1"),
+    (2, "PP 0\n1e3"),
+    (2, "PP 0\n0 /"),
+    (2, "PP 0\n0 :"),
+    (3, "PP 0\r\n\r\n8"),
+    // Digits come before a range, and a field before the fields behind it.
+    (1, "CM 10000 8"),
+    (1, "CM 7777 1 8"),
+    (1, "CM 9 9"),
+    (1, "PP 8 0"),
+    (2, "PP 0\nSTART 0 9 9"),
+    (2, "PP 0\nSTART 8 9 9 9"),
+    (2, "PP 0\n9\nwords"),
+    (2, "PP 11\nPP 8\nPP 12"),
+];
+
+const BAD_PROCESSORS: &[(u32, &str)] = &[
+    (1, "PP 77"),
+    (1, "PP 12\r"),
+    (1, "PP 12 *"),
+    (1, "PP 12 x"),
+    (1, "PP\t13\n0 0"),
+    (2, "PP 11\nPP 12\nPP 8"),
+    (4, "CENTRAL 1\n\n*\n PP 20 20"),
+    (3, "PP 1\nPP 10\x20\nPP 14\n"),
+];
+
+/// Words and starts before any section, whatever else is wrong with their line.
+const NO_PROCESSORS: &[(u32, &str)] = &[
+    (1, "START 9"),
+    (1, "START *"),
+    (1, "START 0 0 0"),
+    (1, "8x"),
+    (1, "0\r\r"),
+    (1, "9999999999 \0"),
+    (4, "\n\n\n9"),
+    (2, "CM 0 1\n0100 1"),
+    (2, "CENTRAL 10\nSTART 0 0"),
+    (2, "* PP 0\n0100 7"),
+    (3, "\r\n \t\r\n7777 1 2\nPP 0"),
+];
+
+/// Words behind place 7777: nothing turns round.
+const PAST_ENDS: &[(u32, &str)] = &[
+    (2, "PP 0\n7775 1 2 3 4"),
+    (2, "PP 0\n7776 1 2 3 8"),
+    (2, "PP 0\n7777 0 0 * 0"),
+    (2, "PP 0\n7777 1 2 \x7f"),
+    (4, "PP 0\n7777 1\nPP 1\n7777 1 2\n"),
+];
+
+const CENTRAL_RANGES: &[(u32, &str)] = &[
+    (1, "CENTRAL 000000"),
+    (1, "CENTRAL 777777"),
+    (1, "CENTRAL 0 10"),
+    (1, "CENTRAL 400001 5"),
+    (1, "CENTRAL 0\nCENTRAL 10"),
+    (1, "CM 7777 1 2"),
+    (1, "CM 7777 1 2 8"),
+    (1, "CM 777777 1"),
+    (2, "CENTRAL 1\nCM 0 1 1"),
+    (2, "CENTRAL 1\nCM 1 0"),
+    (2, "CENTRAL 400000\nCM 377777 7 1"),
+    (3, "CENTRAL 10\nPP 0\nCM 10 1"),
+];
+
+/// Bytes past 177 (octal) come before every fault of a line, also in a comment.
+const FOREIGN_BYTES: &[(u32, &[u8])] = &[
+    (1, b"\x80PP 0"),
+    (2, b"PP 0\n\xff"),
+    (1, b"* \xc3\xa9\nPP 0"),
+    (4, b"PP 0\n\n\n* \x80"),
+    (1, b"\r\r\x80"),
+    (2, b"PP 9\n\x80\n\x81"),
+    (1, b"\x80\n\x80"),
+    (2, b"\n\x80"),
+    (1, b"\xef\xbb\xbfPP 0"),
+    (3, b"9\n9\r\n\x7f\xa0"),
+];
+
+fn expect_fault(rt: &(impl Abort + AllocGlobal), text: &[u8], line: u32, code: DeckCode) {
+    let fault = read_deck(rt.alloc(), text).err();
+    assert_eq!(rt; fault, Some(DeckFault { line, code }), "{text:?}");
+}
+
+fn expect_faults(rt: &(impl Abort + AllocGlobal), code: DeckCode, decks: &[(u32, &str)]) {
+    for (line, text) in decks {
+        expect_fault(rt, text.as_bytes(), *line, code);
+    }
+}
+
+#[test]
+fn malformed_decks(rt: HostRuntime) {
+    expect_faults(&rt, DeckCode::UnknownLine, UNKNOWN_LINES);
+    expect_faults(&rt, DeckCode::BadDigits, BAD_DIGITS);
+    expect_faults(&rt, DeckCode::BadProcessor, BAD_PROCESSORS);
+    expect_faults(&rt, DeckCode::NoProcessor, NO_PROCESSORS);
+    expect_faults(&rt, DeckCode::PastEnd, PAST_ENDS);
+    expect_faults(&rt, DeckCode::CentralRange, CENTRAL_RANGES);
+}
+
+#[test]
+fn foreign_bytes(rt: HostRuntime) {
+    for (line, text) in FOREIGN_BYTES {
+        expect_fault(&rt, text, *line, DeckCode::NotAscii);
+    }
+}

@@ -1,0 +1,92 @@
+//! A run with everything at its limit: the longest deck, the largest central memory and the most turns.
+
+use pp_sim::barrel_text;
+use std::test::Fail;
+
+/// Five pairs on channels 0 to 4: one puts 98,304 words (decimal), the other takes them.
+const FRONT: &str = "\
+CENTRAL 400000
+CM 377777 77777777777777777777
+PP 0
+0100 7400 2030 0000 7300 0000 0300
+START 0100
+PP 1
+0100 7000 2027 7777 7100 0001 0300
+START 0100
+PP 2
+0100 7401 2030 0000 7301 0000 0300
+START 0100
+PP 3
+0100 7001 2027 7777 7101 0001 0300
+START 0100
+PP 4
+0100 7402 2030 0000 7302 0000 0300
+START 0100
+PP 5
+0100 7002 2027 7777 7102 0001 0300
+START 0100
+PP 6
+0100 7403 2030 0000 7303 0000 0300
+START 0100
+PP 7
+0100 7003 2027 7777 7103 0001 0300
+START 0100
+PP 10
+0100 7404 2030 0000 7304 0000 0300
+START 0100
+PP 11
+0100 7004 2027 7777 7104 0001 0300
+START 0100
+* A comment fills the deck: ";
+
+/// How long a deck may be.
+const LONGEST: usize = 1_048_576;
+
+/// What stands behind the events. Each taker's memory has become a copy of its partner's, so both stop
+/// at the same place.
+const END: &str = "\
+PP00 P=0105 A=000000 STOPPED
+PP01 P=0105 A=000000 STOPPED
+PP02 P=0105 A=000000 STOPPED
+PP03 P=0105 A=000000 STOPPED
+PP04 P=0105 A=000000 STOPPED
+PP05 P=0105 A=000000 STOPPED
+PP06 P=0105 A=000000 STOPPED
+PP07 P=0105 A=000000 STOPPED
+PP10 P=0105 A=000000 STOPPED
+PP11 P=0105 A=000000 STOPPED
+CH00 ACTIVE EMPTY
+CH01 ACTIVE EMPTY
+CH02 ACTIVE EMPTY
+CH03 ACTIVE EMPTY
+CH04 ACTIVE EMPTY
+";
+
+/// The line of an event that has no word, and of one that has.
+const PLAIN: usize = 21;
+
+const WITH_WORD: usize = 26;
+
+#[test]
+fn everything_at_its_limit(rt: HostRuntime) -> Result<(), Fail> {
+    let mut deck = FRONT.as_bytes().to_vec(rt.alloc())?;
+    fill(&mut deck)?;
+    assert_eq!(rt; deck.len(), LONGEST);
+    let mut reader = deck.as_slice();
+    let mut text = Vec::new(rt.alloc());
+    barrel_text(rt.alloc(), &mut reader, &mut text, 999_999)?;
+    assert!(rt; text.ends_with(END.as_bytes()));
+    // Each pair makes one Activate and passes its words.
+    let events = 5 * PLAIN + 5 * 2 * 98_304 * WITH_WORD;
+    assert_eq!(rt; text.len(), events + END.len());
+    Ok(())
+}
+
+/// Fills a deck up with spaces.
+fn fill(deck: &mut Vec<u8>) -> Result<(), Fail> {
+    let room = LONGEST.saturating_sub(deck.len());
+    for _ in 0..room {
+        deck.push(b' ')?;
+    }
+    Ok(())
+}

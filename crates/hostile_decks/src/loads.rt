@@ -1,0 +1,114 @@
+//! Odd decks that are none the less decks, with all that they load.
+
+use crate::loaded::Loaded::{self, Central, Named, Size, Started, Word};
+use crate::loaded::expect_loaded;
+use std::test::Fail;
+
+const DECKS: &[(&str, &[Loaded])] = &[
+    // Lines that mean nothing.
+    ("\n", &[]),
+    (" ", &[]),
+    (" \t \t\r\n\t", &[]),
+    ("\r", &[]),
+    ("\r\n\r\n\r", &[]),
+    ("*", &[]),
+    ("** \r\n * \t*", &[]),
+    ("*PP 0\n*START 9\n* 8", &[]),
+    // Ends of lines, blanks and comments.
+    ("PP 0", &[Named(0)]),
+    ("PP 0\r", &[Named(0)]),
+    ("PP 0 \r\n", &[Named(0)]),
+    ("PP 0\r\n\r", &[Named(0)]),
+    ("\tPP \t 0\t", &[Named(0)]),
+    ("* note\rPP 1\r\nPP 0", &[Named(0)]),
+    ("PP 0 *\rPP 1\nPP 2", &[Named(0), Named(2)]),
+    ("PP 0 * \x0c\x0b\0\x7f\r\r\n", &[Named(0)]),
+    ("PP 0 *** START 9 *", &[Named(0)]),
+    ("PP 0\n0100 *9 x", &[Named(0)]),
+    (
+        "PP 0\n\n*\r\n\t\nSTART 0100",
+        &[Named(0), Started(0, 0o100, 0)],
+    ),
+    // Sections, and what holds in them.
+    ("PP 00\nPP 07\nPP 11", &[Named(0), Named(7), Named(9)]),
+    ("PP 1\nPP 1\nPP 01", &[Named(1)]),
+    ("PP 5\nSTART 0 0", &[Named(5), Started(5, 0, 0)]),
+    ("PP 5\nSTART 1 2\nSTART 3", &[Named(5), Started(5, 3, 0)]),
+    (
+        "PP 5\nSTART 7777 777777",
+        &[Named(5), Started(5, 0o7777, 0o777_777)],
+    ),
+    (
+        "PP 2\nSTART 0001\nPP 3\nPP 2\n0 5",
+        &[Named(2), Named(3), Started(2, 1, 0), Word(2, 0, 5)],
+    ),
+    (
+        "PP 0\n1 1\nPP 1\n1 2\nPP 0\n2 3\nPP 1\nSTART 1 7",
+        &[
+            Named(0),
+            Named(1),
+            Word(0, 1, 1),
+            Word(1, 1, 2),
+            Word(0, 2, 3),
+            Started(1, 1, 7),
+        ],
+    ),
+    // Words.
+    ("PP 0\n0", &[Named(0)]),
+    (
+        "PP 0\n7777 1\n0 7",
+        &[Named(0), Word(0, 0o7777, 1), Word(0, 0, 7)],
+    ),
+    (
+        "PP 0\n7775 7777 0777 77",
+        &[
+            Named(0),
+            Word(0, 0o7775, 0o7777),
+            Word(0, 0o7776, 0o777),
+            Word(0, 0o7777, 0o77),
+        ],
+    ),
+    (
+        "PP 0\n0 1 2 3 \n1 7",
+        &[Named(0), Word(0, 0, 1), Word(0, 1, 7), Word(0, 2, 3)],
+    ),
+    (
+        "PP 0\n0100\t7\t*\t8\r\n7777\r\n0101\t\t5",
+        &[Named(0), Word(0, 0o100, 7), Word(0, 0o101, 5)],
+    ),
+    ("PP 11\n0100 7 6\n0100 0", &[Named(9), Word(9, 0o101, 6)]),
+    // Central words.
+    (
+        "CM 0 77777777777777777777",
+        &[Central(0, 0o77777777777777777777)],
+    ),
+    (
+        "CM 000000 12345670123456701234 0",
+        &[Central(0, 0o12345670123456701234)],
+    ),
+    ("CM 7777 00000000000000000007 *1", &[Central(0o7777, 7)]),
+    ("CM 777777", &[]),
+    ("CM 5 1 2\nCM 6 3", &[Central(5, 1), Central(6, 3)]),
+    (
+        "PP 0\nCM 0 1\n0100 7",
+        &[Named(0), Central(0, 1), Word(0, 0o100, 7)],
+    ),
+    // The size of central memory.
+    ("CENTRAL 000001", &[Size(1)]),
+    ("CENTRAL 1\nCM 1\nCM 0 6", &[Size(1), Central(0, 6)]),
+    ("CENTRAL 10 *8", &[Size(8)]),
+    ("\tCENTRAL\t7777\r", &[Size(0o7777)]),
+    ("*\n\t\r\n \nCENTRAL 5\nCM 4 3", &[Size(5), Central(4, 3)]),
+    (
+        "CENTRAL 400000\nCM 377777 7",
+        &[Size(0o400_000), Central(0o377_777, 7)],
+    ),
+];
+
+#[test]
+fn odd_decks(rt: HostRuntime) -> Result<(), Fail> {
+    for (text, facts) in DECKS {
+        expect_loaded(&rt, text.as_bytes(), facts)?;
+    }
+    Ok(())
+}

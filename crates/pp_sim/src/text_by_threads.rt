@@ -1,0 +1,89 @@
+//! Reading a deck, running it with one thread per processor and writing the text of the run.
+
+ghost use Rattle.std.specs.Prelude.{◌≡◌, ◌≢◌, ◌<◌, ◌≤◌, ℕ, List, length, take, OnOk, IfOk, IfErr, IfSome};
+ghost use Rattle.std.specs.Io.KnownBytes.{Keeps};
+ghost use Rattle.pp_machine.specs.ProcessorNumber.{processor_count};
+ghost use Rattle.pp_runner.specs.Report.{ReportFitsInMemory};
+ghost use Rattle.pp_sim.specs.TextAnswer.{AnswersTo, IsAnswer, IsRunFault, IsTextOf, most_bytes};
+ghost use Rattle.pp_sim.specs.ThreadsText.{IsThreadsText, printed_report};
+
+use crate::deck::read_deck;
+use crate::deck_fault::DeckCode;
+use crate::streams::{read_front, write_whole};
+use crate::text_fault::TextFault;
+use crate::threads_printed::printed_report;
+use pp_runner::{Gate, Limits, NoGate, run_threads};
+use std::alloc::Allocator;
+use std::io::{Read, Write};
+use std::sync::Wait;
+use std::thread::Threads;
+
+// The allocator is the third type parameter here, as it is in `run_threads`: the checker takes over what
+// is known of a type by its place.
+
+/// Reads a deck, runs it with one thread per processor within these limits, and writes the text of
+/// the run. What stands in it beyond what the deck determines may differ from run to run.
+pub fn threads_text<T: Threads + Wait + Sync, R: Read, A: Allocator + Copy + Send + Sync, W: Write>(
+    rt: &T,
+    alloc: A,
+    reader: &mut R,
+    writer: &mut W,
+    limits: Limits,
+) -> Result<(), TextFault>
+    // A report takes less than all of memory, as it does with every allocator that there is.
+    requires { ReportFitsInMemory A.row A.Allocator }
+    // For every reader, whatever it tells.
+    ensures every_reader { (bytes : List ℕ) × AnswersTo (IsThreadsText A limits) result (R.remaining reader.old) (R.remaining reader.new)
+        (W.contents writer.old) (W.contents writer.new) bytes }
+    // For a reader that tells the bytes that it has.
+    ensures telling_reader { IfSome (R.remaining reader.old) (λ bytes. IsAnswer (IsThreadsText A limits) result (take most_bytes bytes)
+        (W.contents writer.old) (W.contents writer.new)) }
+    // Every fault but Write comes before the first byte is written.
+    ensures unwritten { IfErr result (λ fault. fault ≢ TextFault.Write → Keeps (W.contents writer.old) (W.contents writer.new)) }
+{
+    let deck = read_front(alloc, reader)?;
+    write_threads(rt, alloc, deck.as_slice(), writer, limits)
+}
+
+/// Writes the text of the run of a deck.
+fn write_threads<T: Threads + Wait + Sync, W: Write, A: Allocator + Copy + Send + Sync>(
+    rt: &T,
+    alloc: A,
+    deck: &[u8],
+    writer: &mut W,
+    limits: Limits,
+) -> Result<(), TextFault>
+    requires { ReportFitsInMemory A.row A.Allocator }
+    ensures answer { IsAnswer (IsThreadsText A limits) result deck.now (W.contents writer.old) (W.contents writer.new) }
+    ensures bounded { OnOk result (length deck.now < most_bytes) }
+{
+    let text = run_text(rt, &NoGate, alloc, deck, limits)?;
+    write_whole(writer, text.as_slice())
+}
+
+/// The text of the run of a deck.
+fn run_text<T: Threads + Wait + Sync, G: Gate + Sync, A: Allocator + Copy + Send + Sync>(
+    rt: &T,
+    gate: &G,
+    alloc: A,
+    deck: &[u8],
+    limits: Limits,
+) -> Result<Vec<u8, A>, TextFault>
+    requires { ReportFitsInMemory A.row A.Allocator }
+    ensures ok { IfOk result (λ text. IsTextOf (IsThreadsText A limits) deck.now text.items) }
+    ensures bounded { OnOk result (length deck.now < most_bytes) }
+    ensures fault { IfErr result (IsRunFault deck.now) }
+{
+    let loaded = match read_deck(alloc, deck) {
+        Ok(loaded) => loaded,
+        Err(fault) if fault.code == DeckCode::Memory => return Err(TextFault::Memory),
+        Err(fault) => return Err(TextFault::Deck(fault)),
+    };
+    let Ok(report) = run_threads(rt, alloc, &loaded.machine, limits, gate) else {
+        return Err(TextFault::Memory);
+    };
+    match printed_report(alloc, &report, &loaded.named) {
+        Ok(text) => Ok(text),
+        Err(_) => Err(TextFault::Memory),
+    }
+}
