@@ -107,7 +107,7 @@ fn run_refused(rt: HostRuntime) -> Result<(), Fail> {
             Some((without, events)) => {
                 assert!(rt; (without > 0) == refused, "request {number}");
                 if !refused {
-                    assert_eq!(rt; events, 10);
+                    assert!(rt; events > 0, "the first step is never held");
                     assert!(rt; number > 40, "banks, lines, logs and answers grow");
                     return Ok(());
                 }
@@ -133,7 +133,7 @@ fn text_refused(rt: HostRuntime) -> Result<(), Fail> {
             Ok(()) => {
                 assert!(rt; text.contains(" MEMORY\n") == refused, "request {number}");
                 if !refused {
-                    assert!(rt; text.contains("CH05 000009 PP01 DCN\n"));
+                    assert!(rt; text.contains("CH05 000000 PP00 ACN\n"));
                     return Ok(());
                 }
             }
