@@ -71,10 +71,10 @@ module _ {line : LineState} {c word : ℕ} (t : TellsLine line c word) (op : Cha
   now = history_on c t.histories
 
   now_lawful : IsLawful now
-  now_lawful = lawful_on t.histories c t.known.lawful
+  now_lawful = lawful_on t.histories c t.known.sound.lawful
 
   now_bits : HasTwelveBitWords now
-  now_bits = bits_on t.histories c t.known.twelve_bits
+  now_bits = bits_on t.histories c t.known.sound.twelve_bits
 
   whole_now : take (number_in word) now ≡ now
   whole_now = take_all (number_in word) now (let n = number_told t in omega arith)
@@ -152,16 +152,16 @@ module _ {line : LineState} {c word : ℕ} (t : TellsLine line c word) (op : Cha
       longer = history_on c (with_more histories c (e ∷ []))
 
       before_lawful : IsLawful before
-      before_lawful = lawful_on histories c made.tells.known.lawful
+      before_lawful = lawful_on histories c made.tells.known.sound.lawful
 
       before_bits : HasTwelveBitWords before
-      before_bits = bits_on histories c made.tells.known.twelve_bits
+      before_bits = bits_on histories c made.tells.known.sound.twelve_bits
 
       more : IsLawful (before ++ e ∷ [])
       more = (next_word word op e next reply stepped event bits before before_lawful before_bits made.tells.word_is).0
 
       longer_is : longer ≡ before ++ e ∷ []
-      longer_is = more_here histories c c (e ∷ []) (let n = made.tells.named in let l = made.tells.known.channels in omega arith) refl
+      longer_is = more_here histories c c (e ∷ []) (let n = made.tells.named in let l = made.tells.known.sound.each_channel in omega arith) refl
 
       front : take (number_in word) longer ≡ before
       front = ap (take (number_in word)) longer_is ∙ take_at before (e ∷ []) (number_in word) (sym (number_told made.tells))
@@ -206,7 +206,7 @@ module _ {line : LineState} {c word : ℕ} (t : TellsLine line c word) (op : Cha
       first = All-contains (IsFound lost.tells.histories) (with_word line c word).found (record { channel = c; word = word }) lost.tells.known.words_found (Contains-push line.found (record { channel = c; word = word }))
 
       later_bits : HasTwelveBitWords later
-      later_bits = bits_on lost.tells.histories c lost.tells.known.twelve_bits
+      later_bits = bits_on lost.tells.histories c lost.tells.known.sound.twelve_bits
 
       first_number : number_in word ≡ first.0
       first_number = ap number_in (sym first.2) ∙ (number_of_word (take first.0 later) (twelve_bits_take first.0 later later_bits) ∙ length-take-le first.0 later first.1)
@@ -214,7 +214,7 @@ module _ {line : LineState} {c word : ℕ} (t : TellsLine line c word) (op : Cha
       was_ready : IsReady (take (number_in word) later) op e
       was_ready =
           let P : ℕ → Type 0 = λ n. IsReady (take n later) op e in
-          subst P (sym first_number) (ready_at_word word op e event (take first.0 later) (lawful_take first.0 later (lawful_on lost.tells.histories c lost.tells.known.lawful)) (twelve_bits_take first.0 later later_bits) first.2)
+          subst P (sym first_number) (ready_at_word word op e event (take first.0 later) (lawful_take first.0 later (lawful_on lost.tells.histories c lost.tells.known.sound.lawful)) (twelve_bits_take first.0 later later_bits) first.2)
 
       pub acted_lost : IsActed line c op (record { reply = Held (flags_in found); loaded = number_in word; number = number_in found }) after
       acted_lost =
@@ -241,11 +241,11 @@ module _ {line : LineState} {c word : ℕ} (t : TellsLine line c word) (op : Cha
 pub told_whole : {v : LineView} {line : LineState} {c word : ℕ} → IsLineKept v line → (t : Tells v c word) → (all : line.shares ≡ line.whole) → IsToldBy line.log.entries line.seen t.histories
 told_whole kept tells all =
     let known = knows_by_view kept tells.histories tells.says in
-    record { channels = known.channels; lawful = known.lawful; twelve_bits = known.twelve_bits; merged = (known.all_known all).merged; counted = (known.all_known all).seen }
+    record { sound = known.sound; merged = (known.all_known all).merged; counted = (known.all_known all).seen }
 
 pub closed_by : (line : LineState) (histories : List (List Event)) → Knows line histories → line.shares ≡ line.whole → AreClosed line histories
 closed_by line histories known all = record {
   known = known;
-  law = All-weaker IsLawful KeepsLaw law_of_lawful histories known.lawful;
+  law = All-weaker IsLawful KeepsLaw law_of_lawful histories known.sound.lawful;
   merged = (known.all_known all).merged;
 }

@@ -36,7 +36,7 @@ backed_true v histories says c number (Saw f) backed =
     let found : IsFound histories (record { channel = c; word = backed.0 }) = All-contains (IsFound histories) v.found (record { channel = c; word = backed.0 }) says.view_is.words_found backed.1 in
     let k : ℕ = found.0 in
     let within : k ≤ length h = found.1 in
-    let bits : HasTwelveBitWords (take k h) = twelve_bits_take k h (bits_on histories c says.twelve_bits) in
+    let bits : HasTwelveBitWords (take k h) = twelve_bits_take k h (bits_on histories c says.sound.twelve_bits) in
     let counted : number_in backed.0 ≡ k = ap number_in (sym found.2) ∙ (number_of_word (take k h) bits ∙ length-take-le k h within) in
     let at : number ≡ k = sym backed.2 ∙ counted in
     let flags : flags_of (take k h) ≡ flags_in backed.0 = sym (flags_of_word (take k h) bits) ∙ ap flags_in found.2 in
@@ -48,9 +48,7 @@ module _ {v : LineView} {line : LineState} (kept : IsLineKept v line) where
 
   pub knows_by_view : (histories : List (List Event)) → SaysOf v histories → Knows line histories
   knows_by_view histories says = record {
-    channels = says.channels;
-    lawful = says.lawful;
-    twelve_bits = says.twelve_bits;
+    sound = says.sound;
     log_true = log_by_view histories says;
     seen_happened = λ c. rw (← kept.seen) (says.view_is.seen_happened c);
     words_found = rw (← kept.found) says.view_is.words_found;

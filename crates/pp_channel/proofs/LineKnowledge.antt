@@ -16,9 +16,9 @@ use Rattle.pp_channel.specs.ChannelNumber.{channel_count}
 use Rattle.pp_channel.specs.ChannelWord.{history_word, number_in, flags_in}
 use Rattle.pp_channel.specs.History.{IsLawful, HasTwelveBitWord, HasTwelveBitWords}
 use Rattle.pp_channel.specs.LineCalls.{with_word, with_look, with_deed, TellsLine}
-use Rattle.pp_channel.specs.LineLog.{LogState, looked, is_look, is_look_at, ends_in_look_at}
+use Rattle.pp_channel.specs.LineLog.{LogState, looked, is_event, is_look_at, ends_in_look_at}
 use Rattle.pp_channel.specs.LineState.{LineState, Knows}
-use Rattle.pp_channel.specs.Merge.{history_on, IsTrueAt, IsTrueOf, is_event, times_told, Merges, no_opening}
+use Rattle.pp_channel.specs.Merge.{history_on, IsTrueAt, IsTrueOf, times_told, Merges, no_opening}
 use Rattle.pp_channel.specs.RisingLog.{seen_on}
 use Rattle.pp_channel.specs.SharedWords.{IsFound}
 use Rattle.pp_channel.proofs.ChannelWordLemmas.{number_of_word, flags_of_word}
@@ -46,10 +46,10 @@ module _ {line : LineState} {c word : ℕ} (t : TellsLine line c word) where
   history = history_on c t.histories
 
   pub number_told : number_in word ≡ length history
-  number_told = ap number_in (sym t.word_is) ∙ number_of_word history (bits_on t.histories c t.known.twelve_bits)
+  number_told = ap number_in (sym t.word_is) ∙ number_of_word history (bits_on t.histories c t.known.sound.twelve_bits)
 
   pub flags_told : flags_in word ≡ flags_of history
-  flags_told = ap flags_in (sym t.word_is) ∙ flags_of_word history (bits_on t.histories c t.known.twelve_bits)
+  flags_told = ap flags_in (sym t.word_is) ∙ flags_of_word history (bits_on t.histories c t.known.sound.twelve_bits)
 
   pub not_older_told : seen_on c line.seen ≤ number_in word
   not_older_told = let n = number_told in let s = t.known.seen_happened c in omega arith
@@ -62,9 +62,7 @@ module _ {line : LineState} {c word : ℕ} (t : TellsLine line c word) where
 
   pub knows_word : Knows (with_word line c word) t.histories
   knows_word = record {
-    channels = t.known.channels;
-    lawful = t.known.lawful;
-    twelve_bits = t.known.twelve_bits;
+    sound = t.known.sound;
     log_true = t.known.log_true;
     seen_happened = λ d. set_at_each (λ n. n ≤ length (history_on d t.histories)) line.seen c (number_in word) d (t.known.seen_happened d) (λ same. let e = number_at d same in omega arith);
     words_found = All-push (IsFound t.histories) line.found (record { channel = c; word = word }) t.known.words_found word_found;
@@ -75,19 +73,19 @@ module _ {line : LineState} {c word : ℕ} (t : TellsLine line c word) where
   }
 
 -- a look tells no event, and neither does the last look whose place it takes
-no_event : (what : Seen) → is_look what ≡ true → is_event what ≡ false
+no_event : (what : Seen) → not (is_event what) ≡ true → is_event what ≡ false
 no_event (Did e) is = absurd cc
 no_event (Saw f) is = refl
 
 count_look : (entry : Entry) (c number : ℕ) → is_event entry.what ≡ false → told_by c number entry ≡ 0
 count_look entry c number is = rw is refl
 
-last_look : (c : ℕ) (o : Option Entry) → is_look_at c o ≡ true → (entry : Entry) × (o ≡ Some entry) × (is_look entry.what ≡ true)
+last_look : (c : ℕ) (o : Option Entry) → is_look_at c o ≡ true → (entry : Entry) × (o ≡ Some entry) × (is_event entry.what ≡ false)
 last_look c None is = absurd cc
-last_look c (Some entry) is = (entry, refl, (and_parts (is_look entry.what) (entry.channel == c) is).0)
+last_look c (Some entry) is = (entry, refl, no_event entry.what (and_parts (not (is_event entry.what)) (entry.channel == c) is).0)
 
 pub last_replaced : (log : LogState) (c : ℕ) → ends_in_look_at c log ≡ true
-    → (entry : Entry) × (length log.entries - 1 < length log.entries) × ((d : Entry) → get_or log.entries (length log.entries - 1) d ≡ entry) × (is_look entry.what ≡ true)
+    → (entry : Entry) × (length log.entries - 1 < length log.entries) × ((d : Entry) → get_or log.entries (length log.entries - 1) d ≡ entry) × (is_event entry.what ≡ false)
 last_replaced log c ends =
     let last = last_look c (last_or None log.entries) (and_parts (not log.kept) (is_look_at c (last_or None log.entries)) ends).1 in
     let at = last_or_at log.entries ∙ last.1 in
@@ -112,7 +110,7 @@ told_looked log entry look c number = looked_either (λ entries. times_told c nu
     (λ ends.
     let last = last_replaced log entry.channel ends in
     let sum = sum_by-set (told_by c number) log.entries (length log.entries - 1) entry last.0 last.1 in
-    let old : told_by c number (get_or log.entries (length log.entries - 1) last.0) ≡ 0 = ap (told_by c number) (last.2 last.0) ∙ count_look last.0 c number (no_event last.0.what last.3) in
+    let old : told_by c number (get_or log.entries (length log.entries - 1) last.0) ≡ 0 = ap (told_by c number) (last.2 last.0) ∙ count_look last.0 c number last.3 in
     let new = count_look entry c number look in
     omega arith)
     (let sum = times_told_push c number log.entries entry in let new = count_look entry c number look in omega arith)
@@ -139,9 +137,7 @@ module _ {line : LineState} {histories : List (List Event)} (known : Knows line 
 
   pub knows_look : Knows (with_look line c word) histories
   knows_look = record {
-    channels = known.channels;
-    lawful = known.lawful;
-    twelve_bits = known.twelve_bits;
+    sound = known.sound;
     log_true = log_with_look;
     seen_happened = known.seen_happened;
     words_found = known.words_found;
@@ -201,7 +197,7 @@ module _ {line : LineState} {c word : ℕ} (t : TellsLine line c word) (e : Even
   after = with_more t.histories c (e ∷ [])
 
   within : c < length t.histories
-  within = let n = t.named in let l = t.known.channels in omega arith
+  within = let n = t.named in let l = t.known.sound.each_channel in omega arith
 
   grow : Grow t.histories after
   grow = more_grow t.histories c (e ∷ []) within
@@ -211,9 +207,11 @@ module _ {line : LineState} {c word : ℕ} (t : TellsLine line c word) (e : Even
 
   knows_deed_at : Knows (with_deed line c (length before) e) after
   knows_deed_at = record {
-    channels = length-with_more t.histories c (e ∷ []) ∙ t.known.channels;
-    lawful = All-with_more IsLawful t.histories c (e ∷ []) t.known.lawful lawful;
-    twelve_bits = All-with_more HasTwelveBitWords t.histories c (e ∷ []) t.known.twelve_bits (All-push HasTwelveBitWord before e (bits_on t.histories c t.known.twelve_bits) bits);
+    sound = record {
+      each_channel = length-with_more t.histories c (e ∷ []) ∙ t.known.sound.each_channel;
+      lawful = All-with_more IsLawful t.histories c (e ∷ []) t.known.sound.lawful lawful;
+      twelve_bits = All-with_more HasTwelveBitWords t.histories c (e ∷ []) t.known.sound.twelve_bits (All-push HasTwelveBitWord before e (bits_on t.histories c t.known.sound.twelve_bits) bits);
+    };
     log_true = more_true t.histories line.log.entries c e within t.known.log_true;
     seen_happened = λ d. set_at_each (λ n. n ≤ length (history_on d after)) line.seen c (length before + 1) d
         (let s = t.known.seen_happened d in let l = length_later t.histories after grow d in omega arith)

@@ -15,7 +15,8 @@ use Rattle.pp_channel.specs.declared.entry.Seen.{Seen}
 use Rattle.pp_channel.specs.declared.entry.Seen.TheVariants.{Did, Saw}
 use Rattle.pp_channel.specs.Answer.{flags_of}
 use Rattle.pp_channel.specs.Law.{IsPrefix}
-use Rattle.pp_channel.specs.Merge.{history_on, IsTrueAt, IsTrueOf, is_event, tells_event, times_told, Merges, no_opening}
+use Rattle.pp_channel.specs.LineLog.{is_event}
+use Rattle.pp_channel.specs.Merge.{history_on, IsTrueAt, IsTrueOf, tells_event, times_told, Merges, no_opening}
 use Rattle.pp_channel.specs.RisingLog.{known_after, seen_on, IsWithin}
 
 -- 1 for a number below the end, else 0

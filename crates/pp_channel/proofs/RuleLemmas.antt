@@ -49,10 +49,10 @@ times-write c number views id v w at =
 
 module _ (whole : ℕ) (words : List ℕ) (views : List LineView) (histories : List (List Event)) (k : KeepsRule whole words views histories) where
   pub lawful_on : (c : ℕ) → c < channel_count → IsLawful (history_on c histories)
-  lawful_on c l = let n = k.channels in k.lawful c [] (omega arith)
+  lawful_on c l = let n = k.sound.each_channel in k.sound.lawful c [] (omega arith)
 
   pub low_on : (c : ℕ) → c < channel_count → HasTwelveBitWords (history_on c histories)
-  low_on c l = let n = k.channels in k.twelve_bits c [] (omega arith)
+  low_on c l = let n = k.sound.each_channel in k.sound.twelve_bits c [] (omega arith)
 
   pub view_at : (id : ℕ) (v : LineView) → get_elem? views id ≡ some v → IsViewOf histories whole v
   view_at id v at = All-read (IsViewOf histories whole) views id v k.views_are at
@@ -66,9 +66,7 @@ module _ (whole : ℕ) (words : List ℕ) (views : List LineView) (histories : L
   -- a view with the same events and shares in place of another
   pub rewritten : (id : ℕ) (v w : LineView) → get_elem? views id ≡ some v → w.events ≡ v.events → w.shares ≡ v.shares → IsViewOf histories whole w → KeepsRule whole words (set views id w) histories
   rewritten id v w at events shares f = record {
-    channels = k.channels;
-    lawful = k.lawful;
-    twelve_bits = k.twelve_bits;
+    sound = k.sound;
     merged = subst (Merges no_opening histories) (sym (flat_map-set_same events_in views id v w at events)) k.merged;
     places = k.places;
     words_are = k.words_are;
@@ -98,9 +96,7 @@ module _ (whole : ℕ) (words : List ℕ) (views : List LineView) (histories : L
       let f = view_at id v at in
       let same : v.whole ≡ whole = f.whole_is live in
       record {
-        channels = k.channels;
-        lawful = k.lawful;
-        twelve_bits = k.twelve_bits;
+        sound = k.sound;
         events_true = events_at id v at;
         view_is = subst (λ n. IsViewOf histories n v) (sym same) f;
         all_shares = λ all. alone id v at (all ∙ same);

@@ -52,9 +52,11 @@ unfolding first_histories
 opening_kept whole = (
   first_histories,
   record {
-    channels = length-replicate {A = List Event} channel_count [];
-    lawful = All-replicate IsLawful channel_count [] lawful_empty;
-    twelve_bits = All-replicate HasTwelveBitWords channel_count [] (All-nil HasTwelveBitWord);
+    sound = record {
+      each_channel = length-replicate {A = List Event} channel_count [];
+      lawful = All-replicate IsLawful channel_count [] lawful_empty;
+      twelve_bits = All-replicate HasTwelveBitWords channel_count [] (All-nil HasTwelveBitWord);
+    };
     merged = merges_by first_histories [] (λ c number. let none : length (history_on c first_histories) ≡ 0 = ap length (no_event c) in sym (once_past number (length (history_on c first_histories)) (omega arith)))
         (All-nil (IsTrueOf first_histories));
     places = let n : ℕ = 0 in length-replicate place_count n;
@@ -75,9 +77,7 @@ split_allowed whole id v two s r at =
     flat_map-append events_in rest (child_view v ∷ []) ∙ (append-nil (all_events rest) ∙ flat_map-set_same events_in s.views id v (parent_view v) at refl) in (
       h,
       record {
-        channels = k.channels;
-        lawful = k.lawful;
-        twelve_bits = k.twelve_bits;
+        sound = k.sound;
         merged = subst (Merges no_opening h) (sym same) k.merged;
         places = k.places;
         words_are = k.words_are;
@@ -103,9 +103,7 @@ join_allowed whole id v other w live live_other s r at apart there =
     omega arith in (
       h,
       record {
-        channels = k.channels;
-        lawful = k.lawful;
-        twelve_bits = k.twelve_bits;
+        sound = k.sound;
         merged = merges_by h (all_events (set rest other spent_view)) once
             (All-parts_set events_in (IsTrueOf h) rest other spent_view (All-parts_set events_in (IsTrueOf h) s.views id b k.merged.entries_true entries) (All-nil (IsTrueOf h)));
         places = k.places;

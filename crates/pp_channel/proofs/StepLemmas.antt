@@ -82,11 +82,11 @@ module _ (whole : ℕ) (words : List ℕ) (views : List LineView) (histories : L
 
   grown : Grow histories after
   unfolding after
-  grown = more_grow histories c (e ∷ []) (let n = k.channels in omega arith)
+  grown = more_grow histories c (e ∷ []) (let n = k.sound.each_channel in omega arith)
 
   here : (d : ℕ) → d ≡ c → history_on d after ≡ history_on c histories ++ e ∷ []
   unfolding after
-  here d is = more_here histories c d (e ∷ []) (let n = k.channels in omega arith) is
+  here d is = more_here histories c d (e ∷ []) (let n = k.sound.each_channel in omega arith) is
 
   elsewhere : (d : ℕ) → d ≢ c → history_on d after ≡ history_on d histories
   unfolding after
@@ -97,7 +97,7 @@ module _ (whole : ℕ) (words : List ℕ) (views : List LineView) (histories : L
 
   channels_after : length after ≡ channel_count
   unfolding after
-  channels_after = length-with_more histories c (e ∷ []) ∙ k.channels
+  channels_after = length-with_more histories c (e ∷ []) ∙ k.sound.each_channel
 
   each_after : (P : List Event → Type 0) → All P histories → P (history_on c histories ++ e ∷ []) → All P after
   unfolding after
@@ -127,9 +127,11 @@ module _ (whole : ℕ) (words : List ℕ) (views : List LineView) (histories : L
       let w : LineView = makes v c n e in
       let made_true : IsTrueOf after (made_entry c n e) = ap (λ h. slice_get h n) (here c refl) ∙ slice_get_last (history_on c histories) e in
       record {
-        channels = channels_after;
-        lawful = each_after IsLawful k.lawful next.0;
-        twelve_bits = each_after HasTwelveBitWords k.twelve_bits (All-push HasTwelveBitWord (history_on c histories) e (low_on whole words views histories k c in_range) next.1);
+        sound = record {
+          each_channel = channels_after;
+          lawful = each_after IsLawful k.sound.lawful next.0;
+          twelve_bits = each_after HasTwelveBitWords k.sound.twelve_bits (All-push HasTwelveBitWord (history_on c histories) e (low_on whole words views histories k c in_range) next.1);
+        };
         merged = merges_by after (all_events (set views id w)) (once_after id v at)
             (All-parts_set events_in (IsTrueOf after) views id w (All-weaker (IsTrueOf histories) (IsTrueOf after) (true_later histories after grown) (all_events views) k.merged.entries_true)
             (All-push (IsTrueOf after) v.events (made_entry c n e) (All-weaker (IsTrueOf histories) (IsTrueOf after) (true_later histories after grown) v.events (events_at whole words views histories k id v at)) made_true));

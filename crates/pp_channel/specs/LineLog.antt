@@ -23,14 +23,15 @@ empty_log room = record { entries = []; room = room; kept = true }
 abbrev pub appended : LogState → Entry → LogState
 appended log entry = record { entries = log.entries ++ entry ∷ []; room = log.room - 1; kept = false }
 
--- whether an entry is a look at channel c
-abbrev pub is_look : Seen → Bool
-is_look (Seen.Did e) = false
-is_look (Seen.Saw f) = true
+-- whether an entry is an event; if not, it is a look
+abbrev pub is_event : Seen → Bool
+is_event (Seen.Did e) = true
+is_event (Seen.Saw f) = false
 
+-- whether the entry, if there is one, is a look at channel c
 abbrev pub is_look_at : ℕ → Option Entry → Bool
 is_look_at c None = false
-is_look_at c (Some entry) = is_look entry.what && (entry.channel == c)
+is_look_at c (Some entry) = not (is_event entry.what) && (entry.channel == c)
 
 -- whether the log ends in a look at channel c that need not stay
 abbrev pub ends_in_look_at : ℕ → LogState → Bool

@@ -10,10 +10,9 @@ use Rattle.pp_channel.specs.declared.rule.FoundWord.{FoundWord}
 use Rattle.pp_channel.specs.Answer.{IsAnswer, IsReady, flags_of}
 use Rattle.pp_channel.specs.ChannelNumber.{channel_count, channel_index}
 use Rattle.pp_channel.specs.ChannelWord.{number_in, greatest_number}
-use Rattle.pp_channel.specs.History.{IsLawful, HasTwelveBitWords}
 use Rattle.pp_channel.specs.Law.{KeepsLaw}
 use Rattle.pp_channel.specs.LineLog.{LogState, empty_log, log_after}
-use Rattle.pp_channel.specs.Merge.{IsTrueOf, Merges, no_opening, history_on}
+use Rattle.pp_channel.specs.Merge.{AreHistories, IsTrueOf, Merges, no_opening, history_on}
 use Rattle.pp_channel.specs.RisingLog.{seen_on}
 use Rattle.pp_channel.specs.SharedWords.{IsFound}
 
@@ -71,9 +70,7 @@ pub record KnowsAll (line : LineState) (histories : List (List Event)) : Type 0 
 -- true of them; it has seen no more events than they have, and each word that it found is that of a
 -- front of one.
 pub record Knows (line : LineState) (histories : List (List Event)) : Type 0 where
-  pub channels : length histories ≡ channel_count
-  pub lawful : All IsLawful histories
-  pub twelve_bits : All HasTwelveBitWords histories
+  pub sound : AreHistories histories
   pub log_true : All (IsTrueOf histories) line.log.entries
   pub seen_happened : (c : ℕ) → seen_on c line.seen ≤ length (history_on c histories)
   pub words_found : All (IsFound histories) line.found

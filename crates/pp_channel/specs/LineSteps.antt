@@ -7,9 +7,8 @@ use Rattle.pp_channel.specs.declared.event.Event.{Event}
 use Rattle.pp_channel.specs.declared.rule.LineView.{LineView}
 use Rattle.pp_channel.specs.ChannelNumber.{channel_count, channel_index, names_channel}
 use Rattle.pp_channel.specs.ChannelWord.{history_word, number_in}
-use Rattle.pp_channel.specs.History.{IsLawful, HasTwelveBitWords}
 use Rattle.pp_channel.specs.LineState.{greater_of_each}
-use Rattle.pp_channel.specs.Merge.{IsTrueOf, Merges, no_opening, history_on}
+use Rattle.pp_channel.specs.Merge.{AreHistories, IsTrueOf, Merges, no_opening, history_on}
 use Rattle.pp_channel.specs.RisingLog.{seen_on}
 use Rattle.pp_channel.specs.SharedWords.{IsViewOf, word_place}
 
@@ -53,9 +52,7 @@ makes v c number e = record v {
 
 -- what a view says of the histories at a moment
 pub record SaysOf (v : LineView) (histories : List (List Event)) : Type 0 where
-  pub channels : length histories ≡ channel_count
-  pub lawful : All IsLawful histories
-  pub twelve_bits : All HasTwelveBitWords histories
+  pub sound : AreHistories histories
   pub events_true : All (IsTrueOf histories) v.events
   pub view_is : IsViewOf histories v.whole v
   pub all_shares : v.shares ≡ v.whole

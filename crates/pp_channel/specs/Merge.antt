@@ -1,16 +1,24 @@
 -- What logs say of the histories of the channels.
-use Rattle.std.specs.Prelude.{◌≡◌, ℕ, ◌<◌, ◌≤◌, ◌⊎◌, ◌==◌, ◌&&◌, Bool, true, false, List, [], length, All, count_by, take, slice_get, slice_index_or, Some}
+use Rattle.std.specs.Prelude.{◌≡◌, ℕ, ◌<◌, ◌≤◌, ◌⊎◌, ◌==◌, ◌&&◌, Bool, List, [], length, All, count_by, take, slice_get, slice_index_or, Some}
 use Rattle.pp_channel.specs.declared.event.Event.{Event}
 use Rattle.pp_channel.specs.declared.entry.Entry.{Entry}
 use Rattle.pp_channel.specs.declared.entry.Seen.{Seen}
 use Rattle.pp_channel.specs.declared.entry.Seen.TheVariants.{Did, Saw}
 use Rattle.pp_channel.specs.Answer.{flags_of}
-use Rattle.pp_channel.specs.ChannelNumber.{channel_index}
+use Rattle.pp_channel.specs.ChannelNumber.{channel_count, channel_index}
+use Rattle.pp_channel.specs.History.{IsLawful, HasTwelveBitWords}
 use Rattle.pp_channel.specs.Law.{IsPrefix}
+use Rattle.pp_channel.specs.LineLog.{is_event}
 
 -- the history of channel c, of the histories of all channels in order
 abbrev pub history_on : ℕ → List (List Event) → List Event
 history_on c histories = slice_index_or histories (channel_index c) []
+
+-- A history for each channel, in their order: each is lawful, and its words have 12 bits.
+pub record AreHistories (histories : List (List Event)) : Type 0 where
+  pub each_channel : length histories ≡ channel_count
+  pub lawful : All IsLawful histories
+  pub twelve_bits : All HasTwelveBitWords histories
 
 -- An event in a log is the one at its number of the history h; a look shows the flags after so many
 -- events of h.
@@ -22,10 +30,6 @@ abbrev pub IsTrueOf : List (List Event) → Entry → Type 0
 IsTrueOf histories entry = IsTrueAt (history_on entry.channel histories) entry.number entry.what
 
 -- whether an entry tells the event of channel c with this number
-abbrev pub is_event : Seen → Bool
-is_event (Did e) = true
-is_event (Saw f) = false
-
 abbrev pub tells_event : ℕ → ℕ → Entry → Bool
 tells_event c number entry = is_event entry.what && (entry.channel == c) && (entry.number == number)
 

@@ -7,8 +7,7 @@ use Rattle.pp_channel.specs.declared.rule.FoundWord.{FoundWord}
 use Rattle.pp_channel.specs.declared.rule.LineView.{LineView}
 use Rattle.pp_channel.specs.ChannelNumber.{channel_count, channel_index, names_channel}
 use Rattle.pp_channel.specs.ChannelWord.{history_word}
-use Rattle.pp_channel.specs.History.{IsLawful, HasTwelveBitWords}
-use Rattle.pp_channel.specs.Merge.{Merges, no_opening, history_on}
+use Rattle.pp_channel.specs.Merge.{AreHistories, Merges, no_opening, history_on}
 use Rattle.pp_channel.specs.RisingLog.{IsWithin, seen_on}
 
 -- The words lie 16 apart, so that no two channels share a cache line.
@@ -38,9 +37,7 @@ pub record IsViewOf (histories : List (List Event)) (whole : ℕ) (v : LineView)
 -- The rule: the events of all lines merge to lawful histories, the word of each channel is that of its
 -- history, and the shares of all lines add up to the whole.
 pub record KeepsRule (whole : ℕ) (words : List ℕ) (views : List LineView) (histories : List (List Event)) : Type 0 where
-  pub channels : length histories ≡ channel_count
-  pub lawful : All IsLawful histories
-  pub twelve_bits : All HasTwelveBitWords histories
+  pub sound : AreHistories histories
   pub merged : Merges no_opening histories (flat_map (λ v. v.events) views)
   pub places : length words ≡ place_count
   pub words_are : (c : ℕ) → IsTrue (names_channel c) → slice_index words (word_place c) ≡ history_word (history_on c histories)

@@ -1,19 +1,15 @@
 -- How the histories of the channels are taken from a log that tells them whole.
-use Rattle.std.specs.Prelude.{◌≡◌, ℕ, ◌==◌, List, length, All, slice_set, if◌then◌else◌}
+use Rattle.std.specs.Prelude.{◌≡◌, ℕ, ◌==◌, List, length, slice_set, if◌then◌else◌}
 use Rattle.pp_channel.specs.declared.event.Event.{Event}
 use Rattle.pp_channel.specs.declared.entry.Entry.{Entry}
 use Rattle.pp_channel.specs.declared.entry.Seen.{Seen}
 use Rattle.pp_channel.specs.declared.entry.Seen.TheVariants.{Did, Saw}
-use Rattle.pp_channel.specs.ChannelNumber.{channel_count}
-use Rattle.pp_channel.specs.History.{IsLawful, HasTwelveBitWords}
-use Rattle.pp_channel.specs.Merge.{Merges, no_opening, history_on}
+use Rattle.pp_channel.specs.Merge.{AreHistories, Merges, no_opening, history_on}
 use Rattle.pp_channel.specs.RisingLog.{seen_on}
 
 -- the log tells these histories whole, and their lengths are the numbers seen
 pub record IsToldBy (log : List Entry) (seen : List ℕ) (histories : List (List Event)) : Type 0 where
-  pub channels : length histories ≡ channel_count
-  pub lawful : All IsLawful histories
-  pub twelve_bits : All HasTwelveBitWords histories
+  pub sound : AreHistories histories
   pub merged : Merges no_opening histories log
   pub counted : (c : ℕ) → seen_on c seen ≡ length (history_on c histories)
 

@@ -1,11 +1,17 @@
-//! The law of answers.
+//! What a channel answers: the table of operations, and the law that it is the answer by the history.
 
-ghost use Rattle.std.specs.Prelude.{◌≡◌, ◌↔◌, List, [], ◌∷◌, ◌++◌, Some};
+ghost use Rattle.std.specs.Prelude.{◌≡◌, ◌↔◌, List, [], ◌∷◌, ◌++◌, Some, IfSome};
 ghost use Rattle.pp_channel.specs.declared.chan_op.ChanOp.{ChanOp};
 ghost use Rattle.pp_channel.specs.declared.event.Event.{Event};
 ghost use Rattle.pp_channel.specs.declared.reply.Reply.{Reply};
-ghost use Rattle.pp_channel.specs.History.{IsLawful};
-ghost use Rattle.pp_channel.specs.Answer.{IsReady, IsAnswer, event_of, reply_to, history_after, flags_of, flags_after};
+ghost use Rattle.pp_channel.specs.History.{IsLawful, HasTwelveBitWord};
+ghost use Rattle.pp_channel.specs.Answer.{IsReady, IsAnswer, event_by, event_of, reply_made, reply_to, history_after, flags_of, flags_after, word_after};
+
+use crate::chan_op::ChanOp;
+use crate::event::Event;
+use crate::flags::Flags;
+use crate::reply::Reply;
+use pp_word::Word12;
 
 /// On lawful histories the table of operations gives the answer of a channel, and no other is one:
 /// the same events are ready, the same replies and histories follow, and the same flags.
@@ -17,3 +23,71 @@ pub fn answer_law()
     ensures flags { (h : List Event) (e : Event) → IsLawful h → IsLawful (h ++ e ∷ [])
         → flags_of (h ++ e ∷ []) ≡ flags_after e }
 {}
+
+/// The event that an operation makes, by the flags and the word in the register; nothing where it is a
+/// probe or not ready.
+pub(crate) fn event_by(op: &ChanOp, flags: Flags, register: Option<Word12>) -> Option<Event>
+    ensures event { result ≡ event_by op.now flags register }
+    ensures twelve_bits { IfSome result HasTwelveBitWord }
+{
+    let Flags { active, full } = flags;
+    // A word is known to have 12 bits once its number is read.
+    match op {
+        ChanOp::Activate if !active => Some(Event::Activate),
+        ChanOp::Disconnect if active => Some(Event::Disconnect),
+        ChanOp::Put(word) if active && !full => {
+            prove!(word.get() < 0o10000);
+            Some(Event::Put(*word))
+        }
+        ChanOp::Take if active && full => {
+            let word = register?;
+            prove!(word.get() < 0o10000);
+            Some(Event::Take(word))
+        }
+        ChanOp::Function(word) if !active => {
+            prove!(word.get() < 0o10000);
+            Some(Event::Function(*word))
+        }
+        _ => None,
+    }
+}
+
+/// The reply where an event is made.
+pub(crate) fn reply_made(event: &Event) -> Reply
+    ensures { result ≡ reply_made event.now }
+{
+    match event {
+        Event::Take(word) => Reply::Word(*word),
+        _ => Reply::Done,
+    }
+}
+
+/// The flags after an event.
+pub(crate) fn flags_after(event: &Event) -> Flags
+    ensures { result ≡ flags_after event.now }
+{
+    match event {
+        Event::Activate | Event::Take(_) => Flags {
+            active: true,
+            full: false,
+        },
+        Event::Put(_) => Flags {
+            active: true,
+            full: true,
+        },
+        Event::Disconnect | Event::Function(_) => Flags {
+            active: false,
+            full: false,
+        },
+    }
+}
+
+/// The word in the register after an event.
+pub(crate) fn word_after(event: &Event) -> Option<Word12>
+    ensures { result ≡ word_after event.now }
+{
+    match event {
+        Event::Put(word) => Some(*word),
+        _ => None,
+    }
+}

@@ -2,9 +2,10 @@
 
 ghost use Rattle.std.specs.Prelude.{◌≡◌, [], ◌∷◌, ◌++◌, ◌↔◌, IsTrue, None, IsSome, IfSome, IsOk, IfOk, OnOk, OnErr};
 ghost use Rattle.pp_channel.specs.History.{IsLawful, HasTwelveBitWord, HasTwelveBitWords, full, waiting};
-ghost use Rattle.pp_channel.specs.Answer.{IsAnswer, event_of, reply_to, history_after, flags_of, flags_after, word_after};
+ghost use Rattle.pp_channel.specs.Answer.{IsAnswer, event_of, reply_to, history_after, flags_of};
 ghost use Rattle.pp_channel.specs.Law.{KeepsLaw};
 
+use crate::answer::{event_by, flags_after, reply_made, word_after};
 use crate::chan_op::ChanOp;
 use crate::event::Event;
 use crate::flags::Flags;
@@ -119,26 +120,7 @@ impl<A: Allocator> Channel<A> {
         ensures twelve_bits { IfSome result HasTwelveBitWord }
         ensures lawful { IsLawful self.now }
     {
-        let Flags { active, full } = self.flags;
-        // A word is known to have 12 bits once its number is read.
-        match op {
-            ChanOp::Activate if !active => Some(Event::Activate),
-            ChanOp::Disconnect if active => Some(Event::Disconnect),
-            ChanOp::Put(word) if active && !full => {
-                prove!(word.get() < 0o10000);
-                Some(Event::Put(*word))
-            }
-            ChanOp::Take => {
-                let word = self.register?;
-                prove!(word.get() < 0o10000);
-                Some(Event::Take(word))
-            }
-            ChanOp::Function(word) if !active => {
-                prove!(word.get() < 0o10000);
-                Some(Event::Function(*word))
-            }
-            _ => None,
-        }
+        event_by(op, self.flags, self.register)
     }
 
     /// Makes the operation where it is ready; holds it where it is not, and then nothing changes.
@@ -161,10 +143,7 @@ impl<A: Allocator> Channel<A> {
             });
         };
         self.record(event)?;
-        Ok(match event {
-            Event::Take(word) => Reply::Word(word),
-            _ => Reply::Done,
-        })
+        Ok(reply_made(&event))
     }
 
     /// Adds an event to the history, and keeps what it leaves in the flags and the register.
@@ -181,35 +160,5 @@ impl<A: Allocator> Channel<A> {
         self.flags = flags;
         self.register = register;
         Ok(())
-    }
-}
-
-/// The flags after an event.
-pub(crate) fn flags_after(event: &Event) -> Flags
-    ensures { result ≡ flags_after event.now }
-{
-    match event {
-        Event::Activate | Event::Take(_) => Flags {
-            active: true,
-            full: false,
-        },
-        Event::Put(_) => Flags {
-            active: true,
-            full: true,
-        },
-        Event::Disconnect | Event::Function(_) => Flags {
-            active: false,
-            full: false,
-        },
-    }
-}
-
-/// The word in the register after an event.
-fn word_after(event: &Event) -> Option<Word12>
-    ensures { result ≡ word_after event.now }
-{
-    match event {
-        Event::Put(word) => Some(*word),
-        _ => None,
     }
 }

@@ -2,13 +2,12 @@
 
 ghost use Rattle.std.specs.Prelude.{◌≡◌, ◌<◌, ◌≤◌, List, IfSome};
 ghost use Rattle.pp_channel.specs.declared.event.Event.{Event};
-ghost use Rattle.pp_channel.specs.Answer.{reply_made};
 ghost use Rattle.pp_channel.specs.ChannelWord.{history_word, number_in, flags_in, register_in, greatest_number};
 ghost use Rattle.pp_channel.specs.History.{IsLawful, HasTwelveBitWord, HasTwelveBitWords};
-ghost use Rattle.pp_channel.specs.WordStep.{step_from, event_in, word_with, StepsFrom};
+ghost use Rattle.pp_channel.specs.WordStep.{step_from, event_in, waiting_in, word_with, StepsFrom};
 
+use crate::answer::{event_by, flags_after, reply_made};
 use crate::chan_op::ChanOp;
-use crate::channel::flags_after;
 use crate::event::Event;
 use crate::flags::Flags;
 use crate::reply::Reply;
@@ -65,26 +64,7 @@ pub(crate) fn next_event_in(word: u64, op: &ChanOp) -> Option<Event>
     ensures event { result ≡ event_in op.now word }
     ensures twelve_bits { IfSome result HasTwelveBitWord }
 {
-    let Flags { active, full } = flags_in(word);
-    // A word is known to have 12 bits once its number is read.
-    match op {
-        ChanOp::Activate if !active => Some(Event::Activate),
-        ChanOp::Disconnect if active => Some(Event::Disconnect),
-        ChanOp::Put(put) if active && !full => {
-            prove!(put.get() < 0o10000);
-            Some(Event::Put(*put))
-        }
-        ChanOp::Take if active && full => {
-            let taken = register_in(word);
-            prove!(taken.get() < 0o10000);
-            Some(Event::Take(taken))
-        }
-        ChanOp::Function(code) if !active => {
-            prove!(code.get() < 0o10000);
-            Some(Event::Function(*code))
-        }
-        _ => None,
-    }
+    event_by(op, flags_in(word), waiting_in(word))
 }
 
 /// How many events a word counts.
@@ -102,6 +82,18 @@ pub(crate) fn flags_in(word: u64) -> Flags
     Flags {
         active: word / ACTIVE % 2 == 1,
         full: word / FULL % 2 == 1,
+    }
+}
+
+/// The word that waits in its register, where it is active and full.
+fn waiting_in(word: u64) -> Option<Word12>
+    ensures { result ≡ waiting_in word }
+{
+    let Flags { active, full } = flags_in(word);
+    if active && full {
+        Some(register_in(word))
+    } else {
+        None
     }
 }
 
@@ -124,14 +116,4 @@ fn word_with(word: u64, event: &Event) -> u64
     };
     let flags = u64::from(active) * ACTIVE + u64::from(full) * FULL;
     (number_in(word) + 1) * EVENT + flags + register
-}
-
-/// The reply where an event is made.
-fn reply_made(event: &Event) -> Reply
-    ensures { result ≡ reply_made event.now }
-{
-    match event {
-        Event::Take(taken) => Reply::Word(*taken),
-        _ => Reply::Done,
-    }
 }

@@ -7,7 +7,7 @@ use Rattle.std.proofs.lemmas.List.Elements.{filter_map-append}
 use Rattle.std.proofs.lemmas.Bool.{and_parts, cases_Bool}
 use Rattle.std.proofs.Math.Seq.{take-append_seam, set-append_seam}
 use Rattle.pp_channel.proofs.LastElements.{last_or-push}
-use Rattle.pp_channel.specs.LineLog.{LogState, appended, looked, is_look, is_look_at, ends_in_look_at}
+use Rattle.pp_channel.specs.LineLog.{LogState, appended, looked, is_event, is_look_at, ends_in_look_at}
 use Rattle.pp_channel.specs.declared.entry.Entry.{Entry}
 use Rattle.pp_channel.specs.declared.entry.Seen.{Seen}
 use Rattle.pp_channel.specs.declared.entry.Seen.TheVariants.{Did, Saw}
@@ -39,14 +39,14 @@ set_last front x y =
 -- a log that ends with a look at channel c
 record EndsInLook (c : ℕ) (log : List Entry) : Type 0 where
   pub pushed : IsPushed log
-  pub looked : is_look pushed.last.what ≡ true
+  pub looked : not (is_event pushed.last.what) ≡ true
 
 ends_in_look : (c : ℕ) (log : List Entry) → IsTrue (is_look_at c (last_or None log)) → EndsInLook c log
 ends_in_look c [] e = absurd cc
 ends_in_look c (x ∷ xs) e =
     let p = pushed_cons x xs in
     let l : last_or None (x ∷ xs) ≡ Some p.last = ap (λ zs. last_or None zs) p.is ∙ last_or-push None p.front p.last in
-    record { pushed = p; looked = (and_parts (is_look p.last.what) (p.last.channel == c) (ap (is_look_at c) (sym l) ∙ e)).0 }
+    record { pushed = p; looked = (and_parts (not (is_event p.last.what)) (p.last.channel == c) (ap (is_look_at c) (sym l) ∙ e)).0 }
 
 -- what a log is after a look on a channel at which it held before, if it held at all
 pub record IsLooked (log : LogState) (entry : Entry) : Type 0 where
@@ -115,7 +115,7 @@ settled_at_kept log k = record {
   no_event = refl;
 }
 
-no_event_in : (entry : Entry) (what : Seen) → entry.what ≡ what → is_look what ≡ true → events_in (entry ∷ []) ≡ []
+no_event_in : (entry : Entry) (what : Seen) → entry.what ≡ what → not (is_event what) ≡ true → events_in (entry ∷ []) ≡ []
 no_event_in entry (Did e) is l = absurd cc
 no_event_in entry (Saw f) is l = rw is refl
 

@@ -16,4 +16,4 @@ loop-place-preserved g c =
 
 pub returns : goal.returns
 returns g c histories told =
-    ext_get_or [] c.loop-place.channels histories (c.loop-place.invariant.each ∙ sym told.channels) (λ k inside. c.loop-place.invariant.done histories told k (let each = c.loop-place.invariant.each in omega arith))
+    ext_get_or [] c.loop-place.channels histories (c.loop-place.invariant.each ∙ sym told.sound.each_channel) (λ k inside. c.loop-place.invariant.done histories told k (let each = c.loop-place.invariant.each in omega arith))

@@ -11,9 +11,9 @@ returns-in-Ok g c =
     let n = workers_count c.args.machine.now.processors _ c.args.limits.steps c.in_ok-workers.field-0.workers.items c.in_ok-workers.ensures.workers in record {
       each_processor = n ∙ c.turns-turns.ensures.sound.processors;
       workers = search rules;
-      lawful = c.in-Ok.ensures.ok.known.lawful;
+      lawful = c.in-Ok.ensures.ok.known.sound.lawful;
       law = c.in-Ok.ensures.ok.law;
-      twelve_bits = c.in-Ok.ensures.ok.known.twelve_bits;
+      twelve_bits = c.in-Ok.ensures.ok.known.sound.twelve_bits;
       merged = subst (λ (log : List Entry). Merges no_opening c.in-Ok.channels log) c.in_ok-workers.ensures.log c.in-Ok.ensures.ok.merged;
     }
 
