@@ -115,6 +115,7 @@ impl<A: Allocator> Channel<A> {
     /// The event that the operation would make now, or nothing where it would make none. It takes no
     /// memory: who records events beside the channel asks it first, and so takes memory for a record
     /// only where there is an event.
+    #[inline(always)]
     pub fn next_event(&self, op: &ChanOp) -> Option<Event>
         ensures event { result ≡ event_of op.now self.now }
         ensures twelve_bits { IfSome result HasTwelveBitWord }
@@ -125,6 +126,7 @@ impl<A: Allocator> Channel<A> {
 
     /// Makes the operation where it is ready; holds it where it is not, and then nothing changes.
     #[tactic(auto, using(crate::proofs::AnswerLemmas::answered_by_table))]
+    #[inline(always)]
     pub fn act(&mut self, op: ChanOp) -> Result<Reply, Memory>
         ensures answer { IfOk result (λ reply. IsAnswer self.old op reply self.new) }
         ensures lawful { IsLawful self.new }
@@ -134,7 +136,7 @@ impl<A: Allocator> Channel<A> {
         ensures history { OnOk result (self.new ≡ history_after op self.old) }
 
         ensures no_memory_without_event { event_of op self.old ≡ None → IsOk result }
-        ensures err { OnErr result (self.new ≡ self.old) }
+        ensures unchanged_after_memory { OnErr result (self.new ≡ self.old) }
     {
         let Some(event) = self.next_event(&op) else {
             return Ok(match op {
@@ -152,7 +154,7 @@ impl<A: Allocator> Channel<A> {
         requires twelve_bits { HasTwelveBitWord event }
         ensures ok { OnOk result (self.new ≡ self.old ++ event ∷ []) }
         ensures lawful { IsLawful self.new }
-        ensures err { OnErr result (self.new ≡ self.old) }
+        ensures unchanged_after_memory { OnErr result (self.new ≡ self.old) }
     {
         let flags = flags_after(&event);
         let register = word_after(&event);

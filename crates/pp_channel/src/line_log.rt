@@ -126,7 +126,7 @@ impl<A: Allocator> LineLog<A> {
     /// The entries of another log come to the end.
     pub fn append(&mut self, other: &LineLog<A>) -> Result<(), Memory>
         ensures ok { OnOk result (self.new ≡ record { entries = self.old.entries ++ other.now.entries; room = self.old.room; kept = true }) }
-        ensures err { OnErr result (self.new ≡ self.old) }
+        ensures unchanged_after_memory { OnErr result (self.new ≡ self.old) }
     {
         let more = other.entries();
         self.entries.reserve(more.len() + self.room as usize)?;

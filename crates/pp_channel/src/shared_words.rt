@@ -51,7 +51,7 @@ impl<A: Allocator + Copy> SharedWords<A> {
         ensures parent { IfOk result (λ words. self.new.seat.me.0 ≡ parent_view self.old.seat.me.0) }
         ensures child { IfOk result (λ words. words.seat.me.0 ≡ child_view self.old.seat.me.0) }
         ensures child_table { IfOk result (λ words. words.seat.table_id ≡ self.old.seat.table_id) }
-        ensures err { OnErr result (self.new ≡ self.old) }
+        ensures unchanged_after_memory { OnErr result (self.new ≡ self.old) }
     {
         let table = Arc::try_clone(&self.table)?;
         let seat = table.shared.split_seat::<Share>(&mut self.seat);

@@ -46,6 +46,7 @@ impl<A: Allocator> Machine<A> {
 
     /// So many turns of the barrel, from its first processor on. Processors at rest are passed over.
     #[tactic(auto, using(crate::proofs::RoundLemmas::barrel_rounds))]
+    #[inline(never)]
     pub fn run_barrel(&mut self, turns: u32) -> Result<(), Cut>
         ensures ok { OnOk result (self.new ≡ run (barrel turns) self.old) }
         ensures cut { IfErr result (λ c. self.new ≡ run (barrel c.done) self.old) }

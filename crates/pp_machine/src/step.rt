@@ -1,9 +1,9 @@
 //! One step of a machine.
 
-ghost use Rattle.std.specs.Prelude.{◌≡◌, ◌++◌, [], None, IsTrue, vec_len, map, slice_set, slice_index_or, IfOk, IsOk, IsNone, OnOk, OnErr};
+ghost use Rattle.std.specs.Prelude.{◌≡◌, ◌++◌, [], None, IsTrue, vec_len, map, slice_set, slice_index_or, if◌then◌else◌, IfOk, IsOk, IsNone, OnOk, OnErr};
 ghost use Rattle.std.specs.Option.{option_to_list};
 ghost use Rattle.pp_channel.specs.Answer.{event_of, reply_to, history_after};
-ghost use Rattle.pp_channel.specs.ChannelNumber.{channel_count, channel_index};
+ghost use Rattle.pp_channel.specs.ChannelNumber.{channel_count, channel_index, names_channel};
 ghost use Rattle.pp_channel.specs.History.{IsLawful};
 ghost use Rattle.pp_channel.specs.Law.{KeepsLaw};
 ghost use Rattle.pp_machine.specs.Direct.{IsAtInstruction, IsNext};
@@ -73,23 +73,28 @@ impl<A: Allocator> Machine<A> {
                 self.count_turn();
                 return Ok(Outcome::Moved);
             }
-            if let Some(channel) = self.processors[i].tested_channel(*op, d) {
-                self.test_flags(n, channel, *op, d);
+            if self.processors[i].tests_flags(*op, d) {
+                self.test_flags(n, *op, d);
                 return Ok(Outcome::Moved);
             }
         }
         self.step_with_answer(n, &next, d)
     }
 
-    /// The step of a processor that tests the flags of a channel.
-    #[tactic(auto, using(crate::proofs::MachineStepLemmas::stepped_by_probe, crate::proofs::MachineStepLemmas::outcome_by_probe))]
-    fn test_flags(&mut self, n: PpNo, channel: ChannelNo, op: Opcode, d: Word6)
+    /// The step of a processor that tests the flags of a channel, a fault where there is no such channel.
+    #[tactic(auto, using(crate::proofs::MachineStepLemmas::stepped_by_probe, crate::proofs::MachineStepLemmas::outcome_by_probe, crate::proofs::MachineStepLemmas::stepped_alone, crate::proofs::MachineStepLemmas::outcome_alone))]
+    fn test_flags(&mut self, n: PpNo, op: Opcode, d: Word6)
         requires next { IsAtInstruction op d (processor_of n self.old) }
-        requires probes { need (processor_of n self.old) ≡ Need.Channel channel ChanOp.Probe }
+        requires probes { need (processor_of n self.old) ≡ (if names_channel d then Need.Channel d ChanOp.Probe else Need.Local) }
         ensures stepped { self.new ≡ stepped n self.old }
         ensures outcome { step_outcome n self.old ≡ Outcome.Moved }
         ensures headline { HoldsOnEachChannel self.new }
     {
+        let Some(channel) = ChannelNo::new(d.get()) else {
+            let _fault = self.processors[n.index()].give(Answer::Local);
+            self.count_turn();
+            return;
+        };
         let flags = self.channel(channel).flags();
         self.processors[n.index()].test_flags(op, d, flags);
         self.count_turn();

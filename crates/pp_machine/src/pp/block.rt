@@ -178,6 +178,7 @@ impl Pp {
     }
 
     /// One central word of CRM, with the answer to its need.
+    #[inline(always)]
     pub(super) fn move_central_in(&mut self, left: Word12, place: Word12, answer: Answer)
         requires { self.old.block ≡ Some (record { kind = BlockKind.CentralIn left; place = place }) }
         ensures { self.new ≡ answered (block_word (BlockKind.CentralIn left) place self.old) self.old answer }
@@ -194,6 +195,7 @@ impl Pp {
     }
 
     /// One central word of CWM, with the answer to its need.
+    #[inline(always)]
     pub(super) fn move_central_out(&mut self, left: Word12, place: Word12, answer: Answer)
         requires { self.old.block ≡ Some (record { kind = BlockKind.CentralOut left; place = place }) }
         ensures { self.new ≡ answered (block_word (BlockKind.CentralOut left) place self.old) self.old answer }
@@ -209,6 +211,7 @@ impl Pp {
     }
 
     /// One word of IAM, with the answer to its need: an inactive channel closes it with a word 0.
+    #[inline(always)]
     pub(super) fn move_input(&mut self, channel: ChannelNo, place: Word12, answer: Answer)
         requires { self.old.block ≡ Some (record { kind = BlockKind.Input channel; place = place }) }
         ensures { self.new ≡ answered (block_word (BlockKind.Input channel) place self.old) self.old answer }
@@ -229,6 +232,7 @@ impl Pp {
     }
 
     /// One word of OAM, with the answer to its need: an inactive channel ends it.
+    #[inline(always)]
     pub(super) fn move_output(&mut self, channel: ChannelNo, place: Word12, answer: Answer)
         requires { self.old.block ≡ Some (record { kind = BlockKind.Output channel; place = place }) }
         ensures { self.new ≡ answered (block_word (BlockKind.Output channel) place self.old) self.old answer }

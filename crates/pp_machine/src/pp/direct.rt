@@ -1,8 +1,9 @@
 //! The parts of a step, for the machine, which makes it without an answer in between: the instruction
 //! is decoded once.
 
-ghost use Rattle.std.specs.Prelude.{◌≡◌, ℕ, None, IsTrue, IfSome};
+ghost use Rattle.std.specs.Prelude.{◌≡◌, ℕ, None, IsTrue, if◌then◌else◌};
 ghost use Rattle.std.specs.Bool.{OnTrue, OnFalse};
+ghost use Rattle.pp_channel.specs.ChannelNumber.{names_channel};
 ghost use Rattle.pp_machine.specs.Direct.{IsAtInstruction, IsNext};
 ghost use Rattle.pp_machine.specs.InstructionTable.{instruction};
 ghost use Rattle.pp_machine.specs.NeedAndEffect.{need, processor_after, outcome};
@@ -16,7 +17,7 @@ use crate::need::Need;
 use crate::outcome::Outcome;
 use crate::pp::Pp;
 use crate::pp_state::PpState;
-use pp_channel::{ChanOp, ChannelNo, Flags, Reply};
+use pp_channel::{ChanOp, Flags, Reply};
 use pp_word::{Opcode, Word6, Word60};
 
 /// Whether an operation needs nothing from outside, whatever its operands: codes 00 to 57 (octal).
@@ -57,16 +58,13 @@ impl Pp {
         true
     }
 
-    /// The channel whose flags its next step tests: that of AJM, IJM, FJM or EJM.
+    /// Whether its next step tests the flags of a channel: AJM, IJM, FJM or EJM.
     #[tactic(auto, unfolding(crate::specs::NeedAndEffect::need))]
-    pub(crate) fn tested_channel(&self, op: Opcode, d: Word6) -> Option<ChannelNo>
+    pub(crate) fn tests_flags(&self, op: Opcode, d: Word6) -> bool
         requires { IsAtInstruction op d self.now }
-        ensures { IfSome result (λ channel. need self.now ≡ Need.Channel channel ChanOp.Probe) }
+        ensures { OnTrue result (need self.now ≡ (if names_channel d then Need.Channel d ChanOp.Probe else Need.Local)) }
     {
-        if !matches!(op, Opcode::AJM | Opcode::IJM | Opcode::FJM | Opcode::EJM) {
-            return None;
-        }
-        ChannelNo::new(d.get())
+        matches!(op, Opcode::AJM | Opcode::IJM | Opcode::FJM | Opcode::EJM)
     }
 
     /// Makes its next step, a test of a channel with these flags.

@@ -14,6 +14,7 @@ use pp_word::{Opcode, Word6, Word12, Word18, Word60};
 
 impl Pp {
     /// An instruction that asked its channel, with the reply.
+    #[inline(always)]
     pub(super) fn take_reply(&mut self, op: Opcode, d: Word6, reply: Reply)
         requires { self.old.block ≡ None }
         ensures { self.new ≡ answered (row op self.old d) self.old (Answer.Channel reply) }
@@ -32,6 +33,7 @@ impl Pp {
     }
 
     /// CRD, with the central word.
+    #[inline(always)]
     pub(super) fn take_central(&mut self, op: Opcode, d: Word6, central: Option<Word60>)
         ensures { self.new ≡ answered (row op self.old d) self.old (Answer.Read central) }
     {
@@ -46,6 +48,7 @@ impl Pp {
     }
 
     /// CWD, with whether the central word was written.
+    #[inline(always)]
     pub(super) fn take_written(&mut self, op: Opcode, d: Word6, written: bool)
         ensures { self.new ≡ answered (row op self.old d) self.old (Answer.Wrote written) }
     {

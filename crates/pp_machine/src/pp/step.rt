@@ -30,6 +30,7 @@ fn channel_need(d: Word6, operation: ChanOp) -> Need
 
 impl Pp {
     /// What an instruction needs.
+    #[inline(always)]
     pub(super) fn instruction_need(&self, op: Opcode, d: Word6) -> Need
         ensures { result ≡ need_of (instruction op self.now d) }
     {
@@ -48,6 +49,7 @@ impl Pp {
     }
 
     /// What the next word of a block needs.
+    #[inline(always)]
     pub(super) fn block_need(&self, block: Block) -> Need
         ensures { result ≡ need_of (block_word block.kind block.place self.now) }
     {
