@@ -7,7 +7,7 @@ use Rattle.std.proofs.lemmas.List.{length-take-le}
 use Rattle.pp_machine.specs.ProcessorNumber.{processor_count, processor_in_turn, processor_number}
 use Rattle.pp_runner.specs.declared.worker.Worker.{Worker}
 use Rattle.pp_sim.specs.Authors.{or_told}
-use Rattle.pp_sim.specs.ThreadsText.{author_of, tells}
+use Rattle.pp_sim.specs.ThreadsText.{author_place, log_tells}
 
 -- where the first does not pass, the search goes on behind it
 seek_on : (passes : Bool) (i j : ℕ) (more rest : Option ℕ) (last : Bool) → more ≡ or_told rest last j
@@ -38,16 +38,16 @@ or_told_map f None false author = refl
 -- the author, by one worker more
 pub author_push : {Z : Type 0} (c number place : ℕ) (workers : List (Worker Z)) (worker : Worker Z) (before after : Option ℕ) (author : ℕ)
     → place < length workers → length workers ≤ processor_count → worker ≡ slice_index_or workers place worker → author ≡ processor_in_turn place
-    → before ≡ option_map processor_number (author_of c (take place workers) number)
-    → after ≡ or_told before (tells c number worker.log.items) author
-    → after ≡ option_map processor_number (author_of c (take (place + 1) workers) number)
+    → before ≡ option_map processor_number (author_place c (take place workers) number)
+    → after ≡ or_told before (log_tells c number worker.log.items) author
+    → after ≡ option_map processor_number (author_place c (take (place + 1) workers) number)
 author_push {Z} c number place workers worker before after author l few at by was now =
-    let test : Worker Z → Bool = λ w. tells c number w.log.items in
+    let test : Worker Z → Bool = λ w. log_tells c number w.log.items in
     let more : take (place + 1) workers ≡ take place workers ++ worker ∷ [] =
     ap (λ n. take n workers) (add-one place) ∙ take-suc workers place worker l ∙ ap (λ w. take place workers ++ w ∷ []) (sym at) in
-    let found : author_of c (take (place + 1) workers) number ≡ or_told (author_of c (take place workers) number) (test worker) place =
+    let found : author_place c (take (place + 1) workers) number ≡ or_told (author_place c (take place workers) number) (test worker) place =
     ap (position test) more ∙ (position_push test (take place workers) worker
     ∙ ap (or_told (position test (take place workers)) (test worker)) (length-take-le place workers (omega arith))) in
     let same : author ≡ place = by ∙ omega arith in
-    now ∙ (ap (λ known. or_told known (test worker) author) was ∙ (ap (or_told (option_map processor_number (author_of c (take place workers) number)) (test worker)) same
-    ∙ (sym (or_told_map processor_number (author_of c (take place workers) number) (test worker) place) ∙ sym (ap (option_map processor_number) found))))
+    now ∙ (ap (λ known. or_told known (test worker) author) was ∙ (ap (or_told (option_map processor_number (author_place c (take place workers) number)) (test worker)) same
+    ∙ (sym (or_told_map processor_number (author_place c (take place workers) number) (test worker) place) ∙ sym (ap (option_map processor_number) found))))

@@ -1,5 +1,5 @@
 -- A loaded deck has run no turn yet.
-use Rattle.std.proofs.Common.{◌≡◌, ◌∙◌, ℕ, Bool, true, false, List, [], ◌∷◌, length, Option, Some, None, Result, Ok, Err, if◌then◌else◌, refl, sym, ap, subst}
+use Rattle.std.proofs.Common.{◌≡◌, ℕ, Bool, true, false, List, [], ◌∷◌, length, Option, Some, None, Result, Ok, Err, if◌then◌else◌, refl, subst}
 use Rattle.std.specs.Prelude.{nat_lt, position}
 use Rattle.pp_sim.specs.DeckMeaning.{LoadedDeck, deck_meaning, faults_in, is_foreign, lines_said, loaded, meaning_of_lines, size_of, unless_faulty, unless_foreign}
 use Rattle.pp_sim.specs.DeckText.{Fields, lines_of}

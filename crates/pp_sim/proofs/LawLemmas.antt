@@ -20,6 +20,7 @@ use Rattle.pp_sim.specs.DeckText.{lines_of}
 use Rattle.pp_sim.specs.declared.deck_fault.DeckFault.{DeckFault}
 use Rattle.pp_sim.specs.DeckProgress.{current_after}
 use Rattle.pp_sim.proofs.ListLemmas.{range_append, range_more, last_of_more, filter_map_more, length-tabulate, get_or-tabulate}
+use Rattle.pp_sim.proofs.MemoryLemmas.{length-central_loaded}
 use Rattle.pp_sim.proofs.SectionLemmas.{section_more}
 
 -- ---- the last number at which there is something
@@ -369,3 +370,24 @@ of_short text false fault deck e = of_ascii text (position is_foreign text) deck
 pub deck_law_of : (text : List ℕ) (deck : LoadedDeck) → deck_meaning text ≡ Ok deck → KeepsDeckLaw (lines_said (lines_of text)) deck
 unfolding deck_meaning
 deck_law_of text deck e = of_short text _ _ deck e
+
+-- ---- the size of central memory
+
+size_of_lines : (lines : List (List (List ℕ))) (deck : LoadedDeck) → meaning_of_lines lines ≡ Ok deck → length deck.machine.central ≡ size_of lines
+unfolding meaning_of_lines
+size_of_lines lines deck e =
+    ap (λ (d : LoadedDeck). length d.machine.central) (sym (deck_is (size_of lines) (lines_said lines) (faults_in lines) deck e))
+    ∙ length-central_loaded (size_of lines) (lines_said lines)
+
+size_of_ascii : (text : List ℕ) (o : Option ℕ) (deck : LoadedDeck) → unless_foreign text o ≡ Ok deck → length deck.machine.central ≡ size_of (lines_of text)
+size_of_ascii text None deck e = size_of_lines (lines_of text) deck e
+size_of_ascii text (Some i) deck e = absurd (cc)
+
+size_of_short : (text : List ℕ) (b : Bool) (fault : DeckFault) (deck : LoadedDeck) → cond b (Err fault) (unless_foreign text (position is_foreign text)) ≡ Ok deck → length deck.machine.central ≡ size_of (lines_of text)
+size_of_short text true fault deck e = absurd (cc)
+size_of_short text false fault deck e = size_of_ascii text (position is_foreign text) deck e
+
+-- central memory has the size that the deck says
+pub deck_size_of : (text : List ℕ) (deck : LoadedDeck) → deck_meaning text ≡ Ok deck → length deck.machine.central ≡ size_of (lines_of text)
+unfolding deck_meaning
+deck_size_of text deck e = size_of_short text _ _ deck e

@@ -13,3 +13,4 @@ pub mod BarrelText
 pub mod ThreadsText
 pub mod Authors
 pub mod CommandLine
+pub mod Program

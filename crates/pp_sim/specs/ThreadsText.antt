@@ -20,12 +20,12 @@ use Rattle.pp_sim.specs.PrintedText.{each_below, event_text, is_named, line_end,
 -- ---- events, each with its number in the history of its channel
 
 -- whether a log tells the event of channel c with this number
-abbrev pub tells : ℕ → ℕ → List Entry → Bool
-tells c number log = nat_lt 0 (times_told c number log)
+abbrev pub log_tells : ℕ → ℕ → List Entry → Bool
+log_tells c number log = nat_lt 0 (times_told c number log)
 
 -- the place of the worker in whose log the event stands: there is just one, since the logs merge
-abbrev pub author_of : {Z : Type 0} → ℕ → List (Worker Z) → ℕ → Option ℕ
-author_of {Z} c workers number = position (λ (worker : Worker Z). tells c number worker.log.items) workers
+abbrev pub author_place : {Z : Type 0} → ℕ → List (Worker Z) → ℕ → Option ℕ
+author_place {Z} c workers number = position (λ (worker : Worker Z). log_tells c number worker.log.items) workers
 
 -- `CH05 000001 PP00 PUT 0007`, by the place of its author
 abbrev pub line_by : ℕ → ℕ → Event → Option ℕ → List ℕ
@@ -34,7 +34,7 @@ line_by c number event (Some place) =
     codes "CH" ++ octal 2 c ++ codes " " ++ decimal number ++ codes " PP" ++ octal 2 (processor_number place) ++ codes " " ++ event_text event ++ line_end
 
 unfoldable pub numbered_event_line : {Z : Type 0} → ℕ → List (Worker Z) → ℕ × Event → List ℕ
-numbered_event_line c workers (number, event) = line_by c number event (author_of c workers number)
+numbered_event_line c workers (number, event) = line_by c number event (author_place c workers number)
 
 -- the lines of the events of the channel with this number, where there is one
 abbrev pub channel_events : {Z : Type 0} → List (Worker Z) → List (List Event) → ℕ → List ℕ

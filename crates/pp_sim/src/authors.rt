@@ -4,7 +4,7 @@ ghost use Rattle.std.specs.Prelude.{◌≡◌, ◌<◌, ◌≤◌, ◌==◌, ℕ
 ghost use Rattle.pp_machine.specs.ProcessorNumber.{processor_count, processor_number};
 ghost use Rattle.pp_sim.specs.Authors.{or_told};
 ghost use Rattle.pp_channel.specs.Merge.{tells_event};
-ghost use Rattle.pp_sim.specs.ThreadsText.{author_of, tells};
+ghost use Rattle.pp_sim.specs.ThreadsText.{author_place, log_tells};
 
 use pp_channel::{ChannelNo, Entry, Seen};
 use pp_machine::PpNo;
@@ -22,7 +22,7 @@ pub(crate) fn authors<A: Allocator, B: Allocator>(
     requires { length workers.now ≤ processor_count }
     ensures length { IfOk result (λ authors. length authors.items ≡ count) }
     ensures authors { IfOk result (λ authors. (number : ℕ) → number < count
-        → slice_index_or authors.items number None ≡ option_map processor_number (author_of channel workers.now number)) }
+        → slice_index_or authors.items number None ≡ option_map processor_number (author_place channel workers.now number)) }
 {
     let mut authors = no_authors(alloc, count)?;
     for (place, worker) in workers.iter().enumerate() {
@@ -52,7 +52,7 @@ fn mark<A: Allocator>(
 )
     ensures length { length authors.new.items ≡ length authors.old.items }
     ensures marked { (number : ℕ) → number < length authors.old.items
-        → slice_index_or authors.new.items number None ≡ or_told (slice_index_or authors.old.items number None) (tells channel number log.now) author }
+        → slice_index_or authors.new.items number None ≡ or_told (slice_index_or authors.old.items number None) (log_tells channel number log.now) author }
 {
     for entry in log {
         mark_entry(authors, entry, channel, author);

@@ -1,6 +1,8 @@
 //! The program, over any reader and writers.
 
+ghost use Rattle.std.specs.Prelude.{◌≡◌, map, Err};
 ghost use Rattle.pp_runner.specs.Report.{ReportFitsInMemory};
+ghost use Rattle.pp_sim.specs.Program.{IsDone, IsRun, IsTold, status_of};
 
 use crate::command_words::read_words;
 use crate::line_fault::LineFault;
@@ -37,22 +39,39 @@ pub fn run_program<
     E: Write,
 >(rt: &T, alloc: A, words: &'a [&'a str], input: &mut I, output: &mut O, error: &mut E) -> u8
     requires { ReportFitsInMemory A.row A.Allocator }
+    ensures { IsRun A (map (λ s. s.now) words.entry.now) result (I.remaining input.old) (I.remaining input.new)
+        (O.contents output.old) (O.contents output.new) }
 {
     let work = match read_words(rt.alloc(), words) {
         Ok(work) => work,
         Err(fault) => return tell_line_fault(&fault, output, error),
     };
-    let done = match work {
-        Work::Barrel { turns } => barrel_text(alloc, input, output, turns),
-        Work::Threads { limits } => threads_text(rt, alloc, input, output, limits),
-    };
-    match done {
+    match do_work(rt, work, alloc, input, output) {
         Ok(()) => DONE,
         Err(fault) => tell_text_fault(&fault, error),
     }
 }
 
-fn tell_line_fault<O: Write, E: Write>(fault: &LineFault, output: &mut O, error: &mut E) -> u8 {
+/// Does what the words ask for.
+fn do_work<T: Threads + Wait + Sync, I: Read, A: Allocator + Copy + Send + Sync, O: Write>(
+    rt: &T,
+    work: Work,
+    alloc: A,
+    input: &mut I,
+    output: &mut O,
+) -> Result<(), TextFault>
+    requires { ReportFitsInMemory A.row A.Allocator }
+    ensures { IsDone A work result (I.remaining input.old) (I.remaining input.new) (O.contents output.old) (O.contents output.new) }
+{
+    match work {
+        Work::Barrel { turns } => barrel_text(alloc, input, output, turns),
+        Work::Threads { limits } => threads_text(rt, alloc, input, output, limits),
+    }
+}
+
+fn tell_line_fault<O: Write, E: Write>(fault: &LineFault, output: &mut O, error: &mut E) -> u8
+    ensures { IsTold fault.now result (O.contents output.old) (O.contents output.new) }
+{
     match fault {
         LineFault::Refused(refusal) => show_refusal(refusal, output, error),
         LineFault::Number => {
@@ -67,7 +86,9 @@ fn tell_line_fault<O: Write, E: Write>(fault: &LineFault, output: &mut O, error:
 }
 
 /// clap's text as it is: help on the output, all else on the error.
-fn show_refusal<O: Write, E: Write>(refusal: &Error, output: &mut O, error: &mut E) -> u8 {
+fn show_refusal<O: Write, E: Write>(refusal: &Error, output: &mut O, error: &mut E) -> u8
+    ensures { IsTold (LineFault.Refused refusal.now) result (O.contents output.old) (O.contents output.new) }
+{
     if refusal.use_stderr() {
         let _ = write!(error, "{refusal}");
         return LINE_REFUSED;
@@ -78,7 +99,9 @@ fn show_refusal<O: Write, E: Write>(refusal: &Error, output: &mut O, error: &mut
     }
 }
 
-fn tell_text_fault<E: Write>(fault: &TextFault, error: &mut E) -> u8 {
+fn tell_text_fault<E: Write>(fault: &TextFault, error: &mut E) -> u8
+    ensures { result ≡ status_of (Err fault.now) }
+{
     let _ = writeln!(error, "ppsim: {fault}");
     match fault {
         TextFault::Deck(_) => DECK_REFUSED,

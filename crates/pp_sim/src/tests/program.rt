@@ -126,20 +126,48 @@ fn told_on_the_error(rt: HostRuntime) -> Result<(), Fail> {
     Ok(())
 }
 
+/// Words that are refused, each with the front of clap's text.
+const REFUSED: [(&[&str], &str); 8] = [
+    (
+        &["ppsim"],
+        "error: 'ppsim' requires a subcommand but one was not provided\n",
+    ),
+    (
+        &["ppsim", "bogus"],
+        "error: unrecognized subcommand 'bogus'\n",
+    ),
+    (
+        &["ppsim", "help", "bogus"],
+        "error: unrecognized subcommand 'bogus'\n",
+    ),
+    (
+        &["ppsim", "barrel"],
+        "error: the following required arguments were not provided:\n  --turns <N>\n",
+    ),
+    (
+        &["ppsim", "barrel", "--turns"],
+        "error: a value is required for '--turns <N>' but none was supplied\n",
+    ),
+    (
+        &["ppsim", "barrel", "--steps", "5"],
+        "error: unexpected argument '--steps' found\n",
+    ),
+    (
+        &["ppsim", "threads", "--steps", "5"],
+        "error: the following required arguments were not provided:\n  --patience <N>\n",
+    ),
+    (
+        &["ppsim", "threads", "--patience", "5"],
+        "error: the following required arguments were not provided:\n  --steps <N>\n",
+    ),
+];
+
 #[test]
 fn refused_words(rt: HostRuntime) -> Result<(), Fail> {
-    let table: [&[&str]; 6] = [
-        &["ppsim"],
-        &["ppsim", "bogus"],
-        &["ppsim", "barrel"],
-        &["ppsim", "barrel", "--turns"],
-        &["ppsim", "threads", "--steps", "5"],
-        &["ppsim", "threads", "--patience", "5"],
-    ];
-    for words in table {
+    for (words, front) in REFUSED {
         let outcome = run_words(&rt, words, HANDOFF, 0);
         assert_eq!(rt; outcome.status, 2);
-        assert!(rt; !outcome.error.is_empty());
+        assert!(rt; outcome.error.starts_with(front.as_bytes()), "{front}");
         assert!(rt; outcome.output.is_empty());
         assert_eq!(rt; outcome.calls_of_reader, 0);
     }
@@ -148,10 +176,11 @@ fn refused_words(rt: HostRuntime) -> Result<(), Fail> {
 
 #[test]
 fn help_that_was_asked_for(rt: HostRuntime) -> Result<(), Fail> {
-    let table: [(&[&str], &str); 3] = [
+    let table: [(&[&str], &str); 4] = [
         (&["ppsim", "--help"], "ppsim barrel --turns 40"),
         (&["ppsim", "barrel", "--help"], "0 to 999999 (decimal)"),
         (&["ppsim", "threads", "--help"], "1 to 100000 (decimal)"),
+        (&["ppsim", "help", "threads"], "1 to 100000 (decimal)"),
     ];
     for (words, part) in table {
         let outcome = run_words(&rt, words, HANDOFF, 0);

@@ -1,11 +1,11 @@
 use Rattle.std.proofs.Common.{◌≡◌, ◌<◌, ℕ, None, length, slice_index_or, take}
 use Rattle.pp_sim.specs.Authors.{or_told}
-use Rattle.pp_sim.specs.ThreadsText.{tells}
+use Rattle.pp_sim.specs.ThreadsText.{log_tells}
 use Rattle.pp_sim.proofs.authors.mark.Given as goal
 
 abbrev pub invariant-loop-entry : goal.invariant-loop-entry
 invariant-loop-entry g l = record {
   long : length l.authors.items ≡ length l.fn.authors.items;
   marked : (number : ℕ) → number < length l.fn.authors.items
-      → slice_index_or l.authors.items number None ≡ or_told (slice_index_or l.fn.authors.items number None) (tells l.channel number (take l.entry-index l.log)) l.author;
+      → slice_index_or l.authors.items number None ≡ or_told (slice_index_or l.fn.authors.items number None) (log_tells l.channel number (take l.entry-index l.log)) l.author;
 }

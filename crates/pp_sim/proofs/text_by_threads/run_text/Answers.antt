@@ -1,4 +1,3 @@
-use Rattle.std.proofs.Common.{rules, Ok, refl, sym, ◌∙◌}
 use Rattle.pp_sim.proofs.FreshDeckLemmas.{fresh_deck}
 use Rattle.pp_sim.proofs.text_by_threads.run_text.Goals as goal
 

@@ -1,0 +1,12 @@
+use Rattle.std.proofs.Common.{inr}
+use Rattle.std.proofs.KnownBytes.{Keeps-refl}
+use Rattle.pp_sim.proofs.program.run_program.Goals as goal
+
+pub returns-in-Err : goal.returns-in-Err
+returns-in-Err g c = inr (record {
+  why = c.in-Err.fault;
+  refused = c.in-Err.ensures.refused;
+  number = c.in-Err.ensures.number;
+  unread = Keeps-refl _;
+  told = c.tell_line_fault.ensures;
+})

@@ -1,0 +1,70 @@
+-- What a run of the program comes to, by its words, by what was read and written, and by the status that it answers.
+use Rattle.std.specs.Prelude.{◌≡◌, ℕ, List, [], take, Option, Result, Ok, Err, IfSome, ◌⊎◌}
+use Rattle.std.specs.Io.KnownBytes.{Keeps}
+use Rattle.clap.specs.Words.{Text, kind_of}
+use Rattle.clap.specs.declared.error.Error.{Error}
+use Rattle.clap.specs.declared.error.kind.ErrorKind.TheVariants.{DisplayHelp, DisplayVersion}
+use Rattle.pp_sim.specs.BarrelText.{IsBarrelText}
+use Rattle.pp_sim.specs.CommandLine.{AskFor, IsOutOfRange, IsRefused, refusals}
+use Rattle.pp_sim.specs.DeckMeaning.{LoadedDeck}
+use Rattle.pp_sim.specs.TextAnswer.{AnswersTo, IsAnswer, most_bytes}
+use Rattle.pp_sim.specs.ThreadsText.{IsThreadsText}
+use Rattle.pp_sim.specs.declared.line_fault.LineFault.{LineFault}
+use Rattle.pp_sim.specs.declared.line_fault.LineFault.TheVariants as line
+use Rattle.pp_sim.specs.declared.text_fault.TextFault.{TextFault}
+use Rattle.pp_sim.specs.declared.text_fault.TextFault.TheVariants as fault
+use Rattle.pp_sim.specs.declared.work.Work.{Work}
+use Rattle.pp_sim.specs.declared.work.Work.TheVariants.{Barrel, Threads}
+
+-- ---- words that ask for work
+
+-- the texts that a work may print of a deck; Z is the allocator's type, of which a report is made
+abbrev pub IsTextBy : Type 0 → Work → LoadedDeck → List ℕ → Type 0
+IsTextBy Z (Barrel turns) = IsBarrelText turns
+IsTextBy Z (Threads limits) = IsThreadsText Z limits
+
+-- the answer of a work, to the bytes that were read, and to the first bytes of a reader that tells what it has
+pub record IsDone (Z : Type 0) (work : Work) (answer : Result (Unit {0}) TextFault) (before after old new : Option (List ℕ)) : Type 0 where
+  pub every_reader : (bytes : List ℕ) × AnswersTo (IsTextBy Z work) answer before after old new bytes
+  pub telling_reader : IfSome before (λ bytes. IsAnswer (IsTextBy Z work) answer (take most_bytes bytes) old new)
+
+-- the status of a work that was done, or failed
+abbrev pub status_of : Result (Unit {0}) TextFault → ℕ
+status_of (Ok done) = 0
+status_of (Err (fault.Deck f)) = 1
+status_of (Err fault.Read) = 3
+status_of (Err fault.Write) = 3
+status_of (Err fault.Memory) = 4
+
+-- the words are a command line that asks for a work, and the status is that of its answer
+pub record HasWorked (Z : Type 0) (words : List Text) (status : ℕ) (before after old new : Option (List ℕ)) : Type 0 where
+  pub taken : refusals words ≡ []
+  pub work : Work
+  pub asked : AskFor words work
+  pub answer : Result (Unit {0}) TextFault
+  pub done : IsDone Z work answer before after old new
+  pub told : status ≡ status_of answer
+
+-- ---- words that are refused
+
+-- clap's answer is a text that was asked for
+abbrev pub IsHelp : Error → Type 0
+IsHelp error = (kind_of error ≡ DisplayHelp) ⊎ (kind_of error ≡ DisplayVersion)
+
+-- the status of a refusal: 0 where help was printed, 3 where it could not be; in all other cases nothing is printed
+abbrev pub IsTold : LineFault → ℕ → Option (List ℕ) → Option (List ℕ) → Type 0
+IsTold line.Memory status old new = (status ≡ 4) × Keeps old new
+IsTold line.Number status old new = (status ≡ 2) × Keeps old new
+IsTold (line.Refused error) status old new = (IsHelp error × ((status ≡ 0) ⊎ (status ≡ 3))) ⊎ (¬ IsHelp error × (status ≡ 2) × Keeps old new)
+
+-- the words are refused, nothing is read, and the status tells why
+pub record HasRefused (words : List Text) (status : ℕ) (before after old new : Option (List ℕ)) : Type 0 where
+  pub why : LineFault
+  pub refused : IsRefused words why
+  pub number : IsOutOfRange words why
+  pub unread : Keeps before after
+  pub told : IsTold why status old new
+
+-- THE PROGRAM: it does the work that its words ask for, or refuses them
+abbrev pub IsRun : Type 0 → List Text → ℕ → Option (List ℕ) → Option (List ℕ) → Option (List ℕ) → Option (List ℕ) → Type 0
+IsRun Z words status before after old new = HasWorked Z words status before after old new ⊎ HasRefused words status before after old new
