@@ -2,8 +2,9 @@
 use Rattle.std.proofs.Common.{◌≡◌, ℕ, suc, ◌+◌, Bool, true, false, List, [], ◌∷◌, ◌++◌, length, if◌then◌else◌, refl, ap, ◌∙◌, sym, arith, append_assoc, append-nil}
 use Rattle.pp_machine.specs.NeedAndEffect.{need, processor_after}
 use Rattle.pp_machine.specs.Processor.{Processor}
-use Rattle.pp_machine.specs.Replay.{fits, replayed, given_count, events_given, looks_given, sights_given, events_of, looks_of, sights_of}
+use Rattle.pp_machine.specs.Replay.{fits, replayed, given_count, told_along}
 use Rattle.pp_machine.specs.declared.answer.Answer.{Answer}
+use Rattle.pp_machine.specs.declared.need.Need.{Need}
 
 -- each of these answers fits where it is given, and they leave this processor
 abbrev pub Gives : Processor → List Answer → Processor → Type 0
@@ -58,38 +59,14 @@ pub given_count-push : (xs : List Answer) (pp : Processor) (x : Answer) → give
 given_count-push xs pp x e f =
     given_count-Gives (xs ++ x ∷ []) pp _ (Gives-append xs (x ∷ []) pp (replayed pp xs) (processor_after (replayed pp xs) x) (Gives-counted xs pp e) (f, refl))
 
-events_given-Gives : (xs : List Answer) (pp new : Processor) (x : Answer) → Gives pp xs new →
-    fits (need new) x ≡ true → events_given pp (xs ++ x ∷ []) ≡ events_given pp xs ++ events_of (need new) x
-unfolding events_given
-events_given-Gives [] pp new x g f = rw (g, f) (append-nil (events_of (need new) x))
-events_given-Gives (y ∷ xs) pp new x g f =
-    rw g.0 (ap (λ more. events_of (need pp) y ++ more) (events_given-Gives xs (processor_after pp y) new x g.1 f) ∙ sym (append_assoc (events_of (need pp) y) (events_given (processor_after pp y) xs) (events_of (need new) x)))
+told_along-Gives : {X : Type 0} (tells : Need → Answer → List X) (xs : List Answer) (pp new : Processor) (x : Answer) → Gives pp xs new →
+    fits (need new) x ≡ true → told_along tells pp (xs ++ x ∷ []) ≡ told_along tells pp xs ++ tells (need new) x
+unfolding told_along
+told_along-Gives tells [] pp new x g f = rw (g, f) (append-nil (tells (need new) x))
+told_along-Gives tells (y ∷ xs) pp new x g f =
+    rw g.0 (ap (λ more. tells (need pp) y ++ more) (told_along-Gives tells xs (processor_after pp y) new x g.1 f) ∙ sym (append_assoc (tells (need pp) y) (told_along tells (processor_after pp y) xs) (tells (need new) x)))
 
-looks_given-Gives : (xs : List Answer) (pp new : Processor) (x : Answer) → Gives pp xs new →
-    fits (need new) x ≡ true → looks_given pp (xs ++ x ∷ []) ≡ looks_given pp xs ++ looks_of (need new) x
-unfolding looks_given
-looks_given-Gives [] pp new x g f = rw (g, f) (append-nil (looks_of (need new) x))
-looks_given-Gives (y ∷ xs) pp new x g f =
-    rw g.0 (ap (λ more. looks_of (need pp) y ++ more) (looks_given-Gives xs (processor_after pp y) new x g.1 f) ∙ sym (append_assoc (looks_of (need pp) y) (looks_given (processor_after pp y) xs) (looks_of (need new) x)))
-
-sights_given-Gives : (xs : List Answer) (pp new : Processor) (x : Answer) → Gives pp xs new →
-    fits (need new) x ≡ true → sights_given pp (xs ++ x ∷ []) ≡ sights_given pp xs ++ sights_of (need new) x
-unfolding sights_given
-sights_given-Gives [] pp new x g f = rw (g, f) (append-nil (sights_of (need new) x))
-sights_given-Gives (y ∷ xs) pp new x g f =
-    rw g.0 (ap (λ more. sights_of (need pp) y ++ more) (sights_given-Gives xs (processor_after pp y) new x g.1 f) ∙ sym (append_assoc (sights_of (need pp) y) (sights_given (processor_after pp y) xs) (sights_of (need new) x)))
-
-pub events_given-push : (xs : List Answer) (pp : Processor) (x : Answer) → given_count pp xs ≡ length xs →
+pub told_along-push : {X : Type 0} (tells : Need → Answer → List X) (xs : List Answer) (pp : Processor) (x : Answer) → given_count pp xs ≡ length xs →
     fits (need (replayed pp xs)) x ≡ true →
-    events_given pp (xs ++ x ∷ []) ≡ events_given pp xs ++ events_of (need (replayed pp xs)) x
-events_given-push xs pp x e f = events_given-Gives xs pp (replayed pp xs) x (Gives-counted xs pp e) f
-
-pub looks_given-push : (xs : List Answer) (pp : Processor) (x : Answer) → given_count pp xs ≡ length xs →
-    fits (need (replayed pp xs)) x ≡ true →
-    looks_given pp (xs ++ x ∷ []) ≡ looks_given pp xs ++ looks_of (need (replayed pp xs)) x
-looks_given-push xs pp x e f = looks_given-Gives xs pp (replayed pp xs) x (Gives-counted xs pp e) f
-
-pub sights_given-push : (xs : List Answer) (pp : Processor) (x : Answer) → given_count pp xs ≡ length xs →
-    fits (need (replayed pp xs)) x ≡ true →
-    sights_given pp (xs ++ x ∷ []) ≡ sights_given pp xs ++ sights_of (need (replayed pp xs)) x
-sights_given-push xs pp x e f = sights_given-Gives xs pp (replayed pp xs) x (Gives-counted xs pp e) f
+    told_along tells pp (xs ++ x ∷ []) ≡ told_along tells pp xs ++ tells (need (replayed pp xs)) x
+told_along-push tells xs pp x e f = told_along-Gives tells xs pp (replayed pp xs) x (Gives-counted xs pp e) f

@@ -1,26 +1,32 @@
--- A step of a processor at rest, and a step that needs nothing from outside.
-use Rattle.std.proofs.Common.{◌≡◌, ◌≢◌, ℕ, List, [], ◌++◌, append-nil, slice_set, refl, sym, ap, ◌∙◌}
-use Rattle.std.specs.Prelude.{None}
-use Rattle.std.proofs.lemmas.List.{set-get_or}
-use Rattle.pp_channel.specs.Answer.{flags_of}
+-- A step of a processor at rest, a step that needs nothing from outside, and what is true of each step.
+use Rattle.std.proofs.Common.{◌≡◌, ◌≢◌, ℕ, ◌<◌, List, [], ◌++◌, length, map, append-nil, slice_set, refl, sym, ap, ◌∙◌, subst}
+use Rattle.std.specs.Prelude.{None, Option, Some, Result, Ok, Err, OnOk, OnErr, IfOk}
+use Rattle.std.specs.Option.{option_to_list}
+use Rattle.std.proofs.lemmas.List.{set-get_or, get_or-set_same}
+use Rattle.pp_channel.specs.Answer.{event_of, reply_by, flags_of}
 use Rattle.pp_channel.specs.ChannelNumber.{channel_index}
+use Rattle.pp_channel.specs.declared.chan_op.ChanOp.{ChanOp}
 use Rattle.pp_channel.specs.declared.chan_op.ChanOp.TheVariants.{Probe}
 use Rattle.pp_channel.specs.declared.event.Event.{Event}
+use Rattle.pp_channel.specs.declared.event.Event.TheVariants as events
 use Rattle.pp_channel.specs.declared.flags.Flags.{Flags}
+use Rattle.pp_channel.specs.declared.reply.Reply.{Reply}
 use Rattle.pp_channel.specs.declared.reply.Reply.TheVariants as replies
 use Rattle.pp_machine.specs.MachineState.{MachineState, processor_of, history_of}
 use Rattle.pp_machine.specs.MachineStep.{answer_to, counted, event_for, served, taken, stepped, step_event, step_outcome}
-use Rattle.pp_machine.specs.NeedAndEffect.{need, need_in, outcome}
+use Rattle.pp_machine.specs.NeedAndEffect.{need, need_in, processor_after, outcome}
 use Rattle.pp_machine.specs.Processor.{Processor, new_processor}
 use Rattle.pp_machine.specs.ProcessorNumber.{processor_index}
-use Rattle.pp_machine.specs.StepLaws.{IsAtRest}
+use Rattle.pp_machine.specs.StepLaws.{IsAtRest, IsAtFault, IsHeldAnswer, KeepsMemoryAndRegisters}
 use Rattle.pp_machine.specs.declared.answer.Answer.TheVariants as answers
-use Rattle.pp_machine.specs.declared.need.Need.TheVariants.{Nothing, Local, Channel}
-use Rattle.pp_machine.specs.declared.outcome.Outcome.TheVariants.{AtRest, Moved}
+use Rattle.pp_machine.specs.declared.need.Need.{Need}
+use Rattle.pp_machine.specs.declared.need.Need.TheVariants.{Nothing, Local, Channel, Read, Write}
+use Rattle.pp_machine.specs.declared.outcome.Outcome.{Outcome}
+use Rattle.pp_machine.specs.declared.outcome.Outcome.TheVariants.{AtRest, Held, Moved}
 use Rattle.pp_machine.specs.declared.trace.Trace.{Trace}
 use Rattle.pp_machine.specs.declared.pp_state.PpState.{PpState}
 use Rattle.pp_machine.specs.declared.pp_state.PpState.TheVariants.{Running, Stopped, Fault}
-use Rattle.pp_machine.proofs.StepLemmas.{at_rest, rest_changes_nothing}
+use Rattle.pp_machine.proofs.StepLemmas.{at_rest, rest_changes_nothing, held_changes_nothing, held_by_answer, fault_keeps}
 
 needs_nothing : (state : PpState) (pp : Processor) → state ≢ Running → need_in state pp ≡ Nothing
 needs_nothing Running pp rests = absurd (rests refl)
@@ -73,3 +79,65 @@ outcome_by_probe n c flags m probes shown moved =
     ap (λ x. outcome (processor_of n m) (answer_to x m)) probes
     ∙ ap (λ f. outcome (processor_of n m) (answers.Channel (replies.Flags f))) (sym shown)
     ∙ moved
+
+-- an operation that was held made no event
+held_made_none : (op : ChanOp) (h : List Event) (made : Option Event) (flags : Flags) → reply_by op h made ≡ replies.Held flags → made ≡ None
+held_made_none op h None flags e = refl
+held_made_none op h (Some events.Activate) flags e = cc
+held_made_none op h (Some events.Disconnect) flags e = cc
+held_made_none op h (Some (events.Put w)) flags e = cc
+held_made_none op h (Some (events.Take w)) flags e = cc
+held_made_none op h (Some (events.Function w)) flags e = cc
+
+held_reply : (flags : Flags) (reply : Reply) → answers.Channel reply ≡ answers.Channel (replies.Held flags) → reply ≡ replies.Held flags
+held_reply flags reply e = cc
+
+-- and changed no history
+served_held : (n : ℕ) (x : Need) (m : MachineState) (flags : Flags) → answer_to x m ≡ answers.Channel (replies.Held flags) → served n x m ≡ m
+served_held n Nothing m flags e = cc
+served_held n Local m flags e = cc
+served_held n (Read a) m flags e = cc
+served_held n (Write a w) m flags e = cc
+served_held n (Channel c op) m flags e =
+    let h = history_of c m in
+    let none : event_of op h ≡ None = held_made_none op h (event_of op h) flags (held_reply flags (reply_by op h (event_of op h)) e) in
+    ap (λ (made : Option Event). record m { histories = slice_set m.histories (channel_index c) (h ++ option_to_list made); trace = m.trace ++ map (λ e. record { turn = m.turns; pp = n; channel = c; event = e }) (option_to_list made) }) none
+    ∙ ap (λ (g : List Event). record m { histories = slice_set m.histories (channel_index c) g; trace = m.trace ++ [] }) (append-nil h)
+    ∙ ap (λ (hs : List (List Event)). record m { histories = hs; trace = m.trace ++ [] }) (set-get_or m.histories (channel_index c) [])
+    ∙ ap (λ (t : List Trace). record m { trace = t }) (append-nil m.trace)
+
+-- a step that is held counts a turn, and does nothing else
+stepped_held : (n : ℕ) (m : MachineState) → step_outcome n m ≡ Held → stepped n m ≡ record m { turns = counted m.turns }
+unfolding stepped step_outcome
+stepped_held n m e =
+    let pp = processor_of n m in
+    let x = answer_to (need pp) m in
+    let held : IsHeldAnswer x = held_by_answer pp x e in
+    ap (λ (k : MachineState). taken n x k) (served_held n (need pp) m held.0 held.1)
+    ∙ ap (λ (q : Processor). record m { processors = slice_set m.processors (processor_index n) q; turns = counted m.turns }) (held_changes_nothing pp x e)
+    ∙ ap (λ (pps : List Processor). record m { processors = pps; turns = counted m.turns }) (set-get_or m.processors (processor_index n) new_processor)
+
+pub held_step : {E : Type 0} (n : ℕ) (old new : MachineState) (result : Result Outcome E) → OnOk result (new ≡ stepped n old) → IfOk result (λ o. o ≡ step_outcome n old) →
+    IfOk result (λ o. o ≡ Held → new ≡ record old { turns = counted old.turns })
+held_step n old new (Ok o) ok outcome = λ held. ok ∙ stepped_held n old (sym outcome ∙ held)
+held_step n old new (Err e) ok outcome = tt
+
+-- a step that ends in a fault leaves memory, A and P of its processor
+stepped_fault : (n : ℕ) (m : MachineState) → processor_index n < length m.processors → (processor_of n m).state ≡ Running →
+    IsAtFault (processor_of n (stepped n m)) → KeepsMemoryAndRegisters (processor_of n m) (processor_of n (stepped n m))
+unfolding stepped
+stepped_fault n m within running fault =
+    let pp = processor_of n m in
+    let x = answer_to (need pp) m in
+    let here : processor_of n (taken n x (served n (need pp) m)) ≡ processor_after pp x = get_or-set_same m.processors (processor_index n) (processor_after pp x) new_processor within in
+    subst (λ (q : Processor). KeepsMemoryAndRegisters pp q) (sym here) (fault_keeps pp x running (subst (λ (q : Processor). IsAtFault q) here fault))
+
+running_is_no_fault : (pp : Processor) → pp.state ≡ Running → IsAtFault pp → ⊥
+running_is_no_fault pp running fault = let is : pp.state ≡ Fault fault.0 = fault.1 in cc
+
+pub fault_step : {E : Type 0} (n : ℕ) (old new : MachineState) (result : Result Outcome E) → processor_index n < length old.processors → OnOk result (new ≡ stepped n old) → OnErr result (new ≡ old) →
+    (processor_of n old).state ≡ Running → IsAtFault (processor_of n new) → KeepsMemoryAndRegisters (processor_of n old) (processor_of n new)
+fault_step n old new (Ok o) within ok err running fault =
+    subst (λ (m : MachineState). KeepsMemoryAndRegisters (processor_of n old) (processor_of n m)) (sym ok) (stepped_fault n old within running (subst (λ (m : MachineState). IsAtFault (processor_of n m)) ok fault))
+fault_step n old new (Err e) within ok err running fault =
+    absurd (running_is_no_fault (processor_of n old) running (subst (λ (m : MachineState). IsAtFault (processor_of n m)) err fault))

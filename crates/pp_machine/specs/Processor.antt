@@ -1,10 +1,10 @@
 -- A peripheral processor as contracts see it.
 -- (Manual 60100000, peripheral processors: memory, the accumulator A, the program address P.)
-use Rattle.std.specs.Prelude.{ℕ, ◌<◌, ◌^◌, List, Option, None, slice_index}
+use Rattle.std.specs.Prelude.{ℕ, ◌<◌, ◌≤◌, ◌^◌, List, Option, None, slice_index}
 use Rattle.pp_machine.specs.PpMemory.{IsMemory, empty_memory}
 use Rattle.pp_machine.specs.declared.block.Block.{Block}
 use Rattle.pp_machine.specs.declared.pp_state.PpState.{PpState}
-use Rattle.pp_machine.specs.declared.pp_state.PpState.TheVariants.{Stopped}
+use Rattle.pp_machine.specs.declared.pp_state.PpState.TheVariants.{Stopped, Fault}
 
 -- memory, A of 18 bits, P of 12 bits, whether it goes on, and perhaps a block transfer in progress
 pub record Processor : Type 0 where
@@ -21,6 +21,16 @@ word_at pp place = slice_index pp.memory place
 -- a processor before anything is set
 abbrev pub new_processor : Processor
 new_processor = record { memory = empty_memory; a = 0; p = 0; state = Stopped; block = None }
+
+-- the faults: 1 exchange jump, 2 no central processor, 3 no such channel, 4 central address at or past the size
+pub record IsFaultNumber (number : ℕ) : Type 0 where
+  pub first : 1 ≤ number
+  pub last : number ≤ 4
+
+-- a fault is one of these
+abbrev pub HasFaultNumber : PpState → Type 0
+HasFaultNumber (Fault number) = IsFaultNumber number
+HasFaultNumber state = Unit {0}
 
 -- memory and registers have the widths that the manual gives
 pub record IsProcessor (pp : Processor) : Type 0 where

@@ -1,12 +1,12 @@
 -- A replay: a processor is given answers in order, up to the first that does not fit its need.
-use Rattle.std.specs.Prelude.{ℕ, ◌+◌, Bool, true, false, List, [], ◌∷◌, ◌++◌, map, if◌then◌else◌}
+use Rattle.std.specs.Prelude.{ℕ, ◌+◌, Bool, true, false, List, [], ◌∷◌, ◌++◌, map, Option, Some, if◌then◌else◌}
+use Rattle.std.specs.Option.{option_map, option_to_list}
+use Rattle.pp_channel.specs.LineLog.{event_answered}
 use Rattle.pp_channel.specs.declared.chan_op.ChanOp.{ChanOp}
 use Rattle.pp_channel.specs.declared.chan_op.ChanOp.TheVariants as operations
 use Rattle.pp_channel.specs.declared.entry.Seen.{Seen}
 use Rattle.pp_channel.specs.declared.entry.Seen.TheVariants.{Did, Saw}
 use Rattle.pp_channel.specs.declared.event.Event.{Event}
-use Rattle.pp_channel.specs.declared.event.Event.TheVariants as events
-use Rattle.pp_channel.specs.declared.flags.Flags.{Flags}
 use Rattle.pp_channel.specs.declared.reply.Reply.{Reply}
 use Rattle.pp_channel.specs.declared.reply.Reply.TheVariants as replies
 use Rattle.pp_machine.specs.NeedAndEffect.{need, processor_after}
@@ -50,64 +50,43 @@ unfoldable pub given_count : Processor → List Answer → ℕ
 given_count pp [] = 0
 given_count pp (answer ∷ more) = if fits (need pp) answer then given_count (processor_after pp answer) more + 1 else 0
 
--- an event of a channel, and the flags that a look found, each with the channel's number
+-- an event, and an event or a look, each with the channel's number
 pub record ChannelEvent : Type 0 where
   pub channel : ℕ
   pub event : Event
 
-pub record ChannelLook : Type 0 where
-  pub channel : ℕ
-  pub flags : Flags
-
--- the event of an operation that was answered Done or Word
-abbrev pub event_given : ℕ → ChanOp → Reply → List ChannelEvent
-event_given channel operations.Activate replies.Done = record { channel = channel; event = events.Activate } ∷ []
-event_given channel operations.Disconnect replies.Done = record { channel = channel; event = events.Disconnect } ∷ []
-event_given channel (operations.Put word) replies.Done = record { channel = channel; event = events.Put word } ∷ []
-event_given channel (operations.Function code) replies.Done = record { channel = channel; event = events.Function code } ∷ []
-event_given channel operations.Take (replies.Word word) = record { channel = channel; event = events.Take word } ∷ []
-event_given channel operation reply = []
-
--- the look of an operation that was answered Flags or Held
-abbrev pub look_given : ℕ → Reply → List ChannelLook
-look_given channel (replies.Flags flags) = record { channel = channel; flags = flags } ∷ []
-look_given channel (replies.Held flags) = record { channel = channel; flags = flags } ∷ []
-look_given channel reply = []
-
--- the event and the look of an answer to a need
-abbrev pub events_of : Need → Answer → List ChannelEvent
-events_of (needs.Channel channel operation) (answers.Channel reply) = event_given channel operation reply
-events_of need answer = []
-
-abbrev pub looks_of : Need → Answer → List ChannelLook
-looks_of (needs.Channel channel operation) (answers.Channel reply) = look_given channel reply
-looks_of need answer = []
-
--- the events of a replay, in order
-unfoldable pub events_given : Processor → List Answer → List ChannelEvent
-events_given pp [] = []
-events_given pp (answer ∷ more) =
-    if fits (need pp) answer then events_of (need pp) answer ++ events_given (processor_after pp answer) more else []
-
--- the looks of a replay, in order
-unfoldable pub looks_given : Processor → List Answer → List ChannelLook
-looks_given pp [] = []
-looks_given pp (answer ∷ more) =
-    if fits (need pp) answer then looks_of (need pp) answer ++ looks_given (processor_after pp answer) more else []
-
--- an event or a look, with the channel's number
 pub record ChannelSight : Type 0 where
   pub channel : ℕ
   pub what : Seen
 
--- the event or the look of an answer to a need
+-- what an operation that was answered so did or saw: Done and Word tell its event, Flags and Held are looks
+abbrev pub seen_by : ChanOp → Reply → Option Seen
+seen_by operation (replies.Flags flags) = Some (Saw flags)
+seen_by operation (replies.Held flags) = Some (Saw flags)
+seen_by operation reply = option_map (λ e. Did e) (event_answered operation reply)
+
+-- the event of an answer to a need, if it tells one
+abbrev pub events_of : Need → Answer → List ChannelEvent
+events_of (needs.Channel channel operation) (answers.Channel reply) =
+    map (λ e. record { channel = channel; event = e }) (option_to_list (event_answered operation reply))
+events_of need answer = []
+
+-- the event or the look of an answer to a need, if it tells one
 abbrev pub sights_of : Need → Answer → List ChannelSight
-sights_of need answer =
-    map (λ e. record { channel = e.channel; what = Did e.event }) (events_of need answer)
-    ++ map (λ l. record { channel = l.channel; what = Saw l.flags }) (looks_of need answer)
+sights_of (needs.Channel channel operation) (answers.Channel reply) =
+    map (λ what. record { channel = channel; what = what }) (option_to_list (seen_by operation reply))
+sights_of need answer = []
+
+-- what each answer tells, along a replay, end to end
+unfoldable pub told_along : {X : Type 0} → (Need → Answer → List X) → Processor → List Answer → List X
+told_along tells pp [] = []
+told_along tells pp (answer ∷ more) =
+    if fits (need pp) answer then tells (need pp) answer ++ told_along tells (processor_after pp answer) more else []
+
+-- the events of a replay, in order
+abbrev pub events_given : Processor → List Answer → List ChannelEvent
+events_given pp given = told_along events_of pp given
 
 -- the events and the looks of a replay together, in order
-unfoldable pub sights_given : Processor → List Answer → List ChannelSight
-sights_given pp [] = []
-sights_given pp (answer ∷ more) =
-    if fits (need pp) answer then sights_of (need pp) answer ++ sights_given (processor_after pp answer) more else []
+abbrev pub sights_given : Processor → List Answer → List ChannelSight
+sights_given pp given = told_along sights_of pp given

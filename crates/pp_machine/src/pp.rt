@@ -11,7 +11,7 @@ mod reply;
 mod step;
 
 ghost use Rattle.std.specs.Prelude.{◌≡◌};
-ghost use Rattle.pp_machine.specs.Processor.{IsProcessor, new_processor, word_at};
+ghost use Rattle.pp_machine.specs.Processor.{IsProcessor, HasFaultNumber, new_processor, word_at};
 
 use crate::block::Block;
 use crate::pp_memory::PpMemory;
@@ -32,11 +32,13 @@ pub struct Pp {
 }
 
 impl Model for Pp {
-    ghost use Rattle.pp_machine.specs.Processor.{Processor};
+    ghost use Rattle.pp_machine.specs.Processor.{Processor, HasFaultNumber};
 
     ghost Value = { Processor };
 
     ghost view = { λ pp. record { memory = pp.memory; a = pp.a; p = pp.p; state = pp.state; block = pp.block } };
+
+    ghost invariant = { λ pp. HasFaultNumber pp.state };
 }
 
 impl Pp {
@@ -78,7 +80,9 @@ impl Pp {
 
     /// Whether it goes on.
     pub fn state(&self) -> PpState
-        ensures { result ≡ self.now.state }
+        ensures value { result ≡ self.now.state }
+        // Every processor at a fault is at a numbered one, however it came there.
+        ensures fault_number { HasFaultNumber result }
     {
         self.state
     }

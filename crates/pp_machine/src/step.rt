@@ -9,7 +9,7 @@ ghost use Rattle.pp_channel.specs.Law.{KeepsLaw};
 ghost use Rattle.pp_machine.specs.Direct.{IsAtInstruction, IsNext};
 ghost use Rattle.pp_machine.specs.NeedAndEffect.{need};
 ghost use Rattle.pp_machine.specs.Replay.{fits};
-ghost use Rattle.pp_machine.specs.StepLaws.{IsAtRest};
+ghost use Rattle.pp_machine.specs.StepLaws.{IsAtRest, IsAtFault, KeepsMemoryAndRegisters};
 
 use crate::answer::Answer;
 use crate::machine::Machine;
@@ -28,13 +28,15 @@ impl<A: Allocator> Machine<A> {
     ghost use Rattle.pp_machine.specs.MachineStep.{answer_to, counted, event_for, served, stepped, step_event, step_outcome};
 
     /// One step of a processor; a step that makes no event takes no memory.
-    #[tactic(auto, using(crate::proofs::MachineStepLemmas::stepped_at_rest, crate::proofs::MachineStepLemmas::outcome_at_rest))]
+    #[tactic(auto, using(crate::proofs::MachineStepLemmas::stepped_at_rest, crate::proofs::MachineStepLemmas::outcome_at_rest, crate::proofs::MachineStepLemmas::held_step, crate::proofs::MachineStepLemmas::fault_step))]
     pub fn step(&mut self, n: PpNo) -> Result<Outcome, Memory>
         ensures ok { OnOk result (self.new ≡ stepped n self.old) }
         ensures outcome { IfOk result (λ o. o ≡ step_outcome n self.old) }
         ensures err { OnErr result (self.new ≡ self.old) }
         ensures no_event { IsNone (step_event n self.old) → IsOk result }
         ensures at_rest { IsAtRest (processor_of n self.old) → self.new ≡ record self.old { turns = counted self.old.turns } }
+        ensures held { IfOk result (λ o. o ≡ Outcome.Held → self.new ≡ record self.old { turns = counted self.old.turns }) }
+        ensures fault_keeps { (processor_of n self.old).state ≡ PpState.Running → IsAtFault (processor_of n self.new) → KeepsMemoryAndRegisters (processor_of n self.old) (processor_of n self.new) }
         ensures headline { HoldsOnEachChannel self.new }
     {
         match self.processors[n.index()].state() {

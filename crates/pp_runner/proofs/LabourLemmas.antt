@@ -2,26 +2,28 @@
 use Rattle.std.proofs.Common.{◌≡◌, ℕ, ◌+◌, ◌-◌, ◌*◌, ◌<◌, ◌≤◌, Bool, true, false, List, [], ◌∷◌, ◌++◌, length, map, take, Option, None, Some, refl, sym, ap, ◌∙◌, subst, inl, inr, arith, append_assoc}
 use Rattle.std.specs.Prelude.{◌⊎◌, ◌==◌, ◌≢◌, IsTrue, slice_get, is_none}
 use Rattle.std.specs.List.{last_or, filter_map}
+use Rattle.std.specs.Option.{option_map, option_to_list}
 use Rattle.std.proofs.lemmas.Bool.{both_ways, eq-eqb, cases_Bool, cases_lt, cases_eq}
 use Rattle.std.proofs.lemmas.List.{append-nil, length-append, take-append-le}
-use Rattle.std.proofs.lemmas.List.Elements.{filter_map-append}
 use Rattle.std.proofs.lemmas.Option.{slice_get_within, slice_get-get_or}
 use Rattle.std.proofs.Math.ListN.{get_or-append}
 use Rattle.std.proofs.Math.Seq.{take-append_seam, get_or-append_seam}
 use Rattle.pp_channel.proofs.LastElements.{last_or-push}
-use Rattle.pp_channel.specs.LineLog.{LogState, empty_log, appended, looked, is_look_at}
+use Rattle.pp_channel.specs.LineLog.{LogState, empty_log, appended, looked, is_look_at, event_answered}
 use Rattle.pp_channel.specs.RisingLog.{IsRising}
 use Rattle.pp_channel.specs.declared.chan_op.ChanOp.{ChanOp}
 use Rattle.pp_channel.specs.declared.chan_op.ChanOp.TheVariants as operations
 use Rattle.pp_channel.specs.declared.entry.Entry.{Entry}
 use Rattle.pp_channel.specs.declared.entry.Seen.{Seen}
 use Rattle.pp_channel.specs.declared.entry.Seen.TheVariants.{Did, Saw}
+use Rattle.pp_channel.specs.declared.event.Event.{Event}
 use Rattle.pp_channel.specs.declared.flags.Flags.{Flags}
+use Rattle.pp_channel.specs.declared.reply.Reply.{Reply}
 use Rattle.pp_channel.specs.declared.reply.Reply.TheVariants as replies
-use Rattle.pp_machine.proofs.GivenLemmas.{replayed-push, given_count-push, events_given-push, sights_given-push}
+use Rattle.pp_machine.proofs.GivenLemmas.{replayed-push, given_count-push, told_along-push}
 use Rattle.pp_machine.specs.NeedAndEffect.{need, processor_after, outcome}
 use Rattle.pp_machine.specs.Processor.{Processor}
-use Rattle.pp_machine.specs.Replay.{ChannelEvent, ChannelLook, ChannelSight, fits, replayed, given_count, events_given, sights_given, events_of, looks_of, sights_of}
+use Rattle.pp_machine.specs.Replay.{ChannelEvent, ChannelSight, fits, replayed, given_count, told_along, events_given, sights_given, events_of, sights_of}
 use Rattle.pp_machine.specs.StepLaws.{IsHeldAnswer}
 use Rattle.pp_machine.specs.declared.answer.Answer.{Answer}
 use Rattle.pp_machine.specs.declared.answer.Answer.TheVariants as answers
@@ -65,18 +67,44 @@ each_push P load xs x h p i y is =
 abbrev events_among : List ChannelSight → List ChannelEvent
 events_among ss = filter_map (λ s. event_in s.channel s.what) ss
 
-among_events : (es : List ChannelEvent) → events_among (map (λ e. record { channel = e.channel; what = Did e.event }) es) ≡ es
-among_events [] = refl
-among_events (e ∷ es) = ap (λ l. e ∷ l) (among_events es)
+-- Flags and Held tell no event
+no_event_flags : (operation : ChanOp) (f : Flags) → event_answered operation (replies.Flags f) ≡ None
+no_event_flags operations.Probe f = refl
+no_event_flags operations.Activate f = refl
+no_event_flags operations.Disconnect f = refl
+no_event_flags (operations.Put w) f = refl
+no_event_flags operations.Take f = refl
+no_event_flags (operations.Function w) f = refl
 
-among_looks : (ls : List ChannelLook) → events_among (map (λ l. record { channel = l.channel; what = Saw l.flags }) ls) ≡ []
-among_looks [] = refl
-among_looks (l ∷ ls) = among_looks ls
+no_event_held : (operation : ChanOp) (f : Flags) → event_answered operation (replies.Held f) ≡ None
+no_event_held operations.Probe f = refl
+no_event_held operations.Activate f = refl
+no_event_held operations.Disconnect f = refl
+no_event_held (operations.Put w) f = refl
+no_event_held operations.Take f = refl
+no_event_held (operations.Function w) f = refl
+
+among_event : (c : ℕ) (e : Option Event) →
+    events_among (map (λ what. record { channel = c; what = what }) (option_to_list (option_map (λ e. Did e) e))) ≡ map (λ e. record { channel = c; event = e }) (option_to_list e)
+among_event c None = refl
+among_event c (Some e) = refl
+
+among_seen : (c : ℕ) (operation : ChanOp) (reply : Reply) →
+    events_among (sights_of (needs.Channel c operation) (answers.Channel reply)) ≡ events_of (needs.Channel c operation) (answers.Channel reply)
+among_seen c operation (replies.Flags f) = rw (no_event_flags operation f) refl
+among_seen c operation (replies.Held f) = rw (no_event_held operation f) refl
+among_seen c operation replies.Done = among_event c (event_answered operation replies.Done)
+among_seen c operation (replies.Word w) = among_event c (event_answered operation (replies.Word w))
 
 among_sights : (n : Need) (x : Answer) → events_among (sights_of n x) ≡ events_of n x
-among_sights n x =
-    filter_map-append (λ s. event_in s.channel s.what) (map (λ e. record { channel = e.channel; what = Did e.event }) (events_of n x)) (map (λ l. record { channel = l.channel; what = Saw l.flags }) (looks_of n x))
-    ∙ ((λ i. among_events (events_of n x) i ++ among_looks (looks_of n x) i) ∙ append-nil (events_of n x))
+among_sights (needs.Channel c operation) (answers.Channel reply) = among_seen c operation reply
+among_sights (needs.Channel c operation) answers.Local = refl
+among_sights (needs.Channel c operation) (answers.Read word) = refl
+among_sights (needs.Channel c operation) (answers.Wrote written) = refl
+among_sights needs.Nothing x = refl
+among_sights needs.Local x = refl
+among_sights (needs.Read a) x = refl
+among_sights (needs.Write a w) x = refl
 
 -- a log after the sights of an answer
 record IsLogged (ss : List ChannelSight) (before after : LogState) : Type 0 where
@@ -197,14 +225,14 @@ work_moved load size steps pp new xs x before after kept work fewer told moved n
     let stays : settled kept ≡ after.entries = settled_kept kept (ap (λ l. l.kept) kept_is) ∙ ap (λ l. l.entries) kept_is in
     let n : length (xs ++ x ∷ []) ≡ length xs + 1 = length-append xs (x ∷ []) in
     let more : sights_given load (xs ++ x ∷ []) ≡ sights_given load xs ++ sights_of (need pp) x =
-    sights_given-push xs load x work.all_given fit ∙ ap (λ q. sights_given load xs ++ sights_of (need q) x) (sym same) in
+    told_along-push sights_of xs load x work.all_given fit ∙ ap (λ q. sights_given load xs ++ sights_of (need q) x) (sym same) in
     let count : length (sights_given load (xs ++ x ∷ [])) ≡ length (sights_given load xs) + length (sights_of (need pp) x) =
     ap length more ∙ length-append (sights_given load xs) (sights_of (need pp) x) in record {
       pp_is = new_is ∙ (ap (λ q. processor_after q x) same ∙ sym (replayed-push xs load x work.all_given fit));
       all_given = given_count-push xs load x work.all_given fit;
       all_moved = each_push (λ q y. outcome q y ≡ Moved) load xs x work.all_moved (ap (λ q. outcome q x) (sym same) ∙ moved);
       by_size = each_push (λ q y. IsBySize size (need q) y) load xs x work.by_size (subst (λ (q : Processor). IsBySize size (need q) x) same told.by_size);
-      events = ap (λ l. events_in l.entries) kept_is ∙ (log.events ∙ ((λ i. work.events i ++ among_sights (need pp) x i) ∙ (ap (λ q. events_given load xs ++ events_of (need q) x) same ∙ sym (events_given-push xs load x work.all_given fit))));
+      events = ap (λ l. events_in l.entries) kept_is ∙ (log.events ∙ ((λ i. work.events i ++ among_sights (need pp) x i) ∙ (ap (λ q. events_given load xs ++ events_of (need q) x) same ∙ sym (told_along-push events_of xs load x work.all_given fit))));
       sights = subst (λ (ss : List ChannelSight). StandsIn ss (sights_in (settled kept))) (sym more)
           (subst (λ (l : List Entry). StandsIn (sights_given load xs ++ sights_of (need pp) x) (sights_in l)) (sym stays) (log.sights (sights_given load xs) work.sights));
       rising = subst (λ (l : List Entry). IsRising l) (sym (ap (λ l. l.entries) kept_is)) (told.rising work.rising);
@@ -276,7 +304,7 @@ work_held load size steps pp new xs x before after work fewer told held new_is =
 
 -- a worker before its first step
 pub work_begins : (load pp : Processor) (size steps : ℕ) (xs : List Answer) (log : LogState) → pp ≡ load → xs ≡ [] → log ≡ empty_log (2 * steps + 1) → IsAtWork load size steps pp xs log
-unfolding replayed given_count events_given sights_given
+unfolding replayed given_count told_along
 work_begins load pp size steps xs log pp_is none is =
     let entries : log.entries ≡ [] = ap (λ l. l.entries) is in
     let stays : settled log ≡ [] = settled_kept log (ap (λ l. l.kept) is) ∙ entries in record {

@@ -1,6 +1,7 @@
 //! What single instructions do.
 
 ghost use Rattle.std.specs.Prelude.{◌≡◌, IsTrue};
+ghost use Rattle.pp_machine.specs.Processor.{IsFaultNumber};
 ghost use Rattle.pp_machine.specs.Effects.{goes_on, goes_to, faults, jumps_or_stops, jumps_where, branches_where, calls, is_negative, leads_to_itself, loads, loads_word, adds_word, subtracts_word, differs_from_word, stores_word, replaces, replaces_by_sum, replaces_by_one_more, replaces_by_one_less};
 
 use crate::pp::Pp;
@@ -35,6 +36,7 @@ impl Pp {
 
     /// A numbered fault.
     pub(super) fn fault(&mut self, number: u8)
+        requires { IsFaultNumber number }
         ensures { self.new ≡ faults self.old number }
     {
         self.state = PpState::Fault(number);

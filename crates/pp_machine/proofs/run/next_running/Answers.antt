@@ -26,7 +26,7 @@ loop-place-preserved g c =
         | in-Stopped w ↦
             let rests : IsAtRest (get_or processors place new_processor) =
             let here = get_or_read processors place c.index.result.now (omega arith) c.index.ensures new_processor in
-            let state : c.state.result ≡ (get_or processors place new_processor).state = c.state.ensures ∙ ap (λ (pp : Processor). pp.state) here in
+            let state : c.state.result ≡ (get_or processors place new_processor).state = c.state.ensures.value ∙ ap (λ (pp : Processor). pp.state) here in
             λ running. elim w.in-Stopped.is [ inl stopped ↦ cc | inr fault ↦ let is = fault.1 in cc ] in
             rw w.running-is (passes_from_rest next place c.loop-place.running processors inside rests so_far)
       ];
