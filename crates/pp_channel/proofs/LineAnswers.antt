@@ -116,8 +116,8 @@ module _ {line : LineState} {c word : ℕ} (t : TellsLine line c word) (op : Cha
       let k = held_by_table word op f stepped in
       looked_at_once (Held f) after is (ap (λ g. looked line.log (record { channel = c; number = number_in word; what = Saw g })) k.3) refl (answer_held word op f stepped now now_lawful now_bits t.word_is) (λ no. let n = k.1 in omega arith)
 
-  pub worn_by_load : (after : LineState) → WordStep.Worn ≡ step_from op word → after ≡ with_word line c word → IsWornOut line c op after
-  worn_by_load after stepped is =
+  pub worn_by_load : (after : LineState) → length line.seen ≡ channel_count → WordStep.Worn ≡ step_from op word → after ≡ with_word line c word → IsWornOut line c op after
+  worn_by_load after each stepped is =
       let k = worn_by_table word op stepped in
       record {
         no_probe = k.0;
@@ -127,6 +127,7 @@ module _ {line : LineState} {c word : ℕ} (t : TellsLine line c word) (op : Cha
         histories = t.histories;
         known = let P : LineState → Type 0 = λ x. Knows x t.histories in subst P (sym is) (knows_word t);
         worn = sym (number_told t) ∙ k.1;
+        all_seen = ap (λ x. seen_on c x.seen) is ∙ (get_or-set_same line.seen c (number_in word) 0 (omega (arith, t.named, each)) ∙ k.1);
       }
 
   -- a line that tried an event after its load

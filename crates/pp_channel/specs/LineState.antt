@@ -61,6 +61,10 @@ joined line other = record {
   table = line.table;
 }
 
+-- Of each channel the line afterwards has seen at least as many events as this one.
+abbrev pub ForgetsNothing : LineState → LineState → Type 0
+ForgetsNothing line after = (c : ℕ) → seen_on c line.seen ≤ seen_on c after.seen
+
 -- A line that holds every share knows all that happened.
 pub record KnowsAll (line : LineState) (histories : List (List Event)) : Type 0 where
   pub merged : Merges no_opening histories line.log.entries
@@ -139,7 +143,7 @@ worn_out line c word = record line {
   found = line.found ++ record { channel = c; word = word } ∷ [];
 }
 
--- The channel has had as many events as its word can count, and the operation is no probe.
+-- The channel has had as many events as its word can count, the line has now seen them all, and the operation is no probe.
 pub record IsWornOut (line : LineState) (c : ℕ) (op : ChanOp) (after : LineState) : Type 0 where
   pub no_probe : op ≢ ChanOp.Probe
   pub word : ℕ
@@ -148,6 +152,7 @@ pub record IsWornOut (line : LineState) (c : ℕ) (op : ChanOp) (after : LineSta
   pub histories : List (List Event)
   pub known : Knows after histories
   pub worn : length (history_on c histories) ≡ greatest_number
+  pub all_seen : seen_on c after.seen ≡ greatest_number
 
 -- The channels of a line that holds every share: their histories are those that its log tells.
 pub record AreClosed (line : LineState) (histories : List (List Event)) : Type 0 where

@@ -4,7 +4,7 @@ ghost use Rattle.std.specs.Prelude.{◌≡◌, ◌≤◌, ◌-◌, List, [], ◌
 ghost use Rattle.pp_channel.specs.declared.event.Event.{Event};
 ghost use Rattle.pp_channel.specs.ChannelNumber.{channel_count};
 ghost use Rattle.pp_channel.specs.RisingLog.{IsRising, IsWithin, seen_on};
-ghost use Rattle.pp_channel.specs.LineState.{LineState, IsOpened, IsSplitFrom, greater_of_each, joined, IsActed, IsWornOut, AreClosed};
+ghost use Rattle.pp_channel.specs.LineState.{LineState, IsOpened, IsSplitFrom, greater_of_each, joined, ForgetsNothing, IsActed, IsWornOut, AreClosed};
 ghost use Rattle.pp_channel.specs.LineCalls.{with_word, with_look, TellsLine, HasMade, HasLost};
 ghost use Rattle.pp_channel.specs.ChannelWord.{history_word, number_in};
 ghost use Rattle.pp_channel.specs.History.{IsLawful, HasTwelveBitWord, HasTwelveBitWords};
@@ -263,6 +263,7 @@ impl<A: Allocator + Copy> Line<A> {
     pub fn join(mut self, other: Line<A>) -> Result<Line<A>, (Line<A>, Line<A>, Memory)>
         requires { other.table ≡ self.table }
         ensures ok { IfOk result (λ line. line ≡ joined self other) }
+        ensures nothing_forgotten { IfOk result (λ line. ForgetsNothing self line × ForgetsNothing other line) }
         ensures unchanged_after_memory { IfErr result (λ refused. (refused.0 ≡ self) × (refused.1 ≡ other)) }
     {
         if let Err(memory) = self.log.append(&other.log) {

@@ -1,47 +1,55 @@
 -- A worker and its line more.
-use Rattle.std.proofs.Common.{◌≡◌, ℕ, suc, ◌+◌, ◌-◌, ◌<◌, ◌≤◌, List, [], ◌∷◌, ◌++◌, length, drop, get_or, refl, sym, ap, ◌∙◌, subst, arith}
+use Rattle.std.proofs.Common.{◌≡◌, ℕ, suc, ◌+◌, ◌-◌, ◌<◌, ◌≤◌, List, [], ◌∷◌, ◌++◌, length, drop, refl, sym, ap, ◌∙◌, subst, arith}
 use Rattle.std.specs.Prelude.{Some, Result, Ok, Err, IfOk, All}
 use Rattle.std.proofs.lemmas.List.{drop_more, drop_all, append-nil, length-append}
-use Rattle.std.proofs.lemmas.List.Elements.{All-pop, All-push, All-weaker}
-use Rattle.pp_channel.specs.LineState.{LineState, IsSplitFrom, joined}
-use Rattle.pp_channel.specs.RisingLog.{IsRising}
+use Rattle.std.proofs.lemmas.List.Elements.{All-cons, All-nil, All-pop, All-push, All-weaker}
+use Rattle.pp_channel.specs.LineState.{LineState, IsSplitFrom, joined, ForgetsNothing}
+use Rattle.pp_channel.specs.RisingLog.{IsRising, seen_on}
 use Rattle.pp_channel.specs.declared.entry.Entry.{Entry}
 use Rattle.pp_machine.specs.MachineState.{MachineState, processor_of}
 use Rattle.pp_machine.specs.Processor.{Processor, new_processor}
 use Rattle.pp_machine.specs.ProcessorNumber.{processor_count, processor_index, processor_in_turn}
 use Rattle.pp_machine.specs.Replay.{sights_given}
 use Rattle.pp_runner.proofs.LogLemmas.{settles, stands_settled}
+use Rattle.pp_runner.proofs.EndLemmas.{worn_later}
 use Rattle.pp_runner.specs.Crew.{IsKin, IsFresh, AreReady, IsEnded, IsAlone, AreEnded}
 use Rattle.pp_runner.specs.Labour.{IsAtWork, IsSameShare}
-use Rattle.pp_runner.specs.WorkerEnd.{IsEnd}
+use Rattle.pp_runner.specs.WorkerEnd.{IsEnd, WornWithCause}
 use Rattle.pp_runner.specs.WorkerLog.{events_in, sights_in, StandsIn}
-use Rattle.pp_runner.specs.WorkerReport.{IsWorker, AreWorkers, logs_of}
+use Rattle.pp_runner.specs.WorkerReport.{AreWorkers}
 use Rattle.pp_runner.specs.declared.crew.Crew.{Crew}
+use Rattle.pp_runner.specs.declared.labour.Ended.{Ended}
 use Rattle.pp_runner.specs.declared.worker.Worker.{Worker}
 
 -- the workers after one that has ended
 ended_first : {A : Type 0} (loads : List Processor) (size steps count : ℕ) (load : Processor) (family line mine others after : LineState) (w : Worker A) (ws : List (Worker A))
     → IsEnded load size steps line w mine → AreEnded loads size steps count family ws others → line.shares ≡ 1 → IsKin family line → after ≡ joined mine others
-    → AreEnded (load ∷ loads) size steps (1 + count) family (w ∷ ws) after
-ended_first loads size steps count load family line mine others after w ws one all share kin is = record {
-  workers = (one.worker, all.workers);
-  log = ap (λ l. l.log.entries) is ∙ (λ i. one.log i ++ all.log i);
-  shares = omega (arith, ap (λ l. l.shares) is, one.same_share.shares, all.shares, share);
-  kin = record {
-    whole = ap (λ l. l.whole) is ∙ (one.same_share.whole ∙ kin.whole);
-    table = ap (λ l. l.table) is ∙ (one.same_share.table ∙ kin.table);
-  };
-}
+    → ForgetsNothing mine after × ForgetsNothing others after → AreEnded (load ∷ loads) size steps (1 + count) family (w ∷ ws) after
+ended_first {A} loads size steps count load family line mine others after w ws one all share kin is more =
+    let P : LineState → Worker A → Type 0 = λ l v. WornWithCause (λ c. seen_on c l.seen) v.finish v.pp in
+    let first : P after w = worn_later (λ c. seen_on c mine.seen) (λ c. seen_on c after.seen) w.finish w.pp more.0 one.worn in
+    let rest : All (P after) ws = All-weaker (P others) (P after) (λ v. worn_later (λ c. seen_on c others.seen) (λ c. seen_on c after.seen) v.finish v.pp more.1) ws all.worn in record {
+      workers = (one.worker, all.workers);
+      log = ap (λ l. l.log.entries) is ∙ (λ i. one.log i ++ all.log i);
+      worn = All-cons (P after) w ws first rest;
+      shares = omega (arith, ap (λ l. l.shares) is, one.same_share.shares, all.shares, share);
+      kin = record {
+        whole = ap (λ l. l.whole) is ∙ (one.same_share.whole ∙ kin.whole);
+        table = ap (λ l. l.table) is ∙ (one.same_share.table ∙ kin.table);
+      };
+    }
 
 -- the worker after which there is none
 ended_last : {A : Type 0} (size steps : ℕ) (load : Processor) (family line mine : LineState) (w : Worker A) → IsEnded load size steps line w mine → line.shares ≡ 1 → IsKin family line
     → AreEnded (load ∷ []) size steps 1 family (w ∷ []) mine
-ended_last size steps load family line mine w one share kin = record {
-  workers = (one.worker, tt);
-  log = one.log ∙ sym (append-nil w.log.items);
-  shares = one.same_share.shares ∙ share;
-  kin = record { whole = one.same_share.whole ∙ kin.whole; table = one.same_share.table ∙ kin.table };
-}
+ended_last {A} size steps load family line mine w one share kin =
+    let P : Worker A → Type 0 = λ v. WornWithCause (λ c. seen_on c mine.seen) v.finish v.pp in record {
+      workers = (one.worker, tt);
+      log = one.log ∙ sym (append-nil w.log.items);
+      worn = All-cons P w [] one.worn (All-nil P);
+      shares = one.same_share.shares ∙ share;
+      kin = record { whole = one.same_share.whole ∙ kin.whole; table = one.same_share.table ∙ kin.table };
+    }
 
 alone_ended : {A : Type 0} (size steps : ℕ) (load : Processor) (family line mine : LineState) (ws : List (Worker A)) → IsAlone load size steps line ws mine → line.shares ≡ 1 → IsKin family line
     → AreEnded (load ∷ []) size steps 1 family ws mine
@@ -51,8 +59,8 @@ alone_ended size steps load family line mine (w ∷ v ∷ ws) one share kin = ab
 
 -- a worker that makes no further step, with a copy of its log
 pub work_ended : {A : Type 0} (load : Processor) (size steps : ℕ) (line : LineState) (w : Worker A) → IsAtWork load size steps w.pp w.answers.items line.log → length w.answers.items ≤ steps
-    → IsEnd steps w.finish w.pp w.answers.items line.log.entries → w.log.items ≡ line.log.entries → IsEnded load size steps line w line
-work_ended load size steps line w work few finish copied =
+    → IsEnd steps w.finish w.pp w.answers.items line.log.entries → WornWithCause (λ c. seen_on c line.seen) w.finish w.pp → w.log.items ≡ line.log.entries → IsEnded load size steps line w line
+work_ended load size steps line w work few finish worn copied =
     let s = settles line.log (λ k. ((work.held k).channel, (work.held k).looked)) in record {
       worker = record {
         pp = work.pp_is;
@@ -67,8 +75,20 @@ work_ended load size steps line w work few finish copied =
         finish = subst (λ (l : List Entry). IsEnd steps w.finish w.pp w.answers.items l) (sym copied) finish;
       };
       log = sym copied;
+      worn = worn;
       same_share = record { shares = refl; whole = refl; table = refl };
     }
+
+-- a line after two parts of a worker's way
+pub same_share_twice : (line mid after : LineState) → IsSameShare line mid → IsSameShare mid after → IsSameShare line after
+same_share_twice line mid after a b = record { shares = b.shares ∙ a.shares; whole = b.whole ∙ a.whole; table = b.table ∙ a.table }
+
+-- a worker that has ended began with the line that it had at first
+pub ended_since : {A E : Type 0} (load : Processor) (size steps : ℕ) (line mid : LineState) (r : Result (Ended A) E) → IsSameShare line mid
+    → IfOk r (λ ended. IsEnded load size steps mid ended.worker ended.line) → IfOk r (λ ended. IsEnded load size steps line ended.worker ended.line)
+ended_since load size steps line mid (Err e) same one = tt
+ended_since load size steps line mid (Ok ended) same one =
+    record { worker = one.worker; log = one.log; worn = one.worn; same_share = same_share_twice line mid ended.line same one.same_share }
 
 -- the processors from a place on begin with the one at that place
 pub processors_from : (m : MachineState) (n : ℕ) → processor_index n < length m.processors → drop (processor_index n) m.processors ≡ processor_of n m ∷ drop (processor_index n + 1) m.processors
@@ -128,15 +148,15 @@ ended_alone {A} m n room size steps total load family line lines others (Ok crew
 pub ended_beside : {A E : Type 0} (m : MachineState) (n next room size steps left total : ℕ) (family line mine after : LineState) (others : List LineState) (w : Worker A) (ws : List (Worker A)) (r : Result (Crew A) E)
     → IsTaken m n room family line others → 0 < length others → ((turn : ℕ) → n ≡ processor_in_turn turn → next ≡ processor_in_turn (turn + 1)) → total ≡ 1 + left
     → IsEnded (processor_of n m) size steps line w mine → AreEnded (drop (processor_index next) m.processors) size steps left family ws after
-    → IfOk r (λ crew. crew.workers.items ≡ w ∷ ws) → IfOk r (λ crew. crew.line ≡ joined mine after)
+    → IfOk r (λ crew. crew.workers.items ≡ w ∷ ws) → IfOk r (λ crew. crew.line ≡ joined mine after) → IfOk r (λ crew. ForgetsNothing mine crew.line × ForgetsNothing after crew.line)
     → IfOk r (λ crew. AreEnded (drop (processor_index n) m.processors) size steps total family crew.workers.items crew.line)
-ended_beside m n next room size steps left total family line mine after others w ws (Err e) taken some is sum one all workers_are line_is = tt
-ended_beside {A} m n next room size steps left total family line mine after others w ws (Ok crew) taken some is sum one all workers_are line_is =
+ended_beside m n next room size steps left total family line mine after others w ws (Err e) taken some is sum one all workers_are line_is more = tt
+ended_beside {A} m n next room size steps left total family line mine after others w ws (Ok crew) taken some is sum one all workers_are line_is more =
     let place : processor_index next ≡ processor_index n + 1 = place_after n next is (omega (arith, taken.count, some)) in
     let loads : drop (processor_index n) m.processors ≡ processor_of n m ∷ drop (processor_index next) m.processors =
     processors_from m n (omega (arith, taken.count, taken.each)) ∙ ap (λ i. processor_of n m ∷ drop i m.processors) (sym place) in
     let ended : AreEnded (processor_of n m ∷ drop (processor_index next) m.processors) size steps (1 + left) family (w ∷ ws) crew.line =
-    ended_first (drop (processor_index next) m.processors) size steps left (processor_of n m) family line mine after crew.line w ws one all taken.fresh.shares taken.fresh.kin line_is in
+    ended_first (drop (processor_index next) m.processors) size steps left (processor_of n m) family line mine after crew.line w ws one all taken.fresh.shares taken.fresh.kin line_is more in
     subst (λ (ps : List Processor). AreEnded ps size steps total family crew.workers.items crew.line) (sym loads)
     (subst (λ (k : ℕ). AreEnded (processor_of n m ∷ drop (processor_index next) m.processors) size steps k family crew.workers.items crew.line) (sym sum)
     (subst (λ (vs : List (Worker A)). AreEnded (processor_of n m ∷ drop (processor_index next) m.processors) size steps (1 + left) family vs crew.line) (sym workers_are) ended))

@@ -1,13 +1,12 @@
 -- Each end, by what the processor, the answers and the log are.
-use Rattle.std.proofs.Common.{◌≡◌, ℕ, ◌<◌, List, Option, None, Some, length, refl}
+use Rattle.std.proofs.Common.{◌≡◌, ℕ, ◌<◌, ◌≤◌, List, [], Option, None, Some, length, refl, arith}
 use Rattle.std.specs.Prelude.{IfNone, IfSome, unwrap_or}
 use Rattle.pp_channel.specs.declared.entry.Entry.{Entry}
 use Rattle.pp_machine.specs.NeedAndEffect.{need}
 use Rattle.pp_machine.specs.Processor.{Processor}
 use Rattle.pp_machine.specs.declared.answer.Answer.{Answer}
-use Rattle.pp_machine.specs.declared.pp_state.PpState.{PpState}
 use Rattle.pp_machine.specs.declared.pp_state.PpState.TheVariants as states
-use Rattle.pp_runner.specs.WorkerEnd.{IsEnd, HasStepsLeft, NeedsChannel, WasHeld}
+use Rattle.pp_runner.specs.WorkerEnd.{IsEnd, NeedsWornChannel, WornWithCause, WasHeld}
 use Rattle.pp_runner.specs.declared.end.End.{End}
 use Rattle.pp_runner.specs.declared.end.End.TheVariants as ends
 
@@ -61,14 +60,14 @@ end_memory steps pp xs log running fewer = record {
   worn = λ e. absurd cc;
 }
 
-pub end_worn : (steps : ℕ) (pp : Processor) (xs : List Answer) (log : List Entry) (channel : ℕ) → pp.state ≡ states.Running → length xs < steps → NeedsChannel (need pp) channel → IsEnd steps ends.Worn pp xs log
-end_worn steps pp xs log channel running fewer needs = record {
+pub end_worn : (steps : ℕ) (pp : Processor) (xs : List Answer) (log : List Entry) (happened : ℕ → ℕ) → pp.state ≡ states.Running → length xs < steps → NeedsWornChannel happened (need pp) → IsEnd steps ends.Worn pp xs log
+end_worn steps pp xs log happened running fewer needs = record {
   stopped = (λ e. absurd cc, λ s. absurd cc);
   fault = λ n. (λ e. absurd cc, λ s. absurd cc);
   all_steps = λ e. absurd cc;
   patience = λ e. absurd cc;
   memory = λ e. absurd cc;
-  worn = λ e. (record { running = running; fewer = fewer }, (channel, needs));
+  worn = λ e. (record { running = running; fewer = fewer }, (needs.channel, needs.needs));
 }
 
 -- the end after the last step of the limit: that of a processor at rest, if it is
@@ -76,3 +75,18 @@ pub end_at_last : (steps : ℕ) (pp : Processor) (xs : List Answer) (log : List 
     → IfSome rest (λ finish. (n : ℕ) (ys : List Answer) (other : List Entry) → IsEnd n finish pp ys other) → length xs ≡ steps → IsEnd steps (unwrap_or rest ends.Steps) pp xs log
 end_at_last steps pp xs log None running ended all = end_steps steps pp xs log running all
 end_at_last steps pp xs log (Some finish) running ended all = ended steps xs log
+
+-- a channel at which a worker ended is as worn when more has happened
+pub worn_later : (before after : ℕ → ℕ) (finish : End) (pp : Processor) → ((c : ℕ) → before c ≤ after c) → WornWithCause before finish pp → WornWithCause after finish pp
+worn_later before after finish pp more caused is =
+    let needs = caused is in
+    let later = more needs.channel in record { channel = needs.channel; needs = needs.needs; worn = omega (arith, needs.worn, later) }
+
+-- no worker whose processor is at rest, or which has made all its steps, ended as worn
+pub worn_at_rest : (happened : ℕ → ℕ) (finish : End) (pp : Processor) → ((n : ℕ) (ys : List Answer) (other : List Entry) → IsEnd n finish pp ys other) → WornWithCause happened finish pp
+worn_at_rest happened finish pp ended is = absurd (omega (arith, ((ended 0 [] []).worn is).0.fewer))
+
+pub worn_at_last : (happened : ℕ → ℕ) (pp : Processor) (rest : Option End) → IfSome rest (λ finish. (n : ℕ) (ys : List Answer) (other : List Entry) → IsEnd n finish pp ys other)
+    → WornWithCause happened (unwrap_or rest ends.Steps) pp
+worn_at_last happened pp None ended = λ is. absurd cc
+worn_at_last happened pp (Some finish) ended = worn_at_rest happened finish pp ended

@@ -21,7 +21,7 @@ AllMoved load xs = OfEachAnswer (λ pp x. outcome pp x ≡ Moved) load xs
 abbrev pub IsBySize : ℕ → Need → Answer → Type 0
 IsBySize size (needs.Read address) (answers.Read word) = IsNone word ↔ (size ≤ address)
 IsBySize size (needs.Write address word) (answers.Wrote written) = IsTrue written ↔ (address < size)
-IsBySize size need answer = Unit {0}
+IsBySize size needed answer = Unit {0}
 
 abbrev pub AllBySize : ℕ → Processor → List Answer → Type 0
 AllBySize size load xs = OfEachAnswer (λ pp x. IsBySize size (need pp) x) load xs

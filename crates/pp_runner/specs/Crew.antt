@@ -2,10 +2,12 @@
 use Rattle.std.specs.Prelude.{◌≡◌, ◌+◌, ◌<◌, ℕ, List, [], ◌∷◌, All, length}
 use Rattle.pp_channel.specs.LineLog.{empty_log}
 use Rattle.pp_channel.specs.LineState.{LineState}
+use Rattle.pp_channel.specs.RisingLog.{seen_on}
 use Rattle.pp_machine.specs.MachineState.{MachineState}
 use Rattle.pp_machine.specs.Processor.{Processor}
 use Rattle.pp_machine.specs.ProcessorNumber.{processor_count, processor_index}
 use Rattle.pp_runner.specs.Labour.{IsSameShare}
+use Rattle.pp_runner.specs.WorkerEnd.{WornWithCause}
 use Rattle.pp_runner.specs.WorkerReport.{IsWorker, AreWorkers, logs_of}
 use Rattle.pp_runner.specs.declared.worker.Worker.{Worker}
 
@@ -31,6 +33,7 @@ pub record AreReady (m : MachineState) (n room : ℕ) (family : LineState) (line
 pub record IsEnded {A : Type 0} (load : Processor) (size steps : ℕ) (line : LineState) (w : Worker A) (after : LineState) : Type 0 where
   pub worker : IsWorker load size steps w
   pub log : after.log.entries ≡ w.log.items
+  pub worn : WornWithCause (λ c. seen_on c after.seen) w.finish w.pp
   pub same_share : IsSameShare line after
 
 -- one such worker, and no other
@@ -43,5 +46,6 @@ IsAlone load size steps line (w ∷ v ∷ ws) after = ⊥
 pub record AreEnded {A : Type 0} (loads : List Processor) (size steps count : ℕ) (family : LineState) (ws : List (Worker A)) (after : LineState) : Type 0 where
   pub workers : AreWorkers loads size steps ws
   pub log : after.log.entries ≡ logs_of ws
+  pub worn : All (λ w. WornWithCause (λ c. seen_on c after.seen) w.finish w.pp) ws
   pub shares : after.shares ≡ count
   pub kin : IsKin family after

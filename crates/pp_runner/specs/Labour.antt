@@ -45,10 +45,10 @@ IsNoted (sight ∷ []) before after = (number : ℕ) × (after ≡ noted_as befo
 IsNoted (sight ∷ other ∷ more) before after = ⊥
 
 -- An answer to a need, and the log before and after it.
-pub record IsAnswered (size : ℕ) (need : Need) (answer : Answer) (before after : LogState) : Type 0 where
-  pub fits : fits need answer ≡ true
-  pub by_size : IsBySize size need answer
-  pub noted : IsNoted (sights_of need answer) before after
+pub record IsAnswered (size : ℕ) (needed : Need) (answer : Answer) (before after : LogState) : Type 0 where
+  pub fits : fits needed answer ≡ true
+  pub by_size : IsBySize size needed answer
+  pub noted : IsNoted (sights_of needed answer) before after
   pub rising : IsRising before.entries → IsRising after.entries
 
 -- a line that stands at the same channels, with as many shares

@@ -1,6 +1,7 @@
 -- How a worker ends.
-use Rattle.std.specs.Prelude.{◌≡◌, ◌≢◌, ◌↔◌, ◌<◌, ℕ, IsTrue, None, List, length}
+use Rattle.std.specs.Prelude.{◌≡◌, ◌≢◌, ◌↔◌, ◌<◌, ◌≤◌, ℕ, IsTrue, None, List, length}
 use Rattle.std.specs.List.{last_or}
+use Rattle.pp_channel.specs.ChannelWord.{greatest_number}
 use Rattle.pp_channel.specs.LineLog.{is_look_at}
 use Rattle.pp_channel.specs.declared.chan_op.ChanOp.{ChanOp}
 use Rattle.pp_channel.specs.declared.chan_op.ChanOp.TheVariants.{Probe}
@@ -30,6 +31,17 @@ pub record WasHeld (pp : Processor) (log : List Entry) : Type 0 where
   pub channel : ℕ
   pub needs : NeedsChannel (need pp) channel
   pub looked : IsTrue (is_look_at channel (last_or None log))
+
+-- Where so many events happened on each channel: a step needs such an operation on a worn one, which has had as many as its
+-- word can count.
+pub record NeedsWornChannel (happened : ℕ → ℕ) (needed : Need) : Type 0 where
+  pub channel : ℕ
+  pub needs : NeedsChannel needed channel
+  pub worn : greatest_number ≤ happened channel
+
+-- Only a worker whose next step needs a worn channel has ended as worn.
+abbrev pub WornWithCause : (ℕ → ℕ) → End → Processor → Type 0
+WornWithCause happened finish pp = finish ≡ Worn → NeedsWornChannel happened (need pp)
 
 -- What each end says of the processor, the answers and the log.
 pub record IsEnd (steps : ℕ) (finish : End) (pp : Processor) (answers : List Answer) (log : List Entry) : Type 0 where

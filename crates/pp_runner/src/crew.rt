@@ -3,7 +3,7 @@
 ghost use Rattle.std.specs.Prelude.{◌≡◌, ◌+◌, ◌*◌, ◌<◌, [], ◌∷◌, drop, vec_len, IfOk};
 ghost use denote.Param.Send.{IsSync, IsSend, Frees};
 ghost use Rattle.pp_channel.specs.LineLog.{empty_log};
-ghost use Rattle.pp_channel.specs.LineState.{joined};
+ghost use Rattle.pp_channel.specs.LineState.{joined, ForgetsNothing};
 ghost use Rattle.pp_machine.specs.ProcessorNumber.{processor_index};
 ghost use Rattle.pp_runner.specs.Crew.{IsEnded, IsAlone, AreEnded, AreReady};
 
@@ -48,6 +48,7 @@ fn combined<A: Allocator + Copy>(mine: Ended<A>, others: Crew<A>) -> Result<Crew
     requires { others.line.table ≡ mine.line.table }
     ensures workers { IfOk result (λ crew. crew.workers.items ≡ mine.worker ∷ others.workers.items) }
     ensures line { IfOk result (λ crew. crew.line ≡ joined mine.line others.line) }
+    ensures nothing_forgotten { IfOk result (λ crew. ForgetsNothing mine.line crew.line × ForgetsNothing others.line crew.line) }
 {
     let Ended { worker, line } = mine;
     let Crew {

@@ -13,6 +13,7 @@ pub enum End {
     Patience,
     /// It was refused memory for one more answer.
     Memory,
-    /// The channel that its next step needs has had as many events as its word can count.
+    /// Its next step needs an operation other than a probe on a channel that has had as many events as
+    /// its word can count, 2^50 - 1 (decimal).
     Worn,
 }

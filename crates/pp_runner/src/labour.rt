@@ -2,12 +2,13 @@
 
 ghost use Rattle.std.specs.Prelude.{◌≡◌, ◌<◌, ◌≤◌, ◌+◌, ◌*◌, ◌++◌, ◌∷◌, [], true, ℕ, List, vec_len, vec_capacity, IfOk, IfErr, IfSome, IfNone, OnErr};
 ghost use Rattle.pp_channel.specs.LineLog.{empty_log};
+ghost use Rattle.pp_channel.specs.RisingLog.{seen_on};
 ghost use Rattle.pp_channel.specs.declared.entry.Entry.{Entry};
 ghost use Rattle.pp_machine.specs.NeedAndEffect.{need};
 ghost use Rattle.pp_machine.specs.declared.answer.Answer.{Answer};
 ghost use Rattle.pp_runner.specs.Crew.{IsEnded};
 ghost use Rattle.pp_runner.specs.Labour.{IsAtWork, IsAnswered, IsSameShare};
-ghost use Rattle.pp_runner.specs.WorkerEnd.{IsEnd, NeedsChannel, WasHeld};
+ghost use Rattle.pp_runner.specs.WorkerEnd.{IsEnd, NeedsWornChannel, WornWithCause, WasHeld};
 
 use crate::end::End;
 use crate::gate::Gate;
@@ -54,7 +55,7 @@ fn ask<R: Wait, A: Allocator + Copy>(
 ) -> Result<Answer, Worn>
     requires { 1 ≤ line.old.log.room }
     ensures answered { IfOk result (λ x. IsAnswered central.now needed x line.old.log line.new.log) }
-    ensures worn { OnErr result ((channel : ℕ) × NeedsChannel needed channel) }
+    ensures worn { OnErr result (NeedsWornChannel (λ c. seen_on c line.new.seen) needed) }
     ensures unchanged_when_worn { OnErr result (line.new.log ≡ line.old.log) }
     ensures same_share { IsSameShare line.old line.new }
 {
@@ -92,7 +93,7 @@ impl<A: Allocator + Copy> Labour<A> {
         ensures same_share { IsSameShare self.old.line self.new.line }
         ensures moved { result ≡ Try.Moved → vec_len self.new.answers ≡ vec_len self.old.answers + 1 }
         ensures held { result ≡ Try.Held → (self.new.pp ≡ self.old.pp) × (self.new.answers ≡ self.old.answers) × WasHeld self.new.pp self.new.line.log.entries }
-        ensures worn { result ≡ Try.Worn → (self.new.pp ≡ self.old.pp) × (self.new.answers ≡ self.old.answers) × ((channel : ℕ) × NeedsChannel (need self.new.pp) channel) }
+        ensures worn { result ≡ Try.Worn → (self.new.pp ≡ self.old.pp) × (self.new.answers ≡ self.old.answers) × NeedsWornChannel (λ c. seen_on c self.new.line.seen) (need self.new.pp) }
     {
         let told = ask(rt, &site.central, &mut self.line, self.pp.wants());
         match &told {
@@ -107,6 +108,7 @@ impl<A: Allocator + Copy> Labour<A> {
             },
         }
     }
+
     /// Tries the next step until the processor moves, and answers `None` where it did.
     fn take_step<R: Wait, G: Gate>(
         &mut self,
@@ -123,6 +125,7 @@ impl<A: Allocator + Copy> Labour<A> {
         ensures moved { IfNone result (vec_len self.new.answers ≡ vec_len self.old.answers + 1) }
         ensures few { IfSome result (λ _. vec_len self.new.answers ≤ site.now.limits.steps) }
         ensures ended { IfSome result (λ finish. IsEnd site.now.limits.steps finish self.new.pp self.new.answers.items self.new.line.log.entries) }
+        ensures worn { IfSome result (λ finish. WornWithCause (λ c. seen_on c self.new.line.seen) finish self.new.pp) }
     {
         if self.answers.reserve(1).is_err() {
             return Some(End::Memory);
@@ -144,6 +147,7 @@ impl<A: Allocator + Copy> Labour<A> {
         requires work { IsAtWork load.now site.now.central site.now.limits.steps self.pp self.answers.items self.line.log }
         requires few { vec_len self.answers ≤ site.now.limits.steps }
         requires finish { IsEnd site.now.limits.steps finish self.pp self.answers.items self.line.log.entries }
+        requires worn { WornWithCause (λ c. seen_on c self.line.seen) finish self.pp }
         ensures { IfOk result (λ ended. IsEnded load.now site.now.central site.now.limits.steps self.line ended.worker ended.line) }
     {
         let mut log = Vec::new(site.alloc);
@@ -166,7 +170,7 @@ impl<A: Allocator + Copy> Labour<A> {
 }
 
 /// The end of a processor at rest.
-fn rest(pp: &Pp) -> Option<End>
+fn at_rest(pp: &Pp) -> Option<End>
     ensures running { IfNone result (pp.now.state ≡ PpState.Running) }
     ensures ended { IfSome result (λ finish. (steps : ℕ) (answers : List Answer) (log : List Entry) → IsEnd steps finish pp.now answers log) }
 {
@@ -197,13 +201,13 @@ pub fn work<R: Wait, G: Gate, A: Allocator + Copy>(
         tries: 0,
     };
     for done in 0..site.limits.steps() {
-        if let Some(finish) = rest(&labour.pp) {
+        if let Some(finish) = at_rest(&labour.pp) {
             return labour.ended(site, load, finish);
         }
         if let Some(finish) = labour.take_step(rt, site, gate, load) {
             return labour.ended(site, load, finish);
         }
     }
-    let finish = rest(&labour.pp).unwrap_or(End::Steps);
+    let finish = at_rest(&labour.pp).unwrap_or(End::Steps);
     labour.ended(site, load, finish)
 }

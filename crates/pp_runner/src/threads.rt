@@ -20,7 +20,7 @@ use std::sync::Wait;
 use std::thread::Threads;
 
 /// A line for each processor, all at the same new channels, and of which family they are.
-fn lines<A: Allocator + Copy>(
+fn open_family<A: Allocator + Copy>(
     alloc: A,
     room: u32,
 ) -> Result<(Snapshot<Line<A>>, Vec<Line<A>, A>), Memory>
@@ -63,7 +63,7 @@ pub fn run_threads<R: Threads + Wait + Sync, G: Gate + Sync, A: Allocator + Copy
         limits,
     };
     // Two entries an answer at most, and a look at which the worker gives up.
-    let (family, lines) = lines(alloc, 2 * limits.steps() + 1)?;
+    let (family, lines) = open_family(alloc, 2 * limits.steps() + 1)?;
     let Crew { workers, line } = run_from(rt, &site, gate, machine, PpNo::FIRST, family, lines)?;
     match line.close() {
         Ok(channels) => Ok(Report {

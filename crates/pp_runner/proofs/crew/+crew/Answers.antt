@@ -1,9 +1,7 @@
-use Rattle.std.proofs.Common.{◌≡◌, ◌+◌, ◌*◌, ◌∙◌, sym, ap, subst, length, vec_len, rules, arith}
-use Rattle.std.specs.Prelude.{IfOk}
+use Rattle.std.proofs.Common.{◌+◌, ◌*◌, ◌∙◌, sym, ap, subst, vec_len, rules, arith}
 use Rattle.pp_machine.specs.MachineState.{processor_of}
-use Rattle.pp_machine.specs.Processor.{Processor}
-use Rattle.pp_runner.proofs.CrewLemmas.{IsTaken, taken_of, some_left, ready_after, ended_alone, ended_beside, promised}
-use Rattle.pp_runner.specs.Crew.{AreReady, IsEnded, IsAlone}
+use Rattle.pp_runner.proofs.CrewLemmas.{taken_of, some_left, ready_after, ended_alone, ended_beside, promised}
+use Rattle.pp_runner.specs.Crew.{IsEnded}
 use Rattle.pp_runner.specs.declared.crew.EndOf.{EndOf}
 use Rattle.pp_runner.proofs.crew.+crew.Goals as goal
 
@@ -32,7 +30,7 @@ beside-scope-returns g t c =
     c.captures.family.value c.in-Some.line mine.line others.line c.pop.new.self.items mine.worker others.workers.items c.combined.result
     (taken_of c.captures.machine.now c.captures.number (2 * c.captures.site.now.limits.steps + 1) c.captures.family.value c.in-Some.line c.captures.lines.items c.pop.new.self.items c.in-Some.ensures.items c.requires.6)
     (some_left c.captures.lines.items c.pop.new.self.items c.in-Some.line c.in-Some.ensures.items (omega (arith, c.requires.5, c.captures.lines.ok.0))) c.next.ensures
-    (omega (arith, c.in-Some.ensures.len)) one c.in_ok-others.ensures c.combined.ensures.workers c.combined.ensures.line
+    (omega (arith, c.in-Some.ensures.len)) one c.in_ok-others.ensures c.combined.ensures.workers c.combined.ensures.line c.combined.ensures.nothing_forgotten
 
 pub fn::beside::scope+FnOnce::call_once-scope-requires : goal.fn::beside::scope+FnOnce::call_once-scope-requires
 fn::beside::scope+FnOnce::call_once-scope-requires g t c = search rules

@@ -16,7 +16,7 @@ use Rattle.pp_channel.proofs.line.Line.act.Goals.{in-Ok, in-Err}
 -- a worn channel
 pub returns-in-Worn-clause-worn : goal.returns-in-Worn-clause-worn
 returns-in-Worn-clause-worn g c =
-    worn_by_load c.load-word.ensures.tells c.args.op c.load-word.new.self (c.in-Worn.ensures).table c.load-word.ensures.after
+    worn_by_load c.load-word.ensures.tells c.args.op c.load-word.new.self c.load-word.ensures.each_channel (c.in-Worn.ensures).table c.load-word.ensures.after
 
 -- a probe
 pub look-requires-clause-found : goal.look-requires-clause-found

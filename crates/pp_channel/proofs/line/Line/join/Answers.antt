@@ -1,9 +1,19 @@
-use Rattle.std.proofs.Common.{refl, ap, ◌∙◌}
+use Rattle.std.proofs.Common.{ℕ, List, refl, sym, ap, ◌∙◌, arith}
 use Rattle.pp_channel.specs.declared.rule.LineView.{LineView}
+use Rattle.pp_channel.specs.LineState.{LineState}
+use Rattle.pp_channel.specs.RisingLog.{seen_on}
 use Rattle.pp_channel.proofs.LineKeeping.{kept_at, kept_joined}
+use Rattle.pp_channel.proofs.SeenLemmas.{greater_left, greater_right}
 use Rattle.pp_channel.proofs.line.Line.join.Goals as goal
 
 pub invariant_of-self-2 : goal.invariant_of-self-2
 invariant_of-self-2 g c =
     let view = c.weigh.ensures.view ∙ c.join.ensures.view in
     kept_at _ (kept_joined _ c.self.invariant c.other.invariant view) (c.in_default.ensures).ok c.greater_of_each-self-inside.ensures (ap (λ (v : LineView). v.found) view) refl refl
+
+pub returns-clause-nothing_forgotten : goal.returns-clause-nothing_forgotten
+returns-clause-nothing_forgotten g c =
+    let each = c.self.invariant.each_channel ∙ sym c.other.invariant.each_channel in (
+      λ k. omega (arith, greater_left c.self.inside.seen c.other.inside.seen k each, ap (λ (seen : List ℕ). seen_on k seen) c.greater_of_each-self-inside.ensures, ap (λ (line : LineState). seen_on k line.seen) c.self.view_is),
+      λ k. omega (arith, greater_right c.self.inside.seen c.other.inside.seen k each, ap (λ (seen : List ℕ). seen_on k seen) c.greater_of_each-self-inside.ensures, ap (λ (line : LineState). seen_on k line.seen) c.other.view_is),
+    )

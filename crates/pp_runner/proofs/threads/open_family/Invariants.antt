@@ -3,7 +3,7 @@ use Rattle.std.specs.Prelude.{All}
 use Rattle.pp_channel.specs.LineLog.{empty_log}
 use Rattle.pp_machine.specs.ProcessorNumber.{processor_count}
 use Rattle.pp_runner.specs.Crew.{IsFresh}
-use Rattle.pp_runner.proofs.threads.lines.Given as goal
+use Rattle.pp_runner.proofs.threads.open_family.Given as goal
 
 abbrev pub invariant-loop-count : goal.invariant-loop-count
 invariant-loop-count g l = record {

@@ -1,10 +1,10 @@
-use Rattle.std.proofs.Common.{◌≡◌, List, refl, ap, sym, ◌∙◌, subst, arith}
+use Rattle.std.proofs.Common.{List, refl, ap, sym, ◌∙◌, subst, arith}
 use Rattle.std.specs.Prelude.{All}
 use Rattle.std.proofs.lemmas.List.Elements.{All-push}
 use Rattle.pp_channel.specs.LineState.{LineState}
 use Rattle.pp_runner.proofs.CrewLemmas.{split_kin}
 use Rattle.pp_runner.specs.Crew.{IsFresh}
-use Rattle.pp_runner.proofs.threads.lines.Goals as goal
+use Rattle.pp_runner.proofs.threads.open_family.Goals as goal
 
 pub loop-count-preserved : goal.loop-count-preserved
 loop-count-preserved g c =
