@@ -32,7 +32,7 @@ impl<A: Allocator> Machine<A> {
     pub fn step(&mut self, n: PpNo) -> Result<Outcome, Memory>
         ensures ok { OnOk result (self.new ≡ stepped n self.old) }
         ensures outcome { IfOk result (λ o. o ≡ step_outcome n self.old) }
-        ensures err { OnErr result (self.new ≡ self.old) }
+        ensures unchanged_after_memory { OnErr result (self.new ≡ self.old) }
         ensures no_event { IsNone (step_event n self.old) → IsOk result }
         ensures at_rest { IsAtRest (processor_of n self.old) → self.new ≡ record self.old { turns = counted self.old.turns } }
         ensures held { IfOk result (λ o. o ≡ Outcome.Held → self.new ≡ record self.old { turns = counted self.old.turns }) }
@@ -64,7 +64,7 @@ impl<A: Allocator> Machine<A> {
         requires { (processor_of n self.old).state ≡ PpState.Running }
         ensures ok { OnOk result (self.new ≡ stepped n self.old) }
         ensures outcome { IfOk result (λ o. o ≡ step_outcome n self.old) }
-        ensures err { OnErr result (self.new ≡ self.old) }
+        ensures unchanged_after_memory { OnErr result (self.new ≡ self.old) }
         ensures no_event { IsNone (step_event n self.old) → IsOk result }
         ensures headline { HoldsOnEachChannel self.new }
     {
@@ -113,7 +113,7 @@ impl<A: Allocator> Machine<A> {
         requires { IsNext next.now d (processor_of n self.old) }
         ensures ok { OnOk result (self.new ≡ stepped n self.old) }
         ensures outcome { IfOk result (λ o. o ≡ step_outcome n self.old) }
-        ensures err { OnErr result (self.new ≡ self.old) }
+        ensures unchanged_after_memory { OnErr result (self.new ≡ self.old) }
         ensures no_event { IsNone (step_event n self.old) → IsOk result }
         ensures headline { HoldsOnEachChannel self.new }
     {
@@ -151,7 +151,7 @@ impl<A: Allocator> Machine<A> {
     fn exchange(&mut self, n: PpNo, channel: ChannelNo, op: ChanOp) -> Result<Reply, Memory>
         ensures reply { IfOk result (λ r. Answer.Channel r ≡ answer_to (Need.Channel channel op) self.old) }
         ensures ok { OnOk result (self.new ≡ served n (Need.Channel channel op) self.old) }
-        ensures err { OnErr result (self.new ≡ self.old) }
+        ensures unchanged_after_memory { OnErr result (self.new ≡ self.old) }
         ensures no_event { IsNone (event_for (Need.Channel channel op) self.old) → IsOk result }
     {
         let _named = channel.get();
@@ -188,7 +188,7 @@ fn act_on<A: Allocator>(
     requires { vec_len channels.old ≡ channel_count }
     ensures reply { IfOk result (λ r. r ≡ reply_to op (slice_index_or channels.old.items (channel_index channel) [])) }
     ensures ok { OnOk result (channels.new.items ≡ slice_set channels.old.items (channel_index channel) (history_after op (slice_index_or channels.old.items (channel_index channel) []))) }
-    ensures err { OnErr result (channels.new.items ≡ channels.old.items) }
+    ensures unchanged_after_memory { OnErr result (channels.new.items ≡ channels.old.items) }
     ensures no_event { IsNone (event_of op (slice_index_or channels.old.items (channel_index channel) [])) → IsOk result }
     ensures lawful { IsLawful (slice_index_or channels.new.items (channel_index channel) []) }
     ensures law { KeepsLaw (slice_index_or channels.new.items (channel_index channel) []) }
