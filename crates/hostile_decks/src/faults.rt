@@ -2,10 +2,26 @@
 
 use pp_sim::{DeckCode, DeckFault, read_deck};
 use std::process::Abort;
+use test_bench::HANDOFF;
 
 /// First fields that are no keyword and begin with no digit; keywords that come too late; fields that
 /// are missing, or too many.
 const UNKNOWN_LINES: &[(u32, &str)] = &[
+    (1, "PP"),
+    (2, "PP 0\nSTART 0100 0 0"),
+    (1, "PP 0 0"),
+    (1, "pp 0"),
+    (2, "PP 0\nCENTRAL 10"),
+    // DEAD has no further field, and no CENTRAL may follow it.
+    (1, "DEAD 0"),
+    (1, "DEAD 9 * note"),
+    (1, "DEADX"),
+    (1, "DEA"),
+    (1, "dead"),
+    (1, "DEAD*"),
+    (2, "PP 0\nDEAD DEAD"),
+    (2, "DEAD\nCENTRAL 10"),
+    (3, "* note\nDEAD\nCENTRAL 10"),
     // One CR before the end of a line is dropped, and every other one is a character.
     (1, "\r\r"),
     (1, "\r "),
@@ -76,6 +92,13 @@ const UNKNOWN_LINES: &[(u32, &str)] = &[
 
 /// Fields that are not of as many octal digits as may be.
 const BAD_DIGITS: &[(u32, &str)] = &[
+    (2, "PP 0\n0100 0109"),
+    (2, "PP 0\nSTART 0109 0 0"),
+    (1, "PP 000"),
+    (2, "PP 0\n9"),
+    (2, "PP 0\n7777 0001 0008"),
+    (1, "CM 0 123456701234567012345"),
+    (2, "PP 0 * note\n0100 1401*"),
     (1, "PP 0\r\r\n"),
     (1, "PP 0\rSTART 0"),
     (1, "PP 0\r\r\r8"),
@@ -126,6 +149,8 @@ const BAD_DIGITS: &[(u32, &str)] = &[
 ];
 
 const BAD_PROCESSORS: &[(u32, &str)] = &[
+    (1, "PP 12"),
+    (1, "PP 12 0"),
     (1, "PP 77"),
     (1, "PP 12\r"),
     (1, "PP 12 *"),
@@ -138,6 +163,9 @@ const BAD_PROCESSORS: &[(u32, &str)] = &[
 
 /// Words and starts before any section, whatever else is wrong with their line.
 const NO_PROCESSORS: &[(u32, &str)] = &[
+    (1, "0100 0001"),
+    (1, "0109 x"),
+    (1, "START"),
     (1, "START 9"),
     (1, "START *"),
     (1, "START 0 0 0"),
@@ -149,10 +177,14 @@ const NO_PROCESSORS: &[(u32, &str)] = &[
     (2, "CENTRAL 10\nSTART 0 0"),
     (2, "* PP 0\n0100 7"),
     (3, "\r\n \t\r\n7777 1 2\nPP 0"),
+    (2, "DEAD\n0100 1"),
+    (2, "DEAD\nSTART 0"),
 ];
 
 /// Words behind place 7777: nothing turns round.
 const PAST_ENDS: &[(u32, &str)] = &[
+    (2, "PP 0\n7776 0001 0002 0003"),
+    (2, "PP 0\n7777 0001 0002"),
     (2, "PP 0\n7775 1 2 3 4"),
     (2, "PP 0\n7776 1 2 3 8"),
     (2, "PP 0\n7777 0 0 * 0"),
@@ -161,6 +193,10 @@ const PAST_ENDS: &[(u32, &str)] = &[
 ];
 
 const CENTRAL_RANGES: &[(u32, &str)] = &[
+    (1, "CENTRAL 400001"),
+    (2, "CENTRAL 10\nCM 7 1 2"),
+    (1, "CENTRAL 0"),
+    (1, "CM 10000 1"),
     (1, "CENTRAL 000000"),
     (1, "CENTRAL 777777"),
     (1, "CENTRAL 0 10"),
@@ -173,10 +209,12 @@ const CENTRAL_RANGES: &[(u32, &str)] = &[
     (2, "CENTRAL 1\nCM 1 0"),
     (2, "CENTRAL 400000\nCM 377777 7 1"),
     (3, "CENTRAL 10\nPP 0\nCM 10 1"),
+    (2, "DEAD\nCM 10000 1"),
 ];
 
 /// Bytes past 177 (octal) come before every fault of a line, also in a comment.
 const FOREIGN_BYTES: &[(u32, &[u8])] = &[
+    (2, b"PP 12\n * \x80"),
     (1, b"\x80PP 0"),
     (2, b"PP 0\n\xff"),
     (1, b"* \xc3\xa9\nPP 0"),
@@ -214,5 +252,27 @@ fn malformed_decks(rt: HostRuntime) {
 fn foreign_bytes(rt: HostRuntime) {
     for (line, text) in FOREIGN_BYTES {
         expect_fault(&rt, text, *line, DeckCode::NotAscii);
+    }
+}
+
+/// The deck `HANDOFF` cut after each of its bytes: where it ends within a keyword, or before the fields
+/// that have to follow, this line is at fault.
+#[test]
+fn cut_decks(rt: HostRuntime) {
+    assert_eq!(rt; HANDOFF.len(), 72);
+    for length in 0..73usize {
+        let faulty_line = match length {
+            1..=3 => Some(1),
+            31..=36 => Some(3),
+            42..=44 => Some(4),
+            62..=67 => Some(6),
+            _ => None,
+        };
+        let text = HANDOFF.as_bytes().get(..length).unwrap_or(&[]);
+        let fault = faulty_line.map(|line| DeckFault {
+            line,
+            code: DeckCode::UnknownLine,
+        });
+        assert_eq!(rt; read_deck(rt.alloc(), text).err(), fault, "cut to {length}");
     }
 }

@@ -1,14 +1,13 @@
 //! The system's own devices that fail or never end, as the program's streams.
 
-use crate::devices::{DECK, WORDS};
 use pp_sim::run_program;
-use std::alloc::Global;
 use std::fs::{File, OpenOptions};
 use std::io::{Read, Write};
 use std::process::Abort;
 use std::sync::Wait;
 use std::test::Fail;
 use std::thread::Threads;
+use test_bench::{HANDOFF, WORDS_OF_A_RUN};
 
 /// Runs a deck for 40 turns: the status, and this one line of the error, or none.
 fn expect_run<I: Read, O: Write>(
@@ -19,7 +18,7 @@ fn expect_run<I: Read, O: Write>(
     line: &str,
 ) {
     let mut error = Vec::new(rt.alloc());
-    let answer = run_program(rt, rt.alloc(), &WORDS, input, output, &mut error);
+    let answer = run_program(rt, rt.alloc(), &WORDS_OF_A_RUN, input, output, &mut error);
     assert_eq!(rt; answer, status, "{line}");
     assert!(rt; error.as_slice() == line.as_bytes(), "{line}");
 }
@@ -30,7 +29,7 @@ fn outputs(rt: HostRuntime) -> Result<(), Fail> {
     let mut full = OpenOptions::new().write(true).open(&rt, "/dev/full")?;
     expect_run(
         &rt,
-        &mut DECK.as_bytes(),
+        &mut HANDOFF.as_bytes(),
         &mut full,
         3,
         "ppsim: write fault\n",
@@ -38,13 +37,13 @@ fn outputs(rt: HostRuntime) -> Result<(), Fail> {
     let mut unwritable = File::open(&rt, "/dev/null")?;
     expect_run(
         &rt,
-        &mut DECK.as_bytes(),
+        &mut HANDOFF.as_bytes(),
         &mut unwritable,
         3,
         "ppsim: write fault\n",
     );
     let mut null = OpenOptions::new().write(true).open(&rt, "/dev/null")?;
-    expect_run(&rt, &mut DECK.as_bytes(), &mut null, 0, "");
+    expect_run(&rt, &mut HANDOFF.as_bytes(), &mut null, 0, "");
     Ok(())
 }
 
@@ -78,7 +77,7 @@ fn full_error(rt: HostRuntime) -> Result<(), Fail> {
     let status = run_program(
         &rt,
         rt.alloc(),
-        &WORDS,
+        &WORDS_OF_A_RUN,
         &mut "PP 12".as_bytes(),
         &mut output,
         &mut error,

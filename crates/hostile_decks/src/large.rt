@@ -3,11 +3,11 @@
 
 use crate::loaded::Loaded::{self, Named, Started, Word};
 use crate::loaded::expect_loaded;
-use pp_machine::PpNo;
 use pp_sim::{DeckCode, DeckFault, read_deck};
 use pp_word::{Word12, Word18, Word60};
 use std::alloc::Global;
 use std::test::Fail;
+use test_bench::first;
 
 /// A long deck: its front, a piece that follows so many times, and its end.
 #[derive(Clone, Copy)]
@@ -172,20 +172,33 @@ fn long_decks(rt: HostRuntime) -> Result<(), Fail> {
     Ok(())
 }
 
+/// How many places of processor 0 hold 1, and how many central words.
+fn ones(alloc: Global, deck: Long) -> Result<(u32, u32), Fail> {
+    let text = deck.text(alloc)?;
+    let machine = read_deck(alloc, &text)?.machine;
+    let pp = machine.pp(first());
+    let central = machine.central();
+    let mut places = 0u32;
+    for place in 0..4096u32 {
+        if pp.get(Word12::truncated(place)).get() == 1 {
+            places = places.saturating_add(1);
+        }
+    }
+    let mut words = 0u32;
+    for address in 0..131_072u32 {
+        if central.read(Word18::truncated(address)) == Some(Word60::truncated(1)) {
+            words = words.saturating_add(1);
+        }
+    }
+    Ok((places, words))
+}
+
 /// One line that sets every place of a processor, and one that sets every central word.
 #[test]
 fn whole_memories(rt: HostRuntime) -> Result<(), Fail> {
-    let text = Long(b"PP 0\n0 ", b"1 ", 4096, b"").text(rt.alloc())?;
-    let deck = read_deck(rt.alloc(), &text)?;
-    for place in 0..4096u32 {
-        let word = deck.machine.pp(PpNo::FIRST).get(Word12::truncated(place));
-        assert_eq!(rt; word.get(), 1);
-    }
-    let text = Long(b"CENTRAL 400000\nCM 0 ", b"1 ", 131_072, b"").text(rt.alloc())?;
-    let deck = read_deck(rt.alloc(), &text)?;
-    for address in 0..131_072u32 {
-        let word = deck.machine.central().read(Word18::truncated(address));
-        assert_eq!(rt; word, Some(Word60::truncated(1)));
-    }
+    let places = Long(b"PP 0\n0 ", b"1 ", 4096, b"");
+    assert_eq!(rt; ones(rt.alloc(), places)?, (4096, 0));
+    let words = Long(b"CENTRAL 400000\nCM 0 ", b"1 ", 131_072, b"");
+    assert_eq!(rt; ones(rt.alloc(), words)?, (0, 131_072));
     Ok(())
 }

@@ -16,5 +16,3 @@ mod limits;
 mod loaded;
 #[cfg(test)]
 mod loads;
-#[cfg(test)]
-mod threads;

@@ -1,10 +1,55 @@
-//! Odd decks that are none the less decks, with all that they load.
+//! Plain decks, and odd ones that are none the less decks, with all that they load.
 
-use crate::loaded::Loaded::{self, Central, Named, Size, Started, Word};
+use crate::loaded::Loaded::{self, Central, Named, Size, Started, Waiting, Word};
 use crate::loaded::expect_loaded;
 use std::test::Fail;
+use test_bench::HANDOFF;
 
 const DECKS: &[(&str, &[Loaded])] = &[
+    // Plain decks, the empty one first.
+    ("", &[]),
+    (
+        HANDOFF,
+        &[
+            Named(0),
+            Named(1),
+            Word(0, 0o100, 0o7405),
+            Word(0, 0o101, 0o1407),
+            Word(0, 0o102, 0o7205),
+            Word(0, 0o103, 0o0300),
+            Word(1, 0o200, 0o7005),
+            Word(1, 0o201, 0o0300),
+            Started(0, 0o100, 0),
+            Started(1, 0o200, 0),
+        ],
+    ),
+    (
+        "PP 3\r\n0100\t0001 0002\nSTART 1 2\nPP 4\n0100 0007\nPP 3\n0101 0003 * 0004\nSTART 5 777777\r",
+        &[
+            Named(3),
+            Named(4),
+            Word(3, 0o100, 1),
+            Word(3, 0o101, 3),
+            Word(4, 0o100, 7),
+            Started(3, 5, 0o777_777),
+        ],
+    ),
+    (
+        "CENTRAL 7\nCM 5 00010002000300040005 00060007001000110012\nPP 0\n0000 0002\n",
+        &[
+            Size(7),
+            Central(5, 0o00010002000300040005),
+            Central(6, 0o00060007001000110012),
+            Named(0),
+            Word(0, 0, 2),
+        ],
+    ),
+    (
+        "PP 0\n7776 0001 0002",
+        &[Named(0), Word(0, 0o7776, 1), Word(0, 0o7777, 2)],
+    ),
+    ("* note\n\nCENTRAL 10", &[Size(0o10)]),
+    ("CM 10000", &[]),
     // Lines that mean nothing.
     ("\n", &[]),
     (" ", &[]),
@@ -102,6 +147,71 @@ const DECKS: &[(&str, &[Loaded])] = &[
     (
         "CENTRAL 400000\nCM 377777 7",
         &[Size(0o400_000), Central(0o377_777, 7)],
+    ),
+    // Dead start: just those without a section wait, wherever the line stands and however often.
+    (
+        "DEAD",
+        &[
+            Waiting(0),
+            Waiting(1),
+            Waiting(2),
+            Waiting(3),
+            Waiting(4),
+            Waiting(5),
+            Waiting(6),
+            Waiting(7),
+            Waiting(8),
+            Waiting(9),
+        ],
+    ),
+    (
+        "PP 1\nPP 2\nPP 3\nPP 4\nPP 5\nPP 6\nPP 7\nPP 10\nSTART 5\nDEAD * note\r\nPP 0",
+        &[
+            Named(0),
+            Named(1),
+            Named(2),
+            Named(3),
+            Named(4),
+            Named(5),
+            Named(6),
+            Named(7),
+            Named(8),
+            Started(8, 5, 0),
+            Waiting(9),
+        ],
+    ),
+    (
+        "PP 0\nPP 1\nPP 2\nPP 3\nPP 4\nPP 5\nPP 6\nPP 7\nDEAD\n0100 1\nCM 7777 7",
+        &[
+            Named(0),
+            Named(1),
+            Named(2),
+            Named(3),
+            Named(4),
+            Named(5),
+            Named(6),
+            Named(7),
+            Word(7, 0o100, 1),
+            Central(0o7777, 7),
+            Waiting(8),
+            Waiting(9),
+        ],
+    ),
+    (
+        "CENTRAL 10\nDEAD\nPP 0\nPP 1\nPP 2\nPP 3\nPP 4\nPP 5\nPP 6\nPP 7\nDEAD\nPP 11\n\tDEAD",
+        &[
+            Size(8),
+            Named(0),
+            Named(1),
+            Named(2),
+            Named(3),
+            Named(4),
+            Named(5),
+            Named(6),
+            Named(7),
+            Waiting(8),
+            Named(9),
+        ],
     ),
 ];
 

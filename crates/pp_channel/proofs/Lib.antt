@@ -1,3 +1,4 @@
+pub mod ChannelPlaces
 pub mod LastElements
 pub mod HistoryWalk
 pub mod CourseLemmas
@@ -19,3 +20,4 @@ pub mod LineKnowledge
 pub mod LineKeeping
 pub mod LineAnswers
 pub mod RisingLemmas
+pub mod OpeningLemmas

@@ -1,6 +1,6 @@
 -- What a call of a line answers, from what its steps told.
 use Rattle.std.proofs.Common.{◌≡◌, ◌≢◌, ℕ, ◌+◌, ◌<◌, ◌≤◌, List, [], ◌∷◌, ◌++◌, length, take, Some, refl, sym, ap, ◌∙◌, subst, arith, append_assoc}
-use Rattle.std.specs.Prelude.{Contains, slice_set}
+use Rattle.std.specs.Prelude.{IsTrue, Contains, slice_set}
 use Rattle.std.proofs.lemmas.List.{length-set, length_push, length-take-le, take_all, take_at, get_or-set_same, set-set, set-get_or}
 use Rattle.std.proofs.lemmas.List.Elements.{All-weaker, All-contains, Contains-push}
 use Rattle.pp_channel.specs.declared.chan_op.ChanOp.{ChanOp}
@@ -13,7 +13,7 @@ use Rattle.pp_channel.specs.declared.entry.Seen.TheVariants.{Did, Saw}
 use Rattle.pp_channel.specs.declared.rule.LineView.{LineView}
 use Rattle.pp_channel.specs.declared.word_step.WordStep.{WordStep}
 use Rattle.pp_channel.specs.Answer.{IsAnswer, IsReady, operation_of, reply_made}
-use Rattle.pp_channel.specs.ChannelNumber.{channel_count}
+use Rattle.pp_channel.specs.ChannelNumber.{channel_count, channel_index, names_channel}
 use Rattle.pp_channel.specs.ChannelWord.{number_in, flags_in, greatest_number}
 use Rattle.pp_channel.specs.History.{IsLawful, HasTwelveBitWord, HasTwelveBitWords}
 use Rattle.pp_channel.specs.Law.{KeepsLaw}
@@ -27,6 +27,7 @@ use Rattle.pp_channel.specs.RisingLog.{seen_on}
 use Rattle.pp_channel.specs.SharedWords.{IsFound}
 use Rattle.pp_channel.specs.ToldHistory.{IsToldBy}
 use Rattle.pp_channel.specs.WordStep.{event_in, step_from}
+use Rattle.pp_channel.proofs.ChannelPlaces.{place_below}
 use Rattle.pp_channel.proofs.ChannelWordLemmas.{looks_by_table, worn_by_table, held_by_table, next_by_event, next_word, ready_at_word, answer_made, answer_held, answer_looked, number_of_word}
 use Rattle.pp_channel.proofs.FrontLemmas.{lawful_take, twelve_bits_take}
 use Rattle.pp_channel.proofs.MergeLemmas.{with_more, more_here, put_before}
@@ -35,8 +36,8 @@ use Rattle.pp_channel.proofs.LawLemmas.{law_of_lawful}
 use Rattle.pp_channel.proofs.LineKnowledge.{lawful_on, bits_on, number_told, flags_told, not_older_told, knows_word, knows_look, look_told, knows_deed}
 
 -- the histories with that of channel c put in its own place, or in place of a longer one
-put_back : (histories : List (List Event)) (c : ℕ) (h : List Event) → h ≡ history_on c histories → slice_set histories c h ≡ histories
-put_back histories c h is = ap (λ x. slice_set histories c x) is ∙ set-get_or histories c []
+put_back : (histories : List (List Event)) (c : ℕ) (h : List Event) → h ≡ history_on c histories → slice_set histories (channel_index c) h ≡ histories
+put_back histories c h is = ap (λ x. slice_set histories (channel_index c) x) is ∙ set-get_or histories (channel_index c) []
 
 -- an event is written as the answer to its operation
 written_by : (log : LogState) (c n : ℕ) (e : Event) → with_answer log c (operation_of e) n (reply_made e) ≡ appended log (record { channel = c; number = n; what = Did e })
@@ -59,10 +60,11 @@ found_last line after c word is =
     let P : LineState → Type 0 = λ x. Contains x.found (record { channel = c; word = word }) in
     subst P (sym is) (Contains-push line.found (record { channel = c; word = word }))
 
-pub seen_last : (line after : LineState) (c word : ℕ) → c < channel_count → length line.seen ≡ channel_count → after ≡ with_word line c word → number_in word ≤ seen_on c after.seen
+pub seen_last : (line after : LineState) (c word : ℕ) → IsTrue (names_channel c) → length line.seen ≡ channel_count → after ≡ with_word line c word → number_in word ≤ seen_on c after.seen
 seen_last line after c word named each is =
+    let low = place_below c named in
     let P : LineState → Type 0 = λ x. number_in word ≤ seen_on c x.seen in
-    let there = get_or-set_same line.seen c (number_in word) 0 (omega arith) in
+    let there = get_or-set_same line.seen (channel_index c) (number_in word) 0 (omega arith) in
     subst P (sym is) (omega arith)
 
 -- a line that looked at what its load found
@@ -91,7 +93,7 @@ module _ {line : LineState} {c word : ℕ} (t : TellsLine line c word) (op : Cha
   looked_at_once reply after is written counted answer not_worn = record {
     words = word ∷ [];
     words_found = (refl, refl);
-    after_is = is ∙ same_line (sym written) (ap (λ n. slice_set line.seen c n) (sym counted)) refl refl refl refl;
+    after_is = is ∙ same_line (sym written) (ap (λ n. slice_set line.seen (channel_index c) n) (sym counted)) refl refl refl refl;
     histories = t.histories;
     known = let P : LineState → Type 0 = λ x. Knows x t.histories in subst P (sym is) knows_looked;
     answer = record {
@@ -123,11 +125,11 @@ module _ {line : LineState} {c word : ℕ} (t : TellsLine line c word) (op : Cha
         no_probe = k.0;
         word = word;
         word_found = k.1;
-        after_is = is ∙ ap (λ n. record line { seen = slice_set line.seen c n; found = line.found ++ record { channel = c; word = word } ∷ [] }) k.1;
+        after_is = is ∙ ap (λ n. record line { seen = slice_set line.seen (channel_index c) n; found = line.found ++ record { channel = c; word = word } ∷ [] }) k.1;
         histories = t.histories;
         known = let P : LineState → Type 0 = λ x. Knows x t.histories in subst P (sym is) (knows_word t);
         worn = sym (number_told t) ∙ k.1;
-        all_seen = ap (λ x. seen_on c x.seen) is ∙ (get_or-set_same line.seen c (number_in word) 0 (omega (arith, t.named, each)) ∙ k.1);
+        all_seen = ap (λ x. seen_on c x.seen) is ∙ (get_or-set_same line.seen (channel_index c) (number_in word) 0 (omega (arith, place_below c t.named, each)) ∙ k.1);
       }
 
   -- a line that tried an event after its load
@@ -162,7 +164,7 @@ module _ {line : LineState} {c word : ℕ} (t : TellsLine line c word) (op : Cha
       more = (next_word word op e next reply stepped event bits before before_lawful before_bits made.tells.word_is).0
 
       longer_is : longer ≡ before ++ e ∷ []
-      longer_is = more_here histories c c (e ∷ []) (let n = made.tells.named in let l = made.tells.known.sound.each_channel in omega arith) refl
+      longer_is = more_here histories c c (e ∷ []) (let n = place_below c made.tells.named in let l = made.tells.known.sound.each_channel in omega arith) refl
 
       front : take (number_in word) longer ≡ before
       front = ap (take (number_in word)) longer_is ∙ take_at before (e ∷ []) (number_in word) (sym (number_told made.tells))
@@ -173,18 +175,18 @@ module _ {line : LineState} {c word : ℕ} (t : TellsLine line c word) (op : Cha
       written : with_answer line.log c op (number_in word) reply ≡ appended line.log (record { channel = c; number = number_in word; what = Did e })
       written = ap (λ r. with_answer line.log c op (number_in word) r) reply_is ∙ (ap (λ o. with_answer line.log c o (number_in word) (reply_made e)) (sym operation_is) ∙ written_by line.log c (number_in word) e)
 
-      opening : slice_set (with_more histories c (e ∷ [])) c (take (number_in word) longer) ≡ histories
-      opening = ap (λ h. slice_set (with_more histories c (e ∷ [])) c h) front ∙ put_before histories c (e ∷ [])
+      opening : slice_set (with_more histories c (e ∷ [])) (channel_index c) (take (number_in word) longer) ≡ histories
+      opening = ap (λ h. slice_set (with_more histories c (e ∷ [])) (channel_index c) h) front ∙ put_before histories c (e ∷ [])
 
       pub acted_made : IsActed line c op (record { reply = reply; loaded = number_in word; number = number_in word }) after
       acted_made = record {
         words = word ∷ [];
         words_found = (refl, refl);
-        after_is = made.after_is ∙ same_line (sym written) (set-set line.seen c (number_in word) (number_in word + 1) ∙ ap (λ n. slice_set line.seen c n) (sym counted)) refl refl refl refl;
+        after_is = made.after_is ∙ same_line (sym written) (set-set line.seen (channel_index c) (number_in word) (number_in word + 1) ∙ ap (λ n. slice_set line.seen (channel_index c) n) (sym counted)) refl refl refl refl;
         histories = with_more histories c (e ∷ []);
         known =
             let P : LineState → Type 0 = λ x. Knows x (with_more histories c (e ∷ [])) in
-            subst P (sym made.after_is) (knows_deed made.tells e (length-set line.seen c (number_in word) ∙ each) more bits);
+            subst P (sym made.after_is) (knows_deed made.tells e (length-set line.seen (channel_index c) (number_in word) ∙ each) more bits);
         answer = record {
           now = ap length longer_is ∙ (length_push before e ∙ (ap (λ n. n + 1) (sym (number_told made.tells)) ∙ sym counted));
           at_once = λ _.
@@ -223,7 +225,7 @@ module _ {line : LineState} {c word : ℕ} (t : TellsLine line c word) (op : Cha
           record {
             words = word ∷ found ∷ [];
             words_found = (refl, refl, λ same. omega arith);
-            after_is = lost.after_is ∙ same_line refl (set-set line.seen c (number_in word) (number_in found)) (append_assoc line.found (record { channel = c; word = word } ∷ []) (record { channel = c; word = found } ∷ [])) refl refl refl;
+            after_is = lost.after_is ∙ same_line refl (set-set line.seen (channel_index c) (number_in word) (number_in found)) (append_assoc line.found (record { channel = c; word = word } ∷ []) (record { channel = c; word = found } ∷ [])) refl refl refl;
             histories = lost.tells.histories;
             known =
                 let P : LineState → Type 0 = λ x. Knows x lost.tells.histories in

@@ -1,6 +1,6 @@
 -- What a line keeps, through its steps and its calls.
 use Rattle.std.proofs.Common.{◌≡◌, ◌≢◌, ℕ, ◌+◌, ◌-◌, ◌<◌, ◌≤◌, List, [], ◌∷◌, ◌++◌, length, take, refl, sym, ap, ◌∙◌, subst, arith}
-use Rattle.std.specs.Prelude.{All, Contains, slice_set}
+use Rattle.std.specs.Prelude.{IsTrue, All, Contains, slice_set}
 use Rattle.std.proofs.lemmas.List.{length-set, length-take-le, get_or-set_same}
 use Rattle.std.proofs.lemmas.List.Elements.{All-append, All-push, All-weaker, All-contains, Contains-append_left, Contains-append_right, Contains-push}
 use Rattle.std.proofs.lemmas.Bool.{MatchBool-at_true, MatchBool-at_false, eq-eqb, ne_eqb}
@@ -11,7 +11,7 @@ use Rattle.pp_channel.specs.declared.entry.Seen.TheVariants.{Did, Saw}
 use Rattle.pp_channel.specs.declared.rule.FoundWord.{FoundWord}
 use Rattle.pp_channel.specs.declared.rule.LineView.{LineView}
 use Rattle.pp_channel.specs.Answer.{flags_of}
-use Rattle.pp_channel.specs.ChannelNumber.{channel_count}
+use Rattle.pp_channel.specs.ChannelNumber.{channel_count, channel_index, names_channel}
 use Rattle.pp_channel.specs.ChannelWord.{number_in, flags_in}
 use Rattle.pp_channel.specs.History.{HasTwelveBitWords}
 use Rattle.pp_channel.specs.LineCalls.{with_word, with_look, with_deed, TellsLine, HasMade, HasLost}
@@ -22,6 +22,7 @@ use Rattle.pp_channel.specs.LineSteps.{parent_view, joined_view, finds, makes, S
 use Rattle.pp_channel.specs.Merge.{history_on, IsTrueAt, IsTrueOf}
 use Rattle.pp_channel.specs.RisingLog.{known_after, seen_on}
 use Rattle.pp_channel.specs.SharedWords.{IsFound}
+use Rattle.pp_channel.proofs.ChannelPlaces.{place_below}
 use Rattle.pp_channel.proofs.ChannelWordLemmas.{number_of_word, flags_of_word}
 use Rattle.pp_channel.proofs.FrontLemmas.{twelve_bits_take}
 use Rattle.pp_channel.proofs.LineKnowledge.{bits_on, told_looked, all_looked, merges_same}
@@ -57,7 +58,7 @@ module _ {v : LineView} {line : LineState} (kept : IsLineKept v line) where
         record { merged = merges_same line.log.entries alone.0 kept.told (log_by_view histories says); seen = λ c. rw (← kept.seen) (alone.1 c) };
   }
 
-  pub tells_line : {c word : ℕ} → Tells v c word → c < channel_count → TellsLine line c word
+  pub tells_line : {c word : ℕ} → Tells v c word → IsTrue (names_channel c) → TellsLine line c word
   tells_line t named = record { named = named; histories = t.histories; known = knows_by_view t.histories t.says; word_is = t.word_is }
 
 -- what backs an entry backs it where the view has more
@@ -105,12 +106,12 @@ kept_word {v = v} {line = line} w c word kept is later =
     subst P (sym is) (record {
       shares = kept.shares;
       whole = kept.whole;
-      seen = ap (λ x. slice_set x c (number_in word)) kept.seen;
+      seen = ap (λ x. slice_set x (channel_index c) (number_in word)) kept.seen;
       found = ap (λ x. x ++ record { channel = c; word = word } ∷ []) kept.found;
-      each_channel = length-set line.seen c (number_in word) ∙ kept.each_channel;
+      each_channel = length-set line.seen (channel_index c) (number_in word) ∙ kept.each_channel;
       told = kept.told;
       backed = all_backed_more v (finds v c word) (λ x b. b) (Contains-append_left v.found (record { channel = c; word = word } ∷ [])) line.log.entries kept.backed;
-      within = within_more line.seen (slice_set line.seen c (number_in word)) (λ d. set_raises line.seen c (number_in word) d later) line.log.entries kept.within;
+      within = within_more line.seen (slice_set line.seen (channel_index c) (number_in word)) (λ d. set_raises line.seen (channel_index c) (number_in word) d later) line.log.entries kept.within;
     })
 
 -- a look was written
@@ -130,22 +131,24 @@ kept_look {v = v} {line = line} c word kept has seen =
     }
 
 -- an event was made, and written
-pub kept_deed : {v : LineView} {line : LineState} (w : LineView) (c number : ℕ) (e : Event) → IsLineKept v line → w ≡ makes v c number e → c < channel_count → seen_on c line.seen ≤ number → IsLineKept w (with_deed line c number e)
+pub kept_deed : {v : LineView} {line : LineState} (w : LineView) (c number : ℕ) (e : Event) → IsLineKept v line → w ≡ makes v c number e → IsTrue (names_channel c) → seen_on c line.seen ≤ number → IsLineKept w (with_deed line c number e)
 kept_deed {v = v} {line = line} w c number e kept is named later =
     let P : LineView → Type 0 = λ x. IsLineKept x (with_deed line c number e) in
     let deed = made_entry c number e in
     let each = kept.each_channel in
+    let i : ℕ = channel_index c in
+    let low : i < channel_count = place_below c named in
     subst P (sym is) (record {
       shares = kept.shares;
       whole = kept.whole;
-      seen = ap (λ x. slice_set x c (number + 1)) kept.seen;
+      seen = ap (λ x. slice_set x i (number + 1)) kept.seen;
       found = kept.found;
-      each_channel = length-set line.seen c (number + 1) ∙ kept.each_channel;
+      each_channel = length-set line.seen i (number + 1) ∙ kept.each_channel;
       told = λ d n. times_told_push d n line.log.entries deed ∙ (ap (λ k. k + told_by d n deed) (kept.told d n) ∙ sym (times_told_push d n v.events deed));
       backed = All-push (IsBacked (makes v c number e)) line.log.entries deed (all_backed_more v (makes v c number e) (Contains-append_left v.events (deed ∷ [])) (λ x b. b) line.log.entries kept.backed) (Contains-push v.events deed);
-      within = All-push (λ x. known_after x.what x.number ≤ seen_on x.channel (slice_set line.seen c (number + 1))) line.log.entries deed
-          (within_more line.seen (slice_set line.seen c (number + 1)) (λ d. set_raises line.seen c (number + 1) d (omega arith)) line.log.entries kept.within)
-          (let there = get_or-set_same line.seen c (number + 1) 0 (omega arith) in omega arith);
+      within = All-push (λ x. known_after x.what x.number ≤ seen_on x.channel (slice_set line.seen i (number + 1))) line.log.entries deed
+          (within_more line.seen (slice_set line.seen i (number + 1)) (λ d. set_raises line.seen i (number + 1) d (omega arith)) line.log.entries kept.within)
+          (let there = get_or-set_same line.seen i (number + 1) 0 (omega arith) in omega arith);
     })
 
 -- a share was given away
@@ -187,7 +190,7 @@ kept_joined {v = v} {w = w} {line = line} {other = other} both kept more is =
 -- the view of a line that has found a word last
 pub view_loaded : {v : LineView} {line : LineState} (before : LineState) (c word : ℕ) → IsLineKept v line → line ≡ with_word before c word → (w : LineView) × (v ≡ finds w c word)
 view_loaded {v = v} before c word kept is =
-    let seen : v.seen ≡ slice_set before.seen c (number_in word) = kept.seen ∙ ap (λ (x : LineState). x.seen) is in
+    let seen : v.seen ≡ slice_set before.seen (channel_index c) (number_in word) = kept.seen ∙ ap (λ (x : LineState). x.seen) is in
     let found : v.found ≡ before.found ++ record { channel = c; word = word } ∷ [] = kept.found ∙ ap (λ (x : LineState). x.found) is in (
       record { shares = v.shares; whole = v.whole; events = v.events; found = before.found; seen = before.seen },
       λ j. record { shares = v.shares; whole = v.whole; events = v.events; found = found j; seen = seen j },
@@ -203,7 +206,7 @@ exchange_lost {v = v} {w = w} {c = c} {expected = expected} {word = word} e exch
     MatchBool-at_false (w ≡ makes v c (number_in word) e) (IsLostExchange c expected v word w) (ne_eqb word expected other) exchanged.0
 
 -- what the line that made the exchange says of it
-module _ {v : LineView} {line : LineState} {c expected word : ℕ} (w : LineView) (e : Event) (kept : IsLineKept v line) (named : c < channel_count) (exchanged : IsExchange c expected e v word w) (now after : LineState) (is : line ≡ now) where
+module _ {v : LineView} {line : LineState} {c expected word : ℕ} (w : LineView) (e : Event) (kept : IsLineKept v line) (named : IsTrue (names_channel c)) (exchanged : IsExchange c expected e v word w) (now after : LineState) (is : line ≡ now) where
   pub has_made : word ≡ expected → after ≡ with_deed line c (number_in word) e → HasMade now c expected e after
   has_made same written =
       let P : LineState → Type 0 = λ x. HasMade x c expected e after in

@@ -1,6 +1,6 @@
 -- What a line knows of the histories, from what its steps tell and through what its calls make of it.
 use Rattle.std.proofs.Common.{◌≡◌, ◌≢◌, ℕ, zero, suc, ◌+◌, ◌-◌, ◌<◌, ◌≤◌, Bool, true, false, not, ◌==◌, List, [], ◌∷◌, ◌++◌, length, take, get_or, set, Option, Some, None, ⊎_elim, refl, sym, ap, ◌∙◌, subst, arith}
-use Rattle.std.specs.Prelude.{All, slice_get}
+use Rattle.std.specs.Prelude.{IsTrue, All, slice_get, slice_index_or}
 use Rattle.std.specs.List.{last_or}
 use Rattle.std.proofs.lemmas.List.{length_push, take_all}
 use Rattle.std.proofs.lemmas.List.Elements.{All-push, All-set, All-weaker}
@@ -12,7 +12,7 @@ use Rattle.pp_channel.specs.declared.entry.Entry.{Entry}
 use Rattle.pp_channel.specs.declared.entry.Seen.{Seen}
 use Rattle.pp_channel.specs.declared.entry.Seen.TheVariants.{Did, Saw}
 use Rattle.pp_channel.specs.Answer.{flags_of}
-use Rattle.pp_channel.specs.ChannelNumber.{channel_count}
+use Rattle.pp_channel.specs.ChannelNumber.{channel_count, channel_index, names_channel}
 use Rattle.pp_channel.specs.ChannelWord.{history_word, number_in, flags_in}
 use Rattle.pp_channel.specs.History.{IsLawful, HasTwelveBitWord, HasTwelveBitWords}
 use Rattle.pp_channel.specs.LineCalls.{with_word, with_look, with_deed, TellsLine}
@@ -21,6 +21,7 @@ use Rattle.pp_channel.specs.LineState.{LineState, Knows}
 use Rattle.pp_channel.specs.Merge.{history_on, IsTrueAt, IsTrueOf, times_told, Merges, no_opening}
 use Rattle.pp_channel.specs.RisingLog.{seen_on}
 use Rattle.pp_channel.specs.SharedWords.{IsFound}
+use Rattle.pp_channel.proofs.ChannelPlaces.{place_below, one_place}
 use Rattle.pp_channel.proofs.ChannelWordLemmas.{number_of_word, flags_of_word}
 use Rattle.pp_channel.proofs.MergeLemmas.{once_below, tells_once, merges_by, told_by, times_told_push, made_entry, told_elsewhere, told_next, Grow, slice_get_last, true_later, with_more, more_here, same_elsewhere, more_grow, length-with_more, All-with_more}
 use Rattle.pp_channel.proofs.SeenLemmas.{set_at_each, set_at_other}
@@ -29,16 +30,16 @@ use Rattle.pp_channel.proofs.HistoryLemmas.{lawful_empty}
 use Rattle.pp_channel.proofs.LastElements.{last_or_at}
 
 -- what holds of each history, also past the last channel
-history_has : (P : List Event → Type 0) (histories : List (List Event)) (c : ℕ) → P [] → All P histories → P (history_on c histories)
-history_has P [] c none all = none
+history_has : (P : List Event → Type 0) (histories : List (List Event)) (i : ℕ) → P [] → All P histories → P (slice_index_or histories i [])
+history_has P [] i none all = none
 history_has P (h ∷ hs) zero none all = all 0 [] (omega arith)
-history_has P (h ∷ hs) (suc c) none all = history_has P hs c none (λ k d l. all (suc k) d (omega arith))
+history_has P (h ∷ hs) (suc i) none all = history_has P hs i none (λ k d l. all (suc k) d (omega arith))
 
 pub lawful_on : (histories : List (List Event)) (c : ℕ) → All IsLawful histories → IsLawful (history_on c histories)
-lawful_on histories c all = history_has IsLawful histories c lawful_empty all
+lawful_on histories c all = history_has IsLawful histories (channel_index c) lawful_empty all
 
 pub bits_on : (histories : List (List Event)) (c : ℕ) → All HasTwelveBitWords histories → HasTwelveBitWords (history_on c histories)
-bits_on histories c all = history_has HasTwelveBitWords histories c (λ k d l. absurd (omega arith)) all
+bits_on histories c all = history_has HasTwelveBitWords histories (channel_index c) (λ k d l. absurd (omega arith)) all
 
 -- a step found a word on channel c
 module _ {line : LineState} {c word : ℕ} (t : TellsLine line c word) where
@@ -57,18 +58,18 @@ module _ {line : LineState} {c word : ℕ} (t : TellsLine line c word) where
   word_found : IsFound t.histories (record { channel = c; word = word })
   word_found = (length history, omega arith, ap history_word (take_all (length history) history (omega arith)) ∙ t.word_is)
 
-  number_at : (d : ℕ) → d ≡ c → number_in word ≡ length (history_on d t.histories)
-  number_at d same = number_told ∙ ap (λ x. length (history_on x t.histories)) (sym same)
+  number_at : (d : ℕ) → channel_index d ≡ channel_index c → number_in word ≡ length (history_on d t.histories)
+  number_at d same = number_told ∙ ap (λ i. length (slice_index_or t.histories i [])) (sym same)
 
   pub knows_word : Knows (with_word line c word) t.histories
   knows_word = record {
     sound = t.known.sound;
     log_true = t.known.log_true;
-    seen_happened = λ d. set_at_each (λ n. n ≤ length (history_on d t.histories)) line.seen c (number_in word) d (t.known.seen_happened d) (λ same. let e = number_at d same in omega arith);
+    seen_happened = λ d. set_at_each (λ n. n ≤ length (history_on d t.histories)) line.seen (channel_index c) (number_in word) (channel_index d) (t.known.seen_happened d) (λ same. let e = number_at d same in omega arith);
     words_found = All-push (IsFound t.histories) line.found (record { channel = c; word = word }) t.known.words_found word_found;
     all_known = λ all. record {
       merged = (t.known.all_known all).merged;
-      seen = λ d. set_at_each (λ n. n ≡ length (history_on d t.histories)) line.seen c (number_in word) d ((t.known.all_known all).seen d) (number_at d);
+      seen = λ d. set_at_each (λ n. n ≡ length (history_on d t.histories)) line.seen (channel_index c) (number_in word) (channel_index d) ((t.known.all_known all).seen d) (number_at d);
     };
   }
 
@@ -155,22 +156,22 @@ look_told {c = c} {word = word} t =
     (omega arith, ap (λ k. flags_of (take k h)) n ∙ (ap flags_of (take_all (length h) h (omega arith)) ∙ sym (flags_told t)))
 
 -- the entries of a log, and one that tells the next event of a channel
-more_true : (histories : List (List Event)) (log : List Entry) (c : ℕ) (e : Event) → c < length histories → All (IsTrueOf histories) log
+more_true : (histories : List (List Event)) (log : List Entry) (c : ℕ) (e : Event) → IsTrue (names_channel c) → channel_index c < length histories → All (IsTrueOf histories) log
     → All (IsTrueOf (with_more histories c (e ∷ []))) (log ++ made_entry c (length (history_on c histories)) e ∷ [])
-more_true histories log c e within true_of =
+more_true histories log c e names within true_of =
     let after : List (List Event) = with_more histories c (e ∷ []) in
     let P : List Event → Type 0 = λ h. slice_get h (length (history_on c histories)) ≡ Some e in
     All-push (IsTrueOf after) log (made_entry c (length (history_on c histories)) e)
-    (All-weaker (IsTrueOf histories) (IsTrueOf after) (true_later histories after (more_grow histories c (e ∷ []) within)) log true_of)
+    (All-weaker (IsTrueOf histories) (IsTrueOf after) (true_later histories after (more_grow histories c (e ∷ []) names within)) log true_of)
     (subst P (sym (more_here histories c c (e ∷ []) within refl)) (slice_get_last (history_on c histories) e))
 
 -- a log with the next event of a channel merges to the history that has it
-merges_more : (histories : List (List Event)) (log : List Entry) (c : ℕ) (e : Event) → c < length histories → Merges no_opening histories log
+merges_more : (histories : List (List Event)) (log : List Entry) (c : ℕ) (e : Event) → IsTrue (names_channel c) → channel_index c < length histories → Merges no_opening histories log
     → Merges no_opening (with_more histories c (e ∷ [])) (log ++ made_entry c (length (history_on c histories)) e ∷ [])
-merges_more histories log c e within m =
+merges_more histories log c e names within m =
     let n : ℕ = length (history_on c histories) in
     let after : List (List Event) = with_more histories c (e ∷ []) in
-    let grow : Grow histories after = more_grow histories c (e ∷ []) within in
+    let grow : Grow histories after = more_grow histories c (e ∷ []) names within in
     merges_by after (log ++ made_entry c n e ∷ [])
     (λ d number.
     let more = times_told_push d number log (made_entry c n e) in
@@ -183,10 +184,10 @@ merges_more histories log c e within m =
     omega arith)
     (λ (other : d ≢ c).
     let none = told_elsewhere d number c n e (λ is. other (sym is)) in
-    let now : once_below number (length (history_on d after)) ≡ once_below number (length (history_on d histories)) = ap (λ h. once_below number (length h)) (same_elsewhere histories c d (e ∷ []) other) in
+    let now : once_below number (length (history_on d after)) ≡ once_below number (length (history_on d histories)) = ap (λ h. once_below number (length h)) (same_elsewhere histories c d (e ∷ []) names other) in
     omega arith)
     (cases_eq d c))
-    (more_true histories log c e within m.entries_true)
+    (more_true histories log c e names within m.entries_true)
 
 -- a line that makes an event where a step found a word
 module _ {line : LineState} {c word : ℕ} (t : TellsLine line c word) (e : Event) (each : length line.seen ≡ channel_count) (lawful : IsLawful (history_on c t.histories ++ e ∷ [])) (bits : HasTwelveBitWord e) where
@@ -196,14 +197,14 @@ module _ {line : LineState} {c word : ℕ} (t : TellsLine line c word) (e : Even
   abbrev after : List (List Event)
   after = with_more t.histories c (e ∷ [])
 
-  within : c < length t.histories
-  within = let n = t.named in let l = t.known.sound.each_channel in omega arith
+  within : channel_index c < length t.histories
+  within = let n = place_below c t.named in let l = t.known.sound.each_channel in omega arith
 
   grow : Grow t.histories after
-  grow = more_grow t.histories c (e ∷ []) within
+  grow = more_grow t.histories c (e ∷ []) t.named within
 
-  length_on : (d : ℕ) → d ≡ c → length (history_on d after) ≡ length before + 1
-  length_on d same = ap length (more_here t.histories c d (e ∷ []) within same) ∙ length_push before e
+  length_on : (d : ℕ) → channel_index d ≡ channel_index c → length (history_on d after) ≡ length before + 1
+  length_on d same = ap length (more_here t.histories c d (e ∷ []) within (one_place c d t.named same)) ∙ length_push before e
 
   knows_deed_at : Knows (with_deed line c (length before) e) after
   knows_deed_at = record {
@@ -212,15 +213,15 @@ module _ {line : LineState} {c word : ℕ} (t : TellsLine line c word) (e : Even
       lawful = All-with_more IsLawful t.histories c (e ∷ []) t.known.sound.lawful lawful;
       twelve_bits = All-with_more HasTwelveBitWords t.histories c (e ∷ []) t.known.sound.twelve_bits (All-push HasTwelveBitWord before e (bits_on t.histories c t.known.sound.twelve_bits) bits);
     };
-    log_true = more_true t.histories line.log.entries c e within t.known.log_true;
-    seen_happened = λ d. set_at_each (λ n. n ≤ length (history_on d after)) line.seen c (length before + 1) d
+    log_true = more_true t.histories line.log.entries c e t.named within t.known.log_true;
+    seen_happened = λ d. set_at_each (λ n. n ≤ length (history_on d after)) line.seen (channel_index c) (length before + 1) (channel_index d)
         (let s = t.known.seen_happened d in let l = length_later t.histories after grow d in omega arith)
         (λ same. let l = length_on d same in omega arith);
     words_found = All-weaker (IsFound t.histories) (IsFound after) (found_later t.histories after grow) line.found t.known.words_found;
     all_known = λ all. record {
-      merged = merges_more t.histories line.log.entries c e within (t.known.all_known all).merged;
-      seen = λ d. set_at_other (λ n. n ≡ length (history_on d after)) line.seen c (length before + 1) d (let n = t.named in omega arith)
-          (λ other. (t.known.all_known all).seen d ∙ ap length (sym (same_elsewhere t.histories c d (e ∷ []) other)))
+      merged = merges_more t.histories line.log.entries c e t.named within (t.known.all_known all).merged;
+      seen = λ d. set_at_other (λ n. n ≡ length (history_on d after)) line.seen (channel_index c) (length before + 1) (channel_index d) (let n = place_below c t.named in omega arith)
+          (λ other. (t.known.all_known all).seen d ∙ ap length (sym (same_elsewhere t.histories c d (e ∷ []) t.named (λ same. other (ap channel_index same)))))
           (λ same. sym (length_on d same));
     };
   }

@@ -2,7 +2,7 @@
 use Rattle.std.proofs.Common.{◌≡◌, ℕ, ◌+◌, ◌<◌, ◌≤◌, ◌≢◌, ◌⊎◌, inl, inr, ⊎_elim, eqb, ltb, true, false, cond, List, [], ◌∷◌, ◌++◌, length, take, set, refl, sym, ap, ◌∙◌, subst, arith}
 use mathlib.Core.Logic.{dite}
 use native.Mathlib.Decide.{ℕ_discrete, dec_lt}
-use Rattle.std.specs.Prelude.{Some, ◌&&◌, slice_get}
+use Rattle.std.specs.Prelude.{Some, IsTrue, ◌&&◌, slice_get}
 use Rattle.std.specs.List.{All}
 use Rattle.std.proofs.lemmas.Bool.{cases_lt, cases_Bool, lt-ltb, le-ltb, eq-eqb, ne_eqb, eqb-true, and_parts, and_from, and_left, and_right, false≢true}
 use Rattle.std.proofs.lemmas.List.{append-nil, length-append, take-append-le, get_or_append_left, get_or-set_same, get_or-set_other, length-set, set-set, set-get_or}
@@ -14,10 +14,12 @@ use Rattle.pp_channel.specs.declared.entry.Entry.{Entry}
 use Rattle.pp_channel.specs.declared.entry.Seen.{Seen}
 use Rattle.pp_channel.specs.declared.entry.Seen.TheVariants.{Did, Saw}
 use Rattle.pp_channel.specs.Answer.{flags_of}
+use Rattle.pp_channel.specs.ChannelNumber.{channel_index, names_channel}
 use Rattle.pp_channel.specs.Law.{IsPrefix}
 use Rattle.pp_channel.specs.LineLog.{is_event}
 use Rattle.pp_channel.specs.Merge.{history_on, IsTrueAt, IsTrueOf, tells_event, times_told, Merges, no_opening}
 use Rattle.pp_channel.specs.RisingLog.{known_after, seen_on, IsWithin}
+use Rattle.pp_channel.proofs.ChannelPlaces.{one_place}
 
 -- 1 for a number below the end, else 0
 abbrev pub once_below : ℕ → ℕ → ℕ
@@ -63,7 +65,7 @@ pub told_not : (c number d n : ℕ) (e : Event) → (d ≢ c) ⊎ (n ≢ number)
 told_not c number d n e (inl other) = ap (λ b. cond b 1 0) (and_left (eqb d c) (eqb n number) (ne_eqb d c other))
 told_not c number d n e (inr other) = ap (λ b. cond b 1 0) (and_right (eqb d c) (eqb n number) (ne_eqb n number other))
 
-told_here : (c number d n : ℕ) (e : Event) → d ≡ c → n ≡ number → told_by c number (made_entry d n e) ≡ 1
+pub told_here : (c number d n : ℕ) (e : Event) → d ≡ c → n ≡ number → told_by c number (made_entry d n e) ≡ 1
 told_here c number d n e p q = ap (λ b. cond b 1 0) (and_from (eqb d c) (eqb n number) (eq-eqb d c p) (eq-eqb n number q))
 
 -- an event of another channel is not told
@@ -110,7 +112,7 @@ pub slice_get_last : {A : Type 0} (front : List A) (x : A) → slice_get (front 
 slice_get_last [] x = refl
 slice_get_last (y ∷ front) x = slice_get_last front x
 
-true_front : (front rest : List Event) (n : ℕ) (what : Seen) → IsTrueAt front n what → IsTrueAt (front ++ rest) n what
+pub true_front : (front rest : List Event) (n : ℕ) (what : Seen) → IsTrueAt front n what → IsTrueAt (front ++ rest) n what
 true_front front rest n (Did e) p = slice_get_front front rest n e p
 true_front front rest n (Saw f) p =
     let more = length-append front rest in
@@ -124,29 +126,29 @@ true_later before after grow entry p =
 
 -- the history of one channel has more events
 pub with_more : List (List Event) → ℕ → List Event → List (List Event)
-with_more histories c more = set histories c (history_on c histories ++ more)
+with_more histories c more = set histories (channel_index c) (history_on c histories ++ more)
 
-pub more_here : (histories : List (List Event)) (c d : ℕ) (more : List Event) → c < length histories → d ≡ c → history_on d (with_more histories c more) ≡ history_on c histories ++ more
+pub more_here : (histories : List (List Event)) (c d : ℕ) (more : List Event) → channel_index c < length histories → d ≡ c → history_on d (with_more histories c more) ≡ history_on c histories ++ more
 unfolding with_more
-more_here histories c d more l is = ap (λ x. history_on x (set histories c (history_on c histories ++ more))) is ∙ get_or-set_same histories c (history_on c histories ++ more) [] l
+more_here histories c d more l is = ap (λ x. history_on x (set histories (channel_index c) (history_on c histories ++ more))) is ∙ get_or-set_same histories (channel_index c) (history_on c histories ++ more) [] l
 
-pub same_elsewhere : (histories : List (List Event)) (c d : ℕ) (more : List Event) → d ≢ c → history_on d (with_more histories c more) ≡ history_on d histories
+pub same_elsewhere : (histories : List (List Event)) (c d : ℕ) (more : List Event) → IsTrue (names_channel c) → d ≢ c → history_on d (with_more histories c more) ≡ history_on d histories
 unfolding with_more
-same_elsewhere histories c d more other = get_or-set_other histories c d (history_on c histories ++ more) [] other
+same_elsewhere histories c d more names other = get_or-set_other histories (channel_index c) (channel_index d) (history_on c histories ++ more) [] (λ same. other (one_place c d names same))
 
-pub more_grow : (histories : List (List Event)) (c : ℕ) (more : List Event) → c < length histories → Grow histories (with_more histories c more)
-more_grow histories c more l d = dite (ℕ_discrete d c)
+pub more_grow : (histories : List (List Event)) (c : ℕ) (more : List Event) → IsTrue (names_channel c) → channel_index c < length histories → Grow histories (with_more histories c more)
+more_grow histories c more names l d = dite (ℕ_discrete d c)
     (λ is. (more, ap (λ x. history_on x histories ++ more) is ∙ sym (more_here histories c d more l is)))
-    (λ other. ([], append-nil (history_on d histories) ∙ sym (same_elsewhere histories c d more other)))
+    (λ other. ([], append-nil (history_on d histories) ∙ sym (same_elsewhere histories c d more names other)))
 
 pub length-with_more : (histories : List (List Event)) (c : ℕ) (more : List Event) → length (with_more histories c more) ≡ length histories
 unfolding with_more
-length-with_more histories c more = length-set histories c (history_on c histories ++ more)
+length-with_more histories c more = length-set histories (channel_index c) (history_on c histories ++ more)
 
 pub All-with_more : (P : List Event → Type 0) (histories : List (List Event)) (c : ℕ) (more : List Event) → All P histories → P (history_on c histories ++ more) → All P (with_more histories c more)
 unfolding with_more
-All-with_more P histories c more p q = All-set P histories c (history_on c histories ++ more) q p
+All-with_more P histories c more p q = All-set P histories (channel_index c) (history_on c histories ++ more) q p
 
-pub put_before : (histories : List (List Event)) (c : ℕ) (more : List Event) → set (with_more histories c more) c (history_on c histories) ≡ histories
+pub put_before : (histories : List (List Event)) (c : ℕ) (more : List Event) → set (with_more histories c more) (channel_index c) (history_on c histories) ≡ histories
 unfolding with_more
-put_before histories c more = set-set histories c (history_on c histories ++ more) (history_on c histories) ∙ set-get_or histories c []
+put_before histories c more = set-set histories (channel_index c) (history_on c histories ++ more) (history_on c histories) ∙ set-get_or histories (channel_index c) []

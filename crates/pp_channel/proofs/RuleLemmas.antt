@@ -6,18 +6,18 @@ use native.Mathlib.Decide.{ℕ_discrete}
 use lib.ListN.{get_elem?}
 use Rattle.std.specs.Prelude.{IsTrue}
 use Rattle.std.specs.List.{All, flat_map, sum_by}
-use Rattle.std.proofs.lemmas.Bool.{ltb-true}
 use Rattle.std.proofs.lemmas.List.Elements.{All-set, All-weaker}
 use Rattle.pp_channel.specs.declared.event.Event.{Event}
 use Rattle.pp_channel.specs.declared.entry.Entry.{Entry}
 use Rattle.pp_channel.specs.declared.rule.LineView.{LineView}
-use Rattle.pp_channel.specs.ChannelNumber.{channel_count, names_channel}
+use Rattle.pp_channel.specs.ChannelNumber.{channel_index, names_channel}
 use Rattle.pp_channel.specs.ChannelWord.{number_in}
 use Rattle.pp_channel.specs.History.{IsLawful, HasTwelveBitWords}
 use Rattle.pp_channel.specs.LineSteps.{finds, SaysOf, Tells}
 use Rattle.pp_channel.specs.Merge.{IsTrueOf, Merges, no_opening, history_on, tells_event, times_told}
 use Rattle.pp_channel.specs.RisingLog.{seen_on}
 use Rattle.pp_channel.specs.SharedWords.{word_place, IsViewOf, KeepsRule}
+use Rattle.pp_channel.proofs.ChannelPlaces.{place_below}
 use Rattle.pp_channel.proofs.ListFacts.{All-read, All-part, flat_map-set_same, count_by-parts, sum_by-write, sum_by-sole}
 use Rattle.pp_channel.proofs.ChannelWordLemmas.{number_at_word}
 use Rattle.pp_channel.proofs.MergeLemmas.{once_inside, TellsOnce, tells_once, merges_by, times_within}
@@ -48,11 +48,11 @@ times-write c number views id v w at =
     omega arith
 
 module _ (whole : ℕ) (words : List ℕ) (views : List LineView) (histories : List (List Event)) (k : KeepsRule whole words views histories) where
-  pub lawful_on : (c : ℕ) → c < channel_count → IsLawful (history_on c histories)
-  lawful_on c l = let n = k.sound.each_channel in k.sound.lawful c [] (omega arith)
+  pub lawful_on : (c : ℕ) → IsTrue (names_channel c) → IsLawful (history_on c histories)
+  lawful_on c names = let n = k.sound.each_channel in let l = place_below c names in k.sound.lawful (channel_index c) [] (omega arith)
 
-  pub low_on : (c : ℕ) → c < channel_count → HasTwelveBitWords (history_on c histories)
-  low_on c l = let n = k.sound.each_channel in k.sound.twelve_bits c [] (omega arith)
+  pub low_on : (c : ℕ) → IsTrue (names_channel c) → HasTwelveBitWords (history_on c histories)
+  low_on c names = let n = k.sound.each_channel in let l = place_below c names in k.sound.twelve_bits (channel_index c) [] (omega arith)
 
   pub view_at : (id : ℕ) (v : LineView) → get_elem? views id ≡ some v → IsViewOf histories whole v
   view_at id v at = All-read (IsViewOf histories whole) views id v k.views_are at
@@ -61,7 +61,7 @@ module _ (whole : ℕ) (words : List ℕ) (views : List LineView) (histories : L
   events_at id v at = All-part events_in (IsTrueOf histories) views id v k.merged.entries_true at
 
   pub word_on : (c : ℕ) → IsTrue (names_channel c) → number_in (get_or words (word_place c) 0) ≡ length (history_on c histories)
-  word_on c names = number_at_word (get_or words (word_place c) 0) (history_on c histories) (low_on c (ltb-true c 12 names)) (sym (k.words_are c names))
+  word_on c names = number_at_word (get_or words (word_place c) 0) (history_on c histories) (low_on c names) (sym (k.words_are c names))
 
   -- a view with the same events and shares in place of another
   pub rewritten : (id : ℕ) (v w : LineView) → get_elem? views id ≡ some v → w.events ≡ v.events → w.shares ≡ v.shares → IsViewOf histories whole w → KeepsRule whole words (set views id w) histories

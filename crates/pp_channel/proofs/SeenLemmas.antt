@@ -4,6 +4,7 @@ use Rattle.std.proofs.lemmas.Bool.{cases_eq}
 use Rattle.std.proofs.lemmas.List.{get_or-set_same, get_or-set_other, ext_get_or}
 use Rattle.std.proofs.lemmas.List.Elements.{All-weaker}
 use Rattle.pp_channel.specs.declared.entry.Entry.{Entry}
+use Rattle.pp_channel.specs.ChannelNumber.{channel_index}
 use Rattle.pp_channel.specs.LineState.{greater_of_each}
 use Rattle.pp_channel.specs.RisingLog.{known_after, seen_on, IsWithin}
 
@@ -35,7 +36,7 @@ pub within_more : (xs ys : List ℕ) → ((d : ℕ) → get_or xs d 0 ≤ get_or
 within_more xs ys more log p =
     let P : Entry → Type 0 = λ entry. known_after entry.what entry.number ≤ seen_on entry.channel xs in
     let Q : Entry → Type 0 = λ entry. known_after entry.what entry.number ≤ seen_on entry.channel ys in
-    All-weaker P Q (λ (entry : Entry) q. let m = more entry.channel in omega arith) log p
+    All-weaker P Q (λ (entry : Entry) q. let m = more (channel_index entry.channel) in omega arith) log p
 
 -- the greater number for each channel
 pub greater_left : (xs ys : List ℕ) (d : ℕ) → length xs ≡ length ys → get_or xs d 0 ≤ get_or (greater_of_each xs ys) d 0

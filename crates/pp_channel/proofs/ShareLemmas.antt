@@ -11,7 +11,7 @@ use Rattle.atomic_table.specs.Table.{Splits, Joins, opening}
 use Rattle.atomic_table.proofs.Lists.{at_set}
 use Rattle.pp_channel.specs.declared.event.Event.{Event}
 use Rattle.pp_channel.specs.declared.rule.LineView.{LineView}
-use Rattle.pp_channel.specs.ChannelNumber.{channel_count}
+use Rattle.pp_channel.specs.ChannelNumber.{channel_count, channel_index}
 use Rattle.pp_channel.specs.ChannelWord.{history_word}
 use Rattle.pp_channel.specs.History.{IsLawful, HasTwelveBitWord, HasTwelveBitWords}
 use Rattle.pp_channel.specs.LineSteps.{first_view, parent_view, child_view, joined_view, spent_view}
@@ -35,12 +35,12 @@ first_histories = replicate channel_count []
 
 no_event : (c : ℕ) → history_on c first_histories ≡ []
 unfolding first_histories
-no_event c = same_everywhere channel_count c []
+no_event c = same_everywhere channel_count (channel_index c) []
 
 first_of : (whole : ℕ) → IsViewOf first_histories whole (first_view whole)
 first_of whole = record {
   events_seen = λ k d l. absurd (omega arith);
-  seen_happened = λ c. let n : ℕ = 0 in let z : seen_on c (first_view whole).seen ≡ 0 = same_everywhere channel_count c n in omega arith;
+  seen_happened = λ c. let n : ℕ = 0 in let z : seen_on c (first_view whole).seen ≡ 0 = same_everywhere channel_count (channel_index c) n in omega arith;
   words_found = All-nil (IsFound first_histories);
   whole_is = λ _. refl;
   each_channel = λ _. refl;

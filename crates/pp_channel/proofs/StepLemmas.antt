@@ -7,19 +7,20 @@ use lib.ListN.{get_elem?}
 use prog.Atomic.{either}
 use Rattle.std.specs.Prelude.{IsTrue, MatchBool, slice_get}
 use Rattle.std.specs.List.{All}
-use Rattle.std.proofs.lemmas.Bool.{lt-ltb, ltb-true}
 use Rattle.std.proofs.lemmas.List.{length-set, set-get_or, get_or-set_same, get_or-set_other, length_push}
 use Rattle.std.proofs.lemmas.List.Elements.{All-set, All-push, All-weaker}
 use Rattle.atomic_table.specs.Table.{Me, step, keeps, stepped, Allows}
 use Rattle.atomic_table.proofs.Lists.{set_again}
 use Rattle.pp_channel.specs.declared.event.Event.{Event}
 use Rattle.pp_channel.specs.declared.rule.LineView.{LineView}
-use Rattle.pp_channel.specs.ChannelNumber.{channel_count, names_channel}
+use Rattle.pp_channel.specs.ChannelNumber.{channel_count, channel_index, names_channel}
 use Rattle.pp_channel.specs.ChannelWord.{history_word, number_in}
 use Rattle.pp_channel.specs.History.{IsLawful, HasTwelveBitWord, HasTwelveBitWords}
 use Rattle.pp_channel.specs.LineSteps.{finds, makes, Tells, IsLoad, IsLostExchange, IsWeighing, loads, exchanges, weighs}
 use Rattle.pp_channel.specs.Merge.{IsTrueOf, history_on}
+use Rattle.pp_channel.specs.RisingLog.{seen_on}
 use Rattle.pp_channel.specs.SharedWords.{word_place, place_count, IsFound, IsViewOf, KeepsRule, Rule}
+use Rattle.pp_channel.proofs.ChannelPlaces.{place_below, named_below, one_place}
 use Rattle.pp_channel.proofs.ListFacts.{All-parts_set, sum_by-write, read-le-sum_by}
 use Rattle.pp_channel.proofs.MergeLemmas.{once_below, TellsOnce, tells_once, merges_by, times_told_push, made_entry, told_elsewhere, told_next, Grow, slice_get_last, true_later, with_more, more_here, same_elsewhere, more_grow, length-with_more, All-with_more}
 use Rattle.pp_channel.proofs.ViewLemmas.{view_later, view_makes, later_found}
@@ -29,8 +30,12 @@ abbrev M : Type 0
 M = Me Event LineView
 
 -- a step on the word of one channel is on that of no other
-one_channel : (c d : ℕ) → word_place c ≡ word_place d → c ≡ d
-one_channel c d e = omega arith
+one_channel : (c d : ℕ) → IsTrue (names_channel c) → word_place c ≡ word_place d → c ≡ d
+one_channel c d names e = sym (one_place c d names (omega arith))
+
+-- a word among the words is that of a channel
+named_word : (c i : ℕ) → i ≡ word_place c → i < place_count → IsTrue (names_channel c)
+named_word c i place low = named_below c (omega arith)
 
 -- a load
 load_at : (whole slots id : ℕ) (me : M) (c : ℕ) → IsTrue (names_channel c) → Allows (Rule whole) slots id me (word_place c) (λ n. n) (loads (step slots (word_place c) 0 0 none) me)
@@ -42,12 +47,12 @@ load_at whole slots id me c names s r _ at _ =
       keeps,
       tt,
       (r.0, subst (λ ws. KeepsRule whole ws (set s.views id w) r.0) (sym (set-get_or s.words (word_place c) 0)) (found_kept whole s.words s.views r.0 k id me.0 c names at)),
-      (refl, λ d on live. subst (λ t. IsLoad t me.0 n w) (one_channel c d on.place) (record { after_is = refl; tells = tells whole s.words s.views r.0 k id me.0 c names at live })),
+      (refl, λ d on live. subst (λ t. IsLoad t me.0 n w) (one_channel c d names on.place) (record { after_is = refl; tells = tells whole s.words s.views r.0 k id me.0 c names at live })),
     )
 
 pub load_allowed : (whole slots id : ℕ) (me : M) (c i : ℕ) → i ≡ word_place c → i < place_count → Allows (Rule whole) slots id me i (λ n. n) (loads (step slots i 0 0 none) me)
 load_allowed whole slots id me c i place low =
-    subst (λ (j : ℕ). Allows (Rule whole) slots id me j (λ n. n) (loads (step slots j 0 0 none) me)) (sym place) (load_at whole slots id me c (lt-ltb c 12 (omega arith)))
+    subst (λ (j : ℕ). Allows (Rule whole) slots id me j (λ n. n) (loads (step slots j 0 0 none) me)) (sym place) (load_at whole slots id me c (named_word c i place low))
 
 -- a load that notes nothing
 weighing_at : (whole slots id : ℕ) (me : M) (c : ℕ) → IsTrue (names_channel c) → Allows (Rule whole) slots id me (word_place c) (λ n. n) (weighs (step slots (word_place c) 0 0 none) me)
@@ -62,7 +67,7 @@ weighing_at whole slots id me c names s r _ at _ =
       (r.0, subst (λ (t : List ℕ × List LineView). KeepsRule whole t.0 t.1 r.0) (λ j. (sym (set-get_or s.words (word_place c) 0) j, sym (set_again s.views id me.0 at) j)) k),
       (
         refl,
-        λ d on live. subst (λ t. IsWeighing t me.0 n me.0) (one_channel c d on.place) (record {
+        λ d on live. subst (λ t. IsWeighing t me.0 n me.0) (one_channel c d names on.place) (record {
           after_is = refl;
           shares_fit = let is = (view_at whole s.words s.views r.0 k id me.0 at).whole_is live in omega arith;
           tells = tells whole s.words s.views r.0 k id me.0 c names at live;
@@ -72,25 +77,28 @@ weighing_at whole slots id me c names s r _ at _ =
 
 pub weighing_allowed : (whole slots id : ℕ) (me : M) (c i : ℕ) → i ≡ word_place c → i < place_count → Allows (Rule whole) slots id me i (λ n. n) (weighs (step slots i 0 0 none) me)
 weighing_allowed whole slots id me c i place low =
-    subst (λ (j : ℕ). Allows (Rule whole) slots id me j (λ n. n) (weighs (step slots j 0 0 none) me)) (sym place) (weighing_at whole slots id me c (lt-ltb c 12 (omega arith)))
+    subst (λ (j : ℕ). Allows (Rule whole) slots id me j (λ n. n) (weighs (step slots j 0 0 none) me)) (sym place) (weighing_at whole slots id me c (named_word c i place low))
 
 -- an event e on channel c
-module _ (whole : ℕ) (words : List ℕ) (views : List LineView) (histories : List (List Event)) (k : KeepsRule whole words views histories) (c : ℕ) (names : IsTrue (names_channel c)) (in_range : c < channel_count) (e : Event) (new : ℕ)
+module _ (whole : ℕ) (words : List ℕ) (views : List LineView) (histories : List (List Event)) (k : KeepsRule whole words views histories) (c : ℕ) (names : IsTrue (names_channel c)) (e : Event) (new : ℕ)
     (next : IsLawful (history_on c histories ++ e ∷ []) × HasTwelveBitWord e × (history_word (history_on c histories ++ e ∷ []) ≡ new)) where
   after : List (List Event)
   after = with_more histories c (e ∷ [])
 
+  within : channel_index c < length histories
+  within = let n = k.sound.each_channel in let l = place_below c names in omega arith
+
   grown : Grow histories after
   unfolding after
-  grown = more_grow histories c (e ∷ []) (let n = k.sound.each_channel in omega arith)
+  grown = more_grow histories c (e ∷ []) names within
 
   here : (d : ℕ) → d ≡ c → history_on d after ≡ history_on c histories ++ e ∷ []
   unfolding after
-  here d is = more_here histories c d (e ∷ []) (let n = k.sound.each_channel in omega arith) is
+  here d is = more_here histories c d (e ∷ []) within is
 
   elsewhere : (d : ℕ) → d ≢ c → history_on d after ≡ history_on d histories
   unfolding after
-  elsewhere d other = same_elsewhere histories c d (e ∷ []) other
+  elsewhere d other = same_elsewhere histories c d (e ∷ []) names other
 
   length_here : (d : ℕ) → d ≡ c → length (history_on d after) ≡ length (history_on c histories) + 1
   length_here d is = ap length (here d is) ∙ length_push (history_on c histories) e
@@ -105,8 +113,8 @@ module _ (whole : ℕ) (words : List ℕ) (views : List LineView) (histories : L
 
   word_after : (d : ℕ) → IsTrue (names_channel d) → get_or (set words (word_place c) new) (word_place d) 0 ≡ history_word (history_on d after)
   word_after d named = dite (ℕ_discrete d c)
-      (λ (is : d ≡ c). ap (λ t. get_or (set words (word_place c) new) (word_place t) 0) is ∙ (get_or-set_same words (word_place c) new 0 (let n = k.places in omega arith) ∙ (sym next.2 ∙ ap history_word (sym (here d is)))))
-      (λ (other : d ≢ c). get_or-set_other words (word_place c) (word_place d) new 0 (λ same. other (one_channel d c same)) ∙ (k.words_are d named ∙ ap history_word (sym (elsewhere d other))))
+      (λ (is : d ≡ c). ap (λ t. get_or (set words (word_place c) new) (word_place t) 0) is ∙ (get_or-set_same words (word_place c) new 0 (let n = k.places in let l = place_below c names in omega arith) ∙ (sym next.2 ∙ ap history_word (sym (here d is)))))
+      (λ (other : d ≢ c). get_or-set_other words (word_place c) (word_place d) new 0 (λ same. other (one_channel d c named same)) ∙ (k.words_are d named ∙ ap history_word (sym (elsewhere d other))))
 
   once_after : (id : ℕ) (v : LineView) → get_elem? views id ≡ some v → TellsOnce after (all_events (set views id (makes v c (length (history_on c histories)) e)))
   once_after id v at d number =
@@ -130,7 +138,7 @@ module _ (whole : ℕ) (words : List ℕ) (views : List LineView) (histories : L
         sound = record {
           each_channel = channels_after;
           lawful = each_after IsLawful k.sound.lawful next.0;
-          twelve_bits = each_after HasTwelveBitWords k.sound.twelve_bits (All-push HasTwelveBitWord (history_on c histories) e (low_on whole words views histories k c in_range) next.1);
+          twelve_bits = each_after HasTwelveBitWords k.sound.twelve_bits (All-push HasTwelveBitWord (history_on c histories) e (low_on whole words views histories k c names) next.1);
         };
         merged = merges_by after (all_events (set views id w)) (once_after id v at)
             (All-parts_set events_in (IsTrueOf after) views id w (All-weaker (IsTrueOf histories) (IsTrueOf after) (true_later histories after grown) (all_events views) k.merged.entries_true)
@@ -139,7 +147,7 @@ module _ (whole : ℕ) (words : List ℕ) (views : List LineView) (histories : L
         words_are = word_after;
         shares = let t = sum_by-write shares_in views id v w at in let o = k.shares in omega arith;
         views_are = All-set (IsViewOf after whole) views id w
-            (view_makes histories after whole v c n e grown in_range refl (length_here c refl) live (view_at whole words views histories k id v at))
+            (view_makes histories after whole v c n e grown names refl (length_here c refl) live (view_at whole words views histories k id v at))
             (All-weaker (IsViewOf histories whole) (IsViewOf after whole) (λ x f. view_later histories after whole x grown f) views k.views_are);
       }
 
@@ -152,13 +160,13 @@ lost : (whole : ℕ) (words : List ℕ) (views : List LineView) (histories : Lis
     → IsLostExchange c before v (get_or words (word_place c) 0) (finds v c (get_or words (word_place c) 0))
 lost whole words views histories k id v was c before names at live from other =
     let n : ℕ = get_or words (word_place c) 0 in
-    let low : c < 12 = ltb-true c 12 names in
+    let low : channel_index c < channel_count = place_below c names in
     let f = view_at whole words views histories k id v at in
     let number : number_in n ≡ length (history_on c histories) = word_on whole words views histories k c names in
     let later : number_in before < number_in n =
-    later_found histories was c n before (subst (λ (t : LineView). All (IsFound histories) t.found) from f.words_found) (low_on whole words views histories k c low) (sym (k.words_are c names)) other in
-    let wide : length was.seen ≡ 12 = sym (length-set was.seen c (number_in before)) ∙ (ap (λ (t : LineView). length t.seen) (sym from) ∙ f.each_channel live) in
-    let now : get_or v.seen c 0 ≡ number_in before = ap (λ (t : LineView). get_or t.seen c 0) from ∙ get_or-set_same was.seen c (number_in before) 0 (omega arith) in
+    later_found histories was c n before (subst (λ (t : LineView). All (IsFound histories) t.found) from f.words_found) (low_on whole words views histories k c names) (sym (k.words_are c names)) other in
+    let wide : length was.seen ≡ channel_count = sym (length-set was.seen (channel_index c) (number_in before)) ∙ (ap (λ (t : LineView). length t.seen) (sym from) ∙ f.each_channel live) in
+    let now : seen_on c v.seen ≡ number_in before = ap (λ (t : LineView). seen_on c t.seen) from ∙ get_or-set_same was.seen (channel_index c) (number_in before) 0 (omega arith) in
     record {
       after_is = refl;
       later = later;
@@ -173,17 +181,16 @@ exchange_at whole slots id me c expected new e was names live from next s r _ at
     let n : ℕ = get_or s.words (word_place c) 0 in
     let h = r.0 in
     let k = r.1 in
-    let low : c < 12 = ltb-true c 12 names in
     let told : Tells me.0 c n = tells whole s.words s.views h k id me.0 c names at live in
     let Told : LineView → Bool → ℕ → Type 0 = λ w b d. MatchBool b (w ≡ makes me.0 d (number_in n) e) (IsLostExchange d expected me.0 n w) × Tells me.0 d n in
     dite (ℕ_discrete n expected)
     (λ (hit : n ≡ expected). let w : LineView = makes me.0 c (number_in n) e in
-    let kept = made_at whole s.words s.views h k c names low e new (next (history_on c h) (lawful_on whole s.words s.views h k c low) (low_on whole s.words s.views h k c low) (sym (k.words_are c names) ∙ hit)) id me.0 (number_in n) (word_on whole s.words s.views h k c names) at live in (
+    let kept = made_at whole s.words s.views h k c names e new (next (history_on c h) (lawful_on whole s.words s.views h k c names) (low_on whole s.words s.views h k c names) (sym (k.words_are c names) ∙ hit)) id me.0 (number_in n) (word_on whole s.words s.views h k c names) at live in (
       w,
       keeps,
       tt,
       subst (λ b. Rule whole (stepped s (word_place c) (either b new n) id me.1 w keeps)) (sym (eq-eqb n expected hit)) kept,
-      (refl, λ d on _. subst (Told w (eqb n expected)) (one_channel c d on.place) (subst (λ b. Told w b c) (sym (eq-eqb n expected hit)) (refl, told))),
+      (refl, λ d on _. subst (Told w (eqb n expected)) (one_channel c d names on.place) (subst (λ b. Told w b c) (sym (eq-eqb n expected hit)) (refl, told))),
     ))
     (λ (miss : n ≢ expected). let w : LineView = finds me.0 c n in (
       w,
@@ -191,7 +198,7 @@ exchange_at whole slots id me c expected new e was names live from next s r _ at
       tt,
       subst (λ b. Rule whole (stepped s (word_place c) (either b new n) id me.1 w keeps)) (sym (ne_eqb n expected miss))
           (h, subst (λ ws. KeepsRule whole ws (set s.views id w) h) (sym (set-get_or s.words (word_place c) 0)) (found_kept whole s.words s.views h k id me.0 c names at)),
-      (refl, λ d on _. subst (Told w (eqb n expected)) (one_channel c d on.place) (subst (λ b. Told w b c) (sym (ne_eqb n expected miss)) (lost whole s.words s.views h k id me.0 was c expected names at live from miss, told))),
+      (refl, λ d on _. subst (Told w (eqb n expected)) (one_channel c d names on.place) (subst (λ b. Told w b c) (sym (ne_eqb n expected miss)) (lost whole s.words s.views h k id me.0 was c expected names at live from miss, told))),
     ))
 
 pub exchange_allowed : (whole slots id : ℕ) (me : M) (c i expected new : ℕ) (e : Event) (was : LineView) → i ≡ word_place c → i < place_count → 0 < me.0.shares → me.0 ≡ finds was c expected
@@ -199,4 +206,4 @@ pub exchange_allowed : (whole slots id : ℕ) (me : M) (c i expected new : ℕ) 
     → Allows (Rule whole) slots id me i (λ n. either (eqb n expected) new n) (exchanges (step slots i expected new (some e)) me)
 exchange_allowed whole slots id me c i expected new e was place low live from next =
     subst (λ (j : ℕ). Allows (Rule whole) slots id me j (λ n. either (eqb n expected) new n) (exchanges (step slots j expected new (some e)) me)) (sym place)
-    (exchange_at whole slots id me c expected new e was (lt-ltb c 12 (omega arith)) live from next)
+    (exchange_at whole slots id me c expected new e was (named_word c i place low) live from next)

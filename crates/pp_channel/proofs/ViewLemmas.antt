@@ -2,6 +2,7 @@
 use Rattle.std.proofs.Common.{◌≡◌, ℕ, ◌+◌, ◌<◌, ◌≤◌, ◌≢◌, List, [], ◌∷◌, ◌++◌, length, take, set, refl, sym, ap, ◌∙◌, subst, arith}
 use mathlib.Core.Logic.{dite}
 use native.Mathlib.Decide.{ℕ_discrete}
+use Rattle.std.specs.Prelude.{IsTrue, slice_index_or}
 use Rattle.std.specs.List.{All}
 use Rattle.std.proofs.lemmas.List.{length-append, length-set, take-append-le, take_all, get_or-set_same, length_push, get_or_push, length-take-le}
 use Rattle.std.proofs.lemmas.List.Elements.{All-nil, All-append, All-push, All-weaker}
@@ -9,7 +10,7 @@ use Rattle.pp_channel.specs.declared.event.Event.{Event}
 use Rattle.pp_channel.specs.declared.entry.Entry.{Entry}
 use Rattle.pp_channel.specs.declared.rule.FoundWord.{FoundWord}
 use Rattle.pp_channel.specs.declared.rule.LineView.{LineView}
-use Rattle.pp_channel.specs.ChannelNumber.{channel_count}
+use Rattle.pp_channel.specs.ChannelNumber.{channel_count, channel_index, names_channel}
 use Rattle.pp_channel.specs.ChannelWord.{history_word, number_in}
 use Rattle.pp_channel.specs.History.{HasTwelveBitWords}
 use Rattle.pp_channel.specs.LineState.{greater_of_each}
@@ -17,6 +18,7 @@ use Rattle.pp_channel.specs.LineSteps.{parent_view, child_view, joined_view, spe
 use Rattle.pp_channel.specs.Merge.{history_on}
 use Rattle.pp_channel.specs.RisingLog.{known_after, seen_on}
 use Rattle.pp_channel.specs.SharedWords.{IsFound, IsViewOf}
+use Rattle.pp_channel.proofs.ChannelPlaces.{place_below}
 use Rattle.pp_channel.proofs.FrontLemmas.{twelve_bits_take}
 use Rattle.pp_channel.proofs.ChannelWordLemmas.{number_at_word}
 use Rattle.pp_channel.proofs.MergeLemmas.{Grow, made_entry}
@@ -56,29 +58,31 @@ view_finds histories whole v c word is number f =
     let below = f.seen_happened c in
     let here : IsFound histories (record { channel = c; word = word }) = (length (history_on c histories), omega arith, ap history_word (take_all (length (history_on c histories)) (history_on c histories) (omega arith)) ∙ is) in
     record {
-      events_seen = within_more v.seen (set v.seen c n) (λ d. set_raises v.seen c n d (omega arith)) v.events f.events_seen;
-      seen_happened = λ d. set_at_each (λ m. m ≤ length (history_on d histories)) v.seen c n d (f.seen_happened d) (λ e. let same : length (history_on d histories) ≡ length (history_on c histories) = ap (λ t. length (history_on t histories)) e in omega arith);
+      events_seen = within_more v.seen (set v.seen (channel_index c) n) (λ d. set_raises v.seen (channel_index c) n d (omega arith)) v.events f.events_seen;
+      seen_happened = λ d. set_at_each (λ m. m ≤ length (history_on d histories)) v.seen (channel_index c) n (channel_index d) (f.seen_happened d) (λ e. let same : length (history_on d histories) ≡ length (history_on c histories) = ap (λ i. length (slice_index_or histories i [])) e in omega arith);
       words_found = All-push (IsFound histories) v.found (record { channel = c; word = word }) f.words_found here;
       whole_is = f.whole_is;
-      each_channel = λ p. length-set v.seen c n ∙ f.each_channel p;
+      each_channel = λ p. length-set v.seen (channel_index c) n ∙ f.each_channel p;
       spent = f.spent;
     }
 
 -- the next event of a channel is made
-pub view_makes : (before after : List (List Event)) (whole : ℕ) (v : LineView) (c n : ℕ) (e : Event) → Grow before after → c < channel_count
+pub view_makes : (before after : List (List Event)) (whole : ℕ) (v : LineView) (c n : ℕ) (e : Event) → Grow before after → IsTrue (names_channel c)
     → n ≡ length (history_on c before) → length (history_on c after) ≡ n + 1 → 0 < v.shares → IsViewOf before whole v → IsViewOf after whole (makes v c n e)
-view_makes before after whole v c n e grow in_range now next live f =
+view_makes before after whole v c n e grow names now next live f =
     let below = f.seen_happened c in
     let g = view_later before after whole v grow f in
     let wide = f.each_channel live in
-    let here : seen_on c (set v.seen c (n + 1)) ≡ n + 1 = get_or-set_same v.seen c (n + 1) 0 (omega arith) in
-    let Q : Entry → Type 0 = λ entry. known_after entry.what entry.number ≤ seen_on entry.channel (set v.seen c (n + 1)) in
+    let i : ℕ = channel_index c in
+    let low : i < channel_count = place_below c names in
+    let here : seen_on c (set v.seen i (n + 1)) ≡ n + 1 = get_or-set_same v.seen i (n + 1) 0 (omega arith) in
+    let Q : Entry → Type 0 = λ entry. known_after entry.what entry.number ≤ seen_on entry.channel (set v.seen i (n + 1)) in
     record {
-      events_seen = All-push Q v.events (made_entry c n e) (within_more v.seen (set v.seen c (n + 1)) (λ d. set_raises v.seen c (n + 1) d (omega arith)) v.events f.events_seen) (omega arith);
-      seen_happened = λ d. set_at_each (λ m. m ≤ length (history_on d after)) v.seen c (n + 1) d (g.seen_happened d) (λ e. let same : length (history_on d after) ≡ length (history_on c after) = ap (λ t. length (history_on t after)) e in omega arith);
+      events_seen = All-push Q v.events (made_entry c n e) (within_more v.seen (set v.seen i (n + 1)) (λ d. set_raises v.seen i (n + 1) d (omega arith)) v.events f.events_seen) (omega arith);
+      seen_happened = λ d. set_at_each (λ m. m ≤ length (history_on d after)) v.seen i (n + 1) (channel_index d) (g.seen_happened d) (λ e. let same : length (history_on d after) ≡ length (history_on c after) = ap (λ k. length (slice_index_or after k [])) e in omega arith);
       words_found = g.words_found;
       whole_is = f.whole_is;
-      each_channel = λ p. length-set v.seen c (n + 1) ∙ f.each_channel p;
+      each_channel = λ p. length-set v.seen i (n + 1) ∙ f.each_channel p;
       spent = λ z. absurd (omega arith);
     }
 
@@ -113,7 +117,7 @@ view_joined histories whole v w live other f g =
     record {
       events_seen = All-append Q v.events w.events (within_more v.seen seen (λ d. greater_left v.seen w.seen d (a ∙ sym b)) v.events f.events_seen)
           (within_more w.seen seen (λ d. greater_right v.seen w.seen d (a ∙ sym b)) w.events g.events_seen);
-      seen_happened = λ c. greater_at_most v.seen w.seen c (length (history_on c histories)) (f.seen_happened c) (g.seen_happened c);
+      seen_happened = λ c. greater_at_most v.seen w.seen (channel_index c) (length (history_on c histories)) (f.seen_happened c) (g.seen_happened c);
       words_found = All-append (IsFound histories) v.found w.found f.words_found g.words_found;
       whole_is = λ _. f.whole_is live;
       each_channel = λ _. length-greater v.seen w.seen (a ∙ sym b) ∙ a;

@@ -1,4 +1,5 @@
--- The numbers of the data channels, and the place of each channel in a list of all channels.
+-- The numbers of the data channels, and the place of each channel in a list of all channels. A number and
+-- its place are two things: proofs know of them what the lemmas of ChannelPlaces say.
 --
 -- Control Data 6400/6500/6600 Computer Systems Reference Manual, publication 60100000, part on
 -- peripheral and control processors: twelve data channels, numbered 0 to 13 (octal).
@@ -9,9 +10,14 @@ abbrev pub channel_count : ℕ
 channel_count = 0o14
 
 -- whether a number is that of a channel
-abbrev pub names_channel : ℕ → Bool
+unfoldable pub names_channel : ℕ → Bool
 names_channel number = nat_lt number channel_count
 
--- the place of the channel with this number in a list of all channels
-abbrev pub channel_index : ℕ → ℕ
+-- the place of the channel with this number in a list of all channels; past its end for a number that
+-- names none
+unfoldable pub channel_index : ℕ → ℕ
 channel_index number = number
+
+-- the number of the channel at a place of that list
+unfoldable pub channel_number : ℕ → ℕ
+channel_number place = place

@@ -1,8 +1,8 @@
 -- What the parts of a call make of a line, and what each atomic step tells it.
-use Rattle.std.specs.Prelude.{◌≡◌, ◌≢◌, ℕ, ◌+◌, ◌<◌, List, [], ◌∷◌, ◌++◌, slice_set}
+use Rattle.std.specs.Prelude.{◌≡◌, ◌≢◌, ℕ, ◌+◌, ◌<◌, IsTrue, List, [], ◌∷◌, ◌++◌, slice_set}
 use Rattle.pp_channel.specs.declared.event.Event.{Event}
 use Rattle.pp_channel.specs.declared.entry.Seen.TheVariants.{Did, Saw}
-use Rattle.pp_channel.specs.ChannelNumber.{channel_count, channel_index}
+use Rattle.pp_channel.specs.ChannelNumber.{channel_index, names_channel}
 use Rattle.pp_channel.specs.ChannelWord.{history_word, number_in, flags_in}
 use Rattle.pp_channel.specs.LineLog.{appended, looked}
 use Rattle.pp_channel.specs.LineState.{LineState, Knows}
@@ -30,7 +30,7 @@ with_deed line c number e = record line {
 
 -- what a step that found this word on channel c tells a line: the histories at that moment
 pub record TellsLine (line : LineState) (c word : ℕ) : Type 0 where
-  pub named : c < channel_count
+  pub named : IsTrue (names_channel c)
   pub histories : List (List Event)
   pub known : Knows line histories
   pub word_is : history_word (history_on c histories) ≡ word

@@ -48,6 +48,13 @@ pub record Merges (opening : ℕ → List Event) (histories : List (List Event))
   pub begins : (c : ℕ) → IsPrefix (opening c) (history_on c histories)
   pub entries_true : All (IsTrueOf histories) log
 
+-- A log of opening histories: it tells each of their events once, at its number, and no other, and every
+-- entry is true of them.
+pub record IsOpeningLog (opening : ℕ → List Event) (log : List Entry) : Type 0 where
+  pub once : (c number : ℕ) → number < length (opening c) → times_told c number log ≡ 1
+  pub no_other : (c number : ℕ) → length (opening c) ≤ number → times_told c number log ≡ 0
+  pub entries_true : All (λ entry. IsTrueAt (opening entry.channel) entry.number entry.what) log
+
 -- no channel has an opening history
 abbrev pub no_opening : ℕ → List Event
 no_opening c = []

@@ -1,4 +1,4 @@
--- Twelve channels as words that threads share without a lock: what each line knows of them, and the
+-- The channels as words that threads share without a lock: what each line knows of them, and the
 -- rule that holds between any two atomic steps, whichever line makes them.
 use Rattle.std.specs.Prelude.{◌≡◌, ℕ, ◌+◌, ◌*◌, ◌<◌, ◌≤◌, IsTrue, List, [], length, take, All, flat_map, sum_by, slice_index}
 use Rattle.atomic_table.specs.Table.{State}

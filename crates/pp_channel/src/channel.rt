@@ -144,6 +144,20 @@ impl<A: Allocator> Channel<A> {
                 _ => Reply::Held(self.flags),
             });
         };
+        self.make(op, event)
+    }
+
+    /// Makes an operation of which the event that it makes now is known, by `next_event`.
+    #[inline(always)]
+    pub fn make(&mut self, op: ChanOp, event: Event) -> Result<Reply, Memory>
+        requires event { event_of op self.old ≡ Some event }
+        requires twelve_bits { HasTwelveBitWord event }
+        ensures reply { IfOk result (λ reply. reply ≡ reply_to op self.old) }
+        ensures history { OnOk result (self.new ≡ history_after op self.old) }
+        ensures lawful { IsLawful self.new }
+        ensures unchanged_after_memory { OnErr result (self.new ≡ self.old) }
+    {
+        let _lawful = self.history();
         self.record(event)?;
         Ok(reply_made(&event))
     }

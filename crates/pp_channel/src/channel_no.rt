@@ -1,7 +1,7 @@
 //! The number of a data channel.
 
 ghost use Rattle.std.specs.Prelude.{◌≡◌, ℕ, ◌<◌, ◌↔◌, IsTrue, IsSome, IfSome};
-ghost use Rattle.pp_channel.specs.ChannelNumber.{channel_count, names_channel, channel_index};
+ghost use Rattle.pp_channel.specs.ChannelNumber.{channel_count, names_channel, channel_index, channel_number};
 
 use std::marker::Model;
 
@@ -29,6 +29,7 @@ impl ChannelNo {
     pub(crate) const FIRST: ChannelNo = ChannelNo { number: 0 };
 
     /// The channel of this number, or nothing from 14 (octal) on.
+    #[tactic(auto, unfolding(crate::specs::ChannelNumber::names_channel))]
     pub fn new(number: u8) -> Option<Self>
         ensures exists { IsSome result ↔ IsTrue (names_channel number) }
         ensures value { IfSome result (λ c. c ≡ number) }
@@ -49,6 +50,7 @@ impl ChannelNo {
     }
 
     /// Its place in a list of all channels in order of number.
+    #[tactic(auto, using(crate::proofs::ChannelPlaces::one_place), unfolding(crate::specs::ChannelNumber::names_channel, crate::specs::ChannelNumber::channel_index))]
     pub fn index(self) -> usize
         ensures place { result ≡ channel_index self }
         ensures below { result < channel_count }
@@ -56,5 +58,17 @@ impl ChannelNo {
         ensures own { (n : ℕ) → IsTrue (names_channel n) → channel_index n ≡ result → n ≡ self }
     {
         usize::from(self.number)
+    }
+
+    /// The channel at a place of that list.
+    #[tactic(auto, unfolding(crate::specs::ChannelNumber::names_channel, crate::specs::ChannelNumber::channel_index, crate::specs::ChannelNumber::channel_number))]
+    pub fn at(place: usize) -> Self
+        requires { place < channel_count }
+        ensures number { result ≡ channel_number place }
+        ensures place { channel_index result ≡ place }
+    {
+        ChannelNo {
+            number: place as u8,
+        }
     }
 }

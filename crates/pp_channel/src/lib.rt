@@ -36,6 +36,3 @@ pub use numbered::Numbered;
 pub use reply::Reply;
 pub use word_step::{WordStep, advance};
 pub use worn::Worn;
-
-#[cfg(test)]
-mod tests;

@@ -10,7 +10,7 @@ ghost use Rattle.pp_channel.specs.History.{IsLawful, HasTwelveBitWords, HasTwelv
 ghost use Rattle.pp_channel.specs.SharedWords.{place_count, word_place};
 ghost use Rattle.pp_channel.specs.LineSteps.{first_view, parent_view, child_view, joined_view, finds, IsLoad, IsExchange, IsWeighing, Tells};
 
-use crate::channel_no::ChannelNo;
+use crate::channel_no::{CHANNELS, ChannelNo};
 use crate::event::Event;
 use crate::memory::Memory;
 use crate::rule::{ChannelRule, Exchange, LineView, Load, Share, Weigh};
@@ -22,7 +22,10 @@ use std::sync::Arc;
 /// cache line.
 const APART: usize = 16;
 
-/// The twelve words, which all lines of a family share, and one line's seat at them.
+/// How many words there are: none lies at the place of a channel before the first.
+const PLACES: usize = APART * (CHANNELS + 1);
+
+/// The channels' words, which all lines of a family share, and one line's seat at them.
 #[derive(Drop)]
 pub struct SharedWords<A: Allocator> {
     table: Arc<Table<Event, LineView, u64, ChannelRule, A>, A>,
@@ -34,12 +37,12 @@ pub struct SharedWords<A: Allocator> {
 }
 
 impl<A: Allocator + Copy> SharedWords<A> {
-    /// The words of twelve channels without history, and the seat of the first line, with all shares.
+    /// The words of all channels without history, and the seat of the first line, with all shares.
     pub fn open(alloc: A, whole: u64) -> Result<SharedWords<A>, Memory>
         requires { 0 < whole }
         ensures { IfOk result (λ words. words.seat.me.0 ≡ first_view whole) }
     {
-        let (table, seat) = Table::of_words(alloc, &[0; 208], &whole)?;
+        let (table, seat) = Table::of_words(alloc, &[0; PLACES], &whole)?;
         let table = Arc::new(alloc, table)?;
         Ok(SharedWords { table, seat })
     }

@@ -2,12 +2,11 @@
 
 ghost use Rattle.std.specs.Prelude.{◌≡◌, ◌<◌, List, length, IfOk, slice_set};
 ghost use Rattle.pp_channel.specs.declared.event.Event.{Event};
-ghost use Rattle.pp_channel.specs.ChannelNumber.{channel_count};
 ghost use Rattle.pp_channel.specs.Merge.{history_on};
 ghost use Rattle.pp_channel.specs.ToldHistory.{IsToldBy, with_entry};
 
 use crate::channel::Channel;
-use crate::channel_no::CHANNELS;
+use crate::channel_no::{CHANNELS, ChannelNo};
 use crate::entry::{Entry, Seen};
 use crate::event::Event;
 use crate::memory::Memory;
@@ -25,7 +24,7 @@ pub fn told_channels<A: Allocator + Copy>(
 {
     let mut channels = array::from_fn(|_| Channel::new(alloc));
     for place in 0..CHANNELS {
-        let channel = told_channel(alloc, log, seen, place)?;
+        let channel = told_channel(alloc, log, seen, ChannelNo::at(place))?;
         put_channel(&mut channels, place, channel);
     }
     Ok(channels)
@@ -38,18 +37,17 @@ fn put_channel<A: Allocator>(channels: &mut [Channel<A>], place: usize, channel:
     channels[place] = channel;
 }
 
-/// The channel at this place of the list.
+/// One of them.
 fn told_channel<A: Allocator>(
     alloc: A,
     log: &[Entry],
     seen: &[u64; CHANNELS],
-    place: usize,
+    channel: ChannelNo,
 ) -> Result<Channel<A>, Memory>
-    requires place { place < channel_count }
     requires told { (histories : List (List Event)) × IsToldBy log.now seen.now histories }
-    ensures { IfOk result (λ channel. (histories : List (List Event)) → IsToldBy log.now seen.now histories → channel ≡ history_on place histories) }
+    ensures { IfOk result (λ told. (histories : List (List Event)) → IsToldBy log.now seen.now histories → told ≡ history_on channel histories) }
 {
-    let events = told_events(alloc, log, seen, place)?;
+    let events = told_events(alloc, log, seen, channel)?;
     Ok(Channel::of_history(events))
 }
 
@@ -58,25 +56,24 @@ fn told_events<A: Allocator>(
     alloc: A,
     log: &[Entry],
     seen: &[u64; CHANNELS],
-    place: usize,
+    channel: ChannelNo,
 ) -> Result<Vec<Event, A>, Memory>
-    requires { place < channel_count }
-    ensures { IfOk result (λ events. (histories : List (List Event)) → IsToldBy log.now seen.now histories → events.items ≡ history_on place histories) }
+    ensures { IfOk result (λ events. (histories : List (List Event)) → IsToldBy log.now seen.now histories → events.items ≡ history_on channel histories) }
 {
-    let count = seen[place] as usize;
+    let count = seen[channel.index()] as usize;
     let mut events = vec![in alloc; Event::Disconnect; count]?;
     for entry in log {
-        put_event(&mut events, entry, place);
+        put_event(&mut events, entry, channel);
     }
     Ok(events)
 }
 
 /// Puts the event of an entry on this channel at its number.
-fn put_event(events: &mut [Event], entry: &Entry, place: usize)
-    ensures { events.new ≡ with_entry place events.old entry.now }
+fn put_event(events: &mut [Event], entry: &Entry, channel: ChannelNo)
+    ensures { events.new ≡ with_entry channel events.old entry.now }
 {
     match entry.what {
-        Seen::Did(event) if entry.channel.index() == place => put(events, entry.number, event),
+        Seen::Did(event) if entry.channel == channel => put(events, entry.number, event),
         Seen::Did(_) | Seen::Saw(_) => {}
     }
 }

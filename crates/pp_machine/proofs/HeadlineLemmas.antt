@@ -1,7 +1,6 @@
 -- What an event leaves of the headline.
-use Rattle.std.proofs.Common.{◌≡◌, ◌≢◌, ℕ, zero, suc, ◌<◌, ◌==◌, true, false, IsTrue, List, [], ◌∷◌, ◌++◌, length, replicate, slice_set, get_or, refl, sym, ap, subst, ◌∙◌, append_assoc, eq-eqb, inl, inr, arith, get_or-set_same, get_or-set_other}
-use Rattle.std.specs.Prelude.{if◌then◌else◌, Option, Some, None}
-use Rattle.std.specs.List.{filter_map}
+use Rattle.std.proofs.Common.{◌≡◌, ◌≢◌, ℕ, zero, suc, ◌<◌, ◌==◌, true, false, IsTrue, List, [], ◌∷◌, ◌++◌, length, replicate, slice_set, get_or, refl, sym, ap, subst, ◌∙◌, append_assoc, eq-eqb, inl, inr, get_or-set_same, get_or-set_other}
+use Rattle.std.specs.Prelude.{if◌then◌else◌, Some, None}
 use Rattle.std.proofs.lemmas.List.{append-nil}
 use Rattle.std.proofs.lemmas.List.Elements.{filter_map-append}
 use Rattle.std.proofs.lemmas.Bool.{ne_eqb}
@@ -74,3 +73,9 @@ headline_after_event opening before after trace entry is within named own old la
           let kept = ap (λ hs. get_or hs (channel_index d) []) is ∙ get_or-set_other before i (channel_index d) (get_or before i [] ++ entry.event ∷ []) [] apart.1 in
           subst Q (sym kept) (on_other d (opening d) (get_or before (channel_index d) []) trace entry (λ e. apart.1 (ap channel_index (sym e))) (old d names))
     ]
+
+-- no channel is opened where none is
+pub none_opened : (n c : ℕ) → get_or (replicate n false) c false ≡ false
+none_opened zero c = refl
+none_opened (suc n) zero = refl
+none_opened (suc n) (suc c) = none_opened n c

@@ -1,3 +1,4 @@
+pub mod ProcessorPlaces
 pub mod BlockLemmas
 pub mod BlockResultLemmas
 pub mod GivenLemmas
@@ -8,5 +9,9 @@ pub mod StepLemmas
 pub mod StoredLemmas
 pub mod HeadlineLemmas
 pub mod MachineStepLemmas
+pub mod RunLawLemmas
 pub mod RunLemmas
 pub mod RoundLemmas
+pub mod DeadStartLemmas
+pub mod QuietLemmas
+pub mod TakenLemmas

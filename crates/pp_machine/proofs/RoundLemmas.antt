@@ -6,11 +6,12 @@ use Rattle.pp_machine.specs.MachineState.{MachineState, processor_of}
 use Rattle.pp_machine.specs.MachineStep.{answer_to, stepped}
 use Rattle.pp_machine.specs.NeedAndEffect.{need, processor_after}
 use Rattle.pp_machine.specs.Processor.{Processor, new_processor}
-use Rattle.pp_machine.specs.ProcessorNumber.{processor_count, processor_index, processor_in_turn}
+use Rattle.pp_machine.specs.ProcessorNumber.{processor_count, processor_index, processor_number, processor_in_turn}
 use Rattle.pp_machine.specs.Rounds.{RestBetween, PassesOverRest}
 use Rattle.pp_machine.specs.Run.{run, barrel}
 use Rattle.pp_machine.specs.StepLaws.{IsAtRest}
 use Rattle.pp_machine.proofs.MachineStepLemmas.{stepped_at_rest}
+use Rattle.pp_machine.proofs.ProcessorPlaces.{place_in_turn}
 use Rattle.pp_machine.proofs.RunLemmas.{run-append, barrel_more}
 
 -- a step changes no other processor
@@ -118,7 +119,8 @@ passed_to place running m n forward rest is =
     let turn : k ≡ k % processor_count = omega arith in
     let R : ℕ → Type 0 = λ i. IsAtRest (get_or n.processors i new_processor) in
     let S : MachineState → Type 0 = λ o. IsAtRest (processor_of (processor_in_turn k) o) in
-    subst S is (subst R turn (rest.at_rest k after (omega arith))) in
+    let index : k ≡ processor_index (processor_in_turn k) = turn ∙ sym (place_in_turn k) in
+    subst S is (subst R index (rest.at_rest k after (omega arith))) in
     ap (λ t. record n { turns = min (n.turns + t) (2 ^ 64 - 1) }) (sym so_many)
     ∙ ap (passed (suc turns)) is
     ∙ sym (barrel_at_rest turns place m at_rest)
@@ -137,7 +139,8 @@ pub barrel_rounds : (turns done : ℕ) (m : MachineState) → done % processor_c
 barrel_rounds zero done m whole = let here : done + 0 ≡ done = omega arith in rw here refl
 barrel_rounds (suc turns) done m whole =
     let further : done + suc turns ≡ done + turns + 1 = omega arith in
-    let same : processor_in_turn (done + turns) ≡ processor_in_turn turns = omega arith in
+    let same_place : (done + turns) % processor_count ≡ turns % processor_count = omega arith in
+    let same : processor_in_turn (done + turns) ≡ processor_in_turn turns = ap processor_number same_place in
     rw further (barrel_more (done + turns) m
     ∙ ap (λ n. stepped n (run (barrel (done + turns)) m)) same
     ∙ ap (stepped (processor_in_turn turns)) (barrel_rounds turns done m whole)

@@ -15,7 +15,9 @@ pub mod MachineState
 pub mod MachineStep
 pub mod Run
 pub mod Headline
+pub mod DeadStart
 pub mod MachineInvariant
 pub mod Lending
 pub mod Rounds
 pub mod Direct
+pub mod Quiet

@@ -1,7 +1,7 @@
 -- A machine at one moment, told by what has happened on its channels.
 -- (Manual 60100000, part on peripheral and control processors: the processors have memories of their own
 -- and share central memory and the data channels.)
-use Rattle.std.specs.Prelude.{ℕ, List, [], slice_index_or, replicate}
+use Rattle.std.specs.Prelude.{ℕ, Bool, false, List, [], slice_index_or, replicate}
 use Rattle.pp_channel.specs.ChannelNumber.{channel_count, channel_index}
 use Rattle.pp_channel.specs.declared.event.Event.{Event}
 use Rattle.pp_machine.specs.Processor.{Processor, new_processor}
@@ -9,13 +9,14 @@ use Rattle.pp_machine.specs.ProcessorNumber.{processor_count, processor_index}
 use Rattle.pp_machine.specs.declared.trace.Trace.{Trace}
 
 -- the processors in the order of the barrel, the history of each channel, the central words by address, the turns
--- counted, and the events in the order in which steps made them
+-- counted, the events in the order in which steps made them, and of each channel whether dead start opened it
 pub record MachineState : Type 0 where
   pub processors : List Processor
   pub histories : List (List Event)
   pub central : List ℕ
   pub turns : ℕ
   pub trace : List Trace
+  pub opened : List Bool
 
 -- processor n
 abbrev pub processor_of : ℕ → MachineState → Processor
@@ -25,6 +26,10 @@ processor_of n m = slice_index_or m.processors (processor_index n) new_processor
 abbrev pub history_of : ℕ → MachineState → List Event
 history_of c m = slice_index_or m.histories (channel_index c) []
 
+-- whether dead start opened channel c
+abbrev pub is_opened : ℕ → MachineState → Bool
+is_opened c m = slice_index_or m.opened (channel_index c) false
+
 -- a machine of this central size on which nothing has happened
 abbrev pub new_machine : ℕ → MachineState
 new_machine size = record {
@@ -33,4 +38,5 @@ new_machine size = record {
   central = replicate size 0;
   turns = 0;
   trace = [];
+  opened = replicate channel_count false;
 }

@@ -1,4 +1,5 @@
--- The numbers of the peripheral processors, the place of each in a list of all processors, and their turns.
+-- The numbers of the peripheral processors, the place of each in a list of all processors, and their turns. A
+-- number and its place are two things: proofs know of them what the lemmas of ProcessorPlaces say.
 --
 -- Control Data 6400/6500/6600 Computer Systems Reference Manual, publication 60100000, part on peripheral and
 -- control processors: ten processors, numbered 0 to 11 (octal), which take turns in a barrel.
@@ -9,15 +10,16 @@ abbrev pub processor_count : ℕ
 processor_count = 0o12
 
 -- whether a number is that of a processor
-abbrev pub names_processor : ℕ → Bool
+unfoldable pub names_processor : ℕ → Bool
 names_processor number = nat_lt number processor_count
 
--- the place of the processor with this number in a list of all processors
-abbrev pub processor_index : ℕ → ℕ
+-- the place of the processor with this number in a list of all processors; past its end for a number that
+-- names none
+unfoldable pub processor_index : ℕ → ℕ
 processor_index number = number
 
 -- the number of the processor at a place
-abbrev pub processor_number : ℕ → ℕ
+unfoldable pub processor_number : ℕ → ℕ
 processor_number place = place
 
 -- the processor whose turn it is after so many turns of the barrel

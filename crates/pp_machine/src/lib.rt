@@ -5,6 +5,8 @@ mod answer;
 mod block;
 mod central;
 mod cut;
+mod dead_start;
+mod laws;
 mod machine;
 mod need;
 mod outcome;
@@ -12,19 +14,17 @@ mod pp;
 mod pp_memory;
 mod pp_no;
 mod pp_state;
+mod quiet;
 mod replay;
 mod run;
 mod step;
-#[cfg(test)]
-mod tests_of_machine;
-#[cfg(test)]
-mod tests_of_processor;
 mod trace;
 
 pub use answer::Answer;
 pub use block::{Block, BlockKind};
 pub use central::{Central, CentralFault};
 pub use cut::Cut;
+pub use laws::run_law;
 pub use machine::Machine;
 pub use need::Need;
 pub use outcome::Outcome;

@@ -26,6 +26,7 @@ pub struct Machine<A: Allocator> {
     pub(crate) central: Central<A>,
     pub(crate) turns: u64,
     pub(crate) trace: Vec<Trace, A>,
+    pub(crate) opened: [bool; CHANNELS],
 }
 
 impl<A: Allocator> Model for Machine<A> {
@@ -34,9 +35,9 @@ impl<A: Allocator> Model for Machine<A> {
 
     ghost Value = { MachineState };
 
-    ghost view = { λ m. record { processors = m.processors.items; histories = m.channels.items; central = m.central; turns = m.turns; trace = m.trace.items } };
+    ghost view = { λ m. record { processors = m.processors.items; histories = m.channels.items; central = m.central; turns = m.turns; trace = m.trace.items; opened = m.opened } };
 
-    ghost invariant = { λ m. IsMachine (record { processors = m.processors.items; histories = m.channels.items; central = m.central; turns = m.turns; trace = m.trace.items }) };
+    ghost invariant = { λ m. IsMachine (record { processors = m.processors.items; histories = m.channels.items; central = m.central; turns = m.turns; trace = m.trace.items; opened = m.opened }) };
 }
 
 impl<A: Allocator> Machine<A> {
@@ -47,6 +48,7 @@ impl<A: Allocator> Machine<A> {
 
     /// A machine with central memory of this many words, all 0: its processors as `Pp::new()`, its
     /// channels without history, no turn counted.
+    #[tactic(auto, using(pp_channel::proofs::ChannelPlaces::place_below))]
     pub fn new(alloc: A, size: u32) -> Result<Self, CentralFault>
     where
         A: Copy,
@@ -61,6 +63,7 @@ impl<A: Allocator> Machine<A> {
             central,
             turns: 0,
             trace: Vec::new(alloc),
+            opened: [false; CHANNELS],
         })
     }
 

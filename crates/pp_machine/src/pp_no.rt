@@ -29,6 +29,7 @@ impl PpNo {
     pub const FIRST: PpNo = PpNo { number: 0 };
 
     /// The processor of this number, or nothing from 12 (octal) on.
+    #[tactic(auto, unfolding(crate::specs::ProcessorNumber::names_processor))]
     pub fn new(number: u8) -> Option<Self>
         ensures exists { IsSome result ↔ IsTrue (names_processor number) }
         ensures value { IfSome result (λ n. n ≡ number) }
@@ -49,6 +50,7 @@ impl PpNo {
     }
 
     /// Its place in a list of all processors in the barrel's order.
+    #[tactic(auto, using(crate::proofs::ProcessorPlaces::one_place), unfolding(crate::specs::ProcessorNumber::names_processor, crate::specs::ProcessorNumber::processor_index))]
     pub fn index(self) -> usize
         ensures place { result ≡ processor_index self }
         ensures below { result < processor_count }
@@ -59,6 +61,7 @@ impl PpNo {
     }
 
     /// The processor at a place in the barrel's order.
+    #[tactic(auto, unfolding(crate::specs::ProcessorNumber::names_processor, crate::specs::ProcessorNumber::processor_index, crate::specs::ProcessorNumber::processor_number))]
     pub fn at(place: usize) -> Self
         requires { place < processor_count }
         ensures { result ≡ processor_in_turn place }
@@ -69,13 +72,13 @@ impl PpNo {
     }
 
     /// The processor that comes after it in the barrel.
+    #[tactic(auto, using(crate::proofs::ProcessorPlaces::one_place), unfolding(crate::specs::ProcessorNumber::names_processor, crate::specs::ProcessorNumber::processor_index, crate::specs::ProcessorNumber::processor_number))]
     pub fn next(self) -> Self
         ensures { (turn : ℕ) → self ≡ processor_in_turn turn → result ≡ processor_in_turn (turn + 1) }
     {
-        if self.index() + 1 < PROCESSORS {
-            PpNo {
-                number: self.get() + 1,
-            }
+        let place = self.index() + 1;
+        if place < PROCESSORS {
+            PpNo::at(place)
         } else {
             PpNo::FIRST
         }

@@ -1,6 +1,6 @@
 //! Lists of steps.
 
-ghost use Rattle.std.specs.Prelude.{◌≡◌, ◌<◌, ◌≤◌, length, take, slice_index, IfErr, IsSome, OnOk, vec_len};
+ghost use Rattle.std.specs.Prelude.{◌≡◌, ◌*◌, ◌<◌, ◌≤◌, length, take, slice_index, IfErr, IsSome, OnOk, vec_len};
 ghost use Rattle.pp_machine.specs.ProcessorNumber.{processor_count};
 ghost use Rattle.pp_machine.specs.Rounds.{AreRounds, RestBetween, PassesOverRest};
 
@@ -9,14 +9,29 @@ use crate::machine::Machine;
 use crate::pp::Pp;
 use crate::pp_no::{PROCESSORS, PpNo};
 use crate::pp_state::PpState;
+use crate::quiet::run_ahead;
 use std::alloc::Allocator;
 
 /// How many turns a round of the barrel has (decimal).
 const ROUND: u32 = PROCESSORS as u32;
 
+/// How many rounds the barrel tries to make quietly at once (decimal). A window costs ten copies of a
+/// memory, and one that fails all that the processors ran too far.
+const SHORTEST_WINDOW: u32 = 64;
+
+const LONGEST_WINDOW: u32 = 1024;
+
 /// After how many turns of the barrel, in whole rounds, it looks again which processors are at rest
 /// (decimal): a look costs as much as some turns.
-const LOOK_AFTER: u32 = 640;
+const LOOK_AFTER: u32 = 1280;
+
+/// How many turns, in whole rounds, it makes one after the other where a window failed, before it tries
+/// again: twice as many each time, but few again after so many quiet rounds that it paid (decimal).
+const SHORTEST_PAUSE: u32 = 640;
+
+const LONGEST_PAUSE: u32 = 81_920;
+
+const LONG_QUIET: u32 = 2048;
 
 impl<A: Allocator> Machine<A> {
     ghost use Rattle.pp_machine.specs.Headline.{HoldsOnEachChannel};
@@ -46,7 +61,6 @@ impl<A: Allocator> Machine<A> {
 
     /// So many turns of the barrel, from its first processor on. Processors at rest are passed over.
     #[tactic(auto, using(crate::proofs::RoundLemmas::barrel_rounds))]
-    #[inline(never)]
     pub fn run_barrel(&mut self, turns: u32) -> Result<(), Cut>
         ensures ok { OnOk result (self.new ≡ run (barrel turns) self.old) }
         ensures cut { IfErr result (λ c. self.new ≡ run (barrel c.done) self.old) }
@@ -57,19 +71,72 @@ impl<A: Allocator> Machine<A> {
     {
         let _sound = &self.turns;
         let mut done = 0;
+        let mut held: u32 = 0;
+        let mut pause = SHORTEST_PAUSE;
         while done < turns {
-            let left = turns - done;
-            let round = left.min(ROUND);
-            let further = if left < ROUND {
-                left
-            } else {
-                (left - left % ROUND).min(LOOK_AFTER)
-            };
+            let window = window_after(held);
+            let rounds = window.min((turns - done) / ROUND);
+            let quiet = self.run_quiet_rounds(rounds);
+            done += quiet * ROUND;
+            held = held.saturating_add(quiet);
+            if quiet < window {
+                if held >= LONG_QUIET {
+                    pause = SHORTEST_PAUSE;
+                }
+                let left = turns - done;
+                let round = left.min(ROUND);
+                let further = if left < ROUND {
+                    left
+                } else {
+                    (left - left % ROUND).min(pause)
+                };
+                if let Err(before) = self.run_by_turns(further, round) {
+                    return Err(Cut {
+                        done: u64::from(done + before),
+                    });
+                }
+                done += further;
+                held = 0;
+                pause = (2 * pause).min(LONGEST_PAUSE);
+            }
+        }
+        Ok(())
+    }
+
+    /// Up to so many whole rounds of the barrel, as many as are made quietly, and says how
+    /// many that are.
+    #[tactic(auto, using(crate::proofs::QuietLemmas::rounds_ahead))]
+    #[inline(never)]
+    fn run_quiet_rounds(&mut self, most: u32) -> u32
+        ensures most { result ≤ most }
+        ensures ran { self.new ≡ run (barrel (result * processor_count)) self.old }
+        ensures headline { HoldsOnEachChannel self.new }
+    {
+        let turns = self.turns;
+        let rounds = run_ahead(&mut self.processors, &self.channels, 0, most);
+        self.turns = turns.saturating_add(u64::from(rounds) * u64::from(ROUND));
+        rounds
+    }
+
+    /// So many turns in rounds of the barrel, one after the other; processors at rest are passed over.
+    /// Refused, it says how many steps were done.
+    #[tactic(auto, using(crate::proofs::RoundLemmas::barrel_rounds))]
+    #[inline(never)]
+    fn run_by_turns(&mut self, turns: u32, round: u32) -> Result<(), u32>
+        requires rounds { AreRounds turns round }
+        ensures ok { OnOk result (self.new ≡ run (barrel turns) self.old) }
+        ensures cut { IfErr result (λ done. self.new ≡ run (barrel done) self.old) }
+        ensures within { IfErr result (λ done. done < turns) }
+        ensures cut_at_event { IfErr result (λ done. IsSome (step_event (processor_in_turn done) self.new)) }
+        ensures headline { HoldsOnEachChannel self.new }
+    {
+        let _sound = &self.turns;
+        let mut done = 0;
+        while done < turns {
+            let further = (turns - done).min(LOOK_AFTER);
             let next = next_running(&self.processors);
             if let Err(before) = self.run_rounds(further, round, &next) {
-                return Err(Cut {
-                    done: u64::from(done + before),
-                });
+                return Err(done + before);
             }
             done += further;
         }
@@ -146,6 +213,14 @@ impl<A: Allocator> Machine<A> {
             self.turns = turns.saturating_add((running - place) as u64);
         }
     }
+}
+
+/// The next window after so many quiet rounds since a window failed: half as many.
+fn window_after(held: u32) -> u32
+    ensures some { 1 ≤ result }
+    ensures most { result ≤ 1024 }
+{
+    (held / 2).max(SHORTEST_WINDOW).min(LONGEST_WINDOW)
 }
 
 /// For each place of the barrel, and for its end, the first place from there on whose processor is

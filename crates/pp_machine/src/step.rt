@@ -1,10 +1,10 @@
 //! One step of a machine.
 
-ghost use Rattle.std.specs.Prelude.{◌≡◌, ◌++◌, [], None, IsTrue, vec_len, map, slice_set, slice_index_or, if◌then◌else◌, IfOk, IsOk, IsNone, OnOk, OnErr};
+ghost use Rattle.std.specs.Prelude.{◌≡◌, ◌++◌, [], None, Some, IsTrue, vec_len, map, slice_set, slice_index_or, if◌then◌else◌, IfOk, IsOk, IsNone, OnOk, OnErr};
 ghost use Rattle.std.specs.Option.{option_to_list};
 ghost use Rattle.pp_channel.specs.Answer.{event_of, reply_to, history_after};
 ghost use Rattle.pp_channel.specs.ChannelNumber.{channel_count, channel_index, names_channel};
-ghost use Rattle.pp_channel.specs.History.{IsLawful};
+ghost use Rattle.pp_channel.specs.History.{IsLawful, HasTwelveBitWord};
 ghost use Rattle.pp_channel.specs.Law.{KeepsLaw};
 ghost use Rattle.pp_machine.specs.Direct.{IsAtInstruction, IsNext};
 ghost use Rattle.pp_machine.specs.NeedAndEffect.{need};
@@ -18,7 +18,7 @@ use crate::outcome::Outcome;
 use crate::pp_no::PpNo;
 use crate::pp_state::PpState;
 use crate::trace::Trace;
-use pp_channel::{ChanOp, Channel, ChannelNo, Memory, Reply};
+use pp_channel::{ChanOp, Channel, ChannelNo, Event, Memory, Reply};
 use pp_word::{Opcode, Word6};
 use std::alloc::Allocator;
 
@@ -158,7 +158,13 @@ impl<A: Allocator> Machine<A> {
         let i = channel.index();
         let made = self.channels[i].next_event(&op);
         match &made {
-            None => act_on(&mut self.channels, channel, op),
+            None => {
+                let flags = self.channels[i].flags();
+                Ok(match &op {
+                    ChanOp::Probe => Reply::Flags(flags),
+                    _ => Reply::Held(flags),
+                })
+            }
             Some(event) => {
                 let turn = self.turns;
                 self.trace.push(Trace {
@@ -167,7 +173,7 @@ impl<A: Allocator> Machine<A> {
                     channel,
                     event: *event,
                 })?;
-                match act_on(&mut self.channels, channel, op) {
+                match make_on(&mut self.channels, channel, op, *event) {
                     Ok(reply) => Ok(reply),
                     Err(memory) => {
                         let _ = self.trace.pop();
@@ -179,22 +185,24 @@ impl<A: Allocator> Machine<A> {
     }
 }
 
-/// One operation on one of the channels.
-fn act_on<A: Allocator>(
+/// One operation on one of the channels, of which the event that it makes now is known.
+fn make_on<A: Allocator>(
     channels: &mut Vec<Channel<A>, A>,
     channel: ChannelNo,
     op: ChanOp,
+    event: Event,
 ) -> Result<Reply, Memory>
-    requires { vec_len channels.old ≡ channel_count }
+    requires channels { vec_len channels.old ≡ channel_count }
+    requires event { event_of op (slice_index_or channels.old.items (channel_index channel) []) ≡ Some event }
+    requires twelve_bits { HasTwelveBitWord event }
     ensures reply { IfOk result (λ r. r ≡ reply_to op (slice_index_or channels.old.items (channel_index channel) [])) }
     ensures ok { OnOk result (channels.new.items ≡ slice_set channels.old.items (channel_index channel) (history_after op (slice_index_or channels.old.items (channel_index channel) []))) }
     ensures unchanged_after_memory { OnErr result (channels.new.items ≡ channels.old.items) }
-    ensures no_event { IsNone (event_of op (slice_index_or channels.old.items (channel_index channel) [])) → IsOk result }
     ensures lawful { IsLawful (slice_index_or channels.new.items (channel_index channel) []) }
     ensures law { KeepsLaw (slice_index_or channels.new.items (channel_index channel) []) }
 {
     let channel = &mut channels[channel.index()];
-    let reply = channel.act(op);
+    let reply = channel.make(op, event);
     let _history = channel.history();
     reply
 }

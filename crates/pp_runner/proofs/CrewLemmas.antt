@@ -2,7 +2,7 @@
 use Rattle.std.proofs.Common.{◌≡◌, ℕ, suc, ◌+◌, ◌-◌, ◌<◌, ◌≤◌, List, [], ◌∷◌, ◌++◌, length, drop, refl, sym, ap, ◌∙◌, subst, arith}
 use Rattle.std.specs.Prelude.{Some, Result, Ok, Err, IfOk, All}
 use Rattle.std.proofs.lemmas.List.{drop_more, drop_all, append-nil, length-append}
-use Rattle.std.proofs.lemmas.List.Elements.{All-cons, All-nil, All-pop, All-push, All-weaker}
+use Rattle.std.proofs.lemmas.List.Elements.{All-append, All-cons, All-nil, All-pop, All-push, All-weaker}
 use Rattle.pp_channel.specs.LineState.{LineState, IsSplitFrom, joined, ForgetsNothing}
 use Rattle.pp_channel.specs.RisingLog.{IsRising, seen_on}
 use Rattle.pp_channel.specs.declared.entry.Entry.{Entry}
@@ -10,52 +10,74 @@ use Rattle.pp_machine.specs.MachineState.{MachineState, processor_of}
 use Rattle.pp_machine.specs.Processor.{Processor, new_processor}
 use Rattle.pp_machine.specs.ProcessorNumber.{processor_count, processor_index, processor_in_turn}
 use Rattle.pp_machine.specs.Replay.{sights_given}
+use Rattle.pp_machine.proofs.ProcessorPlaces.{place_after}
 use Rattle.pp_runner.proofs.LogLemmas.{settles, stands_settled}
 use Rattle.pp_runner.proofs.EndLemmas.{worn_later}
-use Rattle.pp_runner.specs.Crew.{IsKin, IsFresh, AreReady, IsEnded, IsAlone, AreEnded}
-use Rattle.pp_runner.specs.Labour.{IsAtWork, IsSameShare}
+use Rattle.pp_runner.proofs.LineLemmas.{same_line_still, same_line_twice}
+use Rattle.pp_runner.specs.Crew.{IsFresh, AreReady, IsEnded, IsAlone, AreEnded}
+use Rattle.pp_runner.specs.Labour.{IsAtWork, HasSeen, NoneOlder, IsSameLine}
 use Rattle.pp_runner.specs.WorkerEnd.{IsEnd, WornWithCause}
 use Rattle.pp_runner.specs.WorkerLog.{events_in, sights_in, StandsIn}
-use Rattle.pp_runner.specs.WorkerReport.{AreWorkers}
+use Rattle.pp_runner.specs.WorkerReport.{AreWorkers, logs_of}
 use Rattle.pp_runner.specs.declared.crew.Crew.{Crew}
 use Rattle.pp_runner.specs.declared.labour.Ended.{Ended}
 use Rattle.pp_runner.specs.declared.worker.Worker.{Worker}
 
+-- a line that has seen what another has
+pub same_seen : (happened : ℕ → ℕ) (line after : LineState) → after.seen ≡ line.seen → HasSeen happened line → HasSeen happened after
+same_seen happened line after is has = record {
+  countable = has.countable;
+  seen = λ c. subst (λ (seen : List ℕ). happened c ≤ seen_on c seen) (sym is) (has.seen c);
+}
+
+-- nothing that a worker did or saw is older than what its line's family had seen
+begun_after : {A : Type 0} (size steps room : ℕ) (load : Processor) (family line mine : LineState) (w : Worker A) → IsEnded load size steps line w mine → IsFresh room family line
+    → (happened : ℕ → ℕ) → HasSeen happened family → NoneOlder happened w.log.items
+begun_after size steps room load family line mine w one fresh happened has =
+    let seen = same_seen happened family line fresh.seen has in
+    let none : NoneOlder happened line.log.entries =
+    subst (λ (l : List Entry). NoneOlder happened l) (sym (ap (λ l. l.entries) fresh.log)) (All-nil (λ (entry : Entry). happened entry.channel ≤ entry.number)) in
+    subst (λ (l : List Entry). NoneOlder happened l) one.log (one.same_line.none_older happened seen none)
+
 -- the workers after one that has ended
-ended_first : {A : Type 0} (loads : List Processor) (size steps count : ℕ) (load : Processor) (family line mine others after : LineState) (w : Worker A) (ws : List (Worker A))
-    → IsEnded load size steps line w mine → AreEnded loads size steps count family ws others → line.shares ≡ 1 → IsKin family line → after ≡ joined mine others
+ended_first : {A : Type 0} (loads : List Processor) (size steps count room : ℕ) (load : Processor) (family line mine others after : LineState) (w : Worker A) (ws : List (Worker A))
+    → IsEnded load size steps line w mine → AreEnded loads size steps count family ws others → IsFresh room family line → after ≡ joined mine others
     → ForgetsNothing mine after × ForgetsNothing others after → AreEnded (load ∷ loads) size steps (1 + count) family (w ∷ ws) after
-ended_first {A} loads size steps count load family line mine others after w ws one all share kin is more =
+ended_first {A} loads size steps count room load family line mine others after w ws one all fresh is more =
     let P : LineState → Worker A → Type 0 = λ l v. WornWithCause (λ c. seen_on c l.seen) v.finish v.pp in
     let first : P after w = worn_later (λ c. seen_on c mine.seen) (λ c. seen_on c after.seen) w.finish w.pp more.0 one.worn in
     let rest : All (P after) ws = All-weaker (P others) (P after) (λ v. worn_later (λ c. seen_on c others.seen) (λ c. seen_on c after.seen) v.finish v.pp more.1) ws all.worn in record {
       workers = (one.worker, all.workers);
       log = ap (λ l. l.log.entries) is ∙ (λ i. one.log i ++ all.log i);
+      begun = λ happened has. All-append (λ (entry : Entry). happened entry.channel ≤ entry.number) w.log.items (logs_of ws)
+          (begun_after size steps room load family line mine w one fresh happened has) (all.begun happened has);
       worn = All-cons (P after) w ws first rest;
-      shares = omega (arith, ap (λ l. l.shares) is, one.same_share.shares, all.shares, share);
+      shares = omega (arith, ap (λ l. l.shares) is, one.same_line.shares, all.shares, fresh.shares);
       kin = record {
-        whole = ap (λ l. l.whole) is ∙ (one.same_share.whole ∙ kin.whole);
-        table = ap (λ l. l.table) is ∙ (one.same_share.table ∙ kin.table);
+        whole = ap (λ l. l.whole) is ∙ (one.same_line.whole ∙ fresh.kin.whole);
+        table = ap (λ l. l.table) is ∙ (one.same_line.table ∙ fresh.kin.table);
       };
     }
 
 -- the worker after which there is none
-ended_last : {A : Type 0} (size steps : ℕ) (load : Processor) (family line mine : LineState) (w : Worker A) → IsEnded load size steps line w mine → line.shares ≡ 1 → IsKin family line
+ended_last : {A : Type 0} (size steps room : ℕ) (load : Processor) (family line mine : LineState) (w : Worker A) → IsEnded load size steps line w mine → IsFresh room family line
     → AreEnded (load ∷ []) size steps 1 family (w ∷ []) mine
-ended_last {A} size steps load family line mine w one share kin =
+ended_last {A} size steps room load family line mine w one fresh =
     let P : Worker A → Type 0 = λ v. WornWithCause (λ c. seen_on c mine.seen) v.finish v.pp in record {
       workers = (one.worker, tt);
       log = one.log ∙ sym (append-nil w.log.items);
+      begun = λ happened has. All-append (λ (entry : Entry). happened entry.channel ≤ entry.number) w.log.items []
+          (begun_after size steps room load family line mine w one fresh happened has) (All-nil (λ (entry : Entry). happened entry.channel ≤ entry.number));
       worn = All-cons P w [] one.worn (All-nil P);
-      shares = one.same_share.shares ∙ share;
-      kin = record { whole = one.same_share.whole ∙ kin.whole; table = one.same_share.table ∙ kin.table };
+      shares = one.same_line.shares ∙ fresh.shares;
+      kin = record { whole = one.same_line.whole ∙ fresh.kin.whole; table = one.same_line.table ∙ fresh.kin.table };
     }
 
-alone_ended : {A : Type 0} (size steps : ℕ) (load : Processor) (family line mine : LineState) (ws : List (Worker A)) → IsAlone load size steps line ws mine → line.shares ≡ 1 → IsKin family line
+alone_ended : {A : Type 0} (size steps room : ℕ) (load : Processor) (family line mine : LineState) (ws : List (Worker A)) → IsAlone load size steps line ws mine → IsFresh room family line
     → AreEnded (load ∷ []) size steps 1 family ws mine
-alone_ended size steps load family line mine [] one share kin = absurd one
-alone_ended size steps load family line mine (w ∷ []) one share kin = ended_last size steps load family line mine w one share kin
-alone_ended size steps load family line mine (w ∷ v ∷ ws) one share kin = absurd one
+alone_ended size steps room load family line mine [] one fresh = absurd one
+alone_ended size steps room load family line mine (w ∷ []) one fresh = ended_last size steps room load family line mine w one fresh
+alone_ended size steps room load family line mine (w ∷ v ∷ ws) one fresh = absurd one
 
 -- a worker that makes no further step, with a copy of its log
 pub work_ended : {A : Type 0} (load : Processor) (size steps : ℕ) (line : LineState) (w : Worker A) → IsAtWork load size steps w.pp w.answers.items line.log → length w.answers.items ≤ steps
@@ -76,27 +98,19 @@ work_ended load size steps line w work few finish worn copied =
       };
       log = sym copied;
       worn = worn;
-      same_share = record { shares = refl; whole = refl; table = refl };
+      same_line = same_line_still line;
     }
 
--- a line after two parts of a worker's way
-pub same_share_twice : (line mid after : LineState) → IsSameShare line mid → IsSameShare mid after → IsSameShare line after
-same_share_twice line mid after a b = record { shares = b.shares ∙ a.shares; whole = b.whole ∙ a.whole; table = b.table ∙ a.table }
-
 -- a worker that has ended began with the line that it had at first
-pub ended_since : {A E : Type 0} (load : Processor) (size steps : ℕ) (line mid : LineState) (r : Result (Ended A) E) → IsSameShare line mid
+pub ended_since : {A E : Type 0} (load : Processor) (size steps : ℕ) (line mid : LineState) (r : Result (Ended A) E) → IsSameLine line mid
     → IfOk r (λ ended. IsEnded load size steps mid ended.worker ended.line) → IfOk r (λ ended. IsEnded load size steps line ended.worker ended.line)
 ended_since load size steps line mid (Err e) same one = tt
 ended_since load size steps line mid (Ok ended) same one =
-    record { worker = one.worker; log = one.log; worn = one.worn; same_share = same_share_twice line mid ended.line same one.same_share }
+    record { worker = one.worker; log = one.log; worn = one.worn; same_line = same_line_twice line mid ended.line same one.same_line }
 
 -- the processors from a place on begin with the one at that place
 pub processors_from : (m : MachineState) (n : ℕ) → processor_index n < length m.processors → drop (processor_index n) m.processors ≡ processor_of n m ∷ drop (processor_index n + 1) m.processors
 processors_from m n below = drop_more m.processors (processor_index n) new_processor below
-
--- the processor after one that is not the last
-pub place_after : (n next : ℕ) → ((turn : ℕ) → n ≡ processor_in_turn turn → next ≡ processor_in_turn (turn + 1)) → processor_index n + 2 ≤ processor_count → processor_index next ≡ processor_index n + 1
-place_after n next is below = omega (arith, is n (omega arith))
 
 -- the line that is taken first, and those that are left
 pub record IsTaken (m : MachineState) (n room : ℕ) (family line : LineState) (others : List LineState) : Type 0 where
@@ -142,7 +156,7 @@ ended_alone {A} m n room size steps total load family line lines others (Ok crew
     processors_from m n (omega (arith, taken.count, taken.each)) ∙ ((λ i. processor_of n m ∷ none i) ∙ ap (λ p. p ∷ []) (sym load_is)) in
     subst (λ (ps : List Processor). AreEnded ps size steps total family crew.workers.items crew.line) (sym loads)
     (subst (λ (k : ℕ). AreEnded (load ∷ []) size steps k family crew.workers.items crew.line) (sym only)
-    (alone_ended size steps load family line crew.line crew.workers.items one taken.fresh.shares taken.fresh.kin))
+    (alone_ended size steps room load family line crew.line crew.workers.items one taken.fresh))
 
 -- a worker and those after it
 pub ended_beside : {A E : Type 0} (m : MachineState) (n next room size steps left total : ℕ) (family line mine after : LineState) (others : List LineState) (w : Worker A) (ws : List (Worker A)) (r : Result (Crew A) E)
@@ -156,7 +170,7 @@ ended_beside {A} m n next room size steps left total family line mine after othe
     let loads : drop (processor_index n) m.processors ≡ processor_of n m ∷ drop (processor_index next) m.processors =
     processors_from m n (omega (arith, taken.count, taken.each)) ∙ ap (λ i. processor_of n m ∷ drop i m.processors) (sym place) in
     let ended : AreEnded (processor_of n m ∷ drop (processor_index next) m.processors) size steps (1 + left) family (w ∷ ws) crew.line =
-    ended_first (drop (processor_index next) m.processors) size steps left (processor_of n m) family line mine after crew.line w ws one all taken.fresh.shares taken.fresh.kin line_is more in
+    ended_first (drop (processor_index next) m.processors) size steps left room (processor_of n m) family line mine after crew.line w ws one all taken.fresh line_is more in
     subst (λ (ps : List Processor). AreEnded ps size steps total family crew.workers.items crew.line) (sym loads)
     (subst (λ (k : ℕ). AreEnded (processor_of n m ∷ drop (processor_index next) m.processors) size steps k family crew.workers.items crew.line) (sym sum)
     (subst (λ (vs : List (Worker A)). AreEnded (processor_of n m ∷ drop (processor_index next) m.processors) size steps (1 + left) family vs crew.line) (sym workers_are) ended))
@@ -166,15 +180,21 @@ pub promised : {A : Type 0} (load was : Processor) (size size_was steps steps_wa
     → IsEnded was size_was steps_was line_was w after → IsEnded load size steps line w after
 promised load was size size_was steps steps_was line line_was w after a b c d h = rw (← a, ← b, ← c, ← d) h
 
+-- and a worker that ends as the promise's words say keeps it
+pub promise_kept : {A E : Type 0} (load was : Processor) (size size_was steps steps_was : ℕ) (line line_was : LineState) (r : Result (Ended A) E) → was ≡ load → size_was ≡ size → steps_was ≡ steps → line_was ≡ line
+    → IfOk r (λ ended. IsEnded load size steps line ended.worker ended.line) → IfOk r (λ ended. IsEnded was size_was steps_was line_was ended.worker ended.line)
+promise_kept load was size size_was steps steps_was line line_was r a b c d h = rw (a, b, c, d) h
+
 -- a line that gives a share to another is of the same family as before
 pub split_kin : (room : ℕ) (first after line : LineState) (lines : List LineState) → after ≡ record first { shares = first.shares - 1 } → IsSplitFrom first room line →
     All (IsFresh room first) lines → All (IsFresh room after) (lines ++ line ∷ [])
 split_kin room first after line lines is split all =
     let whole : after.whole ≡ first.whole = ap (λ l. l.whole) is in
     let table : after.table ≡ first.table = ap (λ l. l.table) is in
+    let seen : after.seen ≡ first.seen = ap (λ l. l.seen) is in
     All-push (IsFresh room after) lines line
-    (All-weaker (IsFresh room first) (IsFresh room after) (λ other b. record { log = b.log; shares = b.shares; kin = record { whole = b.kin.whole ∙ sym whole; table = b.kin.table ∙ sym table } }) lines all)
-    (record { log = split.log; shares = split.shares; kin = record { whole = split.whole ∙ sym whole; table = split.table ∙ sym table } })
+    (All-weaker (IsFresh room first) (IsFresh room after) (λ other b. record { log = b.log; seen = b.seen ∙ sym seen; shares = b.shares; kin = record { whole = b.kin.whole ∙ sym whole; table = b.kin.table ∙ sym table } }) lines all)
+    (record { log = split.log; seen = split.seen ∙ sym seen; shares = split.shares; kin = record { whole = split.whole ∙ sym whole; table = split.table ∙ sym table } })
 
 -- there are as many workers as processors
 pub workers_count : {A : Type 0} (loads : List Processor) (size steps : ℕ) (ws : List (Worker A)) → AreWorkers loads size steps ws → length ws ≡ length loads

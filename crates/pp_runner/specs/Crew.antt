@@ -6,7 +6,7 @@ use Rattle.pp_channel.specs.RisingLog.{seen_on}
 use Rattle.pp_machine.specs.MachineState.{MachineState}
 use Rattle.pp_machine.specs.Processor.{Processor}
 use Rattle.pp_machine.specs.ProcessorNumber.{processor_count, processor_index}
-use Rattle.pp_runner.specs.Labour.{IsSameShare}
+use Rattle.pp_runner.specs.Labour.{HasSeen, NoneOlder, IsSameLine}
 use Rattle.pp_runner.specs.WorkerEnd.{WornWithCause}
 use Rattle.pp_runner.specs.WorkerReport.{IsWorker, AreWorkers, logs_of}
 use Rattle.pp_runner.specs.declared.worker.Worker.{Worker}
@@ -16,9 +16,10 @@ pub record IsKin (line other : LineState) : Type 0 where
   pub whole : other.whole ≡ line.whole
   pub table : other.table ≡ line.table
 
--- the line of a worker that has not begun, of the family of this one
+-- the line of a worker that has not begun, of the family of this one: it has seen what this one has seen
 pub record IsFresh (room : ℕ) (family line : LineState) : Type 0 where
   pub log : line.log ≡ empty_log room
+  pub seen : line.seen ≡ family.seen
   pub shares : line.shares ≡ 1
   pub kin : IsKin family line
 
@@ -34,7 +35,7 @@ pub record IsEnded {A : Type 0} (load : Processor) (size steps : ℕ) (line : Li
   pub worker : IsWorker load size steps w
   pub log : after.log.entries ≡ w.log.items
   pub worn : WornWithCause (λ c. seen_on c after.seen) w.finish w.pp
-  pub same_share : IsSameShare line after
+  pub same_line : IsSameLine line after
 
 -- one such worker, and no other
 abbrev pub IsAlone : {A : Type 0} → Processor → ℕ → ℕ → LineState → List (Worker A) → LineState → Type 0
@@ -42,10 +43,12 @@ IsAlone load size steps line [] after = ⊥
 IsAlone load size steps line (w ∷ []) after = IsEnded load size steps line w after
 IsAlone load size steps line (w ∷ v ∷ ws) after = ⊥
 
--- the workers of these processors have ended, and so many lines of a family are one
+-- The workers of these processors have ended, and so many lines of a family are one. None did or saw anything older than
+-- what its family had seen when they began.
 pub record AreEnded {A : Type 0} (loads : List Processor) (size steps count : ℕ) (family : LineState) (ws : List (Worker A)) (after : LineState) : Type 0 where
   pub workers : AreWorkers loads size steps ws
   pub log : after.log.entries ≡ logs_of ws
+  pub begun : (happened : ℕ → ℕ) → HasSeen happened family → NoneOlder happened (logs_of ws)
   pub worn : All (λ w. WornWithCause (λ c. seen_on c after.seen) w.finish w.pp) ws
   pub shares : after.shares ≡ count
   pub kin : IsKin family after

@@ -1,8 +1,9 @@
 -- What holds of a worker between any two tries of a step.
-use Rattle.std.specs.Prelude.{◌≡◌, ◌≤◌, ◌+◌, ◌-◌, ◌*◌, ℕ, true, false, List, [], ◌∷◌, length, take, if◌then◌else◌}
+use Rattle.std.specs.Prelude.{◌≡◌, ◌≤◌, ◌+◌, ◌-◌, ◌*◌, ℕ, true, false, List, [], ◌∷◌, length, take, All, if◌then◌else◌}
+use Rattle.pp_channel.specs.ChannelWord.{greatest_number}
 use Rattle.pp_channel.specs.LineLog.{LogState, appended, looked}
 use Rattle.pp_channel.specs.LineState.{LineState}
-use Rattle.pp_channel.specs.RisingLog.{IsRising}
+use Rattle.pp_channel.specs.RisingLog.{IsRising, seen_on}
 use Rattle.pp_channel.specs.declared.entry.Entry.{Entry}
 use Rattle.pp_channel.specs.declared.entry.Seen.{Seen}
 use Rattle.pp_channel.specs.declared.entry.Seen.TheVariants.{Did, Saw}
@@ -51,8 +52,20 @@ pub record IsAnswered (size : ℕ) (needed : Need) (answer : Answer) (before aft
   pub noted : IsNoted (sights_of needed answer) before after
   pub rising : IsRising before.entries → IsRising after.entries
 
--- a line that stands at the same channels, with as many shares
-pub record IsSameShare (before after : LineState) : Type 0 where
+-- Of each channel the line has seen so many events, no more than its word can count.
+pub record HasSeen (happened : ℕ → ℕ) (line : LineState) : Type 0 where
+  pub countable : (c : ℕ) → happened c ≤ greatest_number
+  pub seen : (c : ℕ) → happened c ≤ seen_on c line.seen
+
+-- No entry of a log is older than so many events of its channel.
+abbrev pub NoneOlder : (ℕ → ℕ) → List Entry → Type 0
+NoneOlder happened log = All (λ entry. happened entry.channel ≤ entry.number) log
+
+-- The same line, later: it stands at the same channels, with as many shares. It has forgotten nothing, and no entry that
+-- came is older than what it had seen.
+pub record IsSameLine (before after : LineState) : Type 0 where
   pub shares : after.shares ≡ before.shares
   pub whole : after.whole ≡ before.whole
   pub table : after.table ≡ before.table
+  pub seen : (happened : ℕ → ℕ) → HasSeen happened before → HasSeen happened after
+  pub none_older : (happened : ℕ → ℕ) → HasSeen happened before → NoneOlder happened before.log.entries → NoneOlder happened after.log.entries

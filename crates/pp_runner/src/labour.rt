@@ -7,7 +7,7 @@ ghost use Rattle.pp_channel.specs.declared.entry.Entry.{Entry};
 ghost use Rattle.pp_machine.specs.NeedAndEffect.{need};
 ghost use Rattle.pp_machine.specs.declared.answer.Answer.{Answer};
 ghost use Rattle.pp_runner.specs.Crew.{IsEnded};
-ghost use Rattle.pp_runner.specs.Labour.{IsAtWork, IsAnswered, IsSameShare};
+ghost use Rattle.pp_runner.specs.Labour.{IsAtWork, IsAnswered, IsSameLine};
 ghost use Rattle.pp_runner.specs.WorkerEnd.{IsEnd, NeedsWornChannel, WornWithCause, WasHeld};
 
 use crate::end::End;
@@ -19,7 +19,7 @@ use pp_channel::{Line, Memory, Worn};
 use pp_machine::{Answer, Need, Outcome, Pp, PpNo, PpState};
 use std::alloc::Allocator;
 use std::sync::Wait;
-use std::thread;
+use std::{hint, thread};
 
 /// A worker between two tries of a step.
 #[derive(Drop)]
@@ -57,7 +57,7 @@ fn ask<R: Wait, A: Allocator + Copy>(
     ensures answered { IfOk result (λ x. IsAnswered central.now needed x line.old.log line.new.log) }
     ensures worn { OnErr result (NeedsWornChannel (λ c. seen_on c line.new.seen) needed) }
     ensures unchanged_when_worn { OnErr result (line.new.log ≡ line.old.log) }
-    ensures same_share { IsSameShare line.old line.new }
+    ensures same_line { IsSameLine line.old line.new }
 {
     match needed {
         Need::Nothing | Need::Local => Ok(Answer::Local),
@@ -90,7 +90,7 @@ impl<A: Allocator + Copy> Labour<A> {
         requires place { vec_len self.old.answers < vec_capacity self.old.answers }
         requires work { IsAtWork load.now site.now.central site.now.limits.steps self.old.pp self.old.answers.items self.old.line.log }
         ensures work { IsAtWork load.now site.now.central site.now.limits.steps self.new.pp self.new.answers.items self.new.line.log }
-        ensures same_share { IsSameShare self.old.line self.new.line }
+        ensures same_line { IsSameLine self.old.line self.new.line }
         ensures moved { result ≡ Try.Moved → vec_len self.new.answers ≡ vec_len self.old.answers + 1 }
         ensures held { result ≡ Try.Held → (self.new.pp ≡ self.old.pp) × (self.new.answers ≡ self.old.answers) × WasHeld self.new.pp self.new.line.log.entries }
         ensures worn { result ≡ Try.Worn → (self.new.pp ≡ self.old.pp) × (self.new.answers ≡ self.old.answers) × NeedsWornChannel (λ c. seen_on c self.new.line.seen) (need self.new.pp) }
@@ -121,7 +121,7 @@ impl<A: Allocator + Copy> Labour<A> {
         requires steps_left { vec_len self.old.answers < site.now.limits.steps }
         requires work { IsAtWork load.now site.now.central site.now.limits.steps self.old.pp self.old.answers.items self.old.line.log }
         ensures work { IsAtWork load.now site.now.central site.now.limits.steps self.new.pp self.new.answers.items self.new.line.log }
-        ensures same_share { IsSameShare self.old.line self.new.line }
+        ensures same_line { IsSameLine self.old.line self.new.line }
         ensures moved { IfNone result (vec_len self.new.answers ≡ vec_len self.old.answers + 1) }
         ensures few { IfSome result (λ _. vec_len self.new.answers ≤ site.now.limits.steps) }
         ensures ended { IfSome result (λ finish. IsEnd site.now.limits.steps finish self.new.pp self.new.answers.items self.new.line.log.entries) }
@@ -135,6 +135,7 @@ impl<A: Allocator + Copy> Labour<A> {
             self.tries = self.tries.wrapping_add(1);
             match self.try_step(rt, site, load) {
                 Try::Moved => return None,
+                Try::Held if held % 128 < 127 => hint::spin_loop(),
                 Try::Held => thread::yield_now(),
                 Try::Worn => return Some(End::Worn),
             }

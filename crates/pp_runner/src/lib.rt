@@ -7,6 +7,7 @@ mod gate;
 mod labour;
 mod limits;
 mod locked_central;
+mod opening;
 mod report;
 mod run_fault;
 mod site;
@@ -21,6 +22,3 @@ pub use report::Report;
 pub use run_fault::RunFault;
 pub use threads::run_threads;
 pub use worker::Worker;
-
-#[cfg(test)]
-mod tests;

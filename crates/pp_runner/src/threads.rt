@@ -1,41 +1,49 @@
 //! A run of a machine's processors, each in a thread of its own.
 
-ghost use Rattle.std.specs.Prelude.{◌≡◌, [], All, vec_len, IfOk};
+ghost use Rattle.std.specs.Prelude.{◌≡◌, ◌+◌, [], All, length, vec_len, IfOk};
+ghost use Rattle.pp_channel.specs.LineState.{AreClosed, ForgetsNothing, joined};
+ghost use Rattle.pp_channel.specs.Merge.{IsOpeningLog};
+ghost use Rattle.pp_machine.specs.Headline.{opening_history};
 ghost use Rattle.pp_machine.specs.ProcessorNumber.{processor_count};
 ghost use Rattle.pp_runner.specs.Crew.{IsFresh};
+ghost use Rattle.pp_runner.specs.Labour.{HasSeen};
 ghost use Rattle.pp_runner.specs.Report.{IsReportOf};
 
 use crate::crew::{Crew, run_from};
 use crate::gate::Gate;
 use crate::limits::Limits;
 use crate::locked_central::LockedCentral;
+use crate::opening::opening_line;
 use crate::report::Report;
 use crate::run_fault::RunFault;
 use crate::site::Site;
-use pp_channel::{Line, Memory, open_lines};
+use pp_channel::{CHANNELS, Channel, Line, Memory};
 use pp_machine::{Machine, PROCESSORS, PpNo};
 use std::alloc::Allocator;
 use std::snapshot::Snapshot;
 use std::sync::Wait;
 use std::thread::Threads;
 
-/// A line for each processor, all at the same new channels, and of which family they are.
+/// The line that opened the channels of the machine, and a line for each processor that was split from
+/// it. The first belongs to no processor, and keeps a share.
 fn open_family<A: Allocator + Copy>(
     alloc: A,
+    machine: &Machine<A>,
     room: u32,
-) -> Result<(Snapshot<Line<A>>, Vec<Line<A>, A>), Memory>
+) -> Result<(Line<A>, Vec<Line<A>, A>), Memory>
     ensures each_processor { IfOk result (λ opened. vec_len opened.1 ≡ processor_count) }
-    ensures fresh { IfOk result (λ opened. All (IsFresh room opened.0.value) opened.1.items) }
-    ensures whole { IfOk result (λ opened. opened.0.value.whole ≡ processor_count) }
+    ensures fresh { IfOk result (λ opened. All (IsFresh room opened.0) opened.1.items) }
+    ensures opening { IfOk result (λ opened. IsOpeningLog (λ c. opening_history c machine.now) opened.0.log.entries) }
+    ensures seen { IfOk result (λ opened. HasSeen (λ c. length (opening_history c machine.now)) opened.0) }
+    ensures share { IfOk result (λ opened. opened.0.shares ≡ 1) }
+    ensures whole { IfOk result (λ opened. opened.0.whole ≡ processor_count + 1) }
 {
-    let mut first = open_lines(alloc, room, PROCESSORS as u32)?;
+    let mut first = opening_line(alloc, machine, PROCESSORS as u32 + 1)?;
     let mut lines = Vec::with_capacity(alloc, PROCESSORS)?;
-    for count in 1..PROCESSORS {
+    for count in 0..PROCESSORS {
         lines.push(first.split(room)?)?;
     }
-    let family = Snapshot::of(&first);
-    lines.push(first)?;
-    Ok((family, lines))
+    Ok((first, lines))
 }
 
 /// Runs the processors of a machine at once, each on a copy of its own in a thread of its own, on new
@@ -45,6 +53,7 @@ fn open_family<A: Allocator + Copy>(
 /// A worker goes on until its processor is at rest, until it has made the steps of the limit, or
 /// until it is held at one step as often in a row as its patience allows. `Memory` is answered where
 /// a growth outside the workers' steps was refused, or the system could not start a worker.
+#[tactic(auto, unfolding(pp_machine::specs::ProcessorNumber::names_processor))]
 pub fn run_threads<R: Threads + Wait + Sync, G: Gate + Sync, A: Allocator + Copy + Send + Sync>(
     rt: &R,
     alloc: A,
@@ -63,13 +72,32 @@ pub fn run_threads<R: Threads + Wait + Sync, G: Gate + Sync, A: Allocator + Copy
         limits,
     };
     // Two entries an answer at most, and a look at which the worker gives up.
-    let (family, lines) = open_family(alloc, 2 * limits.steps() + 1)?;
+    let (first, lines) = open_family(alloc, machine, 2 * limits.steps() + 1)?;
+    let family = Snapshot::of(&first);
     let Crew { workers, line } = run_from(rt, &site, gate, machine, PpNo::FIRST, family, lines)?;
-    match line.close() {
-        Ok(channels) => Ok(Report {
-            ends: workers,
-            channels,
-        }),
-        Err((_, refused)) => Err(RunFault::from(refused)),
+    let channels = close_with(line, first)?;
+    Ok(Report {
+        ends: workers,
+        channels,
+    })
+}
+
+/// The channels of all lines: of the workers' as one, and of the one that opened channels, whose events
+/// stand in no worker's log.
+fn close_with<A: Allocator + Copy>(
+    line: Line<A>,
+    opening: Line<A>,
+) -> Result<[Channel<A>; CHANNELS], Memory>
+    requires kin { opening.table ≡ line.table }
+    requires all { line.shares + opening.shares ≡ line.whole }
+    ensures closed { IfOk result (λ channels. AreClosed (joined line opening) channels) }
+    ensures nothing_forgotten { IfOk result (λ channels. ForgetsNothing line (joined line opening)) }
+{
+    match line.join(opening) {
+        Ok(whole) => match whole.close() {
+            Ok(channels) => Ok(channels),
+            Err((_, refused)) => Err(refused),
+        },
+        Err((_, _, refused)) => Err(refused),
     }
 }

@@ -4,7 +4,7 @@ use Rattle.std.specs.Prelude.{IfSome}
 use Rattle.std.specs.Io.KnownBytes.{Consumes, IsAtEnd}
 use Rattle.std.proofs.lemmas.Bool.{cases_lt}
 use Rattle.pp_sim.proofs.ByteLemmas.{read_front}
-use Rattle.pp_sim.specs.DeckMeaning.{LoadedDeck}
+use Rattle.pp_deck.specs.DeckMeaning.{LoadedDeck}
 use Rattle.pp_sim.specs.TextAnswer.{IsAnswer}
 use Rattle.pp_sim.specs.declared.text_fault.TextFault.{TextFault}
 

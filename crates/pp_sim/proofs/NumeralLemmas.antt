@@ -10,8 +10,8 @@ use Rattle.std.proofs.lemmas.List.Elements.{All-append}
 use Rattle.std.proofs.lemmas.List.Folds.{list_all-append}
 use Rattle.std.proofs.lemmas.List.Sums.{fold-append}
 use Rattle.std.proofs.lemmas.Nat.{div-add-mod'}
-use Rattle.pp_sim.specs.OctalNumber.{is_octal_digit, number}
-use Rattle.pp_sim.specs.Numeral.{IsDigit, IsNumeral, decimal, digit, digits, octal, unpadded, value_of}
+use Rattle.pp_deck.specs.OctalNumber.{is_octal_digit, number}
+use Rattle.pp_text.specs.Numeral.{IsDigit, IsNumeral, decimal, digit, digits, octal, unpadded, value_of}
 
 -- one digit more at the end
 value-end : (base : ℕ) (characters : List ℕ) (d : ℕ) → value_of base (characters ++ digit d) ≡ value_of base characters * base + d

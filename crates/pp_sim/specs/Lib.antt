@@ -1,16 +1,5 @@
-pub mod FlawCode
-pub mod DeckText
-pub mod OctalNumber
-pub mod DeckLine
-pub mod DeckLoad
-pub mod DeckMeaning
-pub mod DeckProgress
-pub mod DeckLaw
-pub mod Numeral
-pub mod PrintedText
 pub mod TextAnswer
 pub mod BarrelText
 pub mod ThreadsText
-pub mod Authors
 pub mod CommandLine
 pub mod Program

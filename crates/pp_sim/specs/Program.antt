@@ -6,7 +6,7 @@ use Rattle.clap.specs.declared.error.Error.{Error}
 use Rattle.clap.specs.declared.error.kind.ErrorKind.TheVariants.{DisplayHelp, DisplayVersion}
 use Rattle.pp_sim.specs.BarrelText.{IsBarrelText}
 use Rattle.pp_sim.specs.CommandLine.{AskFor, IsOutOfRange, IsRefused, refusals}
-use Rattle.pp_sim.specs.DeckMeaning.{LoadedDeck}
+use Rattle.pp_deck.specs.DeckMeaning.{LoadedDeck}
 use Rattle.pp_sim.specs.TextAnswer.{AnswersTo, IsAnswer, most_bytes}
 use Rattle.pp_sim.specs.ThreadsText.{IsThreadsText}
 use Rattle.pp_sim.specs.declared.line_fault.LineFault.{LineFault}

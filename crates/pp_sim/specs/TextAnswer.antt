@@ -1,9 +1,9 @@
 -- How the answer to a deck stands to the bytes that were read and written.
 use Rattle.std.specs.Prelude.{◌≡◌, ◌≢◌, ◌≤◌, ℕ, List, length, take, Option, Result, Ok, Err, OnOk}
 use Rattle.std.specs.Io.KnownBytes.{Appends, Consumes, IsAtEnd, Keeps}
-use Rattle.pp_sim.specs.DeckMeaning.{LoadedDeck, deck_meaning}
-use Rattle.pp_sim.specs.declared.deck_fault.DeckCode.TheVariants as code
-use Rattle.pp_sim.specs.declared.deck_fault.DeckFault.{DeckFault}
+use Rattle.pp_deck.specs.DeckMeaning.{LoadedDeck, deck_meaning}
+use Rattle.pp_deck.specs.declared.deck_fault.DeckCode.TheVariants as code
+use Rattle.pp_deck.specs.declared.deck_fault.DeckFault.{DeckFault}
 use Rattle.pp_sim.specs.declared.text_fault.TextFault.{TextFault}
 use Rattle.pp_sim.specs.declared.text_fault.TextFault.TheVariants as fault
 

@@ -1,7 +1,7 @@
 //! The command line that the program takes, by clap.
 
 ghost use Rattle.std.specs.Prelude.{◌≡◌, false, IfOk};
-ghost use Rattle.clap.specs.Words.{app_of, rule_of};
+ghost use Rattle.clap.specs.Words.{app_of, rule_of, with_rule};
 ghost use Rattle.clap.specs.declared.builder.command.Command.TheViews.{out-Command as fields_of};
 ghost use Rattle.pp_sim.specs.CommandLine.{barrel, number_option, ppsim, threads};
 
@@ -28,7 +28,10 @@ Runs a deck in the barrel: processors 0, 1, .. and 11 (octal) take one step a tu
 
 Reads the deck from standard input. Prints to standard output a line for each channel event, in
 order; the P, the A and the state of each processor that the deck names; and the state of each
-channel that has a history. A fault is one line on standard error.";
+channel that has a history. A fault is one line on standard error.
+
+Where the deck has a line DEAD, the processors without a section wait for their programs, each on
+the channel of its own number, as at a dead start.";
 
 const THREADS_ABOUT: &str = "Runs a deck with one thread per processor, and prints what happened";
 
@@ -41,7 +44,10 @@ channel held one step too often in a row (PATIENCE).
 
 Reads the deck from standard input. Prints to standard output, channel by channel, a line for each
 event in order; the P, the A and the end of each processor that the deck names; and the state of
-each channel that has a history. A fault is one line on standard error.";
+each channel that has a history. A fault is one line on standard error.
+
+Where the deck has a line DEAD, the processors without a section wait for their programs, each on
+the channel of its own number, as at a dead start.";
 
 const STEPS_HELP: &str = "How many steps each processor may do, 1 to 100000 (decimal)";
 
@@ -63,18 +69,30 @@ fn number_option<'a>(alloc: Global, id: &'a str, help: &'a str) -> Arg<'a>
         .help(help)
 }
 
+/// A command with one more required option, whose value is a number.
+fn with_number<'a>(
+    alloc: Global,
+    command: Command<'a>,
+    id: &'a str,
+    help: &'a str,
+) -> Result<Command<'a>, AllocError>
+    requires { (fields_of command).has_globals ≡ false }
+    ensures app { IfOk result (λ c. app_of c ≡ with_rule (app_of command.entry) (number_option id.entry.now)) }
+    ensures local { IfOk result (λ c. (fields_of c).has_globals ≡ false) }
+{
+    command.arg(number_option(alloc, id, help))
+}
+
 /// `barrel --turns N`
 fn barrel_command<'a>(alloc: Global) -> Result<Command<'a>, AllocError>
     ensures app { IfOk result (λ c. app_of c ≡ barrel) }
     ensures local { IfOk result (λ c. (fields_of c).has_globals ≡ false) }
 {
-    let turns = number_option(alloc, "turns", TURNS_HELP);
     let command = Command::new(alloc, "barrel")
         .about(BARREL_ABOUT)
         .long_about(BARREL_LONG_ABOUT)
-        .after_help(EXAMPLE)
-        .arg(turns)?;
-    Ok(command)
+        .after_help(EXAMPLE);
+    with_number(alloc, command, "turns", TURNS_HELP)
 }
 
 /// `threads --steps N --patience N`
@@ -82,14 +100,11 @@ fn threads_command<'a>(alloc: Global) -> Result<Command<'a>, AllocError>
     ensures app { IfOk result (λ c. app_of c ≡ threads) }
     ensures local { IfOk result (λ c. (fields_of c).has_globals ≡ false) }
 {
-    let steps = number_option(alloc, "steps", STEPS_HELP);
-    let patience = number_option(alloc, "patience", PATIENCE_HELP);
     let command = Command::new(alloc, "threads")
         .about(THREADS_ABOUT)
-        .long_about(THREADS_LONG_ABOUT)
-        .arg(steps)?;
-    let command = command.arg(patience)?;
-    Ok(command)
+        .long_about(THREADS_LONG_ABOUT);
+    let command = with_number(alloc, command, "steps", STEPS_HELP)?;
+    with_number(alloc, command, "patience", PATIENCE_HELP)
 }
 
 /// The whole command line.

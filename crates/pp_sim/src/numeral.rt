@@ -1,8 +1,8 @@
 //! The law of printed numbers.
 
 ghost use Rattle.std.specs.Prelude.{◌≡◌, ℕ, ◌^◌, ◌<◌, ◌≤◌, length, Ok};
-ghost use Rattle.pp_sim.specs.OctalNumber.{number};
-ghost use Rattle.pp_sim.specs.Numeral.{IsNumeral, decimal, octal};
+ghost use Rattle.pp_deck.specs.OctalNumber.{number};
+ghost use Rattle.pp_text.specs.Numeral.{IsNumeral, decimal, octal};
 
 /// A printed number spells what it stands for: each octal field of words, addresses and numbers in
 /// its width, and each count of 64 bits in decimal. A deck may give back an octal field as it was

@@ -5,11 +5,10 @@ ghost use Rattle.std.specs.Io.KnownBytes.{Keeps};
 ghost use Rattle.pp_sim.specs.BarrelText.{IsBarrelText};
 ghost use Rattle.pp_sim.specs.TextAnswer.{AnswersTo, IsAnswer, IsRunFault, IsTextOf, most_bytes};
 
-use crate::deck::read_deck;
-use crate::deck_fault::DeckCode;
-use crate::printed_text::printed_text;
+use crate::loaded_deck::loaded_deck;
 use crate::streams::{read_front, write_whole};
 use crate::text_fault::TextFault;
+use pp_text::printed_text;
 use std::alloc::Allocator;
 use std::io::{Read, Write};
 
@@ -53,11 +52,7 @@ fn run_text<A: Allocator + Copy>(alloc: A, deck: &[u8], turns: u32) -> Result<Ve
     ensures bounded { OnOk result (length deck.now < most_bytes) }
     ensures fault { IfErr result (IsRunFault deck.now) }
 {
-    let mut loaded = match read_deck(alloc, deck) {
-        Ok(loaded) => loaded,
-        Err(fault) if fault.code == DeckCode::Memory => return Err(TextFault::Memory),
-        Err(fault) => return Err(TextFault::Deck(fault)),
-    };
+    let mut loaded = loaded_deck(alloc, deck)?;
     if loaded.machine.run_barrel(turns).is_err() {
         return Err(TextFault::Memory);
     }

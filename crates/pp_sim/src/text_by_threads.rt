@@ -2,17 +2,15 @@
 
 ghost use Rattle.std.specs.Prelude.{◌≡◌, ◌≢◌, ◌<◌, ◌≤◌, ℕ, List, length, take, OnOk, IfOk, IfErr, IfSome};
 ghost use Rattle.std.specs.Io.KnownBytes.{Keeps};
-ghost use Rattle.pp_machine.specs.ProcessorNumber.{processor_count};
 ghost use Rattle.pp_runner.specs.Report.{ReportFitsInMemory};
 ghost use Rattle.pp_sim.specs.TextAnswer.{AnswersTo, IsAnswer, IsRunFault, IsTextOf, most_bytes};
-ghost use Rattle.pp_sim.specs.ThreadsText.{IsThreadsText, printed_report};
+ghost use Rattle.pp_sim.specs.ThreadsText.{IsThreadsText};
 
-use crate::deck::read_deck;
-use crate::deck_fault::DeckCode;
+use crate::loaded_deck::loaded_deck;
 use crate::streams::{read_front, write_whole};
 use crate::text_fault::TextFault;
-use crate::threads_printed::printed_report;
 use pp_runner::{Gate, Limits, NoGate, run_threads};
+use pp_text::printed_report;
 use std::alloc::Allocator;
 use std::io::{Read, Write};
 use std::sync::Wait;
@@ -74,11 +72,7 @@ fn run_text<T: Threads + Wait + Sync, G: Gate + Sync, A: Allocator + Copy + Send
     ensures bounded { OnOk result (length deck.now < most_bytes) }
     ensures fault { IfErr result (IsRunFault deck.now) }
 {
-    let loaded = match read_deck(alloc, deck) {
-        Ok(loaded) => loaded,
-        Err(fault) if fault.code == DeckCode::Memory => return Err(TextFault::Memory),
-        Err(fault) => return Err(TextFault::Deck(fault)),
-    };
+    let loaded = loaded_deck(alloc, deck)?;
     let Ok(report) = run_threads(rt, alloc, &loaded.machine, limits, gate) else {
         return Err(TextFault::Memory);
     };

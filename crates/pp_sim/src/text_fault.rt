@@ -1,6 +1,6 @@
 //! Why a text was not written.
 
-use crate::deck_fault::DeckFault;
+use pp_deck::DeckFault;
 use thiserror::Error;
 
 /// Why the text of a deck's run was not written. Every fault but `Write` comes before the first

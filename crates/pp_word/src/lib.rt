@@ -21,6 +21,3 @@ pub use word6::Word6;
 pub use word12::Word12;
 pub use word18::Word18;
 pub use word60::Word60;
-
-#[cfg(test)]
-mod tests;

@@ -6,8 +6,6 @@
 #![tactic(auto)]
 
 mod ration;
-#[cfg(test)]
-mod tests;
 
 use ration::Ration;
 use std::alloc::{AllocError, Allocator};

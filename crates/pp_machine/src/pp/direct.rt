@@ -44,6 +44,7 @@ impl Pp {
     /// Makes its next step where that is an instruction of the codes 00 to 57 (octal), and says
     /// whether it was.
     #[tactic(auto, unfolding(crate::specs::NeedAndEffect::need, crate::specs::NeedAndEffect::processor_after, crate::specs::NeedAndEffect::outcome))]
+    #[inline(always)]
     pub(crate) fn run_inner(&mut self, op: Opcode, d: Word6) -> bool
         requires { IsAtInstruction op d self.old }
         ensures local { OnTrue result (need self.old ≡ Need.Local) }
@@ -69,6 +70,7 @@ impl Pp {
 
     /// Makes its next step, a test of a channel with these flags.
     #[tactic(auto, unfolding(crate::specs::NeedAndEffect::need, crate::specs::NeedAndEffect::processor_after, crate::specs::NeedAndEffect::outcome))]
+    #[inline(always)]
     pub(crate) fn test_flags(&mut self, op: Opcode, d: Word6, flags: Flags)
         requires next { IsAtInstruction op d self.old }
         requires fits { IsTrue (fits (need self.old) (Answer.Channel (Reply.Flags flags))) }

@@ -55,6 +55,7 @@ impl Pp {
     }
 
     /// A relative jump where a test holds.
+    #[inline(always)]
     pub(super) fn jump_where(&mut self, test: bool, d: Word6)
         ensures { self.new ≡ jumps_where test self.old d }
     {

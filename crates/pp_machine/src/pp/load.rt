@@ -1,9 +1,12 @@
 //! Loading and starting a program.
 
 ghost use Rattle.std.specs.Prelude.{◌≡◌, None, slice_set};
+ghost use Rattle.pp_machine.specs.DeadStart.{waiting_on};
 
+use crate::block::{Block, BlockKind};
 use crate::pp::Pp;
 use crate::pp_state::PpState;
+use pp_channel::ChannelNo;
 use pp_word::{Word12, Word18};
 
 impl Pp {
@@ -22,5 +25,20 @@ impl Pp {
         self.a = a;
         self.state = PpState::Running;
         self.block = None;
+    }
+
+    /// Lets it wait for a program that comes on a channel: a block input of 10000 words to its memory
+    /// from place 0000 on (octal), with P = 0000, on the memory as it is. Once the channel is inactive
+    /// it goes on behind the place whose number stands in place 0000.
+    pub fn wait_load(&mut self, ch: ChannelNo)
+        ensures { self.new ≡ waiting_on ch self.old }
+    {
+        self.p = Word12::ZERO;
+        self.a = Word18::truncated(0o10_000);
+        self.state = PpState::Running;
+        self.block = Some(Block {
+            kind: BlockKind::Input { channel: ch },
+            place: Word12::ZERO,
+        });
     }
 }

@@ -1,6 +1,5 @@
-use Rattle.std.proofs.Common.{[], length-set, arith, sym, ◌∙◌}
+use Rattle.std.proofs.Common.{[], get_or, length-set, arith, sym, ap, ◌∙◌}
 use Rattle.std.proofs.lemmas.List.{ext_get_or}
-use Rattle.pp_channel.specs.Merge.{history_on}
 use Rattle.pp_channel.proofs.ToldLemmas.{placed_more}
 use Rattle.pp_channel.proofs.told_history.told_channels.Goals as goal
 
@@ -11,7 +10,7 @@ loop-place-preserved g c =
     let each = c.loop-place.invariant.each in
     rw c.put_channel.ensures (record {
       each = length-set channels place c.in_ok-channel.channel ∙ each;
-      done = λ histories told. placed_more [] channels place c.in_ok-channel.channel (λ k. history_on k histories) (omega arith) (c.loop-place.invariant.done histories told) ((c.in_ok-channel.ensures) histories told);
+      done = λ histories told. placed_more [] channels place c.in_ok-channel.channel (λ k. get_or histories k []) (omega arith) (c.loop-place.invariant.done histories told) ((c.in_ok-channel.ensures) histories told ∙ ap (λ i. get_or histories i []) c.at.ensures.place);
     })
 
 pub returns : goal.returns

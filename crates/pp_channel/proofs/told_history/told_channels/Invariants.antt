@@ -1,11 +1,11 @@
 use Rattle.std.proofs.Common.{◌≡◌, ℕ, ◌<◌, List, [], length, get_or}
 use Rattle.pp_channel.specs.declared.event.Event.{Event}
-use Rattle.pp_channel.specs.Merge.{history_on}
+use Rattle.pp_channel.specs.ChannelNumber.{channel_count}
 use Rattle.pp_channel.specs.ToldHistory.{IsToldBy}
 use Rattle.pp_channel.proofs.told_history.told_channels.Given as goal
 
 abbrev pub invariant-loop-place : goal.invariant-loop-place
 invariant-loop-place g l = record {
-  each : length l.channels ≡ 12;
-  done : (histories : List (List Event)) → IsToldBy l.log l.seen histories → (k : ℕ) → k < l.place → get_or l.channels k [] ≡ history_on k histories;
+  each : length l.channels ≡ channel_count;
+  done : (histories : List (List Event)) → IsToldBy l.log l.seen histories → (k : ℕ) → k < l.place → get_or l.channels k [] ≡ get_or histories k [];
 }

@@ -5,5 +5,5 @@ use Rattle.pp_machine.proofs.machine.new_channels.Given as goal
 abbrev pub invariant-loop : goal.invariant-loop
 invariant-loop g l = record {
   without_history : l.channels.items ≡ replicate l.counter [];
-  headline : (c : ℕ) → c < l.counter → HoldsOnChannel [] [] (get_or l.channels.items c []);
+  headline : (k : ℕ) → k < l.counter → HoldsOnChannel [] [] (get_or l.channels.items k []);
 }

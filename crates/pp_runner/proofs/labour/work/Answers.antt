@@ -1,8 +1,9 @@
-use Rattle.std.proofs.Common.{refl, subst, sym, arith}
+use Rattle.std.proofs.Common.{subst, sym, arith}
 use Rattle.pp_channel.specs.RisingLog.{seen_on}
-use Rattle.pp_runner.proofs.CrewLemmas.{same_share_twice, ended_since}
+use Rattle.pp_runner.proofs.CrewLemmas.{ended_since}
 use Rattle.pp_runner.proofs.EndLemmas.{end_at_last, worn_at_rest, worn_at_last}
 use Rattle.pp_runner.proofs.LabourLemmas.{work_begins}
+use Rattle.pp_runner.proofs.LineLemmas.{same_line_still, same_line_twice}
 use Rattle.pp_runner.specs.WorkerEnd.{IsEnd, WornWithCause}
 use Rattle.pp_runner.specs.declared.end.End.{End}
 use Rattle.pp_runner.proofs.labour.work.Goals as goal
@@ -10,7 +11,7 @@ use Rattle.pp_runner.proofs.labour.work.Goals as goal
 pub loop-done-init : goal.loop-done-init
 loop-done-init g c = record {
   work = work_begins c.args.load.now c.copy.result c.args.site.now.central c.args.site.now.limits.steps c.new.result.items c.args.line.log c.copy.ensures c.new.ensures.items c.requires;
-  same_share = record { shares = refl; whole = refl; table = refl };
+  same_line = same_line_still _;
   count = c.new.ensures.len;
 }
 
@@ -36,4 +37,52 @@ ended-requires-2-clause-worn g c =
 pub returns-in-Some-take_step : goal.returns-in-Some-take_step
 returns-in-Some-take_step g c =
     ended_since c.args.load.now c.args.site.now.central c.args.site.now.limits.steps c.args.line c.take_step.new.self.line c.ended-in-Some-take_step.result
-    (same_share_twice c.args.line c.loop-done.labour.line c.take_step.new.self.line c.loop-done.invariant.same_share c.take_step.ensures.same_share) c.ended-in-Some-take_step.ensures
+    (same_line_twice c.args.line c.loop-done.labour.line c.take_step.new.self.line c.loop-done.invariant.same_line c.take_step.ensures.same_line) c.ended-in-Some-take_step.ensures
+
+pub ended-requires-clause-work : goal.ended-requires-clause-work
+ended-requires-clause-work g c = c.loop-done.invariant.work
+
+pub ended-requires-clause-few : goal.ended-requires-clause-few
+ended-requires-clause-few g c = omega (arith, c.loop-done.invariant.count, c.loop-done-test.true, c.steps-done-end.ensures.value)
+
+pub returns-in-Some : goal.returns-in-Some
+returns-in-Some g c =
+    ended_since c.args.load.now c.args.site.now.central c.args.site.now.limits.steps c.args.line c.loop-done.labour.line c.ended.result c.loop-done.invariant.same_line c.ended.ensures
+
+pub take_step-requires-clause-running : goal.take_step-requires-clause-running
+take_step-requires-clause-running g c = c.in_default.ensures.running
+
+pub take_step-requires-clause-steps_left : goal.take_step-requires-clause-steps_left
+take_step-requires-clause-steps_left g c = omega (arith, c.loop-done.invariant.count, c.loop-done-test.true, c.steps-done-end.ensures.value)
+
+pub take_step-requires-clause-work : goal.take_step-requires-clause-work
+take_step-requires-clause-work g c = c.loop-done.invariant.work
+
+pub ended-requires-in-Some-take_step-clause-work : goal.ended-requires-in-Some-take_step-clause-work
+ended-requires-in-Some-take_step-clause-work g c = c.take_step.ensures.work
+
+pub ended-requires-in-Some-take_step-clause-few : goal.ended-requires-in-Some-take_step-clause-few
+ended-requires-in-Some-take_step-clause-few g c = c.in-Some-take_step.ensures.few
+
+pub ended-requires-in-Some-take_step-clause-finish : goal.ended-requires-in-Some-take_step-clause-finish
+ended-requires-in-Some-take_step-clause-finish g c = c.in-Some-take_step.ensures.ended
+
+pub ended-requires-in-Some-take_step-clause-worn : goal.ended-requires-in-Some-take_step-clause-worn
+ended-requires-in-Some-take_step-clause-worn g c = c.in-Some-take_step.ensures.worn
+
+pub loop-done-preserved : goal.loop-done-preserved
+loop-done-preserved g c = record {
+  work = c.take_step.ensures.work;
+  same_line = same_line_twice c.args.line c.loop-done.labour.line c.take_step.new.self.line c.loop-done.invariant.same_line c.take_step.ensures.same_line;
+  count = omega (arith, c.in_default-take_step.ensures.moved, c.loop-done.invariant.count);
+}
+
+pub ended-requires-2-clause-work : goal.ended-requires-2-clause-work
+ended-requires-2-clause-work g c = c.loop-done.invariant.work
+
+pub ended-requires-2-clause-few : goal.ended-requires-2-clause-few
+ended-requires-2-clause-few g c = omega (arith, c.loop-done.invariant.count, c.steps-done-end.ensures.value, c.loop-done.auto.done-end)
+
+pub returns : goal.returns
+returns g c =
+    ended_since c.args.load.now c.args.site.now.central c.args.site.now.limits.steps c.args.line c.loop-done.labour.line c.ended-2.result c.loop-done.invariant.same_line c.ended-2.ensures

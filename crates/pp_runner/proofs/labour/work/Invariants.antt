@@ -1,10 +1,10 @@
 use Rattle.std.proofs.Common.{◌≡◌, vec_len}
-use Rattle.pp_runner.specs.Labour.{IsAtWork, IsSameShare}
+use Rattle.pp_runner.specs.Labour.{IsAtWork, IsSameLine}
 use Rattle.pp_runner.proofs.labour.work.Given as goal
 
 abbrev pub invariant-loop-done : goal.invariant-loop-done
 invariant-loop-done g l = record {
   work : IsAtWork l.load l.site.central l.site.limits.steps l.labour.pp l.labour.answers.items l.labour.line.log;
-  same_share : IsSameShare l.fn.line l.labour.line;
+  same_line : IsSameLine l.fn.line l.labour.line;
   count : vec_len l.labour.answers ≡ l.done;
 }

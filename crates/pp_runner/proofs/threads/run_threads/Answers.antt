@@ -1,33 +1,50 @@
-use Rattle.std.proofs.Common.{rules, ◌∙◌, ℕ, ◌+◌, ◌*◌, List, length, subst, arith}
+use Rattle.std.proofs.Common.{rules, ◌≡◌, ◌∙◌, ℕ, ◌+◌, ◌*◌, List, ◌++◌, length, drop, sym, ap, subst, arith}
 use Rattle.std.specs.Prelude.{All}
 use Rattle.std.proofs.lemmas.List.Elements.{All-weaker}
-use Rattle.pp_channel.specs.LineState.{KnowsAll}
+use Rattle.pp_channel.specs.LineState.{LineState, KnowsAll, joined}
 use Rattle.pp_channel.specs.Merge.{Merges, no_opening, history_on}
 use Rattle.pp_channel.specs.RisingLog.{seen_on}
 use Rattle.pp_channel.specs.declared.entry.Entry.{Entry}
+use Rattle.pp_channel.proofs.OpeningLemmas.{merges_before}
+use Rattle.pp_machine.specs.Headline.{opening_history}
+use Rattle.pp_machine.proofs.ProcessorPlaces.{place_of_first}
 use Rattle.pp_runner.proofs.CrewLemmas.{workers_count}
 use Rattle.pp_runner.proofs.EndLemmas.{worn_later}
 use Rattle.pp_runner.specs.Crew.{IsFresh}
+use Rattle.pp_runner.specs.Labour.{HasSeen}
+use Rattle.pp_runner.specs.WorkerReport.{AreWorkers, logs_of}
 use Rattle.pp_runner.proofs.threads.run_threads.Goals as goal
 
-pub returns-in-Ok : goal.returns-in-Ok
-returns-in-Ok g c =
-    let n = workers_count c.args.machine.now.processors _ c.args.limits.steps c.in_ok-workers.field-0.workers.items c.in_ok-workers.ensures.workers in
-    let known : KnowsAll c.in_ok-workers.field-0.line c.in-Ok.channels =
-    c.in-Ok.ensures.ok.known.all_known (omega (arith, c.in_ok-workers.ensures.shares, c.in_ok-workers.ensures.kin.whole, c.in_ok-family.ensures.whole, c.in_ok-family.ensures.each_processor)) in record {
-      each_processor = n ∙ c.turns-turns.ensures.sound.processors;
+pub returns : goal.returns
+returns g c =
+    let ended = c.in_ok-workers.ensures in
+    let opened = c.in_ok-first.ensures in
+    let ws = c.in_ok-workers.field-0.workers.items in
+    let line = c.in_ok-workers.field-0.line in
+    let workers : AreWorkers c.args.machine.now.processors c.in_ok-new.field-0 c.args.limits.steps ws =
+    subst (λ (i : ℕ). AreWorkers (drop i c.args.machine.now.processors) c.in_ok-new.field-0 c.args.limits.steps ws) place_of_first ended.workers in
+    let channels = c.in_ok-channels.channels in
+    let closed = c.in_ok-channels.ensures.closed in
+    let whole : line.whole ≡ c.in_ok-first.first.whole = ended.kin.whole ∙ ap (λ l. l.whole) c.of-family.ensures in
+    let known : KnowsAll (joined line c.in_ok-first.first) channels = closed.known.all_known (omega (arith, ended.shares, whole, opened.whole, opened.share, opened.each_processor)) in record {
+      each_processor = workers_count c.args.machine.now.processors c.in_ok-new.field-0 c.args.limits.steps ws workers ∙ c.turns-turns.ensures.sound.processors;
       workers = search rules;
-      lawful = c.in-Ok.ensures.ok.known.sound.lawful;
-      law = c.in-Ok.ensures.ok.law;
-      twelve_bits = c.in-Ok.ensures.ok.known.sound.twelve_bits;
-      merged = subst (λ (log : List Entry). Merges no_opening c.in-Ok.channels log) c.in_ok-workers.ensures.log c.in-Ok.ensures.ok.merged;
-      worn = All-weaker _ _ (λ w. worn_later (λ k. seen_on k c.in_ok-workers.field-0.line.seen) (λ k. length (history_on k c.in-Ok.channels)) w.finish w.pp (λ k. let all = known.seen k in omega (arith, all))) c.in_ok-workers.field-0.workers.items c.in_ok-workers.ensures.worn;
+      lawful = closed.known.sound.lawful;
+      law = closed.law;
+      twelve_bits = closed.known.sound.twelve_bits;
+      merged = merges_before (λ k. opening_history k c.args.machine.now) channels (logs_of ws) c.in_ok-first.first.log.entries opened.opening
+          (subst (λ (log : List Entry). Merges no_opening channels (log ++ c.in_ok-first.first.log.entries)) ended.log closed.merged);
+      begun = ended.begun (λ k. length (opening_history k c.args.machine.now))
+          (subst (λ (family : LineState). HasSeen (λ k. length (opening_history k c.args.machine.now)) family) (sym c.of-family.ensures) opened.seen);
+      worn = All-weaker _ _ (λ w. worn_later (λ k. seen_on k line.seen) (λ k. length (history_on k channels)) w.finish w.pp
+          (λ k. let all = known.seen k in let less = c.in_ok-channels.ensures.nothing_forgotten k in omega (arith, all, less))) ws ended.worn;
     }
 
 pub run_from-requires-after_bounds : goal.run_from-requires-after_bounds
 run_from-requires-after_bounds g c κs within = record {
   each = c.turns-turns.ensures.sound.processors;
-  count = omega (arith, c.in_ok-family.ensures.each_processor, c.in_ok-family.lines.ok.0);
-  some = omega (arith, c.in_ok-family.ensures.each_processor, c.in_ok-family.lines.ok.0);
-  fresh = subst (λ (steps : ℕ). All (IsFresh (2 * steps + 1) c.in_ok-family.family.value) c.in_ok-family.lines.items) c.steps.ensures.value c.in_ok-family.ensures.fresh;
+  count = omega (arith, place_of_first, c.in_ok-first.ensures.each_processor, c.in_ok-first.lines.ok.0);
+  some = omega (arith, c.in_ok-first.ensures.each_processor, c.in_ok-first.lines.ok.0);
+  fresh = subst (λ (family : LineState). All (IsFresh (2 * c.args.limits.steps + 1) family) c.in_ok-first.lines.items) (sym c.of-family.ensures)
+      (subst (λ (steps : ℕ). All (IsFresh (2 * steps + 1) c.in_ok-first.first) c.in_ok-first.lines.items) c.steps.ensures.value c.in_ok-first.ensures.fresh);
 }

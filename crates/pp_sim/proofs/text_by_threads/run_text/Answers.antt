@@ -1,4 +1,3 @@
-use Rattle.pp_sim.proofs.FreshDeckLemmas.{fresh_deck}
 use Rattle.pp_sim.proofs.text_by_threads.run_text.Goals as goal
 
 pub run_threads-requires-send-A : goal.run_threads-requires-send-A
@@ -14,13 +13,13 @@ pub run_threads-requires-frees-A-Allocator : goal.run_threads-requires-frees-A-A
 run_threads-requires-frees-A-Allocator g c κs within = c.type_bounds.frees-A-Allocator
 
 pub run_threads-requires-after_bounds : goal.run_threads-requires-after_bounds
-run_threads-requires-after_bounds g c κs within = (c.requires, fresh_deck c.args.deck.now _ c.in-Ok.ensures.ok)
+run_threads-requires-after_bounds g c κs within = (c.requires, c.in_ok-loaded.ensures.fresh)
 
 pub returns-in-Ok-printed_report-clause-ok : goal.returns-in-Ok-printed_report-clause-ok
 returns-in-Ok-printed_report-clause-ok g c = record {
   deck = _;
-  meant = c.in-Ok.ensures.ok;
-  run = (_, c.in-Ok-run_threads.ensures, c.in-Ok-printed_report.ensures);
+  meant = c.in_ok-loaded.ensures.ok;
+  run = (_, c.in-Ok.ensures, c.in-Ok-printed_report.ensures);
 }
 
 pub run_threads-requires-sync-G : goal.run_threads-requires-sync-G

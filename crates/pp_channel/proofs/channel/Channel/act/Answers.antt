@@ -1,7 +1,15 @@
-use Rattle.std.proofs.Common.{sym}
-use Rattle.pp_channel.proofs.AnswerLemmas.{lawful_with_event}
+use Rattle.std.proofs.Common.{arith}
+use Rattle.std.proofs.lemmas.Grind.{common_steps}
 use Rattle.pp_channel.proofs.channel.Channel.act.Goals as goal
 
--- the history stays lawful with the event of the table
-pub record-requires-clause-lawful : goal.record-requires-clause-lawful
-record-requires-clause-lawful g c = lawful_with_event _ c.args.op c.in-Some.event c.in-Some.ensures.lawful (sym c.in-Some.ensures.event)
+pub returns-in_default-clause-reply : goal.returns-in_default-clause-reply
+returns-in_default-clause-reply g c = grind (arith, common_steps)
+
+pub returns-in_default-clause-history : goal.returns-in_default-clause-history
+returns-in_default-clause-history g c = grind (arith, common_steps)
+
+pub make-requires-clause-event : goal.make-requires-clause-event
+make-requires-clause-event g c = grind (arith, common_steps)
+
+pub make-requires-clause-twelve_bits : goal.make-requires-clause-twelve_bits
+make-requires-clause-twelve_bits g c = grind (arith, common_steps)

@@ -1,4 +1,4 @@
-use Rattle.std.proofs.Common.{ℕ, ◌≤◌, sym, ap, ◌∙◌, subst, arith}
+use Rattle.std.proofs.Common.{◌≡◌, ℕ, ◌≤◌, sym, ap, ◌∙◌, subst, arith}
 use Rattle.pp_channel.specs.declared.entry.Seen.TheVariants.{Did, Saw}
 use Rattle.pp_channel.specs.declared.numbered.Numbered.{Numbered}
 use Rattle.pp_channel.specs.declared.reply.Reply.TheVariants.{Flags, Held}
@@ -101,3 +101,69 @@ returns-after-try_event-clause-rising g c rising =
           subst (λ (line : LineState). IsRising line.log.entries) (sym lost.after_is)
           (rising_looked c.args.self.now.seen c.args.self.now.log (record { channel = c.args.channel; number = number_in w.in-Err.found; what = Saw (flags_in w.in-Err.found) }) c.load-word.ensures.within (omega arith) rising)
     ]
+
+pub returns-in-Worn-clause-ok : goal.returns-in-Worn-clause-ok
+returns-in-Worn-clause-ok g c = tt
+
+pub returns-in-Worn-clause-rising : goal.returns-in-Worn-clause-rising
+returns-in-Worn-clause-rising g c rising = subst (λ (line : LineState). IsRising line.log.entries) (sym c.load-word.ensures.after) rising
+
+pub returns-in-Worn-clause-shares : goal.returns-in-Worn-clause-shares
+returns-in-Worn-clause-shares g c = ap (λ l. l.shares) c.load-word.ensures.after
+
+pub returns-in-Worn-clause-whole : goal.returns-in-Worn-clause-whole
+returns-in-Worn-clause-whole g c = ap (λ l. l.whole) c.load-word.ensures.after
+
+pub returns-in-Worn-clause-table : goal.returns-in-Worn-clause-table
+returns-in-Worn-clause-table g c = ap (λ l. l.table) c.load-word.ensures.after
+
+pub returns-in-Look-clause-shares : goal.returns-in-Look-clause-shares
+returns-in-Look-clause-shares g c = ap (λ l. l.shares) c.look.ensures.after ∙ ap (λ l. l.shares) c.load-word.ensures.after
+
+pub returns-in-Look-clause-whole : goal.returns-in-Look-clause-whole
+returns-in-Look-clause-whole g c = ap (λ l. l.whole) c.look.ensures.after ∙ ap (λ l. l.whole) c.load-word.ensures.after
+
+pub returns-in-Look-clause-table : goal.returns-in-Look-clause-table
+returns-in-Look-clause-table g c = ap (λ l. l.table) c.look.ensures.after ∙ ap (λ l. l.table) c.load-word.ensures.after
+
+pub returns-in-Look-clause-within : goal.returns-in-Look-clause-within
+returns-in-Look-clause-within g c = c.look.ensures.within
+
+pub returns-in-Held-clause-shares : goal.returns-in-Held-clause-shares
+returns-in-Held-clause-shares g c = ap (λ l. l.shares) c.look-in-Held.ensures.after ∙ ap (λ l. l.shares) c.load-word.ensures.after
+
+pub returns-in-Held-clause-whole : goal.returns-in-Held-clause-whole
+returns-in-Held-clause-whole g c = ap (λ l. l.whole) c.look-in-Held.ensures.after ∙ ap (λ l. l.whole) c.load-word.ensures.after
+
+pub returns-in-Held-clause-table : goal.returns-in-Held-clause-table
+returns-in-Held-clause-table g c = ap (λ l. l.table) c.look-in-Held.ensures.after ∙ ap (λ l. l.table) c.load-word.ensures.after
+
+pub returns-in-Held-clause-within : goal.returns-in-Held-clause-within
+returns-in-Held-clause-within g c = c.look-in-Held.ensures.within
+
+pub returns-after-try_event-clause-shares : goal.returns-after-try_event-clause-shares
+returns-after-try_event-clause-shares g c =
+    let kept : c.try_event.new.self.shares ≡ c.load-word.new.self.shares = elim c.match-try_event.branch [
+      | in-Ok w ↦ ap (λ l. l.shares) ((w.in-Ok.ensures).made).after_is
+      | in-Err w ↦ ap (λ l. l.shares) ((w.in-Err.ensures).lost).after_is
+    ] in
+    kept ∙ ap (λ l. l.shares) c.load-word.ensures.after
+
+pub returns-after-try_event-clause-whole : goal.returns-after-try_event-clause-whole
+returns-after-try_event-clause-whole g c =
+    let kept : c.try_event.new.self.whole ≡ c.load-word.new.self.whole = elim c.match-try_event.branch [
+      | in-Ok w ↦ ap (λ l. l.whole) ((w.in-Ok.ensures).made).after_is
+      | in-Err w ↦ ap (λ l. l.whole) ((w.in-Err.ensures).lost).after_is
+    ] in
+    kept ∙ ap (λ l. l.whole) c.load-word.ensures.after
+
+pub returns-after-try_event-clause-table : goal.returns-after-try_event-clause-table
+returns-after-try_event-clause-table g c =
+    let kept : c.try_event.new.self.table ≡ c.load-word.new.self.table = elim c.match-try_event.branch [
+      | in-Ok w ↦ ap (λ l. l.table) ((w.in-Ok.ensures).made).after_is
+      | in-Err w ↦ ap (λ l. l.table) ((w.in-Err.ensures).lost).after_is
+    ] in
+    kept ∙ ap (λ l. l.table) c.load-word.ensures.after
+
+pub returns-after-try_event-clause-within : goal.returns-after-try_event-clause-within
+returns-after-try_event-clause-within g c = c.try_event.ensures.within

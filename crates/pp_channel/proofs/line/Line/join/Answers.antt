@@ -1,5 +1,6 @@
 use Rattle.std.proofs.Common.{ℕ, List, refl, sym, ap, ◌∙◌, arith}
 use Rattle.pp_channel.specs.declared.rule.LineView.{LineView}
+use Rattle.pp_channel.specs.ChannelNumber.{channel_index}
 use Rattle.pp_channel.specs.LineState.{LineState}
 use Rattle.pp_channel.specs.RisingLog.{seen_on}
 use Rattle.pp_channel.proofs.LineKeeping.{kept_at, kept_joined}
@@ -14,6 +15,6 @@ invariant_of-self-2 g c =
 pub returns-clause-nothing_forgotten : goal.returns-clause-nothing_forgotten
 returns-clause-nothing_forgotten g c =
     let each = c.self.invariant.each_channel ∙ sym c.other.invariant.each_channel in (
-      λ k. omega (arith, greater_left c.self.inside.seen c.other.inside.seen k each, ap (λ (seen : List ℕ). seen_on k seen) c.greater_of_each-self-inside.ensures, ap (λ (line : LineState). seen_on k line.seen) c.self.view_is),
-      λ k. omega (arith, greater_right c.self.inside.seen c.other.inside.seen k each, ap (λ (seen : List ℕ). seen_on k seen) c.greater_of_each-self-inside.ensures, ap (λ (line : LineState). seen_on k line.seen) c.other.view_is),
+      λ k. omega (arith, greater_left c.self.inside.seen c.other.inside.seen (channel_index k) each, ap (λ (seen : List ℕ). seen_on k seen) c.greater_of_each-self-inside.ensures, ap (λ (line : LineState). seen_on k line.seen) c.self.view_is),
+      λ k. omega (arith, greater_right c.self.inside.seen c.other.inside.seen (channel_index k) each, ap (λ (seen : List ℕ). seen_on k seen) c.greater_of_each-self-inside.ensures, ap (λ (line : LineState). seen_on k line.seen) c.other.view_is),
     )

@@ -1,10 +1,18 @@
-use Rattle.std.proofs.Common.{◌≡◌, ◌++◌, ◌∷◌, [], arith, get_or, slice_set, ap, sym, ◌∙◌, rules}
+use Rattle.std.proofs.Common.{◌≡◌, List, Option, map, ◌++◌, ◌∷◌, [], arith, get_or, slice_set, ap, sym, ◌∙◌, rules}
 use Rattle.std.specs.Prelude.{Some, length, IsTrue, ◌<◌}
 use Rattle.std.specs.Option.{option_to_list}
 use Rattle.std.proofs.lemmas.Grind.{common_steps}
-use Rattle.pp_channel.specs.Answer.{event_of}
+use Rattle.pp_channel.specs.Answer.{event_of, reply_to}
+use Rattle.pp_channel.specs.declared.event.Event.{Event}
 use Rattle.pp_channel.specs.ChannelNumber.{channel_index, names_channel}
 use Rattle.pp_machine.specs.declared.trace.Trace.{Trace}
+use Rattle.pp_machine.specs.Headline.{opening_history}
+use Rattle.pp_machine.specs.MachineState.{MachineState, history_of}
+use Rattle.pp_machine.specs.MachineStep.{histories_after, served}
+use Rattle.pp_machine.specs.declared.answer.Answer.TheVariants as answers
+use Rattle.pp_machine.specs.declared.need.Need.{Need}
+use Rattle.pp_machine.specs.declared.need.Need.TheVariants.{Channel}
+use Rattle.pp_machine.proofs.TakenLemmas.{own_history, some_is_made}
 use Rattle.pp_machine.proofs.HeadlineLemmas.{headline_after_event}
 use Rattle.pp_machine.proofs.machine.Machine.exchange.Goals as goal
 
@@ -15,13 +23,53 @@ invariant_of-self-in-Ok g c =
     let history = get_or inside.channels.items i [] in
     let made : event_of c.args.op history ≡ Some c.in-Some.event = grind (arith, common_steps) in
     let entry : Trace = record { turn = inside.turns; pp = c.args.n; channel = c.args.channel; event = c.in-Some.event } in
-    let grown : c.act_on-in-Some.new.channels.items ≡ slice_set inside.channels.items i (history ++ c.in-Some.event ∷ []) = c.in-Ok.ensures.ok ∙ ap (λ o. slice_set inside.channels.items i (history ++ option_to_list o)) made in
+    let grown : c.make_on.new.channels.items ≡ slice_set inside.channels.items i (history ++ c.in-Some.event ∷ []) = c.in-Ok.ensures.ok ∙ ap (λ o. slice_set inside.channels.items i (history ++ option_to_list o)) made in
     let traced = c.in_ok-push-in-Some.ensures.items in
     let within : i < length inside.channels.items = omega arith in
     let named : IsTrue (names_channel c.args.channel) = search rules in
     record {
       processors = c.self.invariant.processors;
+      opened = c.self.invariant.opened;
       channels = grind (arith, common_steps, c.self.invariant.channels);
       central = c.self.invariant.central;
-      headline = rw traced (headline_after_event (λ d. []) inside.channels.items c.act_on-in-Some.new.channels.items inside.trace.items entry grown within named (λ d names same. c.index-i.ensures.own d names (same ∙ sym c.index-i.ensures.place)) c.self.invariant.headline c.act_on-in-Some.ensures.lawful c.act_on-in-Some.ensures.law);
+      headline = rw traced (headline_after_event (λ d. opening_history d (record c.args.self.now { opened = inside.opened })) inside.channels.items c.make_on.new.channels.items inside.trace.items entry grown within named (λ d names same. c.index-i.ensures.own d names (same ∙ sym c.index-i.ensures.place)) c.self.invariant.headline c.make_on.ensures.lawful c.make_on.ensures.law);
     }
+
+pub make_on-requires-clause-channels : goal.make_on-requires-clause-channels
+make_on-requires-clause-channels g c = omega (arith, c.self.inside.channels.ok.0, c.self.invariant.channels)
+
+pub make_on-requires-clause-event : goal.make_on-requires-clause-event
+make_on-requires-clause-event g c =
+    let made : event_of c.args.op (history_of c.args.channel c.args.self.now) ≡ Some c.in-Some.event = ap (event_of c.args.op) (sym (own_history c.args.channel c.self.view_is c.index-i.ensures.place (omega (arith, c.index-i.ensures.below, c.self.invariant.channels)) c.index.ensures)) ∙ (sym c.next_event-made.ensures.event ∙ c.in-Some.is) in
+    ap (λ (m : MachineState). event_of c.args.op (history_of c.args.channel m)) c.self.view_is ∙ made
+
+pub make_on-requires-clause-twelve_bits : goal.make_on-requires-clause-twelve_bits
+make_on-requires-clause-twelve_bits g c = rw c.in-Some.is at c.next_event-made.ensures.twelve_bits
+
+pub returns-in_err-push-in-Some-clause-no_event : goal.returns-in_err-push-in-Some-clause-no_event
+returns-in_err-push-in-Some-clause-no_event g c = λ none.
+    let made : event_of c.args.op (history_of c.args.channel c.args.self.now) ≡ Some c.in-Some.event = ap (event_of c.args.op) (sym (own_history c.args.channel c.self.view_is c.index-i.ensures.place (omega (arith, c.index-i.ensures.below, c.self.invariant.channels)) c.index.ensures)) ∙ (sym c.next_event-made.ensures.event ∙ c.in-Some.is) in
+    absurd (some_is_made (event_of c.args.op (history_of c.args.channel c.args.self.now)) c.in-Some.event made none)
+
+pub returns-in-Err-clause-no_event : goal.returns-in-Err-clause-no_event
+returns-in-Err-clause-no_event g c = λ none.
+    let made : event_of c.args.op (history_of c.args.channel c.args.self.now) ≡ Some c.in-Some.event = ap (event_of c.args.op) (sym (own_history c.args.channel c.self.view_is c.index-i.ensures.place (omega (arith, c.index-i.ensures.below, c.self.invariant.channels)) c.index.ensures)) ∙ (sym c.next_event-made.ensures.event ∙ c.in-Some.is) in
+    absurd (some_is_made (event_of c.args.op (history_of c.args.channel c.args.self.now)) c.in-Some.event made none)
+
+pub returns-in-Ok-clause-reply : goal.returns-in-Ok-clause-reply
+returns-in-Ok-clause-reply g c =
+    ap answers.Channel (c.in-Ok.ensures.reply ∙ ap (λ (m : MachineState). reply_to c.args.op (history_of c.args.channel m)) c.self.view_is)
+
+pub returns-in-Ok-clause-ok : goal.returns-in-Ok-clause-ok
+returns-in-Ok-clause-ok g c =
+    let made : event_of c.args.op (history_of c.args.channel c.args.self.now) ≡ Some c.in-Some.event = ap (event_of c.args.op) (sym (own_history c.args.channel c.self.view_is c.index-i.ensures.place (omega (arith, c.index-i.ensures.below, c.self.invariant.channels)) c.index.ensures)) ∙ (sym c.next_event-made.ensures.event ∙ c.in-Some.is) in
+    let inside = c.self.inside in
+    let n = c.args.n in
+    let x : Need = Channel c.args.channel c.args.op in
+    let entry : Trace = record { turn = inside.turns; pp = n; channel = c.args.channel; event = c.in-Some.event } in
+    let before : MachineState = record { processors = inside.processors.items; histories = inside.channels.items; central = inside.central; turns = inside.turns; trace = inside.trace.items; opened = inside.opened } in
+    let one : event_of c.args.op (history_of c.args.channel before) ≡ Some c.in-Some.event = ap (λ (m : MachineState). event_of c.args.op (history_of c.args.channel m)) c.self.view_is ∙ made in
+    ap (λ (hs : List (List Event)). record before { histories = hs; trace = c.push.new.self.items }) c.in-Ok.ensures.ok
+    ∙ ap (λ (t : List Trace). record before { histories = histories_after x before; trace = t }) c.in_ok-push-in-Some.ensures.items
+    ∙ ap (λ (e : Option Event). record before { histories = histories_after x before; trace = before.trace ++ map (λ v. record { turn = before.turns; pp = n; channel = c.args.channel; event = v }) (option_to_list e) }) (sym one)
+    ∙ ap (served n x) c.self.view_is

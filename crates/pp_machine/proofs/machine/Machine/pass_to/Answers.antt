@@ -1,4 +1,4 @@
-use Rattle.std.proofs.Common.{arith, ◌≡◌, ◌+◌, ◌-◌, ap, sym, ◌∙◌, ◌^◌}
+use Rattle.std.proofs.Common.{◌≡◌, ◌+◌, ◌-◌, ap, ◌∙◌, ◌^◌}
 use Rattle.std.specs.Prelude.{min}
 use Rattle.pp_machine.specs.MachineState.{MachineState}
 use Rattle.pp_machine.proofs.RoundLemmas.{passed_to}

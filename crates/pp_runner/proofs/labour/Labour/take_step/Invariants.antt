@@ -1,13 +1,12 @@
-use Rattle.std.proofs.Common.{◌≡◌, ◌<◌, length, vec_len, vec_capacity}
-use Rattle.pp_machine.specs.declared.pp_state.PpState.TheVariants.{Running}
-use Rattle.pp_runner.specs.Labour.{IsAtWork, IsSameShare}
+use Rattle.std.proofs.Common.{◌≡◌, ◌<◌, vec_len, vec_capacity}
+use Rattle.pp_runner.specs.Labour.{IsAtWork, IsSameLine}
 use Rattle.pp_runner.specs.WorkerEnd.{WasHeld}
 use Rattle.pp_runner.proofs.labour.Labour.take_step.Given as goal
 
 abbrev pub invariant-loop-held : goal.invariant-loop-held
 invariant-loop-held g l = record {
   work : IsAtWork l.load l.site.central l.site.limits.steps l.self.pp l.self.answers.items l.self.line.log;
-  same_share : IsSameShare l.fn.self.line l.self.line;
+  same_line : IsSameLine l.fn.self.line l.self.line;
   same_pp : l.self.pp ≡ l.fn.self.pp;
   same_answers : l.self.answers.items ≡ l.fn.self.answers.items;
   place : vec_len l.self.answers < vec_capacity l.self.answers;

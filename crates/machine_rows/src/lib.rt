@@ -1,0 +1,17 @@
+//! Tests of words, channels, processors and the machine by calls, with values that were worked by hand.
+#![tactic(auto)]
+
+#[cfg(test)]
+mod channel_words;
+#[cfg(test)]
+mod dead_start;
+#[cfg(test)]
+mod lines;
+#[cfg(test)]
+mod machine;
+#[cfg(test)]
+mod one_channel;
+#[cfg(test)]
+mod processor;
+#[cfg(test)]
+mod words;

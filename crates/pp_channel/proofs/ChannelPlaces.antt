@@ -1,0 +1,42 @@
+-- Numbers of channels and their places: all that proofs know of them.
+use Rattle.std.proofs.Common.{◌≡◌, ℕ, ◌<◌, ◌≤◌, arith}
+use mathlib.Core.Logic.{dite}
+use native.Mathlib.Decide.{dec_lt}
+use Rattle.std.specs.Prelude.{IsTrue}
+use Rattle.pp_channel.specs.ChannelNumber.{channel_count, names_channel, channel_index, channel_number}
+
+-- a channel's place is one of the list
+pub place_below : (c : ℕ) → IsTrue (names_channel c) → channel_index c < channel_count
+unfolding names_channel channel_index
+place_below c names = grind (arith)
+
+-- a number whose place is one of the list names a channel
+pub named_below : (c : ℕ) → channel_index c < channel_count → IsTrue (names_channel c)
+unfolding names_channel channel_index
+named_below c below = grind (arith)
+
+-- two channels at one place are the same
+same_place : (c d : ℕ) → IsTrue (names_channel c) → IsTrue (names_channel d) → channel_index c ≡ channel_index d → c ≡ d
+unfolding names_channel channel_index
+same_place c d names other same = grind (arith)
+
+-- only the channel itself has its place
+pub one_place : (c d : ℕ) → IsTrue (names_channel c) → channel_index d ≡ channel_index c → d ≡ c
+one_place c d names same =
+    let below = place_below c names in
+    same_place d c (named_below d (omega arith)) names same
+
+-- a number that names no channel has a place past the list
+pub place_past : (c : ℕ) → (IsTrue (names_channel c) → ⊥) → channel_count ≤ channel_index c
+place_past c none = dite (dec_lt (channel_index c) channel_count) (λ below. absurd (none (named_below c below))) (λ no. omega arith)
+
+-- the number of a place names the channel there
+pub place_of_number : (place : ℕ) → place < channel_count → channel_index (channel_number place) ≡ place
+unfolding channel_index channel_number
+place_of_number place below = grind (arith)
+
+pub number_named : (place : ℕ) → place < channel_count → IsTrue (names_channel (channel_number place))
+number_named place below = let at = place_of_number place below in named_below (channel_number place) (omega arith)
+
+pub number_of_place : (c : ℕ) → IsTrue (names_channel c) → channel_number (channel_index c) ≡ c
+number_of_place c names = one_place c (channel_number (channel_index c)) names (place_of_number (channel_index c) (place_below c names))

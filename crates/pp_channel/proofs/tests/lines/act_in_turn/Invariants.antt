@@ -1,9 +1,0 @@
-use Rattle.std.proofs.Common.{◌≡◌}
-use Rattle.pp_channel.proofs.tests.lines.act_in_turn.Given as goal
-
-abbrev pub invariant-loop-turn : goal.invariant-loop-turn
-invariant-loop-turn g l = record {
-  shares : l.line.shares ≡ l.initial.line.shares;
-  whole : l.line.whole ≡ l.initial.line.whole;
-  table : l.line.table ≡ l.initial.line.table;
-}

@@ -1,0 +1,146 @@
+-- The fields of a text, taken off one by one.
+use Rattle.std.proofs.Common.{◌≡◌, ℕ, suc, ◌+◌, ◌<◌, ◌≤◌, Bool, true, false, not, cond, List, [], ◌∷◌, length, take, drop, get_or, Option, Some, None, refl, sym, ap, ◌∙◌, arith, add-zero}
+use Rattle.std.specs.Prelude.{position, unwrap_or, nat_lt, filter, slice_index, ◌==◌}
+use Rattle.std.specs.List.{position_or_len, slice_split, onto_first, take_while}
+use Rattle.std.proofs.lemmas.List.{drop_all, length-drop, get_or-drop}
+use Rattle.std.proofs.lemmas.List.Sums.{prefix_len-le-length, take_while-cons}
+use Rattle.std.proofs.lemmas.List.Splits.{slice_split-cons_yes, slice_split-cons_no}
+use Rattle.std.proofs.lemmas.List.Quantifiers.{position-Some}
+use Rattle.std.proofs.lemmas.Bool.{ltb-false, cond-true, cond-false, eq-eqb, ne_eqb, not-true}
+use Rattle.pp_deck.specs.DeckText.{is_blank, is_comment, is_nonempty, fields_in}
+
+-- ---- the first element that passes
+
+or_length : (p : ℕ → Bool) (xs : List ℕ) (b : Bool) → nat_lt (position_or_len p xs) (length xs) ≡ b → unwrap_or (cond b (Some (position_or_len p xs)) None) (length xs) ≡ position_or_len p xs
+or_length p xs true e = refl
+or_length p xs false e =
+    let past : length xs ≤ position_or_len p xs = ltb-false (position_or_len p xs) (length xs) e in
+    omega (arith, past, prefix_len-le-length (λ x. not (p x)) xs)
+
+-- where it stands, or the length
+pub unwrap_or_position : (p : ℕ → Bool) (xs : List ℕ) → unwrap_or (position p xs) (length xs) ≡ position_or_len p xs
+unwrap_or_position p xs = or_length p xs (nat_lt (position_or_len p xs) (length xs)) refl
+
+pub at_position : (p : ℕ → Bool) (xs : List ℕ) (b : Bool) (i : ℕ) → cond b (Some (position_or_len p xs)) None ≡ Some i → i ≡ position_or_len p xs
+at_position p xs true i e = cc
+at_position p xs false i e = absurd (cc)
+
+pub no_position : (p : ℕ → Bool) (xs : List ℕ) (b : Bool) → nat_lt (position_or_len p xs) (length xs) ≡ b → cond b (Some (position_or_len p xs)) None ≡ None → length xs ≤ position_or_len p xs
+no_position p xs true e n = absurd (cc)
+no_position p xs false e n = ltb-false (position_or_len p xs) (length xs) e
+
+-- ---- blanks
+
+one_more : (n : ℕ) → 1 + n ≡ suc n
+one_more n = omega arith
+
+blank_first : (x : ℕ) (xs : List ℕ) → is_blank x ≡ true → fields_in (x ∷ xs) ≡ fields_in xs
+unfolding fields_in
+blank_first x xs e =
+    ap (λ (pieces : List (List ℕ)). take_while (λ field. not (is_comment field)) (filter is_nonempty pieces)) (slice_split-cons_yes is_blank x xs e)
+
+behind_blank : (x n : ℕ) (xs : List ℕ) (b : Bool) → is_blank x ≡ b → fields_in (drop n xs) ≡ fields_in xs → fields_in (drop (cond (not (not b)) (1 + n) 0) (x ∷ xs)) ≡ fields_in (x ∷ xs)
+behind_blank x n xs true e h = ap (λ (i : ℕ). fields_in (drop i (x ∷ xs))) (one_more n) ∙ h ∙ sym (blank_first x xs e)
+behind_blank x n xs false e h = refl
+
+-- blanks before a field say nothing
+behind_blanks : (xs : List ℕ) → fields_in (drop (position_or_len (λ byte. not (is_blank byte)) xs) xs) ≡ fields_in xs
+behind_blanks [] = refl
+behind_blanks (x ∷ xs) = behind_blank x (position_or_len (λ byte. not (is_blank byte)) xs) xs (is_blank x) refl (behind_blanks xs)
+
+no_fields : fields_in [] ≡ []
+unfolding fields_in
+no_fields = refl
+
+-- all blank: there is no field
+pub fields_of_blanks : (r : Option ℕ) (xs : List ℕ) → r ≡ position (λ byte. not (is_blank byte)) xs → r ≡ None → fields_in xs ≡ []
+fields_of_blanks r xs e n =
+    let past = no_position (λ byte. not (is_blank byte)) xs _ refl (sym e ∙ n) in
+    sym (behind_blanks xs) ∙ ap fields_in (drop_all _ xs past) ∙ no_fields
+
+-- the fields from the first that is not blank on
+pub fields_from : (i : ℕ) (xs : List ℕ) → Some i ≡ position (λ byte. not (is_blank byte)) xs → fields_in xs ≡ fields_in (drop i xs)
+fields_from i xs e =
+    sym (behind_blanks xs) ∙ ap (λ (k : ℕ). fields_in (drop k xs)) (sym (at_position (λ byte. not (is_blank byte)) xs _ i (sym e)))
+
+-- ---- a field
+
+-- the first piece of a text ends at the first blank, and what follows has the fields behind it
+record TakesPiece (text : List ℕ) (n : ℕ) (more : List (List ℕ)) : Type 0 where
+  pieces : slice_split is_blank text ≡ take n text ∷ more
+  behind : filter is_nonempty (slice_split is_blank (drop n text)) ≡ filter is_nonempty more
+
+piece_more : (x n : ℕ) (xs : List ℕ) (b : Bool) → is_blank x ≡ b → (more : List (List ℕ)) → TakesPiece xs n more → (rest : List (List ℕ)) × TakesPiece (x ∷ xs) (cond (not b) (1 + n) 0) rest
+piece_more x n xs true e more h = (
+  slice_split is_blank xs,
+  record {
+    pieces = slice_split-cons_yes is_blank x xs e;
+    behind = ap (filter is_nonempty) (slice_split-cons_yes is_blank x xs e);
+  },
+)
+piece_more x n xs false e more h = (
+  more,
+  record {
+    pieces = slice_split-cons_no is_blank x xs e ∙ ap (onto_first x) h.pieces ∙ ap (λ (i : ℕ). take i (x ∷ xs) ∷ more) (sym (one_more n));
+    behind = ap (λ (i : ℕ). filter is_nonempty (slice_split is_blank (drop i (x ∷ xs)))) (one_more n) ∙ h.behind;
+  },
+)
+
+first_piece : (xs : List ℕ) → (more : List (List ℕ)) × TakesPiece xs (position_or_len is_blank xs) more
+first_piece [] = ([], record { pieces = refl; behind = refl })
+first_piece (x ∷ xs) = let h = first_piece xs in piece_more x (position_or_len is_blank xs) xs (is_blank x) refl h.0 h.1
+
+unless_comment : (b : Bool) (field : List ℕ) (fields : List (List ℕ)) → cond (not b) (field ∷ fields) [] ≡ cond b [] (field ∷ fields)
+unless_comment true field fields = refl
+unless_comment false field fields = refl
+
+-- a piece that is not empty is a field or begins a comment
+piece_named : (x : ℕ) (xs : List ℕ) (text rest : List ℕ) (more : List (List ℕ)) → slice_split is_blank text ≡ (x ∷ xs) ∷ more → filter is_nonempty (slice_split is_blank rest) ≡ filter is_nonempty more → fields_in text ≡ cond (x == 42) [] ((x ∷ xs) ∷ fields_in rest)
+unfolding fields_in
+piece_named x xs text rest more h k =
+    let p : List ℕ → Bool = λ field. not (is_comment field) in
+    ap (λ (pieces : List (List ℕ)). take_while p (filter is_nonempty pieces)) h
+    ∙ take_while-cons p (x ∷ xs) (filter is_nonempty more)
+    ∙ unless_comment (x == 42) (x ∷ xs) (take_while p (filter is_nonempty more))
+    ∙ ap (λ (pieces : List (List ℕ)). cond (x == 42) [] ((x ∷ xs) ∷ take_while p pieces)) (sym k)
+
+piece_at : (x n : ℕ) (xs : List ℕ) (b : Bool) → b ≡ false → (more : List (List ℕ)) → TakesPiece (x ∷ xs) (cond (not b) (1 + n) 0) more → fields_in (x ∷ xs) ≡ cond (x == 42) [] (take (cond (not b) (1 + n) 0) (x ∷ xs) ∷ fields_in (drop (cond (not b) (1 + n) 0) (x ∷ xs)))
+piece_at x n xs true e more h = absurd (cc)
+piece_at x n xs false e more h =
+    let front : take (1 + n) (x ∷ xs) ≡ x ∷ take n xs = ap (λ (i : ℕ). take i (x ∷ xs)) (one_more n) in
+    piece_named x (take n xs) (x ∷ xs) (drop (1 + n) (x ∷ xs)) more (h.pieces ∙ ap (λ (piece : List ℕ). piece ∷ more) front) h.behind
+    ∙ ap (λ (piece : List ℕ). cond (x == 42) [] (piece ∷ fields_in (drop (1 + n) (x ∷ xs)))) (sym front)
+
+first_field : (xs : List ℕ) → 0 < length xs → is_blank (slice_index xs 0) ≡ false → fields_in xs ≡ cond (slice_index xs 0 == 42) [] (take (position_or_len is_blank xs) xs ∷ fields_in (drop (position_or_len is_blank xs) xs))
+first_field [] lt e = absurd (omega (arith, lt))
+first_field (x ∷ xs) lt e = let h = first_piece (x ∷ xs) in piece_at x (position_or_len is_blank xs) xs (is_blank x) e h.0 h.1
+
+-- what begins where the first character stands that is not blank
+record BeginsField (text rest : List ℕ) : Type 0 where
+  same : fields_in text ≡ fields_in rest
+  some : 0 < length rest
+  first : is_blank (slice_index rest 0) ≡ false
+
+begins_field : (text rest : List ℕ) (start : ℕ) → Some start ≡ position (λ byte. not (is_blank byte)) text → rest ≡ drop start text → BeginsField text rest
+begins_field text rest start e h =
+    let there = position-Some (λ byte. not (is_blank byte)) text start 0 (sym e) in
+    record {
+      same = fields_from start text e ∙ ap fields_in (sym h);
+      some = omega (arith, there.0, ap length h, length-drop start text);
+      first = ap (λ (l : List ℕ). is_blank (slice_index l 0)) h ∙ ap is_blank (get_or-drop start text 0 0 ∙ ap (λ (i : ℕ). get_or text i 0) (add-zero start)) ∙ not-true (is_blank (get_or text start 0)) there.1;
+    }
+
+pub comment_first : (text rest : List ℕ) (start : ℕ) → Some start ≡ position (λ byte. not (is_blank byte)) text → rest ≡ drop start text → slice_index rest 0 ≡ 42 → fields_in text ≡ []
+comment_first text rest start e h star =
+    let b = begins_field text rest start e h in
+    b.same ∙ first_field rest b.some b.first ∙ cond-true (slice_index rest 0 == 42) _ _ (eq-eqb _ _ star)
+
+pub field_first : (text rest field behind : List ℕ) (start n : ℕ) → Some start ≡ position (λ byte. not (is_blank byte)) text → rest ≡ drop start text → (slice_index rest 0 ≡ 42 → ⊥) → n ≡ position_or_len is_blank rest → field ≡ take n rest → behind ≡ drop n rest → fields_in text ≡ field ∷ fields_in behind
+field_first text rest field behind start n e h other m f d =
+    let b = begins_field text rest start e h in
+    b.same ∙ first_field rest b.some b.first ∙ cond-false (slice_index rest 0 == 42) _ _ (ne_eqb _ _ other)
+    ∙ ap (λ (i : ℕ). take i rest ∷ fields_in (drop i rest)) (sym m)
+    ∙ ap (λ (l : List ℕ). l ∷ fields_in (drop n rest)) (sym f) ∙ ap (λ (l : List ℕ). field ∷ fields_in l) (sym d)
+
+pub field_length-le : (n : ℕ) (text : List ℕ) → n ≡ position_or_len is_blank text → n ≤ length text
+field_length-le n text e = omega (arith, e, prefix_len-le-length (λ x. not (is_blank x)) text)

@@ -1,0 +1,345 @@
+-- The last line that sets something holds.
+use Rattle.std.proofs.Common.{◌≡◌, ℕ, zero, suc, ◌+◌, ◌-◌, ◌<◌, ◌≤◌, ◌⊎◌, Bool, true, false, cond, leb, List, [], ◌∷◌, ◌++◌, length, take, map, get_or, Option, Some, None, Ok, Err, refl, sym, ap, subst, ◌∙◌, arith, inl, inr, append-nil}
+use Rattle.std.specs.Prelude.{IsTrue, filter_map, option_to_list, option_map, slice_get, unwrap_or, position}
+use Rattle.std.specs.List.{range_with_len, cons_option, list_any}
+use Rattle.std.proofs.lemmas.Bool.{leb-true, le-leb, eqb-true, eq-eqb, cases_order}
+use Rattle.std.proofs.lemmas.List.{take_more, length-map, get_or_default}
+use Rattle.std.proofs.lemmas.List.Elements.{filter_map-append}
+use Rattle.std.proofs.lemmas.List.Folds.{Any-from_list_any, list_any_at}
+use Rattle.std.proofs.lemmas.List.FromFn.{fill_by_all}
+use Rattle.std.proofs.lemmas.Option.{slice_get-map}
+use Rattle.pp_word.specs.Address.{place_count}
+use Rattle.pp_machine.specs.MachineState.{processor_of}
+use Rattle.pp_machine.specs.Processor.{Processor, new_processor, word_at}
+use Rattle.pp_machine.specs.ProcessorNumber.{processor_count, names_processor, processor_number, processor_index}
+use Rattle.pp_machine.proofs.ProcessorPlaces.{place_below, number_of_place}
+use Rattle.pp_deck.specs.DeckLaw.{IsFor, StandsAt, SetsWord, SetsCentralWord, Starts, Registers, registers_of, at_rest, started_at, HoldsLast, IsNamed, KeepsDeckLaw, line_of}
+use Rattle.pp_deck.specs.DeckLine.{Line, nothing, central_size, central_words, section, start, words, dead_start}
+use Rattle.pp_deck.specs.DeckLoad.{last_of, word_among, word_for, central_word_for, start_in, is_for, section_of, lines_for, names, is_named, memory_of, processor_with, processor_loaded, central_loaded}
+use Rattle.pp_deck.specs.DeckMeaning.{LoadedDeck, set_by, loaded, size_of, lines_said, faults_in, unless_faulty, meaning_of_lines, is_foreign, unless_foreign, deck_meaning}
+use Rattle.pp_deck.specs.DeckText.{lines_of}
+use Rattle.pp_deck.specs.declared.deck_fault.DeckFault.{DeckFault}
+use Rattle.pp_deck.specs.DeckProgress.{current_after}
+use Rattle.pp_deck.proofs.ListLemmas.{range_append, range_more, last_of_more, filter_map_more, length-tabulate, get_or-tabulate}
+use Rattle.pp_deck.proofs.MemoryLemmas.{length-central_loaded}
+use Rattle.pp_deck.proofs.SectionLemmas.{section_more}
+
+-- ---- the last number at which there is something
+
+none_in : {A : Type 0} (f : ℕ → Option A) (a n : ℕ) → ((k : ℕ) → a ≤ k → k < a + n → f k ≡ None) → filter_map f (range_with_len a n) ≡ []
+none_in {A} f a zero none = refl
+none_in {A} f a (suc n) none =
+    ap (λ (o : Option A). cons_option o (filter_map f (range_with_len (a + 1) n))) (none a (omega arith) (omega arith))
+    ∙ none_in f (a + 1) n (λ k le lt. none k (omega (arith, le)) (omega (arith, lt)))
+
+-- the last is at k
+pub last_at : {A : Type 0} (f : ℕ → Option A) (n k : ℕ) (x : A) → k < n → f k ≡ Some x → ((j : ℕ) → k < j → j < n → f j ≡ None) → last_of (filter_map f (range_with_len 0 n)) ≡ Some x
+last_at {A} f n k x lt here behind =
+    let later : filter_map f (range_with_len (k + 1) (n - (k + 1))) ≡ [] = none_in f (k + 1) (n - (k + 1)) (λ j le less. behind j (omega (arith, le)) (omega (arith, less, lt))) in
+    let whole : filter_map f (range_with_len 0 n) ≡ filter_map f (range_with_len 0 k) ++ option_to_list (f k) =
+    ap (λ (m : ℕ). filter_map f (range_with_len 0 m)) (sum n k lt) ∙ ap (filter_map f) (range_append 0 (k + 1) (n - (k + 1)))
+    ∙ filter_map-append f (range_with_len 0 (k + 1)) (range_with_len (0 + (k + 1)) (n - (k + 1)))
+    ∙ ap (λ (i : ℕ). filter_map f (range_with_len 0 (k + 1)) ++ filter_map f (range_with_len i (n - (k + 1)))) (from_zero (k + 1))
+    ∙ ap (λ (xs : List A). filter_map f (range_with_len 0 (k + 1)) ++ xs) later
+    ∙ append-nil (filter_map f (range_with_len 0 (k + 1)))
+    ∙ ap (filter_map f) (range_more 0 k) ∙ filter_map_more f (range_with_len 0 k) (0 + k)
+    ∙ ap (λ (i : ℕ). filter_map f (range_with_len 0 k) ++ option_to_list (f i)) (from_zero k) in
+    ap last_of (whole ∙ ap (λ (o : Option A). filter_map f (range_with_len 0 k) ++ option_to_list o) here) ∙ last_of_more (filter_map f (range_with_len 0 k)) (Some x)
+  where
+    sum : (n k : ℕ) → k < n → n ≡ (k + 1) + (n - (k + 1))
+    sum n k lt = omega (arith, lt)
+
+    from_zero : (m : ℕ) → 0 + m ≡ m
+    from_zero m = omega arith
+
+-- a value that is the last one found holds the last
+pub holds_last : {A : Type 0} (lines : List Line) (f : ℕ → Option A) (Sets : ℕ → A → Type 0) (otherwise value : A) → ((k : ℕ) (x : A) → k < length lines → f k ≡ Some x → Sets k x) → ((k : ℕ) (x : A) → k < length lines → Sets k x → f k ≡ Some x) → value ≡ unwrap_or (last_of (filter_map f (range_with_len 0 (length lines)))) otherwise → HoldsLast lines Sets otherwise value
+holds_last {A} lines f Sets otherwise value found there is = record {
+  last = λ k x lt sets behind. is ∙ ap (λ (o : Option A). unwrap_or o otherwise) (last_at f (length lines) k x lt (there k x lt sets) (λ j less within. nowhere j within (λ y h. behind j y less within h) (f j) refl));
+  none = λ never. is ∙ ap (λ (xs : List A). unwrap_or (last_of xs) otherwise) (none_in f 0 (length lines) (λ k le lt. let within : k < length lines = omega (arith, lt) in nowhere k within (λ x h. never k x within h) (f k) refl));
+}
+  where
+    nowhere : (j : ℕ) → j < length lines → ((y : A) → Sets j y → ⊥) → (o : Option A) → f j ≡ o → f j ≡ None
+    nowhere j within not None e = e
+    nowhere j within not (Some y) e = absurd (not y (found j y within e))
+
+-- ---- the section of a line
+
+-- the heading after one line more
+for_more : (lines : List Line) (k n : ℕ) → IsFor lines k n → ((m : ℕ) → line_of lines k ≡ section m → ⊥) → IsFor lines (k + 1) n
+for_more lines k n h other = record {
+  heading = h.heading;
+  before = omega (arith, h.before);
+  names = h.names;
+  latest = λ i m low high is. at_line i m low high is (cases_order i k);
+}
+  where
+    at_line : (i m : ℕ) → h.heading < i → i < k + 1 → line_of lines i ≡ section m → (i ≡ k) ⊎ ((i < k) ⊎ (k < i)) → ⊥
+    at_line i m low high is (inl e) = other m (ap (line_of lines) (sym e) ∙ is)
+    at_line i m low high is (inr (inl less)) = h.latest i m low less is
+    at_line i m low high is (inr (inr more)) = absurd (omega (arith, high, more))
+
+next_number : (k : ℕ) → suc k ≡ k + 1
+next_number k = omega arith
+
+section_next : (lines : List Line) (k : ℕ) → k < length lines → section_of (take (suc k) lines) ≡ current_after (line_of lines k) (section_of (take k lines))
+section_next lines k lt =
+    ap (λ (i : ℕ). section_of (take i lines)) (next_number k) ∙ ap section_of (take_more lines k nothing lt) ∙ section_more (take k lines) (line_of lines k)
+
+no_section : (n : ℕ) → section_of [] ≡ Some n → ⊥
+unfolding section_of
+no_section n e = cc
+
+-- a line is the heading, or the section is as before
+heading_or : (line : Line) (current : Option ℕ) (n : ℕ) → current_after line current ≡ Some n → (line ≡ section n) ⊎ ((current ≡ Some n) × ((m : ℕ) → line ≡ section m → ⊥))
+heading_or nothing current n e = inr (e, λ m h. cc)
+heading_or (central_size s) current n e = inr (e, λ m h. cc)
+heading_or (central_words a ws) current n e = inr (e, λ m h. cc)
+heading_or (section m) current n e = inl (let same : m ≡ n = cc in ap section same)
+heading_or (start p a) current n e = inr (e, λ m h. cc)
+heading_or (words x ws) current n e = inr (e, λ m h. cc)
+heading_or dead_start current n e = inr (e, λ m h. cc)
+
+section_kept : (line : Line) (current : Option ℕ) → ((m : ℕ) → line ≡ section m → ⊥) → current_after line current ≡ current
+section_kept nothing current other = refl
+section_kept (central_size s) current other = refl
+section_kept (central_words a ws) current other = refl
+section_kept (section m) current other = absurd (other m refl)
+section_kept (start p a) current other = refl
+section_kept (words x ws) current other = refl
+section_kept dead_start current other = refl
+
+heading_at : (lines : List Line) (k n : ℕ) → (section_of (take k lines) ≡ Some n → IsFor lines k n) → (line_of lines k ≡ section n) ⊎ ((section_of (take k lines) ≡ Some n) × ((m : ℕ) → line_of lines k ≡ section m → ⊥)) → IsFor lines (k + 1) n
+heading_at lines k n before (inl is) = record { heading = k; before = omega arith; names = is; latest = λ i m low high h. absurd (omega (arith, low, high)) }
+heading_at lines k n before (inr h) = for_more lines k n (before h.0) h.1
+
+-- the section behind k lines is that of the last heading before line k
+pub heading_of : (lines : List Line) (k n : ℕ) → k ≤ length lines → section_of (take k lines) ≡ Some n → IsFor lines k n
+heading_of lines zero n le e = absurd (no_section n e)
+heading_of lines (suc k) n le e =
+    let P : ℕ → Type 0 = λ i. IsFor lines i n in
+    subst P (sym (next_number k)) (heading_at lines k n (heading_of lines k n (omega (arith, le)))
+    (heading_or (line_of lines k) (section_of (take k lines)) n (sym (section_next lines k (omega (arith, le))) ∙ e)))
+
+section_at : (lines : List Line) (k n : ℕ) → (IsFor lines k n → section_of (take k lines) ≡ Some n) → (h : IsFor lines (suc k) n) → (h.heading ≡ k) ⊎ ((h.heading < k) ⊎ (k < h.heading)) → current_after (line_of lines k) (section_of (take k lines)) ≡ Some n
+section_at lines k n before h (inl e) = ap (λ (line : Line). current_after line (section_of (take k lines))) (ap (line_of lines) (sym e) ∙ h.names)
+section_at lines k n before h (inr (inl less)) =
+    section_kept (line_of lines k) (section_of (take k lines)) (λ m is. h.latest k m less (omega arith) is)
+    ∙ before (record { heading = h.heading; before = less; names = h.names; latest = λ i m low high is. h.latest i m low (omega (arith, high)) is })
+section_at lines k n before h (inr (inr more)) = absurd (omega (arith, h.before, more))
+
+pub section_for : (lines : List Line) (k n : ℕ) → k ≤ length lines → IsFor lines k n → section_of (take k lines) ≡ Some n
+section_for lines zero n le h = absurd (omega (arith, h.before))
+section_for lines (suc k) n le h =
+    section_next lines k (omega (arith, le)) ∙ section_at lines k n (section_for lines k n (omega (arith, le))) h (cases_order h.heading k)
+
+-- ---- what lines set
+
+found_among : (first place w : ℕ) (ws : List ℕ) (b : Bool) → leb first place ≡ b → cond b (slice_get ws (place - first)) None ≡ Some w → StandsAt first ws place w
+found_among first place w ws true e h = record { index = place - first; at_place = omega (arith, leb-true first place e); is_word = h }
+found_among first place w ws false e h = absurd (cc)
+
+pub stands : (first place w : ℕ) (ws : List ℕ) → word_among first ws place ≡ Some w → StandsAt first ws place w
+stands first place w ws h = found_among first place w ws (leb first place) refl h
+
+pub is_among : (first place w : ℕ) (ws : List ℕ) → StandsAt first ws place w → word_among first ws place ≡ Some w
+is_among first place w ws h =
+    let yes : leb first place ≡ true = le-leb first place (omega (arith, h.at_place)) in
+    let at_index : place - first ≡ h.index = omega (arith, h.at_place) in
+    rw (yes, at_index) h.is_word
+
+pub word_set : (line : Line) (place w : ℕ) → word_for place line ≡ Some w → SetsWord line place w
+word_set (words x ws) place w e = stands x place w ws e
+word_set nothing place w e = absurd (cc)
+word_set (central_size n) place w e = absurd (cc)
+word_set (central_words a ws) place w e = absurd (cc)
+word_set (section n) place w e = absurd (cc)
+word_set (start p a) place w e = absurd (cc)
+word_set dead_start place w e = absurd (cc)
+
+pub set_word : (line : Line) (place w : ℕ) → SetsWord line place w → word_for place line ≡ Some w
+set_word (words x ws) place w h = is_among x place w ws h
+set_word nothing place w h = absurd h
+set_word (central_size n) place w h = absurd h
+set_word (central_words a ws) place w h = absurd h
+set_word (section n) place w h = absurd h
+set_word (start p a) place w h = absurd h
+set_word dead_start place w h = absurd h
+
+pub central_set : (line : Line) (address w : ℕ) → central_word_for address line ≡ Some w → SetsCentralWord line address w
+central_set (central_words a ws) address w e = stands a address w ws e
+central_set nothing address w e = absurd (cc)
+central_set (central_size n) address w e = absurd (cc)
+central_set (words x ws) address w e = absurd (cc)
+central_set (section n) address w e = absurd (cc)
+central_set (start p a) address w e = absurd (cc)
+central_set dead_start address w e = absurd (cc)
+
+pub set_central : (line : Line) (address w : ℕ) → SetsCentralWord line address w → central_word_for address line ≡ Some w
+set_central (central_words a ws) address w h = is_among a address w ws h
+set_central nothing address w h = absurd h
+set_central (central_size n) address w h = absurd h
+set_central (words x ws) address w h = absurd h
+set_central (section n) address w h = absurd h
+set_central (start p a) address w h = absurd h
+set_central dead_start address w h = absurd h
+
+-- the registers at a start
+abbrev pub registers_at : ℕ × ℕ → Registers
+registers_at s = started_at s.0 s.1
+
+pub start_set : (line : Line) (registers : Registers) → option_map registers_at (start_in line) ≡ Some registers → Starts line registers
+start_set (start p a) registers e = cc
+start_set nothing registers e = absurd (cc)
+start_set (central_size n) registers e = absurd (cc)
+start_set (central_words a ws) registers e = absurd (cc)
+start_set (section n) registers e = absurd (cc)
+start_set (words x ws) registers e = absurd (cc)
+start_set dead_start registers e = absurd (cc)
+
+pub set_start : (line : Line) (registers : Registers) → Starts line registers → option_map registers_at (start_in line) ≡ Some registers
+set_start (start p a) registers h = ap Some (sym h)
+set_start nothing registers h = absurd h
+set_start (central_size n) registers h = absurd h
+set_start (central_words a ws) registers h = absurd h
+set_start (section n) registers h = absurd h
+set_start (words x ws) registers h = absurd h
+set_start dead_start registers h = absurd h
+
+-- ---- what the lines for a processor set
+
+then_in : {X A : Type 0} → (X → Option A) → Option X → Option A
+then_in f None = None
+then_in f (Some x) = f x
+
+filter_twice : {X Y A : Type 0} (f : X → Option Y) (g : Y → Option A) (xs : List X) → filter_map g (filter_map f xs) ≡ filter_map (λ x. then_in g (f x)) xs
+unfolding then_in
+filter_twice f g [] = refl
+filter_twice {X} {Y} {A} f g (x ∷ xs) = at_head (f x) ∙ ap (cons_option (then_in g (f x))) (filter_twice f g xs)
+  where
+    at_head : (o : Option Y) → filter_map g (cons_option o (filter_map f xs)) ≡ cons_option (then_in g o) (filter_map g (filter_map f xs))
+    at_head None = refl
+    at_head (Some y) = refl
+
+pick : ℕ → List Line → ℕ → Option Line
+pick n lines k = cond (is_for n (section_of (take k lines))) (Some (line_of lines k)) None
+
+lines_for_are : {A : Type 0} (n : ℕ) (lines : List Line) (f : Line → Option A) → filter_map f (lines_for n lines) ≡ filter_map (λ k. then_in f (pick n lines k)) (range_with_len 0 (length lines))
+unfolding lines_for pick
+lines_for_are n lines f = filter_twice (λ k. cond (is_for n (section_of (take k lines))) (Some (line_of lines k)) None) f (range_with_len 0 (length lines))
+
+is_section : (n : ℕ) (current : Option ℕ) → is_for n current ≡ true → current ≡ Some n
+is_section n None e = absurd (cc)
+is_section n (Some m) e = ap Some (sym (eqb-true n m e))
+
+picked : {A : Type 0} (f : Line → Option A) (line : Line) (b : Bool) (x : A) → then_in f (cond b (Some line) None) ≡ Some x → (b ≡ true) × (f line ≡ Some x)
+unfolding then_in
+picked f line true x e = (refl, e)
+picked f line false x e = absurd (cc)
+
+picks : {A : Type 0} (f : Line → Option A) (line : Line) (n : ℕ) (current : Option ℕ) (x : A) → current ≡ Some n → f line ≡ Some x → then_in f (cond (is_for n current) (Some line) None) ≡ Some x
+unfolding then_in
+picks f line n current x e h =
+    ap (λ (o : Option ℕ). then_in f (cond (is_for n o) (Some line) None)) e
+    ∙ ap (λ (b : Bool). then_in f (cond b (Some line) None)) (eq-eqb n n refl) ∙ h
+
+pub own_last : {A : Type 0} (n : ℕ) (lines : List Line) (f : Line → Option A) (Sets : Line → A → Type 0) (otherwise value : A) → ((line : Line) (x : A) → f line ≡ Some x → Sets line x) → ((line : Line) (x : A) → Sets line x → f line ≡ Some x) → value ≡ unwrap_or (last_of (filter_map f (lines_for n lines))) otherwise → HoldsLast lines (λ k x. IsFor lines k n × Sets (line_of lines k) x) otherwise value
+unfolding pick
+own_last {A} n lines f Sets otherwise value found there is =
+    holds_last lines (λ k. then_in f (pick n lines k)) (λ k x. IsFor lines k n × Sets (line_of lines k) x) otherwise value
+    (λ k x lt e. let p = picked f (line_of lines k) (is_for n (section_of (take k lines))) x e in
+    (heading_of lines k n (omega (arith, lt)) (is_section n (section_of (take k lines)) p.0), found (line_of lines k) x p.1))
+    (λ k x lt h. picks f (line_of lines k) n (section_of (take k lines)) x (section_for lines k n (omega (arith, lt)) h.0) (there (line_of lines k) x h.1))
+    (is ∙ ap (λ (xs : List A). unwrap_or (last_of xs) otherwise) (lines_for_are n lines f))
+
+-- ---- what all lines set
+
+filter_mapped : {X Y A : Type 0} (f : Y → Option A) (g : X → Y) (xs : List X) → filter_map f (map g xs) ≡ filter_map (λ x. f (g x)) xs
+filter_mapped f g [] = refl
+filter_mapped f g (x ∷ xs) = ap (cons_option (f (g x))) (filter_mapped f g xs)
+
+pub all_last : {A : Type 0} (lines : List Line) (f : Line → Option A) (Sets : Line → A → Type 0) (otherwise value : A) → ((line : Line) (x : A) → f line ≡ Some x → Sets line x) → ((line : Line) (x : A) → Sets line x → f line ≡ Some x) → value ≡ unwrap_or (last_of (filter_map f lines)) otherwise → HoldsLast lines (λ k x. Sets (line_of lines k) x) otherwise value
+all_last {A} lines f Sets otherwise value found there is =
+    holds_last lines (λ k. f (line_of lines k)) (λ k x. Sets (line_of lines k) x) otherwise value
+    (λ k x lt e. found (line_of lines k) x e) (λ k x lt h. there (line_of lines k) x h)
+    (is ∙ ap (λ (xs : List A). unwrap_or (last_of xs) otherwise)
+    (ap (filter_map f) (fill_by_all (line_of lines) lines (length lines) nothing refl (λ k lt. refl)) ∙ filter_mapped f (line_of lines) (range_with_len 0 (length lines))))
+
+-- ---- the loaded machine
+
+mapped_last : {X A B : Type 0} (g : A → B) (h : X → Option A) (xs : List X) → filter_map (λ x. option_map g (h x)) xs ≡ map g (filter_map h xs)
+mapped_last g h [] = refl
+mapped_last {X} {A} {B} g h (x ∷ xs) = ap (cons_option (option_map g (h x))) (mapped_last g h xs) ∙ at_head (h x)
+  where
+    at_head : (o : Option A) → cons_option (option_map g o) (map g (filter_map h xs)) ≡ map g (cons_option o (filter_map h xs))
+    at_head None = refl
+    at_head (Some y) = refl
+
+last_mapped : {A B : Type 0} (g : A → B) (xs : List A) → last_of (map g xs) ≡ option_map g (last_of xs)
+last_mapped g xs = ap (λ (n : ℕ). slice_get (map g xs) (n - 1)) (length-map xs g) ∙ slice_get-map g xs (length xs - 1)
+
+last_start : (lines : List Line) → last_of (filter_map (λ line. option_map registers_at (start_in line)) lines) ≡ option_map registers_at (last_of (filter_map start_in lines))
+last_start lines = ap last_of (mapped_last registers_at start_in lines) ∙ last_mapped registers_at (filter_map start_in lines)
+
+registers_with : (memory : List ℕ) (s : Option (ℕ × ℕ)) → registers_of (processor_with memory s) ≡ unwrap_or (option_map registers_at s) at_rest
+registers_with memory None = refl
+registers_with memory (Some s) = refl
+
+memory_with : (memory : List ℕ) (s : Option (ℕ × ℕ)) → (processor_with memory s).memory ≡ memory
+memory_with memory None = refl
+memory_with memory (Some s) = refl
+
+block_with : (memory : List ℕ) (s : Option (ℕ × ℕ)) → (processor_with memory s).block ≡ None
+block_with memory None = refl
+block_with memory (Some s) = refl
+
+pub processor_here : (size : ℕ) (lines : List Line) (n : ℕ) → IsTrue (names_processor n) → processor_of n (set_by size lines).machine ≡ processor_loaded lines n
+processor_here size lines n names =
+    get_or-tabulate processor_count (λ place. processor_loaded lines (processor_number place)) (processor_index n) new_processor (place_below n names)
+    ∙ ap (processor_loaded lines) (number_of_place n names)
+
+pub place_here : (lines : List Line) (n place : ℕ) → place < place_count → word_at (processor_loaded lines n) place ≡ unwrap_or (last_of (filter_map (word_for place) (lines_for n lines))) 0
+unfolding processor_loaded memory_of
+place_here lines n place lt =
+    ap (λ (memory : List ℕ). get_or memory place 0) (memory_with _ (last_of (filter_map start_in (lines_for n lines))))
+    ∙ get_or-tabulate place_count (λ i. unwrap_or (last_of (filter_map (word_for i) (lines_for n lines))) 0) place 0 lt
+
+pub registers_here : (lines : List Line) (n : ℕ) → registers_of (processor_loaded lines n) ≡ unwrap_or (last_of (filter_map (λ line. option_map registers_at (start_in line)) (lines_for n lines))) at_rest
+unfolding processor_loaded
+registers_here lines n =
+    registers_with (memory_of (lines_for n lines)) (last_of (filter_map start_in (lines_for n lines)))
+    ∙ ap (λ (o : Option Registers). unwrap_or o at_rest) (sym (last_start (lines_for n lines)))
+
+pub no_block_here : (lines : List Line) (n : ℕ) → (processor_loaded lines n).block ≡ None
+unfolding processor_loaded
+no_block_here lines n = block_with (memory_of (lines_for n lines)) (last_of (filter_map start_in (lines_for n lines)))
+
+pub central_here : (size : ℕ) (lines : List Line) (address : ℕ) → address < length (central_loaded size lines) → get_or (central_loaded size lines) address 0 ≡ unwrap_or (last_of (filter_map (central_word_for address) lines)) 0
+unfolding central_loaded
+central_here size lines address lt =
+    get_or-tabulate size (λ i. unwrap_or (last_of (filter_map (central_word_for i) lines)) 0) address 0
+    (omega (arith, lt, length-tabulate size (λ i. unwrap_or (last_of (filter_map (central_word_for i) lines)) 0)))
+
+-- ---- names
+
+is_name : (n : ℕ) (line : Line) → names n line ≡ true → line ≡ section n
+is_name n (section m) e = ap section (sym (eqb-true n m e))
+is_name n nothing e = absurd (cc)
+is_name n (central_size s) e = absurd (cc)
+is_name n (central_words a ws) e = absurd (cc)
+is_name n (start p a) e = absurd (cc)
+is_name n (words x ws) e = absurd (cc)
+is_name n dead_start e = absurd (cc)
+
+pub some_name : (n : ℕ) (lines : List Line) → list_any (names n) lines ≡ true → IsNamed lines n
+some_name n lines e =
+    let h = Any-from_list_any (names n) lines e in
+    record { heading = h.0; within = h.2; names = get_or_default lines h.0 nothing h.1 h.2 ∙ h.3 ∙ is_name n h.1 h.4 }
+
+pub named_some : (n : ℕ) (lines : List Line) → IsNamed lines n → list_any (names n) lines ≡ true
+named_some n lines h = list_any_at (names n) lines h.heading nothing h.within (ap (names n) h.names ∙ eq-eqb n n refl)
+
+pub named_here : (size : ℕ) (lines : List Line) (n : ℕ) → IsTrue (names_processor n) → get_or (set_by size lines).named (processor_index n) false ≡ list_any (names n) lines
+named_here size lines n named =
+    get_or-tabulate processor_count (λ place. is_named lines (processor_number place)) (processor_index n) false (place_below n named)
+    ∙ ap (is_named lines) (number_of_place n named)

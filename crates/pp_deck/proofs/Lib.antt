@@ -1,0 +1,14 @@
+pub mod DeadStartLemmas
+pub mod DeckLawLemmas
+pub mod DigitLemmas
+pub mod FieldLemmas
+pub mod HeadlineLemmas
+pub mod KeywordLemmas
+pub mod LawLemmas
+pub mod LinesLemmas
+pub mod ListLemmas
+pub mod MemoryLemmas
+pub mod ProgressLemmas
+pub mod ReadingLemmas
+pub mod SectionLemmas
+pub mod WordsLemmas

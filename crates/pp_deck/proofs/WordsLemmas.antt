@@ -1,0 +1,42 @@
+-- The words of a line, taken one by one: `whole` is what the line comes to.
+use Rattle.std.proofs.Common.{sym, ◌∙◌, ◌≡◌, ℕ, ◌+◌, ◌<◌, ◌≤◌, true, false, List, [], ◌∷◌, Result, Ok, Err, refl, ltb, lt-ltb, le-ltb}
+use Rattle.pp_deck.specs.OctalNumber.{number}
+use Rattle.pp_deck.specs.DeckLine.{words_in, ◌>>=◌}
+use Rattle.pp_deck.specs.DeckProgress.{on_read}
+use Rattle.pp_deck.specs.declared.flaw.Flaw.{Flaw}
+
+onto : {A : Type 0} (use_of : List ℕ → A) (word : ℕ) (r : Result (List ℕ) Flaw) → on_read use_of (r >>= λ more. Ok (word ∷ more)) ≡ on_read (λ ws. use_of (word ∷ ws)) r
+onto use_of word (Ok more) = refl
+onto use_of word (Err flaw) = refl
+
+one_more : {A : Type 0} (use_of : List ℕ → A) (most place end word : ℕ) (past : Flaw) (field : List ℕ) (all fields : List (List ℕ)) → all ≡ field ∷ fields → Ok word ≡ number most field → place < end → on_read use_of (words_in most place end past all) ≡ on_read (λ ws. use_of (word ∷ ws)) (words_in most (place + 1) end past fields)
+unfolding words_in
+one_more use_of most place end word past field all fields e n lt =
+    let below : ltb place end ≡ true = lt-ltb place end lt in
+    rw (e, ← n, below) (onto use_of word (words_in most (place + 1) end past fields))
+
+past_end : {A : Type 0} (use_of : List ℕ → A) (most place end word : ℕ) (past : Flaw) (field : List ℕ) (all fields : List (List ℕ)) → all ≡ field ∷ fields → Ok word ≡ number most field → end ≤ place → on_read use_of (words_in most place end past all) ≡ Err past
+unfolding words_in
+past_end use_of most place end word past field all fields e n le =
+    let above : ltb place end ≡ false = le-ltb place end le in
+    rw (e, ← n, above) refl
+
+bad_word : {A : Type 0} (use_of : List ℕ → A) (most place end : ℕ) (past flaw : Flaw) (field : List ℕ) (all fields : List (List ℕ)) → all ≡ field ∷ fields → Err flaw ≡ number most field → on_read use_of (words_in most place end past all) ≡ Err flaw
+unfolding words_in
+bad_word use_of most place end past flaw field all fields e n = rw (e, ← n) refl
+
+no_word : {A : Type 0} (use_of : List ℕ → A) (most place end : ℕ) (past : Flaw) (all : List (List ℕ)) → all ≡ [] → on_read use_of (words_in most place end past all) ≡ Ok (use_of [])
+unfolding words_in
+no_word use_of most place end past all e = rw e refl
+
+pub words_more : {A : Type 0} (use_of : List ℕ → A) (most place end word : ℕ) (past : Flaw) (field : List ℕ) (all fields : List (List ℕ)) (whole : Result A Flaw) → on_read use_of (words_in most place end past all) ≡ whole → all ≡ field ∷ fields → Ok word ≡ number most field → place < end → on_read (λ ws. use_of (word ∷ ws)) (words_in most (place + 1) end past fields) ≡ whole
+words_more use_of most place end word past field all fields whole is e n lt = sym (one_more use_of most place end word past field all fields e n lt) ∙ is
+
+pub words_past : {A : Type 0} (use_of : List ℕ → A) (most place end word : ℕ) (past : Flaw) (field : List ℕ) (all fields : List (List ℕ)) (whole : Result A Flaw) → on_read use_of (words_in most place end past all) ≡ whole → all ≡ field ∷ fields → Ok word ≡ number most field → end ≤ place → whole ≡ Err past
+words_past use_of most place end word past field all fields whole is e n le = sym is ∙ past_end use_of most place end word past field all fields e n le
+
+pub words_bad : {A : Type 0} (use_of : List ℕ → A) (most place end : ℕ) (past flaw : Flaw) (field : List ℕ) (all fields : List (List ℕ)) (whole : Result A Flaw) → on_read use_of (words_in most place end past all) ≡ whole → all ≡ field ∷ fields → Err flaw ≡ number most field → whole ≡ Err flaw
+words_bad use_of most place end past flaw field all fields whole is e n = sym is ∙ bad_word use_of most place end past flaw field all fields e n
+
+pub words_none : {A : Type 0} (use_of : List ℕ → A) (most place end : ℕ) (past : Flaw) (all : List (List ℕ)) (whole : Result A Flaw) → on_read use_of (words_in most place end past all) ≡ whole → all ≡ [] → whole ≡ Ok (use_of [])
+words_none use_of most place end past all whole is e = sym is ∙ no_word use_of most place end past all e

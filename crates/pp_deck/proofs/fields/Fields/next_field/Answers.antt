@@ -1,0 +1,22 @@
+use Rattle.std.proofs.Common.{sym, ◌∙◌}
+use Rattle.std.proofs.lemmas.List.{take_rest}
+use Rattle.pp_deck.proofs.FieldLemmas.{fields_of_blanks, comment_first, field_first, field_length-le}
+use Rattle.pp_deck.proofs.fields.Fields.next_field.Goals as goal
+
+pub returns-in_err-start-clause-none : goal.returns-in_err-start-clause-none
+returns-in_err-start-clause-none c =
+    rw c.from_residual.ensures (sym c.self.view_is
+    ∙ fields_of_blanks c.first_character.result c.self.inside.text.now c.first_character.ensures c.in_err-start.was)
+
+pub returns-then-text-eq42-clause-none : goal.returns-then-text-eq42-clause-none
+returns-then-text-eq42-clause-none c =
+    sym c.self.view_is
+    ∙ comment_first c.self.inside.text.now _ c.in_ok-start.start c.in_ok-start.ensures (take_rest c.self.inside.text.now c.in_ok-start.start) c.if-text-eq42.true
+
+pub split_at-requires : goal.split_at-requires
+split_at-requires c = field_length-le _ _ c.field_length.ensures
+
+pub returns-clause-taken : goal.returns-clause-taken
+returns-clause-taken c =
+    sym c.self.view_is
+    ∙ field_first c.self.inside.text.now _ c.split_at.result.0.now c.split_at.result.1.now c.in_ok-start.start c.field_length.result c.in_ok-start.ensures (take_rest c.self.inside.text.now c.in_ok-start.start) c.if-text-eq42.false c.field_length.ensures c.split_at.ensures.front c.split_at.ensures.back

@@ -1,0 +1,8 @@
+use Rattle.pp_deck.proofs.DeckLawLemmas.{deck_law_of, deck_size_of}
+use Rattle.pp_deck.proofs.laws.deck_law.Goals as goal
+
+pub returns-clause-size : goal.returns-clause-size
+returns-clause-size c = deck_size_of
+
+pub returns-clause-law : goal.returns-clause-law
+returns-clause-law c = deck_law_of

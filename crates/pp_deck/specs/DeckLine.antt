@@ -1,0 +1,120 @@
+-- What one line of a deck says, by its fields and by the lines before it.
+use Rattle.std.specs.Prelude.{ℕ, ◌+◌, ◌&&◌, Bool, List, [], ◌∷◌, Option, None, Some, Result, Ok, Err, nat_lt, nat_le, codes, slice_index, if◌then◌else◌}
+use Rattle.std.specs.Str.{bytes_eq}
+use Rattle.pp_word.specs.Address.{place_count}
+use Rattle.pp_machine.specs.ProcessorNumber.{names_processor}
+use Rattle.pp_deck.specs.DeckText.{Field, Fields}
+use Rattle.pp_deck.specs.OctalNumber.{number}
+use Rattle.pp_deck.specs.declared.flaw.Flaw.{Flaw}
+use Rattle.pp_deck.specs.declared.flaw.Flaw.TheVariants.{UnknownLine, BadProcessor, NoProcessor, PastEnd, CentralRange}
+use Rattle.pp_deck.specs.declared.keyword.Keyword.{Keyword}
+use Rattle.pp_deck.specs.declared.keyword.Keyword.TheVariants.{Central, CentralWords, Processor, Start, DeadStart, Words, Unknown}
+
+-- what a line may say: nothing; `CENTRAL n`: central memory has n words; `CM a w w ..`: central words from a on;
+-- `PP n`: what follows is for processor n; `START p a`: it starts at P = p with A = a; `x w w ..`: its words from
+-- place x on; `DEAD`: dead start is asked for
+pub data Line : Type 0 where
+  nothing : Line
+  central_size : ℕ → Line
+  central_words : ℕ → List ℕ → Line
+  section : ℕ → Line
+  start : ℕ → ℕ → Line
+  words : ℕ → List ℕ → Line
+  dead_start : Line
+
+-- ---- the first field
+
+-- the characters 0 to 9 are the codes 48 to 57 (decimal)
+abbrev pub is_digit : ℕ → Bool
+is_digit character = nat_le 48 character && nat_le character 57
+
+unfoldable pub keyword_of : Field → Keyword
+keyword_of field =
+    if bytes_eq field (codes "CENTRAL") then Central
+    else if bytes_eq field (codes "CM") then CentralWords
+    else if bytes_eq field (codes "PP") then Processor
+    else if bytes_eq field (codes "START") then Start
+    else if bytes_eq field (codes "DEAD") then DeadStart
+    else if is_digit (slice_index field 0) then Words
+    else Unknown
+
+-- ---- the fields behind it
+
+infixl 10 ◌>>=◌
+-- one thing after another, from left to right: the first flaw is the flaw of all
+abbrev pub ◌>>=◌ : {A B : Type 0} → Result A Flaw → (A → Result B Flaw) → Result B Flaw
+(Ok x) >>= next = next x
+(Err flaw) >>= next = Err flaw
+
+-- a number of at most so many digits, which must be there, and what the fields behind it say
+abbrev pub number_then : ℕ → Fields → (ℕ → Fields → Result Line Flaw) → Result Line Flaw
+number_then most [] next = Err UnknownLine
+number_then most (field ∷ fields) next = number most field >>= λ n. next n fields
+
+-- the end of a line: a field more is one too many
+abbrev pub ends_with : Line → Fields → Result Line Flaw
+ends_with line [] = Ok line
+ends_with line (field ∷ fields) = Err UnknownLine
+
+-- words of at most so many digits, in places from the first on; a word whose place is not below the end is past it
+unfoldable pub words_in : ℕ → ℕ → ℕ → Flaw → Fields → Result (List ℕ) Flaw
+words_in most place end past [] = Ok []
+words_in most place end past (field ∷ fields) = do
+  word ← number most field
+  more ← if nat_lt place end then words_in most (place + 1) end past fields else Err past
+  Ok (word ∷ more)
+
+-- `CENTRAL n`: 1 to 400000 (octal) words
+unfoldable pub central_line : Fields → Result Line Flaw
+central_line fields = number_then 6 fields (λ n more. if nat_le 1 n && nat_le n 0o400000 then ends_with (central_size n) more else Err CentralRange)
+
+-- `CM a w w ..` in a central memory of this size
+unfoldable pub central_words_line : ℕ → Fields → Result Line Flaw
+central_words_line size fields = number_then 6 fields (λ a more. words_in 20 a size CentralRange more >>= λ ws. Ok (central_words a ws))
+
+-- `PP n`
+unfoldable pub section_line : Fields → Result Line Flaw
+section_line fields = number_then 2 fields (λ n more. if names_processor n then ends_with (section n) more else Err BadProcessor)
+
+-- `START p`, where A is 0, or `START p a`
+abbrev pub start_from : ℕ → Fields → Result Line Flaw
+start_from p [] = Ok (start p 0)
+start_from p (field ∷ fields) = number 6 field >>= λ a. ends_with (start p a) fields
+
+unfoldable pub start_line : Fields → Result Line Flaw
+start_line fields = number_then 4 fields start_from
+
+-- `x w w ..`
+unfoldable pub words_line : Field → Fields → Result Line Flaw
+words_line field fields = number 4 field >>= λ x. words_in 4 x place_count PastEnd fields >>= λ ws. Ok (words x ws)
+
+-- what a line says whose first field has this keyword, in a central memory of this size
+abbrev pub line_by : ℕ → Keyword → Field → Fields → Result Line Flaw
+line_by size Central field fields = central_line fields
+line_by size CentralWords field fields = central_words_line size fields
+line_by size Processor field fields = section_line fields
+line_by size Start field fields = start_line fields
+line_by size DeadStart field fields = ends_with dead_start fields
+line_by size Words field fields = words_line field fields
+line_by size Unknown field fields = Err UnknownLine
+
+-- ---- where a line stands
+
+-- why a line with this keyword may not stand behind others, of which some have fields or one begins with `PP`:
+-- `CENTRAL` comes before every line with fields, and starts and words belong to the section of a processor
+abbrev pub misplaced : Bool → Bool → Keyword → Option Flaw
+misplaced is_behind_fields is_in_section Central = if is_behind_fields then Some UnknownLine else None
+misplaced is_behind_fields is_in_section Start = if is_in_section then None else Some NoProcessor
+misplaced is_behind_fields is_in_section Words = if is_in_section then None else Some NoProcessor
+misplaced is_behind_fields is_in_section keyword = None
+
+-- a misplaced line has that flaw before all others
+abbrev pub unless_misplaced : Option Flaw → Result Line Flaw → Result Line Flaw
+unless_misplaced (Some flaw) line = Err flaw
+unless_misplaced None line = line
+
+-- what a line says behind such lines, in a central memory of this size
+unfoldable pub line_behind : ℕ → Bool → Bool → Fields → Result Line Flaw
+line_behind size is_behind_fields is_in_section [] = Ok nothing
+line_behind size is_behind_fields is_in_section (field ∷ fields) =
+    unless_misplaced (misplaced is_behind_fields is_in_section (keyword_of field)) (line_by size (keyword_of field) field fields)

@@ -1,0 +1,113 @@
+-- What a whole deck means: the machine that it loads and the processors that it names, or why it is refused.
+use Rattle.std.specs.Prelude.{ℕ, ◌+◌, Bool, true, false, not, List, [], ◌∷◌, length, map, take, Option, None, Some, Result, Ok, Err, slice_index_or, nat_lt, nat_le, count_by, find, filter_map, position, if◌then◌else◌}
+use Rattle.std.specs.List.{list_any, range_with_len}
+use Rattle.pp_machine.specs.DeadStart.{dead_started}
+use Rattle.pp_machine.specs.MachineState.{MachineState}
+use Rattle.pp_deck.specs.DeckLine.{Line, central_size, keyword_of, central_line, line_behind}
+use Rattle.pp_deck.specs.DeckLoad.{machine_loaded, is_named, asks_dead_start, each_processor}
+use Rattle.pp_deck.specs.DeckText.{Fields, is_line_feed, lines_of}
+use Rattle.pp_deck.specs.FlawCode.{code_of}
+use Rattle.pp_deck.specs.declared.deck_fault.DeckCode.TheVariants.{TooLong, NotAscii}
+use Rattle.pp_deck.specs.declared.deck_fault.DeckFault.{DeckFault}
+use Rattle.pp_deck.specs.declared.flaw.Flaw.{Flaw}
+use Rattle.pp_deck.specs.declared.keyword.Keyword.{Keyword}
+use Rattle.pp_deck.specs.declared.keyword.Keyword.TheVariants as keywords
+
+-- the machine that a deck loads, and whether it names each processor, in the order of the barrel
+pub record LoadedDeck : Type 0 where
+  pub machine : MachineState
+  pub named : List Bool
+
+-- dead start, where a deck asks for it: the processors that it does not name wait for their programs
+abbrev pub with_dead_start : Bool → LoadedDeck → LoadedDeck
+with_dead_start true deck = record deck { machine = dead_started (map not deck.named) deck.machine }
+with_dead_start false deck = deck
+
+-- what lines set and name, in a central memory of this size
+abbrev pub set_by : ℕ → List Line → LoadedDeck
+set_by size lines = record { machine = machine_loaded size lines; named = each_processor (is_named lines) }
+
+-- what lines load
+abbrev pub loaded : ℕ → List Line → LoadedDeck
+loaded size lines = with_dead_start (asks_dead_start lines) (set_by size lines)
+
+-- ---- what each line says where it stands; line k has k lines before it
+
+abbrev pub has_fields : Fields → Bool
+has_fields fields = nat_lt 0 (length fields)
+
+abbrev pub is_processor_keyword : Keyword → Bool
+is_processor_keyword keywords.Processor = true
+is_processor_keyword keyword = false
+
+-- whether a line begins with `PP`
+abbrev pub begins_section : Fields → Bool
+begins_section [] = false
+begins_section (field ∷ fields) = is_processor_keyword (keyword_of field)
+
+-- what line k says
+unfoldable pub line_at : ℕ → List Fields → ℕ → Result Line Flaw
+line_at size lines k =
+    line_behind size (list_any has_fields (take k lines)) (list_any begins_section (take k lines)) (slice_index_or lines k [])
+
+-- ---- the size of central memory: n of a line `CENTRAL n` that is the first with fields, else 10000 (octal)
+
+abbrev pub size_said : Result Line Flaw → ℕ
+size_said (Ok (central_size n)) = n
+size_said line = 0o10000
+
+abbrev pub size_by : Keyword → Fields → ℕ
+size_by keywords.Central fields = size_said (central_line fields)
+size_by keyword fields = 0o10000
+
+abbrev pub size_in : Option Fields → ℕ
+size_in (Some (field ∷ fields)) = size_by (keyword_of field) fields
+size_in line = 0o10000
+
+unfoldable pub size_of : List Fields → ℕ
+size_of lines = size_in (find has_fields lines)
+
+-- ---- the faults of lines, and the meaning of a text
+
+-- the fault of line k, counted from 1
+abbrev pub fault_in : ℕ → Result Line Flaw → Option DeckFault
+fault_in k (Ok line) = None
+fault_in k (Err flaw) = Some (record { line = k + 1; code = code_of flaw })
+
+-- all faults of lines, in their order
+unfoldable pub faults_in : List Fields → List DeckFault
+faults_in lines = filter_map (λ k. fault_in k (line_at (size_of lines) lines k)) (range_with_len 0 (length lines))
+
+abbrev pub line_in : Result Line Flaw → Option Line
+line_in (Ok line) = Some line
+line_in (Err flaw) = None
+
+-- what lines without a fault say, one after another
+unfoldable pub lines_said : List Fields → List Line
+lines_said lines = filter_map (λ k. line_in (line_at (size_of lines) lines k)) (range_with_len 0 (length lines))
+
+abbrev pub unless_faulty : List DeckFault → LoadedDeck → Result LoadedDeck DeckFault
+unless_faulty (fault ∷ faults) deck = Err fault
+unless_faulty [] deck = Ok deck
+
+-- what lines mean: the first fault, else what they load
+unfoldable pub meaning_of_lines : List Fields → Result LoadedDeck DeckFault
+meaning_of_lines lines = unless_faulty (faults_in lines) (loaded (size_of lines) (lines_said lines))
+
+-- a byte that is not ASCII: from 200 (octal) on
+abbrev pub is_foreign : ℕ → Bool
+is_foreign byte = nat_le 0o200 byte
+
+-- the number of the line in which byte i of a text stands, counted from 1
+abbrev pub line_of_byte : List ℕ → ℕ → ℕ
+line_of_byte text i = count_by is_line_feed (take i text) + 1
+
+abbrev pub unless_foreign : List ℕ → Option ℕ → Result LoadedDeck DeckFault
+unless_foreign text (Some i) = Err (record { line = line_of_byte text i; code = NotAscii })
+unless_foreign text None = meaning_of_lines (lines_of text)
+
+-- what a deck means, by the bytes of its text: at most 1,048,576 (decimal), all ASCII
+unfoldable pub deck_meaning : List ℕ → Result LoadedDeck DeckFault
+deck_meaning text =
+    if nat_lt 1048576 (length text) then Err (record { line = 0; code = TooLong })
+    else unless_foreign text (position is_foreign text)

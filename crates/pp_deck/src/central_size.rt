@@ -1,0 +1,45 @@
+//! The size of central memory that a deck asks for.
+
+ghost use Rattle.std.specs.Prelude.{◌≡◌};
+ghost use Rattle.pp_machine.specs.Central.{IsCentralSize};
+ghost use Rattle.pp_deck.specs.DeckLine.{keyword_of};
+ghost use Rattle.pp_deck.specs.DeckMeaning.{size_by, size_of};
+ghost use Rattle.pp_deck.specs.DeckText.{lines_of};
+
+use crate::deck_line::central_size_in;
+use crate::fields::Fields;
+use crate::keyword::Keyword;
+use crate::lines::Lines;
+
+/// The size where a deck sets none: 10000 words (octal).
+const DEFAULT_SIZE: u32 = 0o10000;
+
+/// The size of central memory that the text of a deck asks for.
+pub(crate) fn central_size(text: &[u8]) -> u32
+    ensures value { result ≡ size_of (lines_of text.now) }
+    ensures range { IsCentralSize result }
+{
+    let mut lines = Lines::of(text);
+    while let Some(mut fields) = lines.next_line() {
+        if let Some(first) = fields.next_field() {
+            return size_by_line(first, &mut fields);
+        }
+    }
+    DEFAULT_SIZE
+}
+
+/// The size that the first line with fields asks for: its first field, and those behind it.
+fn size_by_line(first: &[u8], fields: &mut Fields) -> u32
+    ensures value { result ≡ size_by (keyword_of first.now) fields.old }
+    ensures range { IsCentralSize result }
+{
+    match Keyword::of(first) {
+        Keyword::Central => central_size_in(fields).unwrap_or(DEFAULT_SIZE),
+        Keyword::CentralWords
+        | Keyword::Processor
+        | Keyword::Start
+        | Keyword::DeadStart
+        | Keyword::Words
+        | Keyword::Unknown => DEFAULT_SIZE,
+    }
+}

@@ -1,0 +1,107 @@
+//! Decks.
+
+ghost use Rattle.std.specs.Prelude.{ℕ, ◌≡◌, ◌≢◌, ◌≤◌, ◌<◌, ◌^◌, Ok, Err, IfOk, IfErr, OnOk, length, position};
+ghost use Rattle.pp_deck.specs.DeckText.{lines_of};
+ghost use Rattle.pp_machine.specs.DeadStart.{IsBeforeFirstTurn};
+ghost use Rattle.pp_deck.specs.DeckMeaning.{deck_meaning, meaning_of_lines, size_of, is_foreign, line_of_byte, with_dead_start};
+ghost use Rattle.pp_deck.specs.DeckProgress.{before_lines, deck_so_far};
+
+use crate::central_size::central_size;
+use crate::deck_fault::{DeckCode, DeckFault};
+use crate::lines::Lines;
+use crate::reading::Reading;
+use pp_machine::{Machine, PROCESSORS};
+use std::alloc::Allocator;
+
+/// The longest text of a deck, in bytes (decimal).
+const LONGEST_TEXT: usize = 1_048_576;
+
+/// A loaded machine, and the processors that its deck names, in the barrel's order.
+#[derive(Drop)]
+pub struct Deck<A: Allocator> {
+    pub machine: Machine<A>,
+    pub named: [bool; PROCESSORS],
+}
+
+/// The deck of a text: ASCII of at most 1,048,576 bytes (decimal), whose numbers are octal. What a
+/// text means is told in `specs/DeckMeaning`; only `Memory` takes the place of that.
+#[tactic(auto, unfolding(crate::specs::DeckMeaning::deck_meaning))]
+pub fn read_deck<A: Allocator + Copy>(alloc: A, text: &[u8]) -> Result<Deck<A>, DeckFault>
+    ensures ok { IfOk result (λ deck. deck_meaning text.now ≡ Ok (record { machine = deck.machine; named = deck.named })) }
+    ensures fault { IfErr result (λ fault. fault.code ≢ DeckCode.Memory → deck_meaning text.now ≡ Err fault) }
+    ensures memory_at_no_line { IfErr result (λ fault. fault.code ≡ DeckCode.Memory → fault.line ≡ 0) }
+
+    // These two take no memory.
+    ensures too_long { LONGEST_TEXT < length text.now → result ≡ Err (record { line = 0; code = DeckCode.TooLong }) }
+    ensures not_ascii { (i : ℕ) → length text.now ≤ LONGEST_TEXT → position is_foreign text.now ≡ Some i
+        → result ≡ Err (record { line = line_of_byte text.now i; code = DeckCode.NotAscii }) }
+{
+    if text.len() > LONGEST_TEXT {
+        return Err(DeckFault {
+            line: 0,
+            code: DeckCode::TooLong,
+        });
+    }
+    if let Some(i) = first_foreign(text) {
+        return Err(DeckFault {
+            line: line_of_byte(text, i),
+            code: DeckCode::NotAscii,
+        });
+    }
+    let Ok(mut reading) = Reading::new(alloc, central_size(text)) else {
+        return Err(OUT_OF_MEMORY);
+    };
+    read_lines(&mut reading, text)?;
+    reading.into_deck().map_err(|_| OUT_OF_MEMORY)
+}
+
+/// No line is at fault where memory was refused.
+const OUT_OF_MEMORY: DeckFault = DeckFault {
+    line: 0,
+    code: DeckCode::Memory,
+};
+
+/// Where the first byte stands that is not ASCII.
+fn first_foreign(text: &[u8]) -> Option<usize>
+    ensures { result ≡ position is_foreign text.now }
+{
+    text.iter().position(|byte| *byte >= 0o200)
+}
+
+/// The number of the line in which a byte stands.
+fn line_of_byte(text: &[u8], place: usize) -> u32
+    requires inside { place < length text.now }
+    requires limit { length text.now ≤ LONGEST_TEXT }
+    ensures { result ≡ line_of_byte text.now place }
+{
+    let ended = text[..place].iter().filter(|byte| **byte == b'\n').count();
+    ended as u32 + 1
+}
+
+/// Reads all lines of a text, up to the first fault.
+fn read_lines<A: Allocator>(reading: &mut Reading<A>, text: &[u8]) -> Result<(), DeckFault>
+    requires limit { length text.now ≤ LONGEST_TEXT }
+    requires size { size_of (lines_of text.now) ≤ 2 ^ 17 }
+    requires fresh { reading.old ≡ before_lines (size_of (lines_of text.now)) }
+    ensures ok { OnOk result (meaning_of_lines (lines_of text.now) ≡ Ok (with_dead_start reading.new.asks_dead_start (deck_so_far reading.new))) }
+    ensures before { OnOk result (IsBeforeFirstTurn reading.new.machine) }
+    ensures fault { IfErr result (λ fault. meaning_of_lines (lines_of text.now) ≡ Err fault) }
+    ensures no_memory { IfErr result (λ fault. fault.code ≢ DeckCode.Memory) }
+{
+    let mut lines = Lines::of(text);
+    let mut number = 0;
+    let mut is_behind_fields = false;
+    while let Some(mut fields) = lines.next_line() {
+        number += 1;
+        if let Some(first) = fields.next_field() {
+            if let Err(flaw) = reading.read_line(is_behind_fields, first, &mut fields) {
+                return Err(DeckFault {
+                    line: number,
+                    code: flaw.code(),
+                });
+            }
+            is_behind_fields = true;
+        }
+    }
+    Ok(())
+}

@@ -1,0 +1,94 @@
+//! What the fields of a line set.
+
+ghost use Rattle.std.specs.Prelude.{ℕ, ◌≡◌, ◌≢◌, ◌≤◌, ◌^◌, [], length, IfOk, IfErr, OnOk};
+ghost use Rattle.pp_word.specs.Address.{place_count};
+ghost use Rattle.pp_machine.specs.Central.{IsCentralSize};
+ghost use Rattle.pp_deck.specs.DeckLine.{words_in, start, start_from, central_size, central_line};
+ghost use Rattle.pp_deck.specs.DeckProgress.{loaded_from, with_central_words, on_read, Leaves};
+
+use crate::fields::Fields;
+use crate::flaw::Flaw;
+use crate::octal_number::{number, word12, word18, word60};
+use pp_machine::{Machine, Pp};
+use pp_word::{Word12, Word18};
+use std::alloc::Allocator;
+
+/// Central memory has at most 400000 words (octal).
+const LARGEST_SIZE: u32 = 0o400_000;
+
+/// The rest of the line is words from a place on.
+pub(crate) fn set_words(pp: &mut Pp, first: Word12, fields: &mut Fields) -> Result<(), Flaw>
+    ensures { Leaves pp.new result (on_read (λ ws. loaded_from first ws pp.old) (words_in 4 first place_count Flaw.PastEnd fields.old)) }
+{
+    let mut place = first.get();
+    while let Some(field) = fields.next_field() {
+        let word = word12(field)?;
+        let Some(at) = Word12::new(place) else {
+            return Err(Flaw::PastEnd);
+        };
+        pp.set(at, word);
+        place += 1;
+    }
+    Ok(())
+}
+
+/// The rest of the line is central words from an address on.
+pub(crate) fn set_central_words<A: Allocator>(
+    machine: &mut Machine<A>,
+    first: Word18,
+    fields: &mut Fields,
+) -> Result<(), Flaw>
+    requires { length machine.old.central ≤ 2 ^ 17 }
+    ensures { Leaves machine.new result (on_read (λ ws. with_central_words first ws machine.old) (words_in 20 first (length machine.old.central) Flaw.CentralRange fields.old)) }
+{
+    let mut address = first.get();
+    while let Some(field) = fields.next_field() {
+        let word = word60(field)?;
+        let Some(at) = Word18::new(address) else {
+            return Err(Flaw::CentralRange);
+        };
+        if !machine.write_central(at, word) {
+            return Err(Flaw::CentralRange);
+        }
+        address += 1;
+    }
+    Ok(())
+}
+
+/// The line ends here.
+pub(crate) fn end_line(fields: &mut Fields) -> Result<(), Flaw>
+    ensures ended { OnOk result (fields.old ≡ []) }
+    ensures flaw { IfErr result (λ flaw. (flaw ≡ Flaw.UnknownLine) × (fields.old ≢ [])) }
+{
+    match fields.next_field() {
+        Some(_) => Err(Flaw::UnknownLine),
+        None => Ok(()),
+    }
+}
+
+/// The A of a `START` line, behind its P; 0 where it gives none.
+pub(crate) fn start_a(fields: &mut Fields) -> Result<Word18, Flaw>
+    ensures { (p : ℕ) → start_from p fields.old ≡ on_read (start p) result }
+{
+    let Some(field) = fields.next_field() else {
+        return Ok(Word18::ZERO);
+    };
+    let a = word18(field)?;
+    end_line(fields)?;
+    Ok(a)
+}
+
+/// The size of central memory that a `CENTRAL` line sets, behind its keyword.
+#[tactic(auto, unfolding(crate::specs::DeckLine::central_line))]
+pub(crate) fn central_size_in(fields: &mut Fields) -> Result<u32, Flaw>
+    ensures line { central_line fields.old ≡ on_read central_size result }
+    ensures range { IfOk result IsCentralSize }
+{
+    let field = fields.next_field().ok_or(Flaw::UnknownLine)?;
+    let size = number(field, 6)? as u32;
+    if size < 1 || size > LARGEST_SIZE {
+        return Err(Flaw::CentralRange);
+    }
+    end_line(fields)?;
+    Ok(size)
+}

@@ -1,0 +1,89 @@
+//! The fields of a line.
+
+ghost use Rattle.std.specs.Prelude.{◌≡◌, ◌∷◌, [], not, IfSome, IfNone, position};
+ghost use Rattle.std.specs.List.{position_or_len};
+ghost use Rattle.pp_deck.specs.DeckText.{is_blank, without_return};
+
+use std::marker::Model;
+
+/// The fields of a line that are left, from left to right. Contracts see the list of them.
+#[derive(Drop)]
+pub(crate) struct Fields<'a> {
+    text: &'a [u8],
+}
+
+impl<'a> Model for Fields<'a> {
+    ghost use Rattle.std.specs.Prelude.{ℕ, List};
+    ghost use Rattle.pp_deck.specs.DeckText.{fields_in};
+
+    ghost Value = { List (List ℕ) };
+
+    ghost view = { λ fields. fields_in fields.text.now };
+}
+
+impl<'a> Fields<'a> {
+    ghost use Rattle.pp_deck.specs.DeckText.{fields_of};
+
+    /// The fields of a line.
+    pub(crate) fn of(line: &'a [u8]) -> Fields<'a>
+        ensures { result ≡ fields_of line.now }
+    {
+        Fields {
+            text: trimmed(line),
+        }
+    }
+
+    /// The next field, if there is one more.
+    pub(crate) fn next_field(&mut self) -> Option<&'a [u8]>
+        ensures taken { IfSome result (λ field. self.old ≡ field.now ∷ self.new) }
+        ensures none { IfNone result (self.old ≡ []) }
+    {
+        let start = first_character(self.text)?;
+        let text = &self.text[start..];
+        if text[0] == b'*' {
+            return None;
+        }
+        let (field, rest) = text.split_at(field_length(text));
+        self.text = rest;
+        Some(field)
+    }
+}
+
+/// The line without a carriage return at its end.
+fn trimmed(line: &[u8]) -> &[u8]
+    ensures { result.now ≡ without_return line.now }
+{
+    if !line.is_empty() && line[line.len() - 1] == b'\r' {
+        &line[..line.len() - 1]
+    } else {
+        line
+    }
+}
+
+fn is_blank(byte: u8) -> bool
+    ensures { result ≡ is_blank byte }
+{
+    byte == b' ' || byte == b'\t'
+}
+
+/// Where the first character stands that is not blank.
+fn first_character(text: &[u8]) -> Option<usize>
+    ensures { result ≡ position (λ byte. not (is_blank byte)) text.now }
+{
+    text.iter().position(|byte| !is_blank(*byte))
+}
+
+/// Where the first blank stands.
+fn first_blank(text: &[u8]) -> Option<usize>
+    ensures { result ≡ position is_blank text.now }
+{
+    text.iter().position(|byte| is_blank(*byte))
+}
+
+/// How many characters stand before the first blank.
+#[tactic(auto, using(crate::proofs::FieldLemmas::unwrap_or_position))]
+fn field_length(text: &[u8]) -> usize
+    ensures { result ≡ position_or_len is_blank text.now }
+{
+    first_blank(text).unwrap_or(text.len())
+}

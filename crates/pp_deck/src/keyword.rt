@@ -1,0 +1,59 @@
+//! The first field of a line, which tells what the line is.
+
+ghost use Rattle.std.specs.Prelude.{◌≡◌, slice_index};
+ghost use Rattle.pp_deck.specs.DeckLine.{is_digit};
+
+/// What the first field of a line announces.
+#[derive(Clone, Copy, Debug, PartialEq, Eq)]
+pub(crate) enum Keyword {
+    /// `CENTRAL`: the size of central memory.
+    Central,
+    /// `CM`: central words.
+    CentralWords,
+    /// `PP`: the processor whose section begins.
+    Processor,
+    /// `START`: where that processor starts.
+    Start,
+    /// `DEAD`: dead start.
+    DeadStart,
+    /// A digit: words of that processor.
+    Words,
+    /// Anything else.
+    Unknown,
+}
+
+impl Keyword {
+    ghost use Rattle.pp_deck.specs.DeckLine.{keyword_of};
+
+    /// What this first field announces.
+    #[tactic(auto, unfolding(crate::specs::DeckLine::keyword_of))]
+    pub(crate) fn of(field: &[u8]) -> Keyword
+        ensures { result ≡ keyword_of field.now }
+    {
+        if field == b"CENTRAL".as_slice() {
+            Keyword::Central
+        } else if field == b"CM".as_slice() {
+            Keyword::CentralWords
+        } else if field == b"PP".as_slice() {
+            Keyword::Processor
+        } else if field == b"START".as_slice() {
+            Keyword::Start
+        } else if field == b"DEAD".as_slice() {
+            Keyword::DeadStart
+        } else if begins_with_digit(field) {
+            Keyword::Words
+        } else {
+            Keyword::Unknown
+        }
+    }
+}
+
+/// Whether its first character is one of 0 to 9.
+fn begins_with_digit(field: &[u8]) -> bool
+    ensures { result ≡ is_digit (slice_index field.now 0) }
+{
+    match field {
+        [first, ..] => b'0' <= *first && *first <= b'9',
+        [] => false,
+    }
+}

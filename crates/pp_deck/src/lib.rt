@@ -1,0 +1,18 @@
+//! Decks: texts that load a machine, or are refused at a line.
+#![tactic(auto)]
+
+mod central_size;
+mod deck;
+mod deck_fault;
+mod deck_line;
+mod fields;
+mod flaw;
+mod keyword;
+mod laws;
+mod lines;
+mod octal_number;
+mod reading;
+
+pub use deck::{Deck, read_deck};
+pub use deck_fault::{DeckCode, DeckFault};
+pub use laws::{deck_law, headline_law, reading_law};

@@ -1,0 +1,60 @@
+//! The lines of a deck's text.
+
+ghost use Rattle.std.specs.Prelude.{◌≡◌, ◌∷◌, [], IfSome, IfNone, position};
+ghost use Rattle.pp_deck.specs.DeckText.{is_line_feed};
+
+use crate::fields::Fields;
+use std::marker::Model;
+
+/// The lines of a text that are left, from the first to the last. Contracts see the list of them,
+/// each as its fields.
+#[derive(Drop)]
+pub(crate) struct Lines<'a> {
+    /// What is left of the text; nothing behind the last line.
+    text: Option<&'a [u8]>,
+}
+
+impl<'a> Model for Lines<'a> {
+    ghost use Rattle.std.specs.Prelude.{ℕ, List};
+    ghost use Rattle.pp_deck.specs.DeckText.{lines_left};
+
+    ghost Value = { List (List (List ℕ)) };
+
+    ghost view = { λ lines. lines_left lines.text };
+}
+
+impl<'a> Lines<'a> {
+    ghost use Rattle.pp_deck.specs.DeckText.{lines_of};
+
+    /// The lines of a text.
+    pub(crate) fn of(text: &'a [u8]) -> Lines<'a>
+        ensures { result ≡ lines_of text.now }
+    {
+        Lines { text: Some(text) }
+    }
+
+    /// The fields of the next line, if there is one more.
+    pub(crate) fn next_line(&mut self) -> Option<Fields<'a>>
+        ensures taken { IfSome result (λ fields. self.old ≡ fields ∷ self.new) }
+        ensures none { IfNone result (self.old ≡ []) }
+    {
+        let text = self.text?;
+        match first_line_feed(text) {
+            Some(end) => {
+                self.text = Some(&text[end + 1..]);
+                Some(Fields::of(&text[..end]))
+            }
+            None => {
+                self.text = None;
+                Some(Fields::of(text))
+            }
+        }
+    }
+}
+
+/// Where the first line of a text ends.
+fn first_line_feed(text: &[u8]) -> Option<usize>
+    ensures { result ≡ position is_line_feed text.now }
+{
+    text.iter().position(|byte| *byte == b'\n')
+}

@@ -1,0 +1,48 @@
+//! Numbers in the fields of a deck.
+
+ghost use Rattle.std.specs.Prelude.{◌≡◌, ◌<◌, ◌≤◌, ◌^◌, IfOk};
+ghost use Rattle.pp_deck.specs.OctalNumber.{number};
+
+use crate::flaw::Flaw;
+use pp_word::{Word12, Word18, Word60};
+
+/// The number in a field of at most so many octal digits.
+#[tactic(auto, unfolding(crate::specs::OctalNumber::number))]
+pub(crate) fn number(field: &[u8], most: usize) -> Result<u64, Flaw>
+    requires { most ≤ 20 }
+    ensures exact { result ≡ number most field.now }
+    ensures small { IfOk result (λ n. n < 8 ^ most) }
+{
+    if field.is_empty() || field.len() > most {
+        return Err(Flaw::BadDigits);
+    }
+    let mut value = 0;
+    for digit in field {
+        if !(b'0' <= *digit && *digit <= b'7') {
+            return Err(Flaw::BadDigits);
+        }
+        value = value * 8 + u64::from(*digit - b'0');
+    }
+    Ok(value)
+}
+
+/// The word of 12 bits in a field of at most four digits.
+pub(crate) fn word12(field: &[u8]) -> Result<Word12, Flaw>
+    ensures { result ≡ number 4 field.now }
+{
+    Ok(Word12::truncated(number(field, 4)? as u32))
+}
+
+/// The word of 18 bits in a field of at most six digits.
+pub(crate) fn word18(field: &[u8]) -> Result<Word18, Flaw>
+    ensures { result ≡ number 6 field.now }
+{
+    Ok(Word18::truncated(number(field, 6)? as u32))
+}
+
+/// The word of 60 bits in a field of at most twenty digits.
+pub(crate) fn word60(field: &[u8]) -> Result<Word60, Flaw>
+    ensures { result ≡ number 20 field.now }
+{
+    Ok(Word60::truncated(number(field, 20)?))
+}

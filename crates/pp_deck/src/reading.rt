@@ -1,0 +1,162 @@
+//! A deck as far as it was read.
+
+ghost use Rattle.std.specs.Prelude.{◌≡◌, ◌≤◌, ◌∷◌, ◌^◌, length, map, not, is_some, None, Some, IfOk, IsErrOf, ◌↔◌, if◌then◌else◌};
+ghost use Rattle.pp_machine.specs.Central.{IsCentralSize};
+ghost use Rattle.pp_deck.specs.DeckLine.{section_line, start_line, words_line, central_words_line, line_behind, unless_misplaced};
+ghost use Rattle.pp_machine.specs.DeadStart.{IsBeforeFirstTurn};
+ghost use Rattle.pp_deck.specs.DeckMeaning.{with_dead_start};
+ghost use Rattle.pp_deck.specs.DeckProgress.{before_lines, after_line, deck_so_far, on_read, Leaves};
+
+use crate::deck::Deck;
+use crate::deck_line::{central_size_in, end_line, set_central_words, set_words, start_a};
+use crate::fields::Fields;
+use crate::flaw::Flaw;
+use crate::keyword::Keyword;
+use crate::octal_number::{number, word12, word18};
+use pp_channel::Memory;
+use pp_machine::{CentralFault, Machine, PROCESSORS, PpNo};
+use std::alloc::Allocator;
+use std::marker::Model;
+
+/// A deck as far as it was read. Contracts see it as its `Progress`.
+#[derive(Drop)]
+pub(crate) struct Reading<A: Allocator> {
+    machine: Machine<A>,
+    named: [bool; PROCESSORS],
+    current: Option<PpNo>,
+    asks_dead_start: bool,
+}
+
+impl<A: Allocator> Model for Reading<A> {
+    ghost use Rattle.pp_deck.specs.DeckProgress.{Progress};
+
+    ghost Value = { Progress };
+
+    ghost view = { λ r. record { machine = r.machine; named = r.named; current = r.current; asks_dead_start = r.asks_dead_start } };
+}
+
+impl<A: Allocator> Reading<A> {
+    /// Nothing is read yet, and central memory has this size.
+    #[tactic(auto, unfolding(crate::specs::DeckProgress::before_lines))]
+    pub(crate) fn new(alloc: A, size: u32) -> Result<Self, CentralFault>
+    where
+        A: Copy,
+        ensures ok { IfOk result (λ reading. reading ≡ before_lines size) }
+        ensures bad_size { IsErrOf result CentralFault.BadSize ↔ ¬ IsCentralSize size }
+    {
+        Ok(Reading {
+            machine: Machine::new(alloc, size)?,
+            named: [false; PROCESSORS],
+            current: None,
+            asks_dead_start: false,
+        })
+    }
+
+    /// The deck, once all lines are read: at dead start the processors that it does not name wait.
+    pub(crate) fn into_deck(self) -> Result<Deck<A>, Memory>
+    where
+        A: Clone,
+        requires { IsBeforeFirstTurn self.machine }
+        ensures { IfOk result (λ deck. record { machine = deck.machine; named = deck.named } ≡ with_dead_start self.asks_dead_start (deck_so_far self)) }
+    {
+        let Reading {
+            mut machine,
+            named,
+            current: _,
+            asks_dead_start,
+        } = self;
+        if asks_dead_start {
+            machine.dead_start(&unnamed(&named))?;
+        }
+        Ok(Deck { machine, named })
+    }
+
+    /// Reads a line with this first field and these behind it. `is_behind_fields` says whether a line
+    /// with fields stands before it.
+    #[tactic(auto, unfolding(crate::specs::DeckLine::line_behind, crate::specs::DeckProgress::after_line))]
+    pub(crate) fn read_line(
+        &mut self,
+        is_behind_fields: bool,
+        first: &[u8],
+        fields: &mut Fields,
+    ) -> Result<(), Flaw>
+        requires { length self.old.machine.central ≤ 2 ^ 17 }
+        ensures { Leaves self.new result (on_read (after_line self.old) (line_behind (length self.old.machine.central) is_behind_fields (is_some self.old.current) (first.now ∷ fields.old))) }
+    {
+        match Keyword::of(first) {
+            Keyword::Central => {
+                if is_behind_fields {
+                    return Err(Flaw::UnknownLine);
+                }
+                central_size_in(fields)?;
+                Ok(())
+            }
+            Keyword::CentralWords => self.read_central_words(fields),
+            Keyword::Processor => self.read_section(fields),
+            Keyword::Start => self.read_start(fields),
+            Keyword::DeadStart => {
+                end_line(fields)?;
+                self.asks_dead_start = true;
+                Ok(())
+            }
+            Keyword::Words => self.read_words(first, fields),
+            Keyword::Unknown => Err(Flaw::UnknownLine),
+        }
+    }
+
+    /// `CM a w w ..`, behind its keyword.
+    #[tactic(auto, unfolding(crate::specs::DeckLine::central_words_line, crate::specs::DeckProgress::after_line))]
+    fn read_central_words(&mut self, fields: &mut Fields) -> Result<(), Flaw>
+        requires { length self.old.machine.central ≤ 2 ^ 17 }
+        ensures { Leaves self.new result (on_read (after_line self.old) (central_words_line (length self.old.machine.central) fields.old)) }
+    {
+        let address = word18(fields.next_field().ok_or(Flaw::UnknownLine)?)?;
+        set_central_words(&mut self.machine, address, fields)
+    }
+
+    /// `PP n`, behind its keyword.
+    #[tactic(auto, unfolding(crate::specs::DeckLine::section_line, crate::specs::DeckProgress::after_line))]
+    fn read_section(&mut self, fields: &mut Fields) -> Result<(), Flaw>
+        ensures { Leaves self.new result (on_read (after_line self.old) (section_line fields.old)) }
+    {
+        let n = number(fields.next_field().ok_or(Flaw::UnknownLine)?, 2)?;
+        let processor = PpNo::new(n as u8).ok_or(Flaw::BadProcessor)?;
+        end_line(fields)?;
+        self.named[processor.index()] = true;
+        self.current = Some(processor);
+        Ok(())
+    }
+
+    /// `START p` or `START p a`, behind its keyword.
+    #[tactic(auto, unfolding(crate::specs::DeckLine::start_line, crate::specs::DeckProgress::after_line))]
+    fn read_start(&mut self, fields: &mut Fields) -> Result<(), Flaw>
+        ensures { Leaves self.new result (on_read (after_line self.old) (unless_misplaced (if is_some self.old.current then None else Some Flaw.NoProcessor) (start_line fields.old))) }
+    {
+        let processor = self.current.ok_or(Flaw::NoProcessor)?;
+        let p = word12(fields.next_field().ok_or(Flaw::UnknownLine)?)?;
+        let a = start_a(fields)?;
+        self.machine.pp_mut(processor).start(p, a);
+        Ok(())
+    }
+
+    /// `x w w ..`: its first field, and the words behind it.
+    #[tactic(auto, unfolding(crate::specs::DeckLine::words_line, crate::specs::DeckProgress::after_line))]
+    fn read_words(&mut self, first: &[u8], fields: &mut Fields) -> Result<(), Flaw>
+        ensures { Leaves self.new result (on_read (after_line self.old) (unless_misplaced (if is_some self.old.current then None else Some Flaw.NoProcessor) (words_line first.now fields.old))) }
+    {
+        let processor = self.current.ok_or(Flaw::NoProcessor)?;
+        let place = word12(first)?;
+        set_words(self.machine.pp_mut(processor), place, fields)
+    }
+}
+
+/// The processors that are not named.
+fn unnamed(named: &[bool; PROCESSORS]) -> [bool; PROCESSORS]
+    ensures { result ≡ map not named.now }
+{
+    let mut unnamed = [false; PROCESSORS];
+    for (place, is_named) in named.iter().enumerate() {
+        unnamed[place] = !is_named;
+    }
+    unnamed
+}

@@ -1,0 +1,71 @@
+-- Numbers of processors and their places: all that proofs know of them.
+use Rattle.std.proofs.Common.{◌≡◌, ◌≢◌, ℕ, ◌+◌, ◌%◌, ◌<◌, ◌≤◌, eqb, ⊎_elim, sym, ap, ◌∙◌, arith}
+use mathlib.Core.Logic.{dite}
+use native.Mathlib.Decide.{dec_lt}
+use Rattle.std.specs.Prelude.{IsTrue}
+use Rattle.std.proofs.lemmas.Bool.{cases_eq, eq-eqb, ne_eqb}
+use Rattle.pp_machine.specs.ProcessorNumber.{processor_count, names_processor, processor_index, processor_number, processor_in_turn}
+
+-- a processor's place is one of the list
+pub place_below : (n : ℕ) → IsTrue (names_processor n) → processor_index n < processor_count
+unfolding names_processor processor_index
+place_below n names = grind (arith)
+
+-- a number whose place is one of the list names a processor
+pub named_below : (n : ℕ) → processor_index n < processor_count → IsTrue (names_processor n)
+unfolding names_processor processor_index
+named_below n below = grind (arith)
+
+-- two processors at one place are the same
+same_place : (m n : ℕ) → IsTrue (names_processor m) → IsTrue (names_processor n) → processor_index m ≡ processor_index n → m ≡ n
+unfolding names_processor processor_index
+same_place m n names other same = grind (arith)
+
+-- only the processor itself has its place
+pub one_place : (m n : ℕ) → IsTrue (names_processor m) → processor_index n ≡ processor_index m → n ≡ m
+one_place m n names same =
+    let below = place_below m names in
+    same_place n m (named_below n (omega arith)) names same
+
+-- a number that names no processor has a place past the list
+pub place_past : (n : ℕ) → (IsTrue (names_processor n) → ⊥) → processor_count ≤ processor_index n
+place_past n none = dite (dec_lt (processor_index n) processor_count) (λ below. absurd (none (named_below n below))) (λ no. omega arith)
+
+-- the number of a place names the processor there
+pub place_of_number : (place : ℕ) → place < processor_count → processor_index (processor_number place) ≡ place
+unfolding processor_index processor_number
+place_of_number place below = grind (arith)
+
+pub number_named : (place : ℕ) → place < processor_count → IsTrue (names_processor (processor_number place))
+number_named place below = let at = place_of_number place below in named_below (processor_number place) (omega arith)
+
+pub number_of_place : (n : ℕ) → IsTrue (names_processor n) → processor_number (processor_index n) ≡ n
+number_of_place n names = one_place n (processor_number (processor_index n)) names (place_of_number (processor_index n) (place_below n names))
+
+-- the number of a place is n's just where the place is
+pub number_at : (place n : ℕ) → place < processor_count → eqb (processor_number place) n ≡ eqb place (processor_index n)
+number_at place n below = ⊎_elim
+    (λ (same : place ≡ processor_index n). eq-eqb (processor_number place) n (ap processor_number same ∙ number_of_place n (named_below n (omega arith))) ∙ sym (eq-eqb place (processor_index n) same))
+    (λ (other : place ≢ processor_index n). ne_eqb (processor_number place) n (λ is. other (sym (place_of_number place below) ∙ ap processor_index is)) ∙ sym (ne_eqb place (processor_index n) other))
+    (cases_eq place (processor_index n))
+
+-- the place of the processor whose turn it is
+pub place_in_turn : (turn : ℕ) → processor_index (processor_in_turn turn) ≡ turn % processor_count
+place_in_turn turn = place_of_number (turn % processor_count) (omega arith)
+
+-- the processor of a place comes first after so many turns
+pub in_turn_at : (place : ℕ) → place < processor_count → processor_in_turn place ≡ processor_number place
+in_turn_at place below = let same : place % processor_count ≡ place = omega arith in ap processor_number same
+
+-- the barrel begins with the processor of the first place
+pub place_of_first : processor_index 0 ≡ 0
+unfolding processor_index
+place_of_first = grind (arith)
+
+-- the processor whose turn comes next, after one that is not the last of the barrel, has the next place
+pub place_after : (n next : ℕ) → ((turn : ℕ) → n ≡ processor_in_turn turn → next ≡ processor_in_turn (turn + 1)) → processor_index n + 2 ≤ processor_count → processor_index next ≡ processor_index n + 1
+place_after n next is below =
+    let i : ℕ = processor_index n in
+    let here : processor_in_turn i ≡ n = in_turn_at i (omega arith) ∙ number_of_place n (named_below n (omega arith)) in
+    let within : (i + 1) % processor_count ≡ i + 1 = omega arith in
+    ap processor_index (is i (sym here)) ∙ (place_in_turn (i + 1) ∙ within)

@@ -1,0 +1,361 @@
+-- Quiet steps of different processors: whole rounds of them are as many steps of each processor by itself.
+use Rattle.std.proofs.Common.{◌≡◌, ◌≢◌, ℕ, zero, suc, ◌+◌, ◌*◌, ◌-◌, ◌^◌, ◌%◌, ◌<◌, ◌≤◌, List, [], ◌∷◌, length, ◌++◌, append-nil, slice_set, get_or, refl, sym, ap, subst, ◌∙◌, arith, inl, inr, get_or-set_same, get_or-set_other}
+use Rattle.std.specs.Prelude.{min, map, Bool, IsTrue, false, Option, Some, None}
+use Rattle.std.proofs.lemmas.Bool.{false≢true}
+use Rattle.std.proofs.lemmas.Bool.Decides.{eqb_tells, leb_tells}
+use Rattle.std.proofs.lemmas.List.{set-get_or, length-set, length-map, get_or-map, ext_get_or}
+use Rattle.pp_channel.specs.Answer.{event_of, reply_to, flags_of}
+use Rattle.pp_channel.specs.ChannelNumber.{channel_index}
+use Rattle.pp_channel.specs.declared.chan_op.ChanOp.{ChanOp}
+use Rattle.pp_channel.specs.declared.chan_op.ChanOp.TheVariants.{Probe}
+use Rattle.pp_channel.specs.declared.event.Event.{Event}
+use Rattle.pp_channel.specs.declared.flags.Flags.{Flags}
+use Rattle.pp_channel.specs.declared.reply.Reply.{Reply}
+use Rattle.pp_channel.specs.declared.reply.Reply.TheVariants as replies
+use Rattle.pp_machine.specs.declared.trace.Trace.{Trace}
+use Rattle.std.specs.Option.{option_to_list}
+use Rattle.pp_machine.specs.MachineState.{MachineState, processor_of, history_of}
+use Rattle.pp_machine.specs.MachineStep.{answer_to, counted, served, taken, stepped}
+use Rattle.pp_machine.specs.NeedAndEffect.{need, processor_after}
+use Rattle.pp_machine.specs.Processor.{Processor, new_processor}
+use Rattle.pp_machine.specs.ProcessorNumber.{processor_count, processor_index, processor_number, processor_in_turn}
+use Rattle.pp_machine.specs.Quiet.{is_none, is_quiet, step_beside, steps_beside, IsAhead, AreAhead}
+use Rattle.pp_machine.specs.Run.{run, barrel}
+use Rattle.pp_machine.specs.StepLaws.{IsAtRest}
+use Rattle.pp_machine.specs.declared.need.Need.{Need}
+use Rattle.pp_machine.specs.declared.need.Need.TheVariants.{Nothing, Local, Channel, Read, Write}
+use Rattle.pp_machine.specs.declared.answer.Answer.TheVariants as answers
+use Rattle.pp_machine.proofs.ProcessorPlaces.{in_turn_at, place_of_number}
+use Rattle.pp_machine.proofs.StepLemmas.{nothing_at_rest, rest_changes_nothing}
+use Rattle.pp_machine.proofs.RoundLemmas.{barrel_rounds}
+use Rattle.pp_machine.proofs.RunLemmas.{barrel_more}
+
+-- the same channels and the same central memory, with other processors and other turns
+abbrev pub beside : List Processor → ℕ → MachineState → MachineState
+beside processors turns m = record m { processors = processors; turns = turns }
+
+none_made : (made : Option Event) → IsTrue (is_none made) → made ≡ None
+none_made None none = refl
+none_made (Some event) none = cc
+
+-- an operation that makes no event changes no history
+served_quiet : (n c : ℕ) (operation : ChanOp) (m : MachineState) → event_of operation (history_of c m) ≡ None → served n (Channel c operation) m ≡ m
+served_quiet n c operation m none =
+    let h = history_of c m in
+    ap (λ (made : Option Event). record m { histories = slice_set m.histories (channel_index c) (h ++ option_to_list made); trace = m.trace ++ map (λ e. record { turn = m.turns; pp = n; channel = c; event = e }) (option_to_list made) }) none
+    ∙ ap (λ (g : List Event). record m { histories = slice_set m.histories (channel_index c) g; trace = m.trace ++ [] }) (append-nil h)
+    ∙ ap (λ (hs : List (List Event)). record m { histories = hs; trace = m.trace ++ [] }) (set-get_or m.histories (channel_index c) [])
+    ∙ ap (λ (t : List Trace). record m { trace = t }) (append-nil m.trace)
+
+-- a quiet step changes its processor, and counts a turn
+quiet_need : (n : ℕ) (x : Need) (pp : Processor) (ps : List Processor) (t : ℕ) (m : MachineState) → IsTrue (is_quiet x m) → pp ≡ processor_of n (beside ps t m)
+    → taken n (answer_to x (beside ps t m)) (served n x (beside ps t m)) ≡ beside (slice_set ps (processor_index n) (processor_after pp (answer_to x m))) (counted t) m
+quiet_need n Nothing pp ps t m quiet here = rw here refl
+quiet_need n Local pp ps t m quiet here = rw here refl
+quiet_need n (Channel c operation) pp ps t m quiet here =
+    let k = beside ps t m in
+    let x = Channel c operation in
+    ap (λ (l : MachineState). taken n (answer_to x m) l) (served_quiet n c operation k (none_made (event_of operation (history_of c m)) quiet))
+    ∙ ap (λ (q : Processor). beside (slice_set ps (processor_index n) (processor_after q (answer_to x m))) (counted t) m) (sym here)
+quiet_need n (Read a) pp ps t m quiet here = cc
+quiet_need n (Write a w) pp ps t m quiet here = cc
+
+stepped_quiet : (n : ℕ) (pp : Processor) (ps : List Processor) (t : ℕ) (m : MachineState) → pp ≡ processor_of n (beside ps t m) → IsTrue (is_quiet (need pp) m)
+    → stepped n (beside ps t m) ≡ beside (slice_set ps (processor_index n) (step_beside m pp)) (counted t) m
+unfolding stepped
+stepped_quiet n pp ps t m here quiet =
+    let k = beside ps t m in
+    ap (λ (q : Processor). taken n (answer_to (need q) k) (served n (need q) k)) (sym here)
+    ∙ quiet_need n (need pp) pp ps t m quiet here
+
+-- the first processors of a list, each a step ahead
+abbrev stepping : ℕ → MachineState → List Processor → List Processor
+stepping zero m ps = ps
+stepping (suc place) m ps = slice_set (stepping place m ps) place (step_beside m (get_or ps place new_processor))
+
+length-stepping : (place : ℕ) (m : MachineState) (ps : List Processor) → length (stepping place m ps) ≡ length ps
+length-stepping zero m ps = refl
+length-stepping (suc place) m ps = length-set (stepping place m ps) place (step_beside m (get_or ps place new_processor)) ∙ length-stepping place m ps
+
+-- those from the place on are not
+stepping_after : (place k : ℕ) (m : MachineState) (ps : List Processor) → place ≤ k → get_or (stepping place m ps) k new_processor ≡ get_or ps k new_processor
+stepping_after zero k m ps after = refl
+stepping_after (suc place) k m ps after =
+    let apart : k ≢ place = omega arith in
+    get_or-set_other (stepping place m ps) place k (step_beside m (get_or ps place new_processor)) new_processor apart
+    ∙ stepping_after place k m ps (omega arith)
+
+-- those before it are
+stepping_before : (place k : ℕ) (m : MachineState) (ps : List Processor) → place ≤ length ps → k < place → get_or (stepping place m ps) k new_processor ≡ step_beside m (get_or ps k new_processor)
+stepping_before zero k m ps within before = absurd (omega arith)
+stepping_before (suc place) k m ps within before =
+    elim (eqb_tells k place) as (λ _. get_or (stepping (suc place) m ps) k new_processor ≡ step_beside m (get_or ps k new_processor)) [
+      | inl same ↦
+          let inside : place < length (stepping place m ps) = omega (arith, length-stepping place m ps) in
+          rw same.1 (get_or-set_same (stepping place m ps) place (step_beside m (get_or ps place new_processor)) new_processor inside)
+      | inr apart ↦
+          get_or-set_other (stepping place m ps) place k (step_beside m (get_or ps place new_processor)) new_processor apart.1
+          ∙ stepping_before place k m ps (omega arith) (omega (arith, apart.1))
+    ]
+
+stepping_all : (m : MachineState) (ps : List Processor) → length ps ≡ processor_count → stepping processor_count m ps ≡ map (step_beside m) ps
+stepping_all m ps all =
+    ext_get_or new_processor (stepping processor_count m ps) (map (step_beside m) ps)
+    (length-stepping processor_count m ps ∙ sym (length-map ps (step_beside m)))
+    (λ i within.
+    let inside : i < length ps = omega (arith, length-stepping processor_count m ps) in
+    stepping_before processor_count i m ps (omega arith) (omega arith)
+    ∙ sym (get_or-map (step_beside m) ps i new_processor new_processor inside))
+
+-- the first turns of a round of quiet steps
+round_to : (place : ℕ) (m : MachineState) (ps : List Processor) (t : ℕ) → place ≤ processor_count → t ≤ 2 ^ 64 - 1
+    → ((k : ℕ) → k < processor_count → IsTrue (is_quiet (need (get_or ps k new_processor)) m))
+    → run (barrel place) (beside ps t m) ≡ beside (stepping place m ps) (min (t + place) (2 ^ 64 - 1)) m
+round_to zero m ps t within bound quiet =
+    let same : t ≡ min (t + 0) (2 ^ 64 - 1) = omega arith in
+    ap (λ u. beside ps u m) same
+round_to (suc place) m ps t within bound quiet =
+    let more : suc place ≡ place + 1 = omega arith in
+    let n = processor_number place in
+    let turn : processor_in_turn place ≡ n = in_turn_at place (omega arith) in
+    let here : processor_index n ≡ place = place_of_number place (omega arith) in
+    let u = min (t + place) (2 ^ 64 - 1) in
+    let count : counted u ≡ min (t + suc place) (2 ^ 64 - 1) = omega arith in
+    let pp = get_or ps place new_processor in
+    ap (λ turns. run (barrel turns) (beside ps t m)) more
+    ∙ barrel_more place (beside ps t m)
+    ∙ ap (λ k. stepped k (run (barrel place) (beside ps t m))) turn
+    ∙ ap (stepped n) (round_to place m ps t (omega arith) bound quiet)
+    ∙ stepped_quiet n pp (stepping place m ps) u m (sym (ap (λ i. get_or (stepping place m ps) i new_processor) here ∙ stepping_after place place m ps (omega arith))) (quiet place (omega arith))
+    ∙ ap (λ i. beside (slice_set (stepping place m ps) i (step_beside m pp)) (counted u) m) here
+    ∙ ap (λ v. beside (stepping (suc place) m ps) v m) count
+
+whole_round : (m : MachineState) (ps : List Processor) (t : ℕ) → length ps ≡ processor_count → t ≤ 2 ^ 64 - 1
+    → ((k : ℕ) → k < processor_count → IsTrue (is_quiet (need (get_or ps k new_processor)) m))
+    → run (barrel processor_count) (beside ps t m) ≡ beside (map (step_beside m) ps) (min (t + processor_count) (2 ^ 64 - 1)) m
+whole_round m ps t all bound quiet =
+    round_to processor_count m ps t (omega arith) bound quiet
+    ∙ ap (λ qs. beside qs (min (t + processor_count) (2 ^ 64 - 1)) m) (stepping_all m ps all)
+
+map_again : (f g : Processor → Processor) (ps : List Processor) → map f (map g ps) ≡ map (λ pp. f (g pp)) ps
+map_again f g [] = refl
+map_again f g (pp ∷ ps) = ap (λ qs. f (g pp) ∷ qs) (map_again f g ps)
+
+map_same : (ps : List Processor) → map (λ pp. pp) ps ≡ ps
+map_same [] = refl
+map_same (pp ∷ ps) = ap (λ qs. pp ∷ qs) (map_same ps)
+
+-- whole rounds of quiet steps
+rounds_by_map : (steps : ℕ) (m : MachineState) → length m.processors ≡ processor_count → m.turns ≤ 2 ^ 64 - 1
+    → ((j k : ℕ) → j < steps → k < processor_count → IsTrue (is_quiet (need (steps_beside j m (get_or m.processors k new_processor))) m))
+    → run (barrel (steps * processor_count)) m ≡ beside (map (steps_beside steps m) m.processors) (min (m.turns + steps * processor_count) (2 ^ 64 - 1)) m
+unfolding steps_beside
+rounds_by_map zero m all bound quiet =
+    let same : m.turns ≡ min (m.turns + 0) (2 ^ 64 - 1) = omega arith in
+    ap (λ u. beside m.processors u m) same ∙ ap (λ ps. beside ps (min (m.turns + 0) (2 ^ 64 - 1)) m) (sym (map_same m.processors))
+rounds_by_map (suc steps) m all bound quiet =
+    let ps = map (steps_beside steps m) m.processors in
+    let t = min (m.turns + steps * processor_count) (2 ^ 64 - 1) in
+    let more : suc steps * processor_count ≡ steps * processor_count + processor_count = omega arith in
+    let whole : steps * processor_count % processor_count ≡ 0 = omega arith in
+    let long : length ps ≡ processor_count = length-map m.processors (steps_beside steps m) ∙ all in
+    let count : min (t + processor_count) (2 ^ 64 - 1) ≡ min (m.turns + suc steps * processor_count) (2 ^ 64 - 1) = omega arith in
+    let below : t ≤ 2 ^ 64 - 1 = omega arith in
+    let quiet_now : (k : ℕ) → k < processor_count → IsTrue (is_quiet (need (get_or ps k new_processor)) m) = λ k within.
+    let here = get_or-map (steps_beside steps m) m.processors k new_processor new_processor (omega arith) in
+    subst (λ (pp : Processor). IsTrue (is_quiet (need pp) m)) (sym here) (quiet steps k (omega arith) within) in
+    ap (λ turns. run (barrel turns) m) more
+    ∙ barrel_rounds processor_count (steps * processor_count) m whole
+    ∙ ap (run (barrel processor_count)) (rounds_by_map steps m all bound (λ j k before within. quiet j k (omega arith) within))
+    ∙ whole_round m ps t long below quiet_now
+    ∙ ap (λ u. beside (map (step_beside m) ps) u m) count
+    ∙ ap (λ qs. beside qs (min (m.turns + suc steps * processor_count) (2 ^ 64 - 1)) m) (map_again (step_beside m) (steps_beside steps m) m.processors)
+
+-- where all processors went so many quiet steps ahead, and the turns are counted, the machine is as after whole rounds
+pub rounds_ahead : (steps : ℕ) (m : MachineState) (new : List Processor) → length m.processors ≡ processor_count → m.turns ≤ 2 ^ 64 - 1 → AreAhead steps 0 m m.processors new
+    → beside new (min (m.turns + steps * processor_count) (2 ^ 64 - 1)) m ≡ run (barrel (steps * processor_count)) m
+rounds_ahead steps m new all bound ahead =
+    let same : new ≡ map (steps_beside steps m) m.processors =
+    ext_get_or new_processor new (map (steps_beside steps m) m.processors)
+    (ahead.as_many ∙ sym (length-map m.processors (steps_beside steps m)))
+    (λ i within.
+    let many = ahead.as_many in
+    (ahead.ahead i (omega arith) (omega arith)).after
+    ∙ sym (get_or-map (steps_beside steps m) m.processors i new_processor new_processor (omega arith))) in
+    ap (λ ps. beside ps (min (m.turns + steps * processor_count) (2 ^ 64 - 1)) m) same
+    ∙ sym (rounds_by_map steps m all bound (λ j k before within. (ahead.ahead k (omega arith) within).quiet j before))
+
+-- no step is ahead by none
+pub none_ahead : (m : MachineState) (pp : Processor) → IsAhead 0 m pp pp
+unfolding steps_beside
+none_ahead m pp = record { quiet = λ j before. absurd (omega arith); after = refl }
+
+pub none_are_ahead : (place : ℕ) (m : MachineState) (ps : List Processor) → AreAhead 0 place m ps ps
+none_are_ahead place m ps = record { as_many = refl; before = λ k before. refl; ahead = λ k after within. none_ahead m (get_or ps k new_processor) }
+
+-- some steps, and then more
+steps_more : (more steps : ℕ) (m : MachineState) (pp : Processor) → steps_beside (steps + more) m pp ≡ steps_beside more m (steps_beside steps m pp)
+unfolding steps_beside
+steps_more zero steps m pp = let same : steps + 0 ≡ steps = omega arith in rw same refl
+steps_more (suc more) steps m pp =
+    let further : steps + suc more ≡ suc (steps + more) = omega arith in
+    rw further (ap (step_beside m) (steps_more more steps m pp))
+
+pub ahead_more : (steps more : ℕ) (m : MachineState) (old between new : Processor) → IsAhead steps m old between → IsAhead more m between new → IsAhead (steps + more) m old new
+ahead_more steps more m old between new first then = record {
+  quiet = λ j before.
+      elim (leb_tells steps j) as (λ _. IsTrue (is_quiet (need (steps_beside j m old)) m)) [
+        | inl further ↦
+            let after = further.1 in
+            let here : j ≡ steps + (j - steps) = omega arith in
+            let there : steps_beside j m old ≡ steps_beside (j - steps) m between = ap (λ i. steps_beside i m old) here ∙ steps_more (j - steps) steps m old ∙ ap (steps_beside (j - steps) m) (sym first.after) in
+            subst (λ (pp : Processor). IsTrue (is_quiet (need pp) m)) (sym there) (then.quiet (j - steps) (omega arith))
+        | inr sooner ↦ first.quiet j sooner.1
+      ];
+  after = then.after ∙ ap (steps_beside more m) first.after ∙ sym (steps_more more steps m old);
+}
+
+-- one quiet step more
+pub one_more_ahead : (steps : ℕ) (m : MachineState) (old between new : Processor) → IsAhead steps m old between → IsTrue (is_quiet (need between) m) → new ≡ step_beside m between → IsAhead (steps + 1) m old new
+unfolding steps_beside
+one_more_ahead steps m old between new first quiet then =
+    ahead_more steps 1 m old between new first (record {
+      quiet = λ j before. let here : j ≡ 0 = omega arith in subst (λ i. IsTrue (is_quiet (need (steps_beside i m between)) m)) (sym here) quiet;
+      after = then;
+    })
+
+-- that needs nothing
+pub local_ahead : (steps : ℕ) (m : MachineState) (old between new : Processor) → IsAhead steps m old between → need between ≡ Local → new ≡ processor_after between answers.Local → IsAhead (steps + 1) m old new
+local_ahead steps m old between new first local then =
+    one_more_ahead steps m old between new first (ap (λ x. is_quiet x m) local)
+    (then ∙ ap (λ x. processor_after between (answer_to x m)) (sym local))
+
+-- that is an operation on a channel without an event
+pub shown_ahead : (steps c : ℕ) (operation : ChanOp) (reply : Reply) (m : MachineState) (old between new : Processor) → IsAhead steps m old between → need between ≡ Channel c operation
+    → event_of operation (history_of c m) ≡ None → reply ≡ reply_to operation (history_of c m)
+    → new ≡ processor_after between (answers.Channel reply) → IsAhead (steps + 1) m old new
+shown_ahead steps c operation reply m old between new first asks none shown then =
+    one_more_ahead steps m old between new first (ap (λ x. is_quiet x m) asks ∙ ap is_none none)
+    (then ∙ ap (λ r. processor_after between (answers.Channel r)) shown ∙ ap (λ x. processor_after between (answer_to x m)) (sym asks))
+
+-- that tests the flags of a channel
+pub probe_ahead : (steps c : ℕ) (flags : Flags) (m : MachineState) (old between new : Processor) → IsAhead steps m old between → need between ≡ Channel c Probe → flags ≡ flags_of (history_of c m)
+    → new ≡ processor_after between (answers.Channel (replies.Flags flags)) → IsAhead (steps + 1) m old new
+probe_ahead steps c flags m old between new first asks shown then =
+    shown_ahead steps c Probe (replies.Flags flags) m old between new first asks refl (ap (λ f. replies.Flags f) shown) then
+
+-- a processor whose quiet step leaves it as it is, is as far ahead as you like
+still_beside : (steps : ℕ) (m : MachineState) (pp : Processor) → step_beside m pp ≡ pp → steps_beside steps m pp ≡ pp
+unfolding steps_beside
+still_beside zero m pp still = refl
+still_beside (suc steps) m pp still = ap (step_beside m) (still_beside steps m pp still) ∙ still
+
+still_ahead : (steps : ℕ) (m : MachineState) (pp : Processor) → IsTrue (is_quiet (need pp) m) → step_beside m pp ≡ pp → IsAhead steps m pp pp
+still_ahead steps m pp quiet still = record {
+  quiet = λ j before. subst (λ (q : Processor). IsTrue (is_quiet (need q) m)) (sym (still_beside j m pp still)) quiet;
+  after = sym (still_beside steps m pp still);
+}
+
+ahead_and_still : (steps most : ℕ) (m : MachineState) (old new : Processor) → IsAhead steps m old new → IsTrue (is_quiet (need new) m) → step_beside m new ≡ new → steps ≤ most → IsAhead most m old new
+ahead_and_still steps most m old new first quiet still within =
+    let all : steps + (most - steps) ≡ most = omega arith in
+    subst (λ k. IsAhead k m old new) all (ahead_more steps (most - steps) m old new new first (still_ahead (most - steps) m new quiet still))
+
+rest_still : (m : MachineState) (pp : Processor) → need pp ≡ Nothing → step_beside m pp ≡ pp
+rest_still m pp rests = rest_changes_nothing pp (answer_to (need pp) m) ((nothing_at_rest pp).0 rests)
+
+rest_ahead : (steps : ℕ) (m : MachineState) (pp : Processor) → need pp ≡ Nothing → IsAhead steps m pp pp
+rest_ahead steps m pp rests = still_ahead steps m pp (ap (λ x. is_quiet x m) rests) (rest_still m pp rests)
+
+-- as one at rest
+pub ahead_at_rest : (steps most : ℕ) (m : MachineState) (old new : Processor) → IsAhead steps m old new → need new ≡ Nothing → steps ≤ most → IsAhead most m old new
+ahead_at_rest steps most m old new first rests within = ahead_and_still steps most m old new first (ap (λ x. is_quiet x m) rests) (rest_still m new rests) within
+
+-- and one that is held
+pub ahead_held : (steps most c : ℕ) (operation : ChanOp) (reply : Reply) (m : MachineState) (old between new : Processor) → IsAhead steps m old between → need between ≡ Channel c operation
+    → event_of operation (history_of c m) ≡ None → reply ≡ reply_to operation (history_of c m)
+    → new ≡ processor_after between (answers.Channel reply) → new ≡ between → steps ≤ most → IsAhead most m old new
+ahead_held steps most c operation reply m old between new first asks none shown then held within =
+    let step : step_beside m between ≡ new = ap (λ x. processor_after between (answer_to x m)) asks ∙ ap (λ r. processor_after between (answers.Channel r)) (sym shown) ∙ sym then in
+    let all : IsAhead most m old between = ahead_and_still steps most m old between first (ap (λ x. is_quiet x m) asks ∙ ap is_none none) (step ∙ held) within in
+    subst (λ (pp : Processor). IsAhead most m old pp) (sym held) all
+
+-- a processor at rest is as far ahead as those behind its place
+pub ahead_with_rest : (steps place : ℕ) (m : MachineState) (ps qs : List Processor) → IsAtRest (get_or ps place new_processor) → AreAhead steps (place + 1) m ps qs → AreAhead steps place m ps qs
+ahead_with_rest steps place m ps qs rests further = record {
+  as_many = further.as_many;
+  before = λ k before. further.before k (omega arith);
+  ahead = λ k after within.
+      elim (eqb_tells k place) as (λ _. IsAhead steps m (get_or ps k new_processor) (get_or qs k new_processor)) [
+        | inl same ↦
+            let pp = get_or ps place new_processor in
+            let here : get_or qs place new_processor ≡ pp = further.before place (omega arith) in
+            let there : IsAhead steps m pp (get_or qs place new_processor) = subst (λ (q : Processor). IsAhead steps m pp q) (sym here) (rest_ahead steps m pp ((nothing_at_rest pp).1 rests)) in
+            subst (λ i. IsAhead steps m (get_or ps i new_processor) (get_or qs i new_processor)) (sym same.1) there
+        | inr apart ↦ further.ahead k (omega (arith, apart.1)) within
+      ];
+}
+
+-- a processor that went ahead, and then those behind its place, as far as it did
+pub ahead_together : (steps place : ℕ) (m : MachineState) (ps qs : List Processor) (new : Processor) → place < length ps → IsAhead steps m (get_or ps place new_processor) new
+    → AreAhead steps (place + 1) m (slice_set ps place new) qs → AreAhead steps place m ps qs
+ahead_together steps place m ps qs new inside first further = record {
+  as_many = further.as_many ∙ length-set ps place new;
+  before = λ k before.
+      let apart : k ≢ place = omega arith in
+      further.before k (omega arith) ∙ get_or-set_other ps place k new new_processor apart;
+  ahead = λ k after within.
+      elim (eqb_tells k place) as (λ _. IsAhead steps m (get_or ps k new_processor) (get_or qs k new_processor)) [
+        | inl same ↦
+            let here : get_or qs place new_processor ≡ new = further.before place (omega arith) ∙ get_or-set_same ps place new new_processor inside in
+            let there : IsAhead steps m (get_or ps place new_processor) (get_or qs place new_processor) = subst (λ (q : Processor). IsAhead steps m (get_or ps place new_processor) q) (sym here) first in
+            subst (λ i. IsAhead steps m (get_or ps i new_processor) (get_or qs i new_processor)) (sym same.1) there
+        | inr apart ↦
+            let old = get_or-set_other ps place k new new_processor apart.1 in
+            subst (λ (q : Processor). IsAhead steps m q (get_or qs k new_processor)) old (further.ahead k (omega (arith, apart.1)) within)
+      ];
+}
+
+refuted : (b : Bool) → IsTrue b → b ≡ false → ⊥
+refuted b holds fails = absurd (false≢true (sym fails ∙ holds))
+
+-- as many steps as it made before, or fewer, are made again
+made_again : (again steps most : ℕ) (m : MachineState) (old between new : Processor) → IsAhead most m old between → steps ≤ most → IsAhead again m old new → again ≤ steps
+    → (again < steps → is_quiet (need new) m ≡ false) → IsAhead steps m old new
+made_again again steps most m old between new first within then less exact =
+    elim (leb_tells steps again) as (λ _. IsAhead steps m old new) [
+      | inl all ↦ let after = all.1 in let same : again ≡ steps = omega arith in subst (λ k. IsAhead k m old new) same then
+      | inr fewer ↦
+          let before = fewer.1 in
+          let stops : is_quiet (need (steps_beside again m old)) m ≡ false = subst (λ (pp : Processor). is_quiet (need pp) m ≡ false) then.after (exact before) in
+          absurd (refuted (is_quiet (need (steps_beside again m old)) m) (first.quiet again (omega arith)) stops)
+    ]
+
+-- where it was put back, and went as far as the others
+pub ahead_again : (again steps most place : ℕ) (m : MachineState) (ps qs : List Processor) (old between new : Processor) → place < length ps → old ≡ get_or ps place new_processor
+    → IsAhead most m old between → steps < most → AreAhead steps (place + 1) m (slice_set ps place between) qs
+    → IsAhead again m old new → again ≤ steps → (again < steps → is_quiet (need new) m ≡ false)
+    → AreAhead steps place m ps (slice_set (slice_set qs place old) place new)
+ahead_again again steps most place m ps qs old between new inside here first within further then less exact =
+    let whole : IsAhead steps m old new = made_again again steps most m old between new first (omega arith) then less exact in
+    let back = slice_set qs place old in
+    let count : length (slice_set back place new) ≡ length ps = length-set back place new ∙ length-set qs place old ∙ further.as_many ∙ length-set ps place between in
+    let there : place < length back = omega (arith, length-set back place new) in
+    let others : AreAhead steps (place + 1) m (slice_set ps place new) (slice_set back place new) = record {
+      as_many = count ∙ sym (length-set ps place new);
+      before = λ k before.
+          elim (eqb_tells k place) as (λ _. get_or (slice_set back place new) k new_processor ≡ get_or (slice_set ps place new) k new_processor) [
+            | inl same ↦ rw same.1 (get_or-set_same back place new new_processor there ∙ sym (get_or-set_same ps place new new_processor inside))
+            | inr apart ↦
+                get_or-set_other back place k new new_processor apart.1 ∙ get_or-set_other qs place k old new_processor apart.1
+                ∙ further.before k before ∙ get_or-set_other ps place k between new_processor apart.1
+                ∙ sym (get_or-set_other ps place k new new_processor apart.1)
+          ];
+      ahead = λ k after bound.
+          let apart : k ≢ place = omega arith in
+          let from : get_or (slice_set ps place between) k new_processor ≡ get_or (slice_set ps place new) k new_processor = get_or-set_other ps place k between new_processor apart ∙ sym (get_or-set_other ps place k new new_processor apart) in
+          let to : get_or qs k new_processor ≡ get_or (slice_set back place new) k new_processor = sym (get_or-set_other back place k new new_processor apart ∙ get_or-set_other qs place k old new_processor apart) in
+          subst (λ (q : Processor). IsAhead steps m (get_or (slice_set ps place new) k new_processor) q) to
+          (subst (λ (q : Processor). IsAhead steps m q (get_or qs k new_processor)) from (further.ahead k after bound));
+    } in
+    ahead_together steps place m ps (slice_set back place new) new inside (subst (λ (pp : Processor). IsAhead steps m pp new) here whole) others

@@ -1,0 +1,80 @@
+-- A step of a machine, put together from what its parts left in the machine's fields.
+use Rattle.std.proofs.Common.{◌≡◌, ℕ, ◌<◌, List, [], length, get_or, slice_set, Option, None, Some, false, refl, ap, ◌∙◌, rules}
+use Rattle.std.specs.Prelude.{Bool, true, IsNone, IsSome, IsTrue, ◌↔◌, if◌then◌else◌}
+use Rattle.std.proofs.lemmas.List.{get_or_read, set-get_or}
+use Rattle.pp_channel.specs.ChannelNumber.{channel_index}
+use Rattle.pp_channel.specs.declared.event.Event.{Event}
+use Rattle.pp_machine.specs.MachineState.{MachineState, history_of, processor_of}
+use Rattle.pp_machine.specs.MachineStep.{answer_to, counted, served, taken, stepped, step_outcome}
+use Rattle.pp_machine.specs.NeedAndEffect.{need, processor_after, outcome, outcome_in, is_held}
+use Rattle.pp_machine.specs.Processor.{Processor, new_processor}
+use Rattle.pp_machine.specs.ProcessorNumber.{processor_index}
+use Rattle.pp_machine.specs.declared.answer.Answer.{Answer}
+use Rattle.pp_machine.specs.declared.answer.Answer.TheVariants.{Local}
+use Rattle.pp_machine.specs.declared.block.Block.{Block}
+use Rattle.pp_machine.specs.declared.need.Need.{Need}
+use Rattle.pp_machine.specs.declared.outcome.Outcome.TheVariants.{Held, Moved}
+use Rattle.pp_machine.specs.declared.pp_state.PpState.TheVariants.{Running}
+
+-- what was read at the place of processor n is that processor
+pub own_processor : {before now : MachineState} {i : ℕ} {pp : Processor} (n : ℕ) → before ≡ now → i ≡ processor_index n → i < length before.processors → pp ≡ get_or before.processors i pp → pp ≡ processor_of n now
+own_processor {before} {now} {i} {pp} n view place within read =
+    get_or_read before.processors i pp within read new_processor
+    ∙ ap (λ k. get_or before.processors k new_processor) place
+    ∙ ap (processor_of n) view
+
+-- a machine whose processor n took an answer, and which counted a turn
+pub taken_by : {before now new : MachineState} {i : ℕ} {pp after : Processor} (n : ℕ) (x : Answer) → before ≡ now → i ≡ processor_index n → pp ≡ processor_of n now → after ≡ processor_after pp x
+    → new ≡ record before { processors = slice_set before.processors i after; turns = counted before.turns } → new ≡ taken n x now
+taken_by {before} {now} {new} {i} {pp} {after} n x view place own is new_is =
+    new_is
+    ∙ ap (λ (m : MachineState). record m { processors = slice_set m.processors i after; turns = counted m.turns }) view
+    ∙ ap (λ k. record now { processors = slice_set now.processors k after; turns = counted now.turns }) place
+    ∙ ap (λ q. record now { processors = slice_set now.processors (processor_index n) q; turns = counted now.turns }) (is ∙ ap (λ p. processor_after p x) own)
+
+never_held : (block : Option Block) → is_held block Local ≡ false
+never_held None = refl
+never_held (Some block) = refl
+
+-- what needs nothing from outside moves a running processor
+pub moved_alone : (pp : Processor) → pp.state ≡ Running → outcome pp Local ≡ Moved
+unfolding outcome
+moved_alone pp running = ap (λ s. outcome_in s pp Local) running ∙ ap (λ held. if held then Held else Moved) (never_held pp.block)
+
+-- a choice by whether a number names something, where the search for it is known
+pub if_found : {X Y : Type 0} (found : X) (b : Bool) (t e : Y) → (IsSome (Some found) ↔ IsTrue b) → (if b then t else e) ≡ t
+if_found found true t e h = refl
+if_found found false t e h = search rules
+
+pub if_missing : {X Y : Type 0} (missing : Option X) (b : Bool) (t e : Y) → missing ≡ None → (IsSome missing ↔ IsTrue b) → (if b then t else e) ≡ e
+if_missing missing false t e none h = refl
+if_missing None true t e none h = search rules
+if_missing (Some found) true t e none h = cc
+
+-- a machine that got one of its processors back as it was
+pub same_machine : {before now : MachineState} {pp after : Processor} (i : ℕ) → before ≡ now → pp ≡ get_or before.processors i pp → after ≡ pp → record before { processors = slice_set before.processors i after } ≡ now
+same_machine {before} {now} {pp} {after} i view read same =
+    ap (λ q. record before { processors = slice_set before.processors i q }) (same ∙ read)
+    ∙ ap (λ (pps : List Processor). record before { processors = pps }) (set-get_or before.processors i pp)
+    ∙ view
+
+-- a step by what it needs
+pub stepped_for : (n : ℕ) (x : Need) (m : MachineState) → need (processor_of n m) ≡ x → stepped n m ≡ taken n (answer_to x m) (served n x m)
+unfolding stepped
+stepped_for n x m needs = ap (λ x. taken n (answer_to x m) (served n x m)) needs
+
+pub outcome_for : (n : ℕ) (x : Need) (m : MachineState) → need (processor_of n m) ≡ x → step_outcome n m ≡ outcome (processor_of n m) (answer_to x m)
+unfolding step_outcome
+outcome_for n x m needs = ap (λ x. outcome (processor_of n m) (answer_to x m)) needs
+
+-- what was read at the place of channel n is its history
+pub own_history : {before now : MachineState} {i : ℕ} {h : List Event} (n : ℕ) → before ≡ now → i ≡ channel_index n → i < length before.histories → h ≡ get_or before.histories i h → h ≡ history_of n now
+own_history {before} {now} {i} {h} n view place within read =
+    get_or_read before.histories i h within read []
+    ∙ ap (λ k. get_or before.histories k []) place
+    ∙ ap (history_of n) view
+
+-- what is there is not missing
+pub some_is_made : {X : Type 0} (made : Option X) (event : X) → made ≡ Some event → IsNone made → ⊥
+some_is_made None event is none = cc
+some_is_made (Some other) event is none = search rules

@@ -1,0 +1,53 @@
+use Rattle.std.proofs.Common.{◌≡◌, ◌<◌, Bool, true, refl, List, [], ap, sym, subst, ◌∙◌, arith, get_or, length}
+use Rattle.std.specs.Prelude.{if◌then◌else◌}
+use Rattle.std.proofs.lemmas.List.{get_or_read}
+use Rattle.pp_channel.specs.Answer.{flags_of}
+use Rattle.pp_channel.specs.ChannelNumber.{channel_index, names_channel}
+use Rattle.pp_channel.specs.declared.chan_op.ChanOp.TheVariants.{Probe}
+use Rattle.pp_channel.specs.declared.event.Event.{Event}
+use Rattle.pp_machine.specs.MachineState.{history_of}
+use Rattle.pp_machine.specs.NeedAndEffect.{need}
+use Rattle.pp_machine.specs.Processor.{Processor}
+use Rattle.pp_machine.specs.Quiet.{IsAhead}
+use Rattle.pp_machine.specs.declared.need.Need.TheVariants as needs
+use Rattle.pp_machine.proofs.QuietLemmas.{none_ahead, local_ahead, probe_ahead}
+use Rattle.pp_machine.proofs.quiet.run_free_steps.Goals as goal
+
+pub loop-made-init : goal.loop-made-init
+loop-made-init g c = λ m same. none_ahead m c.args.pp.now
+
+pub loop-made-preserved-then-run_inner : goal.loop-made-preserved-then-run_inner
+loop-made-preserved-then-run_inner g c = λ m same.
+    local_ahead c.loop-made.made m c.args.pp.now c.loop-made.pp c.run_inner.new.self (c.loop-made.invariant m same) c.if-run_inner.ensures.local c.if-run_inner.ensures.after
+
+pub returns-then-not-tests_flags-clause-ahead : goal.returns-then-not-tests_flags-clause-ahead
+returns-then-not-tests_flags-clause-ahead g c = λ m same.
+    subst (λ (pp : Processor). IsAhead c.loop-made.made m c.args.pp.now pp) (sym c.if-run_inner.ensures.otherwise) (c.loop-made.invariant m same)
+
+pub returns-in_default-new-clause-ahead : goal.returns-in_default-new-clause-ahead
+returns-in_default-new-clause-ahead g c = λ m same.
+    subst (λ (pp : Processor). IsAhead c.loop-made.made m c.args.pp.now pp) (sym c.if-run_inner.ensures.otherwise) (c.loop-made.invariant m same)
+
+pub loop-made-preserved : goal.loop-made-preserved
+loop-made-preserved g c = λ m same.
+    let histories = c.args.channels.now.items in
+    let between = c.run_inner.new.self in
+    let channel = c.in-Some-new.channel in
+    let d = c.next_instruction-next.result.1 in
+    let ahead : IsAhead c.loop-made.made m c.args.pp.now between = subst (λ (pp : Processor). IsAhead c.loop-made.made m c.args.pp.now pp) (sym c.if-run_inner.ensures.otherwise) (c.loop-made.invariant m same) in
+    let number : channel ≡ d = c.in-Some-new.ensures.value ∙ c.get.ensures.value in
+    let named : names_channel d ≡ true = ap names_channel (sym c.get.ensures.value) ∙ c.in-Some-new.ensures.exists.0 refl in
+    let asks : need between ≡ needs.Channel channel Probe =
+    c.if-not-tests_flags.ensures ∙ ap (λ (b : Bool). if b then needs.Channel d Probe else needs.Local) named ∙ ap (λ k. needs.Channel k Probe) (sym number) in
+    let place = c.index.result in
+    let inside : place < length histories = omega (arith, c.index.ensures.below, c.requires.channels, c.args.channels.now.ok.0) in
+    let here : c.index-in-loop-made.result.now ≡ history_of channel m =
+    get_or_read histories place c.index-in-loop-made.result.now inside c.index-in-loop-made.ensures []
+    ∙ ap (λ i. get_or histories i []) c.index.ensures.place
+    ∙ ap (λ (hs : List (List Event)). get_or hs (channel_index channel) []) (sym same) in
+    probe_ahead c.loop-made.made channel c.flags-flags.result m c.args.pp.now between c.test_flags.new.self ahead asks (c.flags-flags.ensures ∙ ap flags_of here) c.test_flags.ensures.after
+
+pub returns-clause-ahead : goal.returns-clause-ahead
+returns-clause-ahead g c = λ m same.
+    let all : c.loop-made.made ≡ c.args.most = omega arith in
+    subst (λ k. IsAhead k m c.args.pp.now c.loop-made.pp) all (c.loop-made.invariant m same)

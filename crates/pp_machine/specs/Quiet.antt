@@ -1,0 +1,46 @@
+-- Quiet steps: they make no event and write no central word, so they change nothing but their own processor. Where all
+-- steps of some rounds of the barrel are quiet, those of different processors can change places.
+use Rattle.std.specs.Prelude.{◌≡◌, ℕ, zero, suc, ◌<◌, ◌≤◌, Bool, true, false, IsTrue, List, Option, Some, None, length, slice_index_or}
+use Rattle.pp_channel.specs.Answer.{event_of}
+use Rattle.pp_channel.specs.declared.event.Event.{Event}
+use Rattle.pp_machine.specs.MachineState.{MachineState, history_of}
+use Rattle.pp_machine.specs.MachineStep.{answer_to}
+use Rattle.pp_machine.specs.NeedAndEffect.{need, processor_after}
+use Rattle.pp_machine.specs.Processor.{Processor, new_processor}
+use Rattle.pp_machine.specs.ProcessorNumber.{processor_count}
+use Rattle.pp_machine.specs.declared.need.Need.{Need}
+use Rattle.pp_machine.specs.declared.need.Need.TheVariants.{Nothing, Local, Channel, Read, Write}
+
+-- whether it is no event
+abbrev pub is_none : Option Event → Bool
+is_none None = true
+is_none (Some event) = false
+
+-- whether a step with this need is taken as quiet: nothing is needed from outside, or an operation on a channel that
+-- makes no event, since it is a probe or is held. A central read is not, though it changes nothing else.
+abbrev pub is_quiet : Need → MachineState → Bool
+is_quiet Nothing m = true
+is_quiet Local m = true
+is_quiet (Channel c operation) m = is_none (event_of operation (history_of c m))
+is_quiet (Read a) m = false
+is_quiet (Write a w) m = false
+
+-- a processor after its next step, where the channels and central memory are those of a machine
+abbrev pub step_beside : MachineState → Processor → Processor
+step_beside m pp = processor_after pp (answer_to (need pp) m)
+
+-- and after so many
+unfoldable pub steps_beside : ℕ → MachineState → Processor → Processor
+steps_beside zero m pp = pp
+steps_beside (suc steps) m pp = step_beside m (steps_beside steps m pp)
+
+-- a processor went so many steps ahead, each of them quiet
+pub record IsAhead (steps : ℕ) (m : MachineState) (old new : Processor) : Type 0 where
+  pub quiet : (j : ℕ) → j < steps → IsTrue (is_quiet (need (steps_beside j m old)) m)
+  pub after : new ≡ steps_beside steps m old
+
+-- all processors from a place of the barrel on went so many quiet steps ahead, and those before it stand where they stood
+pub record AreAhead (steps place : ℕ) (m : MachineState) (old new : List Processor) : Type 0 where
+  pub as_many : length new ≡ length old
+  pub before : (k : ℕ) → k < place → slice_index_or new k new_processor ≡ slice_index_or old k new_processor
+  pub ahead : (k : ℕ) → place ≤ k → k < processor_count → IsAhead steps m (slice_index_or old k new_processor) (slice_index_or new k new_processor)

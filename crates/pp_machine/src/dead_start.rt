@@ -1,0 +1,109 @@
+//! Dead start: processors that wait for their programs on channels of their own.
+
+ghost use Rattle.std.specs.Prelude.{◌≡◌, ◌≤◌, ◌<◌, [], ◌∷◌, take, vec_len, slice_set, IsTrue, IfOk, OnOk, OnErr};
+ghost use Rattle.pp_channel.specs.declared.event.Event.TheVariants.{Activate};
+ghost use Rattle.pp_machine.specs.ProcessorNumber.{processor_count, names_processor};
+
+use crate::machine::Machine;
+use crate::pp_no::{PROCESSORS, PpNo};
+use pp_channel::{ChanOp, Channel, ChannelNo, Memory};
+use std::alloc::Allocator;
+
+impl<A: Allocator> Machine<A> {
+    ghost use Rattle.pp_machine.specs.DeadStart.{IsBeforeFirstTurn, dead_started, with_waiting};
+    ghost use Rattle.pp_machine.specs.Headline.{HoldsOnEachChannel};
+    ghost use Rattle.pp_machine.specs.MachineState.{history_of, is_opened};
+
+    /// Whether dead start opened the channel.
+    pub fn opened(&self, ch: ChannelNo) -> bool
+        ensures { result ≡ is_opened ch self.now }
+    {
+        self.opened[ch.index()]
+    }
+
+    /// Lets processors wait for their programs, each on the channel of its own number, which is then
+    /// active and empty; `waiting` has the processors in the barrel's order. No turn is counted yet, and
+    /// no channel has a history. These Activates are in no trace. After `Memory` nothing has changed.
+    pub fn dead_start(&mut self, waiting: &[bool; PROCESSORS]) -> Result<(), Memory>
+    where
+        A: Clone,
+        requires { IsBeforeFirstTurn self.old }
+        ensures ok { OnOk result (self.new ≡ dead_started waiting.now self.old) }
+        ensures unchanged_after_memory { OnErr result (self.new ≡ self.old) }
+        ensures headline { HoldsOnEachChannel self.new }
+    {
+        let answer = self.open_below(waiting, PROCESSORS);
+        // This call tells the proof what holds of every machine.
+        let _turns = self.turns();
+        answer
+    }
+
+    /// The same for the first processors alone. All channels are there before the first is put in.
+    fn open_below(&mut self, waiting: &[bool; PROCESSORS], count: usize) -> Result<(), Memory>
+    where
+        A: Clone,
+        requires count { count ≤ processor_count }
+        requires before { IsBeforeFirstTurn self.old }
+        ensures ok { OnOk result (self.new ≡ dead_started (take count waiting.now) self.old) }
+        ensures unchanged_after_memory { OnErr result (self.new ≡ self.old) }
+    {
+        // This call tells the proof what holds of every machine.
+        let _turns = self.turns();
+        if count == 0 {
+            return Ok(());
+        }
+        let place = count - 1;
+        if !waiting[place] {
+            return self.open_below(waiting, place);
+        }
+        let n = PpNo::at(place);
+        let channel = opened_channel(self.channel(own_channel(n)))?;
+        self.open_below(waiting, place)?;
+        self.let_wait(n, channel);
+        Ok(())
+    }
+
+    /// One processor waits, on the channel of its own number; this is that channel, opened.
+    fn let_wait(&mut self, n: PpNo, channel: Channel<A>)
+        requires opened { channel ≡ Activate ∷ [] }
+        requires unused { history_of n self.old ≡ [] }
+        ensures { self.new ≡ with_waiting n self.old }
+    {
+        let own = own_channel(n);
+        let i = own.index();
+        let _history = channel.history();
+        self.processors[n.index()].wait_load(own);
+        put_channel(&mut self.channels, i, channel);
+        self.opened[i] = true;
+    }
+}
+
+/// The channel of the processor's own number.
+#[tactic(auto, using(crate::proofs::DeadStartLemmas::channel_of_processor))]
+fn own_channel(n: PpNo) -> ChannelNo
+    ensures value { result ≡ n }
+    ensures named { IsTrue (names_processor n) }
+{
+    let Some(channel) = ChannelNo::new(n.get()) else {
+        unreachable!()
+    };
+    channel
+}
+
+/// A channel like this one, which has no history, on which an Activate has happened.
+fn opened_channel<A: Allocator + Clone>(channel: &Channel<A>) -> Result<Channel<A>, Memory>
+    requires { channel.now ≡ [] }
+    ensures { IfOk result (λ c. c ≡ Activate ∷ []) }
+{
+    let mut opened = channel.copy()?;
+    let _done = opened.act(ChanOp::Activate)?;
+    Ok(opened)
+}
+
+/// A channel at a place.
+fn put_channel<A: Allocator>(channels: &mut Vec<Channel<A>, A>, place: usize, channel: Channel<A>)
+    requires { place < vec_len channels.old }
+    ensures { channels.new.items ≡ slice_set channels.old.items place channel }
+{
+    channels[place] = channel;
+}

@@ -1,0 +1,150 @@
+//! Rounds of the barrel in which each step is quiet: it makes no event and writes no central word.
+
+ghost use Rattle.std.specs.Prelude.{◌≡◌, ◌<◌, ◌≤◌, [], None, IfSome, IsNone, IsSome, IsTrue, false, slice_index_or, vec_len};
+ghost use Rattle.pp_channel.specs.Answer.{event_of, reply_to};
+ghost use Rattle.pp_channel.specs.ChannelNumber.{channel_count, channel_index};
+ghost use Rattle.pp_machine.specs.MachineState.{MachineState};
+ghost use Rattle.pp_machine.specs.NeedAndEffect.{need};
+ghost use Rattle.pp_machine.specs.ProcessorNumber.{processor_count};
+ghost use Rattle.pp_machine.specs.Quiet.{is_quiet, IsAhead, AreAhead};
+ghost use Rattle.pp_machine.specs.Replay.{reply_fits};
+
+use crate::answer::Answer;
+use crate::need::Need;
+use crate::outcome::Outcome;
+use crate::pp::Pp;
+use crate::pp_no::PROCESSORS;
+use crate::pp_state::PpState;
+use pp_channel::{ChanOp, Channel, ChannelNo, Reply};
+use std::alloc::Allocator;
+
+/// Runs all processors from a place of the barrel on, each as many steps, up to so many, as all of them
+/// can make quietly, and says how many that are.
+pub(crate) fn run_ahead<A: Allocator>(
+    processors: &mut Vec<Pp, A>,
+    channels: &Vec<Channel<A>, A>,
+    place: usize,
+    most: u32,
+) -> u32
+    requires all { vec_len processors.old ≡ processor_count }
+    requires channels { vec_len channels.now ≡ channel_count }
+    requires within { place ≤ processor_count }
+    ensures most { result ≤ most }
+    ensures as_many { vec_len processors.new ≡ processor_count }
+    ensures ahead { (m : MachineState) → m.histories ≡ channels.now.items → AreAhead result place m processors.old.items processors.new.items }
+{
+    if most == 0 {
+        return 0;
+    }
+    if place == PROCESSORS {
+        return most;
+    }
+    match processors[place].state() {
+        PpState::Running => {}
+        PpState::Stopped | PpState::Fault(_) => {
+            return run_ahead(processors, channels, place + 1, most);
+        }
+    }
+    let before = processors[place].copy();
+    let made = run_quiet_steps(&mut processors[place], channels, most);
+    let all = run_ahead(processors, channels, place + 1, made);
+    if all < made {
+        processors[place] = before;
+        let _again = run_quiet_steps(&mut processors[place], channels, all);
+    }
+    all
+}
+
+/// Makes up to so many steps of a processor, as long as each is quiet, and says how many it made.
+fn run_quiet_steps<A: Allocator>(pp: &mut Pp, channels: &Vec<Channel<A>, A>, most: u32) -> u32
+    requires channels { vec_len channels.now ≡ channel_count }
+    ensures most { result ≤ most }
+    ensures ahead { (m : MachineState) → m.histories ≡ channels.now.items → IsAhead result m pp.old pp.new }
+    ensures exact { (m : MachineState) → m.histories ≡ channels.now.items → result < most → is_quiet (need pp.new) m ≡ false }
+{
+    let mut made = 0;
+    while made < most {
+        made += run_free_steps(pp, channels, most - made);
+        if made == most {
+            return made;
+        }
+        match pp.wants() {
+            // At rest all further steps are the same.
+            Need::Nothing => return most,
+            Need::Local => {
+                let _moved = pp.give(Answer::Local);
+                made += 1;
+            }
+            Need::Channel(channel, op) => {
+                let Some(reply) = shown(channels, channel, &op) else {
+                    return made;
+                };
+                match pp.give(Answer::Channel(reply)) {
+                    // The channels stay as they are, so it is held in all further steps too.
+                    Outcome::Held => return most,
+                    Outcome::Moved | Outcome::AtRest => made += 1,
+                }
+            }
+            Need::Read(_) | Need::Write(_, _) => return made,
+        }
+    }
+    made
+}
+
+/// Makes up to so many steps of a processor, as long as each is an instruction of the codes 00 to 57
+/// (octal) or a test of flags, and says how many it made.
+#[inline(never)]
+fn run_free_steps<A: Allocator>(pp: &mut Pp, channels: &Vec<Channel<A>, A>, most: u32) -> u32
+    requires channels { vec_len channels.now ≡ channel_count }
+    ensures most { result ≤ most }
+    ensures ahead { (m : MachineState) → m.histories ≡ channels.now.items → IsAhead result m pp.old pp.new }
+{
+    for made in 0..most {
+        match pp.state() {
+            PpState::Running => {}
+            PpState::Stopped | PpState::Fault(_) => return made,
+        }
+        let (next, d) = pp.next_instruction();
+        let Some(op) = next else {
+            return made;
+        };
+        if pp.run_inner(op, d) {
+            continue;
+        }
+        if !pp.tests_flags(op, d) {
+            return made;
+        }
+        let Some(channel) = ChannelNo::new(d.get()) else {
+            return made;
+        };
+        let flags = channels[channel.index()].flags();
+        pp.test_flags(op, d, flags);
+    }
+    most
+}
+
+/// What a channel answers to an operation where that makes no event.
+fn shown<A: Allocator>(
+    channels: &Vec<Channel<A>, A>,
+    channel: ChannelNo,
+    op: &ChanOp,
+) -> Option<Reply>
+    requires { vec_len channels.now ≡ channel_count }
+    ensures no_event { IsSome result → event_of op.now (slice_index_or channels.now.items (channel_index channel) []) ≡ None }
+    ensures reply { IfSome result (λ reply. reply ≡ reply_to op.now (slice_index_or channels.now.items (channel_index channel) [])) }
+    ensures fits { IfSome result (λ reply. IsTrue (reply_fits op.now reply)) }
+    ensures event { IsNone result → IsSome (event_of op.now (slice_index_or channels.now.items (channel_index channel) [])) }
+{
+    let channel = &channels[channel.index()];
+    let made = channel.next_event(op);
+    match &made {
+        Some(_event) => None,
+        None => {
+            let flags = channel.flags();
+            Some(match op {
+                ChanOp::Probe => Reply::Flags(flags),
+                _ => Reply::Held(flags),
+            })
+        }
+    }
+}

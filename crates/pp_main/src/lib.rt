@@ -1,0 +1,63 @@
+//! What the program does from its words to its exit status. It stands in a library, so that several
+//! programs with other words, decks and statuses can be run on it.
+#![tactic(auto)]
+
+use pp_sim::run_program;
+use std::alloc::{AllocError, Global};
+use std::env::Env;
+use std::io::{ErrorKind, Read, Write};
+use std::process::ExitCode;
+use std::sync::Wait;
+use std::thread::Threads;
+use std::{env, io};
+
+/// The status where a word is not UTF-8.
+const LINE_REFUSED: u8 = 2;
+
+/// The status where memory was refused.
+const NO_MEMORY: u8 = 4;
+
+/// Does what the words of the command line ask for, over these three streams, and answers the status to
+/// exit with: 0 done, 1 deck refused, 2 command line refused, 3 a device failed, 4 out of memory.
+pub fn run_main<R: Env + Alloc<A = Global> + Threads + Wait + Sync, I: Read, O: Write, E: Write>(
+    rt: &R,
+    input: &mut I,
+    output: &mut O,
+    error: &mut E,
+) -> ExitCode {
+    let alloc = rt.alloc();
+    let arguments = match read_arguments(rt, alloc) {
+        Ok(arguments) => arguments,
+        Err(fault) if fault.kind() == ErrorKind::OutOfMemory => return without_memory(error),
+        Err(_) => {
+            let _ = writeln!(error, "ppsim: a word is not UTF-8");
+            return ExitCode::from(LINE_REFUSED);
+        }
+    };
+    let Ok(words) = as_words(alloc, &arguments) else {
+        return without_memory(error);
+    };
+    ExitCode::from(run_program(rt, alloc, words.as_slice(), input, output, error))
+}
+
+fn without_memory<E: Write>(error: &mut E) -> ExitCode {
+    let _ = writeln!(error, "ppsim: out of memory");
+    ExitCode::from(NO_MEMORY)
+}
+
+/// The program's words, its name first.
+fn read_arguments<R: Env + Alloc<A = Global>>(rt: &R, alloc: Global) -> io::Result<Vec<String>> {
+    let mut arguments = Vec::new(alloc);
+    for argument in env::args(rt)? {
+        arguments.push(argument)?;
+    }
+    Ok(arguments)
+}
+
+fn as_words<'a>(alloc: Global, arguments: &'a [String]) -> Result<Vec<&'a str>, AllocError> {
+    let mut words = Vec::new(alloc);
+    for argument in arguments {
+        words.push(argument.as_str())?;
+    }
+    Ok(words)
+}

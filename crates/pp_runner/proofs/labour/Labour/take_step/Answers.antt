@@ -1,0 +1,109 @@
+use Rattle.std.proofs.Common.{◌<◌, List, length, refl, sym, ap, ◌∙◌, subst, arith, rules}
+use Rattle.std.specs.Prelude.{vec_len, vec_capacity}
+use Rattle.pp_channel.specs.RisingLog.{seen_on}
+use Rattle.pp_machine.specs.declared.answer.Answer.{Answer}
+use Rattle.pp_runner.proofs.EndLemmas.{end_memory, end_patience, end_worn}
+use Rattle.pp_runner.proofs.LineLemmas.{same_line_still, same_line_twice}
+use Rattle.pp_runner.specs.Labour.{IsAtWork}
+use Rattle.pp_runner.proofs.labour.Labour.take_step.Goals as goal
+
+pub returns-then-is_err-clause-work : goal.returns-then-is_err-clause-work
+returns-then-is_err-clause-work g c =
+    subst (λ (xs : List Answer). IsAtWork c.args.load.now c.args.site.now.central c.args.site.now.limits.steps c.args.self.now.pp xs c.args.self.now.line.log) (sym c.reserve.ensures.items) c.requires.work
+
+pub returns-then-is_err-clause-same_line : goal.returns-then-is_err-clause-same_line
+returns-then-is_err-clause-same_line g c = same_line_still _
+
+pub returns-then-is_err-clause-ended : goal.returns-then-is_err-clause-ended
+returns-then-is_err-clause-ended g c =
+    end_memory c.args.site.now.limits.steps c.args.self.now.pp c.reserve.new.self.items c.args.self.now.line.log.entries c.requires.running (omega (arith, c.reserve.new.self.ok.0, c.reserve.ensures.len, c.requires.steps_left))
+
+pub returns-then-is_err-clause-worn : goal.returns-then-is_err-clause-worn
+returns-then-is_err-clause-worn g c = λ is. absurd cc
+
+pub loop-held-init : goal.loop-held-init
+loop-held-init g c = record {
+  work = subst (λ (xs : List Answer). IsAtWork c.args.load.now c.args.site.now.central c.args.site.now.limits.steps c.args.self.now.pp xs c.args.self.now.line.log) (sym c.reserve.ensures.items) c.requires.work;
+  same_line = same_line_still _;
+  same_pp = refl;
+  same_answers = c.reserve.ensures.items;
+  place = search rules;
+  was = λ held. absurd (omega (arith, held));
+}
+
+pub try_step-requires-clause-running : goal.try_step-requires-clause-running
+try_step-requires-clause-running g c = ap (λ p. p.state) c.loop-held.invariant.same_pp ∙ c.requires.running
+
+pub try_step-requires-clause-steps_left : goal.try_step-requires-clause-steps_left
+try_step-requires-clause-steps_left g c =
+    omega (arith, c.loop-held.self.answers.ok.0, c.args.self.now.answers.ok.0, ap (λ (xs : List Answer). length xs) c.loop-held.invariant.same_answers, c.requires.steps_left)
+
+pub try_step-requires-clause-place : goal.try_step-requires-clause-place
+try_step-requires-clause-place g c = c.loop-held.invariant.place
+
+pub try_step-requires-clause-work : goal.try_step-requires-clause-work
+try_step-requires-clause-work g c = c.loop-held.invariant.work
+
+pub returns-in-Moved-clause-work : goal.returns-in-Moved-clause-work
+returns-in-Moved-clause-work g c = c.try_step.ensures.work
+
+pub returns-in-Moved-clause-same_line : goal.returns-in-Moved-clause-same_line
+returns-in-Moved-clause-same_line g c =
+    same_line_twice c.args.self.now.line c.loop-held.self.line c.try_step.new.self.line c.loop-held.invariant.same_line c.try_step.ensures.same_line
+
+pub returns-in-Moved-clause-moved : goal.returns-in-Moved-clause-moved
+returns-in-Moved-clause-moved g c =
+    omega (arith, c.try_step.ensures.moved c.in-Moved.is, c.loop-held.self.answers.ok.0, c.args.self.now.answers.ok.0, ap (λ (xs : List Answer). length xs) c.loop-held.invariant.same_answers)
+
+pub returns-in-Worn-clause-work : goal.returns-in-Worn-clause-work
+returns-in-Worn-clause-work g c = c.try_step.ensures.work
+
+pub returns-in-Worn-clause-same_line : goal.returns-in-Worn-clause-same_line
+returns-in-Worn-clause-same_line g c =
+    same_line_twice c.args.self.now.line c.loop-held.self.line c.try_step.new.self.line c.loop-held.invariant.same_line c.try_step.ensures.same_line
+
+pub returns-in-Worn-clause-few : goal.returns-in-Worn-clause-few
+returns-in-Worn-clause-few g c =
+    omega (arith, ap (λ v. vec_len v) (c.try_step.ensures.worn c.in-Worn.is).1, c.loop-held.self.answers.ok.0, c.args.self.now.answers.ok.0, ap (λ (xs : List Answer). length xs) c.loop-held.invariant.same_answers, c.requires.steps_left)
+
+pub returns-in-Worn-clause-ended : goal.returns-in-Worn-clause-ended
+returns-in-Worn-clause-ended g c =
+    let worn = c.try_step.ensures.worn c.in-Worn.is in
+    end_worn c.args.site.now.limits.steps c.try_step.new.self.pp c.try_step.new.self.answers.items c.try_step.new.self.line.log.entries (λ k. seen_on k c.try_step.new.self.line.seen)
+    (ap (λ p. p.state) (worn.0 ∙ c.loop-held.invariant.same_pp) ∙ c.requires.running)
+    (omega (arith, c.args.self.now.answers.ok.0, ap (λ v. length v.items) worn.1, ap (λ (xs : List Answer). length xs) c.loop-held.invariant.same_answers, c.requires.steps_left))
+    worn.2
+
+pub returns-in-Worn-clause-worn : goal.returns-in-Worn-clause-worn
+returns-in-Worn-clause-worn g c = λ is. (c.try_step.ensures.worn c.in-Worn.is).2
+
+pub loop-held-preserved : goal.loop-held-preserved
+loop-held-preserved g c =
+    let held = c.try_step.ensures.held c.in-Held.is in record {
+      work = c.try_step.ensures.work;
+      same_line = same_line_twice c.args.self.now.line c.loop-held.self.line c.try_step.new.self.line c.loop-held.invariant.same_line c.try_step.ensures.same_line;
+      same_pp = held.0 ∙ c.loop-held.invariant.same_pp;
+      same_answers = ap (λ v. v.items) held.1 ∙ c.loop-held.invariant.same_answers;
+      place = subst (λ v. vec_len v < vec_capacity v) (sym held.1) c.loop-held.invariant.place;
+      was = λ again. held.2;
+    }
+
+pub returns-clause-work : goal.returns-clause-work
+returns-clause-work g c = c.loop-held.invariant.work
+
+pub returns-clause-same_line : goal.returns-clause-same_line
+returns-clause-same_line g c = c.loop-held.invariant.same_line
+
+pub returns-clause-few : goal.returns-clause-few
+returns-clause-few g c =
+    omega (arith, c.loop-held.self.answers.ok.0, c.args.self.now.answers.ok.0, ap (λ (xs : List Answer). length xs) c.loop-held.invariant.same_answers, c.requires.steps_left)
+
+pub returns-clause-ended : goal.returns-clause-ended
+returns-clause-ended g c =
+    end_patience c.args.site.now.limits.steps c.loop-held.self.pp c.loop-held.self.answers.items c.loop-held.self.line.log.entries
+    (ap (λ p. p.state) c.loop-held.invariant.same_pp ∙ c.requires.running)
+    (omega (arith, c.args.self.now.answers.ok.0, ap (λ (xs : List Answer). length xs) c.loop-held.invariant.same_answers, c.requires.steps_left))
+    (c.loop-held.invariant.was (omega (arith, c.patience-held-end.ensures, c.loop-held-test.false)))
+
+pub returns-clause-worn : goal.returns-clause-worn
+returns-clause-worn g c = λ is. absurd cc

@@ -1,0 +1,66 @@
+use Rattle.std.proofs.Common.{◌≡◌, ◌∙◌, ℕ, ◌+◌, ◌-◌, ◌<◌, List, [], ◌∷◌, ◌++◌, true, false, sym, ap, subst, arith}
+use Rattle.pp_channel.specs.ChannelNumber.{channel_count, channel_number}
+use Rattle.pp_channel.specs.LineState.{LineState}
+use Rattle.pp_channel.specs.Merge.{IsOpeningLog, times_told}
+use Rattle.pp_channel.specs.RisingLog.{IsWithin}
+use Rattle.pp_channel.specs.declared.entry.Entry.{Entry}
+use Rattle.pp_channel.specs.declared.event.Event.TheVariants.{Activate}
+use Rattle.pp_channel.proofs.MergeLemmas.{made_entry}
+use Rattle.pp_machine.specs.MachineState.{is_opened}
+use Rattle.pp_runner.proofs.OpeningLemmas.{opened_before, untold, one_opened, one_not_opened, all_opened, opened_seen}
+use Rattle.pp_runner.proofs.opening.opening_line.Goals.{then-opened, else-opened}
+use Rattle.pp_runner.proofs.opening.opening_line.Goals as goal
+
+pub activate-requires-clause-untold : goal.activate-requires-clause-untold
+activate-requires-clause-untold g c =
+    let log = c.loop-place.line.log.entries in
+    ap (λ n. times_told n 0 log) c.at-channel.ensures.number
+    ∙ untold c.loop-place.place c.args.machine.now log (omega (arith, c.loop-place-test.true)) c.loop-place.invariant.opened
+
+pub loop-place-preserved : goal.loop-place-preserved
+loop-place-preserved g c =
+    let place : ℕ = c.loop-place.place in
+    let m = c.args.machine.now in
+    let before = c.loop-place.line in
+    let below : place < channel_count = omega (arith, c.loop-place-test.true) in
+    elim c.if-opened.branch [
+      | then-opened w ↦
+          let opened : is_opened (channel_number place) m ≡ true = sym (ap (λ n. is_opened n m) c.at-channel.ensures.number) ∙ (sym c.opened.ensures ∙ w.if-opened.true) in
+          let log = ap (λ l. l.log) w.line-is ∙ w.activate.ensures.written in
+          let entries : c.if-opened.line.log.entries ≡ before.log.entries ++ made_entry (channel_number place) 0 Activate ∷ [] =
+          ap (λ l. l.entries) log ∙ ap (λ n. before.log.entries ++ made_entry n 0 Activate ∷ []) c.at-channel.ensures.number in
+          let room : c.if-opened.line.log.room ≡ before.log.room - 1 = ap (λ l. l.room) log in
+          record {
+            opened = subst (λ (es : List Entry). IsOpeningLog (opened_before (place + 1) m) es) (sym entries) (one_opened place m before.log.entries below opened c.loop-place.invariant.opened);
+            within = subst (λ (l : LineState). IsWithin l.seen l.log.entries) (sym w.line-is) w.activate.ensures.within;
+            room = omega (arith, room, c.loop-place.invariant.room);
+            shares = ap (λ l. l.shares) w.line-is ∙ (w.activate.ensures.shares ∙ c.loop-place.invariant.shares);
+            whole = ap (λ l. l.whole) w.line-is ∙ (w.activate.ensures.whole ∙ c.loop-place.invariant.whole);
+          }
+      | else-opened w ↦
+          let not_opened : is_opened (channel_number place) m ≡ false = sym (ap (λ n. is_opened n m) c.at-channel.ensures.number) ∙ (sym c.opened.ensures ∙ w.if-opened.false) in
+          let entries : c.if-opened.line.log.entries ≡ before.log.entries = ap (λ l. l.log.entries) w.line-is in
+          let room : c.if-opened.line.log.room ≡ before.log.room = ap (λ l. l.log.room) w.line-is in
+          record {
+            opened = subst (λ (es : List Entry). IsOpeningLog (opened_before (place + 1) m) es) (sym entries) (one_not_opened place m before.log.entries below not_opened c.loop-place.invariant.opened);
+            within = subst (λ (l : LineState). IsWithin l.seen l.log.entries) (sym w.line-is) c.loop-place.invariant.within;
+            room = omega (arith, room, c.loop-place.invariant.room);
+            shares = ap (λ l. l.shares) w.line-is ∙ c.loop-place.invariant.shares;
+            whole = ap (λ l. l.whole) w.line-is ∙ c.loop-place.invariant.whole;
+          }
+    ]
+
+pub returns-clause-log : goal.returns-clause-log
+returns-clause-log g c =
+    let place : c.loop-place.place ≡ channel_count = omega (arith, c.loop-place-test.false, c.loop-place.auto.place-end) in
+    let m = c.args.machine.now in
+    let log = c.loop-place.line.log.entries in
+    all_opened m log c.turns-turns.ensures.sound.opened (subst (λ (k : ℕ). IsOpeningLog (opened_before k m) log) place c.loop-place.invariant.opened)
+
+pub returns-clause-seen : goal.returns-clause-seen
+returns-clause-seen g c =
+    let place : c.loop-place.place ≡ channel_count = omega (arith, c.loop-place-test.false, c.loop-place.auto.place-end) in
+    let m = c.args.machine.now in
+    let line = c.loop-place.line in
+    opened_seen m line c.loop-place.invariant.within
+    (all_opened m line.log.entries c.turns-turns.ensures.sound.opened (subst (λ (k : ℕ). IsOpeningLog (opened_before k m) line.log.entries) place c.loop-place.invariant.opened))

@@ -1,0 +1,15 @@
+use Rattle.std.proofs.Common.{◌≡◌, ◌+◌, ◌≤◌}
+use Rattle.pp_channel.specs.ChannelNumber.{channel_count}
+use Rattle.pp_channel.specs.Merge.{IsOpeningLog}
+use Rattle.pp_channel.specs.RisingLog.{IsWithin}
+use Rattle.pp_runner.proofs.OpeningLemmas.{opened_before}
+use Rattle.pp_runner.proofs.opening.opening_line.Given as goal
+
+abbrev pub invariant-loop-place : goal.invariant-loop-place
+invariant-loop-place g l = record {
+  opened : IsOpeningLog (opened_before l.place l.machine) l.line.log.entries;
+  within : IsWithin l.line.seen l.line.log.entries;
+  room : channel_count ≤ l.line.log.room + l.place;
+  shares : l.line.shares ≡ l.shares;
+  whole : l.line.whole ≡ l.shares;
+}

@@ -1,0 +1,56 @@
+//! The line that opens channels before the workers begin.
+
+ghost use Rattle.std.specs.Prelude.{◌≡◌, ◌≤◌, IfOk, length};
+ghost use Rattle.pp_channel.specs.LineLog.{appended};
+ghost use Rattle.pp_channel.specs.Merge.{IsOpeningLog, times_told};
+ghost use Rattle.pp_channel.specs.RisingLog.{IsWithin};
+ghost use Rattle.pp_channel.specs.declared.entry.Seen.TheVariants.{Did};
+ghost use Rattle.pp_channel.specs.declared.event.Event.TheVariants.{Activate};
+ghost use Rattle.pp_machine.specs.Headline.{opening_history};
+ghost use Rattle.pp_runner.specs.Labour.{HasSeen};
+
+use pp_channel::{CHANNELS, ChanOp, ChannelNo, Line, Memory, open_lines};
+use pp_machine::Machine;
+use std::alloc::Allocator;
+
+/// The first line of a family of so many shares. It holds them all, and has opened the channels that
+/// dead start opened, and seen that: its log has an Activate for each, and no other event.
+pub fn opening_line<A: Allocator + Copy>(
+    alloc: A,
+    machine: &Machine<A>,
+    shares: u32,
+) -> Result<Line<A>, Memory>
+    requires { 1 ≤ shares }
+    ensures log { IfOk result (λ line. IsOpeningLog (λ c. opening_history c machine.now) line.log.entries) }
+    ensures seen { IfOk result (λ line. HasSeen (λ c. length (opening_history c machine.now)) line) }
+    ensures shares { IfOk result (λ line. line.shares ≡ shares) }
+    ensures whole { IfOk result (λ line. line.whole ≡ shares) }
+{
+    // This call tells the proof what holds of every machine.
+    let _turns = machine.turns();
+    let mut line = open_lines(alloc, CHANNELS as u32, shares)?;
+    for place in 0..CHANNELS {
+        let channel = ChannelNo::at(place);
+        if machine.opened(channel) {
+            activate(&mut line, channel);
+        }
+    }
+    Ok(line)
+}
+
+/// The first Activate on a channel, by the line that holds all shares: no other line can come between,
+/// so it is made at once.
+fn activate<A: Allocator + Copy>(line: &mut Line<A>, channel: ChannelNo)
+    requires room { 1 ≤ line.old.log.room }
+    requires alone { line.old.shares ≡ line.old.whole }
+    requires untold { times_told channel 0 line.old.log.entries ≡ 0 }
+    ensures written { line.new.log ≡ appended line.old.log (record { channel = channel; number = 0; what = Did Activate }) }
+    ensures within { IsWithin line.new.seen line.new.log.entries }
+    ensures shares { line.new.shares ≡ line.old.shares }
+    ensures whole { line.new.whole ≡ line.old.whole }
+{
+    let _index = channel.index();
+    let Ok(_done) = line.act(channel, ChanOp::Activate) else {
+        unreachable!()
+    };
+}

@@ -1,0 +1,12 @@
+use Rattle.std.proofs.Common.{◌≡◌, ◌∙◌, ap, ap₂, rules}
+use Rattle.clap.specs.Words.{App, app_of, with_subcommand}
+use Rattle.pp_sim.specs.CommandLine.{bare, ppsim}
+use Rattle.pp_sim.proofs.command.command.Goals as goal
+
+pub returns : goal.returns
+unfolding ppsim
+returns c =
+    let bare_is : app_of c.subcommand_required-bare.result ≡ bare = search rules in
+    let behind : app_of c.in_ok-subcommand.field-0 ≡ with_subcommand bare _ =
+    c.in_ok-subcommand.ensures.shape c.in_ok-barrel.ensures.local ∙ ap₂ with_subcommand bare_is (ap (λ (a : App). a.top) c.in_ok-barrel.ensures.app) in
+    c.in_ok-whole.ensures.shape c.in_ok-threads.ensures.local ∙ ap₂ with_subcommand behind (ap (λ (a : App). a.top) c.in_ok-threads.ensures.app)

@@ -1,7 +1,0 @@
-use Rattle.std.proofs.Common.{◌≡◌, ◌++◌, take}
-use Rattle.std.specs.List.{flat_map}
-use Rattle.pp_sim.specs.PrintedText.{event_line}
-use Rattle.pp_sim.proofs.printed_text.push_events.Given as goal
-
-abbrev pub invariant-loop-entry : goal.invariant-loop-entry
-invariant-loop-entry g l = l.text.items ≡ l.fn.text.items ++ flat_map event_line (take l.entry-index l.events)

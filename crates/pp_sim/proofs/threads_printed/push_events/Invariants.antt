@@ -1,7 +1,0 @@
-use Rattle.std.proofs.Common.{◌≡◌, ◌++◌}
-use Rattle.pp_sim.specs.PrintedText.{each_below}
-use Rattle.pp_sim.specs.ThreadsText.{channel_events}
-use Rattle.pp_sim.proofs.threads_printed.push_events.Given as goal
-
-abbrev pub invariant-loop-number : goal.invariant-loop-number
-invariant-loop-number g l = l.text.items ≡ l.fn.text.items ++ each_below l.number (channel_events l.workers l.channels)

@@ -1,7 +1,0 @@
-use Rattle.std.proofs.Common.{◌≡◌, ◌++◌, take}
-use Rattle.std.specs.List.{enumerate_from, flat_map}
-use Rattle.pp_sim.specs.ThreadsText.{numbered_event_line}
-use Rattle.pp_sim.proofs.threads_printed.push_history.Given as goal
-
-abbrev pub invariant-loop-number : goal.invariant-loop-number
-invariant-loop-number g l = l.text.items ≡ l.fn.text.items ++ flat_map (numbered_event_line l.c l.workers) (enumerate_from 0 (take l.number l.channel))

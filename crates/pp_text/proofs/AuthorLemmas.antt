@@ -1,0 +1,54 @@
+-- Authors of events, log after log.
+use Rattle.std.proofs.Common.{◌≡◌, ◌∙◌, ℕ, ◌+◌, ◌<◌, ◌≤◌, Bool, true, false, cond, List, [], ◌∷◌, ◌++◌, length, take, Option, Some, None, option_map, slice_index_or, refl, sym, ap, arith, add-one}
+use Rattle.std.specs.List.{position, position_from}
+use Rattle.std.proofs.Math.Seq.{take-suc}
+use Rattle.std.proofs.lemmas.Iterator.Adapters.{position_from-zero}
+use Rattle.std.proofs.lemmas.List.{length-take-le}
+use Rattle.pp_machine.specs.ProcessorNumber.{processor_count, processor_in_turn, processor_number}
+use Rattle.pp_machine.proofs.ProcessorPlaces.{in_turn_at}
+use Rattle.pp_runner.specs.declared.worker.Worker.{Worker}
+use Rattle.pp_text.specs.Authors.{or_told}
+use Rattle.pp_text.specs.PrintedReport.{author_place, log_tells}
+
+-- where the first does not pass, the search goes on behind it
+seek_on : (passes : Bool) (i j : ℕ) (more rest : Option ℕ) (last : Bool) → more ≡ or_told rest last j
+    → cond passes (Some i) more ≡ or_told (cond passes (Some i) rest) last j
+seek_on true i j more rest last e = refl
+seek_on false i j more rest last e = e
+
+last_only : (passes : Bool) (i j : ℕ) → i ≡ j → cond passes (Some i) None ≡ or_told None passes j
+last_only true i j e = ap Some e
+last_only false i j e = refl
+
+module _ {X : Type 0} (test : X → Bool) where
+  from_push : (i : ℕ) (xs : List X) (y : X) → position_from test i (xs ++ y ∷ []) ≡ or_told (position_from test i xs) (test y) (i + length xs)
+  from_push i [] y = last_only (test y) i (i + 0) (omega arith)
+  from_push i (x ∷ xs) y = seek_on (test x) i (i + length (x ∷ xs)) _ (position_from test (i + 1) xs) (test y)
+      (from_push (i + 1) xs y ∙ ap (or_told (position_from test (i + 1) xs) (test y)) (omega arith))
+
+  -- the first place that passes, with one element more
+  pub position_push : (xs : List X) (y : X) → position test (xs ++ y ∷ []) ≡ or_told (position test xs) (test y) (length xs)
+  position_push xs y = position_from-zero test (xs ++ y ∷ []) ∙ (from_push 0 xs y
+      ∙ (ap (or_told (position_from test 0 xs) (test y)) (omega arith) ∙ ap (λ first. or_told first (test y) (length xs)) (sym (position_from-zero test xs))))
+
+or_told_map : (f : ℕ → ℕ) (known : Option ℕ) (told : Bool) (author : ℕ) → option_map f (or_told known told author) ≡ or_told (option_map f known) told (f author)
+or_told_map f (Some n) told author = refl
+or_told_map f None true author = refl
+or_told_map f None false author = refl
+
+-- the author, by one worker more
+pub author_push : {Z : Type 0} (c number place : ℕ) (workers : List (Worker Z)) (worker : Worker Z) (before after : Option ℕ) (author : ℕ)
+    → place < length workers → length workers ≤ processor_count → worker ≡ slice_index_or workers place worker → author ≡ processor_in_turn place
+    → before ≡ option_map processor_number (author_place c (take place workers) number)
+    → after ≡ or_told before (log_tells c number worker.log.items) author
+    → after ≡ option_map processor_number (author_place c (take (place + 1) workers) number)
+author_push {Z} c number place workers worker before after author l few at by was now =
+    let test : Worker Z → Bool = λ w. log_tells c number w.log.items in
+    let more : take (place + 1) workers ≡ take place workers ++ worker ∷ [] =
+    ap (λ n. take n workers) (add-one place) ∙ take-suc workers place worker l ∙ ap (λ w. take place workers ++ w ∷ []) (sym at) in
+    let found : author_place c (take (place + 1) workers) number ≡ or_told (author_place c (take place workers) number) (test worker) place =
+    ap (position test) more ∙ (position_push test (take place workers) worker
+    ∙ ap (or_told (position test (take place workers)) (test worker)) (length-take-le place workers (omega arith))) in
+    let same : author ≡ processor_number place = by ∙ in_turn_at place (omega arith) in
+    now ∙ (ap (λ known. or_told known (test worker) author) was ∙ (ap (or_told (option_map processor_number (author_place c (take place workers) number)) (test worker)) same
+    ∙ (sym (or_told_map processor_number (author_place c (take place workers) number) (test worker) place) ∙ sym (ap (option_map processor_number) found))))

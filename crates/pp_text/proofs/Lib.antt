@@ -1,0 +1,4 @@
+pub mod AuthorLawLemmas
+pub mod AuthorLemmas
+pub mod EventLineLemmas
+pub mod TextLemmas

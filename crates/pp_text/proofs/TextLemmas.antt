@@ -1,0 +1,39 @@
+-- Steps of what prints.
+use Rattle.std.proofs.Common.{◌≡◌, ◌≢◌, ℕ, ◌+◌, ◌-◌, ◌/◌, ◌%◌, ◌^◌, ◌<◌, zero, suc, List, ◌++◌, sym, add-one, append_assoc, arith, codes}
+use Rattle.std.proofs.lemmas.List.{append-nil}
+use Rattle.pp_machine.specs.declared.trace.Trace.{Trace}
+use Rattle.pp_text.specs.Numeral.{decimal, digit, digits, octal, unpadded}
+use Rattle.pp_text.specs.PrintedText.{each_below, event_line, event_text, line_end}
+
+-- a text so far, before anything is said
+pub text_before : (text : List ℕ) (said : ℕ → List ℕ) → text ≡ text ++ each_below 0 said
+unfolding each_below
+text_before text said = sym (append-nil text)
+
+-- a text that goes on by what is said of one number more
+pub text_goes_on : (first so_far next : List ℕ) (k : ℕ) (said : ℕ → List ℕ) → so_far ≡ first ++ each_below k said → next ≡ so_far ++ said k → next ≡ first ++ each_below (k + 1) said
+unfolding each_below
+text_goes_on first so_far next k said h step = rw (add-one, step, h) (append_assoc first (each_below k said) (said k))
+
+-- a number that is not 0 ends with its last digit
+pub unpadded_more : (most n : ℕ) → 0 < most → n ≢ 0 → unpadded most n ≡ unpadded (most - 1) (n / 10) ++ digit (n % 10)
+unpadded_more zero n h k = absurd (omega arith)
+unpadded_more (suc most) n h k = grind arith
+
+-- the line of an event: what stands before the last six digits of its turn, those digits and the numbers, the event
+pub event_line_in_pieces : (text upper heading tail : List ℕ) (e : Trace) → upper ≡ unpadded 14 (e.turn / 10 ^ 6)
+    → heading ≡ digits 10 6 (e.turn % 10 ^ 6) ++ codes " PP" ++ octal 2 e.pp ++ codes " CH" ++ octal 2 e.channel ++ codes " "
+    → tail ≡ event_text e.event ++ line_end
+    → ((text ++ upper) ++ heading) ++ tail ≡ text ++ event_line e
+unfolding event_line decimal
+event_line_in_pieces text upper heading tail e u h t = rw (u, h, t) (simp append_assoc)
+
+-- the line of a numbered event: its channel, what stands before the last six digits of its number, those digits and the
+-- author, the event
+pub numbered_line_in_pieces : (text upper heading tail : List ℕ) (c number author : ℕ) (said : List ℕ) → upper ≡ unpadded 14 (number / 10 ^ 6)
+    → heading ≡ digits 10 6 (number % 10 ^ 6) ++ codes " PP" ++ octal 2 author ++ codes " "
+    → tail ≡ said ++ line_end
+    → (((text ++ (codes "CH" ++ octal 2 c ++ codes " ")) ++ upper) ++ heading) ++ tail
+    ≡ text ++ (codes "CH" ++ octal 2 c ++ codes " " ++ decimal number ++ codes " PP" ++ octal 2 author ++ codes " " ++ said ++ line_end)
+unfolding decimal
+numbered_line_in_pieces text upper heading tail c number author said u h t = rw (u, h, t) (simp append_assoc)

@@ -1,0 +1,4 @@
+pub mod Numeral
+pub mod PrintedText
+pub mod PrintedReport
+pub mod Authors

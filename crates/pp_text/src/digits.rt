@@ -1,0 +1,95 @@
+//! Numbers in octal and decimal digits.
+
+ghost use Rattle.std.specs.Prelude.{◌≡◌, ◌<◌, ◌/◌, ◌%◌, ◌^◌, ◌++◌, IfOk, OnOk};
+ghost use Rattle.pp_text.specs.Numeral.{digits, octal, unpadded};
+
+use std::alloc::{AllocError, Allocator};
+
+/// The least count that has more than six decimal digits.
+const SEVEN_DIGITS: u64 = 1_000_000;
+
+pub(crate) fn octal1(n: u8) -> [u8; 1]
+    ensures { result ≡ octal 1 n }
+{
+    [b'0' + n % 8]
+}
+
+// Each event's line has some of these fields, so their characters are put together in one register.
+
+pub(crate) fn octal2(n: u8) -> [u8; 2]
+    ensures { result ≡ octal 2 n }
+{
+    let n = u16::from(n);
+    (0x3030 + n / 8 % 8 + n % 8 * 0x100).to_le_bytes()
+}
+
+pub(crate) fn octal4(n: u16) -> [u8; 4]
+    ensures { result ≡ octal 4 n }
+{
+    let n = u32::from(n);
+    let first = 0x3030_3030 + n / 8 / 8 / 8 % 8 + n / 8 / 8 % 8 * 0x100;
+    (first + n / 8 % 8 * 0x1_0000 + n % 8 * 0x100_0000).to_le_bytes()
+}
+
+pub(crate) fn octal6(n: u32) -> [u8; 6]
+    ensures { result ≡ octal 6 n }
+{
+    [
+        b'0' + (n / 8 / 8 / 8 / 8 / 8 % 8) as u8,
+        b'0' + (n / 8 / 8 / 8 / 8 % 8) as u8,
+        b'0' + (n / 8 / 8 / 8 % 8) as u8,
+        b'0' + (n / 8 / 8 % 8) as u8,
+        b'0' + (n / 8 % 8) as u8,
+        b'0' + (n % 8) as u8,
+    ]
+}
+
+/// Six decimal digits.
+pub(crate) fn decimal6(n: u32) -> [u8; 6]
+    requires { n < 10 ^ 6 }
+    ensures { result ≡ digits 10 6 n }
+{
+    let tens = n / 10;
+    let hundreds = n / 100;
+    let thousands = n / 1000;
+    let ten_thousands = n / 10_000;
+    let hundred_thousands = n / 100_000;
+    [
+        b'0' + hundred_thousands as u8,
+        b'0' + (ten_thousands - 10 * hundred_thousands) as u8,
+        b'0' + (thousands - 10 * ten_thousands) as u8,
+        b'0' + (hundreds - 10 * thousands) as u8,
+        b'0' + (tens - 10 * hundreds) as u8,
+        b'0' + (n - 10 * tens) as u8,
+    ]
+}
+
+/// Adds those decimal digits of a count that stand before its last six, and gives what is left for
+/// these.
+#[inline]
+pub(crate) fn push_upper_digits<A: Allocator>(
+    text: &mut Vec<u8, A>,
+    n: u64,
+) -> Result<u32, AllocError>
+    ensures text { OnOk result (text.new.items ≡ text.old.items ++ unpadded 14 (n / 10 ^ 6)) }
+    ensures rest { IfOk result (λ rest. rest ≡ n % 10 ^ 6) }
+{
+    if n < SEVEN_DIGITS {
+        return Ok(n as u32);
+    }
+    push_unpadded(text, n / SEVEN_DIGITS, 14)?;
+    Ok((n % SEVEN_DIGITS) as u32)
+}
+
+/// Adds a number in decimal digits, without zeros in front, but at most so many digits.
+#[tactic(auto, using(crate::proofs::TextLemmas::unpadded_more))]
+fn push_unpadded<A: Allocator>(text: &mut Vec<u8, A>, n: u64, most: u32) -> Result<(), AllocError>
+    ensures { OnOk result (text.new.items ≡ text.old.items ++ unpadded most n) }
+{
+    if n == 0 || most == 0 {
+        return Ok(());
+    }
+    push_unpadded(text, n / 10, most - 1)?;
+    text.push(b'0' + (n % 10) as u8)?;
+    Ok(())
+}

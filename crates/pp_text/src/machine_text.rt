@@ -1,0 +1,102 @@
+//! The whole printed text of a machine.
+
+ghost use Rattle.std.specs.Prelude.{◌≡◌, ◌++◌, IfOk, OnOk};
+ghost use Rattle.std.specs.List.{flat_map};
+ghost use Rattle.pp_text.specs.PrintedText.{each_below, event_line, named_processor_line, printed, used_channel_line};
+
+use crate::printed_line::{push_channel, push_event, push_processor};
+use pp_channel::{CHANNELS, ChannelNo};
+use pp_machine::{Machine, PROCESSORS, PpNo, Trace};
+use std::alloc::{AllocError, Allocator};
+
+/// How many numbers two octal digits can show.
+pub(crate) const NUMBERS: u8 = 0o100;
+
+/// The length of the longest line of an event, where its turn has six digits.
+const EVENT_LINE: usize = 26;
+
+/// The length of the longest line of a processor or a channel.
+const STATE_LINE: usize = 29;
+
+/// The text of a machine, with the lines of the processors named. It takes its room at once, so
+/// that it never moves while it grows.
+#[tactic(auto, unfolding(crate::specs::PrintedText::printed))]
+pub fn printed_text<A: Allocator + Copy>(
+    alloc: A,
+    machine: &Machine<A>,
+    named: &[bool; PROCESSORS],
+) -> Result<Vec<u8, A>, AllocError>
+    ensures { IfOk result (λ text. text.items ≡ printed named.now machine.now) }
+{
+    let room = machine
+        .events()
+        .len()
+        .saturating_mul(EVENT_LINE)
+        .saturating_add((PROCESSORS + CHANNELS) * STATE_LINE);
+    let mut text = Vec::with_capacity(alloc, room)?;
+    push_events(&mut text, machine.events())?;
+    push_processors(&mut text, machine, named)?;
+    push_channels(&mut text, machine)?;
+    Ok(text)
+}
+
+fn push_events<A: Allocator>(text: &mut Vec<u8, A>, events: &[Trace]) -> Result<(), AllocError>
+    ensures { OnOk result (text.new.items ≡ text.old.items ++ flat_map event_line events.now) }
+{
+    for entry in events {
+        push_event(text, entry)?;
+    }
+    Ok(())
+}
+
+fn push_processors<A: Allocator>(
+    text: &mut Vec<u8, A>,
+    machine: &Machine<A>,
+    named: &[bool; PROCESSORS],
+) -> Result<(), AllocError>
+    ensures { OnOk result (text.new.items ≡ text.old.items ++ each_below NUMBERS (named_processor_line named.now machine.now)) }
+{
+    for number in 0..NUMBERS {
+        push_named_processor(text, machine, named, number)?;
+    }
+    Ok(())
+}
+
+fn push_named_processor<A: Allocator>(
+    text: &mut Vec<u8, A>,
+    machine: &Machine<A>,
+    named: &[bool; PROCESSORS],
+    number: u8,
+) -> Result<(), AllocError>
+    ensures { OnOk result (text.new.items ≡ text.old.items ++ named_processor_line named.now machine.now number) }
+{
+    match PpNo::new(number) {
+        Some(n) if named[n.index()] => push_processor(text, n, machine.pp(n)),
+        _ => Ok(()),
+    }
+}
+
+fn push_channels<A: Allocator>(
+    text: &mut Vec<u8, A>,
+    machine: &Machine<A>,
+) -> Result<(), AllocError>
+    ensures { OnOk result (text.new.items ≡ text.old.items ++ each_below NUMBERS (used_channel_line machine.now.histories)) }
+{
+    for number in 0..NUMBERS {
+        push_used_channel(text, machine, number)?;
+    }
+    Ok(())
+}
+
+fn push_used_channel<A: Allocator>(
+    text: &mut Vec<u8, A>,
+    machine: &Machine<A>,
+    number: u8,
+) -> Result<(), AllocError>
+    ensures { OnOk result (text.new.items ≡ text.old.items ++ used_channel_line machine.now.histories number) }
+{
+    match ChannelNo::new(number) {
+        Some(c) => push_channel(text, c, machine.channel(c)),
+        None => Ok(()),
+    }
+}

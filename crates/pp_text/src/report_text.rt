@@ -1,0 +1,162 @@
+//! The whole printed text of a report.
+
+ghost use Rattle.std.specs.Prelude.{◌≡◌, ◌≤◌, ◌++◌, ℕ, Option, length, OnOk, IfOk, option_map};
+ghost use Rattle.std.specs.List.{enumerate_from, flat_map};
+ghost use Rattle.pp_channel.specs.Merge.{history_on};
+ghost use Rattle.pp_machine.specs.ProcessorNumber.{processor_count, processor_number};
+ghost use Rattle.pp_text.specs.PrintedText.{each_below, used_channel_line};
+ghost use Rattle.pp_text.specs.PrintedReport.{channel_events, line_by, named_worker_line, numbered_event_line, printed_report};
+
+use crate::authors::authors;
+use crate::machine_text::NUMBERS;
+use crate::printed_line::{push_channel, push_numbered_event, push_worker};
+use pp_channel::{CHANNELS, Channel, ChannelNo, Event};
+use pp_machine::{PROCESSORS, PpNo};
+use pp_runner::{Report, Worker};
+use std::alloc::{AllocError, Allocator};
+
+/// The text of a report, with the lines of the processors named.
+#[tactic(auto, unfolding(crate::specs::PrintedReport::printed_report))]
+pub fn printed_report<A: Allocator + Copy>(
+    alloc: A,
+    report: &Report<A>,
+    named: &[bool; PROCESSORS],
+) -> Result<Vec<u8, A>, AllocError>
+    requires { length report.now.ends.items ≤ processor_count }
+    ensures { IfOk result (λ text. text.items ≡ printed_report named.now report.now) }
+{
+    let mut text = Vec::new(alloc);
+    let workers = report.ends.as_slice();
+    push_events(alloc, &mut text, workers, &report.channels)?;
+    push_workers(&mut text, workers, named)?;
+    push_channels(&mut text, &report.channels)?;
+    Ok(text)
+}
+
+fn push_events<A: Allocator + Copy>(
+    alloc: A,
+    text: &mut Vec<u8, A>,
+    workers: &[Worker<A>],
+    channels: &[Channel<A>; CHANNELS],
+) -> Result<(), AllocError>
+    requires { length workers.now ≤ processor_count }
+    ensures { OnOk result (text.new.items ≡ text.old.items ++ each_below NUMBERS (channel_events workers.now channels.now)) }
+{
+    for number in 0..NUMBERS {
+        push_channel_events(alloc, text, workers, channels, number)?;
+    }
+    Ok(())
+}
+
+fn push_channel_events<A: Allocator + Copy>(
+    alloc: A,
+    text: &mut Vec<u8, A>,
+    workers: &[Worker<A>],
+    channels: &[Channel<A>; CHANNELS],
+    number: u8,
+) -> Result<(), AllocError>
+    requires { length workers.now ≤ processor_count }
+    ensures { OnOk result (text.new.items ≡ text.old.items ++ channel_events workers.now channels.now number) }
+{
+    match ChannelNo::new(number) {
+        Some(c) => push_history(alloc, text, workers, c, channel_of(channels, c)),
+        None => Ok(()),
+    }
+}
+
+fn push_history<A: Allocator + Copy>(
+    alloc: A,
+    text: &mut Vec<u8, A>,
+    workers: &[Worker<A>],
+    c: ChannelNo,
+    channel: &Channel<A>,
+) -> Result<(), AllocError>
+    requires { length workers.now ≤ processor_count }
+    ensures { OnOk result (text.new.items ≡ text.old.items ++ flat_map (numbered_event_line c workers.now) (enumerate_from 0 channel.now)) }
+{
+    let events = channel.history();
+    let authors = authors(alloc, workers, c, events.len())?;
+    for (number, event) in events.iter().enumerate() {
+        push_event_by(text, c, number, &authors[number], event)?;
+    }
+    Ok(())
+}
+
+/// Adds the line of an event, where it has an author.
+fn push_event_by<A: Allocator>(
+    text: &mut Vec<u8, A>,
+    c: ChannelNo,
+    number: usize,
+    author: &Option<PpNo>,
+    event: &Event,
+) -> Result<(), AllocError>
+    ensures { OnOk result ((place : Option ℕ) → author.now ≡ option_map processor_number place
+        → text.new.items ≡ text.old.items ++ line_by c number event.now place) }
+{
+    match author {
+        Some(author) => push_numbered_event(text, c, number as u64, *author, *event),
+        None => Ok(()),
+    }
+}
+
+fn push_workers<A: Allocator>(
+    text: &mut Vec<u8, A>,
+    workers: &[Worker<A>],
+    named: &[bool; PROCESSORS],
+) -> Result<(), AllocError>
+    ensures { OnOk result (text.new.items ≡ text.old.items ++ each_below NUMBERS (named_worker_line named.now workers.now)) }
+{
+    for number in 0..NUMBERS {
+        push_named_worker(text, workers, named, number)?;
+    }
+    Ok(())
+}
+
+fn push_named_worker<A: Allocator>(
+    text: &mut Vec<u8, A>,
+    workers: &[Worker<A>],
+    named: &[bool; PROCESSORS],
+    number: u8,
+) -> Result<(), AllocError>
+    ensures { OnOk result (text.new.items ≡ text.old.items ++ named_worker_line named.now workers.now number) }
+{
+    match PpNo::new(number) {
+        Some(n) if named[n.index()] => match workers.get(n.index()) {
+            Some(worker) => push_worker(text, n, worker),
+            None => Ok(()),
+        },
+        _ => Ok(()),
+    }
+}
+
+fn push_channels<A: Allocator>(
+    text: &mut Vec<u8, A>,
+    channels: &[Channel<A>; CHANNELS],
+) -> Result<(), AllocError>
+    ensures { OnOk result (text.new.items ≡ text.old.items ++ each_below NUMBERS (used_channel_line channels.now)) }
+{
+    for number in 0..NUMBERS {
+        push_used_channel(text, channels, number)?;
+    }
+    Ok(())
+}
+
+fn push_used_channel<A: Allocator>(
+    text: &mut Vec<u8, A>,
+    channels: &[Channel<A>; CHANNELS],
+    number: u8,
+) -> Result<(), AllocError>
+    ensures { OnOk result (text.new.items ≡ text.old.items ++ used_channel_line channels.now number) }
+{
+    match ChannelNo::new(number) {
+        Some(c) => push_channel(text, c, channel_of(channels, c)),
+        None => Ok(()),
+    }
+}
+
+/// The channel of this number, of all channels in order.
+fn channel_of<A: Allocator>(channels: &[Channel<A>; CHANNELS], c: ChannelNo) -> &Channel<A>
+    ensures { result.now ≡ history_on c channels.now }
+{
+    &channels[c.index()]
+}

@@ -1,0 +1,165 @@
+//! Lines whose growths are refused.
+
+ghost use Rattle.std.specs.Prelude.{◌≡◌};
+
+use pp_channel::{ChanOp, ChannelNo, Entry, Line, open_lines};
+use rationed::Rationed;
+use std::alloc::{Allocator, Global};
+use std::process::Abort;
+use std::test::Fail;
+use test_bench::{channel, word};
+
+fn act<A: Allocator + Copy>(line: &mut Line<A>, channel: ChannelNo, op: ChanOp) -> Result<(), Fail>
+    ensures shares { line.new.shares ≡ line.old.shares }
+    ensures whole { line.new.whole ≡ line.old.whole }
+    ensures table { line.new.table ≡ line.old.table }
+{
+    if line.room() == 0 {
+        return Err("a full log".into());
+    }
+    line.act(channel, op)?;
+    Ok(())
+}
+
+/// What a line shows: its log, of at most four entries, its room, whether a look is kept, how many events
+/// of channel 5 it has seen, and its shares.
+type Shown = ([Option<Entry>; 4], u32, bool, u64, u32);
+
+fn shown<A: Allocator + Copy>(line: &Line<A>, five: ChannelNo) -> Shown {
+    let log = line.log();
+    let entry = |place: usize| log.get(place).copied();
+    let entries = [entry(0), entry(1), entry(2), entry(3)];
+    (
+        entries,
+        line.room(),
+        line.kept(),
+        line.seen(five),
+        line.shares(),
+    )
+}
+
+#[test]
+fn open_refused(rt: HostRuntime) -> Result<(), Fail> {
+    let heap = Rationed::new(rt.alloc());
+    for number in 1..100u64 {
+        heap.refuse(number);
+        let Ok(line) = open_lines(&heap, 8, 2) else {
+            assert!(rt; heap.has_refused());
+            continue;
+        };
+        assert!(rt; number > 1 && !heap.has_refused());
+        assert_eq!(rt; line.room(), 8);
+        assert_eq!(rt; line.shares(), 2);
+        return Ok(());
+    }
+    panic!(rt; "a request is refused in each run")
+}
+
+/// A split with this request refused: whether it was made.
+fn split_at(rt: &impl Abort, heap: &Rationed<Global>, number: u64) -> Result<bool, Fail> {
+    let five = channel(5)?;
+    heap.refuse(0);
+    let mut line = open_lines(heap, 8, 2)?;
+    act(&mut line, five, ChanOp::Activate)?;
+    let before = shown(&line, five);
+    heap.refuse(number);
+    let refused = match line.split(4) {
+        Ok(child) => {
+            assert_eq!(rt; (child.room(), child.seen(five)), (4, 1));
+            false
+        }
+        Err(_) => {
+            assert_eq!(rt; shown(&line, five), before);
+            true
+        }
+    };
+    assert_eq!(rt; refused, heap.has_refused());
+    Ok(refused)
+}
+
+#[test]
+fn split_refused(rt: HostRuntime) -> Result<(), Fail> {
+    let heap = Rationed::new(rt.alloc());
+    for number in 1..100u64 {
+        if !split_at(&rt, &heap, number)? {
+            assert!(rt; number > 1);
+            return Ok(());
+        }
+    }
+    panic!(rt; "a request is refused in each run")
+}
+
+/// A join with this request refused: whether it was made.
+fn join_at(rt: &impl Abort, heap: &Rationed<Global>, number: u64) -> Result<bool, Fail> {
+    let five = channel(5)?;
+    heap.refuse(0);
+    let mut line = open_lines(heap, 8, 2)?;
+    act(&mut line, five, ChanOp::Activate)?;
+    let mut other = line.split(4)?;
+    act(&mut other, five, ChanOp::Put(word(1)))?;
+    act(&mut other, five, ChanOp::Probe)?;
+    let before = (shown(&line, five), shown(&other, five));
+    heap.refuse(number);
+    let refused = match line.join(other) {
+        Ok(both) => {
+            assert_eq!(rt; both.log().len(), 3);
+            false
+        }
+        Err((line, other, _memory)) => {
+            let after = (shown(&line, five), shown(&other, five));
+            assert_eq!(rt; after, before);
+            true
+        }
+    };
+    assert_eq!(rt; refused, heap.has_refused());
+    Ok(refused)
+}
+
+#[test]
+fn join_refused(rt: HostRuntime) -> Result<(), Fail> {
+    let heap = Rationed::new(rt.alloc());
+    for number in 1..100u64 {
+        if !join_at(&rt, &heap, number)? {
+            assert!(rt; number > 1);
+            return Ok(());
+        }
+    }
+    panic!(rt; "a request is refused in each run")
+}
+
+/// A close with this request refused: whether it was made.
+fn close_at(rt: &impl Abort, heap: &Rationed<Global>, number: u64) -> Result<bool, Fail> {
+    let (five, last) = (channel(5)?, channel(0o13)?);
+    heap.refuse(0);
+    let mut line = open_lines(heap, 8, 1)?;
+    act(&mut line, five, ChanOp::Activate)?;
+    act(&mut line, last, ChanOp::Activate)?;
+    act(&mut line, five, ChanOp::Disconnect)?;
+    let before = shown(&line, five);
+    heap.refuse(number);
+    let refused = match line.close() {
+        Ok(channels) => {
+            let lengths = (channels[5].history().len(), channels[11].history().len());
+            assert_eq!(rt; lengths, (2, 1));
+            false
+        }
+        Err((line, _memory)) => {
+            assert_eq!(rt; shown(&line, five), before);
+            true
+        }
+    };
+    assert_eq!(rt; refused, heap.has_refused());
+    Ok(refused)
+}
+
+#[test]
+fn close_refused(rt: HostRuntime) -> Result<(), Fail> {
+    let heap = Rationed::new(rt.alloc());
+    for number in 1..100u64 {
+        if !close_at(&rt, &heap, number)? {
+            assert!(rt; number > 2);
+            return Ok(());
+        }
+    }
+    panic!(rt; "a request is refused in each run")
+}

@@ -1,0 +1,143 @@
+//! A deck whose growths are refused.
+
+use pp_channel::ChannelNo;
+use pp_sim::{Deck, DeckCode, DeckFault, read_deck};
+use pp_word::{Word12, Word18, Word60};
+use rationed::Rationed;
+use std::alloc::{Allocator, Global};
+use std::test::Fail;
+use test_bench::first;
+
+const DECK: &[u8] = b"CENTRAL 7\nCM 5 00010002000300040005\nPP 1\n0200 7005 0300\nSTART 0200\n";
+
+/// Whether this is the deck, by what it loads and names.
+fn is_loaded<A: Allocator>(deck: &Deck<A>) -> bool {
+    let one = deck.machine.pp(first().next());
+    let central = deck.machine.central();
+    central.size() == 7
+        && central.read(Word18::truncated(5)) == Some(Word60::truncated(0o0001_0002_0003_0004_0005))
+        && one.get(Word12::truncated(0o201)) == Word12::truncated(0o300)
+        && one.p() == Word12::truncated(0o200)
+        && deck.named[1]
+}
+
+/// Whether the deck is loaded, or why it is refused.
+fn load(heap: &Rationed<Global>) -> Result<bool, DeckFault> {
+    let deck = read_deck(heap, DECK)?;
+    Ok(is_loaded(&deck))
+}
+
+#[test]
+fn deck_refused(rt: HostRuntime) {
+    let heap = Rationed::new(rt.alloc());
+    let no_memory = DeckFault {
+        line: 0,
+        code: DeckCode::Memory,
+    };
+    for number in 1..100u64 {
+        heap.refuse(number);
+        let loaded = load(&heap);
+        if !heap.has_refused() {
+            assert_eq!(rt; loaded, Ok(true));
+            assert!(rt; number > 1, "a machine grows");
+            return;
+        }
+        assert_eq!(rt; loaded, Err(no_memory), "request {number}");
+    }
+    panic!(rt; "a request is refused in each run")
+}
+
+/// PP 0 has a program, and the nine others wait for theirs.
+const DEAD_START: &[u8] =
+    b"DEAD\nPP 0\n0100 1403 7301 0200 6601 0103 7501 0300\n0200 0000 1405 0300\nSTART 0100\n";
+
+/// How many channels the deck opens, or why it is refused. PP 0 is named, and alone in no block.
+fn load_at_dead_start(heap: &Rationed<Global>) -> Result<(u8, bool), DeckFault> {
+    let deck = read_deck(heap, DEAD_START)?;
+    let mut opened = 0u8;
+    for number in 0..0o14u8 {
+        if let Some(channel) = ChannelNo::new(number) {
+            opened = opened.saturating_add(u8::from(deck.machine.opened(channel)));
+        }
+    }
+    let zero = deck.machine.pp(first()).block().is_none();
+    let one = deck.machine.pp(first().next()).block().is_some();
+    Ok((opened, deck.named[0] && !deck.named[1] && zero && one))
+}
+
+#[test]
+fn dead_start_refused(rt: HostRuntime) {
+    let heap = Rationed::new(rt.alloc());
+    let no_memory = DeckFault {
+        line: 0,
+        code: DeckCode::Memory,
+    };
+    for number in 1..100u64 {
+        heap.refuse(number);
+        let loaded = load_at_dead_start(&heap);
+        if !heap.has_refused() {
+            assert_eq!(rt; loaded, Ok((9, true)));
+            assert!(rt; number > 9, "nine channels grow");
+            return;
+        }
+        assert_eq!(rt; loaded, Err(no_memory), "request {number}");
+    }
+    panic!(rt; "a request is refused in each run")
+}
+
+/// Decks with their faults, or none: where a request is refused, Memory at line 0 takes their place.
+const DECKS: [(&str, Option<(u32, DeckCode)>); 9] = [
+    ("", None),
+    ("PP 12", Some((1, DeckCode::BadProcessor))),
+    ("0100 0001", Some((1, DeckCode::NoProcessor))),
+    ("PP 0\n0100 0109", Some((2, DeckCode::BadDigits))),
+    ("PP 0\n7776 0001 0002", None),
+    ("PP 0\n7776 0001 0002 0003", Some((2, DeckCode::PastEnd))),
+    ("CENTRAL 400001", Some((1, DeckCode::CentralRange))),
+    ("CENTRAL 10\nCM 7 1 2", Some((2, DeckCode::CentralRange))),
+    ("PP", Some((1, DeckCode::UnknownLine))),
+];
+
+#[test]
+fn faulty_decks_refused(rt: HostRuntime) -> Result<(), Fail> {
+    let heap = Rationed::new(rt.alloc());
+    let mut refusals = 0u32;
+    for (text, fault) in DECKS {
+        for number in 1..10u64 {
+            heap.refuse(number);
+            let answer = read_deck(&heap, text.as_bytes()).err();
+            let expected = if heap.has_refused() {
+                refusals = refusals.saturating_add(1);
+                Some((0, DeckCode::Memory))
+            } else {
+                fault
+            };
+            let told = answer.map(|fault| (fault.line, fault.code));
+            assert_eq!(rt; told, expected, "{text}, request {number}");
+        }
+    }
+    assert!(rt; refusals >= 9, "each deck takes memory");
+    Ok(())
+}
+
+#[test]
+fn texts_that_ask_for_nothing(rt: HostRuntime) -> Result<(), Fail> {
+    let heap = Rationed::new(rt.alloc());
+    let long = vec![in rt.alloc(); b' '; 1_048_577]?;
+    heap.refuse(1);
+    let too_long = DeckFault {
+        line: 0,
+        code: DeckCode::TooLong,
+    };
+    assert_eq!(rt; read_deck(&heap, &long).err(), Some(too_long));
+    let not_ascii = DeckFault {
+        line: 2,
+        code: DeckCode::NotAscii,
+    };
+    assert_eq!(rt;
+        read_deck(&heap, b"PP 12\n\x80".as_slice()).err(),
+        Some(not_ascii)
+    );
+    assert_eq!(rt; heap.asked(), 0);
+    Ok(())
+}

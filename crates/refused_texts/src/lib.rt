@@ -1,0 +1,10 @@
+//! Decks, texts, runs by threads and the program where a growth is refused, one request after another:
+//! tests over the allocator `Rationed`.
+#![tactic(auto)]
+
+#[cfg(test)]
+mod deck;
+#[cfg(test)]
+mod texts;
+#[cfg(test)]
+mod threads;

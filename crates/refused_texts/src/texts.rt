@@ -1,0 +1,98 @@
+//! The text of a run, and the program, whose growths are refused.
+
+use pp_sim::{TextFault, barrel_text, run_program};
+use rationed::Rationed;
+use std::alloc::Global;
+use std::process::Abort;
+use std::sync::Wait;
+use std::thread::Threads;
+use test_bench::{HANDOFF, HANDOFF_TEXT};
+
+/// How a text ends with this request refused, whether the request was made, and whether the whole text
+/// was written, or nothing.
+fn text_at(
+    rt: &impl AllocGlobal,
+    heap: &Rationed<Global>,
+    number: u64,
+) -> (Result<(), TextFault>, bool, bool, bool) {
+    heap.refuse(number);
+    let mut writer = Vec::new(rt.alloc());
+    let done = barrel_text(heap, &mut HANDOFF.as_bytes(), &mut writer, 40);
+    let is_whole = writer.as_slice() == HANDOFF_TEXT.as_bytes();
+    (done, heap.has_refused(), is_whole, writer.is_empty())
+}
+
+#[test]
+fn text_refused(rt: HostRuntime) {
+    let heap = Rationed::new(rt.alloc());
+    for number in 1..1000u64 {
+        let ended = text_at(&rt, &heap, number);
+        if !heap.has_refused() {
+            assert_eq!(rt; ended, (Ok(()), false, true, false));
+            assert!(rt;
+                number > 5,
+                "bytes, fields, processors, events and text grow"
+            );
+            return;
+        }
+        let expected = (Err(TextFault::Memory), true, false, true);
+        assert_eq!(rt; ended, expected, "request {number}");
+    }
+    panic!(rt; "a request is refused in each run")
+}
+
+/// The status of the program, whether it wrote these texts, and whether it wrote that it was out of memory
+/// and nothing else.
+fn program_at<R: AllocGlobal + Threads + Wait + Sync>(
+    rt: &R,
+    heap: &Rationed<Global>,
+    run: (&str, &str),
+    output: &str,
+    error: &str,
+) -> (u8, bool, bool) {
+    let words = ["ppsim", "barrel", "--turns", run.0];
+    let mut written = Vec::new(rt.alloc());
+    let mut told = Vec::new(rt.alloc());
+    let mut reader = run.1.as_bytes();
+    let status = run_program(rt, heap, &words, &mut reader, &mut written, &mut told);
+    let refusal = "ppsim: out of memory\n";
+    (
+        status,
+        written.as_slice() == output.as_bytes() && told.as_slice() == error.as_bytes(),
+        written.is_empty() && told.as_slice() == refusal.as_bytes(),
+    )
+}
+
+/// Where no request is refused, these turns and this deck end with this status and these texts. This gives
+/// the number of the first request that is not made.
+fn program_refused<R: AllocGlobal + Threads + Wait + Sync + Abort>(
+    rt: &R,
+    run: (&str, &str),
+    last: u8,
+    output: &str,
+    error: &str,
+) -> u64 {
+    let heap = Rationed::new(rt.alloc());
+    for number in 1..1000u64 {
+        heap.refuse(number);
+        let ended = program_at(rt, &heap, run, output, error);
+        if !heap.has_refused() {
+            assert_eq!(rt; ended, (last, true, false));
+            return number;
+        }
+        assert_eq!(rt; ended, (4, false, true), "request {number}");
+    }
+    panic!(rt; "a request is refused in each run")
+}
+
+#[test]
+fn programs_refused(rt: HostRuntime) {
+    let whole = ("40", HANDOFF);
+    assert!(rt; program_refused(&rt, whole, 0, HANDOFF_TEXT, "") > 5);
+    let fault = "ppsim: deck fault 5 at line 1\n";
+    assert!(rt; program_refused(&rt, ("40", "PP 12"), 1, "", fault) > 2);
+    // No deck is read where a number is out of range.
+    let past = ("1000000", HANDOFF);
+    let number = "ppsim: number out of range\n";
+    assert_eq!(rt; program_refused(&rt, past, 2, "", number), 1);
+}

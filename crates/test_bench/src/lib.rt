@@ -1,0 +1,19 @@
+//! What the crates of tests share: decks with their texts, devices that fail, a plain check of
+//! histories, and words, channels, processors and programs by number.
+#![tactic(auto)]
+
+mod decks;
+mod flags;
+mod histories;
+mod numbers;
+mod programs;
+mod sink;
+mod source;
+
+pub use decks::{BLOCK, HANDOFF, HANDOFF_TEXT, LONG_PATIENCE, WORDS_OF_A_RUN};
+pub use flags::{EMPTY, FULL, INACTIVE};
+pub use histories::is_lawful;
+pub use numbers::{channel, first, numbered, processor, word};
+pub use programs::{HANDOFF_PAIR, Pair, put_program, put_words};
+pub use sink::{Failure, Sink};
+pub use source::Source;

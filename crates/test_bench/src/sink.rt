@@ -1,0 +1,72 @@
+//! A writer that gives up, as a pipe whose other end is closed does.
+
+use std::alloc::Global;
+use std::io::{self, ErrorKind, Write};
+
+/// How a writer gives up.
+#[derive(Clone, Copy, Debug, PartialEq, Eq)]
+pub enum Failure {
+    /// It gives errors of this kind.
+    Error(ErrorKind),
+    /// It takes no byte.
+    TakesNothing,
+    /// It takes every byte, but its flush is an error.
+    Flush,
+}
+
+/// Takes so many bytes in pieces, and then fails at each call, which it counts.
+#[derive(Drop)]
+pub struct Sink {
+    taken: Vec<u8>,
+    room: usize,
+    piece: usize,
+    failure: Failure,
+    failures: u32,
+}
+
+impl Sink {
+    /// Takes so many bytes in pieces, and then fails in this way.
+    pub fn new(alloc: Global, room: usize, piece: usize, failure: Failure) -> Sink {
+        Sink {
+            taken: Vec::new(alloc),
+            room,
+            piece,
+            failure,
+            failures: 0,
+        }
+    }
+
+    /// The bytes that it took.
+    pub fn taken(&self) -> &[u8] {
+        self.taken.as_slice()
+    }
+
+    /// How often it failed.
+    pub fn failures(&self) -> u32 {
+        self.failures
+    }
+}
+
+impl Write for Sink {
+    fn write(&mut self, buf: &[u8]) -> io::Result<usize> {
+        if self.room == 0 {
+            self.failures = self.failures.saturating_add(1);
+            return match self.failure {
+                Failure::Error(kind) => Err(io::Error::from(kind)),
+                Failure::TakesNothing | Failure::Flush => Ok(0),
+            };
+        }
+        let count = self.piece.min(self.room).min(buf.len());
+        self.taken.extend_from_slice(&buf[..count])?;
+        self.room -= count;
+        Ok(count)
+    }
+
+    fn flush(&mut self) -> io::Result<()> {
+        if self.failure == Failure::Flush {
+            self.failures = self.failures.saturating_add(1);
+            return Err(io::Error::from(ErrorKind::Interrupted));
+        }
+        Ok(())
+    }
+}

@@ -1,0 +1,14 @@
+//! What the program prints: texts of runs and of faults, the command line, statuses and the standard
+//! error, worked by hand.
+#![tactic(auto)]
+
+#[cfg(test)]
+mod command_line;
+#[cfg(test)]
+mod faults;
+#[cfg(test)]
+mod memories;
+#[cfg(test)]
+mod program;
+#[cfg(test)]
+mod texts;

@@ -1,0 +1,63 @@
+//! Lines in two threads.
+
+ghost use Rattle.std.specs.Prelude.{◌≡◌};
+
+use pp_channel::{ChanOp, ChannelNo, Entry, Line, Seen, open_lines};
+use std::alloc::Allocator;
+use std::test::Fail;
+use std::thread::join;
+use test_bench::{channel, is_lawful, word};
+
+/// A thousand calls on a channel, with these operations in turn.
+fn act_in_turn<A: Allocator + Copy>(
+    mut line: Line<A>,
+    channel: ChannelNo,
+    operations: [ChanOp; 3],
+) -> Line<A>
+    ensures shares { result.shares ≡ line.shares }
+    ensures whole { result.whole ≡ line.whole }
+    ensures table { result.table ≡ line.table }
+{
+    for turn in 0..1000usize {
+        if line.room() == 0 {
+            return line;
+        }
+        let _ = line.act(channel, operations[turn % 3]);
+    }
+    line
+}
+
+/// How many events a log tells.
+fn events_told(log: &[Entry]) -> usize {
+    log.iter()
+        .filter(|entry| matches!(entry.what, Seen::Did(_)))
+        .count()
+}
+
+#[test]
+fn two_threads(rt: HostRuntime) -> Result<(), Fail> {
+    let five = channel(5)?;
+    let session = [
+        ChanOp::Activate,
+        ChanOp::Put(word(0o7070)),
+        ChanOp::Disconnect,
+    ];
+    let mut first = open_lines(rt.alloc(), 1000, 2)?;
+    let second = first.split(1000)?;
+    let (first, second) = join(
+        &rt,
+        move || act_in_turn(first, five, session),
+        move || act_in_turn(second, five, [ChanOp::Take; 3]),
+    );
+    let Ok(line) = first.join(second) else {
+        return Err("no join".into());
+    };
+    let told = events_told(line.log());
+    let Ok(channels) = line.close() else {
+        return Err("no close".into());
+    };
+    let history = channels[five.index()].history();
+    assert_eq!(rt; history.len(), told);
+    assert!(rt; is_lawful(history));
+    Ok(())
+}

@@ -1,0 +1,122 @@
+//! What tests of runs share, and a run that a dead start opens.
+
+ghost use Rattle.std.specs.Prelude.{◌≡◌, [], IfOk};
+
+use pp_channel::{Channel, Event, Seen};
+use pp_machine::{Machine, PROCESSORS};
+use pp_runner::{End, Limits, NoGate, Report, Worker, run_threads};
+use pp_sim::read_deck;
+use std::alloc::{Allocator, Global};
+use std::test::Fail;
+use test_bench::{EMPTY, LONG_PATIENCE, channel, processor, put_program, put_words, word};
+
+/// A run of 100 steps at most.
+pub(crate) fn limits(patience: u32) -> Result<Limits, Fail> {
+    Ok(Limits::new(100, patience).ok_or("no such limits")?)
+}
+
+pub(crate) fn history<A: Allocator>(report: &Report<A>, number: u8) -> Result<&[Event], Fail> {
+    let channel: &Channel<A> = &report.channels[channel(number)?.index()];
+    Ok(channel.history())
+}
+
+/// The machine of a deck.
+pub(crate) fn loaded(alloc: Global, deck: &str) -> Result<Machine<Global>, Fail>
+    ensures { IfOk result (λ machine. machine.trace ≡ []) }
+{
+    let machine = read_deck(alloc, deck.as_bytes())?.machine;
+    if !machine.events().is_empty() {
+        return Err("events before the first turn".into());
+    }
+    Ok(machine)
+}
+
+/// The history of channel 5 that the deck `BLOCK` leaves.
+pub(crate) fn block_history() -> [Event; 10] {
+    [
+        Event::Activate,
+        Event::Put(word(0o11)),
+        Event::Take(word(0o11)),
+        Event::Put(word(0o22)),
+        Event::Take(word(0o22)),
+        Event::Put(word(0o33)),
+        Event::Take(word(0o33)),
+        Event::Put(word(0o44)),
+        Event::Take(word(0o44)),
+        Event::Disconnect,
+    ]
+}
+
+/// PP 0 puts a program of three words on channel 1, for which PP 1 waits, and disconnects it; the other
+/// processors rest.
+fn sent(alloc: Global) -> Result<Machine<Global>, Fail>
+    ensures { IfOk result (λ machine. machine.trace ≡ []) }
+{
+    let mut machine = Machine::new(alloc, 0o10000)?;
+    let sender = machine.pp_mut(processor(0)?);
+    put_words(sender, 0o200, &[0o0000, 0o1405, 0o0300, 0o0000]);
+    put_program(sender, 0o100, &[0o1404, 0o7301, 0o0200, 0o7501, 0o0300]);
+    let mut waiting = [false; PROCESSORS];
+    waiting[1] = true;
+    machine.dead_start(&waiting)?;
+    Ok(machine)
+}
+
+/// Whether a history of channel 1 is one that this machine may leave: all words are put and taken, but
+/// for the last, which the disconnect may lose.
+fn is_sent(history: &[Event]) -> bool {
+    let passed = [
+        Event::Activate,
+        Event::Put(word(0)),
+        Event::Take(word(0)),
+        Event::Put(word(0o1405)),
+        Event::Take(word(0o1405)),
+        Event::Put(word(0o300)),
+        Event::Take(word(0o300)),
+        Event::Put(word(0)),
+    ];
+    let last_is_taken = history.get(8) == Some(&Event::Take(word(0)));
+    history.get(..8) == Some(passed.as_slice())
+        && history.last() == Some(&Event::Disconnect)
+        && history.len() == if last_is_taken { 10 } else { 9 }
+}
+
+#[test]
+fn dead_start_threads(rt: HostRuntime) -> Result<(), Fail> {
+    let machine = sent(rt.alloc())?;
+    let report = run_threads(&rt, rt.alloc(), &machine, limits(LONG_PATIENCE)?, &NoGate)?;
+    assert!(rt; is_sent(history(&report, 1)?));
+    assert_eq!(rt; report.ends[0].finish, End::Stopped);
+    assert_eq!(rt; report.ends[0].pp.p(), word(0o104));
+    assert_eq!(rt; report.ends[1].finish, End::Stopped);
+    // The Activate stands in no worker's log.
+    let one = channel(1)?;
+    for worker in &report.ends {
+        for entry in worker.log.iter() {
+            assert!(rt; entry.channel != one || entry.number > 0);
+        }
+    }
+    Ok(())
+}
+
+/// Whether a worker gave up on an open, empty channel that it saw only after the opening.
+fn waits_in_vain(worker: &Worker<Global>) -> bool {
+    worker.finish == End::Patience
+        && worker.log.len() == 1
+        && worker.log.iter().all(|entry| entry.number == 1 && entry.what == Seen::Saw(EMPTY))
+}
+
+/// All ten wait at dead start, and nobody sends: each sees its channel as it was opened.
+#[test]
+fn nobody_sends(rt: HostRuntime) -> Result<(), Fail> {
+    let machine = loaded(rt.alloc(), "DEAD\n")?;
+    let report = run_threads(&rt, rt.alloc(), &machine, limits(5)?, &NoGate)?;
+    for (number, worker) in report.ends.iter().enumerate() {
+        assert!(rt; waits_in_vain(worker), "worker {number}");
+        assert_eq!(rt;
+            history(&report, number as u8)?,
+            [Event::Activate].as_slice()
+        );
+    }
+    Ok(())
+}
