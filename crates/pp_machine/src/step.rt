@@ -53,9 +53,7 @@ impl<A: Allocator> Machine<A> {
         ensures turn { self.new ≡ record self.old { turns = counted self.old.turns } }
         ensures headline { HoldsOnEachChannel self.new }
     {
-        if self.turns < u64::MAX {
-            self.turns += 1;
-        }
+        self.turns = self.turns.saturating_add(1);
     }
 
     /// The step of a processor that is running.
@@ -93,7 +91,7 @@ impl<A: Allocator> Machine<A> {
         ensures headline { HoldsOnEachChannel self.new }
     {
         let Some(channel) = ChannelNo::new(d.get()) else {
-            let _fault = self.processors[n.index()].give(Answer::Local);
+            let _fault = self.processors[n.index()].give_local();
             self.count_turn();
             return;
         };
@@ -120,7 +118,7 @@ impl<A: Allocator> Machine<A> {
         let i = n.index();
         match self.processors[i].wants_next(next, d) {
             Need::Nothing | Need::Local => {
-                let outcome = self.processors[i].give(Answer::Local);
+                let outcome = self.processors[i].give_local();
                 self.count_turn();
                 Ok(outcome)
             }

@@ -101,6 +101,17 @@ impl Pp {
         }
     }
 
+    /// Makes its next step where that needs nothing from outside, as `give` does. A call of its own, so
+    /// that no answer is made where another step is taken.
+    #[inline(never)]
+    pub(crate) fn give_local(&mut self) -> Outcome
+        requires fits { IsTrue (fits (need self.old) Answer.Local) }
+        ensures after { self.new ≡ processor_after self.old Answer.Local }
+        ensures outcome { result ≡ outcome self.old Answer.Local }
+    {
+        self.give(Answer::Local)
+    }
+
     /// Gives the reply of the channel that its next step needs, as `give` does.
     #[tactic(auto, unfolding(crate::specs::NeedAndEffect::need, crate::specs::NeedAndEffect::processor_after, crate::specs::NeedAndEffect::outcome))]
     pub(crate) fn give_reply(&mut self, next: &Option<Opcode>, d: Word6, reply: Reply) -> Outcome

@@ -21,7 +21,7 @@ wants_next-requires g c =
 
 pub invariant_of-self : goal.invariant_of-self
 invariant_of-self g c = record {
-  processors = length-set c.self.inside.processors.items c.index-i.result c.give-outcome.new.self ∙ c.self.invariant.processors;
+  processors = length-set c.self.inside.processors.items c.index-i.result c.give_local-outcome.new.self ∙ c.self.invariant.processors;
   channels = c.self.invariant.channels;
   opened = c.self.invariant.opened;
   central = c.self.invariant.central;

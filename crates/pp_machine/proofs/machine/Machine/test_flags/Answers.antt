@@ -15,15 +15,15 @@ use Rattle.pp_machine.proofs.MachineStepLemmas.{stepped_alone, stepped_by_probe,
 use Rattle.pp_machine.proofs.TakenLemmas.{own_processor, taken_by, moved_alone, if_found, if_missing}
 use Rattle.pp_machine.proofs.machine.Machine.test_flags.Goals as goal
 
-pub give-fault-requires : goal.give-fault-requires
-give-fault-requires g c =
+pub give_local-fault-requires : goal.give_local-fault-requires
+give_local-fault-requires g c =
     let own = own_processor c.args.n c.self.view_is c.index.ensures.place (omega (arith, c.index.ensures.below, c.self.invariant.processors)) c.index_mut.ensures.value in
     let local : need c.index_mut.result.now ≡ Local = ap need own ∙ (c.requires.probes ∙ (ap (λ d. if names_channel d then Channel c.args.d Probe else Local) (sym c.get.ensures.value) ∙ if_missing {X = ℕ} None (names_channel c.get.result) (Channel c.args.d Probe) Local refl c.in_default.ensures.exists)) in
     record { fits = subst (λ (x : Need). IsTrue (fits x answers.Local)) (sym local) refl }
 
 pub invariant_of-self : goal.invariant_of-self
 invariant_of-self g c = record {
-  processors = length-set c.self.inside.processors.items c.index.result c.give-fault.new.self ∙ c.self.invariant.processors;
+  processors = length-set c.self.inside.processors.items c.index.result c.give_local-fault.new.self ∙ c.self.invariant.processors;
   channels = c.self.invariant.channels;
   opened = c.self.invariant.opened;
   central = c.self.invariant.central;
@@ -34,7 +34,7 @@ pub returns-in_default-clause-stepped : goal.returns-in_default-clause-stepped
 returns-in_default-clause-stepped g c =
     let own = own_processor c.args.n c.self.view_is c.index.ensures.place (omega (arith, c.index.ensures.below, c.self.invariant.processors)) c.index_mut.ensures.value in
     let local : need (processor_of c.args.n c.args.self.now) ≡ Local = c.requires.probes ∙ (ap (λ d. if names_channel d then Channel c.args.d Probe else Local) (sym c.get.ensures.value) ∙ if_missing {X = ℕ} None (names_channel c.get.result) (Channel c.args.d Probe) Local refl c.in_default.ensures.exists) in
-    taken_by c.args.n answers.Local c.self.view_is c.index.ensures.place own c.give-fault.ensures.after c.count_turn.ensures.turn ∙ sym (stepped_alone c.args.n c.args.self.now local)
+    taken_by c.args.n answers.Local c.self.view_is c.index.ensures.place own c.give_local-fault.ensures.after c.count_turn.ensures.turn ∙ sym (stepped_alone c.args.n c.args.self.now local)
 
 pub returns-in_default-clause-outcome : goal.returns-in_default-clause-outcome
 returns-in_default-clause-outcome g c =
