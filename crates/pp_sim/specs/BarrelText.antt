@@ -3,7 +3,10 @@ use Rattle.std.specs.Prelude.{◌≡◌, ℕ, List}
 use Rattle.pp_machine.specs.Run.{barrel, run}
 use Rattle.pp_deck.specs.DeckMeaning.{LoadedDeck}
 use Rattle.pp_text.specs.PrintedText.{printed}
+use Rattle.pp_text.specs.TextLaw.{FitsItsText}
 
--- the text of a loaded deck that has run in the barrel for so many turns
-abbrev pub IsBarrelText : ℕ → LoadedDeck → List ℕ → Type 0
-IsBarrelText turns deck text = text ≡ printed deck.named (run (barrel turns) deck.machine)
+-- the text of a loaded deck that has run in the barrel for so many turns; all that the machine then shows fits its
+-- lines, so that the text tells it
+pub record IsBarrelText (turns : ℕ) (deck : LoadedDeck) (text : List ℕ) : Type 0 where
+  pub told : text ≡ printed deck.named (run (barrel turns) deck.machine)
+  pub fits : FitsItsText deck.named (run (barrel turns) deck.machine)

@@ -3,6 +3,7 @@
 
 mod command;
 mod command_words;
+mod laws;
 mod line_fault;
 mod loaded_deck;
 mod numeral;
@@ -14,6 +15,7 @@ mod text_fault;
 mod work;
 
 pub use command_words::read_words;
+pub use laws::barrel_text_law;
 pub use line_fault::LineFault;
 pub use numeral::numeral_law;
 pub use pp_deck::{Deck, DeckCode, DeckFault, deck_law, headline_law, read_deck, reading_law};

@@ -1,4 +1,5 @@
 pub mod AuthorLawLemmas
 pub mod AuthorLemmas
 pub mod EventLineLemmas
+pub mod TextLawLemmas
 pub mod TextLemmas

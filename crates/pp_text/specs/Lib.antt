@@ -2,3 +2,4 @@ pub mod Numeral
 pub mod PrintedText
 pub mod PrintedReport
 pub mod Authors
+pub mod TextLaw

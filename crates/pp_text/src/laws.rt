@@ -1,12 +1,15 @@
-//! A law of printed reports. The function does nothing: its contract says what is proved of the
+//! Laws of printed texts. These functions do nothing: their contracts say what is proved of the
 //! definitions.
 
-ghost use Rattle.std.specs.Prelude.{ℕ, ◌≡◌, ◌<◌, ◌↔◌, List, length, None};
+ghost use Rattle.std.specs.Prelude.{ℕ, ◌≡◌, ◌<◌, ◌↔◌, Bool, List, length, None};
 ghost use Rattle.pp_channel.specs.Merge.{Merges, history_on};
 ghost use Rattle.pp_channel.specs.declared.event.Event.{Event};
+ghost use Rattle.pp_machine.specs.MachineState.{MachineState};
 ghost use Rattle.pp_runner.specs.WorkerReport.{logs_of};
 ghost use Rattle.pp_runner.specs.declared.worker.Worker.{Worker};
 ghost use Rattle.pp_text.specs.PrintedReport.{author_place};
+ghost use Rattle.pp_text.specs.PrintedText.{printed};
+ghost use Rattle.pp_text.specs.TextLaw.{AgreeOnText, FitsItsText};
 
 use std::alloc::Allocator;
 
@@ -16,4 +19,12 @@ pub fn author_law<A: Allocator>()
     ensures { (opening : ℕ → List Event) (histories : List (List Event)) (workers : List (Worker A))
         → Merges opening histories (logs_of workers) → (c number : ℕ) → number < length (history_on c histories)
         → (author_place c workers number ≡ None) ↔ (number < length (opening c)) }
+{}
+
+/// The text of a run is the run: two machines with one text agree on the trace, event by event, on what
+/// is shown of each processor named and on what is shown of each channel. A machine that is printed fits
+/// its text, by the clause `fits` of `printed_text`.
+#[tactic(auto, using(crate::proofs::TextLawLemmas::text_tells))]
+pub fn text_law()
+    ensures { (named : List Bool) (one other : MachineState) → FitsItsText named one → FitsItsText named other → printed named one ≡ printed named other → AgreeOnText named one other }
 {}

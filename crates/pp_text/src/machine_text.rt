@@ -1,8 +1,12 @@
 //! The whole printed text of a machine.
 
-ghost use Rattle.std.specs.Prelude.{◌≡◌, ◌++◌, IfOk, OnOk};
+ghost use Rattle.std.specs.Prelude.{◌≡◌, ◌++◌, ℕ, All, IfOk, IsTrue, OnOk};
 ghost use Rattle.std.specs.List.{flat_map};
-ghost use Rattle.pp_text.specs.PrintedText.{each_below, event_line, named_processor_line, printed, used_channel_line};
+ghost use Rattle.pp_channel.specs.ChannelNumber.{names_channel};
+ghost use Rattle.pp_channel.specs.Merge.{history_on};
+ghost use Rattle.pp_machine.specs.MachineState.{processor_of};
+ghost use Rattle.pp_text.specs.PrintedText.{each_below, event_line, is_named, named_processor_line, printed, used_channel_line};
+ghost use Rattle.pp_text.specs.TextLaw.{FitsItsText, IsListed, IsShown, IsTold};
 
 use crate::printed_line::{push_channel, push_event, push_processor};
 use pp_channel::{CHANNELS, ChannelNo};
@@ -26,7 +30,8 @@ pub fn printed_text<A: Allocator + Copy>(
     machine: &Machine<A>,
     named: &[bool; PROCESSORS],
 ) -> Result<Vec<u8, A>, AllocError>
-    ensures { IfOk result (λ text. text.items ≡ printed named.now machine.now) }
+    ensures text { IfOk result (λ text. text.items ≡ printed named.now machine.now) }
+    ensures fits { OnOk result (FitsItsText named.now machine.now) }
 {
     let room = machine
         .events()
@@ -41,7 +46,8 @@ pub fn printed_text<A: Allocator + Copy>(
 }
 
 fn push_events<A: Allocator>(text: &mut Vec<u8, A>, events: &[Trace]) -> Result<(), AllocError>
-    ensures { OnOk result (text.new.items ≡ text.old.items ++ flat_map event_line events.now) }
+    ensures text { OnOk result (text.new.items ≡ text.old.items ++ flat_map event_line events.now) }
+    ensures fits { OnOk result (All IsTold events.now) }
 {
     for entry in events {
         push_event(text, entry)?;
@@ -54,7 +60,8 @@ fn push_processors<A: Allocator>(
     machine: &Machine<A>,
     named: &[bool; PROCESSORS],
 ) -> Result<(), AllocError>
-    ensures { OnOk result (text.new.items ≡ text.old.items ++ each_below NUMBERS (named_processor_line named.now machine.now)) }
+    ensures text { OnOk result (text.new.items ≡ text.old.items ++ each_below NUMBERS (named_processor_line named.now machine.now)) }
+    ensures fits { OnOk result ((n : ℕ) → IsTrue (is_named named.now n) → IsShown (processor_of n machine.now)) }
 {
     for number in 0..NUMBERS {
         push_named_processor(text, machine, named, number)?;
@@ -68,7 +75,8 @@ fn push_named_processor<A: Allocator>(
     named: &[bool; PROCESSORS],
     number: u8,
 ) -> Result<(), AllocError>
-    ensures { OnOk result (text.new.items ≡ text.old.items ++ named_processor_line named.now machine.now number) }
+    ensures text { OnOk result (text.new.items ≡ text.old.items ++ named_processor_line named.now machine.now number) }
+    ensures fits { OnOk result (IsTrue (is_named named.now number) → IsShown (processor_of number machine.now)) }
 {
     match PpNo::new(number) {
         Some(n) if named[n.index()] => push_processor(text, n, machine.pp(n)),
@@ -80,7 +88,8 @@ fn push_channels<A: Allocator>(
     text: &mut Vec<u8, A>,
     machine: &Machine<A>,
 ) -> Result<(), AllocError>
-    ensures { OnOk result (text.new.items ≡ text.old.items ++ each_below NUMBERS (used_channel_line machine.now.histories)) }
+    ensures text { OnOk result (text.new.items ≡ text.old.items ++ each_below NUMBERS (used_channel_line machine.now.histories)) }
+    ensures fits { OnOk result ((c : ℕ) → IsTrue (names_channel c) → IsListed (history_on c machine.now.histories)) }
 {
     for number in 0..NUMBERS {
         push_used_channel(text, machine, number)?;
@@ -93,7 +102,8 @@ fn push_used_channel<A: Allocator>(
     machine: &Machine<A>,
     number: u8,
 ) -> Result<(), AllocError>
-    ensures { OnOk result (text.new.items ≡ text.old.items ++ used_channel_line machine.now.histories number) }
+    ensures text { OnOk result (text.new.items ≡ text.old.items ++ used_channel_line machine.now.histories number) }
+    ensures fits { OnOk result (IsTrue (names_channel number) → IsListed (history_on number machine.now.histories)) }
 {
     match ChannelNo::new(number) {
         Some(c) => push_channel(text, c, machine.channel(c)),

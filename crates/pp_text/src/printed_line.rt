@@ -1,9 +1,13 @@
 //! The lines of a printed text.
 
-ghost use Rattle.std.specs.Prelude.{◌≡◌, ◌<◌, ◌^◌, ◌++◌, Some, codes, OnOk};
+ghost use Rattle.std.specs.Prelude.{◌≡◌, ◌<◌, ◌^◌, ◌++◌, IsTrue, Some, codes, OnOk};
+ghost use Rattle.pp_channel.specs.ChannelNumber.{names_channel};
+ghost use Rattle.pp_channel.specs.History.{HasTwelveBitWord};
+ghost use Rattle.pp_machine.specs.ProcessorNumber.{names_processor};
 ghost use Rattle.pp_text.specs.Numeral.{decimal, digits, octal};
 ghost use Rattle.pp_text.specs.PrintedText.{channel_line, event_line, event_text, line_end, processor_line, state_text};
 ghost use Rattle.pp_text.specs.PrintedReport.{end_text, worker_line};
+ghost use Rattle.pp_text.specs.TextLaw.{IsListed, IsShown, IsTold};
 
 use crate::digits::{decimal6, octal1, octal2, octal4, octal6, push_upper_digits};
 use pp_channel::{Channel, ChannelNo, Event};
@@ -18,7 +22,8 @@ pub(crate) fn push_event<A: Allocator>(
     text: &mut Vec<u8, A>,
     entry: &Trace,
 ) -> Result<(), AllocError>
-    ensures { OnOk result (text.new.items ≡ text.old.items ++ event_line entry.now) }
+    ensures text { OnOk result (text.new.items ≡ text.old.items ++ event_line entry.now) }
+    ensures fits { OnOk result (IsTold entry.now) }
 {
     let turn = push_upper_digits(text, entry.turn)?;
     text.extend_from_slice(&event_heading(turn, entry.pp, entry.channel))?;
@@ -56,7 +61,8 @@ fn author_heading(number: u32, author: PpNo) -> [u8; 12]
 
 /// Adds `PUT 0007` and a line feed.
 fn push_event_end<A: Allocator>(text: &mut Vec<u8, A>, event: Event) -> Result<(), AllocError>
-    ensures { OnOk result (text.new.items ≡ text.old.items ++ (event_text event ++ line_end)) }
+    ensures text { OnOk result (text.new.items ≡ text.old.items ++ (event_text event ++ line_end)) }
+    ensures fits { OnOk result (HasTwelveBitWord event) }
 {
     match event {
         Event::Activate => text.extend_from_slice(b"ACN\n"),
@@ -70,7 +76,9 @@ fn push_event_end<A: Allocator>(text: &mut Vec<u8, A>, event: Event) -> Result<(
 /// `000020 PP00 CH05 `
 fn event_heading(turn: u32, n: PpNo, c: ChannelNo) -> [u8; 17]
     requires { turn < 10 ^ 6 }
-    ensures { result ≡ digits 10 6 turn ++ codes " PP" ++ octal 2 n ++ codes " CH" ++ octal 2 c ++ codes " " }
+    ensures text { result ≡ digits 10 6 turn ++ codes " PP" ++ octal 2 n ++ codes " CH" ++ octal 2 c ++ codes " " }
+    ensures processor { IsTrue (names_processor n) }
+    ensures channel { IsTrue (names_channel c) }
 {
     let [t0, t1, t2, t3, t4, t5] = decimal6(turn);
     let [p0, p1] = octal2(n.get());
@@ -82,7 +90,8 @@ fn event_heading(turn: u32, n: PpNo, c: ChannelNo) -> [u8; 17]
 
 /// `PUT 0007` and a line feed.
 fn line_with_word(name: [u8; 3], word: Word12) -> [u8; 9]
-    ensures { result ≡ name ++ codes " " ++ octal 4 word ++ line_end }
+    ensures text { result ≡ name ++ codes " " ++ octal 4 word ++ line_end }
+    ensures small { word < 2 ^ 12 }
 {
     let [n0, n1, n2] = name;
     let [w0, w1, w2, w3] = octal4(word.get());
@@ -96,7 +105,8 @@ pub(crate) fn push_processor<A: Allocator>(
     n: PpNo,
     pp: &Pp,
 ) -> Result<(), AllocError>
-    ensures { OnOk result (text.new.items ≡ text.old.items ++ processor_line n pp.now (state_text pp.now.state)) }
+    ensures text { OnOk result (text.new.items ≡ text.old.items ++ processor_line n pp.now (state_text pp.now.state)) }
+    ensures fits { OnOk result (IsShown pp.now) }
 {
     text.extend_from_slice(&processor_heading(n, pp))?;
     push_state(text, pp.state())
@@ -150,7 +160,9 @@ fn push_fault<A: Allocator>(text: &mut Vec<u8, A>, number: u8) -> Result<(), All
 
 /// `PP00 P=0103 A=000007 `
 fn processor_heading(n: PpNo, pp: &Pp) -> [u8; 21]
-    ensures { result ≡ codes "PP" ++ octal 2 n ++ codes " P=" ++ octal 4 pp.now.p ++ codes " A=" ++ octal 6 pp.now.a ++ codes " " }
+    ensures text { result ≡ codes "PP" ++ octal 2 n ++ codes " P=" ++ octal 4 pp.now.p ++ codes " A=" ++ octal 6 pp.now.a ++ codes " " }
+    ensures p { pp.now.p < 2 ^ 12 }
+    ensures a { pp.now.a < 2 ^ 18 }
 {
     let [n0, n1] = octal2(n.get());
     let [p0, p1, p2, p3] = octal4(pp.p().get());
@@ -163,7 +175,8 @@ fn processor_heading(n: PpNo, pp: &Pp) -> [u8; 21]
 
 /// `0007` and a line feed.
 fn word_end(word: Word12) -> [u8; 5]
-    ensures { result ≡ octal 4 word ++ line_end }
+    ensures text { result ≡ octal 4 word ++ line_end }
+    ensures small { word < 2 ^ 12 }
 {
     let [w0, w1, w2, w3] = octal4(word.get());
     [w0, w1, w2, w3, b'\n']
@@ -175,7 +188,8 @@ pub(crate) fn push_channel<A: Allocator>(
     c: ChannelNo,
     channel: &Channel<A>,
 ) -> Result<(), AllocError>
-    ensures { OnOk result (text.new.items ≡ text.old.items ++ channel_line c channel.now) }
+    ensures text { OnOk result (text.new.items ≡ text.old.items ++ channel_line c channel.now) }
+    ensures fits { OnOk result (IsListed channel.now) }
 {
     if channel.history().is_empty() {
         return Ok(());

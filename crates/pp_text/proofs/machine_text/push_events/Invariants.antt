@@ -1,7 +1,10 @@
-use Rattle.std.proofs.Common.{◌≡◌, ◌++◌, take}
+use Rattle.std.proofs.Common.{◌≡◌, ◌++◌, All, take}
 use Rattle.std.specs.List.{flat_map}
 use Rattle.pp_text.specs.PrintedText.{event_line}
+use Rattle.pp_text.specs.TextLaw.{IsTold}
 use Rattle.pp_text.proofs.machine_text.push_events.Given as goal
 
 abbrev pub invariant-loop-entry : goal.invariant-loop-entry
-invariant-loop-entry g l = l.text.items ≡ l.fn.text.items ++ flat_map event_line (take l.entry-index l.events)
+invariant-loop-entry g l =
+    (l.text.items ≡ l.fn.text.items ++ flat_map event_line (take l.entry-index l.events))
+    × All IsTold (take l.entry-index l.events)

@@ -1,0 +1,60 @@
+-- What the text of a machine tells of it: two machines with one text agree on all that it shows.
+use Rattle.std.specs.Prelude.{◌≡◌, ℕ, ◌<◌, ◌^◌, List, [], ◌∷◌, Bool, true, false, All, IfSome, IsTrue}
+use Rattle.pp_channel.specs.ChannelNumber.{names_channel}
+use Rattle.pp_channel.specs.History.{HasTwelveBitWord, active, waiting}
+use Rattle.pp_channel.specs.Merge.{history_on}
+use Rattle.pp_channel.specs.declared.event.Event.{Event}
+use Rattle.pp_machine.specs.MachineState.{MachineState, processor_of}
+use Rattle.pp_machine.specs.Processor.{Processor, HasFaultNumber}
+use Rattle.pp_machine.specs.ProcessorNumber.{names_processor}
+use Rattle.pp_machine.specs.declared.trace.Trace.{Trace}
+use Rattle.pp_text.specs.PrintedText.{is_named}
+
+-- an event fits its line: a turn of 64 bits, a processor, a channel, a word of 12 bits
+pub record IsTold (e : Trace) : Type 0 where
+  pub turn : e.turn < 2 ^ 64
+  pub pp : IsTrue (names_processor e.pp)
+  pub channel : IsTrue (names_channel e.channel)
+  pub word : HasTwelveBitWord e.event
+
+-- a processor fits its line: registers of the manual's widths, a numbered fault
+pub record IsShown (pp : Processor) : Type 0 where
+  pub p : pp.p < 2 ^ 12
+  pub a : pp.a < 2 ^ 18
+  pub state : HasFaultNumber pp.state
+
+-- a history fits the line of its channel: a word that waits has 12 bits
+abbrev pub IsListed : List Event → Type 0
+IsListed h = IfSome (waiting h) (λ word. word < 2 ^ 12)
+
+-- a machine fits its text, as each that is printed does
+pub record FitsItsText (named : List Bool) (m : MachineState) : Type 0 where
+  pub trace : All IsTold m.trace
+  pub processors : (n : ℕ) → IsTrue (is_named named n) → IsShown (processor_of n m)
+  pub channels : (c : ℕ) → IsTrue (names_channel c) → IsListed (history_on c m.histories)
+
+-- ---- what two machines with one text agree on
+
+-- two processors with one line
+pub record IsShownAlike (pp other : Processor) : Type 0 where
+  pub p : pp.p ≡ other.p
+  pub a : pp.a ≡ other.a
+  pub state : pp.state ≡ other.state
+
+-- whether anything has happened on a channel
+abbrev pub is_used : List Event → Bool
+is_used [] = false
+is_used (e ∷ h) = true
+
+-- two histories of a channel with one line, or both without
+pub record IsToldAlike (h other : List Event) : Type 0 where
+  pub used : is_used h ≡ is_used other
+  pub active : active h ≡ active other
+  pub waiting : waiting h ≡ waiting other
+
+-- the same events in the same order; of each processor named the same P, A and state; and of each channel whether
+-- anything has happened, whether it is active, and the word that waits
+pub record AgreeOnText (named : List Bool) (one other : MachineState) : Type 0 where
+  pub trace : one.trace ≡ other.trace
+  pub processors : (n : ℕ) → IsTrue (is_named named n) → IsShownAlike (processor_of n one) (processor_of n other)
+  pub channels : (c : ℕ) → IsTrue (names_channel c) → IsToldAlike (history_on c one.histories) (history_on c other.histories)
