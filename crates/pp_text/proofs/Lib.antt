@@ -1,5 +1,6 @@
 pub mod AuthorLawLemmas
 pub mod AuthorLemmas
 pub mod EventLineLemmas
+pub mod ReportLawLemmas
 pub mod TextLawLemmas
 pub mod TextLemmas

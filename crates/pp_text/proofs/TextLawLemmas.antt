@@ -28,20 +28,20 @@ use Rattle.pp_text.specs.PrintedText.{channel_line, channel_text, each_below, ev
 -- ---- lists of characters
 
 -- each character is greater than this one
-abbrev Above : ℕ → List ℕ → Type 0
+abbrev pub Above : ℕ → List ℕ → Type 0
 Above least [] = Unit {0}
 Above least (c ∷ text) = (least < c) × Above least text
 
-above-append : (least : ℕ) (a b : List ℕ) → Above least a → Above least b → Above least (a ++ b)
+pub above-append : (least : ℕ) (a b : List ℕ) → Above least a → Above least b → Above least (a ++ b)
 above-append least [] b _ more = more
 above-append least (c ∷ a) b first more = (first.0, above-append least a b first.1 more)
 
-above_less : (less least : ℕ) (a : List ℕ) → less ≤ least → Above least a → Above less a
+pub above_less : (less least : ℕ) (a : List ℕ) → less ≤ least → Above least a → Above less a
 above_less less least [] _ _ = tt
 above_less less least (c ∷ a) fewer all = (omega (arith, fewer, all.0), above_less less least a fewer all.1)
 
 -- two texts up to a character that no earlier one equals
-cut : (c : ℕ) (a b r s : List ℕ) → Above c a → Above c b → a ++ c ∷ r ≡ b ++ c ∷ s → (a ≡ b) × (r ≡ s)
+pub cut : (c : ℕ) (a b r s : List ℕ) → Above c a → Above c b → a ++ c ∷ r ≡ b ++ c ∷ s → (a ≡ b) × (r ≡ s)
 cut c [] [] r s _ _ e = (refl, cc)
 cut c [] (x ∷ b) r s _ above e = let same : c ≡ x = cc in absurd (omega (arith, same, above.0))
 cut c (x ∷ a) [] r s above _ e = let same : x ≡ c = cc in absurd (omega (arith, same, above.0))
@@ -81,7 +81,7 @@ above_unpadded zero n = tt
 above_unpadded (suc most) zero = tt
 above_unpadded (suc most) (suc n) = subst (Above 47) (sym (some_digits most n)) (above-append 47 (unpadded most (suc n / 10)) (digit (suc n % 10)) (above_unpadded most (suc n / 10)) (omega arith, tt))
 
-above_decimal : (n : ℕ) → Above 47 (decimal n)
+pub above_decimal : (n : ℕ) → Above 47 (decimal n)
 unfolding decimal
 above_decimal n = above-append 47 (unpadded 14 (n / 10 ^ 6)) (digits 10 6 (n % 10 ^ 6)) (above_unpadded 14 (n / 10 ^ 6)) (above_digits 10 6 (n % 10 ^ 6))
 
@@ -92,7 +92,7 @@ same_number : (base m n : ℕ) → m / base ≡ n / base → m % base ≡ n % ba
 same_number base m n upper last = sym (div-add-mod m base) ∙ (ap (λ u. base * u + m % base) upper ∙ ap (λ l. base * (n / base) + l) last) ∙ div-add-mod n base
 
 -- numbers that so many octal digits tell
-octal_tells : (width m n : ℕ) → m < 8 ^ width → n < 8 ^ width → octal width m ≡ octal width n → m ≡ n
+pub octal_tells : (width m n : ℕ) → m < 8 ^ width → n < 8 ^ width → octal width m ≡ octal width n → m ≡ n
 octal_tells zero m n low other e = omega (arith, low, other)
 octal_tells (suc width) m n low other e =
     let both = parts (digits 8 width (m / 8)) (digits 8 width (n / 8)) (digit (m % 8)) (digit (n % 8)) refl e in
@@ -122,7 +122,7 @@ unpadded_tells (suc most) (suc m) (suc n) low other e =
     let upper = unpadded_tells most (suc m / 10) (suc n / 10) (omega (arith, low)) (omega (arith, other)) both.0 in
     same_number 10 (suc m) (suc n) upper (same_digit (suc m % 10) (suc n % 10) both.1)
 
-decimal_tells : (m n : ℕ) → m < 2 ^ 64 → n < 2 ^ 64 → decimal m ≡ decimal n → m ≡ n
+pub decimal_tells : (m n : ℕ) → m < 2 ^ 64 → n < 2 ^ 64 → decimal m ≡ decimal n → m ≡ n
 unfolding decimal
 decimal_tells m n low other e =
     let long : length (digits 10 6 (m % 10 ^ 6)) ≡ length (digits 10 6 (n % 10 ^ 6)) = refl in
@@ -134,12 +134,12 @@ decimal_tells m n low other e =
 -- ---- lines
 
 -- lines, each with its line feed
-abbrev unlines : List (List ℕ) → List ℕ
+abbrev pub unlines : List (List ℕ) → List ℕ
 unlines [] = []
 unlines (l ∷ ls) = (l ++ line_end) ++ unlines ls
 
 -- lines without a line feed
-abbrev AreLines : List (List ℕ) → Type 0
+abbrev pub AreLines : List (List ℕ) → Type 0
 AreLines [] = Unit {0}
 AreLines (l ∷ ls) = Above 10 l × AreLines ls
 
@@ -148,7 +148,7 @@ no_line [] more e = absurd cc
 no_line (c ∷ l) more e = absurd cc
 
 -- a text tells its lines
-lines_told : (ls ks : List (List ℕ)) → AreLines ls → AreLines ks → unlines ls ≡ unlines ks → ls ≡ ks
+pub lines_told : (ls ks : List (List ℕ)) → AreLines ls → AreLines ks → unlines ls ≡ unlines ks → ls ≡ ks
 lines_told [] [] _ _ e = refl
 lines_told [] (k ∷ ks) _ _ e = absurd (no_line k (unlines ks) (sym e))
 lines_told (l ∷ ls) [] _ _ e = absurd (no_line l (unlines ls) e)
@@ -157,25 +157,25 @@ lines_told (l ∷ ls) (k ∷ ks) first other e =
     let more = lines_told ls ks first.1 other.1 both.1 in
     ap (λ x. x ∷ ls) both.0 ∙ ap (λ xs. k ∷ xs) more
 
-unlines-append : (ls ks : List (List ℕ)) → unlines (ls ++ ks) ≡ unlines ls ++ unlines ks
+pub unlines-append : (ls ks : List (List ℕ)) → unlines (ls ++ ks) ≡ unlines ls ++ unlines ks
 unlines-append [] ks = refl
 unlines-append (l ∷ ls) ks = ap (λ more. (l ++ line_end) ++ more) (unlines-append ls ks) ∙ sym (append_assoc (l ++ line_end) (unlines ls) (unlines ks))
 
-are_lines-append : (ls ks : List (List ℕ)) → AreLines ls → AreLines ks → AreLines (ls ++ ks)
+pub are_lines-append : (ls ks : List (List ℕ)) → AreLines ls → AreLines ks → AreLines (ls ++ ks)
 are_lines-append [] ks _ more = more
 are_lines-append (l ∷ ls) ks first more = (first.0, are_lines-append ls ks first.1 more)
 
 -- what is said of each number, as lines
-abbrev lines_below : ℕ → (ℕ → List (List ℕ)) → List (List ℕ)
+abbrev pub lines_below : ℕ → (ℕ → List (List ℕ)) → List (List ℕ)
 lines_below zero f = []
 lines_below (suc k) f = lines_below k f ++ f k
 
-said_in_lines : (k : ℕ) (said : ℕ → List ℕ) (f : ℕ → List (List ℕ)) → ((n : ℕ) → said n ≡ unlines (f n)) → each_below k said ≡ unlines (lines_below k f)
+pub said_in_lines : (k : ℕ) (said : ℕ → List ℕ) (f : ℕ → List (List ℕ)) → ((n : ℕ) → said n ≡ unlines (f n)) → each_below k said ≡ unlines (lines_below k f)
 unfolding each_below
 said_in_lines zero said f each = refl
 said_in_lines (suc k) said f each = ap (λ first. first ++ said k) (said_in_lines k said f each) ∙ (ap (λ last. unlines (lines_below k f) ++ last) (each k) ∙ sym (unlines-append (lines_below k f) (f k)))
 
-are_lines_below : (k : ℕ) (f : ℕ → List (List ℕ)) → ((n : ℕ) → AreLines (f n)) → AreLines (lines_below k f)
+pub are_lines_below : (k : ℕ) (f : ℕ → List (List ℕ)) → ((n : ℕ) → AreLines (f n)) → AreLines (lines_below k f)
 are_lines_below zero f each = tt
 are_lines_below (suc k) f each = are_lines-append (lines_below k f) (f k) (are_lines_below k f each) (each k)
 
@@ -186,11 +186,11 @@ is_event : List ℕ → Bool
 is_event l = nat_lt (get_or l 0 0) 58
 
 -- the number that two octal digits tell at the third place of a line, and 432 more
-heading : List ℕ → ℕ
+unfoldable pub heading : List ℕ → ℕ
 heading l = get_or l 2 0 * 8 + get_or l 3 0
 
 -- whether a line begins with this letter and has this number
-is_of : ℕ → ℕ → List ℕ → Bool
+unfoldable pub is_of : ℕ → ℕ → List ℕ → Bool
 is_of letter n l = (get_or l 0 0 == letter) && (heading l == 432 + n)
 
 -- lines that begin with a letter and their number, at most one for each number
@@ -200,30 +200,35 @@ record AreOf (letter : ℕ) (f : ℕ → List (List ℕ)) : Type 0 where
   elsewhere : (other m n : ℕ) → other ≢ letter → filter (is_of other m) (f n) ≡ []
   no_event : (n : ℕ) → filter is_event (f n) ≡ []
 
-none_below : (k : ℕ) (p : List ℕ → Bool) (f : ℕ → List (List ℕ)) → ((n : ℕ) → n < k → filter p (f n) ≡ []) → filter p (lines_below k f) ≡ []
+pub none_below : (k : ℕ) (p : List ℕ → Bool) (f : ℕ → List (List ℕ)) → ((n : ℕ) → n < k → filter p (f n) ≡ []) → filter p (lines_below k f) ≡ []
 none_below zero p f each = refl
 none_below (suc k) p f each =
     filter-append p (lines_below k f) (f k)
     ∙ (ap (λ first. first ++ filter p (f k)) (none_below k p f (λ n low. each n (omega (arith, low))))
     ∙ each k (omega arith))
 
-one_below : (k n : ℕ) (letter : ℕ) (f : ℕ → List (List ℕ)) → AreOf letter f → k ≤ 0o100 → n < k → filter (is_of letter n) (lines_below k f) ≡ f n
-one_below zero n letter f are low within = absurd (omega (arith, within))
-one_below (suc k) n letter f are low within = by_order (cases_lt n k) (λ early. one_below k n letter f are (omega (arith, low)) early)
+-- where each number has lines that pass its own test and no other's, the lines that pass it are its lines
+pub one_among : (k n : ℕ) (p : ℕ → List ℕ → Bool) (f : ℕ → List (List ℕ)) → ((m : ℕ) → m < 0o100 → filter (p m) (f m) ≡ f m)
+    → ((l m : ℕ) → l < 0o100 → m < 0o100 → l ≢ m → filter (p l) (f m) ≡ []) → k ≤ 0o100 → n < k → filter (p n) (lines_below k f) ≡ f n
+one_among zero n p f own others low within = absurd (omega (arith, within))
+one_among (suc k) n p f own others low within = by_order (cases_lt n k) (λ early. one_among k n p f own others (omega (arith, low)) early)
   where
-    p : List ℕ → Bool
-    p = is_of letter n
+    q : List ℕ → Bool
+    q = p n
 
-    by_order : (n < k) ⊎ (k ≤ n) → (n < k → filter p (lines_below k f) ≡ f n) → filter p (lines_below k f ++ f k) ≡ f n
+    by_order : (n < k) ⊎ (k ≤ n) → (n < k → filter q (lines_below k f) ≡ f n) → filter q (lines_below k f ++ f k) ≡ f n
     by_order (inl early) first =
-        filter-append p (lines_below k f) (f k)
-        ∙ (ap (λ so_far. so_far ++ filter p (f k)) (first early)
-        ∙ (ap (λ last. f n ++ last) (are.others n k (omega (arith, low, within)) (omega (arith, low)) (λ same. absurd (omega (arith, same, early)))) ∙ append-nil (f n)))
+        filter-append q (lines_below k f) (f k)
+        ∙ (ap (λ so_far. so_far ++ filter q (f k)) (first early)
+        ∙ (ap (λ last. f n ++ last) (others n k (omega (arith, low, within)) (omega (arith, low)) (λ same. absurd (omega (arith, same, early)))) ∙ append-nil (f n)))
     by_order (inr late) first =
         let at : n ≡ k = omega (arith, late, within) in
-        filter-append p (lines_below k f) (f k)
-        ∙ (ap (λ so_far. so_far ++ filter p (f k)) (none_below k p f (λ m below. are.others n m (omega (arith, low, within)) (omega (arith, low, below)) (λ same. absurd (omega (arith, same, late, below)))))
-        ∙ (ap (λ m. filter p (f m)) (sym at) ∙ are.own n (omega (arith, low, within))))
+        filter-append q (lines_below k f) (f k)
+        ∙ (ap (λ so_far. so_far ++ filter q (f k)) (none_below k q f (λ m below. others n m (omega (arith, low, within)) (omega (arith, low, below)) (λ same. absurd (omega (arith, same, late, below)))))
+        ∙ (ap (λ m. filter q (f m)) (sym at) ∙ own n (omega (arith, low, within))))
+
+one_below : (k n : ℕ) (letter : ℕ) (f : ℕ → List (List ℕ)) → AreOf letter f → k ≤ 0o100 → n < k → filter (is_of letter n) (lines_below k f) ≡ f n
+one_below k n letter f are low within = one_among k n (is_of letter) f are.own are.others low within
 
 -- ---- the line of an event
 
@@ -239,7 +244,7 @@ unfolding event_line event_body event_tail
 event_line_is e = simp append_assoc
 
 -- the words of events
-same_event : (e k : Event) → HasTwelveBitWord e → HasTwelveBitWord k → event_text e ≡ event_text k → e ≡ k
+pub same_event : (e k : Event) → HasTwelveBitWord e → HasTwelveBitWord k → event_text e ≡ event_text k → e ≡ k
 same_event Activate Activate _ _ same = refl
 same_event Disconnect Disconnect _ _ same = refl
 same_event (Put v) (Put w) low other same = ap Put (octal_tells 4 v w low other (ap (drop 4) same))
@@ -250,7 +255,7 @@ same_event e k _ _ same =
     absurd (omega (arith, first))
 
 -- numbers of processors and channels have two octal digits
-processor_digits : (n : ℕ) → IsTrue (names_processor n) → n < 0o100
+pub processor_digits : (n : ℕ) → IsTrue (names_processor n) → n < 0o100
 unfolding names_processor
 processor_digits n is = let below = ltb-true n processor_count is in omega (arith, below)
 
@@ -286,7 +291,7 @@ same_body e k told other same =
     let rest = same_tail e k told other both.1 in
     told_alike e k turn rest.0 rest.1 rest.2
 
-above_event : (e : Event) → Above 10 (event_text e)
+pub above_event : (e : Event) → Above 10 (event_text e)
 above_event Activate = (omega arith, (omega arith, (omega arith, tt)))
 above_event Disconnect = (omega arith, (omega arith, (omega arith, tt)))
 above_event (Put w) = above-append 10 (codes "PUT ") (octal 4 w) (omega arith, (omega arith, (omega arith, (omega arith, tt)))) (above_less 10 47 (octal 4 w) (omega arith) (above_digits 8 4 w))
@@ -331,14 +336,14 @@ same_trace (t ∷ ts) (k ∷ ks) told other e =
 -- ---- lines with a letter and a number
 
 -- at most one line for each number: the one of l, where b says so
-abbrev one_where : (ℕ → Bool) → (ℕ → List ℕ) → ℕ → List (List ℕ)
+abbrev pub one_where : (ℕ → Bool) → (ℕ → List ℕ) → ℕ → List (List ℕ)
 one_where b l n = if b n then l n ∷ [] else []
 
-kept : (p : List ℕ → Bool) (b : Bool) (l : List ℕ) → p l ≡ true → filter p (if b then l ∷ [] else []) ≡ (if b then l ∷ [] else [])
+pub kept : (p : List ℕ → Bool) (b : Bool) (l : List ℕ) → p l ≡ true → filter p (if b then l ∷ [] else []) ≡ (if b then l ∷ [] else [])
 kept p true l is = ap (λ (x : Bool). if x then l ∷ [] else []) is
 kept p false l is = refl
 
-left_out : (p : List ℕ → Bool) (b : Bool) (l : List ℕ) → p l ≡ false → filter p (if b then l ∷ [] else []) ≡ []
+pub left_out : (p : List ℕ → Bool) (b : Bool) (l : List ℕ) → p l ≡ false → filter p (if b then l ∷ [] else []) ≡ []
 left_out p true l is = ap (λ (x : Bool). if x then l ∷ [] else []) is
 left_out p false l is = refl
 
@@ -360,13 +365,13 @@ are_of letter b l late first number = record {
 processor_body : ℕ → Processor → List ℕ
 processor_body n pp = codes "PP" ++ (octal 2 n ++ (codes " P=" ++ (octal 4 pp.p ++ (codes " A=" ++ (octal 6 pp.a ++ (codes " " ++ state_text pp.state))))))
 
-channel_body : ℕ → List Event → List ℕ
+unfoldable pub channel_body : ℕ → List Event → List ℕ
 channel_body c h = codes "CH" ++ (octal 2 c ++ (codes " " ++ channel_text (active h) (waiting h)))
 
 processors : List Bool → MachineState → ℕ → List (List ℕ)
 processors named m = one_where (is_named named) (λ n. processor_body n (processor_of n m))
 
-channels : List (List Event) → ℕ → List (List ℕ)
+unfoldable pub channels : List (List Event) → ℕ → List (List ℕ)
 channels histories = one_where (λ c. names_channel c && is_used (history_on c histories)) (λ c. channel_body c (history_on c histories))
 
 processors_are_of : (named : List Bool) (m : MachineState) → AreOf 80 (processors named m)
@@ -381,7 +386,7 @@ processor_line_is : (n : ℕ) (pp : Processor) → processor_line n pp (state_te
 unfolding processor_body processor_line
 processor_line_is n pp = simp append_assoc
 
-one_line : (b : Bool) (l said : List ℕ) → said ≡ l ++ line_end → (if b then said else []) ≡ unlines (if b then l ∷ [] else [])
+pub one_line : (b : Bool) (l said : List ℕ) → said ≡ l ++ line_end → (if b then said else []) ≡ unlines (if b then l ∷ [] else [])
 one_line true l said is = is ∙ sym (append-nil (l ++ line_end))
 one_line false l said is = refl
 
@@ -395,7 +400,7 @@ unfolding channel_body
 channel_line_is c [] = refl
 channel_line_is c (e ∷ h) = simp (append_assoc, append-nil)
 
-channel_in_lines : (histories : List (List Event)) (c : ℕ) → used_channel_line histories c ≡ unlines (channels histories c)
+pub channel_in_lines : (histories : List (List Event)) (c : ℕ) → used_channel_line histories c ≡ unlines (channels histories c)
 unfolding channels
 channel_in_lines histories c = by_case (names_channel c) (history_on c histories) (channel_line_is c (history_on c histories))
   where
@@ -406,11 +411,11 @@ channel_in_lines histories c = by_case (names_channel c) (history_on c histories
 
 -- ---- lines without a line feed
 
-above_one : (b : Bool) (l : List ℕ) → Above 10 l → AreLines (if b then l ∷ [] else [])
+pub above_one : (b : Bool) (l : List ℕ) → Above 10 l → AreLines (if b then l ∷ [] else [])
 above_one true l above = (above, tt)
 above_one false l above = tt
 
-above_octal : (width n : ℕ) (more : List ℕ) → Above 10 more → Above 10 (octal width n ++ more)
+pub above_octal : (width n : ℕ) (more : List ℕ) → Above 10 more → Above 10 (octal width n ++ more)
 above_octal width n more above = above-append 10 (octal width n) more (above_less 10 47 (octal width n) (omega arith) (above_digits 8 width n)) above
 
 plain_state : (state : PpState) → Above 10 (state_text state)
@@ -418,7 +423,7 @@ plain_state Running = (omega arith, (omega arith, (omega arith, (omega arith, (o
 plain_state Stopped = (omega arith, (omega arith, (omega arith, (omega arith, (omega arith, (omega arith, (omega arith, tt)))))))
 plain_state (Fault number) = (omega arith, (omega arith, (omega arith, (omega arith, (omega arith, (omega arith, (omega arith, tt)))))))
 
-plain_channel : (b : Bool) (w : Option ℕ) → Above 10 (channel_text b w)
+pub plain_channel : (b : Bool) (w : Option ℕ) → Above 10 (channel_text b w)
 plain_channel b (Some w) = above-append 10 (codes "ACTIVE FULL ") (octal 4 w)
     (omega arith, (omega arith, (omega arith, (omega arith, (omega arith, (omega arith, (omega arith, (omega arith, (omega arith, (omega arith, (omega arith, (omega arith, tt))))))))))))
     (above_less 10 47 (octal 4 w) (omega arith) (above_digits 8 4 w))
@@ -447,7 +452,7 @@ plain_processors named m n =
       ),
     )
 
-plain_channels : (histories : List (List Event)) (c : ℕ) → AreLines (channels histories c)
+pub plain_channels : (histories : List (List Event)) (c : ℕ) → AreLines (channels histories c)
 unfolding channels channel_body
 plain_channels histories c =
     let h = history_on c histories in
@@ -484,7 +489,7 @@ same_lines named one other e =
 
 -- ---- the lines of the trace among them
 
-first_digit : (most n : ℕ) (more : List ℕ) → get_or more 0 0 < 58 → get_or (unpadded most n ++ more) 0 0 < 58
+pub first_digit : (most n : ℕ) (more : List ℕ) → get_or more 0 0 < 58 → get_or (unpadded most n ++ more) 0 0 < 58
 first_digit zero n more is = is
 first_digit (suc most) zero more is = is
 first_digit (suc most) (suc n) more is =
@@ -563,7 +568,7 @@ same_channels named one other c within e =
 
 -- ---- what a processor's line tells
 
-one_is : (l k : List ℕ) → l ∷ [] ≡ k ∷ [] → l ≡ k
+pub one_is : (l k : List ℕ) → l ∷ [] ≡ k ∷ [] → l ≡ k
 one_is l k e = cc
 
 same_state : (s t : PpState) → HasFaultNumber s → HasFaultNumber t → state_text s ≡ state_text t → s ≡ t
@@ -618,7 +623,7 @@ same_channel_text true true (Some v) (Some w) _ _ small also e = (refl, ap Some 
 same_channel_text false b (Some v) (Some w) none _ _ _ e = let no : Some v ≡ None = none refl in absurd cc
 same_channel_text true false (Some v) (Some w) _ none _ _ e = let no : Some w ≡ None = none refl in absurd cc
 
-used_alike : (b : Bool) (c : ℕ) (h k : List Event) → IsTrue b → (if b && is_used h then channel_body c h ∷ [] else []) ≡ (if b && is_used k then channel_body c k ∷ [] else [])
+pub used_alike : (b : Bool) (c : ℕ) (h k : List Event) → IsTrue b → (if b && is_used h then channel_body c h ∷ [] else []) ≡ (if b && is_used k then channel_body c k ∷ [] else [])
     → IfSome (waiting h) (λ n. n < 2 ^ 12) → IfSome (waiting k) (λ n. n < 2 ^ 12) → IsToldAlike h k
 unfolding channel_body
 used_alike false c h k is e small also = absurd cc
@@ -639,7 +644,7 @@ tells_channel named one other c within is small also e =
 
 -- ---- the law
 
-left_true : (a b : Bool) → IsTrue (a && b) → IsTrue a
+pub left_true : (a b : Bool) → IsTrue (a && b) → IsTrue a
 left_true true b is = refl
 left_true false b is = is
 

@@ -3,3 +3,4 @@ pub mod PrintedText
 pub mod PrintedReport
 pub mod Authors
 pub mod TextLaw
+pub mod ReportLaw

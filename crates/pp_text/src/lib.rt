@@ -8,6 +8,6 @@ mod machine_text;
 mod printed_line;
 mod report_text;
 
-pub use laws::{author_law, text_law};
+pub use laws::{author_law, report_law, text_law};
 pub use machine_text::printed_text;
 pub use report_text::printed_report;
