@@ -93,7 +93,7 @@ module _ {line : LineState} {c word : ℕ} (t : TellsLine line c word) (op : Cha
   looked_at_once reply after is written counted answer not_worn = record {
     words = word ∷ [];
     words_found = (refl, refl);
-    after_is = is ∙ same_line (sym written) (ap (λ n. slice_set line.seen (channel_index c) n) (sym counted)) refl refl refl refl;
+    after_is = is ∙ same_line (sym written) (ap (λ n. slice_set line.seen (channel_index c) n) (sym counted)) refl refl refl refl refl;
     histories = t.histories;
     known = let P : LineState → Type 0 = λ x. Knows x t.histories in subst P (sym is) knows_looked;
     answer = record {
@@ -182,7 +182,7 @@ module _ {line : LineState} {c word : ℕ} (t : TellsLine line c word) (op : Cha
       acted_made = record {
         words = word ∷ [];
         words_found = (refl, refl);
-        after_is = made.after_is ∙ same_line (sym written) (set-set line.seen (channel_index c) (number_in word) (number_in word + 1) ∙ ap (λ n. slice_set line.seen (channel_index c) n) (sym counted)) refl refl refl refl;
+        after_is = made.after_is ∙ same_line (sym written) (set-set line.seen (channel_index c) (number_in word) (number_in word + 1) ∙ ap (λ n. slice_set line.seen (channel_index c) n) (sym counted)) refl refl refl refl refl;
         histories = with_more histories c (e ∷ []);
         known =
             let P : LineState → Type 0 = λ x. Knows x (with_more histories c (e ∷ [])) in
@@ -225,7 +225,7 @@ module _ {line : LineState} {c word : ℕ} (t : TellsLine line c word) (op : Cha
           record {
             words = word ∷ found ∷ [];
             words_found = (refl, refl, λ same. omega arith);
-            after_is = lost.after_is ∙ same_line refl (set-set line.seen (channel_index c) (number_in word) (number_in found)) (append_assoc line.found (record { channel = c; word = word } ∷ []) (record { channel = c; word = found } ∷ [])) refl refl refl;
+            after_is = lost.after_is ∙ same_line refl (set-set line.seen (channel_index c) (number_in word) (number_in found)) (append_assoc line.found (record { channel = c; word = word } ∷ []) (record { channel = c; word = found } ∷ [])) refl refl refl refl;
             histories = lost.tells.histories;
             known =
                 let P : LineState → Type 0 = λ x. Knows x lost.tells.histories in

@@ -18,7 +18,7 @@ use Rattle.pp_channel.specs.LineCalls.{with_word, with_look, with_deed, TellsLin
 use Rattle.pp_channel.specs.LineKept.{IsBackedBy, IsBacked, IsLineKept}
 use Rattle.pp_channel.specs.LineLog.{LogState}
 use Rattle.pp_channel.specs.LineState.{LineState, greater_of_each, joined, Knows}
-use Rattle.pp_channel.specs.LineSteps.{parent_view, joined_view, finds, makes, SaysOf, Tells, IsExchange, IsLostExchange}
+use Rattle.pp_channel.specs.LineSteps.{parent_view, joined_view, finds, makes, weighs_once, SaysOf, Tells, IsExchange, IsLostExchange}
 use Rattle.pp_channel.specs.Merge.{history_on, IsTrueAt, IsTrueOf}
 use Rattle.pp_channel.specs.RisingLog.{known_after, seen_on}
 use Rattle.pp_channel.specs.SharedWords.{IsFound}
@@ -82,9 +82,9 @@ kept_at after kept log seen found shares whole = record {
   within = rw (log, seen) kept.within;
 }
 
-pub same_line : {line other : LineState} → line.log ≡ other.log → line.seen ≡ other.seen → line.found ≡ other.found → line.shares ≡ other.shares → line.whole ≡ other.whole → line.table ≡ other.table → line ≡ other
-same_line log seen found shares whole table =
-    λ j. record { log = log j; seen = seen j; found = found j; shares = shares j; whole = whole j; table = table j }
+pub same_line : {line other : LineState} → line.log ≡ other.log → line.seen ≡ other.seen → line.found ≡ other.found → line.weighed ≡ other.weighed → line.shares ≡ other.shares → line.whole ≡ other.whole → line.table ≡ other.table → line ≡ other
+same_line log seen found weighed shares whole table =
+    λ j. record { log = log j; seen = seen j; found = found j; weighed = weighed j; shares = shares j; whole = whole j; table = table j }
 
 -- the log's flag alone changes nothing
 pub kept_with_log : {v : LineView} {line : LineState} (log : LogState) → IsLineKept v line → log.entries ≡ line.log.entries → IsLineKept v (record line { log = log })
@@ -151,6 +151,21 @@ kept_deed {v = v} {line = line} w c number e kept is named later =
           (let there = get_or-set_same line.seen i (number + 1) 0 (omega arith) in omega arith);
     })
 
+-- a word was loaded, and counted alone
+pub kept_weighed : {v : LineView} {line : LineState} (w : LineView) → IsLineKept v line → w ≡ weighs_once v → IsLineKept w line
+kept_weighed {v = v} {line = line} w kept is =
+    let P : LineView → Type 0 = λ x. IsLineKept x line in
+    subst P (sym is) (record {
+      shares = kept.shares;
+      whole = kept.whole;
+      seen = kept.seen;
+      found = kept.found;
+      each_channel = kept.each_channel;
+      told = kept.told;
+      backed = all_backed_more v (weighs_once v) (λ x b. b) (λ x b. b) line.log.entries kept.backed;
+      within = kept.within;
+    })
+
 -- a share was given away
 pub kept_parent : {v : LineView} {line : LineState} (w : LineView) (shares : ℕ) → IsLineKept v line → w ≡ parent_view v → shares ≡ line.shares - 1 → IsLineKept w (record line { shares = shares })
 kept_parent {v = v} {line = line} w shares kept is less =
@@ -192,8 +207,8 @@ pub view_loaded : {v : LineView} {line : LineState} (before : LineState) (c word
 view_loaded {v = v} before c word kept is =
     let seen : v.seen ≡ slice_set before.seen (channel_index c) (number_in word) = kept.seen ∙ ap (λ (x : LineState). x.seen) is in
     let found : v.found ≡ before.found ++ record { channel = c; word = word } ∷ [] = kept.found ∙ ap (λ (x : LineState). x.found) is in (
-      record { shares = v.shares; whole = v.whole; events = v.events; found = before.found; seen = before.seen },
-      λ j. record { shares = v.shares; whole = v.whole; events = v.events; found = found j; seen = seen j },
+      record { shares = v.shares; whole = v.whole; events = v.events; found = before.found; weighed = v.weighed; seen = before.seen },
+      λ j. record { shares = v.shares; whole = v.whole; events = v.events; found = found j; weighed = v.weighed; seen = seen j },
     )
 
 -- an exchange that made its event, and one that did not

@@ -13,7 +13,7 @@ use Rattle.pp_channel.specs.declared.rule.LineView.{LineView}
 use Rattle.pp_channel.specs.ChannelNumber.{channel_index, names_channel}
 use Rattle.pp_channel.specs.ChannelWord.{number_in}
 use Rattle.pp_channel.specs.History.{IsLawful, HasTwelveBitWords}
-use Rattle.pp_channel.specs.LineSteps.{finds, SaysOf, Tells}
+use Rattle.pp_channel.specs.LineSteps.{finds, weighs_once, SaysOf, Tells}
 use Rattle.pp_channel.specs.Merge.{IsTrueOf, Merges, no_opening, history_on, tells_event, times_told}
 use Rattle.pp_channel.specs.RisingLog.{seen_on}
 use Rattle.pp_channel.specs.SharedWords.{word_place, IsViewOf, KeepsRule}
@@ -21,7 +21,7 @@ use Rattle.pp_channel.proofs.ChannelPlaces.{place_below}
 use Rattle.pp_channel.proofs.ListFacts.{All-read, All-part, flat_map-set_same, count_by-parts, sum_by-write, sum_by-sole}
 use Rattle.pp_channel.proofs.ChannelWordLemmas.{number_at_word}
 use Rattle.pp_channel.proofs.MergeLemmas.{once_inside, TellsOnce, tells_once, merges_by, times_within}
-use Rattle.pp_channel.proofs.ViewLemmas.{view_finds}
+use Rattle.pp_channel.proofs.ViewLemmas.{view_finds, view_weighs}
 
 -- the events of all views, how often they tell one, and the shares
 abbrev pub events_in : LineView → List Entry
@@ -110,3 +110,7 @@ module _ (whole : ℕ) (words : List ℕ) (views : List LineView) (histories : L
   found_kept id v c names at =
       let n : ℕ = get_or words (word_place c) 0 in
       rewritten id v (finds v c n) at refl refl (view_finds histories whole v c n (sym (k.words_are c names)) (word_on c names) (view_at id v at))
+
+  -- the view of a line that weighed
+  pub weighed_kept : (id : ℕ) (v : LineView) → get_elem? views id ≡ some v → KeepsRule whole words (set views id (weighs_once v)) histories
+  weighed_kept id v at = rewritten id v (weighs_once v) at refl refl (view_weighs histories whole v (view_at id v at))

@@ -10,13 +10,12 @@ use Rattle.std.specs.List.{All}
 use Rattle.std.proofs.lemmas.List.{length-set, set-get_or, get_or-set_same, get_or-set_other, length_push}
 use Rattle.std.proofs.lemmas.List.Elements.{All-set, All-push, All-weaker}
 use Rattle.atomic_table.specs.Table.{Me, step, keeps, stepped, Allows}
-use Rattle.atomic_table.proofs.Lists.{set_again}
 use Rattle.pp_channel.specs.declared.event.Event.{Event}
 use Rattle.pp_channel.specs.declared.rule.LineView.{LineView}
 use Rattle.pp_channel.specs.ChannelNumber.{channel_count, channel_index, names_channel}
 use Rattle.pp_channel.specs.ChannelWord.{history_word, number_in}
 use Rattle.pp_channel.specs.History.{IsLawful, HasTwelveBitWord, HasTwelveBitWords}
-use Rattle.pp_channel.specs.LineSteps.{finds, makes, Tells, IsLoad, IsLostExchange, IsWeighing, loads, exchanges, weighs}
+use Rattle.pp_channel.specs.LineSteps.{finds, makes, weighs_once, Tells, IsLoad, IsLostExchange, IsWeighing, loads, exchanges, weighs}
 use Rattle.pp_channel.specs.Merge.{IsTrueOf, history_on}
 use Rattle.pp_channel.specs.RisingLog.{seen_on}
 use Rattle.pp_channel.specs.SharedWords.{word_place, place_count, IsFound, IsViewOf, KeepsRule, Rule}
@@ -24,7 +23,7 @@ use Rattle.pp_channel.proofs.ChannelPlaces.{place_below, named_below, one_place}
 use Rattle.pp_channel.proofs.ListFacts.{All-parts_set, sum_by-write, read-le-sum_by}
 use Rattle.pp_channel.proofs.MergeLemmas.{once_below, TellsOnce, tells_once, merges_by, times_told_push, made_entry, told_elsewhere, told_next, Grow, slice_get_last, true_later, with_more, more_here, same_elsewhere, more_grow, length-with_more, All-with_more}
 use Rattle.pp_channel.proofs.ViewLemmas.{view_later, view_makes, later_found}
-use Rattle.pp_channel.proofs.RuleLemmas.{events_in, all_events, shares_in, times-write, lawful_on, low_on, word_on, view_at, events_at, found_kept, alone, tells}
+use Rattle.pp_channel.proofs.RuleLemmas.{events_in, all_events, shares_in, times-write, lawful_on, low_on, word_on, view_at, events_at, found_kept, weighed_kept, alone, tells}
 
 abbrev M : Type 0
 M = Me Event LineView
@@ -54,20 +53,21 @@ pub load_allowed : (whole slots id : ℕ) (me : M) (c i : ℕ) → i ≡ word_pl
 load_allowed whole slots id me c i place low =
     subst (λ (j : ℕ). Allows (Rule whole) slots id me j (λ n. n) (loads (step slots j 0 0 none) me)) (sym place) (load_at whole slots id me c (named_word c i place low))
 
--- a load that notes nothing
+-- a load that is counted alone
 weighing_at : (whole slots id : ℕ) (me : M) (c : ℕ) → IsTrue (names_channel c) → Allows (Rule whole) slots id me (word_place c) (λ n. n) (weighs (step slots (word_place c) 0 0 none) me)
 weighing_at whole slots id me c names s r _ at _ =
     let n : ℕ = get_or s.words (word_place c) 0 in
     let k = r.1 in
+    let w : LineView = weighs_once me.0 in
     let all = k.shares in
     let least = read-le-sum_by shares_in s.views id me.0 at in (
-      me.0,
+      w,
       keeps,
       tt,
-      (r.0, subst (λ (t : List ℕ × List LineView). KeepsRule whole t.0 t.1 r.0) (λ j. (sym (set-get_or s.words (word_place c) 0) j, sym (set_again s.views id me.0 at) j)) k),
+      (r.0, subst (λ ws. KeepsRule whole ws (set s.views id w) r.0) (sym (set-get_or s.words (word_place c) 0)) (weighed_kept whole s.words s.views r.0 k id me.0 at)),
       (
         refl,
-        λ d on live. subst (λ t. IsWeighing t me.0 n me.0) (one_channel c d names on.place) (record {
+        λ d on live. subst (λ t. IsWeighing t me.0 n w) (one_channel c d names on.place) (record {
           after_is = refl;
           shares_fit = let is = (view_at whole s.words s.views r.0 k id me.0 at).whole_is live in omega arith;
           tells = tells whole s.words s.views r.0 k id me.0 c names at live;

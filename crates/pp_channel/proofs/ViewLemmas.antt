@@ -14,7 +14,7 @@ use Rattle.pp_channel.specs.ChannelNumber.{channel_count, channel_index, names_c
 use Rattle.pp_channel.specs.ChannelWord.{history_word, number_in}
 use Rattle.pp_channel.specs.History.{HasTwelveBitWords}
 use Rattle.pp_channel.specs.LineState.{greater_of_each}
-use Rattle.pp_channel.specs.LineSteps.{parent_view, child_view, joined_view, spent_view, finds, makes}
+use Rattle.pp_channel.specs.LineSteps.{parent_view, child_view, joined_view, spent_view, finds, makes, weighs_once}
 use Rattle.pp_channel.specs.Merge.{history_on}
 use Rattle.pp_channel.specs.RisingLog.{known_after, seen_on}
 use Rattle.pp_channel.specs.SharedWords.{IsFound, IsViewOf}
@@ -65,6 +65,17 @@ view_finds histories whole v c word is number f =
       each_channel = λ p. length-set v.seen (channel_index c) n ∙ f.each_channel p;
       spent = f.spent;
     }
+
+-- a word is loaded, and counted alone
+pub view_weighs : (histories : List (List Event)) (whole : ℕ) (v : LineView) → IsViewOf histories whole v → IsViewOf histories whole (weighs_once v)
+view_weighs histories whole v f = record {
+  events_seen = f.events_seen;
+  seen_happened = f.seen_happened;
+  words_found = f.words_found;
+  whole_is = f.whole_is;
+  each_channel = f.each_channel;
+  spent = f.spent;
+}
 
 -- the next event of a channel is made
 pub view_makes : (before after : List (List Event)) (whole : ℕ) (v : LineView) (c n : ℕ) (e : Event) → Grow before after → IsTrue (names_channel c)

@@ -17,12 +17,14 @@ use Rattle.pp_channel.specs.RisingLog.{seen_on}
 use Rattle.pp_channel.specs.SharedWords.{IsFound}
 
 -- Lines that were split from one another are a family, and share one table of words. A line has its
--- log; how many events of each channel it has seen; the words that it found, in order; its shares, of
--- how many in its family; and the table of the words that it shares.
+-- log; how many events of each channel it has seen; the words that it found, in order; how often it
+-- weighed its shares by a load that took no note of the word; its shares, of how many in its family;
+-- and the table of the words that it shares.
 pub record LineState : Type 0 where
   pub log : LogState
   pub seen : List ℕ
   pub found : List FoundWord
+  pub weighed : ℕ
   pub shares : ℕ
   pub whole : ℕ
   pub table : TableId
@@ -32,6 +34,7 @@ pub record IsOpened (room lines : ℕ) (line : LineState) : Type 0 where
   pub log : line.log ≡ empty_log room
   pub seen : line.seen ≡ replicate channel_count 0
   pub found : line.found ≡ []
+  pub weighed : line.weighed ≡ 0
   pub shares : line.shares ≡ lines
   pub whole : line.whole ≡ lines
 
@@ -41,6 +44,7 @@ pub record IsSplitFrom (parent : LineState) (room : ℕ) (line : LineState) : Ty
   pub log : line.log ≡ empty_log room
   pub seen : line.seen ≡ parent.seen
   pub found : line.found ≡ []
+  pub weighed : line.weighed ≡ 0
   pub shares : line.shares ≡ 1
   pub whole : line.whole ≡ parent.whole
   pub table : line.table ≡ parent.table
@@ -50,12 +54,13 @@ abbrev pub greater_of_each : List ℕ → List ℕ → List ℕ
 greater_of_each seen other = map (λ pair. max pair.0 pair.1) (zip seen other)
 
 -- Two lines as one: the entries of the one and then those of the other, the room of the one, and the
--- shares of both.
+-- shares of both, which it has weighed once more.
 abbrev pub joined : LineState → LineState → LineState
 joined line other = record {
   log = record { entries = line.log.entries ++ other.log.entries; room = line.log.room; kept = true };
   seen = greater_of_each line.seen other.seen;
   found = line.found ++ other.found;
+  weighed = line.weighed + other.weighed + 1;
   shares = line.shares + other.shares;
   whole = line.whole;
   table = line.table;

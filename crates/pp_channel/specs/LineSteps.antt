@@ -14,14 +14,14 @@ use Rattle.pp_channel.specs.SharedWords.{IsViewOf, word_place}
 
 -- the view of the first line, which has all shares
 abbrev pub first_view : ℕ → LineView
-first_view whole = record { shares = whole; whole = whole; events = []; found = []; seen = replicate channel_count 0 }
+first_view whole = record { shares = whole; whole = whole; events = []; found = []; weighed = 0; seen = replicate channel_count 0 }
 
 -- the views of a line that gives a share away, and of the new line that has it
 abbrev pub parent_view : LineView → LineView
 parent_view v = record v { shares = v.shares - 1 }
 
 abbrev pub child_view : LineView → LineView
-child_view v = record { shares = 1; whole = v.whole; events = []; found = []; seen = v.seen }
+child_view v = record { shares = 1; whole = v.whole; events = []; found = []; weighed = 0; seen = v.seen }
 
 -- the view of two lines as one, and what is left of the other
 abbrev pub joined_view : LineView → LineView → LineView
@@ -30,11 +30,12 @@ joined_view v w = record {
   whole = v.whole;
   events = v.events ++ w.events;
   found = v.found ++ w.found;
+  weighed = v.weighed + w.weighed;
   seen = greater_of_each v.seen w.seen;
 }
 
 abbrev pub spent_view : LineView
-spent_view = record { shares = 0; whole = 0; events = []; found = []; seen = [] }
+spent_view = record { shares = 0; whole = 0; events = []; found = []; weighed = 0; seen = [] }
 
 -- the view after a word was found on channel c
 abbrev pub finds : LineView → ℕ → ℕ → LineView
@@ -49,6 +50,10 @@ makes v c number e = record v {
   events = v.events ++ record { channel = c; number = number; what = Did e } ∷ [];
   seen = slice_set v.seen (channel_index c) (number + 1);
 }
+
+-- the view after a load that took no note of its word
+abbrev pub weighs_once : LineView → LineView
+weighs_once v = record v { weighed = v.weighed + 1 }
 
 -- what a view says of the histories at a moment
 pub record SaysOf (v : LineView) (histories : List (List Event)) : Type 0 where
@@ -98,9 +103,9 @@ abbrev pub exchanges : Step Event → Me Event LineView → ℕ → Me Event Lin
 exchanges step before word after = (after.1 ≡ before.1)
     × ((c : ℕ) → IsOn c step → 0 < before.0.shares → announced c step.first step.said before.0 word after.0)
 
--- A load that notes nothing, and tells that a line has no more shares than there are.
+-- A load that is counted alone, and tells that a line has no more shares than there are.
 pub record IsWeighing (c : ℕ) (before : LineView) (word : ℕ) (after : LineView) : Type 0 where
-  pub after_is : after ≡ before
+  pub after_is : after ≡ weighs_once before
   pub shares_fit : before.shares ≤ before.whole
   pub tells : Tells before c word
 

@@ -1,6 +1,6 @@
 //! One thread's access to the twelve channels.
 
-ghost use Rattle.std.specs.Prelude.{◌≡◌, ◌≤◌, ◌-◌, List, [], ◌∷◌, ◌++◌, Contains, true, IfOk, OnOk, OnErr, IfErr, length};
+ghost use Rattle.std.specs.Prelude.{◌≡◌, ◌≤◌, ◌+◌, ◌-◌, List, [], ◌∷◌, ◌++◌, Contains, true, IfOk, OnOk, OnErr, IfErr, length};
 ghost use Rattle.pp_channel.specs.declared.event.Event.{Event};
 ghost use Rattle.pp_channel.specs.ChannelNumber.{channel_count};
 ghost use Rattle.pp_channel.specs.RisingLog.{IsRising, IsWithin, seen_on};
@@ -26,7 +26,7 @@ use std::alloc::Allocator;
 use std::marker::Model;
 
 /// One thread's access to the twelve channels, which it shares with other lines without a lock.
-/// Contracts see its log, what it has seen and found, and its shares.
+/// Contracts see its log, what it has seen and found, how often it weighed, and its shares.
 #[derive(Drop)]
 pub struct Line<A: Allocator> {
     alloc: A,
@@ -43,9 +43,9 @@ impl<A: Allocator> Model for Line<A> {
 
     ghost Value = { LineState };
 
-    ghost view = { λ line. record { log = line.log; seen = line.seen; found = line.words.seat.me.0.found; shares = line.shares; whole = line.whole; table = line.words.seat.table_id } };
+    ghost view = { λ line. record { log = line.log; seen = line.seen; found = line.words.seat.me.0.found; weighed = line.words.seat.me.0.weighed; shares = line.shares; whole = line.whole; table = line.words.seat.table_id } };
 
-    ghost invariant = { λ line. IsLineKept line.words.seat.me.0 (record { log = line.log; seen = line.seen; found = line.words.seat.me.0.found; shares = line.shares; whole = line.whole; table = line.words.seat.table_id }) };
+    ghost invariant = { λ line. IsLineKept line.words.seat.me.0 (record { log = line.log; seen = line.seen; found = line.words.seat.me.0.found; weighed = line.words.seat.me.0.weighed; shares = line.shares; whole = line.whole; table = line.words.seat.table_id }) };
 }
 
 /// Twelve channels without history, and the first line of their family, which holds all of `lines`
@@ -259,7 +259,7 @@ impl<A: Allocator + Copy> Line<A> {
 
     /// This line and another of its family, that is, from the same `open_lines`, as one: the log is this
     /// line's entries and then the other's, the room is this line's, shares add up, and `seen` is the
-    /// greater for each channel. After `Memory` both come back unchanged.
+    /// greater for each channel. It makes one load. After `Memory` both come back unchanged.
     #[tactic(auto, unfolding(crate::specs::ChannelNumber::names_channel))]
     pub fn join(mut self, other: Line<A>) -> Result<Line<A>, (Line<A>, Line<A>, Memory)>
         requires { other.table ≡ self.table }
@@ -286,12 +286,13 @@ impl<A: Allocator + Copy> Line<A> {
     }
 
     /// The channels, of the line that holds every share of its family: their histories are the events of
-    /// its log, each at its number. After `Memory` the line comes back unchanged.
+    /// its log, each at its number. It makes one load, and that alone is new of the line where it comes
+    /// back after `Memory`.
     #[tactic(auto, unfolding(crate::specs::ChannelNumber::names_channel))]
     pub fn close(mut self) -> Result<[Channel<A>; CHANNELS], (Line<A>, Memory)>
         requires { self.shares ≡ self.whole }
         ensures ok { IfOk result (λ channels. AreClosed self channels) }
-        ensures unchanged_after_memory { IfErr result (λ refused. refused.0 ≡ self) }
+        ensures unchanged_after_memory { IfErr result (λ refused. refused.0 ≡ record self { weighed = self.weighed + 1 }) }
     {
         self.words.weigh(ChannelNo::FIRST);
         let line = &self;

@@ -20,6 +20,8 @@ pub struct LineView {
     pub events: LinkedList<Entry>,
     /// The words that it found.
     pub found: LinkedList<FoundWord>,
+    /// How often it loaded a word and took no note of it.
+    pub weighed: u64,
     /// How many events of each channel it has seen.
     pub seen: LinkedList<u64>,
 }
@@ -54,7 +56,7 @@ impl Play<Event, LineView> for Exchange {
     ghost then = { exchanges };
 }
 
-/// A load after which the line knows no more of the channels than before.
+/// A load that is counted, after which the line knows no more of the channels than before.
 pub struct Weigh;
 
 impl Play<Event, LineView> for Weigh {

@@ -8,7 +8,7 @@ ghost use Rattle.pp_channel.specs.ChannelNumber.{names_channel};
 ghost use Rattle.pp_channel.specs.ChannelWord.{history_word, number_in};
 ghost use Rattle.pp_channel.specs.History.{IsLawful, HasTwelveBitWords, HasTwelveBitWord};
 ghost use Rattle.pp_channel.specs.SharedWords.{place_count, word_place};
-ghost use Rattle.pp_channel.specs.LineSteps.{first_view, parent_view, child_view, joined_view, finds, IsLoad, IsExchange, IsWeighing, Tells};
+ghost use Rattle.pp_channel.specs.LineSteps.{first_view, parent_view, child_view, joined_view, finds, weighs_once, IsLoad, IsExchange, IsWeighing, Tells};
 
 use crate::channel_no::{CHANNELS, ChannelNo};
 use crate::event::Event;
@@ -95,10 +95,10 @@ impl<A: Allocator + Copy> SharedWords<A> {
             .compare_exchange_with::<Exchange>(&mut self.seat, place(channel), expected, new, event)
     }
 
-    /// A load after which the line knows no more of the channels than before.
+    /// A load that is counted, after which the line knows no more of the channels than before.
     pub fn weigh(&mut self, channel: ChannelNo)
         ensures table { self.new.seat.table_id ≡ self.old.seat.table_id }
-        ensures view { self.new.seat.me.0 ≡ self.old.seat.me.0 }
+        ensures view { self.new.seat.me.0 ≡ weighs_once self.old.seat.me.0 }
         ensures shares_fit { self.old.seat.me.0.shares ≤ self.old.seat.me.0.whole }
         ensures tells { (word : ℕ) × Tells self.old.seat.me.0 channel word }
     {

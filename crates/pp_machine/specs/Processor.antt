@@ -1,10 +1,12 @@
 -- A peripheral processor as contracts see it.
 -- (Manual 60100000, peripheral processors: memory, the accumulator A, the program address P.)
-use Rattle.std.specs.Prelude.{ℕ, ◌<◌, ◌≤◌, ◌^◌, List, Option, None, slice_index}
+use Rattle.std.specs.Prelude.{◌≡◌, ℕ, ◌<◌, ◌≤◌, ◌^◌, List, Option, None, Some, slice_index}
 use Rattle.pp_machine.specs.PpMemory.{IsMemory, empty_memory}
 use Rattle.pp_machine.specs.declared.block.Block.{Block}
+use Rattle.pp_machine.specs.declared.block.BlockKind.{BlockKind}
+use Rattle.pp_machine.specs.declared.block.BlockKind.TheVariants.{CentralIn, CentralOut}
 use Rattle.pp_machine.specs.declared.pp_state.PpState.{PpState}
-use Rattle.pp_machine.specs.declared.pp_state.PpState.TheVariants.{Stopped, Fault}
+use Rattle.pp_machine.specs.declared.pp_state.PpState.TheVariants.{Running, Stopped, Fault}
 
 -- memory, A of 18 bits, P of 12 bits, whether it goes on, and perhaps a block transfer in progress
 pub record Processor : Type 0 where
@@ -31,6 +33,17 @@ pub record IsFaultNumber (number : ℕ) : Type 0 where
 abbrev pub HasFaultNumber : PpState → Type 0
 HasFaultNumber (Fault number) = IsFaultNumber number
 HasFaultNumber state = Unit {0}
+
+-- a transfer with central memory has at least one word left
+abbrev pub HasWordsLeft : BlockKind → Type 0
+HasWordsLeft (CentralIn left) = 1 ≤ left
+HasWordsLeft (CentralOut left) = 1 ≤ left
+HasWordsLeft kind = Unit {0}
+
+-- only a running processor is in a block, and a block with central memory has words left
+abbrev pub IsBlockIn : PpState → Option Block → Type 0
+IsBlockIn state None = Unit {0}
+IsBlockIn state (Some block) = (state ≡ Running) × HasWordsLeft block.kind
 
 -- memory and registers have the widths that the manual gives
 pub record IsProcessor (pp : Processor) : Type 0 where

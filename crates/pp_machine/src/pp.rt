@@ -11,7 +11,7 @@ mod reply;
 mod step;
 
 ghost use Rattle.std.specs.Prelude.{◌≡◌};
-ghost use Rattle.pp_machine.specs.Processor.{IsProcessor, HasFaultNumber, new_processor, word_at};
+ghost use Rattle.pp_machine.specs.Processor.{IsProcessor, HasFaultNumber, IsBlockIn, new_processor, word_at};
 
 use crate::block::Block;
 use crate::pp_memory::PpMemory;
@@ -32,13 +32,13 @@ pub struct Pp {
 }
 
 impl Model for Pp {
-    ghost use Rattle.pp_machine.specs.Processor.{Processor, HasFaultNumber};
+    ghost use Rattle.pp_machine.specs.Processor.{Processor, HasFaultNumber, IsBlockIn};
 
     ghost Value = { Processor };
 
     ghost view = { λ pp. record { memory = pp.memory; a = pp.a; p = pp.p; state = pp.state; block = pp.block } };
 
-    ghost invariant = { λ pp. HasFaultNumber pp.state };
+    ghost invariant = { λ pp. HasFaultNumber pp.state × IsBlockIn pp.state pp.block };
 }
 
 impl Pp {
@@ -89,7 +89,9 @@ impl Pp {
 
     /// The block transfer in progress.
     pub fn block(&self) -> Option<Block>
-        ensures { result ≡ self.now.block }
+        ensures value { result ≡ self.now.block }
+        // Only a running processor is in a block, which has words left, however it came there.
+        ensures only_running { IsBlockIn self.now.state result }
     {
         self.block
     }

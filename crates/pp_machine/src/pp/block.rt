@@ -5,10 +5,12 @@ ghost use Rattle.pp_word.specs.Address.{next_place};
 ghost use Rattle.pp_word.specs.OnesComplement.{sum};
 ghost use Rattle.pp_machine.specs.Blocks.{receives, central_from, ends, starts, counts_down, counts_up, block_word};
 ghost use Rattle.pp_machine.specs.NeedAndEffect.{answered};
+ghost use Rattle.pp_machine.specs.Processor.{HasWordsLeft};
 
 use crate::answer::Answer;
 use crate::block::{Block, BlockKind};
 use crate::pp::Pp;
+use crate::pp_state::PpState;
 use pp_channel::{ChannelNo, Reply};
 use pp_word::{Word12, Word18, Word60, add18, join60, next, split60, sub18};
 
@@ -126,6 +128,8 @@ impl Pp {
 
     /// The start of a block, at the place of the second word.
     pub(super) fn start_block(&mut self, count: u32, kind: BlockKind)
+        requires running { self.old.state ≡ PpState.Running }
+        requires left { 0 < count → HasWordsLeft kind }
         ensures { self.new ≡ starts self.old count kind }
     {
         let place = self.second_word();
@@ -139,6 +143,8 @@ impl Pp {
 
     /// A word of IAM or OAM has gone.
     fn count_down(&mut self, kind: BlockKind, place: Word12)
+        requires running { self.old.state ≡ PpState.Running }
+        requires left { HasWordsLeft kind }
         ensures { self.new ≡ counts_down self.old kind place }
     {
         self.a = sub18(self.a, Word18::ONE);
@@ -152,6 +158,8 @@ impl Pp {
 
     /// A central word of CRM or CWM has gone, and so many are left.
     fn count_up(&mut self, left: Word12, kind: BlockKind, place: Word12)
+        requires running { self.old.state ≡ PpState.Running }
+        requires left { 0 < left → HasWordsLeft kind }
         ensures { self.new ≡ counts_up self.old left kind place }
     {
         self.a = one_more(self.a);
@@ -165,6 +173,7 @@ impl Pp {
 
     /// CRM: the start of a block of so many central words.
     pub(super) fn start_central_in(&mut self, left: Word12)
+        requires { self.old.state ≡ PpState.Running }
         ensures { self.new ≡ starts self.old left (BlockKind.CentralIn left) }
     {
         self.start_block(u32::from(left.get()), BlockKind::CentralIn { left });
@@ -172,6 +181,7 @@ impl Pp {
 
     /// CWM: the start of a block of so many central words.
     pub(super) fn start_central_out(&mut self, left: Word12)
+        requires { self.old.state ≡ PpState.Running }
         ensures { self.new ≡ starts self.old left (BlockKind.CentralOut left) }
     {
         self.start_block(u32::from(left.get()), BlockKind::CentralOut { left });
@@ -180,7 +190,8 @@ impl Pp {
     /// One central word of CRM, with the answer to its need.
     #[inline(always)]
     pub(super) fn move_central_in(&mut self, left: Word12, place: Word12, answer: Answer)
-        requires { self.old.block ≡ Some (record { kind = BlockKind.CentralIn left; place = place }) }
+        requires running { self.old.state ≡ PpState.Running }
+        requires block { self.old.block ≡ Some (record { kind = BlockKind.CentralIn left; place = place }) }
         ensures { self.new ≡ answered (block_word (BlockKind.CentralIn left) place self.old) self.old answer }
     {
         match answer {
@@ -197,7 +208,8 @@ impl Pp {
     /// One central word of CWM, with the answer to its need.
     #[inline(always)]
     pub(super) fn move_central_out(&mut self, left: Word12, place: Word12, answer: Answer)
-        requires { self.old.block ≡ Some (record { kind = BlockKind.CentralOut left; place = place }) }
+        requires running { self.old.state ≡ PpState.Running }
+        requires block { self.old.block ≡ Some (record { kind = BlockKind.CentralOut left; place = place }) }
         ensures { self.new ≡ answered (block_word (BlockKind.CentralOut left) place self.old) self.old answer }
     {
         match answer {
@@ -213,7 +225,8 @@ impl Pp {
     /// One word of IAM, with the answer to its need: an inactive channel closes it with a word 0.
     #[inline(always)]
     pub(super) fn move_input(&mut self, channel: ChannelNo, place: Word12, answer: Answer)
-        requires { self.old.block ≡ Some (record { kind = BlockKind.Input channel; place = place }) }
+        requires running { self.old.state ≡ PpState.Running }
+        requires block { self.old.block ≡ Some (record { kind = BlockKind.Input channel; place = place }) }
         ensures { self.new ≡ answered (block_word (BlockKind.Input channel) place self.old) self.old answer }
     {
         match &answer {
@@ -234,7 +247,8 @@ impl Pp {
     /// One word of OAM, with the answer to its need: an inactive channel ends it.
     #[inline(always)]
     pub(super) fn move_output(&mut self, channel: ChannelNo, place: Word12, answer: Answer)
-        requires { self.old.block ≡ Some (record { kind = BlockKind.Output channel; place = place }) }
+        requires running { self.old.state ≡ PpState.Running }
+        requires block { self.old.block ≡ Some (record { kind = BlockKind.Output channel; place = place }) }
         ensures { self.new ≡ answered (block_word (BlockKind.Output channel) place self.old) self.old answer }
     {
         match answer {
@@ -250,7 +264,8 @@ impl Pp {
 
     /// One word of a block, with the answer to its need.
     pub(super) fn move_word(&mut self, block: Block, answer: Answer)
-        requires { self.old.block ≡ Some block }
+        requires running { self.old.state ≡ PpState.Running }
+        requires block { self.old.block ≡ Some block }
         ensures { self.new ≡ answered (block_word block.kind block.place self.old) self.old answer }
     {
         match &block.kind {

@@ -1,6 +1,6 @@
 //! What single instructions do.
 
-ghost use Rattle.std.specs.Prelude.{◌≡◌, IsTrue};
+ghost use Rattle.std.specs.Prelude.{◌≡◌, None, IsTrue};
 ghost use Rattle.pp_machine.specs.Processor.{IsFaultNumber};
 ghost use Rattle.pp_machine.specs.Effects.{goes_on, goes_to, faults, jumps_or_stops, jumps_where, branches_where, calls, is_negative, leads_to_itself, loads, loads_word, adds_word, subtracts_word, differs_from_word, stores_word, replaces, replaces_by_sum, replaces_by_one_more, replaces_by_one_less};
 
@@ -45,6 +45,7 @@ impl Pp {
 
     /// UJN.
     pub(super) fn jump_or_stop(&mut self, d: Word6)
+        requires { self.old.block ≡ None }
         ensures { self.new ≡ jumps_or_stops self.old d }
     {
         if leads_to_itself(d) {

@@ -1,6 +1,6 @@
 //! Instructions that need nothing from outside.
 
-ghost use Rattle.std.specs.Prelude.{◌≡◌, true};
+ghost use Rattle.std.specs.Prelude.{◌≡◌, None, true};
 ghost use Rattle.pp_machine.specs.InstructionTable.{instruction};
 ghost use Rattle.pp_machine.specs.NeedAndEffect.{answered};
 ghost use Rattle.pp_machine.specs.Replay.{fits};
@@ -9,6 +9,7 @@ ghost use Rattle.pp_machine.specs.Step.{need_of};
 use crate::answer::Answer;
 use crate::block::BlockKind;
 use crate::pp::Pp;
+use crate::pp_state::PpState;
 use pp_channel::ChannelNo;
 use pp_word::{
     Opcode, Word6, Word12, Word18, add18, and18, clear18, complement18, shift18, sub18, xor18,
@@ -17,6 +18,7 @@ use pp_word::{
 impl Pp {
     /// IAM: the start of a block that comes in from channel d.
     fn start_input(&mut self, d: Word6)
+        requires { self.old.state ≡ PpState.Running }
         ensures { self.new ≡ answered (instruction Opcode.IAM self.old d) self.old Answer.Local }
     {
         match ChannelNo::new(d.get()) {
@@ -27,6 +29,7 @@ impl Pp {
 
     /// OAM: the start of a block that goes out on channel d.
     fn start_output(&mut self, d: Word6)
+        requires { self.old.state ≡ PpState.Running }
         ensures { self.new ≡ answered (instruction Opcode.OAM self.old d) self.old Answer.Local }
     {
         match ChannelNo::new(d.get()) {
@@ -38,7 +41,9 @@ impl Pp {
     /// An instruction that needs nothing from outside, in the order of the octal codes.
     #[inline(always)]
     pub(super) fn run_local(&mut self, op: Opcode, d: Word6)
-        requires { fits (need_of (instruction op self.old d)) Answer.Local ≡ true }
+        requires running { self.old.state ≡ PpState.Running }
+        requires free { self.old.block ≡ None }
+        requires fits { fits (need_of (instruction op self.old d)) Answer.Local ≡ true }
         ensures { self.new ≡ answered (instruction op self.old d) self.old Answer.Local }
     {
         match op {

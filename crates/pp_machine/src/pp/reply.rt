@@ -9,6 +9,7 @@ ghost use Rattle.pp_machine.specs.Step.{need_of};
 
 use crate::answer::Answer;
 use crate::pp::Pp;
+use crate::pp_state::PpState;
 use pp_channel::Reply;
 use pp_word::{Opcode, Word6, Word12, Word18, Word60};
 
@@ -61,6 +62,7 @@ impl Pp {
 
     /// The instruction at P, with the answer to its need.
     pub(super) fn run_instruction(&mut self, answer: Answer)
+        requires running { self.old.state ≡ PpState.Running }
         requires free { self.old.block ≡ None }
         requires fits { fits (need_of (instruction (operation self.old) self.old (lower_six self.old))) answer ≡ true }
         ensures { self.new ≡ answered (instruction (operation self.old) self.old (lower_six self.old)) self.old answer }

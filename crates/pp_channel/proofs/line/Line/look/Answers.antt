@@ -10,4 +10,4 @@ pub invariant_of-self : goal.invariant_of-self
 invariant_of-self g c =
     let found = subst (λ (line : LineState). Contains line.found (record { channel = c.args.channel; word = c.args.word })) (sym c.self.view_is) c.requires.found in
     let seen = subst (λ (line : LineState). number_in c.args.word ≤ seen_on c.args.channel line.seen) (sym c.self.view_is) c.requires.seen in
-    kept_at (record { log = c.saw.new.self; seen = c.self.inside.seen; found = c.self.inside.words.seat.me.0.found; shares = c.self.inside.shares; whole = c.self.inside.whole; table = c.self.inside.words.seat.table_id }) (kept_look c.args.channel c.args.word c.self.invariant found seen) (rw (← c.number_in.ensures.value, ← c.flags_in.ensures) c.saw.ensures) refl refl refl refl
+    kept_at (record { log = c.saw.new.self; seen = c.self.inside.seen; found = c.self.inside.words.seat.me.0.found; weighed = c.self.inside.words.seat.me.0.weighed; shares = c.self.inside.shares; whole = c.self.inside.whole; table = c.self.inside.words.seat.table_id }) (kept_look c.args.channel c.args.word c.self.invariant found seen) (rw (← c.number_in.ensures.value, ← c.flags_in.ensures) c.saw.ensures) refl refl refl refl

@@ -19,7 +19,7 @@ invariant_of-self g c =
     let made = exchange_made c.args.event exchange c.if-found-word.true in
     let number = c.number_in-number.ensures.value in
     let kept = kept_deed c.exchange-found.new.self.seat.me.0 c.args.channel (number_in c.exchange-found.result) c.args.event c.self.invariant made (search rules) (not_older_told tells) in
-    kept_at (record { log = c.did.new.self; seen = slice_set c.self.inside.seen c.index.result (c.number_in-number.result + 1); found = c.exchange-found.new.self.seat.me.0.found; shares = c.self.inside.shares; whole = c.self.inside.whole; table = c.exchange-found.new.self.seat.table_id }) kept (rw (← number) c.did.ensures) (λ j. slice_set c.self.inside.seen (c.index.ensures.place j) (number j + 1)) (ap (λ (v : LineView). v.found) made) refl refl
+    kept_at (record { log = c.did.new.self; seen = slice_set c.self.inside.seen c.index.result (c.number_in-number.result + 1); found = c.exchange-found.new.self.seat.me.0.found; weighed = c.exchange-found.new.self.seat.me.0.weighed; shares = c.self.inside.shares; whole = c.self.inside.whole; table = c.exchange-found.new.self.seat.table_id }) kept (rw (← number) c.did.ensures) (λ j. slice_set c.self.inside.seen (c.index.ensures.place j) (number j + 1)) (ap (λ (v : LineView). v.found) made) refl refl
 
 pub returns-then-found-word-clause-made : goal.returns-then-found-word-clause-made
 returns-then-found-word-clause-made g c =
@@ -27,7 +27,7 @@ returns-then-found-word-clause-made g c =
     let made = exchange_made c.args.event exchange c.if-found-word.true in
     let number = c.number_in-number.ensures.value in
     has_made c.exchange-found.new.self.seat.me.0 c.args.event c.self.invariant (search rules) exchange _ _ c.self.view_is c.if-found-word.true
-    (same_line (rw (← number) c.did.ensures) (λ j. slice_set c.self.inside.seen (c.index.ensures.place j) (number j + 1)) (ap (λ (v : LineView). v.found) made) refl refl c.exchange-found.ensures.table)
+    (same_line (rw (← number) c.did.ensures) (λ j. slice_set c.self.inside.seen (c.index.ensures.place j) (number j + 1)) (ap (λ (v : LineView). v.found) made) (ap (λ (v : LineView). v.weighed) made) refl refl c.exchange-found.ensures.table)
 
 pub returns-then-found-word-clause-within : goal.returns-then-found-word-clause-within
 returns-then-found-word-clause-within g c = (invariant_of-self g c).within
@@ -50,6 +50,6 @@ returns-clause-lost g c =
     let exchange = c.exchange-found.ensures.exchange in
     let lost = exchange_lost c.args.event exchange c.if-found-word.false in
     has_lost c.exchange-found.new.self.seat.me.0 c.args.event c.self.invariant (search rules) exchange _ _ c.self.view_is c.if-found-word.false
-    (record { log = c.self.inside.log; seen = slice_set c.self.inside.seen c.index-2.result c.number_in-number.result; found = c.exchange-found.new.self.seat.me.0.found; shares = c.self.inside.shares; whole = c.self.inside.whole; table = c.exchange-found.new.self.seat.table_id })
-    (same_line refl (λ j. slice_set c.self.inside.seen (c.index-2.ensures.place j) (c.number_in-number.ensures.value j)) (ap (λ (v : LineView). v.found) lost.after_is) refl refl c.exchange-found.ensures.table)
+    (record { log = c.self.inside.log; seen = slice_set c.self.inside.seen c.index-2.result c.number_in-number.result; found = c.exchange-found.new.self.seat.me.0.found; weighed = c.exchange-found.new.self.seat.me.0.weighed; shares = c.self.inside.shares; whole = c.self.inside.whole; table = c.exchange-found.new.self.seat.table_id })
+    (same_line refl (λ j. slice_set c.self.inside.seen (c.index-2.ensures.place j) (c.number_in-number.ensures.value j)) (ap (λ (v : LineView). v.found) lost.after_is) (ap (λ (v : LineView). v.weighed) lost.after_is) refl refl c.exchange-found.ensures.table)
     c.look.ensures.after
