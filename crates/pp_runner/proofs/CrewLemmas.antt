@@ -15,11 +15,13 @@ use Rattle.pp_runner.proofs.LogLemmas.{settles, stands_settled}
 use Rattle.pp_runner.proofs.EndLemmas.{worn_later}
 use Rattle.pp_runner.proofs.LineLemmas.{same_line_still, same_line_twice}
 use Rattle.pp_runner.specs.Crew.{IsFresh, AreReady, IsEnded, IsAlone, AreEnded}
-use Rattle.pp_runner.specs.Labour.{IsAtWork, HasSeen, NoneOlder, IsSameLine}
+use Rattle.pp_runner.specs.Labour.{IsAtWork, HasSeen, NoneOlder, IsSameLine, HasOperated, GaveUpWithCause}
 use Rattle.pp_runner.specs.WorkerEnd.{IsEnd, WornWithCause}
 use Rattle.pp_runner.specs.WorkerLog.{events_in, sights_in, StandsIn}
 use Rattle.pp_runner.specs.WorkerReport.{AreWorkers, logs_of}
 use Rattle.pp_runner.specs.declared.crew.Crew.{Crew}
+use Rattle.pp_runner.specs.declared.end.End.{End}
+use Rattle.pp_runner.specs.declared.end.End.TheVariants.{Patience}
 use Rattle.pp_runner.specs.declared.labour.Ended.{Ended}
 use Rattle.pp_runner.specs.declared.worker.Worker.{Worker}
 
@@ -107,6 +109,20 @@ pub ended_since : {A E : Type 0} (load : Processor) (size steps : ℕ) (line mid
 ended_since load size steps line mid (Err e) same one = tt
 ended_since load size steps line mid (Ok ended) same one =
     record { worker = one.worker; log = one.log; worn = one.worn; same_line = same_line_twice line mid ended.line same one.same_line }
+
+-- a worker that has given up, with the line that it had at first, at the beginning of its last step, and at its end
+pub gave_up : {A E : Type 0} (patience : ℕ) (line mid after : LineState) (finish : End) (r : Result (Ended A) E) → length line.found ≤ length mid.found → (finish ≡ Patience → HasOperated patience mid after)
+    → IfOk r (λ ended. ended.line ≡ after) → IfOk r (λ ended. ended.worker.finish ≡ finish) → IfOk r (λ ended. GaveUpWithCause patience line ended.worker.finish ended.line)
+gave_up patience line mid after finish (Err e) more operated same was = tt
+gave_up patience line mid after finish (Ok ended) more operated same was = λ is.
+    let last = operated (sym was ∙ is) in
+    omega (arith, more, last.least, ap (λ l. length l.found) same)
+
+-- one that has not
+pub not_given_up : {A E : Type 0} (patience : ℕ) (line : LineState) (finish : End) (r : Result (Ended A) E) → (finish ≡ Patience → ⊥)
+    → IfOk r (λ ended. ended.worker.finish ≡ finish) → IfOk r (λ ended. GaveUpWithCause patience line ended.worker.finish ended.line)
+not_given_up patience line finish (Err e) other was = tt
+not_given_up patience line finish (Ok ended) other was = λ is. absurd (other (sym was ∙ is))
 
 -- the processors from a place on begin with the one at that place
 pub processors_from : (m : MachineState) (n : ℕ) → processor_index n < length m.processors → drop (processor_index n) m.processors ≡ processor_of n m ∷ drop (processor_index n + 1) m.processors

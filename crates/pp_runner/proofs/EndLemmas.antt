@@ -90,3 +90,12 @@ pub worn_at_last : (happened : ℕ → ℕ) (pp : Processor) (rest : Option End)
     → WornWithCause happened (unwrap_or rest ends.Steps) pp
 worn_at_last happened pp None ended = λ is. absurd cc
 worn_at_last happened pp (Some finish) ended = worn_at_rest happened finish pp ended
+
+-- nor has it given up
+pub patience_at_rest : (finish : End) (pp : Processor) → ((n : ℕ) (ys : List Answer) (other : List Entry) → IsEnd n finish pp ys other) → finish ≡ ends.Patience → ⊥
+patience_at_rest finish pp ended is = absurd (omega (arith, ((ended 0 [] []).patience is).0.fewer))
+
+pub patience_at_last : (pp : Processor) (rest : Option End) → IfSome rest (λ finish. (n : ℕ) (ys : List Answer) (other : List Entry) → IsEnd n finish pp ys other)
+    → unwrap_or rest ends.Steps ≡ ends.Patience → ⊥
+patience_at_last pp None ended = λ is. absurd cc
+patience_at_last pp (Some finish) ended = patience_at_rest finish pp ended

@@ -1,8 +1,9 @@
 -- A line after a call: it is the same line, later.
-use Rattle.std.proofs.Common.{◌≡◌, ℕ, ◌≤◌, List, refl, sym, ap, ◌∙◌, subst, inl, inr, arith}
+use Rattle.std.proofs.Common.{◌≡◌, ℕ, suc, ◌≤◌, ◌+◌, ◌-◌, ◌*◌, List, refl, sym, ap, ◌∙◌, subst, inl, inr, arith}
 use Rattle.std.specs.Prelude.{slice_set}
 use Rattle.std.proofs.lemmas.Bool.{cases_eq}
 use Rattle.std.proofs.lemmas.List.Elements.{All-push}
+use Rattle.std.proofs.Math.Nat.{suc-mul, mul-one, zero-mul}
 use Rattle.pp_channel.proofs.LineKnowledge.{all_looked}
 use Rattle.pp_channel.proofs.SeenLemmas.{set_raises}
 use Rattle.pp_channel.specs.ChannelNumber.{channel_index}
@@ -17,8 +18,11 @@ use Rattle.pp_channel.specs.declared.entry.Seen.TheVariants.{Did, Saw}
 use Rattle.pp_channel.specs.declared.numbered.Numbered.{Numbered}
 use Rattle.pp_channel.specs.declared.reply.Reply.{Reply}
 use Rattle.pp_channel.specs.declared.reply.Reply.TheVariants as replies
+use Rattle.pp_machine.specs.NeedAndEffect.{need}
+use Rattle.pp_machine.specs.Processor.{Processor}
 use Rattle.pp_runner.proofs.ReplyLemmas.{line_reply_fits, sight_of}
-use Rattle.pp_runner.specs.Labour.{NoneOlder, IsSameLine, noted_as}
+use Rattle.pp_runner.specs.Labour.{NoneOlder, IsSameLine, HasOperated, operations, noted_as}
+use Rattle.pp_runner.specs.WorkerEnd.{WasHeld}
 
 -- nothing came
 pub same_line_still : (line : LineState) → IsSameLine line line
@@ -75,3 +79,35 @@ same_line_acted line after c op r acted =
       none_older = λ happened has none. subst (λ (l : LogState). NoneOlder happened l.entries) (sym log)
           (none_older_noted happened line.log c r.number s.what (let had = has.seen c in omega (arith, had, later)) none);
     }
+
+-- no try yet
+pub operated_none : (each : ℕ) (line : LineState) → HasOperated (0 * each) line line
+operated_none each line =
+    let none : 0 * each ≡ 0 = zero-mul each in record {
+      least = omega (arith, none);
+      most = omega (arith, none);
+    }
+
+-- some operations, and then some more
+pub operated_twice : (n m : ℕ) (line mid after : LineState) → HasOperated n line mid → HasOperated m mid after → HasOperated (n + m) line after
+operated_twice n m line mid after a b = record { least = omega (arith, a.least, b.least); most = omega (arith, a.most, b.most) }
+
+-- one more try of a step
+pub operated_again : (tries each : ℕ) (line mid after : LineState) → HasOperated (tries * each) line mid → HasOperated each mid after → HasOperated ((tries + 1) * each) line after
+operated_again tries each line mid after a b =
+    let next : tries + 1 ≡ suc tries = omega arith in
+    subst (λ (n : ℕ). HasOperated n line after) (sym (ap (λ n. n * each) next ∙ suc-mul tries each)) (operated_twice (tries * each) each line mid after a b)
+
+-- so many tries of a step, by a count of all tries
+pub operated_tries : (first last made each : ℕ) (line after : LineState) → last ≡ first + made → HasOperated (made * each) line after → HasOperated ((last - first) * each) line after
+operated_tries first last made each line after count a =
+    let difference : made ≡ last - first = omega (arith, count) in
+    subst (λ (n : ℕ). HasOperated (n * each) line after) difference a
+
+-- a step at which the processor was held makes one operation at each try
+pub held_operates : (pp : Processor) (log : List Entry) → WasHeld pp log → operations (need pp) ≡ 1
+held_operates pp log was = ap operations was.needs.is
+
+pub operated_held : (tries : ℕ) (pp : Processor) (log : List Entry) (line after : LineState) → WasHeld pp log → HasOperated (tries * operations (need pp)) line after → HasOperated tries line after
+operated_held tries pp log line after was a =
+    subst (λ (n : ℕ). HasOperated n line after) (ap (λ n. tries * n) (held_operates pp log was) ∙ mul-one tries) a

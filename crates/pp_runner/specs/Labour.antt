@@ -11,6 +11,9 @@ use Rattle.pp_machine.specs.Processor.{Processor}
 use Rattle.pp_machine.specs.Replay.{ChannelSight, fits, replayed, given_count, events_given, sights_of, sights_given}
 use Rattle.pp_machine.specs.declared.answer.Answer.{Answer}
 use Rattle.pp_machine.specs.declared.need.Need.{Need}
+use Rattle.pp_machine.specs.declared.need.Need.TheVariants as needs
+use Rattle.pp_runner.specs.declared.end.End.{End}
+use Rattle.pp_runner.specs.declared.end.End.TheVariants.{Patience}
 use Rattle.pp_runner.specs.AnswersGiven.{AllMoved, AllBySize, IsBySize}
 use Rattle.pp_runner.specs.WorkerEnd.{WasHeld}
 use Rattle.pp_runner.specs.WorkerLog.{events_in, sights_in, StandsIn}
@@ -51,6 +54,23 @@ pub record IsAnswered (size : ℕ) (needed : Need) (answer : Answer) (before aft
   pub by_size : IsBySize size needed answer
   pub noted : IsNoted (sights_of needed answer) before after
   pub rising : IsRising before.entries → IsRising after.entries
+
+-- how many operations on channels one try of a step makes
+abbrev pub operations : Need → ℕ
+operations needs.Nothing = 0
+operations needs.Local = 0
+operations (needs.Channel channel operation) = 1
+operations (needs.Read address) = 0
+operations (needs.Write address word) = 0
+
+-- The line has made so many operations: each found a word, and a second one where its exchange was lost.
+pub record HasOperated (count : ℕ) (before after : LineState) : Type 0 where
+  pub least : length before.found + count ≤ length after.found
+  pub most : length after.found ≤ length before.found + 2 * count
+
+-- Only a worker that made at least as many operations as its patience has given up.
+abbrev pub GaveUpWithCause : ℕ → LineState → End → LineState → Type 0
+GaveUpWithCause patience before finish after = finish ≡ Patience → length before.found + patience ≤ length after.found
 
 -- Of each channel the line has seen so many events, no more than its word can count.
 pub record HasSeen (happened : ℕ → ℕ) (line : LineState) : Type 0 where

@@ -1,13 +1,13 @@
 //! A worker, from its load to its end.
 
-ghost use Rattle.std.specs.Prelude.{◌≡◌, ◌<◌, ◌≤◌, ◌+◌, ◌*◌, ◌++◌, ◌∷◌, [], true, ℕ, List, vec_len, vec_capacity, IfOk, IfErr, IfSome, IfNone, OnErr};
+ghost use Rattle.std.specs.Prelude.{◌≡◌, ◌<◌, ◌≤◌, ◌+◌, ◌-◌, ◌*◌, ◌^◌, ◌++◌, ◌∷◌, [], true, ℕ, List, vec_len, vec_capacity, IfOk, IfErr, IfSome, IfNone, OnErr};
 ghost use Rattle.pp_channel.specs.LineLog.{empty_log};
 ghost use Rattle.pp_channel.specs.RisingLog.{seen_on};
 ghost use Rattle.pp_channel.specs.declared.entry.Entry.{Entry};
 ghost use Rattle.pp_machine.specs.NeedAndEffect.{need};
 ghost use Rattle.pp_machine.specs.declared.answer.Answer.{Answer};
 ghost use Rattle.pp_runner.specs.Crew.{IsEnded};
-ghost use Rattle.pp_runner.specs.Labour.{IsAtWork, IsAnswered, IsSameLine};
+ghost use Rattle.pp_runner.specs.Labour.{IsAtWork, IsAnswered, IsSameLine, HasOperated, GaveUpWithCause, operations};
 ghost use Rattle.pp_runner.specs.WorkerEnd.{IsEnd, NeedsWornChannel, WornWithCause, WasHeld};
 
 use crate::end::End;
@@ -58,6 +58,7 @@ fn ask<R: Wait, A: Allocator + Copy>(
     ensures worn { OnErr result (NeedsWornChannel (λ c. seen_on c line.new.seen) needed) }
     ensures unchanged_when_worn { OnErr result (line.new.log ≡ line.old.log) }
     ensures same_line { IsSameLine line.old line.new }
+    ensures operated { HasOperated (operations needed) line.old line.new }
 {
     match needed {
         Need::Nothing | Need::Local => Ok(Answer::Local),
@@ -78,6 +79,7 @@ impl<A: Allocator + Copy> Labour<A> {
         ensures len { vec_len self.new.answers ≡ vec_len self.old.answers + 1 }
         ensures line { self.new.line ≡ record self.old.line { log = record self.old.line.log { kept = true } } }
         ensures pp { self.new.pp ≡ self.old.pp }
+        ensures tries { self.new.tries ≡ self.old.tries }
     {
         self.line.keep();
         self.answers.push_reserved(answer);
@@ -91,6 +93,8 @@ impl<A: Allocator + Copy> Labour<A> {
         requires work { IsAtWork load.now site.now.central site.now.limits.steps self.old.pp self.old.answers.items self.old.line.log }
         ensures work { IsAtWork load.now site.now.central site.now.limits.steps self.new.pp self.new.answers.items self.new.line.log }
         ensures same_line { IsSameLine self.old.line self.new.line }
+        ensures operated { HasOperated (operations (need self.old.pp)) self.old.line self.new.line }
+        ensures tries { self.new.tries ≡ self.old.tries }
         ensures moved { result ≡ Try.Moved → vec_len self.new.answers ≡ vec_len self.old.answers + 1 }
         ensures held { result ≡ Try.Held → (self.new.pp ≡ self.old.pp) × (self.new.answers ≡ self.old.answers) × WasHeld self.new.pp self.new.line.log.entries }
         ensures worn { result ≡ Try.Worn → (self.new.pp ≡ self.old.pp) × (self.new.answers ≡ self.old.answers) × NeedsWornChannel (λ c. seen_on c self.new.line.seen) (need self.new.pp) }
@@ -109,7 +113,8 @@ impl<A: Allocator + Copy> Labour<A> {
         }
     }
 
-    /// Tries the next step until the processor moves, and answers `None` where it did.
+    /// Tries the next step until the processor moves, and answers `None` where it did. Each try is an
+    /// operation, if the step needs one; a worker gives up after just as many as its patience.
     fn take_step<R: Wait, G: Gate>(
         &mut self,
         rt: &R,
@@ -120,8 +125,13 @@ impl<A: Allocator + Copy> Labour<A> {
         requires running { self.old.pp.state ≡ PpState.Running }
         requires steps_left { vec_len self.old.answers < site.now.limits.steps }
         requires work { IsAtWork load.now site.now.central site.now.limits.steps self.old.pp self.old.answers.items self.old.line.log }
+        requires countable { self.old.tries + site.now.limits.patience < 2 ^ 64 }
         ensures work { IsAtWork load.now site.now.central site.now.limits.steps self.new.pp self.new.answers.items self.new.line.log }
         ensures same_line { IsSameLine self.old.line self.new.line }
+        ensures operated { HasOperated ((self.new.tries - self.old.tries) * operations (need self.old.pp)) self.old.line self.new.line }
+        ensures few_tries { (self.old.tries ≤ self.new.tries) × (self.new.tries ≤ self.old.tries + site.now.limits.patience) }
+        ensures one_step { IfSome result (λ _. (self.new.pp ≡ self.old.pp) × (self.new.answers.items ≡ self.old.answers.items)) }
+        ensures patience { IfSome result (λ finish. finish ≡ End.Patience → (self.new.tries ≡ self.old.tries + site.now.limits.patience) × HasOperated site.now.limits.patience self.old.line self.new.line) }
         ensures moved { IfNone result (vec_len self.new.answers ≡ vec_len self.old.answers + 1) }
         ensures few { IfSome result (λ _. vec_len self.new.answers ≤ site.now.limits.steps) }
         ensures ended { IfSome result (λ finish. IsEnd site.now.limits.steps finish self.new.pp self.new.answers.items self.new.line.log.entries) }
@@ -132,7 +142,7 @@ impl<A: Allocator + Copy> Labour<A> {
         }
         for held in 0..site.limits.patience() {
             gate.pass(self.number, self.tries);
-            self.tries = self.tries.wrapping_add(1);
+            self.tries += 1;
             match self.try_step(rt, site, load) {
                 Try::Moved => return None,
                 Try::Held if held % 128 < 127 => hint::spin_loop(),
@@ -149,7 +159,9 @@ impl<A: Allocator + Copy> Labour<A> {
         requires few { vec_len self.answers ≤ site.now.limits.steps }
         requires finish { IsEnd site.now.limits.steps finish self.pp self.answers.items self.line.log.entries }
         requires worn { WornWithCause (λ c. seen_on c self.line.seen) finish self.pp }
-        ensures { IfOk result (λ ended. IsEnded load.now site.now.central site.now.limits.steps self.line ended.worker ended.line) }
+        ensures ended { IfOk result (λ ended. IsEnded load.now site.now.central site.now.limits.steps self.line ended.worker ended.line) }
+        ensures line { IfOk result (λ ended. ended.line ≡ self.line) }
+        ensures finish { IfOk result (λ ended. ended.worker.finish ≡ finish) }
     {
         let mut log = Vec::new(site.alloc);
         log.extend_from_slice(self.line.log())?;
@@ -192,8 +204,11 @@ pub fn work<R: Wait, G: Gate, A: Allocator + Copy>(
     line: Line<A>,
 ) -> Result<Ended<A>, Memory>
     requires { line.log ≡ empty_log (2 * site.now.limits.steps + 1) }
-    ensures { IfOk result (λ ended. IsEnded load.now site.now.central site.now.limits.steps line ended.worker ended.line) }
+    ensures ended { IfOk result (λ ended. IsEnded load.now site.now.central site.now.limits.steps line ended.worker ended.line) }
+    ensures patience { IfOk result (λ ended. GaveUpWithCause site.now.limits.patience line ended.worker.finish ended.line) }
 {
+    // This call tells the proof that the patience has 32 bits, so that tries can be counted.
+    let _patience = site.limits.patience();
     let mut labour = Labour {
         number,
         pp: load.copy(),

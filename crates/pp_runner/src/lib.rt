@@ -1,6 +1,7 @@
 //! Processors that run at once, each in a thread of its own, over shared channels and central memory.
 #![tactic(auto)]
 
+mod banks;
 mod crew;
 mod end;
 mod gate;

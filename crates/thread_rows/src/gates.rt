@@ -1,11 +1,11 @@
 //! Gates, which see each try of each worker: workers run at once, and give up as their limits say.
 
-use crate::runs::{block_history, history, limits, loaded};
-use pp_machine::PpNo;
-use pp_runner::{End, Gate, run_threads};
+use crate::runs::{block_history, counting, history, limits, loaded};
+use pp_machine::{PROCESSORS, PpNo};
+use pp_runner::{Gate, run_threads};
 use std::sync::atomic::{AtomicU64, Ordering};
 use std::test::Fail;
-use std::thread;
+use std::{array, thread};
 use test_bench::{BLOCK, LONG_PATIENCE};
 
 /// At turns 0 to 2 processors 0 and 1 each set a flag, and look for the other's.
@@ -15,8 +15,19 @@ struct Meeting {
     met: AtomicU64,
 }
 
-fn zero() -> AtomicU64 {
+pub(crate) fn zero() -> AtomicU64 {
     AtomicU64::new(0)
+}
+
+/// Waits until a number is at least this one, but looks 10,000,000 times at most.
+pub(crate) fn wait_for(number: &AtomicU64, least: u64) -> bool {
+    for _ in 0..10_000_000 {
+        if number.load(Ordering::SeqCst) >= least {
+            return true;
+        }
+        thread::yield_now();
+    }
+    false
 }
 
 impl Gate for Meeting {
@@ -27,12 +38,8 @@ impl Gate for Meeting {
         let mine = usize::from(pp.get());
         let at = turn as usize;
         self.flags[3 * mine + at].store(1, Ordering::SeqCst);
-        for _ in 0..10_000_000 {
-            if self.flags[3 * (1 - mine) + at].load(Ordering::SeqCst) == 1 {
-                self.met.fetch_add(1, Ordering::SeqCst);
-                return;
-            }
-            thread::yield_now();
+        if wait_for(&self.flags[3 * (1 - mine) + at], 1) {
+            self.met.fetch_add(1, Ordering::SeqCst);
         }
     }
 }
@@ -50,36 +57,38 @@ fn gate_together(rt: HostRuntime) -> Result<(), Fail> {
     Ok(())
 }
 
-/// Counts the tries of processor 1, and those that came with another number.
+/// At turn 0 each processor sets a flag, and waits until all ten are set.
 #[derive(Drop)]
-struct Count {
-    tries: AtomicU64,
-    misnumbered: AtomicU64,
+struct MeetingOfAll {
+    flags: [AtomicU64; PROCESSORS],
+    met: AtomicU64,
 }
 
-impl Gate for Count {
+impl Gate for MeetingOfAll {
     fn pass(&self, pp: PpNo, turn: u64) {
-        if pp.get() == 1 && self.tries.fetch_add(1, Ordering::SeqCst) != turn {
-            self.misnumbered.fetch_add(1, Ordering::SeqCst);
+        if turn > 0 {
+            return;
         }
+        self.flags[pp.index()].store(1, Ordering::SeqCst);
+        for place in 0..PROCESSORS {
+            if !wait_for(&self.flags[place], 1) {
+                return;
+            }
+        }
+        self.met.fetch_add(1, Ordering::SeqCst);
     }
 }
 
-/// PP 0 activates channel 5 and is at fault; PP 1 waits in vain.
-const IN_VAIN: &str = "PP 0\n0100 7405 2600\nSTART 0100\nPP 1\n0200 7005 0300\nSTART 0200\n";
-
+/// Nobody gets past turn 0 before all ten have come, each with the number of its own processor.
 #[test]
-fn patience(rt: HostRuntime) -> Result<(), Fail> {
-    let gate = Count {
-        tries: zero(),
-        misnumbered: zero(),
+fn all_ten_together(rt: HostRuntime) -> Result<(), Fail> {
+    let gate = MeetingOfAll {
+        flags: array::from_fn(|_| zero()),
+        met: zero(),
     };
-    let machine = loaded(rt.alloc(), IN_VAIN)?;
-    let report = run_threads(&rt, rt.alloc(), &machine, limits(50)?, &gate)?;
-    assert_eq!(rt; gate.tries.load(Ordering::SeqCst), 50);
-    assert_eq!(rt; gate.misnumbered.load(Ordering::SeqCst), 0);
-    assert_eq!(rt; report.ends[0].finish, End::Fault(1));
-    assert_eq!(rt; report.ends[1].finish, End::Patience);
+    let machine = counting(rt.alloc())?;
+    run_threads(&rt, rt.alloc(), &machine, limits(1)?, &gate)?;
+    assert_eq!(rt; gate.met.load(Ordering::SeqCst), 10);
     Ok(())
 }
 

@@ -15,3 +15,5 @@ mod ring;
 mod runs;
 #[cfg(test)]
 mod texts;
+#[cfg(test)]
+mod tries;

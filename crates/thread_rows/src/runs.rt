@@ -3,9 +3,10 @@
 ghost use Rattle.std.specs.Prelude.{◌≡◌, [], IfOk};
 
 use pp_channel::{Channel, Event, Seen};
-use pp_machine::{Machine, PROCESSORS};
+use pp_machine::{Machine, PROCESSORS, PpNo};
 use pp_runner::{End, Limits, NoGate, Report, Worker, run_threads};
 use pp_sim::read_deck;
+use pp_word::Word18;
 use std::alloc::{Allocator, Global};
 use std::test::Fail;
 use test_bench::{EMPTY, LONG_PATIENCE, channel, processor, put_program, put_words, word};
@@ -24,7 +25,27 @@ pub(crate) fn history<A: Allocator>(report: &Report<A>, number: u8) -> Result<&[
 pub(crate) fn loaded(alloc: Global, deck: &str) -> Result<Machine<Global>, Fail>
     ensures { IfOk result (λ machine. machine.trace ≡ []) }
 {
-    let machine = read_deck(alloc, deck.as_bytes())?.machine;
+    quiet(read_deck(alloc, deck.as_bytes())?.machine)
+}
+
+/// Each processor loads a number, counts it down to 0 in two steps each, and stops: PP 0 begins at 500,
+/// and each other at one more than the one before it (decimal).
+pub(crate) fn counting(alloc: Global) -> Result<Machine<Global>, Fail>
+    ensures { IfOk result (λ machine. machine.trace ≡ []) }
+{
+    let mut machine = Machine::new(alloc, 1)?;
+    for place in 0..PROCESSORS {
+        let count = 500 + place as u16;
+        let program = [0o2000, count, 0o1701, 0o0576, 0o0300];
+        put_program(machine.pp_mut(PpNo::at(place)), 0o100, &program);
+    }
+    quiet(machine)
+}
+
+/// A machine without events so far.
+fn quiet(machine: Machine<Global>) -> Result<Machine<Global>, Fail>
+    ensures { IfOk result (λ machine. machine.trace ≡ []) }
+{
     if !machine.events().is_empty() {
         return Err("events before the first turn".into());
     }
@@ -118,5 +139,31 @@ fn nobody_sends(rt: HostRuntime) -> Result<(), Fail> {
             [Event::Activate].as_slice()
         );
     }
+    Ok(())
+}
+
+/// PP 0 loads 7 and adds 1 before it puts the sum on channel 5; PP 1 passes twice before it takes it.
+const SLOW_HANDOFF: &str = "\
+PP 0
+0100 1407 1601 7405 7205 0300
+START 0100
+PP 1
+0200 0000 0000 7005 0300
+START 0200
+";
+
+/// A machine that has had turns, but no events, goes on by threads from where it stands.
+#[test]
+fn turns_before_threads(rt: HostRuntime) -> Result<(), Fail> {
+    let mut machine = read_deck(rt.alloc(), SLOW_HANDOFF.as_bytes())?.machine;
+    assert!(rt; machine.run_barrel(20).is_ok());
+    let machine = quiet(machine)?;
+    assert_eq!(rt; machine.turns(), 20);
+    let report = run_threads(&rt, rt.alloc(), &machine, limits(LONG_PATIENCE)?, &NoGate)?;
+    let events = [Event::Activate, Event::Put(word(8)), Event::Take(word(8))];
+    assert_eq!(rt; history(&report, 5)?, events.as_slice());
+    assert_eq!(rt; report.ends[0].answers.len(), 3);
+    assert_eq!(rt; report.ends[1].answers.len(), 2);
+    assert_eq!(rt; report.ends[1].pp.a(), Word18::truncated(8));
     Ok(())
 }

@@ -1,7 +1,7 @@
-use Rattle.std.proofs.Common.{subst, sym, arith}
+use Rattle.std.proofs.Common.{subst, sym, ◌∙◌, arith}
 use Rattle.pp_channel.specs.RisingLog.{seen_on}
-use Rattle.pp_runner.proofs.CrewLemmas.{ended_since}
-use Rattle.pp_runner.proofs.EndLemmas.{end_at_last, worn_at_rest, worn_at_last}
+use Rattle.pp_runner.proofs.CrewLemmas.{ended_since, gave_up, not_given_up}
+use Rattle.pp_runner.proofs.EndLemmas.{end_at_last, worn_at_rest, worn_at_last, patience_at_rest, patience_at_last}
 use Rattle.pp_runner.proofs.LabourLemmas.{work_begins}
 use Rattle.pp_runner.proofs.LineLemmas.{same_line_still, same_line_twice}
 use Rattle.pp_runner.specs.WorkerEnd.{IsEnd, WornWithCause}
@@ -12,6 +12,8 @@ pub loop-done-init : goal.loop-done-init
 loop-done-init g c = record {
   work = work_begins c.args.load.now c.copy.result c.args.site.now.central c.args.site.now.limits.steps c.new.result.items c.args.line.log c.copy.ensures c.new.ensures.items c.requires;
   same_line = same_line_still _;
+  found = omega arith;
+  few_tries = omega arith;
   count = c.new.ensures.len;
 }
 
@@ -34,10 +36,10 @@ ended-requires-2-clause-worn g c =
     subst (λ (finish : End). WornWithCause (λ k. seen_on k c.loop-done.labour.line.seen) finish c.loop-done.labour.pp) (sym c.unwrap_or-finish.ensures)
     (worn_at_last (λ k. seen_on k c.loop-done.labour.line.seen) c.loop-done.labour.pp c.at_rest-2.result c.at_rest-2.ensures.ended)
 
-pub returns-in-Some-take_step : goal.returns-in-Some-take_step
-returns-in-Some-take_step g c =
+pub returns-in-Some-take_step-clause-ended : goal.returns-in-Some-take_step-clause-ended
+returns-in-Some-take_step-clause-ended g c =
     ended_since c.args.load.now c.args.site.now.central c.args.site.now.limits.steps c.args.line c.take_step.new.self.line c.ended-in-Some-take_step.result
-    (same_line_twice c.args.line c.loop-done.labour.line c.take_step.new.self.line c.loop-done.invariant.same_line c.take_step.ensures.same_line) c.ended-in-Some-take_step.ensures
+    (same_line_twice c.args.line c.loop-done.labour.line c.take_step.new.self.line c.loop-done.invariant.same_line c.take_step.ensures.same_line) c.ended-in-Some-take_step.ensures.ended
 
 pub ended-requires-clause-work : goal.ended-requires-clause-work
 ended-requires-clause-work g c = c.loop-done.invariant.work
@@ -45,9 +47,9 @@ ended-requires-clause-work g c = c.loop-done.invariant.work
 pub ended-requires-clause-few : goal.ended-requires-clause-few
 ended-requires-clause-few g c = omega (arith, c.loop-done.invariant.count, c.loop-done-test.true, c.steps-done-end.ensures.value)
 
-pub returns-in-Some : goal.returns-in-Some
-returns-in-Some g c =
-    ended_since c.args.load.now c.args.site.now.central c.args.site.now.limits.steps c.args.line c.loop-done.labour.line c.ended.result c.loop-done.invariant.same_line c.ended.ensures
+pub returns-in-Some-clause-ended : goal.returns-in-Some-clause-ended
+returns-in-Some-clause-ended g c =
+    ended_since c.args.load.now c.args.site.now.central c.args.site.now.limits.steps c.args.line c.loop-done.labour.line c.ended.result c.loop-done.invariant.same_line c.ended.ensures.ended
 
 pub take_step-requires-clause-running : goal.take_step-requires-clause-running
 take_step-requires-clause-running g c = c.in_default.ensures.running
@@ -74,6 +76,8 @@ pub loop-done-preserved : goal.loop-done-preserved
 loop-done-preserved g c = record {
   work = c.take_step.ensures.work;
   same_line = same_line_twice c.args.line c.loop-done.labour.line c.take_step.new.self.line c.loop-done.invariant.same_line c.take_step.ensures.same_line;
+  found = omega (arith, c.loop-done.invariant.found, c.take_step.ensures.operated.least);
+  few_tries = omega (arith, c.loop-done.invariant.few_tries, c.take_step.ensures.few_tries.1, c.patience-patience.ensures.value);
   count = omega (arith, c.in_default-take_step.ensures.moved, c.loop-done.invariant.count);
 }
 
@@ -83,6 +87,24 @@ ended-requires-2-clause-work g c = c.loop-done.invariant.work
 pub ended-requires-2-clause-few : goal.ended-requires-2-clause-few
 ended-requires-2-clause-few g c = omega (arith, c.loop-done.invariant.count, c.steps-done-end.ensures.value, c.loop-done.auto.done-end)
 
-pub returns : goal.returns
-returns g c =
-    ended_since c.args.load.now c.args.site.now.central c.args.site.now.limits.steps c.args.line c.loop-done.labour.line c.ended-2.result c.loop-done.invariant.same_line c.ended-2.ensures
+pub returns-clause-ended : goal.returns-clause-ended
+returns-clause-ended g c =
+    ended_since c.args.load.now c.args.site.now.central c.args.site.now.limits.steps c.args.line c.loop-done.labour.line c.ended-2.result c.loop-done.invariant.same_line c.ended-2.ensures.ended
+
+pub returns-in-Some-take_step-clause-patience : goal.returns-in-Some-take_step-clause-patience
+returns-in-Some-take_step-clause-patience g c =
+    gave_up c.args.site.now.limits.patience c.args.line c.loop-done.labour.line c.take_step.new.self.line c.in-Some-take_step.finish c.ended-in-Some-take_step.result
+    c.loop-done.invariant.found (λ is. (c.in-Some-take_step.ensures.patience is).1) c.ended-in-Some-take_step.ensures.line c.ended-in-Some-take_step.ensures.finish
+
+pub returns-in-Some-clause-patience : goal.returns-in-Some-clause-patience
+returns-in-Some-clause-patience g c =
+    not_given_up c.args.site.now.limits.patience c.args.line c.in-Some.finish c.ended.result (patience_at_rest c.in-Some.finish c.loop-done.labour.pp c.in-Some.ensures.ended) c.ended.ensures.finish
+
+pub returns-clause-patience : goal.returns-clause-patience
+returns-clause-patience g c =
+    not_given_up c.args.site.now.limits.patience c.args.line c.unwrap_or-finish.result c.ended-2.result
+    (λ is. patience_at_last c.loop-done.labour.pp c.at_rest-2.result c.at_rest-2.ensures.ended (sym c.unwrap_or-finish.ensures ∙ is)) c.ended-2.ensures.finish
+
+pub take_step-requires-clause-countable : goal.take_step-requires-clause-countable
+take_step-requires-clause-countable g c =
+    omega (arith, c.loop-done.invariant.few_tries, c.loop-done-test.true, c.steps-done-end.ensures.value, c.steps-done-end.ensures.sound.most_steps, c.patience-patience.ensures.value)

@@ -1,10 +1,13 @@
-use Rattle.std.proofs.Common.{◌<◌, List, length, refl, sym, ap, ◌∙◌, subst, arith, rules}
+use Rattle.std.proofs.Common.{◌≡◌, ◌<◌, ◌+◌, ℕ, List, length, refl, sym, ap, ◌∙◌, subst, arith, rules}
 use Rattle.std.specs.Prelude.{vec_len, vec_capacity}
 use Rattle.pp_channel.specs.RisingLog.{seen_on}
+use Rattle.pp_machine.specs.NeedAndEffect.{need}
+use Rattle.pp_machine.specs.Processor.{Processor}
 use Rattle.pp_machine.specs.declared.answer.Answer.{Answer}
 use Rattle.pp_runner.proofs.EndLemmas.{end_memory, end_patience, end_worn}
-use Rattle.pp_runner.proofs.LineLemmas.{same_line_still, same_line_twice}
-use Rattle.pp_runner.specs.Labour.{IsAtWork}
+use Rattle.pp_runner.proofs.LineLemmas.{same_line_still, same_line_twice, operated_none, operated_again, operated_tries, operated_held}
+use Rattle.pp_runner.specs.Labour.{IsAtWork, HasOperated, operations}
+use Rattle.pp_runner.specs.WorkerEnd.{WasHeld}
 use Rattle.pp_runner.proofs.labour.Labour.take_step.Goals as goal
 
 pub returns-then-is_err-clause-work : goal.returns-then-is_err-clause-work
@@ -13,6 +16,10 @@ returns-then-is_err-clause-work g c =
 
 pub returns-then-is_err-clause-same_line : goal.returns-then-is_err-clause-same_line
 returns-then-is_err-clause-same_line g c = same_line_still _
+
+pub returns-then-is_err-clause-operated : goal.returns-then-is_err-clause-operated
+returns-then-is_err-clause-operated g c =
+    operated_tries c.args.self.now.tries c.args.self.now.tries 0 (operations (need c.args.self.now.pp)) c.args.self.now.line c.args.self.now.line (omega arith) (operated_none _ _)
 
 pub returns-then-is_err-clause-ended : goal.returns-then-is_err-clause-ended
 returns-then-is_err-clause-ended g c =
@@ -28,6 +35,8 @@ loop-held-init g c = record {
   same_pp = refl;
   same_answers = c.reserve.ensures.items;
   place = search rules;
+  tries = omega arith;
+  operated = operated_none _ _;
   was = λ held. absurd (omega (arith, held));
 }
 
@@ -51,6 +60,14 @@ pub returns-in-Moved-clause-same_line : goal.returns-in-Moved-clause-same_line
 returns-in-Moved-clause-same_line g c =
     same_line_twice c.args.self.now.line c.loop-held.self.line c.try_step.new.self.line c.loop-held.invariant.same_line c.try_step.ensures.same_line
 
+pub returns-in-Moved-clause-operated : goal.returns-in-Moved-clause-operated
+returns-in-Moved-clause-operated g c =
+    let each : ℕ = operations (need c.args.self.now.pp) in
+    let again : HasOperated each c.loop-held.self.line c.try_step.new.self.line =
+    subst (λ (pp : Processor). HasOperated (operations (need pp)) c.loop-held.self.line c.try_step.new.self.line) c.loop-held.invariant.same_pp c.try_step.ensures.operated in
+    operated_tries c.args.self.now.tries c.try_step.new.self.tries (c.loop-held.held + 1) each c.args.self.now.line c.try_step.new.self.line
+    (omega (arith, c.try_step.ensures.tries, c.loop-held.invariant.tries)) (operated_again c.loop-held.held each c.args.self.now.line c.loop-held.self.line c.try_step.new.self.line c.loop-held.invariant.operated again)
+
 pub returns-in-Moved-clause-moved : goal.returns-in-Moved-clause-moved
 returns-in-Moved-clause-moved g c =
     omega (arith, c.try_step.ensures.moved c.in-Moved.is, c.loop-held.self.answers.ok.0, c.args.self.now.answers.ok.0, ap (λ (xs : List Answer). length xs) c.loop-held.invariant.same_answers)
@@ -61,6 +78,14 @@ returns-in-Worn-clause-work g c = c.try_step.ensures.work
 pub returns-in-Worn-clause-same_line : goal.returns-in-Worn-clause-same_line
 returns-in-Worn-clause-same_line g c =
     same_line_twice c.args.self.now.line c.loop-held.self.line c.try_step.new.self.line c.loop-held.invariant.same_line c.try_step.ensures.same_line
+
+pub returns-in-Worn-clause-operated : goal.returns-in-Worn-clause-operated
+returns-in-Worn-clause-operated g c =
+    let each : ℕ = operations (need c.args.self.now.pp) in
+    let again : HasOperated each c.loop-held.self.line c.try_step.new.self.line =
+    subst (λ (pp : Processor). HasOperated (operations (need pp)) c.loop-held.self.line c.try_step.new.self.line) c.loop-held.invariant.same_pp c.try_step.ensures.operated in
+    operated_tries c.args.self.now.tries c.try_step.new.self.tries (c.loop-held.held + 1) each c.args.self.now.line c.try_step.new.self.line
+    (omega (arith, c.try_step.ensures.tries, c.loop-held.invariant.tries)) (operated_again c.loop-held.held each c.args.self.now.line c.loop-held.self.line c.try_step.new.self.line c.loop-held.invariant.operated again)
 
 pub returns-in-Worn-clause-few : goal.returns-in-Worn-clause-few
 returns-in-Worn-clause-few g c =
@@ -85,6 +110,9 @@ loop-held-preserved g c =
       same_pp = held.0 ∙ c.loop-held.invariant.same_pp;
       same_answers = ap (λ v. v.items) held.1 ∙ c.loop-held.invariant.same_answers;
       place = subst (λ v. vec_len v < vec_capacity v) (sym held.1) c.loop-held.invariant.place;
+      tries = omega (arith, c.try_step.ensures.tries, c.loop-held.invariant.tries);
+      operated = operated_again c.loop-held.held (operations (need c.args.self.now.pp)) c.args.self.now.line c.loop-held.self.line c.try_step.new.self.line c.loop-held.invariant.operated
+          (subst (λ (pp : Processor). HasOperated (operations (need pp)) c.loop-held.self.line c.try_step.new.self.line) c.loop-held.invariant.same_pp c.try_step.ensures.operated);
       was = λ again. held.2;
     }
 
@@ -93,6 +121,20 @@ returns-clause-work g c = c.loop-held.invariant.work
 
 pub returns-clause-same_line : goal.returns-clause-same_line
 returns-clause-same_line g c = c.loop-held.invariant.same_line
+
+pub returns-clause-operated : goal.returns-clause-operated
+returns-clause-operated g c =
+    operated_tries c.args.self.now.tries c.loop-held.self.tries c.loop-held.held (operations (need c.args.self.now.pp)) c.args.self.now.line c.loop-held.self.line
+    c.loop-held.invariant.tries c.loop-held.invariant.operated
+
+pub returns-clause-patience : goal.returns-clause-patience
+returns-clause-patience g c = λ is.
+    let all : c.loop-held.held ≡ c.args.site.now.limits.patience = omega (arith, c.loop-held.auto.held-end, c.patience-held-end.ensures, c.loop-held-test.false) in
+    let was = c.loop-held.invariant.was (omega (arith, c.patience-held-end.ensures, c.loop-held-test.false)) in
+    let now : HasOperated c.loop-held.held c.args.self.now.line c.loop-held.self.line =
+    operated_held c.loop-held.held c.args.self.now.pp c.loop-held.self.line.log.entries c.args.self.now.line c.loop-held.self.line
+    (subst (λ (pp : Processor). WasHeld pp c.loop-held.self.line.log.entries) c.loop-held.invariant.same_pp was) c.loop-held.invariant.operated in
+    (c.loop-held.invariant.tries ∙ ap (λ n. c.args.self.now.tries + n) all, subst (λ (n : ℕ). HasOperated n c.args.self.now.line c.loop-held.self.line) all now)
 
 pub returns-clause-few : goal.returns-clause-few
 returns-clause-few g c =
@@ -107,3 +149,14 @@ returns-clause-ended g c =
 
 pub returns-clause-worn : goal.returns-clause-worn
 returns-clause-worn g c = λ is. absurd cc
+
+pub returns-then-is_err-clause-one_step : goal.returns-then-is_err-clause-one_step
+returns-then-is_err-clause-one_step g c = (refl, c.reserve.ensures.items)
+
+pub returns-in-Worn-clause-one_step : goal.returns-in-Worn-clause-one_step
+returns-in-Worn-clause-one_step g c =
+    let worn = c.try_step.ensures.worn c.in-Worn.is in
+    (worn.0 ∙ c.loop-held.invariant.same_pp, ap (λ v. v.items) worn.1 ∙ c.loop-held.invariant.same_answers)
+
+pub returns-clause-one_step : goal.returns-clause-one_step
+returns-clause-one_step g c = (c.loop-held.invariant.same_pp, c.loop-held.invariant.same_answers)

@@ -1,5 +1,6 @@
-use Rattle.std.proofs.Common.{◌≡◌, ◌<◌, vec_len, vec_capacity}
-use Rattle.pp_runner.specs.Labour.{IsAtWork, IsSameLine}
+use Rattle.std.proofs.Common.{◌≡◌, ◌<◌, ◌+◌, ◌*◌, vec_len, vec_capacity}
+use Rattle.pp_machine.specs.NeedAndEffect.{need}
+use Rattle.pp_runner.specs.Labour.{IsAtWork, IsSameLine, HasOperated, operations}
 use Rattle.pp_runner.specs.WorkerEnd.{WasHeld}
 use Rattle.pp_runner.proofs.labour.Labour.take_step.Given as goal
 
@@ -10,5 +11,7 @@ invariant-loop-held g l = record {
   same_pp : l.self.pp ≡ l.fn.self.pp;
   same_answers : l.self.answers.items ≡ l.fn.self.answers.items;
   place : vec_len l.self.answers < vec_capacity l.self.answers;
+  tries : l.self.tries ≡ l.fn.self.tries + l.held;
+  operated : HasOperated (l.held * operations (need l.fn.self.pp)) l.fn.self.line l.self.line;
   was : 0 < l.held → WasHeld l.self.pp l.self.line.log.entries;
 }

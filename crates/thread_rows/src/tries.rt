@@ -1,0 +1,148 @@
+//! The tries of each worker, as a gate sees them.
+
+use crate::gates::{wait_for, zero};
+use crate::runs::{counting, history, limits, loaded};
+use pp_channel::Event;
+use pp_machine::{PROCESSORS, PpNo};
+use pp_runner::{End, Gate, Limits, run_threads};
+use std::array;
+use std::sync::atomic::{AtomicU64, Ordering};
+use std::test::Fail;
+use test_bench::{processor, word};
+
+/// Counts the tries of each processor, and those that came with another number than theirs.
+#[derive(Drop)]
+struct Tally {
+    tries: [AtomicU64; PROCESSORS],
+    misnumbered: AtomicU64,
+}
+
+impl Tally {
+    fn new() -> Tally {
+        Tally {
+            tries: array::from_fn(|_| zero()),
+            misnumbered: zero(),
+        }
+    }
+
+    /// How many tries a processor made, if each came with its number.
+    fn tries(&self, pp: PpNo) -> Option<u64> {
+        if self.misnumbered.load(Ordering::SeqCst) > 0 {
+            return None;
+        }
+        Some(self.tries[pp.index()].load(Ordering::SeqCst))
+    }
+}
+
+impl Gate for Tally {
+    fn pass(&self, pp: PpNo, turn: u64) {
+        if self.tries[pp.index()].fetch_add(1, Ordering::SeqCst) != turn {
+            self.misnumbered.fetch_add(1, Ordering::SeqCst);
+        }
+    }
+}
+
+/// Each processor passes the gate before each of its tries, with its own number. None is ever held, so
+/// a patience of 1 is enough.
+#[test]
+fn tries_of_all_ten(rt: HostRuntime) -> Result<(), Fail> {
+    let gate = Tally::new();
+    let machine = counting(rt.alloc())?;
+    let limits = Limits::new(5000, 1).ok_or("no limits")?;
+    let report = run_threads(&rt, rt.alloc(), &machine, limits, &gate)?;
+    for place in 0..PROCESSORS {
+        let steps = 1002 + 2 * place;
+        assert_eq!(rt; gate.tries(PpNo::at(place)), Some(steps as u64));
+        assert_eq!(rt; report.ends[place].answers.len(), steps);
+        assert_eq!(rt; report.ends[place].finish, End::Stopped);
+    }
+    Ok(())
+}
+
+/// PP 0 activates channel 5 and is at fault; PP 1 waits in vain.
+const IN_VAIN: &str = "PP 0\n0100 7405 2600\nSTART 0100\nPP 1\n0200 7005 0300\nSTART 0200\n";
+
+#[test]
+fn patience(rt: HostRuntime) -> Result<(), Fail> {
+    for patience in [1, 2, 50, 20_011] {
+        let gate = Tally::new();
+        let machine = loaded(rt.alloc(), IN_VAIN)?;
+        let limits = Limits::new(100, patience).ok_or("no limits")?;
+        let report = run_threads(&rt, rt.alloc(), &machine, limits, &gate)?;
+        assert_eq!(rt; gate.tries(processor(0)?), Some(2));
+        assert_eq!(rt; gate.tries(processor(1)?), Some(u64::from(patience)));
+        assert_eq!(rt; report.ends[0].finish, End::Fault(1));
+        assert_eq!(rt; report.ends[1].finish, End::Patience);
+    }
+    Ok(())
+}
+
+/// PP 0 puts three words on channel 5, at its turns 2, 4 and 6, and PP 1 takes them.
+const THREE_WORDS: &str = "\
+PP 0
+0100 7405 1401 7205 1402 7205 1403 7205 0300
+START 0100
+PP 1
+0200 7005 7005 7005 0300
+START 0200
+";
+
+/// Each word is put after all tries to take it but the last that patience allows, and before that one.
+#[derive(Drop)]
+struct LastTry {
+    last_tries: [u64; 3],
+    turns: [AtomicU64; 2],
+}
+
+impl Gate for LastTry {
+    fn pass(&self, pp: PpNo, turn: u64) {
+        let place = pp.index();
+        if place > 1 {
+            return;
+        }
+        self.turns[place].store(turn, Ordering::SeqCst);
+        for (put, last_try) in [2, 4, 6].into_iter().zip(self.last_tries) {
+            if place == 0 && turn == put {
+                wait_for(&self.turns[1], last_try);
+            }
+            if place == 1 && turn == last_try {
+                wait_for(&self.turns[0], put + 1);
+            }
+        }
+    }
+}
+
+/// Patience is counted anew at each step, and each try is made, also the last.
+#[test]
+fn each_last_try_is_made(rt: HostRuntime) -> Result<(), Fail> {
+    let events = [
+        Event::Activate,
+        Event::Put(word(1)),
+        Event::Take(word(1)),
+        Event::Put(word(2)),
+        Event::Take(word(2)),
+        Event::Put(word(3)),
+        Event::Take(word(3)),
+    ];
+    for (patience, last_tries) in [
+        (1, [0, 1, 2]),
+        (2, [1, 3, 5]),
+        (3, [2, 5, 8]),
+        (50, [49, 99, 149]),
+    ] {
+        let gate = LastTry {
+            last_tries,
+            turns: [zero(), zero()],
+        };
+        let machine = loaded(rt.alloc(), THREE_WORDS)?;
+        let report = run_threads(&rt, rt.alloc(), &machine, limits(patience)?, &gate)?;
+        assert_eq!(rt; report.ends[1].finish, End::Stopped, "patience {patience}");
+        assert_eq!(rt; history(&report, 5)?, events.as_slice());
+        assert_eq!(rt; gate.turns[0].load(Ordering::SeqCst), 7);
+        assert_eq!(rt;
+            gate.turns[1].load(Ordering::SeqCst),
+            3 * u64::from(patience)
+        );
+    }
+    Ok(())
+}
