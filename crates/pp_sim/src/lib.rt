@@ -5,6 +5,7 @@ mod command;
 mod command_words;
 mod line_fault;
 mod loaded_deck;
+mod number_range;
 mod numeral;
 mod program;
 mod streams;
