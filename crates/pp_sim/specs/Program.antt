@@ -1,13 +1,13 @@
 -- What a run of the program comes to, by its words, by what was read and written, and by the status that it answers.
 use Rattle.std.specs.Prelude.{◌≡◌, ℕ, List, [], take, Option, Result, Ok, Err, IfSome, ◌⊎◌}
-use Rattle.std.specs.Io.KnownBytes.{Keeps}
+use Rattle.std.specs.Io.KnownBytes.{Appends, Keeps}
 use Rattle.clap.specs.Words.{Text, kind_of}
 use Rattle.clap.specs.declared.error.Error.{Error}
 use Rattle.clap.specs.declared.error.kind.ErrorKind.TheVariants.{DisplayHelp, DisplayVersion}
 use Rattle.pp_sim.specs.BarrelText.{IsBarrelText}
 use Rattle.pp_sim.specs.CommandLine.{AskFor, IsOutOfRange, IsRefused, refusals}
 use Rattle.pp_deck.specs.DeckMeaning.{LoadedDeck}
-use Rattle.pp_sim.specs.TextAnswer.{AnswersTo, IsAnswer, most_bytes}
+use Rattle.pp_sim.specs.TextAnswer.{AnswersTo, AppendsFront, IsAnswer, most_bytes}
 use Rattle.pp_sim.specs.ThreadsText.{IsThreadsText}
 use Rattle.pp_sim.specs.declared.line_fault.LineFault.{LineFault}
 use Rattle.pp_sim.specs.declared.line_fault.LineFault.TheVariants as line
@@ -51,11 +51,23 @@ pub record HasWorked (Z : Type 0) (words : List Text) (status : ℕ) (before aft
 abbrev pub IsHelp : Error → Type 0
 IsHelp error = (kind_of error ≡ DisplayHelp) ⊎ (kind_of error ≡ DisplayVersion)
 
--- the status of a refusal: 0 where help was printed, 3 where it could not be; in all other cases nothing is printed
+-- printing a text: all of it is written, or a front of it, or nothing for want of memory
+abbrev pub IsWritten : Result (Unit {0}) TextFault → List ℕ → Option (List ℕ) → Option (List ℕ) → Type 0
+IsWritten (Ok done) text old new = Appends old new text
+IsWritten (Err fault.Write) text old new = AppendsFront old new text
+IsWritten (Err fault.Memory) text old new = Keeps old new
+IsWritten (Err fault.Read) text old new = ⊥
+IsWritten (Err (fault.Deck f)) text old new = ⊥
+
+-- a text was printed, or could not be, and the status is that of the answer
+abbrev pub IsPrinted : List ℕ → ℕ → Option (List ℕ) → Option (List ℕ) → Type 0
+IsPrinted text status old new = (answer : Result (Unit {0}) TextFault) × IsWritten answer text old new × (status ≡ status_of answer)
+
+-- the status of a refusal: that of printing, where help was asked for; in all other cases nothing is printed
 abbrev pub IsTold : LineFault → ℕ → Option (List ℕ) → Option (List ℕ) → Type 0
 IsTold line.Memory status old new = (status ≡ 4) × Keeps old new
 IsTold line.Number status old new = (status ≡ 2) × Keeps old new
-IsTold (line.Refused error) status old new = (IsHelp error × ((status ≡ 0) ⊎ (status ≡ 3))) ⊎ (¬ IsHelp error × (status ≡ 2) × Keeps old new)
+IsTold (line.Refused error) status old new = (IsHelp error × ((text : List ℕ) × IsPrinted text status old new)) ⊎ (¬ IsHelp error × (status ≡ 2) × Keeps old new)
 
 -- the words are refused, nothing is read, and the status tells why
 pub record HasRefused (words : List Text) (status : ℕ) (before after old new : Option (List ℕ)) : Type 0 where

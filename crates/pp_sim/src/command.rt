@@ -5,6 +5,7 @@ ghost use Rattle.clap.specs.Words.{app_of, rule_of, with_rule};
 ghost use Rattle.clap.specs.declared.builder.command.Command.TheViews.{out-Command as fields_of};
 ghost use Rattle.pp_sim.specs.CommandLine.{barrel, number_option, ppsim, threads};
 
+use crate::number_range::{NumberRange, PATIENCE, STEPS, TURNS};
 use clap::{Arg, ArgAction, Command};
 use std::alloc::{AllocError, Global};
 
@@ -49,13 +50,6 @@ each channel that has a history. A fault is one line on standard error.
 Where the deck has a line DEAD, the processors without a section wait for their programs, each on
 the channel of its own number, as at a dead start.";
 
-const STEPS_HELP: &str = "How many steps each processor may do, 1 to 100000 (decimal)";
-
-const PATIENCE_HELP: &str =
-    "How often in a row a channel may hold a step, 1 to 4294967295 (decimal)";
-
-const TURNS_HELP: &str = "How many turns to run, 0 to 999999 (decimal)";
-
 /// A required option whose value is a number.
 fn number_option<'a>(alloc: Global, id: &'a str, help: &'a str) -> Arg<'a>
     ensures rule { rule_of result ≡ number_option id.entry.now }
@@ -69,18 +63,18 @@ fn number_option<'a>(alloc: Global, id: &'a str, help: &'a str) -> Arg<'a>
         .help(help)
 }
 
-/// A command with one more required option, whose value is a number.
+/// A command with one more required option, whose value is a number of this range.
 fn with_number<'a>(
     alloc: Global,
     command: Command<'a>,
     id: &'a str,
-    help: &'a str,
+    range: NumberRange,
 ) -> Result<Command<'a>, AllocError>
     requires { (fields_of command).has_globals ≡ false }
     ensures app { IfOk result (λ c. app_of c ≡ with_rule (app_of command.entry) (number_option id.entry.now)) }
     ensures local { IfOk result (λ c. (fields_of c).has_globals ≡ false) }
 {
-    command.arg(number_option(alloc, id, help))
+    command.arg(number_option(alloc, id, range.help))
 }
 
 /// `barrel --turns N`
@@ -92,7 +86,7 @@ fn barrel_command<'a>(alloc: Global) -> Result<Command<'a>, AllocError>
         .about(BARREL_ABOUT)
         .long_about(BARREL_LONG_ABOUT)
         .after_help(EXAMPLE);
-    with_number(alloc, command, "turns", TURNS_HELP)
+    with_number(alloc, command, "turns", TURNS)
 }
 
 /// `threads --steps N --patience N`
@@ -103,8 +97,8 @@ fn threads_command<'a>(alloc: Global) -> Result<Command<'a>, AllocError>
     let command = Command::new(alloc, "threads")
         .about(THREADS_ABOUT)
         .long_about(THREADS_LONG_ABOUT);
-    let command = with_number(alloc, command, "steps", STEPS_HELP)?;
-    with_number(alloc, command, "patience", PATIENCE_HELP)
+    let command = with_number(alloc, command, "steps", STEPS)?;
+    with_number(alloc, command, "patience", PATIENCE)
 }
 
 /// The whole command line.

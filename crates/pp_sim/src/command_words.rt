@@ -1,20 +1,19 @@
 //! Reading the words of a command line.
 
-ghost use Rattle.std.specs.Prelude.{◌≡◌, ℕ, [], map, IfOk, IfErr, OnOk, MatchOption};
+ghost use Rattle.std.specs.Prelude.{◌≡◌, ◌↔◌, ℕ, [], map, IfOk, IfErr, IfSome, IsSome, OnOk, MatchOption};
 ghost use Rattle.clap.specs.Words.{first_value, found_of};
+ghost use Rattle.pp_runner.specs.RunLimits.{AreLimits};
 ghost use Rattle.pp_sim.specs.CommandLine.{AskFor, IsFaultBy, IsOutOfRange, IsRefused, IsWorkOf, ReadsNumber, refusals};
 ghost use Rattle.pp_sim.specs.declared.work.Work.{Work};
 
 use crate::command::command;
 use crate::line_fault::LineFault;
+use crate::number_range::{PATIENCE, STEPS, TURNS};
 use crate::work::Work;
 use clap::error::ErrorKind;
 use clap::{ArgMatches, Error};
 use pp_runner::Limits;
 use std::alloc::Global;
-
-/// The largest number of turns (decimal).
-const MOST_TURNS: u32 = 999_999;
 
 /// The number in an option's text.
 fn number_of(matches: &ArgMatches<'_>, id: &str) -> Option<u32>
@@ -30,6 +29,20 @@ fn number_of(matches: &ArgMatches<'_>, id: &str) -> Option<u32>
     }
 }
 
+/// The limits of two numbers, if they are in range. The ranges that the help tells are those of `Limits`.
+fn limits_of(steps: u32, patience: u32) -> Option<Limits>
+    ensures exists { IsSome result ↔ AreLimits (record { steps = steps; patience = patience }) }
+    ensures value { IfSome result (λ l. l ≡ record { steps = steps; patience = patience }) }
+{
+    if !STEPS.contains(steps) || !PATIENCE.contains(patience) {
+        return None;
+    }
+    match Limits::new(steps, patience) {
+        Some(limits) => Some(limits),
+        None => unreachable!(),
+    }
+}
+
 /// The work that a command asks for, if its numbers are in range.
 fn work_of(name: &str, matches: &ArgMatches<'_>) -> Option<Work>
     ensures { MatchOption result ((work : Work) → ¬ IsWorkOf name.now (first_value (found_of matches.now)) work)
@@ -37,14 +50,14 @@ fn work_of(name: &str, matches: &ArgMatches<'_>) -> Option<Work>
 {
     if name == "barrel" {
         let turns = number_of(matches, "turns")?;
-        if turns > MOST_TURNS {
+        if !TURNS.contains(turns) {
             return None;
         }
         Some(Work::Barrel { turns })
     } else if name == "threads" {
         let steps = number_of(matches, "steps")?;
         let patience = number_of(matches, "patience")?;
-        let limits = Limits::new(steps, patience)?;
+        let limits = limits_of(steps, patience)?;
         Some(Work::Threads { limits })
     } else {
         None

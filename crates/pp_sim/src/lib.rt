@@ -6,6 +6,7 @@ mod command_words;
 mod laws;
 mod line_fault;
 mod loaded_deck;
+mod number_range;
 mod numeral;
 mod program;
 mod streams;

@@ -1,11 +1,12 @@
 //! The program, over any reader and writers.
 
-ghost use Rattle.std.specs.Prelude.{◌≡◌, map, Err};
+ghost use Rattle.std.specs.Prelude.{◌≡◌, map};
 ghost use Rattle.pp_runner.specs.Report.{ReportFitsInMemory};
-ghost use Rattle.pp_sim.specs.Program.{IsDone, IsRun, IsTold, status_of};
+ghost use Rattle.pp_sim.specs.Program.{IsDone, IsPrinted, IsRun, IsTold, status_of};
 
 use crate::command_words::read_words;
 use crate::line_fault::LineFault;
+use crate::streams::write_whole;
 use crate::text::barrel_text;
 use crate::text_by_threads::threads_text;
 use crate::text_fault::TextFault;
@@ -44,12 +45,9 @@ pub fn run_program<
 {
     let work = match read_words(rt.alloc(), words) {
         Ok(work) => work,
-        Err(fault) => return tell_line_fault(&fault, output, error),
+        Err(fault) => return tell_line_fault(rt.alloc(), &fault, output, error),
     };
-    match do_work(rt, work, alloc, input, output) {
-        Ok(()) => DONE,
-        Err(fault) => tell_text_fault(&fault, error),
-    }
+    tell_answer(do_work(rt, work, alloc, input, output), error)
 }
 
 /// Does what the words ask for.
@@ -69,11 +67,16 @@ fn do_work<T: Threads + Wait + Sync, I: Read, A: Allocator + Copy + Send + Sync,
     }
 }
 
-fn tell_line_fault<O: Write, E: Write>(fault: &LineFault, output: &mut O, error: &mut E) -> u8
+fn tell_line_fault<O: Write, E: Write>(
+    alloc: Global,
+    fault: &LineFault,
+    output: &mut O,
+    error: &mut E,
+) -> u8
     ensures { IsTold fault.now result (O.contents output.old) (O.contents output.new) }
 {
     match fault {
-        LineFault::Refused(refusal) => show_refusal(refusal, output, error),
+        LineFault::Refused(refusal) => show_refusal(alloc, refusal, output, error),
         LineFault::Number => {
             let _ = writeln!(error, "ppsim: {fault}");
             LINE_REFUSED
@@ -86,22 +89,38 @@ fn tell_line_fault<O: Write, E: Write>(fault: &LineFault, output: &mut O, error:
 }
 
 /// clap's text as it is: help on the output, all else on the error.
-fn show_refusal<O: Write, E: Write>(refusal: &Error, output: &mut O, error: &mut E) -> u8
+fn show_refusal<O: Write, E: Write>(
+    alloc: Global,
+    refusal: &Error,
+    output: &mut O,
+    error: &mut E,
+) -> u8
     ensures { IsTold (LineFault.Refused refusal.now) result (O.contents output.old) (O.contents output.new) }
 {
     if refusal.use_stderr() {
         let _ = write!(error, "{refusal}");
         return LINE_REFUSED;
     }
-    match write!(output, "{refusal}").and_then(|()| output.flush()) {
-        Ok(()) => DONE,
-        Err(_) => tell_text_fault(&TextFault::Write, error),
+    match format!(in alloc; "{refusal}") {
+        Ok(help) => show_help(help.as_bytes(), output, error),
+        Err(_) => tell_answer(Err(TextFault::Memory), error),
     }
 }
 
-fn tell_text_fault<E: Write>(fault: &TextFault, error: &mut E) -> u8
-    ensures { result ≡ status_of (Err fault.now) }
+/// Prints help that was asked for.
+fn show_help<O: Write, E: Write>(help: &[u8], output: &mut O, error: &mut E) -> u8
+    ensures { IsPrinted help.now result (O.contents output.old) (O.contents output.new) }
 {
+    tell_answer(write_whole(output, help), error)
+}
+
+/// The status of what was done, or failed, which is told.
+fn tell_answer<E: Write>(answer: Result<(), TextFault>, error: &mut E) -> u8
+    ensures { result ≡ status_of answer }
+{
+    let Err(fault) = answer else {
+        return DONE;
+    };
     let _ = writeln!(error, "ppsim: {fault}");
     match fault {
         TextFault::Deck(_) => DECK_REFUSED,

@@ -61,7 +61,12 @@ const LIMITS: [(&str, &str, Option<(u32, u32)>); 9] = [
 /// The steps and the patience that a command line gives, if it is taken.
 fn asked_limits(alloc: Global, steps: &str, patience: &str) -> Option<(u32, u32)> {
     let words = ["ppsim", "threads", "--steps", steps, "--patience", patience];
-    match asked(alloc, &words).ok()? {
+    limits_in(asked(alloc, &words))
+}
+
+/// The steps and the patience of a run by threads, if one is asked for.
+fn limits_in(asked: Result<Work, Refused>) -> Option<(u32, u32)> {
+    match asked.ok()? {
         Work::Threads { limits } => Some((limits.steps(), limits.patience())),
         Work::Barrel { .. } => None,
     }
@@ -72,5 +77,42 @@ fn words_of_threads(rt: HostRuntime) {
     for (steps, patience, numbers) in LIMITS {
         let asked = asked_limits(rt.alloc(), steps, patience);
         assert_eq!(rt; asked, numbers, "{steps} {patience}");
+    }
+}
+
+/// Command lines of seven words and more, and the steps and the patience that they give, if they are taken.
+const LONGER: [(&[&str], Option<(u32, u32)>); 5] = [
+    (
+        &["ppsim", "threads", "--steps", "5", "--patience", "6", "--"],
+        Some((5, 6)),
+    ),
+    (
+        &["ppsim", "threads", "--steps", "5", "--patience", "6", "7"],
+        None,
+    ),
+    (
+        &["ppsim", "threads", "--steps", "0", "--patience", "6", "--"],
+        None,
+    ),
+    (
+        &[
+            "ppsim", "barrel", "--turns", "40", "--turns", "40", "--turns", "40",
+        ],
+        None,
+    ),
+    (
+        &[
+            "ppsim", "barrel", "1", "2", "3", "4", "5", "6", "7", "8", "9",
+        ],
+        None,
+    ),
+];
+
+#[test]
+fn longer_command_lines(rt: HostRuntime) {
+    for (words, numbers) in LONGER {
+        let asked = asked(rt.alloc(), words);
+        assert!(rt; asked != Err(Refused::Memory));
+        assert_eq!(rt; limits_in(asked), numbers);
     }
 }

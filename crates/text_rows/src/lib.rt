@@ -7,8 +7,12 @@ mod command_line;
 #[cfg(test)]
 mod faults;
 #[cfg(test)]
+mod help;
+#[cfg(test)]
 mod memories;
 #[cfg(test)]
 mod program;
+#[cfg(test)]
+mod refusals;
 #[cfg(test)]
 mod texts;

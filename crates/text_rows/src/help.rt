@@ -1,0 +1,198 @@
+//! The texts of help, whole, and the run that they show.
+
+use crate::program::{ending, handoff};
+use pp_sim::run_program;
+use std::alloc::Global;
+use std::sync::Wait;
+use std::test::Fail;
+use std::thread::Threads;
+use test_bench::HANDOFF_TEXT;
+
+const PROGRAM: &str = "\
+Simulates the peripheral processors and data channels of a Control Data 6600
+
+Usage: ppsim <COMMAND>
+
+Commands:
+  barrel   Runs a deck in the barrel, one step a turn, and prints what happened
+  threads  Runs a deck with one thread per processor, and prints what happened
+  help     Print this message or the help of the given subcommand(s)
+
+Options:
+  -h, --help  Print help
+
+Example:
+  ppsim barrel --turns 40 < handoff.deck
+where handoff.deck has the lines
+  PP 0
+  0100 7405 1407 7205 0300
+  START 0100
+  PP 1
+  0200 7005 0300
+  START 0200
+";
+
+const BARREL: &str = "\
+Runs a deck in the barrel: processors 0, 1, .. and 11 (octal) take one step a turn, again and again.
+
+Reads the deck from standard input. Prints to standard output a line for each channel event, in
+order; the P, the A and the state of each processor that the deck names; and the state of each
+channel that has a history. A fault is one line on standard error.
+
+Where the deck has a line DEAD, the processors without a section wait for their programs, each on
+the channel of its own number, as at a dead start.
+
+Usage: ppsim barrel --turns <N>
+
+Options:
+      --turns <N>
+          How many turns to run, 0 to 999999 (decimal)
+
+  -h, --help
+          Print help (see a summary with '-h')
+
+Example:
+  ppsim barrel --turns 40 < handoff.deck
+where handoff.deck has the lines
+  PP 0
+  0100 7405 1407 7205 0300
+  START 0100
+  PP 1
+  0200 7005 0300
+  START 0200
+";
+
+const BARREL_IN_SHORT: &str = "\
+Runs a deck in the barrel, one step a turn, and prints what happened
+
+Usage: ppsim barrel --turns <N>
+
+Options:
+      --turns <N>  How many turns to run, 0 to 999999 (decimal)
+  -h, --help       Print help (see more with '--help')
+
+Example:
+  ppsim barrel --turns 40 < handoff.deck
+where handoff.deck has the lines
+  PP 0
+  0100 7405 1407 7205 0300
+  START 0100
+  PP 1
+  0200 7005 0300
+  START 0200
+";
+
+const THREADS: &str = "\
+Runs a deck with one thread per processor, all ten at once. Each goes on at its own speed, so the
+order of events on different channels, and sometimes the events themselves, differ from run to run.
+
+A processor ends where its program stops or faults, after its steps are done (STEPS), or where a
+channel held one step too often in a row (PATIENCE).
+
+Reads the deck from standard input. Prints to standard output, channel by channel, a line for each
+event in order; the P, the A and the end of each processor that the deck names; and the state of
+each channel that has a history. A fault is one line on standard error.
+
+Where the deck has a line DEAD, the processors without a section wait for their programs, each on
+the channel of its own number, as at a dead start.
+
+Usage: ppsim threads --steps <N> --patience <N>
+
+Options:
+      --steps <N>
+          How many steps each processor may do, 1 to 100000 (decimal)
+
+      --patience <N>
+          How often in a row a channel may hold a step, 1 to 4294967295 (decimal)
+
+  -h, --help
+          Print help (see a summary with '-h')
+";
+
+const THREADS_IN_SHORT: &str = "\
+Runs a deck with one thread per processor, and prints what happened
+
+Usage: ppsim threads --steps <N> --patience <N>
+
+Options:
+      --steps <N>     How many steps each processor may do, 1 to 100000 (decimal)
+      --patience <N>  How often in a row a channel may hold a step, 1 to 4294967295 (decimal)
+  -h, --help          Print help (see more with '--help')
+";
+
+/// Words that ask for help, each with its text.
+const HELP: [(&[&str], &str); 9] = [
+    (&["ppsim", "--help"], PROGRAM),
+    (&["ppsim", "-h"], PROGRAM),
+    (&["ppsim", "help"], PROGRAM),
+    (&["ppsim", "barrel", "--help"], BARREL),
+    (&["ppsim", "help", "barrel"], BARREL),
+    (&["ppsim", "barrel", "-h"], BARREL_IN_SHORT),
+    (&["ppsim", "threads", "--help"], THREADS),
+    (&["ppsim", "help", "threads"], THREADS),
+    (&["ppsim", "threads", "-h"], THREADS_IN_SHORT),
+];
+
+#[test]
+fn help_that_was_asked_for(rt: HostRuntime) {
+    for (words, text) in HELP {
+        let ended = ending(&rt, words, handoff(), text, "");
+        assert_eq!(rt; ended, (0, true, true, false), "{text}");
+    }
+}
+
+/// What a run on these bytes prints.
+fn printed<R: AllocGlobal + Threads + Wait + Sync>(
+    rt: &R,
+    words: &[&str],
+    mut input: &[u8],
+) -> Result<String, Fail> {
+    let mut written = Vec::new(rt.alloc());
+    let mut told = Vec::new(rt.alloc());
+    run_program(rt, rt.alloc(), words, &mut input, &mut written, &mut told);
+    Ok(String::from_utf8(written)?)
+}
+
+/// The words of the command line in an example.
+fn words_in(alloc: Global, help: &str) -> Result<Vec<&str>, Fail> {
+    let (_, example) = help.split_once("Example:\n").ok_or("no example")?;
+    let (command, _) = example.split_once(" < ").ok_or("no command line")?;
+    let mut words = Vec::new(alloc);
+    for word in command.split_whitespace() {
+        words.push(word)?;
+    }
+    Ok(words)
+}
+
+/// The deck in an example: the lines behind the one that tells of them, without the blanks in front.
+fn deck_in(alloc: Global, help: &str) -> Result<Vec<u8>, Fail> {
+    let (_, lines) = help.split_once("has the lines\n").ok_or("no deck")?;
+    let mut deck = Vec::new(alloc);
+    for line in lines.lines() {
+        let line = line.strip_prefix("  ").ok_or("no line of a deck")?;
+        deck.extend_from_slice(line.as_bytes())?;
+        deck.push(b'\n')?;
+    }
+    Ok(deck)
+}
+
+/// What the example in a help prints.
+fn example_of<R: AllocGlobal + Threads + Wait + Sync>(
+    rt: &R,
+    words: &[&str],
+) -> Result<String, Fail> {
+    let help = printed(rt, words, &[])?;
+    let command = words_in(rt.alloc(), &help)?;
+    let deck = deck_in(rt.alloc(), &help)?;
+    printed(rt, &command, &deck)
+}
+
+#[test]
+fn the_example_runs(rt: HostRuntime) -> Result<(), Fail> {
+    let calls: [&[&str]; 2] = [&["ppsim", "--help"], &["ppsim", "barrel", "--help"]];
+    for words in calls {
+        let text = example_of(&rt, words)?;
+        assert_eq!(rt; text.as_str(), HANDOFF_TEXT);
+    }
+    Ok(())
+}

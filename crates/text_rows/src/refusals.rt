@@ -1,0 +1,168 @@
+//! Words that are refused before the deck is read, each with its whole text on the standard error.
+
+use crate::program::{ending, handoff};
+
+const OUT_OF_RANGE: &str = "ppsim: number out of range\n";
+
+const REFUSED: [(&[&str], &str); 19] = [
+    (
+        &["ppsim"],
+        "\
+error: 'ppsim' requires a subcommand but one was not provided
+  [subcommands: barrel, threads, help]
+
+Usage: ppsim <COMMAND>
+
+For more information, try '--help'.
+",
+    ),
+    (
+        &["ppsim", "bogus"],
+        "\
+error: unrecognized subcommand 'bogus'
+
+Usage: ppsim <COMMAND>
+
+For more information, try '--help'.
+",
+    ),
+    (
+        &["ppsim", "help", "bogus"],
+        "\
+error: unrecognized subcommand 'bogus'
+
+Usage: ppsim <COMMAND>
+
+For more information, try '--help'.
+",
+    ),
+    (
+        &["ppsim", "barrel"],
+        "\
+error: the following required arguments were not provided:
+  --turns <N>
+
+Usage: ppsim barrel --turns <N>
+
+For more information, try '--help'.
+",
+    ),
+    (
+        &["ppsim", "barrel", "--turns"],
+        "\
+error: a value is required for '--turns <N>' but none was supplied
+
+For more information, try '--help'.
+",
+    ),
+    (
+        &["ppsim", "barrel", "--steps", "5"],
+        "\
+error: unexpected argument '--steps' found
+
+Usage: ppsim barrel --turns <N>
+
+For more information, try '--help'.
+",
+    ),
+    (
+        &["ppsim", "barrel", "--turns", "40", "--turns", "40"],
+        "\
+error: the argument '--turns <N>' cannot be used multiple times
+
+Usage: ppsim barrel --turns <N>
+
+For more information, try '--help'.
+",
+    ),
+    (
+        &["ppsim", "--turns", "40", "barrel"],
+        "\
+error: unexpected argument '--turns' found
+
+  tip: 'barrel --turns' exists
+
+Usage: ppsim <COMMAND>
+
+For more information, try '--help'.
+",
+    ),
+    (
+        &["ppsim", "threads"],
+        "\
+error: the following required arguments were not provided:
+  --steps <N>
+  --patience <N>
+
+Usage: ppsim threads --steps <N> --patience <N>
+
+For more information, try '--help'.
+",
+    ),
+    (
+        &["ppsim", "threads", "--steps", "5"],
+        "\
+error: the following required arguments were not provided:
+  --patience <N>
+
+Usage: ppsim threads --steps <N> --patience <N>
+
+For more information, try '--help'.
+",
+    ),
+    (
+        &["ppsim", "threads", "--patience", "5"],
+        "\
+error: the following required arguments were not provided:
+  --steps <N>
+
+Usage: ppsim threads --steps <N> --patience <N>
+
+For more information, try '--help'.
+",
+    ),
+    (
+        &["ppsim", "threads", "--steps", "5", "--patience", "5", "6"],
+        "\
+error: unexpected argument '6' found
+
+Usage: ppsim threads --steps <N> --patience <N>
+
+For more information, try '--help'.
+",
+    ),
+    (&["ppsim", "barrel", "--turns", "1000000"], OUT_OF_RANGE),
+    (&["ppsim", "barrel", "--turns", "forty"], OUT_OF_RANGE),
+    (&["ppsim", "barrel", "--turns", ""], OUT_OF_RANGE),
+    (
+        &["ppsim", "threads", "--steps", "0", "--patience", "5"],
+        OUT_OF_RANGE,
+    ),
+    (
+        &["ppsim", "threads", "--steps", "100001", "--patience", "5"],
+        OUT_OF_RANGE,
+    ),
+    (
+        &["ppsim", "threads", "--steps", "5", "--patience", "0"],
+        OUT_OF_RANGE,
+    ),
+    (
+        &[
+            "ppsim",
+            "threads",
+            "--steps",
+            "5",
+            "--patience",
+            "4294967296",
+        ],
+        OUT_OF_RANGE,
+    ),
+];
+
+#[test]
+fn refused_words(rt: HostRuntime) {
+    for (words, text) in REFUSED {
+        let ended = ending(&rt, words, handoff(), "", text);
+        assert_eq!(rt; ended, (2, true, true, false), "{text}");
+    }
+}
