@@ -5,7 +5,12 @@ use Rattle.pp_runner.specs.Report.{IsReportOf}
 use Rattle.pp_runner.specs.RunLimits.{RunLimits}
 use Rattle.pp_runner.specs.declared.report.Report.{Report}
 use Rattle.pp_text.specs.PrintedReport.{printed_report}
+use Rattle.pp_text.specs.ReportLaw.{FitsItsReport}
 
--- a text of a loaded deck that ran with one thread per processor within these limits: that of a report of the run
-abbrev pub IsThreadsText : (Z : Type 0) → RunLimits → LoadedDeck → List ℕ → Type 0
-IsThreadsText Z limits deck text = (report : Report Z) × IsReportOf limits deck.machine report × (text ≡ printed_report deck.named report)
+-- a text of a loaded deck that ran with one thread per processor within these limits: that of a report of the run, and
+-- all that the report shows fits its lines, so that the text tells it
+pub record IsThreadsText (Z : Type 0) (limits : RunLimits) (deck : LoadedDeck) (text : List ℕ) : Type 0 where
+  pub report : Report Z
+  pub run : IsReportOf limits deck.machine report
+  pub told : text ≡ printed_report deck.named report
+  pub fits : FitsItsReport deck.named report

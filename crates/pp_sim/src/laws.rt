@@ -1,13 +1,17 @@
-//! A law of the texts of runs. The function does nothing: its contract says what is proved of the
+//! Laws of the texts of runs. These functions do nothing: their contracts say what is proved of the
 //! definitions.
 
 ghost use Rattle.std.specs.Prelude.{◌≡◌, ℕ, List};
 ghost use Rattle.pp_deck.specs.DeckMeaning.{LoadedDeck};
 ghost use Rattle.pp_machine.specs.Run.{barrel, run};
+ghost use Rattle.pp_runner.specs.RunLimits.{RunLimits};
 ghost use Rattle.pp_sim.specs.BarrelText.{IsBarrelText};
+ghost use Rattle.pp_sim.specs.ThreadsText.{IsThreadsText};
+ghost use Rattle.pp_text.specs.ReportLaw.{AgreeOnReport, HaveSameHistories};
 ghost use Rattle.pp_text.specs.TextLaw.{AgreeOnText};
 
-use pp_text::text_law;
+use pp_text::{report_law, text_law};
+use std::alloc::Allocator;
 
 /// The text is the trace: where two decks that name the same processors run to one text, their machines
 /// made the same events in the same turns, and agree on what is shown of each processor named and of
@@ -17,4 +21,14 @@ pub fn barrel_text_law()
         → AgreeOnText deck.named (run (barrel turns) deck.machine) (run (barrel others) other.machine) }
 {
     text_law();
+}
+
+/// The same for threads: where two runs of one deck come to one text, their reports agree on the events
+/// of each channel, each with its number and its author, on the ends of the processors named and on the
+/// channels; and each channel has the same history in both.
+pub fn threads_text_law<A: Allocator>()
+    ensures { (deck : LoadedDeck) (limits others : RunLimits) (text : List ℕ) (one : IsThreadsText A limits deck text) (also : IsThreadsText A others deck text)
+        → AgreeOnReport deck.named one.report also.report × HaveSameHistories one.report also.report }
+{
+    report_law::<A>();
 }

@@ -16,7 +16,7 @@ mod text_fault;
 mod work;
 
 pub use command_words::read_words;
-pub use laws::barrel_text_law;
+pub use laws::{barrel_text_law, threads_text_law};
 pub use line_fault::LineFault;
 pub use numeral::numeral_law;
 pub use pp_deck::{Deck, DeckCode, DeckFault, deck_law, headline_law, read_deck, reading_law};

@@ -9,7 +9,7 @@ use Rattle.pp_runner.specs.declared.worker.Worker.{Worker}
 use Rattle.pp_text.specs.PrintedReport.{author_place, line_by, numbered_event_line}
 
 module _ {X : Type 0} where
-  enumerate_push : (n : ℕ) (xs : List X) (y : X) → enumerate_from n (xs ++ y ∷ []) ≡ enumerate_from n xs ++ (n + length xs, y) ∷ []
+  pub enumerate_push : (n : ℕ) (xs : List X) (y : X) → enumerate_from n (xs ++ y ∷ []) ≡ enumerate_from n xs ++ (n + length xs, y) ∷ []
   enumerate_push n [] y = ap (λ k. (k, y) ∷ []) (omega arith)
   enumerate_push n (x ∷ xs) y = ap (λ more. (n, x) ∷ more)
       (enumerate_push (n + 1) xs y ∙ ap (λ k. enumerate_from (n + 1) xs ++ (k, y) ∷ []) (omega arith))

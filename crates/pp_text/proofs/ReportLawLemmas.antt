@@ -1,12 +1,12 @@
 -- The text of a report tells its events, its workers' ends and its channels.
-use Rattle.std.proofs.Common.{◌≡◌, ◌∙◌, ◌≢◌, All, ℕ, zero, suc, ◌+◌, ◌*◌, ◌^◌, ◌/◌, ◌%◌, ◌<◌, ◌≤◌, ◌-◌, ◌⊎◌, inl, inr, length, Bool, true, false, List, [], ◌∷◌, ◌++◌, Option, Some, None, map, take, drop, refl, sym, ap, subst, arith, append_assoc, codes}
-use Rattle.std.specs.Prelude.{◌==◌, ◌&&◌, ◌↔◌, nat_lt, get_or, option_map, slice_get, IfSome, IsTrue, if◌then◌else◌}
+use Rattle.std.proofs.Common.{◌≡◌, ◌∙◌, ◌≢◌, All, ℕ, zero, suc, ◌+◌, ◌*◌, ◌^◌, ◌/◌, ◌%◌, ◌<◌, ◌≤◌, ◌-◌, ◌⊎◌, inl, inr, length, Bool, true, false, List, [], ◌∷◌, ◌++◌, Option, Some, None, map, take, drop, refl, sym, ap, subst, add-one, arith, append_assoc, codes}
+use Rattle.std.specs.Prelude.{◌==◌, ◌&&◌, ◌↔◌, nat_lt, get_or, option_map, slice_get, slice_index_or, Result, Ok, Err, OnOk, IfSome, IsTrue, if◌then◌else◌}
 use Rattle.std.specs.List.{cons_option, enumerate_from, filter, filter_map, flat_map}
 use Rattle.std.proofs.lemmas.Bool.{cases_lt, eq-eqb, le-ltb, lt-ltb, ne_eqb}
-use Rattle.std.proofs.lemmas.List.{append-nil}
-use Rattle.std.proofs.lemmas.List.Elements.{All-head, All-tail, filter-append}
+use Rattle.std.proofs.lemmas.List.{append-nil, length-take-le}
+use Rattle.std.proofs.lemmas.List.Elements.{All-append, All-cons, All-head, All-nil, All-tail, filter-append, filter_map-append}
 use Rattle.std.proofs.Math.Bool.{and-false}
-use Rattle.std.proofs.Math.Seq.{drop-append_seam, drop-nil}
+use Rattle.std.proofs.Math.Seq.{drop-append_seam, drop-nil, take-suc}
 use Rattle.pp_channel.specs.ChannelNumber.{names_channel}
 use Rattle.pp_channel.specs.History.{active, waiting}
 use Rattle.pp_channel.specs.Merge.{Merges, history_on}
@@ -23,6 +23,7 @@ use Rattle.pp_text.specs.PrintedText.{channel_text, each_below, event_text, is_n
 use Rattle.pp_text.specs.ReportLaw.{AgreeOnReport, FitsItsEnd, FitsItsLine, FitsItsReport, HasEndNumber, ShownEnd, ToldEvent, end_of, shown_end, told_by, told_events, told_of}
 use Rattle.pp_text.specs.TextLaw.{IsListed, IsToldAlike, is_used}
 use Rattle.pp_text.proofs.AuthorLawLemmas.{only_openings}
+use Rattle.pp_text.proofs.EventLineLemmas.{enumerate_push}
 use Rattle.pp_text.proofs.TextLawLemmas.{Above, above-append, above_less, above_decimal, above_event, above_octal, above_one, cut, octal_tells, decimal_tells, unlines, unlines-append, AreLines, are_lines-append, lines_told, lines_below, said_in_lines, are_lines_below, heading, is_of, none_below, one_among, kept, left_out, one_line, one_is, one_where, same_event, processor_digits, channel_digits, named_digits, first_digit, channels, channel_body, channel_in_lines, plain_channels, used_alike}
 
 -- ---- the line of an event
@@ -192,7 +193,7 @@ events_others {Z} workers histories m n low within apart = no_events (λ l. nat_
 -- ---- the line of a worker, and of a channel
 
 end_body : ℕ → ShownEnd → List ℕ
-end_body n shown = codes "PP" ++ (octal 2 n ++ (codes " P=" ++ (octal 4 shown.p ++ (codes " A=" ++ (octal 6 shown.a ++ (codes " " ++ end_text shown.finish))))))
+end_body n shown = codes "PP" ++ (octal 2 n ++ (codes " P=" ++ (octal 4 shown.p ++ (codes " A=" ++ (octal 6 shown.a ++ (codes " " ++ shown.said))))))
 
 one_of : ℕ → Option ShownEnd → List (List ℕ)
 one_of n None = []
@@ -338,20 +339,20 @@ above_end Patience = above_six 80 65 84 73 69 78 (codes "CE") (omega arith) (ome
 above_end Memory = above_six 77 69 77 79 82 89 [] (omega arith) (omega arith) (omega arith) (omega arith) (omega arith) (omega arith) tt
 above_end Worn = (omega arith, (omega arith, (omega arith, (omega arith, tt))))
 
-above_shown : (n : ℕ) (s : ShownEnd) → Above 10 (end_body n s)
+above_shown : (n : ℕ) (s : ShownEnd) → Above 10 s.said → Above 10 (end_body n s)
 unfolding end_body
-above_shown n s = (
+above_shown n s plain = (
   omega arith,
   (
     omega arith,
-    above_octal 2 n (codes " P=" ++ (octal 4 s.p ++ (codes " A=" ++ (octal 6 s.a ++ (codes " " ++ end_text s.finish))))) (
+    above_octal 2 n (codes " P=" ++ (octal 4 s.p ++ (codes " A=" ++ (octal 6 s.a ++ (codes " " ++ s.said))))) (
       omega arith,
       (
         omega arith,
         (
           omega arith,
-          above_octal 4 s.p (codes " A=" ++ (octal 6 s.a ++ (codes " " ++ end_text s.finish)))
-              (omega arith, (omega arith, (omega arith, above_octal 6 s.a (codes " " ++ end_text s.finish) (omega arith, above_end s.finish)))),
+          above_octal 4 s.p (codes " A=" ++ (octal 6 s.a ++ (codes " " ++ s.said)))
+              (omega arith, (omega arith, (omega arith, above_octal 6 s.a (codes " " ++ s.said) (omega arith, plain)))),
         ),
       ),
     ),
@@ -360,12 +361,12 @@ above_shown n s = (
 
 plain_ends : {Z : Type 0} (named : List Bool) (report : Report Z) (n : ℕ) → AreLines (ends named report n)
 unfolding ends one_of
-plain_ends {Z} named report n = by_case (is_named named n) (end_of n report)
+plain_ends {Z} named report n = by_case (is_named named n) (slice_get report.ends.items (processor_index n))
   where
-    by_case : (b : Bool) (shown : Option ShownEnd) → AreLines (if b then one_of n shown else [])
+    by_case : (b : Bool) (worker : Option (Worker Z)) → AreLines (if b then one_of n (option_map shown_end worker) else [])
     by_case true None = tt
-    by_case true (Some s) = (above_shown n s, tt)
-    by_case false shown = tt
+    by_case true (Some w) = (above_shown n (shown_end w) (above_end w.finish), tt)
+    by_case false worker = tt
 
 -- ---- the whole text
 
@@ -454,28 +455,17 @@ among_states {Z} named report c within =
 
 -- ---- what a worker's line tells
 
-same_finish : (f g : End) → HasEndNumber f → HasEndNumber g → end_text f ≡ end_text g → f ≡ g
-same_finish Stopped Stopped _ _ e = refl
-same_finish (Fault m) (Fault n) one other e = ap Fault (octal_tells 1 m n (omega (arith, one.last)) (omega (arith, other.last)) (ap (drop 6) e))
-same_finish Steps Steps _ _ e = refl
-same_finish Patience Patience _ _ e = refl
-same_finish Memory Memory _ _ e = refl
-same_finish Worn Worn _ _ e = refl
-same_finish f g _ _ e =
-    let third : get_or (end_text f) 2 0 ≡ get_or (end_text g) 2 0 = ap (λ text. get_or text 2 0) e in
-    absurd (omega (arith, third))
-
-shown_alike : (s t : ShownEnd) → s.p ≡ t.p → s.a ≡ t.a → s.finish ≡ t.finish → s ≡ t
-shown_alike s t p a finish =
+shown_alike : (s t : ShownEnd) → s.p ≡ t.p → s.a ≡ t.a → s.said ≡ t.said → s ≡ t
+shown_alike s t p a said =
     ap (λ n. record s { p = n }) p
     ∙ (ap (λ n. record s { p = t.p; a = n }) a
-    ∙ ap (λ x. record s { p = t.p; a = t.a; finish = x }) finish)
+    ∙ ap (λ x. record s { p = t.p; a = t.a; said = x }) said)
 
 same_shown : (n : ℕ) (s t : ShownEnd) → FitsItsEnd s → FitsItsEnd t → end_body n s ≡ end_body n t → s ≡ t
 unfolding end_body
 same_shown n s t fits also e =
     shown_alike s t (octal_tells 4 s.p t.p fits.p also.p (ap (λ l. take 4 (drop 7 l)) e)) (octal_tells 6 s.a t.a fits.a also.a (ap (λ l. take 6 (drop 14 l)) e))
-    (same_finish s.finish t.finish fits.finish also.finish (ap (drop 21) e))
+    (ap (drop 21) e)
 
 same_one : (n : ℕ) (s t : Option ShownEnd) → IfSome s FitsItsEnd → IfSome t FitsItsEnd → one_of n s ≡ one_of n t → s ≡ t
 unfolding one_of
@@ -562,3 +552,40 @@ pub histories_told : {Y Z : Type 0} (opening : ℕ → List Event) (one : Report
     → told_of c one ≡ told_of c other → history_on c one.channels ≡ history_on c other.channels
 histories_told {Y} {Z} opening one other c merged also same =
     whole_history opening one c merged ∙ ap (λ ts. opening c ++ map (λ (t : ToldEvent). t.event) ts) same ∙ sym (whole_history opening other c also)
+
+-- an end is told by what is said of it
+pub same_finish : (f g : End) → HasEndNumber f → HasEndNumber g → end_text f ≡ end_text g → f ≡ g
+same_finish Stopped Stopped _ _ e = refl
+same_finish (Fault m) (Fault n) one other e = ap Fault (octal_tells 1 m n (omega (arith, one.last)) (omega (arith, other.last)) (ap (drop 6) e))
+same_finish Steps Steps _ _ e = refl
+same_finish Patience Patience _ _ e = refl
+same_finish Memory Memory _ _ e = refl
+same_finish Worn Worn _ _ e = refl
+same_finish f g _ _ e =
+    let third : get_or (end_text f) 2 0 ≡ get_or (end_text g) 2 0 = ap (λ text. get_or text 2 0) e in
+    absurd (omega (arith, third))
+
+-- ---- what is printed fits
+
+-- the events of a history that are told so far, and one more
+pub tellings_go_on : {Z : Type 0} (c i : ℕ) (workers : List (Worker Z)) (h : List Event) (e : Event) → i < length h → e ≡ slice_index_or h i e
+    → All FitsItsLine (told_events c workers (take i h)) → IfSome (told_by i e (author_place c workers i)) FitsItsLine → All FitsItsLine (told_events c workers (take (i + 1) h))
+tellings_go_on {Z} c i workers h e within at so_far fits =
+    let f : ℕ × Event → Option ToldEvent = λ ((number, event) : ℕ × Event). told_by number event (author_place c workers number) in
+    let more : take (i + 1) h ≡ take i h ++ e ∷ [] =
+    ap (λ n. take n h) (add-one i) ∙ take-suc h i e within ∙ ap (λ x. take i h ++ x ∷ []) (sym at) in
+    let numbered : enumerate_from 0 (take (i + 1) h) ≡ enumerate_from 0 (take i h) ++ (i, e) ∷ [] =
+    ap (enumerate_from 0) more ∙ (enumerate_push 0 (take i h) e
+    ∙ ap (λ k. enumerate_from 0 (take i h) ++ (k, e) ∷ []) (let n = length-take-le i h (omega arith) in omega arith)) in
+    let told : filter_map f (enumerate_from 0 (take (i + 1) h)) ≡ filter_map f (enumerate_from 0 (take i h)) ++ filter_map f ((i, e) ∷ []) =
+    ap (filter_map f) numbered ∙ filter_map-append f (enumerate_from 0 (take i h)) ((i, e) ∷ []) in
+    subst (All FitsItsLine) (sym told) (All-append FitsItsLine (filter_map f (enumerate_from 0 (take i h))) (filter_map f ((i, e) ∷ [])) so_far (last (author_place c workers i) fits))
+  where
+    last : (author : Option ℕ) → IfSome (told_by i e author) FitsItsLine → All FitsItsLine (cons_option (told_by i e author) [])
+    last None fits = All-nil FitsItsLine
+    last (Some place) fits = All-cons FitsItsLine (record { number = i; author = processor_number place; event = e }) [] fits (All-nil FitsItsLine)
+
+-- what holds where a call answers Ok holds there under any condition
+pub under_ok : {T E : Type 0} (r : Result T E) (P X : Type 0) → OnOk r X → OnOk r (P → X)
+under_ok (Ok t) P X x = λ _. x
+under_ok (Err e) P X x = x

@@ -11,7 +11,7 @@ use Rattle.pp_runner.specs.declared.end.End.{End}
 use Rattle.pp_runner.specs.declared.end.End.TheVariants.{Fault}
 use Rattle.pp_runner.specs.declared.report.Report.{Report}
 use Rattle.pp_runner.specs.declared.worker.Worker.{Worker}
-use Rattle.pp_text.specs.PrintedReport.{author_place}
+use Rattle.pp_text.specs.PrintedReport.{author_place, end_text}
 use Rattle.pp_text.specs.PrintedText.{is_named}
 use Rattle.pp_text.specs.TextLaw.{IsListed, IsToldAlike}
 
@@ -30,16 +30,16 @@ told_by number event (Some place) = Some (record { number = number; author = pro
 abbrev pub told_events : {Z : Type 0} → ℕ → List (Worker Z) → List Event → List ToldEvent
 told_events {Z} c workers history = filter_map (λ ((number, event) : ℕ × Event). told_by number event (author_place c workers number)) (enumerate_from 0 history)
 
--- what a worker's line shows: P, A and its end
+-- what a worker's line shows: P, A and what is said of its end
 pub record ShownEnd : Type 0 where
   pub p : ℕ
   pub a : ℕ
-  pub finish : End
+  pub said : List ℕ
 
 abbrev pub shown_end : {Z : Type 0} → Worker Z → ShownEnd
-shown_end worker = record { p = worker.pp.p; a = worker.pp.a; finish = worker.finish }
+shown_end worker = record { p = worker.pp.p; a = worker.pp.a; said = end_text worker.finish }
 
--- a fault at its end is a numbered one
+-- where an end is a fault, it is a numbered one
 abbrev pub HasEndNumber : End → Type 0
 HasEndNumber (Fault number) = IsFaultNumber number
 HasEndNumber finish = Unit {0}
@@ -54,7 +54,6 @@ pub record FitsItsLine (told : ToldEvent) : Type 0 where
 pub record FitsItsEnd (shown : ShownEnd) : Type 0 where
   pub p : shown.p < 2 ^ 12
   pub a : shown.a < 2 ^ 18
-  pub finish : HasEndNumber shown.finish
 
 -- what is shown of the worker of processor n
 abbrev pub end_of : {Z : Type 0} → ℕ → Report Z → Option ShownEnd
@@ -76,3 +75,7 @@ pub record AgreeOnReport {Y Z : Type 0} (named : List Bool) (one : Report Y) (ot
   pub events : (c : ℕ) → IsTrue (names_channel c) → told_of c one ≡ told_of c other
   pub workers : (n : ℕ) → IsTrue (is_named named n) → end_of n one ≡ end_of n other
   pub channels : (c : ℕ) → IsTrue (names_channel c) → IsToldAlike (history_on c one.channels) (history_on c other.channels)
+
+-- the same history on each channel
+abbrev pub HaveSameHistories : {Y Z : Type 0} → Report Y → Report Z → Type 0
+HaveSameHistories one other = (c : ℕ) → IsTrue (names_channel c) → history_on c one.channels ≡ history_on c other.channels

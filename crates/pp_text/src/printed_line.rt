@@ -7,6 +7,7 @@ ghost use Rattle.pp_machine.specs.ProcessorNumber.{names_processor};
 ghost use Rattle.pp_text.specs.Numeral.{decimal, digits, octal};
 ghost use Rattle.pp_text.specs.PrintedText.{channel_line, event_line, event_text, line_end, processor_line, state_text};
 ghost use Rattle.pp_text.specs.PrintedReport.{end_text, worker_line};
+ghost use Rattle.pp_text.specs.ReportLaw.{FitsItsEnd, FitsItsLine, shown_end};
 ghost use Rattle.pp_text.specs.TextLaw.{IsListed, IsShown, IsTold};
 
 use crate::digits::{decimal6, octal1, octal2, octal4, octal6, push_upper_digits};
@@ -40,7 +41,8 @@ pub(crate) fn push_numbered_event<A: Allocator>(
     author: PpNo,
     event: Event,
 ) -> Result<(), AllocError>
-    ensures { OnOk result (text.new.items ≡ text.old.items ++ (codes "CH" ++ octal 2 c ++ codes " " ++ decimal number ++ codes " PP" ++ octal 2 author ++ codes " " ++ event_text event ++ line_end)) }
+    ensures text { OnOk result (text.new.items ≡ text.old.items ++ (codes "CH" ++ octal 2 c ++ codes " " ++ decimal number ++ codes " PP" ++ octal 2 author ++ codes " " ++ event_text event ++ line_end)) }
+    ensures fits { OnOk result (FitsItsLine (record { number = number; author = author; event = event })) }
 {
     let [c0, c1] = octal2(c.get());
     text.extend_from_slice(&[b'C', b'H', c0, c1, b' '])?;
@@ -52,7 +54,8 @@ pub(crate) fn push_numbered_event<A: Allocator>(
 /// `000001 PP00 `
 fn author_heading(number: u32, author: PpNo) -> [u8; 12]
     requires { number < 10 ^ 6 }
-    ensures { result ≡ digits 10 6 number ++ codes " PP" ++ octal 2 author ++ codes " " }
+    ensures text { result ≡ digits 10 6 number ++ codes " PP" ++ octal 2 author ++ codes " " }
+    ensures processor { IsTrue (names_processor author) }
 {
     let [n0, n1, n2, n3, n4, n5] = decimal6(number);
     let [p0, p1] = octal2(author.get());
@@ -130,7 +133,8 @@ pub(crate) fn push_worker<A: Allocator, B: Allocator>(
     n: PpNo,
     worker: &Worker<B>,
 ) -> Result<(), AllocError>
-    ensures { OnOk result (text.new.items ≡ text.old.items ++ worker_line n (Some worker.now)) }
+    ensures text { OnOk result (text.new.items ≡ text.old.items ++ worker_line n (Some worker.now)) }
+    ensures fits { OnOk result (FitsItsEnd (shown_end worker.now)) }
 {
     text.extend_from_slice(&processor_heading(n, &worker.pp))?;
     push_end(text, worker.finish)

@@ -1,11 +1,14 @@
 //! The whole printed text of a report.
 
-ghost use Rattle.std.specs.Prelude.{◌≡◌, ◌≤◌, ◌++◌, ℕ, Option, length, OnOk, IfOk, option_map};
+ghost use Rattle.std.specs.Prelude.{◌≡◌, ◌≤◌, ◌++◌, ℕ, All, Option, length, slice_get, OnOk, IfOk, IfSome, IsTrue, option_map};
 ghost use Rattle.std.specs.List.{enumerate_from, flat_map};
+ghost use Rattle.pp_channel.specs.ChannelNumber.{names_channel};
 ghost use Rattle.pp_channel.specs.Merge.{history_on};
-ghost use Rattle.pp_machine.specs.ProcessorNumber.{processor_count, processor_number};
-ghost use Rattle.pp_text.specs.PrintedText.{each_below, used_channel_line};
+ghost use Rattle.pp_machine.specs.ProcessorNumber.{processor_count, processor_index, processor_number};
+ghost use Rattle.pp_text.specs.PrintedText.{each_below, is_named, used_channel_line};
 ghost use Rattle.pp_text.specs.PrintedReport.{channel_events, line_by, named_worker_line, numbered_event_line, printed_report};
+ghost use Rattle.pp_text.specs.ReportLaw.{FitsItsEnd, FitsItsLine, FitsItsReport, shown_end, told_by, told_events};
+ghost use Rattle.pp_text.specs.TextLaw.{IsListed};
 
 use crate::authors::authors;
 use crate::machine_text::NUMBERS;
@@ -23,7 +26,8 @@ pub fn printed_report<A: Allocator + Copy>(
     named: &[bool; PROCESSORS],
 ) -> Result<Vec<u8, A>, AllocError>
     requires { length report.now.ends.items ≤ processor_count }
-    ensures { IfOk result (λ text. text.items ≡ printed_report named.now report.now) }
+    ensures text { IfOk result (λ text. text.items ≡ printed_report named.now report.now) }
+    ensures fits { OnOk result (FitsItsReport named.now report.now) }
 {
     let mut text = Vec::new(alloc);
     let workers = report.ends.as_slice();
@@ -40,7 +44,8 @@ fn push_events<A: Allocator + Copy>(
     channels: &[Channel<A>; CHANNELS],
 ) -> Result<(), AllocError>
     requires { length workers.now ≤ processor_count }
-    ensures { OnOk result (text.new.items ≡ text.old.items ++ each_below NUMBERS (channel_events workers.now channels.now)) }
+    ensures text { OnOk result (text.new.items ≡ text.old.items ++ each_below NUMBERS (channel_events workers.now channels.now)) }
+    ensures fits { OnOk result ((c : ℕ) → IsTrue (names_channel c) → All FitsItsLine (told_events c workers.now (history_on c channels.now))) }
 {
     for number in 0..NUMBERS {
         push_channel_events(alloc, text, workers, channels, number)?;
@@ -56,7 +61,8 @@ fn push_channel_events<A: Allocator + Copy>(
     number: u8,
 ) -> Result<(), AllocError>
     requires { length workers.now ≤ processor_count }
-    ensures { OnOk result (text.new.items ≡ text.old.items ++ channel_events workers.now channels.now number) }
+    ensures text { OnOk result (text.new.items ≡ text.old.items ++ channel_events workers.now channels.now number) }
+    ensures fits { OnOk result (IsTrue (names_channel number) → All FitsItsLine (told_events number workers.now (history_on number channels.now))) }
 {
     match ChannelNo::new(number) {
         Some(c) => push_history(alloc, text, workers, c, channel_of(channels, c)),
@@ -72,7 +78,8 @@ fn push_history<A: Allocator + Copy>(
     channel: &Channel<A>,
 ) -> Result<(), AllocError>
     requires { length workers.now ≤ processor_count }
-    ensures { OnOk result (text.new.items ≡ text.old.items ++ flat_map (numbered_event_line c workers.now) (enumerate_from 0 channel.now)) }
+    ensures text { OnOk result (text.new.items ≡ text.old.items ++ flat_map (numbered_event_line c workers.now) (enumerate_from 0 channel.now)) }
+    ensures fits { OnOk result (All FitsItsLine (told_events c workers.now channel.now)) }
 {
     let events = channel.history();
     let authors = authors(alloc, workers, c, events.len())?;
@@ -90,8 +97,9 @@ fn push_event_by<A: Allocator>(
     author: &Option<PpNo>,
     event: &Event,
 ) -> Result<(), AllocError>
-    ensures { OnOk result ((place : Option ℕ) → author.now ≡ option_map processor_number place
+    ensures text { OnOk result ((place : Option ℕ) → author.now ≡ option_map processor_number place
         → text.new.items ≡ text.old.items ++ line_by c number event.now place) }
+    ensures fits { OnOk result ((place : Option ℕ) → author.now ≡ option_map processor_number place → IfSome (told_by number event.now place) FitsItsLine) }
 {
     match author {
         Some(author) => push_numbered_event(text, c, number as u64, *author, *event),
@@ -104,7 +112,8 @@ fn push_workers<A: Allocator>(
     workers: &[Worker<A>],
     named: &[bool; PROCESSORS],
 ) -> Result<(), AllocError>
-    ensures { OnOk result (text.new.items ≡ text.old.items ++ each_below NUMBERS (named_worker_line named.now workers.now)) }
+    ensures text { OnOk result (text.new.items ≡ text.old.items ++ each_below NUMBERS (named_worker_line named.now workers.now)) }
+    ensures fits { OnOk result ((n : ℕ) → IsTrue (is_named named.now n) → IfSome (option_map shown_end (slice_get workers.now (processor_index n))) FitsItsEnd) }
 {
     for number in 0..NUMBERS {
         push_named_worker(text, workers, named, number)?;
@@ -118,7 +127,8 @@ fn push_named_worker<A: Allocator>(
     named: &[bool; PROCESSORS],
     number: u8,
 ) -> Result<(), AllocError>
-    ensures { OnOk result (text.new.items ≡ text.old.items ++ named_worker_line named.now workers.now number) }
+    ensures text { OnOk result (text.new.items ≡ text.old.items ++ named_worker_line named.now workers.now number) }
+    ensures fits { OnOk result (IsTrue (is_named named.now number) → IfSome (option_map shown_end (slice_get workers.now (processor_index number))) FitsItsEnd) }
 {
     match PpNo::new(number) {
         Some(n) if named[n.index()] => match workers.get(n.index()) {
@@ -133,7 +143,8 @@ fn push_channels<A: Allocator>(
     text: &mut Vec<u8, A>,
     channels: &[Channel<A>; CHANNELS],
 ) -> Result<(), AllocError>
-    ensures { OnOk result (text.new.items ≡ text.old.items ++ each_below NUMBERS (used_channel_line channels.now)) }
+    ensures text { OnOk result (text.new.items ≡ text.old.items ++ each_below NUMBERS (used_channel_line channels.now)) }
+    ensures fits { OnOk result ((c : ℕ) → IsTrue (names_channel c) → IsListed (history_on c channels.now)) }
 {
     for number in 0..NUMBERS {
         push_used_channel(text, channels, number)?;
@@ -146,7 +157,8 @@ fn push_used_channel<A: Allocator>(
     channels: &[Channel<A>; CHANNELS],
     number: u8,
 ) -> Result<(), AllocError>
-    ensures { OnOk result (text.new.items ≡ text.old.items ++ used_channel_line channels.now number) }
+    ensures text { OnOk result (text.new.items ≡ text.old.items ++ used_channel_line channels.now number) }
+    ensures fits { OnOk result (IsTrue (names_channel number) → IsListed (history_on number channels.now)) }
 {
     match ChannelNo::new(number) {
         Some(c) => push_channel(text, c, channel_of(channels, c)),

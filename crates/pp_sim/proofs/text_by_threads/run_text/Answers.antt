@@ -19,7 +19,12 @@ pub returns-in-Ok-printed_report-clause-ok : goal.returns-in-Ok-printed_report-c
 returns-in-Ok-printed_report-clause-ok g c = record {
   deck = _;
   meant = c.in_ok-loaded.ensures.ok;
-  run = (_, c.in-Ok.ensures, c.in-Ok-printed_report.ensures);
+  run = record {
+    report = _;
+    run = c.in-Ok.ensures;
+    told = c.in-Ok-printed_report.ensures.text;
+    fits = c.in-Ok-printed_report.ensures.fits;
+  };
 }
 
 pub run_threads-requires-sync-G : goal.run_threads-requires-sync-G

@@ -1,7 +1,12 @@
-use Rattle.std.proofs.Common.{◌≡◌, ◌++◌}
-use Rattle.pp_text.specs.PrintedText.{each_below}
+use Rattle.std.proofs.Common.{◌≡◌, ℕ, ◌++◌, ◌<◌}
+use Rattle.std.specs.Prelude.{IfSome, IsTrue, option_map, slice_get}
+use Rattle.pp_machine.specs.ProcessorNumber.{processor_index}
+use Rattle.pp_text.specs.PrintedText.{each_below, is_named}
 use Rattle.pp_text.specs.PrintedReport.{named_worker_line}
+use Rattle.pp_text.specs.ReportLaw.{FitsItsEnd, shown_end}
 use Rattle.pp_text.proofs.report_text.push_workers.Given as goal
 
 abbrev pub invariant-loop-number : goal.invariant-loop-number
-invariant-loop-number g l = l.text.items ≡ l.fn.text.items ++ each_below l.number (named_worker_line l.named l.workers)
+invariant-loop-number g l =
+    (l.text.items ≡ l.fn.text.items ++ each_below l.number (named_worker_line l.named l.workers))
+    × ((n : ℕ) → n < l.number → IsTrue (is_named l.named n) → IfSome (option_map shown_end (slice_get l.workers (processor_index n))) FitsItsEnd)
