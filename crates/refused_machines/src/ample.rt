@@ -1,5 +1,5 @@
 //! Central memories of every kind of size, and late events, over an allocator that counts the requests and
-//! refuses none: so none may be out of memory.
+//! refuses none: so none may be out of memory. And the numbers of the faults.
 
 use pp_machine::{Central, CentralFault, Machine};
 use pp_word::{Word18, Word60};
@@ -36,6 +36,25 @@ fn sizes(rt: HostRuntime) -> Result<(), Fail> {
     }
     assert!(rt; heap.asked() > 8, "words are asked for");
     Ok(())
+}
+
+/// The number of the fault where a central memory of this size is asked for, and this request is refused.
+fn fault_number(heap: &Rationed<Global>, size: u32, number: u64) -> Option<u8> {
+    heap.refuse(number);
+    Central::new(heap, size).err().map(|fault| fault as u8)
+}
+
+#[test]
+fn numbers_of_faults(rt: HostRuntime) {
+    let heap = Rationed::new(rt.alloc());
+    for (size, number, fault) in [
+        (0o41, 0, None),
+        (0o41, 1, Some(1)),
+        (0, 0, Some(2)),
+        (0o400_001, 0, Some(2)),
+    ] {
+        assert_eq!(rt; fault_number(&heap, size, number), fault, "{size}");
+    }
 }
 
 /// PP 0 counts down from 177777 (octal), and then makes a function code on channel 3 and stops.
