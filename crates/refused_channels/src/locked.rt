@@ -99,7 +99,8 @@ fn locked_without_event_asks_for_nothing(rt: HostRuntime) -> Result<(), Fail> {
     Ok(())
 }
 
-/// A channel comes out of its lock as it was left: here within a session, with a word that nobody took.
+/// A channel comes out of its lock as it was left: here within a session, with a word that nobody
+/// took.
 #[test]
 fn a_session_behind_a_lock_goes_on(rt: HostRuntime) -> Result<(), Fail> {
     let heap = Rationed::new(rt.alloc());

@@ -1,5 +1,5 @@
-//! Central memories of every kind of size, and late events, over an allocator that counts the requests and
-//! refuses none: so none may be out of memory. And the numbers of the faults.
+//! Central memories of every kind of size, and late events, over an allocator that counts the
+//! requests and refuses none: so none may be out of memory. And the numbers of the faults.
 
 use pp_machine::{Central, CentralFault, Machine};
 use pp_word::{Word18, Word60};
@@ -38,7 +38,8 @@ fn sizes(rt: HostRuntime) -> Result<(), Fail> {
     Ok(())
 }
 
-/// The number of the fault where a central memory of this size is asked for, and this request is refused.
+/// The number of the fault where a central memory of this size is asked for, and this request is
+/// refused.
 fn fault_number(heap: &Rationed<Global>, size: u32, number: u64) -> Option<u8> {
     heap.refuse(number);
     Central::new(heap, size).err().map(|fault| fault as u8)

@@ -1,5 +1,5 @@
-//! Long runs and decks of odd sizes over an allocator that counts the requests and refuses none: so none
-//! may be out of memory.
+//! Long runs and decks of odd sizes over an allocator that counts the requests and refuses none: so
+//! none may be out of memory.
 
 use pp_runner::Limits;
 use pp_sim::{DeckFault, barrel_text, read_deck, threads_text};
@@ -49,8 +49,9 @@ fn largest_central_memory_by_threads(rt: HostRuntime) -> Result<(), Fail> {
     Ok(())
 }
 
-/// PP 0 and PP 1 make function codes on channel 5 as fast as they can, 63 of them and a jump back. The channel
-/// is inactive, so neither waits for the other, and the number of events is the same in every schedule.
+/// PP 0 and PP 1 make function codes on channel 5 as fast as they can, 63 of them and a jump back.
+/// The channel is inactive, so neither waits for the other, and the number of events is the same in
+/// every schedule.
 fn deck_of_functions(alloc: Global) -> Result<String, Fail> {
     let mut deck = String::new(alloc);
     for section in ["PP 0\n0100", "PP 1\n0100"] {

@@ -195,8 +195,8 @@ fn locked_central_refused(rt: HostRuntime) -> Result<(), Fail> {
     panic!(rt; "a request is refused in each run")
 }
 
-/// The calls between two threads' steps take no memory: the size and the words at the last address and
-/// behind it.
+/// The calls between two threads' steps take no memory: the size and the words at the last address
+/// and behind it.
 #[test]
 fn locked_central_asks_for_nothing(rt: HostRuntime) -> Result<(), Fail> {
     let heap = Rationed::new(rt.alloc());
