@@ -3,39 +3,39 @@
 use pp_sim::barrel_text;
 use std::test::Fail;
 
-/// Five pairs on channels 0 to 4: one puts 98,304 words (decimal), the other takes them.
+/// Five pairs on channels 0 to 4: one puts 99,968 words (decimal), the other takes them.
 const FRONT: &str = "\
 CENTRAL 400000
 CM 377777 77777777777777777777
 PP 0
-0100 7400 2030 0000 7300 0000 0300
+0100 7400 2030 3200 7300 0000 0300
 START 0100
 PP 1
-0100 7000 2027 7777 7100 0001 0300
+0100 7000 2030 3177 7100 0001 0300
 START 0100
 PP 2
-0100 7401 2030 0000 7301 0000 0300
+0100 7401 2030 3200 7301 0000 0300
 START 0100
 PP 3
-0100 7001 2027 7777 7101 0001 0300
+0100 7001 2030 3177 7101 0001 0300
 START 0100
 PP 4
-0100 7402 2030 0000 7302 0000 0300
+0100 7402 2030 3200 7302 0000 0300
 START 0100
 PP 5
-0100 7002 2027 7777 7102 0001 0300
+0100 7002 2030 3177 7102 0001 0300
 START 0100
 PP 6
-0100 7403 2030 0000 7303 0000 0300
+0100 7403 2030 3200 7303 0000 0300
 START 0100
 PP 7
-0100 7003 2027 7777 7103 0001 0300
+0100 7003 2030 3177 7103 0001 0300
 START 0100
 PP 10
-0100 7404 2030 0000 7304 0000 0300
+0100 7404 2030 3200 7304 0000 0300
 START 0100
 PP 11
-0100 7004 2027 7777 7104 0001 0300
+0100 7004 2030 3177 7104 0001 0300
 START 0100
 * A comment fills the deck: ";
 
@@ -77,7 +77,7 @@ fn everything_at_its_limit(rt: HostRuntime) -> Result<(), Fail> {
     barrel_text(rt.alloc(), &mut reader, &mut text, 999_999)?;
     assert!(rt; text.ends_with(END.as_bytes()));
     // Each pair makes one Activate and passes its words.
-    let events = 5 * PLAIN + 5 * 2 * 98_304 * WITH_WORD;
+    let events = 5 * PLAIN + 5 * 2 * 99_968 * WITH_WORD;
     assert_eq!(rt; text.len(), events + END.len());
     Ok(())
 }

@@ -29,7 +29,8 @@ fn number_of(matches: &ArgMatches<'_>, id: &str) -> Option<u32>
     }
 }
 
-/// The limits of two numbers, if they are in range. The ranges that the help tells are those of `Limits`.
+/// The limits of two numbers, if they are in range. The ranges that the help tells are those of
+/// `Limits`.
 fn limits_of(steps: u32, patience: u32) -> Option<Limits>
     ensures exists { IsSome result ↔ AreLimits (record { steps = steps; patience = patience }) }
     ensures value { IfSome result (λ l. l ≡ record { steps = steps; patience = patience }) }

@@ -163,3 +163,35 @@ fn close_refused(rt: HostRuntime) -> Result<(), Fail> {
     }
     panic!(rt; "a request is refused in each run")
 }
+
+/// Every operation, one of them held, and then `keep`.
+fn act_and_keep<A: Allocator + Copy>(line: &mut Line<A>, channel: ChannelNo) -> Result<(), Fail> {
+    for op in [
+        ChanOp::Function(word(0o12)),
+        ChanOp::Activate,
+        ChanOp::Put(word(1)),
+        ChanOp::Probe,
+        ChanOp::Put(word(2)),
+        ChanOp::Take,
+        ChanOp::Disconnect,
+    ] {
+        act(line, channel, op)?;
+    }
+    line.keep();
+    Ok(())
+}
+
+#[test]
+fn a_line_asks_for_nothing(rt: HostRuntime) -> Result<(), Fail> {
+    let five = channel(5)?;
+    let heap = Rationed::new(rt.alloc());
+    let mut line = open_lines(&heap, 8, 2)?;
+    heap.refuse(1);
+    act_and_keep(&mut line, five)?;
+    // Five events, and the look of the held Put in the place of the probe's.
+    assert_eq!(rt; (line.log().len(), line.room()), (6, 2));
+    assert_eq!(rt; (line.seen(five), line.kept()), (5, true));
+    assert_eq!(rt; (line.shares(), line.whole()), (2, 2));
+    assert_eq!(rt; heap.asked(), 0);
+    Ok(())
+}

@@ -1,12 +1,12 @@
 //! A channel behind a lock whose growths are refused.
 
-use pp_channel::{ChanOp, Channel, Locked, Memory, Reply};
+use pp_channel::{ChanOp, Channel, Event, Locked, Memory, Reply};
 use rationed::Rationed;
 use std::alloc::{Allocator, Global};
 use std::process::Abort;
 use std::sync::Wait;
 use std::test::Fail;
-use test_bench::{INACTIVE, numbered, word};
+use test_bench::{FULL, INACTIVE, numbered, word};
 
 /// The same operations behind the lock and on a channel in ample memory, which answer the same, until
 /// a request is refused. Gives how many were made.
@@ -96,5 +96,33 @@ fn locked_without_event_asks_for_nothing(rt: HostRuntime) -> Result<(), Fail> {
     }
     assert_eq!(rt; locked.into_inner().history().len(), 0);
     assert_eq!(rt; heap.asked(), 0);
+    Ok(())
+}
+
+/// A channel comes out of its lock as it was left: here within a session, with a word that nobody
+/// took.
+#[test]
+fn a_session_behind_a_lock_goes_on(rt: HostRuntime) -> Result<(), Fail> {
+    let heap = Rationed::new(rt.alloc());
+    let locked = Locked::new(Channel::new(&heap));
+    assert_eq!(rt;
+        locked.act(&rt, ChanOp::Activate)?,
+        numbered(Reply::Done, 0)
+    );
+    let five = word(5);
+    assert_eq!(rt;
+        locked.act(&rt, ChanOp::Put(five))?,
+        numbered(Reply::Done, 1)
+    );
+    heap.refuse(1);
+    let mut channel = locked.into_inner();
+    assert_eq!(rt; (channel.flags(), channel.waiting()), (FULL, Some(five)));
+    assert_eq!(rt;
+        channel.history(),
+        [Event::Activate, Event::Put(five)].as_slice()
+    );
+    assert_eq!(rt; heap.asked(), 0);
+    heap.refuse(0);
+    assert_eq!(rt; channel.act(ChanOp::Take)?, Reply::Word(five));
     Ok(())
 }

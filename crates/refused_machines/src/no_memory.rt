@@ -75,6 +75,7 @@ fn machine_asks_for_nothing(rt: HostRuntime) -> Result<(), Fail> {
     assert!(rt; machine.write_central(Word18::truncated(5), words));
     assert!(rt; machine.write_central(Word18::truncated(6), others));
     assert!(rt; !machine.write_central(Word18::truncated(7), others));
+    put_words(machine.pp_mut(one), 0o7000, &[1]);
     machine.run_barrel(60)?;
     machine.run_turns(&[one, zero])?;
     assert_eq!(rt; machine.step(one)?, Outcome::Held);

@@ -3,6 +3,8 @@
 #![tactic(auto)]
 
 #[cfg(test)]
+mod ample;
+#[cfg(test)]
 mod deck;
 #[cfg(test)]
 mod texts;

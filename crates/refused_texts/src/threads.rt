@@ -6,6 +6,7 @@ use pp_channel::{CHANNELS, Channel, ChannelNo};
 use pp_machine::{Central, Machine, Pp};
 use pp_runner::{End, Gate, Limits, LockedCentral, NoGate, Report, run_threads};
 use pp_sim::{TextFault, read_deck, threads_text};
+use pp_word::{Word18, Word60};
 use rationed::Rationed;
 use std::alloc::{Allocator, Global};
 use std::process::Abort;
@@ -192,4 +193,25 @@ fn locked_central_refused(rt: HostRuntime) -> Result<(), Fail> {
         assert_eq!(rt; size, None, "request {number}");
     }
     panic!(rt; "a request is refused in each run")
+}
+
+/// The calls between two threads' steps take no memory: the size and the words at the last address
+/// and behind it.
+#[test]
+fn locked_central_asks_for_nothing(rt: HostRuntime) -> Result<(), Fail> {
+    let heap = Rationed::new(rt.alloc());
+    let central = Central::new(&heap, 0o41)?;
+    let locked = LockedCentral::new(&heap, &central)?;
+    heap.refuse(1);
+    let (last, behind) = (Word18::truncated(0o40), Word18::truncated(0o41));
+    let word = Word60::truncated(5);
+    assert!(rt; locked.write(&rt, last, word));
+    assert!(rt; !locked.write(&rt, behind, word));
+    assert_eq!(rt; locked.read(&rt, last), Some(word));
+    assert_eq!(rt; locked.read(&rt, behind), None);
+    let limits = Limits::new(5, 6).map(|limits| (limits.steps(), limits.patience()));
+    assert_eq!(rt; (locked.size(), limits), (0o41, Some((5, 6))));
+    NoGate.pass(first(), 0);
+    assert_eq!(rt; heap.asked(), 0);
+    Ok(())
 }

@@ -80,7 +80,8 @@ fn words_of_threads(rt: HostRuntime) {
     }
 }
 
-/// Command lines of seven words and more, and the steps and the patience that they give, if they are taken.
+/// Command lines of seven words and more, and the steps and the patience that they give, if they
+/// are taken.
 const LONGER: [(&[&str], Option<(u32, u32)>); 5] = [
     (
         &["ppsim", "threads", "--steps", "5", "--patience", "6", "--"],

@@ -39,8 +39,8 @@ fn whole_run(rt: HostRuntime) {
     assert_eq!(rt; ended, (0, true, true, true));
 }
 
-/// A deck, whether its reader gives an error at its end, the status, and what stands on the standard
-/// error; nothing stands on the output.
+/// A deck, whether its reader gives an error at its end, the status, and what stands on the
+/// standard error; nothing stands on the output.
 const TOLD: [(&str, bool, u8, &str); 2] = [
     ("PP 12", false, 1, "ppsim: deck fault 5 at line 1\n"),
     ("PP 0\n0", true, 3, "ppsim: read fault\n"),
@@ -67,8 +67,8 @@ const FAILURES: [(usize, Failure); 3] = [
     (10_000, Failure::Flush),
 ];
 
-/// What came of a run whose output fails: the status, whether its standard error tells so, and how often the
-/// output failed.
+/// What came of a run whose output fails: the status, whether its standard error tells so, and how
+/// often the output failed.
 fn onto<R: AllocGlobal + Threads + Wait + Sync>(
     rt: &R,
     words: &[&str],

@@ -1,0 +1,78 @@
+//! Central memories of every kind of size, and late events, over an allocator that counts the
+//! requests and refuses none: so none may be out of memory. And the numbers of the faults.
+
+use pp_machine::{Central, CentralFault, Machine};
+use pp_word::{Word18, Word60};
+use rationed::Rationed;
+use std::alloc::{Allocator, Global};
+use std::test::Fail;
+use test_bench::{Pair, first};
+
+/// Whether the last word of a central memory holds what is put there, and none stands behind it.
+fn holds_its_last_word<A: Allocator>(central: &mut Central<A>, size: u32) -> bool {
+    let (last, behind) = (
+        Word18::truncated(size.wrapping_sub(1)),
+        Word18::truncated(size),
+    );
+    let word = Word60::truncated(u64::from(size));
+    central.size() == size
+        && central.write(last, word)
+        && central.read(last) == Some(word)
+        && central.read(behind).is_none()
+}
+
+/// The size of the central memory of a new machine.
+fn size_of_machine(heap: &Rationed<Global>, size: u32) -> Result<u32, CentralFault> {
+    Ok(Machine::new(heap, size)?.central().size())
+}
+
+#[test]
+fn sizes(rt: HostRuntime) -> Result<(), Fail> {
+    let heap = Rationed::new(rt.alloc());
+    for size in [1, 2, 0o7777, 0o10000, 0o10001, 0o12345, 12_345, 0o400_000] {
+        let mut central = Central::new(&heap, size)?;
+        assert!(rt; holds_its_last_word(&mut central, size), "{size}");
+        assert_eq!(rt; size_of_machine(&heap, size), Ok(size));
+    }
+    assert!(rt; heap.asked() > 8, "words are asked for");
+    Ok(())
+}
+
+/// The number of the fault where a central memory of this size is asked for, and this request is
+/// refused.
+fn fault_number(heap: &Rationed<Global>, size: u32, number: u64) -> Option<u8> {
+    heap.refuse(number);
+    Central::new(heap, size).err().map(|fault| fault as u8)
+}
+
+#[test]
+fn numbers_of_faults(rt: HostRuntime) {
+    let heap = Rationed::new(rt.alloc());
+    for (size, number, fault) in [
+        (0o41, 0, None),
+        (0o41, 1, Some(1)),
+        (0, 0, Some(2)),
+        (0o400_001, 0, Some(2)),
+    ] {
+        assert_eq!(rt; fault_number(&heap, size, number), fault, "{size}");
+    }
+}
+
+/// PP 0 counts down from 177777 (octal), and then makes a function code on channel 3 and stops.
+const LATE: Pair = Pair {
+    zero: &[0o2017, 0o7777, 0o1701, 0o0576, 0o7603, 0o0300],
+    one: &[],
+};
+
+#[test]
+fn a_late_event(rt: HostRuntime) -> Result<(), Fail> {
+    let heap = Rationed::new(rt.alloc());
+    let mut machine = LATE.machine(&heap)?;
+    machine.run_barrel(1_400_000)?;
+    // One step loads A, and two go with each number from 177777 down to 1.
+    let turn = machine.events().first().map(|entry| entry.turn);
+    assert_eq!(rt; turn, Some(10 * (1 + 2 * 65_535)));
+    assert_eq!(rt; machine.pp(first()).p().get(), 0o105);
+    assert!(rt; heap.asked() > 0);
+    Ok(())
+}
