@@ -28,8 +28,8 @@ pub(crate) fn loaded(alloc: Global, deck: &str) -> Result<Machine<Global>, Fail>
     quiet(read_deck(alloc, deck.as_bytes())?.machine)
 }
 
-/// Each processor loads a number, counts it down to 0 in two steps each, and stops: PP 0 begins at 500,
-/// and each other at one more than the one before it (decimal).
+/// Each processor loads a number, counts it down to 0 in two steps each, and stops: PP 0 begins at
+/// 500, and each other at one more than the one before it (decimal).
 pub(crate) fn counting(alloc: Global) -> Result<Machine<Global>, Fail>
     ensures { IfOk result (λ machine. machine.trace ≡ []) }
 {

@@ -42,8 +42,8 @@ impl Gate for Tally {
     }
 }
 
-/// Each processor passes the gate before each of its tries, with its own number. None is ever held, so
-/// a patience of 1 is enough.
+/// Each processor passes the gate before each of its tries, with its own number. None is ever held,
+/// so a patience of 1 is enough.
 #[test]
 fn tries_of_all_ten(rt: HostRuntime) -> Result<(), Fail> {
     let gate = Tally::new();
@@ -87,7 +87,7 @@ PP 1
 START 0200
 ";
 
-/// Each word is put after all tries to take it but the last that patience allows, and before that one.
+/// Each word is put after all tries to take it but the last that patience allows, and before that.
 #[derive(Drop)]
 struct LastTry {
     last_tries: [u64; 3],
