@@ -6,3 +6,5 @@
 mod flags;
 #[cfg(test)]
 mod local;
+#[cfg(test)]
+mod outside;

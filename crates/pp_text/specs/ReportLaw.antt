@@ -69,7 +69,7 @@ pub record FitsItsReport {Z : Type 0} (named : List Bool) (report : Report Z) : 
   pub workers : (n : ℕ) → IsTrue (is_named named n) → IfSome (end_of n report) FitsItsEnd
   pub channels : (c : ℕ) → IsTrue (names_channel c) → IsListed (history_on c report.channels)
 
--- The same events on each channel, each with its number and its author; the same end of each processor named; and of
+-- The same events on each channel, each with its number and its author; the same said of each processor named; and of
 -- each channel whether anything has happened, whether it is active, and the word that waits.
 pub record AgreeOnReport {Y Z : Type 0} (named : List Bool) (one : Report Y) (other : Report Z) : Type 0 where
   pub events : (c : ℕ) → IsTrue (names_channel c) → told_of c one ≡ told_of c other

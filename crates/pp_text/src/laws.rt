@@ -32,9 +32,9 @@ pub fn text_law()
 {}
 
 /// The text of a run by threads is its report: two reports with one text agree on the events of each
-/// channel that have an author, each with its number and its author, on the end of each processor named,
-/// and on what is shown of each channel. Where the logs of both merge over the same opening histories,
-/// the histories are the same too.
+/// channel that have an author, each with its number and its author, on what is said of each processor
+/// named and of its end, and on what is shown of each channel. Where the logs of both merge over the same
+/// opening histories, the histories are the same too.
 pub fn report_law<A: Allocator>()
     ensures text { (named : List Bool) (one other : Report A) → FitsItsReport named one → FitsItsReport named other → printed_report named one ≡ printed_report named other → AgreeOnReport named one other }
     ensures histories { (opening : ℕ → List Event) (one other : Report A) (c : ℕ) → Merges opening one.channels (logs_of one.ends.items) → Merges opening other.channels (logs_of other.ends.items)

@@ -137,7 +137,7 @@ const HELP: [(&[&str], &str); 9] = [
 fn help_that_was_asked_for(rt: HostRuntime) {
     for (words, text) in HELP {
         let ended = ending(&rt, words, handoff(), text, "");
-        assert_eq!(rt; ended, (0, true, true, false), "{text}");
+        assert_eq!(rt; ended, (0, true, true, 0), "{text}");
     }
 }
 

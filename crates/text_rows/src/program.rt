@@ -7,8 +7,8 @@ use std::thread::Threads;
 use test_bench::{Failure, HANDOFF, HANDOFF_TEXT, Sink, Source, WORDS_OF_A_RUN};
 
 /// What came of a run: its status, whether its output and its standard error are as they have to be,
-/// and whether it read the deck.
-pub(crate) type Ending = (u8, bool, bool, bool);
+/// and how often it asked the reader.
+pub(crate) type Ending = (u8, bool, bool, u32);
 
 /// Runs the program on a deck that comes byte by byte, and then ends or gives an error.
 pub(crate) fn ending<R: AllocGlobal + Threads + Wait + Sync>(
@@ -25,7 +25,7 @@ pub(crate) fn ending<R: AllocGlobal + Threads + Wait + Sync>(
         status,
         written.as_slice() == output.as_bytes(),
         told.as_slice() == error.as_bytes(),
-        input.calls() > 0,
+        input.calls(),
     )
 }
 
@@ -36,7 +36,8 @@ pub(crate) fn handoff() -> Source<'static> {
 #[test]
 fn whole_run(rt: HostRuntime) {
     let ended = ending(&rt, &WORDS_OF_A_RUN, handoff(), HANDOFF_TEXT, "");
-    assert_eq!(rt; ended, (0, true, true, true));
+    // Each byte of the deck, and its end, once.
+    assert_eq!(rt; ended, (0, true, true, HANDOFF.len() as u32 + 1));
 }
 
 /// A deck, whether its reader gives an error at its end, the status, and what stands on the
@@ -56,7 +57,8 @@ fn told_on_the_error(rt: HostRuntime) {
         };
         let input = Source::new(deck.as_bytes(), 1, failure);
         let ended = ending(&rt, &WORDS_OF_A_RUN, input, "", text);
-        assert_eq!(rt; ended, (status, true, true, true), "{text}");
+        let calls = deck.len() as u32 + 1;
+        assert_eq!(rt; ended, (status, true, true, calls), "{text}");
     }
 }
 

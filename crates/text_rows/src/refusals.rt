@@ -163,6 +163,6 @@ For more information, try '--help'.
 fn refused_words(rt: HostRuntime) {
     for (words, text) in REFUSED {
         let ended = ending(&rt, words, handoff(), "", text);
-        assert_eq!(rt; ended, (2, true, true, false), "{text}");
+        assert_eq!(rt; ended, (2, true, true, 0), "{text}");
     }
 }

@@ -64,7 +64,7 @@ const IN_VAIN: &str = "PP 0\n0100 7405 2600\nSTART 0100\nPP 1\n0200 7005 0300\nS
 
 #[test]
 fn patience(rt: HostRuntime) -> Result<(), Fail> {
-    for patience in [1, 2, 50, 20_011] {
+    for patience in [1, 2, 50, 20_011, 1_000_001] {
         let gate = Tally::new();
         let machine = loaded(rt.alloc(), IN_VAIN)?;
         let limits = Limits::new(100, patience).ok_or("no limits")?;
