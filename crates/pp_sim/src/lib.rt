@@ -3,6 +3,7 @@
 
 mod command;
 mod command_words;
+mod entry;
 mod laws;
 mod line_fault;
 mod loaded_deck;
@@ -16,6 +17,7 @@ mod text_fault;
 mod work;
 
 pub use command_words::read_words;
+pub use entry::run_main;
 pub use laws::{barrel_text_law, threads_text_law};
 pub use line_fault::LineFault;
 pub use numeral::numeral_law;

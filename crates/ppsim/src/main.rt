@@ -2,7 +2,7 @@
 //! deck from standard input, runs it, and prints the text of the run.
 #![tactic(auto)]
 
-use pp_main::run_main;
+use pp_sim::run_main;
 use std::process::ExitCode;
 
 fn main(rt: HostRuntime) -> ExitCode {

@@ -1,7 +1,7 @@
 //! The program with a word that is not UTF-8: status 2, and nothing on the output.
 #![tactic(auto)]
 
-use pp_main::run_main;
+use pp_sim::run_main;
 use std::process::ExitCode;
 
 fn main(rt: HostRuntime) -> ExitCode {

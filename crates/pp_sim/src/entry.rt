@@ -1,8 +1,7 @@
 //! What the program does from its words to its exit status. It stands in a library, so that several
 //! programs with other words, decks and statuses can be run on it.
-#![tactic(auto)]
 
-use pp_sim::run_program;
+use crate::program::run_program;
 use std::alloc::{AllocError, Global};
 use std::env::Env;
 use std::io::{ErrorKind, Read, Write};
