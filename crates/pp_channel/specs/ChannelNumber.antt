@@ -2,22 +2,23 @@
 -- its place are two things: proofs know of them what the lemmas of ChannelPlaces say.
 --
 -- Control Data 6400/6500/6600 Computer Systems Reference Manual, publication 60100000, part on
--- peripheral and control processors: twelve data channels, numbered 0 to 13 (octal).
-use Rattle.std.specs.Prelude.{ℕ, Bool, nat_lt}
+-- peripheral and control processors: twelve data channels, numbered 0 to 13 (octal). A machine of twenty
+-- peripheral processors has twelve more, numbered 20 to 33.
+use Rattle.std.specs.Prelude.{ℕ, ◌+◌, ◌-◌, ◌&&◌, ◌||◌, Bool, nat_lt, if◌then◌else◌}
 
 -- how many channels there are
 abbrev pub channel_count : ℕ
-channel_count = 0o14
+channel_count = 0o30
 
 -- whether a number is that of a channel
 unfoldable pub names_channel : ℕ → Bool
-names_channel number = nat_lt number channel_count
+names_channel number = nat_lt number 0o14 || (nat_lt 0o17 number && nat_lt number 0o34)
 
 -- the place of the channel with this number in a list of all channels; past its end for a number that
 -- names none
 unfoldable pub channel_index : ℕ → ℕ
-channel_index number = number
+channel_index number = if nat_lt number 0o14 then number else if nat_lt number 0o20 then channel_count else number - 4
 
 -- the number of the channel at a place of that list
 unfoldable pub channel_number : ℕ → ℕ
-channel_number place = place
+channel_number place = if nat_lt place 0o14 then place else place + 4

@@ -5,10 +5,10 @@ ghost use Rattle.pp_channel.specs.ChannelNumber.{channel_count, names_channel, c
 
 use std::marker::Model;
 
-/// How many data channels the machine has (decimal).
-pub const CHANNELS: usize = 12;
+/// How many data channels the greater machine has (decimal).
+pub const CHANNELS: usize = 24;
 
-/// The number of a data channel, 0 to 13 (octal). Contracts see it as that number.
+/// The number of a data channel, 0 to 13 or 20 to 33 (octal). Contracts see it as that number.
 #[derive(Clone, Copy, Debug, PartialEq, Eq)]
 pub struct ChannelNo {
     number: u8,
@@ -28,13 +28,13 @@ impl ChannelNo {
     /// The first channel.
     pub(crate) const FIRST: ChannelNo = ChannelNo { number: 0 };
 
-    /// The channel of this number, or nothing from 14 (octal) on.
+    /// The channel of this number, or nothing from 14 to 17 (octal) and from 34 on.
     #[tactic(auto, unfolding(crate::specs::ChannelNumber::names_channel))]
     pub fn new(number: u8) -> Option<Self>
         ensures exists { IsSome result ↔ IsTrue (names_channel number) }
         ensures value { IfSome result (λ c. c ≡ number) }
     {
-        if usize::from(number) < CHANNELS {
+        if matches!(number, 0..=0o13 | 0o20..=0o33) {
             Some(ChannelNo { number })
         } else {
             None
@@ -57,7 +57,12 @@ impl ChannelNo {
         // No other channel has this place.
         ensures own { (n : ℕ) → IsTrue (names_channel n) → channel_index n ≡ result → n ≡ self }
     {
-        usize::from(self.number)
+        let number = usize::from(self.number);
+        if number < 0o14 {
+            number
+        } else {
+            number - 4
+        }
     }
 
     /// The channel at a place of that list.
@@ -67,8 +72,11 @@ impl ChannelNo {
         ensures number { result ≡ channel_number place }
         ensures place { channel_index result ≡ place }
     {
-        ChannelNo {
-            number: place as u8,
-        }
+        let number = if place < 0o14 {
+            place as u8
+        } else {
+            place as u8 + 4
+        };
+        ChannelNo { number }
     }
 }

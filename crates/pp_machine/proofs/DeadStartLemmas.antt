@@ -17,7 +17,7 @@ use Rattle.pp_machine.specs.DeadStart.{IsBeforeFirstTurn, waiting_on, waits, pro
 use Rattle.pp_machine.specs.Headline.{HoldsOnChannel, HoldsOnEachChannel, events_on, opening_history}
 use Rattle.pp_machine.specs.MachineInvariant.{IsMachine}
 use Rattle.pp_machine.specs.MachineState.{MachineState, processor_of, history_of, is_opened}
-use Rattle.pp_machine.specs.Processor.{Processor, new_processor}
+use Rattle.pp_machine.specs.Processor.{Processor, no_processor}
 use Rattle.pp_machine.proofs.ProcessorPlaces as processor_places
 use Rattle.pp_machine.specs.ProcessorNumber.{names_processor, processor_count, processor_index, processor_number}
 
@@ -83,7 +83,7 @@ unfolding processors_started histories_started opened_where
 none_started m before is =
     let none : (λ (c : ℕ). waits [] c) ≡ (λ c. false) = λ i c. none_waits c i in
     let processors : m.processors ≡ map (λ place. processor_of (processor_number place) m) (range_with_len 0 processor_count) =
-    fill_by_all (λ place. processor_of (processor_number place) m) m.processors processor_count new_processor is.processors (λ k l. ap (λ i. get_or m.processors i new_processor) (sym (processor_places.place_of_number k l))) in
+    fill_by_all (λ place. processor_of (processor_number place) m) m.processors processor_count no_processor is.processors (λ k l. ap (λ i. get_or m.processors i no_processor) (sym (processor_places.place_of_number k l))) in
     let histories : m.histories ≡ map (λ place. history_of (channel_number place) m) (range_with_len 0 channel_count) =
     fill_by_all (λ place. history_of (channel_number place) m) m.histories channel_count [] is.channels (λ k l. ap (λ i. get_or m.histories i []) (sym (channel_places.place_of_number k l))) in
     let opened : m.opened ≡ map (λ place. false) (range_with_len 0 channel_count) =
@@ -111,12 +111,12 @@ started_more p q m n named not_yet now same =
     let f : ℕ → Processor = λ place. processor_started p m (processor_number place) in
     let f' : ℕ → Processor = λ place. processor_started q m (processor_number place) in
     let old : processor_of n (started p m) ≡ processor_of n m =
-    get_or-map-range_with_len f 0 processor_count i i new_processor (processor_places.place_below n named) (omega arith)
+    get_or-map-range_with_len f 0 processor_count i i no_processor (processor_places.place_below n named) (omega arith)
     ∙ (ap (processor_started p m) (processor_places.number_of_place n named) ∙ ap (λ b. if b then waiting_on n (processor_of n m) else processor_of n m) not_yet) in
     let new : waiting_on n (processor_of n m) ≡ f' i =
     sym (ap (processor_started q m) (processor_places.number_of_place n named) ∙ ap (λ b. if b then waiting_on n (processor_of n m) else processor_of n m) now) in
     let processors : set (map f (range_with_len 0 processor_count)) i (waiting_on n (processor_of n (started p m))) ≡ map f' (range_with_len 0 processor_count) =
-    set_by_places f f' processor_count i (waiting_on n (processor_of n (started p m))) new_processor (processor_places.place_below n named) (ap (waiting_on n) old ∙ new)
+    set_by_places f f' processor_count i (waiting_on n (processor_of n (started p m))) no_processor (processor_places.place_below n named) (ap (waiting_on n) old ∙ new)
     (λ k l other. let apart : processor_number k ≢ n = λ is. other (sym (processor_places.place_of_number k l) ∙ ap processor_index is) in
     ap (λ b. if b then waiting_on (processor_number k) (processor_of (processor_number k) m) else processor_of (processor_number k) m) (same (processor_number k) apart)) in
     let g : ℕ → List Event = λ place. history_started p m (channel_number place) in

@@ -1,4 +1,5 @@
 pub mod ProcessorPlaces
+pub mod ProfileLemmas
 pub mod BlockLemmas
 pub mod BlockResultLemmas
 pub mod GivenLemmas

@@ -15,7 +15,7 @@ use Rattle.pp_channel.specs.declared.reply.Reply.TheVariants as replies
 use Rattle.pp_machine.specs.MachineState.{MachineState, processor_of, history_of}
 use Rattle.pp_machine.specs.MachineStep.{answer_to, counted, event_for, served, taken, stepped, step_event, step_outcome}
 use Rattle.pp_machine.specs.NeedAndEffect.{need, need_in, processor_after, outcome}
-use Rattle.pp_machine.specs.Processor.{Processor, new_processor}
+use Rattle.pp_machine.specs.Processor.{Processor, no_processor}
 use Rattle.pp_machine.specs.ProcessorNumber.{processor_index}
 use Rattle.pp_machine.specs.StepLaws.{IsAtRest, IsAtFault, IsHeldAnswer, KeepsMemoryAndRegisters}
 use Rattle.pp_machine.specs.declared.answer.Answer.TheVariants as answers
@@ -43,7 +43,7 @@ unfolding stepped
 stepped_at_rest n m rests =
     ap (λ x. taken n (answer_to x m) (served n x m)) (rest_needs_nothing (processor_of n m) rests)
     ∙ ap (λ pp. record m { processors = slice_set m.processors (processor_index n) pp; turns = counted m.turns }) (rest_changes_nothing (processor_of n m) answers.Local rests)
-    ∙ ap (λ pps. record m { processors = pps; turns = counted m.turns }) (set-get_or m.processors (processor_index n) new_processor)
+    ∙ ap (λ pps. record m { processors = pps; turns = counted m.turns }) (set-get_or m.processors (processor_index n) no_processor)
 
 pub outcome_at_rest : (n : ℕ) (m : MachineState) → IsAtRest (processor_of n m) → step_outcome n m ≡ AtRest
 unfolding step_outcome
@@ -115,7 +115,7 @@ stepped_held n m e =
     let held : IsHeldAnswer x = held_by_answer pp x e in
     ap (λ (k : MachineState). taken n x k) (served_held n (need pp) m held.0 held.1)
     ∙ ap (λ (q : Processor). record m { processors = slice_set m.processors (processor_index n) q; turns = counted m.turns }) (held_changes_nothing pp x e)
-    ∙ ap (λ (pps : List Processor). record m { processors = pps; turns = counted m.turns }) (set-get_or m.processors (processor_index n) new_processor)
+    ∙ ap (λ (pps : List Processor). record m { processors = pps; turns = counted m.turns }) (set-get_or m.processors (processor_index n) no_processor)
 
 pub held_step : {E : Type 0} (n : ℕ) (old new : MachineState) (result : Result Outcome E) → OnOk result (new ≡ stepped n old) → IfOk result (λ o. o ≡ step_outcome n old) →
     IfOk result (λ o. o ≡ Held → new ≡ record old { turns = counted old.turns })
@@ -129,7 +129,7 @@ unfolding stepped
 stepped_fault n m within running fault =
     let pp = processor_of n m in
     let x = answer_to (need pp) m in
-    let here : processor_of n (taken n x (served n (need pp) m)) ≡ processor_after pp x = get_or-set_same m.processors (processor_index n) (processor_after pp x) new_processor within in
+    let here : processor_of n (taken n x (served n (need pp) m)) ≡ processor_after pp x = get_or-set_same m.processors (processor_index n) (processor_after pp x) no_processor within in
     subst (λ (q : Processor). KeepsMemoryAndRegisters pp q) (sym here) (fault_keeps pp x running (subst (λ (q : Processor). IsAtFault q) here fault))
 
 running_is_no_fault : (pp : Processor) → pp.state ≡ Running → IsAtFault pp → ⊥

@@ -4,7 +4,7 @@ use mathlib.Core.Logic.{dite}
 use native.Mathlib.Decide.{dec_lt}
 use Rattle.std.specs.Prelude.{IsTrue}
 use Rattle.std.proofs.lemmas.Bool.{cases_eq, eq-eqb, ne_eqb}
-use Rattle.pp_machine.specs.ProcessorNumber.{processor_count, names_processor, processor_index, processor_number, processor_in_turn}
+use Rattle.pp_machine.specs.ProcessorNumber.{processor_count, names_processor, processor_index, processor_number}
 
 -- a processor's place is one of the list
 pub place_below : (n : ℕ) → IsTrue (names_processor n) → processor_index n < processor_count
@@ -49,23 +49,13 @@ number_at place n below = ⊎_elim
     (λ (other : place ≢ processor_index n). ne_eqb (processor_number place) n (λ is. other (sym (place_of_number place below) ∙ ap processor_index is)) ∙ sym (ne_eqb place (processor_index n) other))
     (cases_eq place (processor_index n))
 
--- the place of the processor whose turn it is
-pub place_in_turn : (turn : ℕ) → processor_index (processor_in_turn turn) ≡ turn % processor_count
-place_in_turn turn = place_of_number (turn % processor_count) (omega arith)
-
--- the processor of a place comes first after so many turns
-pub in_turn_at : (place : ℕ) → place < processor_count → processor_in_turn place ≡ processor_number place
-in_turn_at place below = let same : place % processor_count ≡ place = omega arith in ap processor_number same
-
 -- the barrel begins with the processor of the first place
 pub place_of_first : processor_index 0 ≡ 0
 unfolding processor_index
 place_of_first = grind (arith)
 
--- the processor whose turn comes next, after one that is not the last of the barrel, has the next place
-pub place_after : (n next : ℕ) → ((turn : ℕ) → n ≡ processor_in_turn turn → next ≡ processor_in_turn (turn + 1)) → processor_index n + 2 ≤ processor_count → processor_index next ≡ processor_index n + 1
+-- the processor that comes next, after one that is not the last, has the next place
+pub place_after : (n next : ℕ) → next ≡ processor_number ((processor_index n + 1) % processor_count) → processor_index n + 2 ≤ processor_count → processor_index next ≡ processor_index n + 1
 place_after n next is below =
-    let i : ℕ = processor_index n in
-    let here : processor_in_turn i ≡ n = in_turn_at i (omega arith) ∙ number_of_place n (named_below n (omega arith)) in
-    let within : (i + 1) % processor_count ≡ i + 1 = omega arith in
-    ap processor_index (is i (sym here)) ∙ (place_in_turn (i + 1) ∙ within)
+    let within : (processor_index n + 1) % processor_count ≡ processor_index n + 1 = omega arith in
+    ap processor_index (is ∙ ap processor_number within) ∙ place_of_number (processor_index n + 1) (omega arith)

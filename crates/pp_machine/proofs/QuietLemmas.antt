@@ -17,15 +17,19 @@ use Rattle.std.specs.Option.{option_to_list}
 use Rattle.pp_machine.specs.MachineState.{MachineState, processor_of, history_of}
 use Rattle.pp_machine.specs.MachineStep.{answer_to, counted, served, taken, stepped}
 use Rattle.pp_machine.specs.NeedAndEffect.{need, processor_after}
-use Rattle.pp_machine.specs.Processor.{Processor, new_processor}
-use Rattle.pp_machine.specs.ProcessorNumber.{processor_count, processor_index, processor_number, processor_in_turn}
+use Rattle.pp_machine.specs.Processor.{Processor, no_processor}
+use Rattle.pp_machine.specs.ProcessorNumber.{processor_count, processor_index, processor_number}
+use Rattle.pp_machine.specs.Profile.{processors_in, processor_in_turn}
 use Rattle.pp_machine.specs.Quiet.{is_none, is_quiet, step_beside, steps_beside, IsAhead, AreAhead}
+use Rattle.pp_machine.specs.Rounds.{whole_rounds}
 use Rattle.pp_machine.specs.Run.{run, barrel}
 use Rattle.pp_machine.specs.StepLaws.{IsAtRest}
 use Rattle.pp_machine.specs.declared.need.Need.{Need}
 use Rattle.pp_machine.specs.declared.need.Need.TheVariants.{Nothing, Local, Channel, Read, Write}
 use Rattle.pp_machine.specs.declared.answer.Answer.TheVariants as answers
-use Rattle.pp_machine.proofs.ProcessorPlaces.{in_turn_at, place_of_number}
+use Rattle.pp_machine.specs.declared.profile.Profile.{Profile}
+use Rattle.pp_machine.proofs.ProcessorPlaces.{place_of_number}
+use Rattle.pp_machine.proofs.ProfileLemmas.{in_turn_at, most_processors, no_rounds, next_round}
 use Rattle.pp_machine.proofs.StepLemmas.{nothing_at_rest, rest_changes_nothing}
 use Rattle.pp_machine.proofs.RoundLemmas.{barrel_rounds}
 use Rattle.pp_machine.proofs.RunLemmas.{barrel_more}
@@ -71,127 +75,123 @@ stepped_quiet n pp ps t m here quiet =
 -- the first processors of a list, each a step ahead
 abbrev stepping : ℕ → MachineState → List Processor → List Processor
 stepping zero m ps = ps
-stepping (suc place) m ps = slice_set (stepping place m ps) place (step_beside m (get_or ps place new_processor))
+stepping (suc place) m ps = slice_set (stepping place m ps) place (step_beside m (get_or ps place no_processor))
 
 length-stepping : (place : ℕ) (m : MachineState) (ps : List Processor) → length (stepping place m ps) ≡ length ps
 length-stepping zero m ps = refl
-length-stepping (suc place) m ps = length-set (stepping place m ps) place (step_beside m (get_or ps place new_processor)) ∙ length-stepping place m ps
+length-stepping (suc place) m ps = length-set (stepping place m ps) place (step_beside m (get_or ps place no_processor)) ∙ length-stepping place m ps
 
 -- those from the place on are not
-stepping_after : (place k : ℕ) (m : MachineState) (ps : List Processor) → place ≤ k → get_or (stepping place m ps) k new_processor ≡ get_or ps k new_processor
+stepping_after : (place k : ℕ) (m : MachineState) (ps : List Processor) → place ≤ k → get_or (stepping place m ps) k no_processor ≡ get_or ps k no_processor
 stepping_after zero k m ps after = refl
 stepping_after (suc place) k m ps after =
     let apart : k ≢ place = omega arith in
-    get_or-set_other (stepping place m ps) place k (step_beside m (get_or ps place new_processor)) new_processor apart
+    get_or-set_other (stepping place m ps) place k (step_beside m (get_or ps place no_processor)) no_processor apart
     ∙ stepping_after place k m ps (omega arith)
 
 -- those before it are
-stepping_before : (place k : ℕ) (m : MachineState) (ps : List Processor) → place ≤ length ps → k < place → get_or (stepping place m ps) k new_processor ≡ step_beside m (get_or ps k new_processor)
+stepping_before : (place k : ℕ) (m : MachineState) (ps : List Processor) → place ≤ length ps → k < place → get_or (stepping place m ps) k no_processor ≡ step_beside m (get_or ps k no_processor)
 stepping_before zero k m ps within before = absurd (omega arith)
 stepping_before (suc place) k m ps within before =
-    elim (eqb_tells k place) as (λ _. get_or (stepping (suc place) m ps) k new_processor ≡ step_beside m (get_or ps k new_processor)) [
+    elim (eqb_tells k place) as (λ _. get_or (stepping (suc place) m ps) k no_processor ≡ step_beside m (get_or ps k no_processor)) [
       | inl same ↦
           let inside : place < length (stepping place m ps) = omega (arith, length-stepping place m ps) in
-          rw same.1 (get_or-set_same (stepping place m ps) place (step_beside m (get_or ps place new_processor)) new_processor inside)
+          rw same.1 (get_or-set_same (stepping place m ps) place (step_beside m (get_or ps place no_processor)) no_processor inside)
       | inr apart ↦
-          get_or-set_other (stepping place m ps) place k (step_beside m (get_or ps place new_processor)) new_processor apart.1
+          get_or-set_other (stepping place m ps) place k (step_beside m (get_or ps place no_processor)) no_processor apart.1
           ∙ stepping_before place k m ps (omega arith) (omega (arith, apart.1))
     ]
 
-stepping_all : (m : MachineState) (ps : List Processor) → length ps ≡ processor_count → stepping processor_count m ps ≡ map (step_beside m) ps
-stepping_all m ps all =
-    ext_get_or new_processor (stepping processor_count m ps) (map (step_beside m) ps)
-    (length-stepping processor_count m ps ∙ sym (length-map ps (step_beside m)))
-    (λ i within.
-    let inside : i < length ps = omega (arith, length-stepping processor_count m ps) in
-    stepping_before processor_count i m ps (omega arith) (omega arith)
-    ∙ sym (get_or-map (step_beside m) ps i new_processor new_processor inside))
-
 -- the first turns of a round of quiet steps
-round_to : (place : ℕ) (m : MachineState) (ps : List Processor) (t : ℕ) → place ≤ processor_count → t ≤ 2 ^ 64 - 1
-    → ((k : ℕ) → k < processor_count → IsTrue (is_quiet (need (get_or ps k new_processor)) m))
-    → run (barrel place) (beside ps t m) ≡ beside (stepping place m ps) (min (t + place) (2 ^ 64 - 1)) m
-round_to zero m ps t within bound quiet =
+round_to : (p : Profile) (place : ℕ) (m : MachineState) (ps : List Processor) (t : ℕ) → place ≤ processors_in p → t ≤ 2 ^ 64 - 1
+    → ((k : ℕ) → k < processors_in p → IsTrue (is_quiet (need (get_or ps k no_processor)) m))
+    → run (barrel p place) (beside ps t m) ≡ beside (stepping place m ps) (min (t + place) (2 ^ 64 - 1)) m
+round_to p zero m ps t within bound quiet =
     let same : t ≡ min (t + 0) (2 ^ 64 - 1) = omega arith in
     ap (λ u. beside ps u m) same
-round_to (suc place) m ps t within bound quiet =
+round_to p (suc place) m ps t within bound quiet =
     let more : suc place ≡ place + 1 = omega arith in
     let n = processor_number place in
-    let turn : processor_in_turn place ≡ n = in_turn_at place (omega arith) in
+    let most = most_processors p in
+    let turn : processor_in_turn p place ≡ n = in_turn_at p place (omega arith) in
     let here : processor_index n ≡ place = place_of_number place (omega arith) in
     let u = min (t + place) (2 ^ 64 - 1) in
     let count : counted u ≡ min (t + suc place) (2 ^ 64 - 1) = omega arith in
-    let pp = get_or ps place new_processor in
-    ap (λ turns. run (barrel turns) (beside ps t m)) more
-    ∙ barrel_more place (beside ps t m)
-    ∙ ap (λ k. stepped k (run (barrel place) (beside ps t m))) turn
-    ∙ ap (stepped n) (round_to place m ps t (omega arith) bound quiet)
-    ∙ stepped_quiet n pp (stepping place m ps) u m (sym (ap (λ i. get_or (stepping place m ps) i new_processor) here ∙ stepping_after place place m ps (omega arith))) (quiet place (omega arith))
+    let pp = get_or ps place no_processor in
+    ap (λ turns. run (barrel p turns) (beside ps t m)) more
+    ∙ barrel_more p place (beside ps t m)
+    ∙ ap (λ k. stepped k (run (barrel p place) (beside ps t m))) turn
+    ∙ ap (stepped n) (round_to p place m ps t (omega arith) bound quiet)
+    ∙ stepped_quiet n pp (stepping place m ps) u m (sym (ap (λ i. get_or (stepping place m ps) i no_processor) here ∙ stepping_after place place m ps (omega arith))) (quiet place (omega arith))
     ∙ ap (λ i. beside (slice_set (stepping place m ps) i (step_beside m pp)) (counted u) m) here
     ∙ ap (λ v. beside (stepping (suc place) m ps) v m) count
 
-whole_round : (m : MachineState) (ps : List Processor) (t : ℕ) → length ps ≡ processor_count → t ≤ 2 ^ 64 - 1
-    → ((k : ℕ) → k < processor_count → IsTrue (is_quiet (need (get_or ps k new_processor)) m))
-    → run (barrel processor_count) (beside ps t m) ≡ beside (map (step_beside m) ps) (min (t + processor_count) (2 ^ 64 - 1)) m
-whole_round m ps t all bound quiet =
-    round_to processor_count m ps t (omega arith) bound quiet
-    ∙ ap (λ qs. beside qs (min (t + processor_count) (2 ^ 64 - 1)) m) (stepping_all m ps all)
+-- the processors after so many quiet steps of each of the first
+abbrev ran : ℕ → ℕ → MachineState → List Processor → List Processor
+ran zero round m ps = ps
+ran (suc steps) round m ps = stepping round m (ran steps round m ps)
 
-map_again : (f g : Processor → Processor) (ps : List Processor) → map f (map g ps) ≡ map (λ pp. f (g pp)) ps
-map_again f g [] = refl
-map_again f g (pp ∷ ps) = ap (λ qs. f (g pp) ∷ qs) (map_again f g ps)
+length-ran : (steps round : ℕ) (m : MachineState) (ps : List Processor) → length (ran steps round m ps) ≡ length ps
+length-ran zero round m ps = refl
+length-ran (suc steps) round m ps = length-stepping round m (ran steps round m ps) ∙ length-ran steps round m ps
 
-map_same : (ps : List Processor) → map (λ pp. pp) ps ≡ ps
-map_same [] = refl
-map_same (pp ∷ ps) = ap (λ qs. pp ∷ qs) (map_same ps)
+ran_behind : (steps round k : ℕ) (m : MachineState) (ps : List Processor) → round ≤ k → get_or (ran steps round m ps) k no_processor ≡ get_or ps k no_processor
+ran_behind zero round k m ps past = refl
+ran_behind (suc steps) round k m ps past = stepping_after round k m (ran steps round m ps) past ∙ ran_behind steps round k m ps past
+
+ran_ahead : (steps round k : ℕ) (m : MachineState) (ps : List Processor) → round ≤ length ps → k < round → get_or (ran steps round m ps) k no_processor ≡ steps_beside steps m (get_or ps k no_processor)
+unfolding steps_beside
+ran_ahead zero round k m ps all within = refl
+ran_ahead (suc steps) round k m ps all within =
+    stepping_before round k m (ran steps round m ps) (omega (arith, length-ran steps round m ps)) within
+    ∙ ap (step_beside m) (ran_ahead steps round k m ps all within)
 
 -- whole rounds of quiet steps
-rounds_by_map : (steps : ℕ) (m : MachineState) → length m.processors ≡ processor_count → m.turns ≤ 2 ^ 64 - 1
-    → ((j k : ℕ) → j < steps → k < processor_count → IsTrue (is_quiet (need (steps_beside j m (get_or m.processors k new_processor))) m))
-    → run (barrel (steps * processor_count)) m ≡ beside (map (steps_beside steps m) m.processors) (min (m.turns + steps * processor_count) (2 ^ 64 - 1)) m
-unfolding steps_beside
-rounds_by_map zero m all bound quiet =
-    let same : m.turns ≡ min (m.turns + 0) (2 ^ 64 - 1) = omega arith in
-    ap (λ u. beside m.processors u m) same ∙ ap (λ ps. beside ps (min (m.turns + 0) (2 ^ 64 - 1)) m) (sym (map_same m.processors))
-rounds_by_map (suc steps) m all bound quiet =
-    let ps = map (steps_beside steps m) m.processors in
-    let t = min (m.turns + steps * processor_count) (2 ^ 64 - 1) in
-    let more : suc steps * processor_count ≡ steps * processor_count + processor_count = omega arith in
-    let whole : steps * processor_count % processor_count ≡ 0 = omega arith in
-    let long : length ps ≡ processor_count = length-map m.processors (steps_beside steps m) ∙ all in
-    let count : min (t + processor_count) (2 ^ 64 - 1) ≡ min (m.turns + suc steps * processor_count) (2 ^ 64 - 1) = omega arith in
+rounds_ran : (p : Profile) (steps : ℕ) (m : MachineState) → processors_in p ≤ length m.processors → m.turns ≤ 2 ^ 64 - 1
+    → ((j k : ℕ) → j < steps → k < processors_in p → IsTrue (is_quiet (need (steps_beside j m (get_or m.processors k no_processor))) m))
+    → run (whole_rounds p steps) m ≡ beside (ran steps (processors_in p) m m.processors) (min (m.turns + steps * processors_in p) (2 ^ 64 - 1)) m
+rounds_ran p zero m all bound quiet =
+    let none : 0 * processors_in p ≡ 0 = no_rounds p in
+    let same : m.turns ≡ min (m.turns + 0 * processors_in p) (2 ^ 64 - 1) = omega arith in
+    ap (λ turns. run (barrel p turns) m) none ∙ ap (λ u. beside m.processors u m) same
+rounds_ran p (suc steps) m all bound quiet =
+    let round = processors_in p in
+    let ps = ran steps round m m.processors in
+    let t = min (m.turns + steps * round) (2 ^ 64 - 1) in
+    let more : suc steps * round ≡ steps * round + round = next_round p steps in
+    let count : min (t + round) (2 ^ 64 - 1) ≡ min (m.turns + suc steps * round) (2 ^ 64 - 1) = omega arith in
     let below : t ≤ 2 ^ 64 - 1 = omega arith in
-    let quiet_now : (k : ℕ) → k < processor_count → IsTrue (is_quiet (need (get_or ps k new_processor)) m) = λ k within.
-    let here = get_or-map (steps_beside steps m) m.processors k new_processor new_processor (omega arith) in
-    subst (λ (pp : Processor). IsTrue (is_quiet (need pp) m)) (sym here) (quiet steps k (omega arith) within) in
-    ap (λ turns. run (barrel turns) m) more
-    ∙ barrel_rounds processor_count (steps * processor_count) m whole
-    ∙ ap (run (barrel processor_count)) (rounds_by_map steps m all bound (λ j k before within. quiet j k (omega arith) within))
-    ∙ whole_round m ps t long below quiet_now
-    ∙ ap (λ u. beside (map (step_beside m) ps) u m) count
-    ∙ ap (λ qs. beside qs (min (m.turns + suc steps * processor_count) (2 ^ 64 - 1)) m) (map_again (step_beside m) (steps_beside steps m) m.processors)
+    let quiet_now : (k : ℕ) → k < round → IsTrue (is_quiet (need (get_or ps k no_processor)) m) = λ k within.
+    subst (λ (pp : Processor). IsTrue (is_quiet (need pp) m)) (sym (ran_ahead steps round k m m.processors all within)) (quiet steps k (omega arith) within) in
+    ap (λ turns. run (barrel p turns) m) more
+    ∙ barrel_rounds p round steps m
+    ∙ ap (run (barrel p round)) (rounds_ran p steps m all bound (λ j k before within. quiet j k (omega arith) within))
+    ∙ round_to p round m ps t (omega arith) below quiet_now
+    ∙ ap (λ u. beside (ran (suc steps) round m m.processors) u m) count
 
--- where all processors went so many quiet steps ahead, and the turns are counted, the machine is as after whole rounds
-pub rounds_ahead : (steps : ℕ) (m : MachineState) (new : List Processor) → length m.processors ≡ processor_count → m.turns ≤ 2 ^ 64 - 1 → AreAhead steps 0 m m.processors new
-    → beside new (min (m.turns + steps * processor_count) (2 ^ 64 - 1)) m ≡ run (barrel (steps * processor_count)) m
-rounds_ahead steps m new all bound ahead =
-    let same : new ≡ map (steps_beside steps m) m.processors =
-    ext_get_or new_processor new (map (steps_beside steps m) m.processors)
-    (ahead.as_many ∙ sym (length-map m.processors (steps_beside steps m)))
-    (λ i within.
-    let many = ahead.as_many in
-    (ahead.ahead i (omega arith) (omega arith)).after
-    ∙ sym (get_or-map (steps_beside steps m) m.processors i new_processor new_processor (omega arith))) in
-    ap (λ ps. beside ps (min (m.turns + steps * processor_count) (2 ^ 64 - 1)) m) same
-    ∙ sym (rounds_by_map steps m all bound (λ j k before within. (ahead.ahead k (omega arith) within).quiet j before))
+-- where the processors of a round went so many quiet steps ahead, and the turns are counted, the machine is as after whole rounds
+pub rounds_ahead : (p : Profile) (steps : ℕ) (m : MachineState) (new : List Processor) → processors_in p ≤ length m.processors → m.turns ≤ 2 ^ 64 - 1 → AreAhead steps (processors_in p) 0 m m.processors new
+    → beside new (min (m.turns + steps * processors_in p) (2 ^ 64 - 1)) m ≡ run (whole_rounds p steps) m
+rounds_ahead p steps m new all bound ahead =
+    let round = processors_in p in
+    let same : new ≡ ran steps round m m.processors =
+    ext_get_or no_processor new (ran steps round m m.processors)
+    (ahead.as_many ∙ sym (length-ran steps round m m.processors))
+    (λ i inside.
+    elim (leb_tells round i) as (λ _. get_or new i no_processor ≡ get_or (ran steps round m m.processors) i no_processor) [
+      | inl past ↦ ahead.behind i past.1 ∙ sym (ran_behind steps round i m m.processors past.1)
+      | inr within ↦ (ahead.ahead i (omega arith) within.1).after ∙ sym (ran_ahead steps round i m m.processors all within.1)
+    ]) in
+    ap (λ ps. beside ps (min (m.turns + steps * round) (2 ^ 64 - 1)) m) same
+    ∙ sym (rounds_ran p steps m all bound (λ j k before within. (ahead.ahead k (omega arith) within).quiet j before))
 
 -- no step is ahead by none
 pub none_ahead : (m : MachineState) (pp : Processor) → IsAhead 0 m pp pp
 unfolding steps_beside
 none_ahead m pp = record { quiet = λ j before. absurd (omega arith); after = refl }
 
-pub none_are_ahead : (place : ℕ) (m : MachineState) (ps : List Processor) → AreAhead 0 place m ps ps
-none_are_ahead place m ps = record { as_many = refl; before = λ k before. refl; ahead = λ k after within. none_ahead m (get_or ps k new_processor) }
+pub none_are_ahead : (round place : ℕ) (m : MachineState) (ps : List Processor) → AreAhead 0 round place m ps ps
+none_are_ahead round place m ps = record { as_many = refl; before = λ k before. refl; behind = λ k past. refl; ahead = λ k after within. none_ahead m (get_or ps k no_processor) }
 
 -- some steps, and then more
 steps_more : (more steps : ℕ) (m : MachineState) (pp : Processor) → steps_beside (steps + more) m pp ≡ steps_beside more m (steps_beside steps m pp)
@@ -281,38 +281,42 @@ ahead_held steps most c operation reply m old between new first asks none shown 
     subst (λ (pp : Processor). IsAhead most m old pp) (sym held) all
 
 -- a processor at rest is as far ahead as those behind its place
-pub ahead_with_rest : (steps place : ℕ) (m : MachineState) (ps qs : List Processor) → IsAtRest (get_or ps place new_processor) → AreAhead steps (place + 1) m ps qs → AreAhead steps place m ps qs
-ahead_with_rest steps place m ps qs rests further = record {
+pub ahead_with_rest : (steps round place : ℕ) (m : MachineState) (ps qs : List Processor) → IsAtRest (get_or ps place no_processor) → AreAhead steps round (place + 1) m ps qs → AreAhead steps round place m ps qs
+ahead_with_rest steps round place m ps qs rests further = record {
   as_many = further.as_many;
   before = λ k before. further.before k (omega arith);
+  behind = further.behind;
   ahead = λ k after within.
-      elim (eqb_tells k place) as (λ _. IsAhead steps m (get_or ps k new_processor) (get_or qs k new_processor)) [
+      elim (eqb_tells k place) as (λ _. IsAhead steps m (get_or ps k no_processor) (get_or qs k no_processor)) [
         | inl same ↦
-            let pp = get_or ps place new_processor in
-            let here : get_or qs place new_processor ≡ pp = further.before place (omega arith) in
-            let there : IsAhead steps m pp (get_or qs place new_processor) = subst (λ (q : Processor). IsAhead steps m pp q) (sym here) (rest_ahead steps m pp ((nothing_at_rest pp).1 rests)) in
-            subst (λ i. IsAhead steps m (get_or ps i new_processor) (get_or qs i new_processor)) (sym same.1) there
+            let pp = get_or ps place no_processor in
+            let here : get_or qs place no_processor ≡ pp = further.before place (omega arith) in
+            let there : IsAhead steps m pp (get_or qs place no_processor) = subst (λ (q : Processor). IsAhead steps m pp q) (sym here) (rest_ahead steps m pp ((nothing_at_rest pp).1 rests)) in
+            subst (λ i. IsAhead steps m (get_or ps i no_processor) (get_or qs i no_processor)) (sym same.1) there
         | inr apart ↦ further.ahead k (omega (arith, apart.1)) within
       ];
 }
 
 -- a processor that went ahead, and then those behind its place, as far as it did
-pub ahead_together : (steps place : ℕ) (m : MachineState) (ps qs : List Processor) (new : Processor) → place < length ps → IsAhead steps m (get_or ps place new_processor) new
-    → AreAhead steps (place + 1) m (slice_set ps place new) qs → AreAhead steps place m ps qs
-ahead_together steps place m ps qs new inside first further = record {
+pub ahead_together : (steps round place : ℕ) (m : MachineState) (ps qs : List Processor) (new : Processor) → place < length ps → place < round → IsAhead steps m (get_or ps place no_processor) new
+    → AreAhead steps round (place + 1) m (slice_set ps place new) qs → AreAhead steps round place m ps qs
+ahead_together steps round place m ps qs new inside turn first further = record {
   as_many = further.as_many ∙ length-set ps place new;
   before = λ k before.
       let apart : k ≢ place = omega arith in
-      further.before k (omega arith) ∙ get_or-set_other ps place k new new_processor apart;
+      further.before k (omega arith) ∙ get_or-set_other ps place k new no_processor apart;
+  behind = λ k past.
+      let apart : k ≢ place = omega arith in
+      further.behind k past ∙ get_or-set_other ps place k new no_processor apart;
   ahead = λ k after within.
-      elim (eqb_tells k place) as (λ _. IsAhead steps m (get_or ps k new_processor) (get_or qs k new_processor)) [
+      elim (eqb_tells k place) as (λ _. IsAhead steps m (get_or ps k no_processor) (get_or qs k no_processor)) [
         | inl same ↦
-            let here : get_or qs place new_processor ≡ new = further.before place (omega arith) ∙ get_or-set_same ps place new new_processor inside in
-            let there : IsAhead steps m (get_or ps place new_processor) (get_or qs place new_processor) = subst (λ (q : Processor). IsAhead steps m (get_or ps place new_processor) q) (sym here) first in
-            subst (λ i. IsAhead steps m (get_or ps i new_processor) (get_or qs i new_processor)) (sym same.1) there
+            let here : get_or qs place no_processor ≡ new = further.before place (omega arith) ∙ get_or-set_same ps place new no_processor inside in
+            let there : IsAhead steps m (get_or ps place no_processor) (get_or qs place no_processor) = subst (λ (q : Processor). IsAhead steps m (get_or ps place no_processor) q) (sym here) first in
+            subst (λ i. IsAhead steps m (get_or ps i no_processor) (get_or qs i no_processor)) (sym same.1) there
         | inr apart ↦
-            let old = get_or-set_other ps place k new new_processor apart.1 in
-            subst (λ (q : Processor). IsAhead steps m q (get_or qs k new_processor)) old (further.ahead k (omega (arith, apart.1)) within)
+            let old = get_or-set_other ps place k new no_processor apart.1 in
+            subst (λ (q : Processor). IsAhead steps m q (get_or qs k no_processor)) old (further.ahead k (omega (arith, apart.1)) within)
       ];
 }
 
@@ -332,30 +336,35 @@ made_again again steps most m old between new first within then less exact =
     ]
 
 -- where it was put back, and went as far as the others
-pub ahead_again : (again steps most place : ℕ) (m : MachineState) (ps qs : List Processor) (old between new : Processor) → place < length ps → old ≡ get_or ps place new_processor
-    → IsAhead most m old between → steps < most → AreAhead steps (place + 1) m (slice_set ps place between) qs
+pub ahead_again : (again steps most round place : ℕ) (m : MachineState) (ps qs : List Processor) (old between new : Processor) → place < length ps → place < round → old ≡ get_or ps place no_processor
+    → IsAhead most m old between → steps < most → AreAhead steps round (place + 1) m (slice_set ps place between) qs
     → IsAhead again m old new → again ≤ steps → (again < steps → is_quiet (need new) m ≡ false)
-    → AreAhead steps place m ps (slice_set (slice_set qs place old) place new)
-ahead_again again steps most place m ps qs old between new inside here first within further then less exact =
+    → AreAhead steps round place m ps (slice_set (slice_set qs place old) place new)
+ahead_again again steps most round place m ps qs old between new inside turn here first within further then less exact =
     let whole : IsAhead steps m old new = made_again again steps most m old between new first (omega arith) then less exact in
     let back = slice_set qs place old in
     let count : length (slice_set back place new) ≡ length ps = length-set back place new ∙ length-set qs place old ∙ further.as_many ∙ length-set ps place between in
     let there : place < length back = omega (arith, length-set back place new) in
-    let others : AreAhead steps (place + 1) m (slice_set ps place new) (slice_set back place new) = record {
+    let others : AreAhead steps round (place + 1) m (slice_set ps place new) (slice_set back place new) = record {
       as_many = count ∙ sym (length-set ps place new);
       before = λ k before.
-          elim (eqb_tells k place) as (λ _. get_or (slice_set back place new) k new_processor ≡ get_or (slice_set ps place new) k new_processor) [
-            | inl same ↦ rw same.1 (get_or-set_same back place new new_processor there ∙ sym (get_or-set_same ps place new new_processor inside))
+          elim (eqb_tells k place) as (λ _. get_or (slice_set back place new) k no_processor ≡ get_or (slice_set ps place new) k no_processor) [
+            | inl same ↦ rw same.1 (get_or-set_same back place new no_processor there ∙ sym (get_or-set_same ps place new no_processor inside))
             | inr apart ↦
-                get_or-set_other back place k new new_processor apart.1 ∙ get_or-set_other qs place k old new_processor apart.1
-                ∙ further.before k before ∙ get_or-set_other ps place k between new_processor apart.1
-                ∙ sym (get_or-set_other ps place k new new_processor apart.1)
+                get_or-set_other back place k new no_processor apart.1 ∙ get_or-set_other qs place k old no_processor apart.1
+                ∙ further.before k before ∙ get_or-set_other ps place k between no_processor apart.1
+                ∙ sym (get_or-set_other ps place k new no_processor apart.1)
           ];
+      behind = λ k past.
+          let apart : k ≢ place = omega arith in
+          get_or-set_other back place k new no_processor apart ∙ get_or-set_other qs place k old no_processor apart
+          ∙ further.behind k past ∙ get_or-set_other ps place k between no_processor apart
+          ∙ sym (get_or-set_other ps place k new no_processor apart);
       ahead = λ k after bound.
           let apart : k ≢ place = omega arith in
-          let from : get_or (slice_set ps place between) k new_processor ≡ get_or (slice_set ps place new) k new_processor = get_or-set_other ps place k between new_processor apart ∙ sym (get_or-set_other ps place k new new_processor apart) in
-          let to : get_or qs k new_processor ≡ get_or (slice_set back place new) k new_processor = sym (get_or-set_other back place k new new_processor apart ∙ get_or-set_other qs place k old new_processor apart) in
-          subst (λ (q : Processor). IsAhead steps m (get_or (slice_set ps place new) k new_processor) q) to
-          (subst (λ (q : Processor). IsAhead steps m q (get_or qs k new_processor)) from (further.ahead k after bound));
+          let from : get_or (slice_set ps place between) k no_processor ≡ get_or (slice_set ps place new) k no_processor = get_or-set_other ps place k between no_processor apart ∙ sym (get_or-set_other ps place k new no_processor apart) in
+          let to : get_or qs k no_processor ≡ get_or (slice_set back place new) k no_processor = sym (get_or-set_other back place k new no_processor apart ∙ get_or-set_other qs place k old no_processor apart) in
+          subst (λ (q : Processor). IsAhead steps m (get_or (slice_set ps place new) k no_processor) q) to
+          (subst (λ (q : Processor). IsAhead steps m q (get_or qs k no_processor)) from (further.ahead k after bound));
     } in
-    ahead_together steps place m ps (slice_set back place new) new inside (subst (λ (pp : Processor). IsAhead steps m pp new) here whole) others
+    ahead_together steps round place m ps (slice_set back place new) new inside turn (subst (λ (pp : Processor). IsAhead steps m pp new) here whole) others

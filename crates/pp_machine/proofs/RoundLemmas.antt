@@ -1,32 +1,34 @@
 -- Processors at rest in the rounds of the barrel.
-use Rattle.std.proofs.Common.{◌≡◌, ◌≢◌, ℕ, zero, suc, ◌+◌, ◌-◌, ◌^◌, ◌%◌, ◌<◌, ◌≤◌, List, slice_set, get_or, refl, sym, ap, subst, ◌∙◌, arith, inl, inr, get_or-set_same, get_or-set_other, length}
-use Rattle.std.specs.Prelude.{min}
+use Rattle.std.proofs.Common.{◌≡◌, ◌≢◌, ℕ, zero, suc, ◌+◌, ◌-◌, ◌*◌, ◌^◌, ◌<◌, ◌≤◌, List, slice_set, get_or, refl, sym, ap, subst, ◌∙◌, arith, inl, inr, get_or-set_same, get_or-set_other, length}
+use Rattle.std.specs.Prelude.{min, IsSome}
 use Rattle.std.proofs.lemmas.Bool.Decides.{eqb_tells}
 use Rattle.pp_machine.specs.MachineState.{MachineState, processor_of}
-use Rattle.pp_machine.specs.MachineStep.{answer_to, stepped}
+use Rattle.pp_machine.specs.MachineStep.{answer_to, stepped, step_event}
 use Rattle.pp_machine.specs.NeedAndEffect.{need, processor_after}
-use Rattle.pp_machine.specs.Processor.{Processor, new_processor}
-use Rattle.pp_machine.specs.ProcessorNumber.{processor_count, processor_index, processor_number, processor_in_turn}
-use Rattle.pp_machine.specs.Rounds.{RestBetween, PassesOverRest}
+use Rattle.pp_machine.specs.Processor.{Processor, no_processor}
+use Rattle.pp_machine.specs.ProcessorNumber.{processor_count, processor_index}
+use Rattle.pp_machine.specs.Profile.{processors_in, processor_in_turn}
+use Rattle.pp_machine.specs.declared.profile.Profile.{Profile}
+use Rattle.pp_machine.specs.Rounds.{RestBetween, PassesOverRest, whole_rounds}
 use Rattle.pp_machine.specs.Run.{run, barrel}
 use Rattle.pp_machine.specs.StepLaws.{IsAtRest}
 use Rattle.pp_machine.proofs.MachineStepLemmas.{stepped_at_rest}
-use Rattle.pp_machine.proofs.ProcessorPlaces.{place_in_turn}
-use Rattle.pp_machine.proofs.RunLemmas.{run-append, barrel_more}
+use Rattle.pp_machine.proofs.ProfileLemmas.{index_in_turn, in_round, more_rounds, fewer_rounds, one_round}
+use Rattle.pp_machine.proofs.RunLemmas.{run-append, run_profile, barrel_more}
 
 -- a step changes no other processor
-other_processor : (n place : ℕ) (m : MachineState) → place ≢ processor_index n → get_or (stepped n m).processors place new_processor ≡ get_or m.processors place new_processor
+other_processor : (n place : ℕ) (m : MachineState) → place ≢ processor_index n → get_or (stepped n m).processors place no_processor ≡ get_or m.processors place no_processor
 unfolding stepped
-other_processor n place m apart = get_or-set_other m.processors (processor_index n) place (processor_after (processor_of n m) (answer_to (need (processor_of n m)) m)) new_processor apart
+other_processor n place m apart = get_or-set_other m.processors (processor_index n) place (processor_after (processor_of n m) (answer_to (need (processor_of n m)) m)) no_processor apart
 
 -- what is at rest stays at rest
-rest_stays : (n place : ℕ) (m : MachineState) → IsAtRest (get_or m.processors place new_processor) → IsAtRest (get_or (stepped n m).processors place new_processor)
+rest_stays : (n place : ℕ) (m : MachineState) → IsAtRest (get_or m.processors place no_processor) → IsAtRest (get_or (stepped n m).processors place no_processor)
 rest_stays n place m rests =
-    elim (eqb_tells place (processor_index n)) as (λ _. IsAtRest (get_or (stepped n m).processors place new_processor)) [
+    elim (eqb_tells place (processor_index n)) as (λ _. IsAtRest (get_or (stepped n m).processors place no_processor)) [
       | inl same ↦
-          let here : get_or m.processors place new_processor ≡ processor_of n m = ap (λ i. get_or m.processors i new_processor) same.1 in
+          let here : get_or m.processors place no_processor ≡ processor_of n m = ap (λ i. get_or m.processors i no_processor) same.1 in
           let still = stepped_at_rest n m (subst IsAtRest here rests) in
-          subst (λ (k : MachineState). IsAtRest (get_or k.processors place new_processor)) (sym still) rests
+          subst (λ (k : MachineState). IsAtRest (get_or k.processors place no_processor)) (sym still) rests
       | inr apart ↦ subst IsAtRest (sym (other_processor n place m apart.1)) rests
     ]
 
@@ -75,13 +77,13 @@ pub passes_from_running : (next : List ℕ) (place running : ℕ) (processors : 
 passes_from_running next place running processors inside named so_far =
     set_before next place place processors inside (none_between place processors (omega arith)) so_far.further
 
-pub passes_from_rest : (next : List ℕ) (place running : ℕ) (processors : List Processor) → place < length next → IsAtRest (get_or processors place new_processor) → PassesFrom next (place + 1) running processors → PassesFrom (slice_set next place running) place running processors
+pub passes_from_rest : (next : List ℕ) (place running : ℕ) (processors : List Processor) → place < length next → IsAtRest (get_or processors place no_processor) → PassesFrom next (place + 1) running processors → PassesFrom (slice_set next place running) place running processors
 passes_from_rest next place running processors inside rests so_far =
     let ahead : RestBetween place running processors = record {
       forward = let after = so_far.ahead.forward in omega arith;
       within = so_far.ahead.within;
       at_rest = λ between after before.
-          elim (eqb_tells between place) as (λ _. IsAtRest (get_or processors between new_processor)) [
+          elim (eqb_tells between place) as (λ _. IsAtRest (get_or processors between no_processor)) [
             | inl same ↦ rw same.1 rests
             | inr apart ↦ so_far.ahead.at_rest between (omega (arith, apart.1)) before
           ];
@@ -96,35 +98,32 @@ abbrev passed : ℕ → MachineState → MachineState
 passed turns m = record m { turns = min (m.turns + turns) (2 ^ 64 - 1) }
 
 -- turns of processors at rest alone
-barrel_at_rest : (turns done : ℕ) (m : MachineState) → ((k : ℕ) → done ≤ k → k < done + suc turns → IsAtRest (processor_of (processor_in_turn k) (run (barrel done) m))) → run (barrel (done + suc turns)) m ≡ passed (suc turns) (run (barrel done) m)
-barrel_at_rest zero done m rest = barrel_more done m ∙ stepped_at_rest (processor_in_turn done) (run (barrel done) m) (rest done (omega arith) (omega arith))
-barrel_at_rest (suc turns) done m rest =
-    let before = run (barrel done) m in
+barrel_at_rest : (p : Profile) (turns done : ℕ) (m : MachineState) → ((k : ℕ) → done ≤ k → k < done + suc turns → IsAtRest (processor_of (processor_in_turn p k) (run (barrel p done) m))) → run (barrel p (done + suc turns)) m ≡ passed (suc turns) (run (barrel p done) m)
+barrel_at_rest p zero done m rest = barrel_more p done m ∙ stepped_at_rest (processor_in_turn p done) (run (barrel p done) m) (rest done (omega arith) (omega arith))
+barrel_at_rest p (suc turns) done m rest =
+    let before = run (barrel p done) m in
     let further : done + suc (suc turns) ≡ done + suc turns + 1 = omega arith in
-    let so_far = barrel_at_rest turns done m (λ k after within. rest k after (omega arith)) in
+    let so_far = barrel_at_rest p turns done m (λ k after within. rest k after (omega arith)) in
     let count : min (min (before.turns + suc turns) (2 ^ 64 - 1) + 1) (2 ^ 64 - 1) ≡ min (before.turns + suc (suc turns)) (2 ^ 64 - 1) = omega arith in
-    rw further (barrel_more (done + suc turns) m
-    ∙ ap (stepped (processor_in_turn (done + suc turns))) so_far
-    ∙ stepped_at_rest (processor_in_turn (done + suc turns)) (passed (suc turns) before) (rest (done + suc turns) (omega arith) (omega arith))
+    rw further (barrel_more p (done + suc turns) m
+    ∙ ap (stepped (processor_in_turn p (done + suc turns))) so_far
+    ∙ stepped_at_rest (processor_in_turn p (done + suc turns)) (passed (suc turns) before) (rest (done + suc turns) (omega arith) (omega arith))
     ∙ ap (λ turns'. record before { turns = turns' }) count)
 
 -- the turns of processors at rest, from a place to a place
-pub passed_to : (place running : ℕ) (m n : MachineState) → place < running → RestBetween place running n.processors → n ≡ run (barrel place) m → record n { turns = min (n.turns + (running - place)) (2 ^ 64 - 1) } ≡ run (barrel running) m
-passed_to place running m n forward rest is =
+pub passed_to : (p : Profile) (place running : ℕ) (m n : MachineState) → place < running → RestBetween place running n.processors → running ≤ processors_in p → n ≡ run (barrel p place) m → record n { turns = min (n.turns + (running - place)) (2 ^ 64 - 1) } ≡ run (barrel p running) m
+passed_to p place running m n forward rest within is =
     let turns = running - place - 1 in
     let here : place + suc turns ≡ running = omega arith in
     let so_many : suc turns ≡ running - place = omega arith in
-    let within = rest.within in
-    let at_rest : (k : ℕ) → place ≤ k → k < place + suc turns → IsAtRest (processor_of (processor_in_turn k) (run (barrel place) m)) = λ k after before.
-    let turn : k ≡ k % processor_count = omega arith in
-    let R : ℕ → Type 0 = λ i. IsAtRest (get_or n.processors i new_processor) in
-    let S : MachineState → Type 0 = λ o. IsAtRest (processor_of (processor_in_turn k) o) in
-    let index : k ≡ processor_index (processor_in_turn k) = turn ∙ sym (place_in_turn k) in
-    subst S is (subst R index (rest.at_rest k after (omega arith))) in
+    let at_rest : (k : ℕ) → place ≤ k → k < place + suc turns → IsAtRest (processor_of (processor_in_turn p k) (run (barrel p place) m)) = λ k after before.
+    let R : ℕ → Type 0 = λ i. IsAtRest (get_or n.processors i no_processor) in
+    let S : MachineState → Type 0 = λ o. IsAtRest (processor_of (processor_in_turn p k) o) in
+    subst S is (subst R (sym (index_in_turn p k (omega arith))) (rest.at_rest k after (omega arith))) in
     ap (λ t. record n { turns = min (n.turns + t) (2 ^ 64 - 1) }) (sym so_many)
     ∙ ap (passed (suc turns)) is
-    ∙ sym (barrel_at_rest turns place m at_rest)
-    ∙ ap (λ t. run (barrel t) m) here
+    ∙ sym (barrel_at_rest p turns place m at_rest)
+    ∙ ap (λ t. run (barrel p t) m) here
 
 -- at rest as far as a place, and so to any place before it
 pub rest_to : (place running turns : ℕ) (processors : List Processor) → place ≤ turns → turns ≤ running → RestBetween place running processors → RestBetween place turns processors
@@ -135,13 +134,67 @@ rest_to place running turns processors within before rest = record {
 }
 
 -- whole rounds, and then more turns
-pub barrel_rounds : (turns done : ℕ) (m : MachineState) → done % processor_count ≡ 0 → run (barrel (done + turns)) m ≡ run (barrel turns) (run (barrel done) m)
-barrel_rounds zero done m whole = let here : done + 0 ≡ done = omega arith in rw here refl
-barrel_rounds (suc turns) done m whole =
+pub barrel_rounds : (p : Profile) (turns rounds : ℕ) (m : MachineState) → run (barrel p (rounds * processors_in p + turns)) m ≡ run (barrel p turns) (run (whole_rounds p rounds) m)
+barrel_rounds p zero rounds m = let here : rounds * processors_in p + 0 ≡ rounds * processors_in p = omega arith in rw here refl
+barrel_rounds p (suc turns) rounds m =
+    let done = rounds * processors_in p in
     let further : done + suc turns ≡ done + turns + 1 = omega arith in
-    let same_place : (done + turns) % processor_count ≡ turns % processor_count = omega arith in
-    let same : processor_in_turn (done + turns) ≡ processor_in_turn turns = ap processor_number same_place in
-    rw further (barrel_more (done + turns) m
-    ∙ ap (λ n. stepped n (run (barrel (done + turns)) m)) same
-    ∙ ap (stepped (processor_in_turn turns)) (barrel_rounds turns done m whole)
-    ∙ sym (run-append (barrel turns) (processor_in_turn turns) (run (barrel done) m)))
+    let same : processor_in_turn p (done + turns) ≡ processor_in_turn p turns = in_round p rounds turns in
+    rw further (barrel_more p (done + turns) m
+    ∙ ap (λ n. stepped n (run (barrel p (done + turns)) m)) same
+    ∙ ap (stepped (processor_in_turn p turns)) (barrel_rounds p turns rounds m)
+    ∙ sym (run-append (barrel p turns) (processor_in_turn p turns) (run (whole_rounds p rounds) m)))
+
+-- whole rounds, and then more of them
+pub rounds_more : (p : Profile) (more rounds : ℕ) (m : MachineState) → run (whole_rounds p (rounds + more)) m ≡ run (whole_rounds p more) (run (whole_rounds p rounds) m)
+rounds_more p more rounds m = ap (λ turns. run (barrel p turns) m) (more_rounds p rounds more) ∙ barrel_rounds p (more * processors_in p) rounds m
+
+-- a machine keeps its profile
+pub profile_after : (ns : List ℕ) (m n : MachineState) → n ≡ run ns m → n.profile ≡ m.profile
+profile_after ns m n is = ap (λ (o : MachineState). o.profile) is ∙ run_profile ns m
+
+-- rounds counted in turns
+pub counted_rounds : (p : Profile) (a b rounds round : ℕ) → a ≡ rounds → b ≡ round → round ≡ processors_in p → a * b ≡ rounds * processors_in p
+counted_rounds p a b rounds round first second is = ap (λ k. k * b) first ∙ ap (λ k. rounds * k) (second ∙ is)
+
+-- a machine that has made whole rounds of another, and then whole rounds more
+pub rounds_after : (rounds more : ℕ) (m n o : MachineState) → n ≡ run (whole_rounds m.profile rounds) m → o ≡ run (whole_rounds n.profile more) n → o ≡ run (whole_rounds m.profile (rounds + more)) m
+rounds_after rounds more m n o before after =
+    let p = m.profile in
+    after ∙ ap (λ q. run (whole_rounds q more) n) (profile_after (whole_rounds p rounds) m n before)
+    ∙ ap (run (whole_rounds p more)) before ∙ sym (rounds_more p more rounds m)
+
+-- further turns
+pub turns_after : (rounds turns done : ℕ) (m n o : MachineState) → n ≡ run (whole_rounds m.profile rounds) m → done ≡ rounds * processors_in m.profile → o ≡ run (barrel n.profile turns) n
+    → o ≡ run (barrel m.profile (done + turns)) m
+turns_after rounds turns done m n o before counted after =
+    let p = m.profile in
+    after ∙ ap (λ q. run (barrel q turns) n) (profile_after (whole_rounds p rounds) m n before)
+    ∙ ap (run (barrel p turns)) before ∙ sym (barrel_rounds p turns rounds m)
+    ∙ ap (λ k. run (barrel p (k + turns)) m) (sym counted)
+
+-- one round more
+pub round_after : (rounds turns : ℕ) (m n o : MachineState) → n ≡ run (whole_rounds m.profile rounds) m → turns ≡ processors_in m.profile → o ≡ run (barrel n.profile turns) n
+    → o ≡ run (whole_rounds m.profile (rounds + 1)) m
+round_after rounds turns m n o before round after =
+    let p = m.profile in
+    let next : rounds * processors_in p + turns ≡ (rounds + 1) * processors_in p = omega (arith, more_rounds p rounds 1, one_round p, round) in
+    turns_after rounds turns (rounds * processors_in p) m n o before refl after ∙ ap (λ k. run (barrel p k) m) next
+
+-- fewer turns than are asked for
+pub within_after : (rounds more all turns done : ℕ) (m n : MachineState) → n ≡ run (whole_rounds m.profile rounds) m → done ≡ rounds * processors_in m.profile
+    → turns < more * processors_in n.profile → rounds + more ≤ all → done + turns < all * processors_in m.profile
+within_after rounds more all turns done m n before counted less within =
+    let p = m.profile in
+    let same : n.profile ≡ p = profile_after (whole_rounds p rounds) m n before in
+    let few : turns < more * processors_in p = subst (λ q. turns < more * processors_in q) same less in
+    omega (arith, few, counted, more_rounds p rounds more, fewer_rounds p (rounds + more) all within)
+
+-- the event of a step behind whole rounds
+pub event_after : (rounds turn done : ℕ) (m n o : MachineState) → n ≡ run (whole_rounds m.profile rounds) m → done ≡ rounds * processors_in m.profile
+    → IsSome (step_event (processor_in_turn n.profile turn) o) → IsSome (step_event (processor_in_turn m.profile (done + turn)) o)
+event_after rounds turn done m n o before counted made =
+    let p = m.profile in
+    let here : processor_in_turn n.profile turn ≡ processor_in_turn p (done + turn) =
+    ap (λ q. processor_in_turn q turn) (profile_after (whole_rounds p rounds) m n before) ∙ sym (in_round p rounds turn) ∙ ap (λ k. processor_in_turn p (k + turn)) (sym counted) in
+    subst (λ k. IsSome (step_event k o)) here made

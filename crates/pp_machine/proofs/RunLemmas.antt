@@ -4,7 +4,8 @@ use Rattle.std.specs.Prelude.{Option, Some, None, Result, Ok, Err, IsNone, IsSom
 use Rattle.std.proofs.lemmas.List.{take_more}
 use Rattle.pp_machine.specs.MachineState.{MachineState}
 use Rattle.pp_machine.specs.MachineStep.{stepped}
-use Rattle.pp_machine.specs.ProcessorNumber.{processor_in_turn}
+use Rattle.pp_machine.specs.Profile.{processor_in_turn}
+use Rattle.pp_machine.specs.declared.profile.Profile.{Profile}
 use Rattle.pp_machine.specs.Run.{run, barrel}
 
 pub run-append : (ns : List ℕ) (n : ℕ) (m : MachineState) → run (ns ++ n ∷ []) m ≡ stepped n (run ns m)
@@ -16,8 +17,17 @@ pub run_more : (ns : List ℕ) (i : ℕ) (m : MachineState) → i < length ns �
 run_more ns i m h = ap (λ ks. run ks m) (take_more ns i 0 h) ∙ run-append (take i ns) (get_or ns i 0) m
 
 -- over one more turn of the barrel
-pub barrel_more : (n : ℕ) (m : MachineState) → run (barrel (n + 1)) m ≡ stepped (processor_in_turn n) (run (barrel n) m)
-barrel_more n m = let more : n + 1 ≡ suc n = omega arith in rw more (run-append (barrel n) (processor_in_turn n) m)
+pub barrel_more : (p : Profile) (n : ℕ) (m : MachineState) → run (barrel p (n + 1)) m ≡ stepped (processor_in_turn p n) (run (barrel p n) m)
+barrel_more p n m = let more : n + 1 ≡ suc n = omega arith in rw more (run-append (barrel p n) (processor_in_turn p n) m)
+
+stepped_profile : (n : ℕ) (m : MachineState) → (stepped n m).profile ≡ m.profile
+unfolding stepped
+stepped_profile n m = refl
+
+-- a machine keeps its profile
+pub run_profile : (ns : List ℕ) (m : MachineState) → (run ns m).profile ≡ m.profile
+run_profile [] m = refl
+run_profile (n ∷ ns) m = run_profile ns (stepped n m) ∙ stepped_profile n m
 
 not_both : {X Y : Type 0} (answer : Result X Y) → IsErr answer → IsOk answer → ⊥
 not_both (Ok x) refused done = cc

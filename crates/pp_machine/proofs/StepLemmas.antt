@@ -4,7 +4,6 @@ use Rattle.pp_word.specs.Address.{relative_to}
 use Rattle.pp_word.specs.OnesComplement.{difference}
 use Rattle.pp_word.specs.declared.opcode.Opcode.{Opcode}
 use Rattle.pp_word.specs.declared.opcode.Opcode.TheVariants.{UJN, ZJN, NJN, PJN, MJN, EXN, RPN, CRM, CWM, AJM, IJM, FJM, EJM, IAN, IAM, OAM, CRD}
-use Rattle.pp_channel.specs.ChannelNumber.{names_channel}
 use Rattle.pp_channel.specs.declared.flags.Flags.{Flags}
 use Rattle.pp_channel.specs.declared.reply.Reply.TheVariants as replies
 use Rattle.pp_machine.specs.Blocks.{held, cut_short, block_word, starts, counts_down, counts_up, receives, stores_at}
@@ -13,6 +12,7 @@ use Rattle.pp_machine.specs.InstructionTable.{row, works_on_channel}
 use Rattle.pp_machine.specs.NeedAndEffect.{answered, step_of, next_step, is_held, need, processor_after, outcome, need_in, after_in, outcome_in}
 use Rattle.pp_machine.specs.OperandAndPlace.{operation, lower_six}
 use Rattle.pp_machine.specs.Processor.{Processor}
+use Rattle.pp_machine.specs.Profile.{has_channel}
 use Rattle.pp_machine.specs.Step.{Step, need_of, local, probes, takes, does, reads, writes}
 use Rattle.pp_machine.specs.StepLaws.{IsAtRest, IsAtFault, IsHeldAnswer, KeepsMemoryAndRegisters}
 use Rattle.pp_machine.specs.declared.answer.Answer.{Answer}
@@ -124,7 +124,7 @@ step_keeps : (block : Option Block) (pp : Processor) → pp.state ≡ Running �
 step_keeps None pp h =
     let op = operation pp in
     let d = lower_six pp in
-    either_step (works_on_channel op && not (names_channel d)) pp (local (faults pp 3)) (row op pp d) (faulted pp 3) (row_keeps op pp d h)
+    either_step (works_on_channel op && not (has_channel pp.profile d)) pp (local (faults pp 3)) (row op pp d) (faulted pp 3) (row_keeps op pp d h)
 step_keeps (Some block) pp h = block_keeps block.kind block.place pp h
 
 cut_keeps : (kind : BlockKind) (place : ℕ) (pp : Processor) → pp.state ≡ Running → Keeps pp (cut_short kind place pp)

@@ -7,7 +7,7 @@ use Rattle.pp_channel.specs.declared.event.Event.{Event}
 use Rattle.pp_machine.specs.MachineState.{MachineState, history_of, processor_of}
 use Rattle.pp_machine.specs.MachineStep.{answer_to, counted, served, taken, stepped, step_outcome}
 use Rattle.pp_machine.specs.NeedAndEffect.{need, processor_after, outcome, outcome_in, is_held}
-use Rattle.pp_machine.specs.Processor.{Processor, new_processor}
+use Rattle.pp_machine.specs.Processor.{Processor, no_processor}
 use Rattle.pp_machine.specs.ProcessorNumber.{processor_index}
 use Rattle.pp_machine.specs.declared.answer.Answer.{Answer}
 use Rattle.pp_machine.specs.declared.answer.Answer.TheVariants.{Local}
@@ -19,8 +19,8 @@ use Rattle.pp_machine.specs.declared.pp_state.PpState.TheVariants.{Running}
 -- what was read at the place of processor n is that processor
 pub own_processor : {before now : MachineState} {i : ℕ} {pp : Processor} (n : ℕ) → before ≡ now → i ≡ processor_index n → i < length before.processors → pp ≡ get_or before.processors i pp → pp ≡ processor_of n now
 own_processor {before} {now} {i} {pp} n view place within read =
-    get_or_read before.processors i pp within read new_processor
-    ∙ ap (λ k. get_or before.processors k new_processor) place
+    get_or_read before.processors i pp within read no_processor
+    ∙ ap (λ k. get_or before.processors k no_processor) place
     ∙ ap (processor_of n) view
 
 -- a machine whose processor n took an answer, and which counted a turn

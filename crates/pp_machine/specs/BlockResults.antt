@@ -7,11 +7,11 @@ use Rattle.pp_word.specs.CentralWord.{parts_of, joined}
 use Rattle.pp_word.specs.OnesComplement.{sum}
 use Rattle.pp_word.specs.declared.opcode.Opcode.{Opcode}
 use Rattle.pp_word.specs.declared.opcode.Opcode.TheVariants.{IAM, OAM, CRM, CWM}
-use Rattle.pp_channel.specs.ChannelNumber.{names_channel}
 use Rattle.pp_channel.specs.declared.chan_op.ChanOp.TheVariants.{Put, Take}
 use Rattle.pp_channel.specs.declared.reply.Reply.TheVariants.{Done, Word, Held}
 use Rattle.pp_machine.specs.NeedAndEffect.{need}
 use Rattle.pp_machine.specs.OperandAndPlace.{operation, lower_six, second_word}
+use Rattle.pp_machine.specs.Profile.{has_channel}
 use Rattle.pp_machine.specs.Processor.{Processor, word_at}
 use Rattle.pp_machine.specs.Replay.{replayed, given_count}
 use Rattle.pp_machine.specs.declared.answer.Answer.{Answer}
@@ -81,14 +81,14 @@ pub record TakesWords (pp : Processor) (answers : List Answer) (count : ℕ) (wo
 -- 71: as many words as A says
 abbrev pub WholeInput : Processor → Type 0
 WholeInput pp =
-    (words : List ℕ) → BeginsAt IAM pp → names_channel (lower_six pp) ≡ true → 0 < pp.a → length words ≡ pp.a →
+    (words : List ℕ) → BeginsAt IAM pp → has_channel pp.profile (lower_six pp) ≡ true → 0 < pp.a → length words ≡ pp.a →
     length words ≤ place_count →
     let answers = words_given words in EndsBlock pp answers 0 × TakesWords pp answers (length words) words
 
 -- 71: fewer words, and then the channel was inactive: a word 0 closes them, and A is what was left
 abbrev pub ClosedInput : Processor → Type 0
 ClosedInput pp =
-    (words : List ℕ) (full : Bool) → BeginsAt IAM pp → names_channel (lower_six pp) ≡ true → length words < pp.a →
+    (words : List ℕ) (full : Bool) → BeginsAt IAM pp → has_channel pp.profile (lower_six pp) ≡ true → length words < pp.a →
     length words < place_count →
     let answers = words_given words ++ inactive full ∷ [] in
     EndsBlock pp answers (pp.a - length words) × TakesWords pp answers (length words) (words ++ 0 ∷ [])
@@ -102,13 +102,13 @@ pub record PutsWords (pp : Processor) (answers : List Answer) (count : ℕ) : Ty
 -- 73: as many words as A says
 abbrev pub WholeOutput : Processor → Type 0
 WholeOutput pp =
-    BeginsAt OAM pp → names_channel (lower_six pp) ≡ true → 0 < pp.a →
+    BeginsAt OAM pp → has_channel pp.profile (lower_six pp) ≡ true → 0 < pp.a →
     let answers = words_taken pp.a in EndsBlock pp answers 0 × PutsWords pp answers pp.a
 
 -- 73: fewer words, and then the channel was inactive
 abbrev pub CutOutput : Processor → Type 0
 CutOutput pp =
-    (count : ℕ) (full : Bool) → BeginsAt OAM pp → names_channel (lower_six pp) ≡ true → count < pp.a →
+    (count : ℕ) (full : Bool) → BeginsAt OAM pp → has_channel pp.profile (lower_six pp) ≡ true → count < pp.a →
     let answers = words_taken count ++ inactive full ∷ [] in EndsBlock pp answers (pp.a - count) × PutsWords pp answers count
 
 -- the address of central word i of a block that begins with A = a

@@ -1,7 +1,7 @@
 -- Dead start: processors that wait for their programs, each on the channel of its own number.
 -- (Manual 60100000, part on dead start: each of these processors is set to an input to its memory from place 0000 on,
 -- from the channel of its own number, which is active and empty.)
-use Rattle.std.specs.Prelude.{◌≡◌, ℕ, ◌&&◌, Bool, false, true, IsTrue, List, [], ◌∷◌, Some, map, if◌then◌else◌, slice_index_or, slice_set}
+use Rattle.std.specs.Prelude.{◌≡◌, ℕ, ◌≤◌, ◌&&◌, Bool, false, true, IsTrue, List, [], ◌∷◌, Some, map, if◌then◌else◌, slice_index_or, slice_set}
 use Rattle.std.specs.List.{range_with_len}
 use Rattle.pp_channel.specs.ChannelNumber.{channel_count, channel_index, channel_number, names_channel}
 use Rattle.pp_channel.specs.declared.event.Event.{Event}
@@ -9,12 +9,18 @@ use Rattle.pp_channel.specs.declared.event.Event.TheVariants.{Activate}
 use Rattle.pp_machine.specs.MachineState.{MachineState, processor_of, history_of}
 use Rattle.pp_machine.specs.Processor.{Processor}
 use Rattle.pp_machine.specs.ProcessorNumber.{names_processor, processor_count, processor_index, processor_number}
+use Rattle.pp_machine.specs.Profile.{processors_in}
 use Rattle.pp_machine.specs.declared.block.BlockKind.TheVariants.{Input}
 use Rattle.pp_machine.specs.declared.pp_state.PpState.TheVariants.{Running}
+use Rattle.pp_machine.specs.declared.profile.Profile.{Profile}
 
 -- a processor that waits for its program: a block input from channel c, with places from 0000 on, P 0000 and A 010000
 abbrev pub waiting_on : ℕ → Processor → Processor
 waiting_on c pp = record pp { a = 0o10000; p = 0; state = Running; block = Some (record { kind = Input c; place = 0 }) }
+
+-- only processors that a machine of this profile has are told to wait
+abbrev pub WaitsWithin : Profile → List Bool → Type 0
+WaitsWithin profile waiting = (place : ℕ) → processors_in profile ≤ place → slice_index_or waiting place false ≡ false
 
 -- whether a number is that of a processor that is to wait
 abbrev pub waits : List Bool → ℕ → Bool

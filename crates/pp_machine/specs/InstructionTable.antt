@@ -7,12 +7,12 @@ use Rattle.pp_word.specs.OnesComplement.{sum, difference}
 use Rattle.pp_word.specs.OperationCodes.{code_of}
 use Rattle.pp_word.specs.declared.opcode.Opcode.{Opcode}
 use Rattle.pp_word.specs.declared.opcode.Opcode.TheVariants.{PSN, LJM, RJM, UJN, ZJN, NJN, PJN, MJN, SHN, LMN, LPN, SCN, LDN, LCN, ADN, SBN, LDC, ADC, LPC, LMC, PSN24, PSN25, EXN, RPN, LDD, ADD, SBD, LMD, STD, RAD, AOD, SOD, LDI, ADI, SBI, LMI, STI, RAI, AOI, SOI, LDM, ADM, SBM, LMM, STM, RAM, AOM, SOM, CRD, CRM, CWD, CWM, AJM, IJM, FJM, EJM, IAN, IAM, OAN, OAM, ACN, DCN, FAN, FNC}
-use Rattle.pp_channel.specs.ChannelNumber.{names_channel}
 use Rattle.pp_channel.specs.declared.chan_op.ChanOp.TheVariants.{Activate, Disconnect, Put, Function}
 use Rattle.pp_machine.specs.Blocks.{receives, central_from, starts}
 use Rattle.pp_machine.specs.Effects.{goes_on, goes_to, faults, jumps_or_stops, jumps_where, branches_where, calls, is_negative, low_of, loads, loads_word, adds_word, subtracts_word, differs_from_word, stores_word, replaces_by_sum, replaces_by_one_more, replaces_by_one_less}
 use Rattle.pp_machine.specs.OperandAndPlace.{second_word, index, constant, direct, indirect, at_index}
 use Rattle.pp_machine.specs.Processor.{Processor, word_at}
+use Rattle.pp_machine.specs.Profile.{has_channel}
 use Rattle.pp_machine.specs.Step.{Step, local, probes, takes, does, reads, writes}
 use Rattle.pp_machine.specs.declared.block.BlockKind.TheVariants.{CentralIn, CentralOut, Input, Output}
 
@@ -87,6 +87,6 @@ row FNC pp d = does d (Function (second_word pp)) (goes_on pp 2)
 abbrev pub works_on_channel : Opcode → Bool
 works_on_channel op = nat_le 0o64 (code_of op)
 
--- an instruction: its row of the table, but fault 3 where it works on channel d and d names none
+-- an instruction: its row of the table, but fault 3 where it works on channel d and the machine has none
 abbrev pub instruction : Opcode → Processor → ℕ → Step
-instruction op pp d = if works_on_channel op && not (names_channel d) then local (faults pp 3) else row op pp d
+instruction op pp d = if works_on_channel op && not (has_channel pp.profile d) then local (faults pp 3) else row op pp d

@@ -1,3 +1,5 @@
+pub mod ProcessorNumber
+pub mod Profile
 pub mod PpMemory
 pub mod Processor
 pub mod OperandAndPlace
@@ -9,7 +11,6 @@ pub mod NeedAndEffect
 pub mod Replay
 pub mod StepLaws
 pub mod BlockResults
-pub mod ProcessorNumber
 pub mod Central
 pub mod MachineState
 pub mod MachineStep

@@ -4,13 +4,15 @@
 use Rattle.std.specs.Prelude.{ℕ, Bool, false, List, [], slice_index_or, replicate}
 use Rattle.pp_channel.specs.ChannelNumber.{channel_count, channel_index}
 use Rattle.pp_channel.specs.declared.event.Event.{Event}
-use Rattle.pp_machine.specs.Processor.{Processor, new_processor}
+use Rattle.pp_machine.specs.Processor.{Processor, new_processor, no_processor}
 use Rattle.pp_machine.specs.ProcessorNumber.{processor_count, processor_index}
+use Rattle.pp_machine.specs.declared.profile.Profile.{Profile}
 use Rattle.pp_machine.specs.declared.trace.Trace.{Trace}
 
--- the processors in the order of the barrel, the history of each channel, the central words by address, the turns
+-- its profile, the processors in the order of the barrel, the history of each channel, the central words by address, the turns
 -- counted, the events in the order in which steps made them, and of each channel whether dead start opened it
 pub record MachineState : Type 0 where
+  pub profile : Profile
   pub processors : List Processor
   pub histories : List (List Event)
   pub central : List ℕ
@@ -20,7 +22,7 @@ pub record MachineState : Type 0 where
 
 -- processor n
 abbrev pub processor_of : ℕ → MachineState → Processor
-processor_of n m = slice_index_or m.processors (processor_index n) new_processor
+processor_of n m = slice_index_or m.processors (processor_index n) no_processor
 
 -- the history of channel c
 abbrev pub history_of : ℕ → MachineState → List Event
@@ -30,10 +32,11 @@ history_of c m = slice_index_or m.histories (channel_index c) []
 abbrev pub is_opened : ℕ → MachineState → Bool
 is_opened c m = slice_index_or m.opened (channel_index c) false
 
--- a machine of this central size on which nothing has happened
-abbrev pub new_machine : ℕ → MachineState
-new_machine size = record {
-  processors = replicate processor_count new_processor;
+-- a machine of this profile and this central size on which nothing has happened
+abbrev pub new_machine : Profile → ℕ → MachineState
+new_machine profile size = record {
+  profile = profile;
+  processors = replicate processor_count (new_processor profile);
   histories = replicate channel_count [];
   central = replicate size 0;
   turns = 0;

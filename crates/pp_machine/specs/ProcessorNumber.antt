@@ -2,26 +2,23 @@
 -- number and its place are two things: proofs know of them what the lemmas of ProcessorPlaces say.
 --
 -- Control Data 6400/6500/6600 Computer Systems Reference Manual, publication 60100000, part on peripheral and
--- control processors: ten processors, numbered 0 to 11 (octal), which take turns in a barrel.
-use Rattle.std.specs.Prelude.{ℕ, ◌%◌, Bool, nat_lt}
+-- control processors: ten processors, numbered 0 to 11 (octal), which take turns in a barrel. A machine of
+-- twenty has ten more, numbered 20 to 31, which follow them in the barrel.
+use Rattle.std.specs.Prelude.{ℕ, ◌+◌, ◌-◌, ◌&&◌, ◌||◌, Bool, nat_lt, if◌then◌else◌}
 
 -- how many processors there are
 abbrev pub processor_count : ℕ
-processor_count = 0o12
+processor_count = 0o24
 
 -- whether a number is that of a processor
 unfoldable pub names_processor : ℕ → Bool
-names_processor number = nat_lt number processor_count
+names_processor number = nat_lt number 0o12 || (nat_lt 0o17 number && nat_lt number 0o32)
 
 -- the place of the processor with this number in a list of all processors; past its end for a number that
 -- names none
 unfoldable pub processor_index : ℕ → ℕ
-processor_index number = number
+processor_index number = if nat_lt number 0o12 then number else if nat_lt number 0o20 then processor_count else number - 6
 
 -- the number of the processor at a place
 unfoldable pub processor_number : ℕ → ℕ
-processor_number place = place
-
--- the processor whose turn it is after so many turns of the barrel
-abbrev pub processor_in_turn : ℕ → ℕ
-processor_in_turn turn = processor_number (turn % processor_count)
+processor_number place = if nat_lt place 0o12 then place else place + 6

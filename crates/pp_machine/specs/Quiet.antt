@@ -6,8 +6,7 @@ use Rattle.pp_channel.specs.declared.event.Event.{Event}
 use Rattle.pp_machine.specs.MachineState.{MachineState, history_of}
 use Rattle.pp_machine.specs.MachineStep.{answer_to}
 use Rattle.pp_machine.specs.NeedAndEffect.{need, processor_after}
-use Rattle.pp_machine.specs.Processor.{Processor, new_processor}
-use Rattle.pp_machine.specs.ProcessorNumber.{processor_count}
+use Rattle.pp_machine.specs.Processor.{Processor, no_processor}
 use Rattle.pp_machine.specs.declared.need.Need.{Need}
 use Rattle.pp_machine.specs.declared.need.Need.TheVariants.{Nothing, Local, Channel, Read, Write}
 
@@ -39,8 +38,10 @@ pub record IsAhead (steps : ℕ) (m : MachineState) (old new : Processor) : Type
   pub quiet : (j : ℕ) → j < steps → IsTrue (is_quiet (need (steps_beside j m old)) m)
   pub after : new ≡ steps_beside steps m old
 
--- all processors from a place of the barrel on went so many quiet steps ahead, and those before it stand where they stood
-pub record AreAhead (steps place : ℕ) (m : MachineState) (old new : List Processor) : Type 0 where
+-- the processors of a round from a place of the barrel on went so many quiet steps ahead, and all others stand where they
+-- stood
+pub record AreAhead (steps round place : ℕ) (m : MachineState) (old new : List Processor) : Type 0 where
   pub as_many : length new ≡ length old
-  pub before : (k : ℕ) → k < place → slice_index_or new k new_processor ≡ slice_index_or old k new_processor
-  pub ahead : (k : ℕ) → place ≤ k → k < processor_count → IsAhead steps m (slice_index_or old k new_processor) (slice_index_or new k new_processor)
+  pub before : (k : ℕ) → k < place → slice_index_or new k no_processor ≡ slice_index_or old k no_processor
+  pub behind : (k : ℕ) → round ≤ k → slice_index_or new k no_processor ≡ slice_index_or old k no_processor
+  pub ahead : (k : ℕ) → place ≤ k → k < round → IsAhead steps m (slice_index_or old k no_processor) (slice_index_or new k no_processor)

@@ -10,7 +10,7 @@ use pp_channel::{ChanOp, Channel, ChannelNo, Memory};
 use std::alloc::Allocator;
 
 impl<A: Allocator> Machine<A> {
-    ghost use Rattle.pp_machine.specs.DeadStart.{IsBeforeFirstTurn, dead_started, with_waiting};
+    ghost use Rattle.pp_machine.specs.DeadStart.{IsBeforeFirstTurn, WaitsWithin, dead_started, with_waiting};
     ghost use Rattle.pp_machine.specs.Headline.{HoldsOnEachChannel};
     ghost use Rattle.pp_machine.specs.MachineState.{history_of, is_opened};
 
@@ -22,12 +22,14 @@ impl<A: Allocator> Machine<A> {
     }
 
     /// Lets processors wait for their programs, each on the channel of its own number, which is then
-    /// active and empty; `waiting` has the processors in the barrel's order. No turn is counted yet, and
+    /// active and empty; `waiting` has the processors in the barrel's order, and false for those that the
+    /// profile lacks. No turn is counted yet, and
     /// no channel has a history. These Activates are in no trace. After `Memory` nothing has changed.
     pub fn dead_start(&mut self, waiting: &[bool; PROCESSORS]) -> Result<(), Memory>
     where
         A: Clone,
-        requires { IsBeforeFirstTurn self.old }
+        requires fresh { IsBeforeFirstTurn self.old }
+        requires within { WaitsWithin self.old.profile waiting.now }
         ensures ok { OnOk result (self.new ≡ dead_started waiting.now self.old) }
         ensures unchanged_after_memory { OnErr result (self.new ≡ self.old) }
         ensures headline { HoldsOnEachChannel self.new }

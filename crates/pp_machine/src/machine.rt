@@ -12,6 +12,7 @@ ghost use Rattle.pp_machine.specs.ProcessorNumber.{processor_count};
 use crate::central::{Central, CentralFault};
 use crate::pp::Pp;
 use crate::pp_no::{PROCESSORS, PpNo};
+use crate::profile::Profile;
 use crate::trace::Trace;
 use pp_channel::{CHANNELS, Channel, ChannelNo};
 use pp_word::{Word18, Word60};
@@ -21,6 +22,7 @@ use std::marker::Model;
 /// A machine. Contracts see it as a `MachineState`: its channels by their histories alone.
 #[derive(Drop)]
 pub struct Machine<A: Allocator> {
+    pub(crate) profile: Profile,
     pub(crate) processors: Vec<Pp, A>,
     pub(crate) channels: Vec<Channel<A>, A>,
     pub(crate) central: Central<A>,
@@ -35,9 +37,9 @@ impl<A: Allocator> Model for Machine<A> {
 
     ghost Value = { MachineState };
 
-    ghost view = { λ m. record { processors = m.processors.items; histories = m.channels.items; central = m.central; turns = m.turns; trace = m.trace.items; opened = m.opened } };
+    ghost view = { λ m. record { profile = m.profile; processors = m.processors.items; histories = m.channels.items; central = m.central; turns = m.turns; trace = m.trace.items; opened = m.opened } };
 
-    ghost invariant = { λ m. IsMachine (record { processors = m.processors.items; histories = m.channels.items; central = m.central; turns = m.turns; trace = m.trace.items; opened = m.opened }) };
+    ghost invariant = { λ m. IsMachine (record { profile = m.profile; processors = m.processors.items; histories = m.channels.items; central = m.central; turns = m.turns; trace = m.trace.items; opened = m.opened }) };
 }
 
 impl<A: Allocator> Machine<A> {
@@ -46,25 +48,34 @@ impl<A: Allocator> Machine<A> {
     ghost use Rattle.pp_machine.specs.MachineInvariant.{IsMachine};
     ghost use Rattle.pp_machine.specs.MachineState.{history_of, new_machine, processor_of};
 
-    /// A machine with central memory of this many words, all 0: its processors as `Pp::new()`, its
-    /// channels without history, no turn counted.
+    /// A machine of this profile, with central memory of this many words, all 0: its processors as
+    /// `Pp::new(profile)`, its channels without history, no turn counted. Processors and channels that the
+    /// profile lacks stand behind the others, and no turn of the barrel is theirs.
     #[tactic(auto, using(pp_channel::proofs::ChannelPlaces::place_below))]
-    pub fn new(alloc: A, size: u32) -> Result<Self, CentralFault>
+    pub fn new(alloc: A, profile: Profile, size: u32) -> Result<Self, CentralFault>
     where
         A: Copy,
-        ensures ok { IfOk result (λ m. m ≡ new_machine size) }
+        ensures ok { IfOk result (λ m. m ≡ new_machine profile size) }
         ensures sized { OnOk result (IsCentralSize size) }
         ensures bad_size { IsErrOf result CentralFault.BadSize ↔ ¬ IsCentralSize size }
     {
         let central = Central::new(alloc, size)?;
         Ok(Machine {
-            processors: new_processors(alloc)?,
+            profile,
+            processors: new_processors(alloc, profile)?,
             channels: new_channels(alloc)?,
             central,
             turns: 0,
             trace: Vec::new(alloc),
             opened: [false; CHANNELS],
         })
+    }
+
+    /// Which processors and channels it has.
+    pub fn profile(&self) -> Profile
+        ensures { result ≡ self.now.profile }
+    {
+        self.profile
     }
 
     /// How many turns it has counted (decimal); the greatest count stays.
@@ -132,13 +143,13 @@ impl<A: Allocator> Machine<A> {
 }
 
 /// Processors at rest.
-fn new_processors<A: Allocator>(alloc: A) -> Result<Vec<Pp, A>, CentralFault>
-    ensures items { IfOk result (λ v. v.items ≡ replicate processor_count new_processor) }
+fn new_processors<A: Allocator>(alloc: A, profile: Profile) -> Result<Vec<Pp, A>, CentralFault>
+    ensures items { IfOk result (λ v. v.items ≡ replicate processor_count (new_processor profile)) }
     ensures memory { OnErr result (result ≡ Err CentralFault.Memory) }
 {
     let mut processors = Vec::with_capacity(alloc, PROCESSORS)?;
     for _ in 0..PROCESSORS {
-        processors.push(Pp::new())?;
+        processors.push(Pp::new(profile))?;
     }
     Ok(processors)
 }

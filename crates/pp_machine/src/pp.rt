@@ -10,20 +10,25 @@ mod operand;
 mod reply;
 mod step;
 
-ghost use Rattle.std.specs.Prelude.{◌≡◌};
+ghost use Rattle.std.specs.Prelude.{◌≡◌, ◌↔◌, IsTrue, IsSome, IfSome};
 ghost use Rattle.pp_machine.specs.Processor.{IsProcessor, HasFaultNumber, IsBlockIn, new_processor, word_at};
+ghost use Rattle.pp_machine.specs.Profile.{has_channel};
 
 use crate::block::Block;
 use crate::pp_memory::PpMemory;
 use crate::pp_state::PpState;
+use crate::profile::Profile;
 pub(crate) use block_law::block_results;
-use pp_word::{Word12, Word18};
+use pp_channel::ChannelNo;
+use pp_word::{Word6, Word12, Word18};
 use std::marker::Model;
 
 /// A peripheral processor: its memory, the accumulator A, the program address P, its state, and the
-/// block transfer in progress, if there is one. Contracts see it as a `Processor`.
+/// block transfer in progress, if there is one. By its profile it knows which channels there are.
+/// Contracts see it as a `Processor`.
 #[derive(Drop)]
 pub struct Pp {
+    profile: Profile,
     memory: PpMemory,
     a: Word18,
     p: Word12,
@@ -36,23 +41,39 @@ impl Model for Pp {
 
     ghost Value = { Processor };
 
-    ghost view = { λ pp. record { memory = pp.memory; a = pp.a; p = pp.p; state = pp.state; block = pp.block } };
+    ghost view = { λ pp. record { profile = pp.profile; memory = pp.memory; a = pp.a; p = pp.p; state = pp.state; block = pp.block } };
 
     ghost invariant = { λ pp. HasFaultNumber pp.state × IsBlockIn pp.state pp.block };
 }
 
 impl Pp {
-    /// A stopped processor whose memory, A and P are 0.
-    pub fn new() -> Self
-        ensures { result ≡ new_processor }
+    /// A stopped processor of a machine of this profile, whose memory, A and P are 0.
+    pub fn new(profile: Profile) -> Self
+        ensures { result ≡ new_processor profile }
     {
         Pp {
+            profile,
             memory: PpMemory::new(),
             a: Word18::ZERO,
             p: Word12::ZERO,
             state: PpState::Stopped,
             block: None,
         }
+    }
+
+    /// The profile of its machine.
+    pub fn profile(&self) -> Profile
+        ensures { result ≡ self.now.profile }
+    {
+        self.profile
+    }
+
+    /// The channel that the lower six bits of an instruction name, if its machine has it.
+    pub(crate) fn channel(&self, d: Word6) -> Option<ChannelNo>
+        ensures exists { IsSome result ↔ IsTrue (has_channel self.now.profile d) }
+        ensures value { IfSome result (λ c. c ≡ d) }
+    {
+        self.profile.channel(d.get())
     }
 
     /// The word at a place.

@@ -1,14 +1,14 @@
 //! The number of a peripheral processor.
 
-ghost use Rattle.std.specs.Prelude.{◌≡◌, ℕ, ◌+◌, ◌<◌, ◌↔◌, IsTrue, IsSome, IfSome};
-ghost use Rattle.pp_machine.specs.ProcessorNumber.{processor_count, names_processor, processor_index, processor_in_turn};
+ghost use Rattle.std.specs.Prelude.{◌≡◌, ℕ, ◌+◌, ◌%◌, ◌<◌, ◌↔◌, IsTrue, IsSome, IfSome};
+ghost use Rattle.pp_machine.specs.ProcessorNumber.{processor_count, names_processor, processor_index, processor_number};
 
 use std::marker::Model;
 
-/// How many peripheral processors the machine has (decimal).
-pub const PROCESSORS: usize = 10;
+/// How many peripheral processors the greater machine has (decimal).
+pub const PROCESSORS: usize = 20;
 
-/// The number of a peripheral processor, 0 to 11 (octal). Contracts see it as that number.
+/// The number of a peripheral processor, 0 to 11 or 20 to 31 (octal). Contracts see it as that number.
 #[derive(Clone, Copy, Debug, PartialEq, Eq)]
 pub struct PpNo {
     number: u8,
@@ -28,13 +28,13 @@ impl PpNo {
     /// The processor with which the barrel begins.
     pub const FIRST: PpNo = PpNo { number: 0 };
 
-    /// The processor of this number, or nothing from 12 (octal) on.
+    /// The processor of this number, or nothing from 12 to 17 (octal) and from 32 on.
     #[tactic(auto, unfolding(crate::specs::ProcessorNumber::names_processor))]
     pub fn new(number: u8) -> Option<Self>
         ensures exists { IsSome result ↔ IsTrue (names_processor number) }
         ensures value { IfSome result (λ n. n ≡ number) }
     {
-        if usize::from(number) < PROCESSORS {
+        if matches!(number, 0..=0o11 | 0o20..=0o31) {
             Some(PpNo { number })
         } else {
             None
@@ -57,24 +57,33 @@ impl PpNo {
         // No other processor has this place.
         ensures own { (n : ℕ) → IsTrue (names_processor n) → processor_index n ≡ result → n ≡ self }
     {
-        usize::from(self.get())
+        let number = usize::from(self.get());
+        if number < 0o12 {
+            number
+        } else {
+            number - 6
+        }
     }
 
     /// The processor at a place in the barrel's order.
     #[tactic(auto, unfolding(crate::specs::ProcessorNumber::names_processor, crate::specs::ProcessorNumber::processor_index, crate::specs::ProcessorNumber::processor_number))]
     pub fn at(place: usize) -> Self
         requires { place < processor_count }
-        ensures { result ≡ processor_in_turn place }
+        ensures number { result ≡ processor_number place }
+        ensures place { processor_index result ≡ place }
     {
-        PpNo {
-            number: place as u8,
-        }
+        let number = if place < 0o12 {
+            place as u8
+        } else {
+            place as u8 + 6
+        };
+        PpNo { number }
     }
 
-    /// The processor that comes after it in the barrel.
+    /// The processor at the next place of twenty; after the last comes the first.
     #[tactic(auto, using(crate::proofs::ProcessorPlaces::one_place), unfolding(crate::specs::ProcessorNumber::names_processor, crate::specs::ProcessorNumber::processor_index, crate::specs::ProcessorNumber::processor_number))]
     pub fn next(self) -> Self
-        ensures { (turn : ℕ) → self ≡ processor_in_turn turn → result ≡ processor_in_turn (turn + 1) }
+        ensures { result ≡ processor_number ((processor_index self + 1) % processor_count) }
     {
         let place = self.index() + 1;
         if place < PROCESSORS {

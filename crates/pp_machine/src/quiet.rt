@@ -13,41 +13,42 @@ use crate::answer::Answer;
 use crate::need::Need;
 use crate::outcome::Outcome;
 use crate::pp::Pp;
-use crate::pp_no::PROCESSORS;
 use crate::pp_state::PpState;
 use pp_channel::{ChanOp, Channel, ChannelNo, Reply};
 use std::alloc::Allocator;
 
-/// Runs all processors from a place of the barrel on, each as many steps, up to so many, as all of them
-/// can make quietly, and says how many that are.
+/// Runs the processors of a round from a place of the barrel on, each as many steps, up to so many, as all
+/// of them can make quietly, and says how many that are.
 pub(crate) fn run_ahead<A: Allocator>(
     processors: &mut Vec<Pp, A>,
     channels: &Vec<Channel<A>, A>,
+    round: usize,
     place: usize,
     most: u32,
 ) -> u32
     requires all { vec_len processors.old ≡ processor_count }
     requires channels { vec_len channels.now ≡ channel_count }
-    requires within { place ≤ processor_count }
+    requires round { round ≤ processor_count }
+    requires within { place ≤ round }
     ensures most { result ≤ most }
     ensures as_many { vec_len processors.new ≡ processor_count }
-    ensures ahead { (m : MachineState) → m.histories ≡ channels.now.items → AreAhead result place m processors.old.items processors.new.items }
+    ensures ahead { (m : MachineState) → m.histories ≡ channels.now.items → AreAhead result round place m processors.old.items processors.new.items }
 {
     if most == 0 {
         return 0;
     }
-    if place == PROCESSORS {
+    if place == round {
         return most;
     }
     match processors[place].state() {
         PpState::Running => {}
         PpState::Stopped | PpState::Fault(_) => {
-            return run_ahead(processors, channels, place + 1, most);
+            return run_ahead(processors, channels, round, place + 1, most);
         }
     }
     let before = processors[place].copy();
     let made = run_quiet_steps(&mut processors[place], channels, most);
-    let all = run_ahead(processors, channels, place + 1, made);
+    let all = run_ahead(processors, channels, round, place + 1, made);
     if all < made {
         processors[place] = before;
         let _again = run_quiet_steps(&mut processors[place], channels, all);
@@ -114,7 +115,7 @@ fn run_free_steps<A: Allocator>(pp: &mut Pp, channels: &Vec<Channel<A>, A>, most
         if !pp.tests_flags(op, d) {
             return made;
         }
-        let Some(channel) = ChannelNo::new(d.get()) else {
+        let Some(channel) = pp.channel(d) else {
             return made;
         };
         let flags = channels[channel.index()].flags();

@@ -2,7 +2,7 @@
 
 ghost use Rattle.std.specs.Prelude.{◌≡◌, ◌*◌, ◌<◌, ◌≤◌, length, take, slice_index, IfErr, IsSome, OnOk, vec_len};
 ghost use Rattle.pp_machine.specs.ProcessorNumber.{processor_count};
-ghost use Rattle.pp_machine.specs.Rounds.{AreRounds, RestBetween, PassesOverRest};
+ghost use Rattle.pp_machine.specs.Rounds.{RestBetween, PassesOverRest};
 
 use crate::cut::Cut;
 use crate::machine::Machine;
@@ -12,31 +12,30 @@ use crate::pp_state::PpState;
 use crate::quiet::run_ahead;
 use std::alloc::Allocator;
 
-/// How many turns a round of the barrel has (decimal).
-const ROUND: u32 = PROCESSORS as u32;
-
-/// How many rounds the barrel tries to make quietly at once (decimal). A window costs ten copies of a
-/// memory, and one that fails all that the processors ran too far.
+/// How many rounds the barrel tries to make quietly at once (decimal). A window costs a copy of each
+/// running processor's memory, and one that fails all that the processors ran too far.
 const SHORTEST_WINDOW: u32 = 64;
 
 const LONGEST_WINDOW: u32 = 1024;
 
-/// After how many turns of the barrel, in whole rounds, it looks again which processors are at rest
-/// (decimal): a look costs as much as some turns.
-const LOOK_AFTER: u32 = 1280;
+/// After how many rounds of the barrel it looks again which processors are at rest (decimal): a look
+/// costs as much as some turns.
+const LOOK_AFTER: u32 = 128;
 
-/// How many turns, in whole rounds, it makes one after the other where a window failed, before it tries
-/// again: twice as many each time, but few again after so many quiet rounds that it paid (decimal).
-const SHORTEST_PAUSE: u32 = 640;
+/// How many rounds it makes turn by turn where a window failed, before it tries again: twice as many
+/// each time, but few again after so many quiet rounds that it paid (decimal).
+const SHORTEST_PAUSE: u32 = 64;
 
-const LONGEST_PAUSE: u32 = 81_920;
+const LONGEST_PAUSE: u32 = 8192;
 
 const LONG_QUIET: u32 = 2048;
 
 impl<A: Allocator> Machine<A> {
     ghost use Rattle.pp_machine.specs.Headline.{HoldsOnEachChannel};
     ghost use Rattle.pp_machine.specs.MachineStep.{step_event};
-    ghost use Rattle.pp_machine.specs.ProcessorNumber.{processor_in_turn};
+    ghost use Rattle.pp_machine.specs.Profile.{processors_in, processor_in_turn};
+    ghost use Rattle.pp_machine.specs.Rounds.{whole_rounds};
+    ghost use Rattle.pp_machine.specs.declared.profile.Profile.{Profile};
     ghost use Rattle.pp_machine.specs.MachineState.{MachineState};
     ghost use Rattle.pp_machine.specs.Run.{run, barrel};
 
@@ -59,41 +58,64 @@ impl<A: Allocator> Machine<A> {
         Ok(())
     }
 
-    /// So many turns of the barrel, from its first processor on. Processors at rest are passed over.
-    #[tactic(auto, using(crate::proofs::RoundLemmas::barrel_rounds))]
+    /// So many turns of the barrel, from its first processor on: rounds of ten or of twenty, by its
+    /// profile. Processors at rest are passed over.
     pub fn run_barrel(&mut self, turns: u32) -> Result<(), Cut>
-        ensures ok { OnOk result (self.new ≡ run (barrel turns) self.old) }
-        ensures cut { IfErr result (λ c. self.new ≡ run (barrel c.done) self.old) }
+        ensures ok { OnOk result (self.new ≡ run (barrel self.old.profile turns) self.old) }
+        ensures cut { IfErr result (λ c. self.new ≡ run (barrel self.old.profile c.done) self.old) }
         ensures within { IfErr result (λ c. c.done < turns) }
         // A run is cut only at a step that makes an event.
-        ensures cut_at_event { IfErr result (λ c. IsSome (step_event (processor_in_turn c.done) self.new)) }
+        ensures cut_at_event { IfErr result (λ c. IsSome (step_event (processor_in_turn self.old.profile c.done) self.new)) }
         ensures headline { HoldsOnEachChannel self.new }
     {
         let _sound = &self.turns;
+        let round = self.round();
+        let whole = turns / round;
+        if let Err(done) = self.run_rounds(whole) {
+            return Err(Cut { done });
+        }
+        let next = next_running(&self.processors);
+        match self.run_round((turns % round) as usize, &next) {
+            Ok(()) => Ok(()),
+            Err(before) => Err(Cut {
+                done: u64::from(whole) * u64::from(round) + before as u64,
+            }),
+        }
+    }
+
+    /// How many turns a round of the barrel has.
+    fn round(&self) -> u32
+        ensures { result ≡ processors_in self.now.profile }
+    {
+        self.profile.processors() as u32
+    }
+
+    /// So many whole rounds of the barrel, as many as can be made quietly, and the others turn by turn.
+    /// Refused, it says how many steps were done.
+    fn run_rounds(&mut self, rounds: u32) -> Result<(), u64>
+        requires { HoldsOnEachChannel self.old }
+        ensures ok { OnOk result (self.new ≡ run (whole_rounds self.old.profile rounds) self.old) }
+        ensures cut { IfErr result (λ done. self.new ≡ run (barrel self.old.profile done) self.old) }
+        ensures within { IfErr result (λ done. done < rounds * processors_in self.old.profile) }
+        ensures cut_at_event { IfErr result (λ done. IsSome (step_event (processor_in_turn self.old.profile done) self.new)) }
+        ensures headline { HoldsOnEachChannel self.new }
+    {
+        let round = self.round();
         let mut done = 0;
         let mut held: u32 = 0;
         let mut pause = SHORTEST_PAUSE;
-        while done < turns {
-            let window = window_after(held);
-            let rounds = window.min((turns - done) / ROUND);
-            let quiet = self.run_quiet_rounds(rounds);
-            done += quiet * ROUND;
+        while done < rounds {
+            let window = window_after(held).min(rounds - done);
+            let quiet = self.run_quiet_rounds(window);
+            done += quiet;
             held = held.saturating_add(quiet);
             if quiet < window {
                 if held >= LONG_QUIET {
                     pause = SHORTEST_PAUSE;
                 }
-                let left = turns - done;
-                let round = left.min(ROUND);
-                let further = if left < ROUND {
-                    left
-                } else {
-                    (left - left % ROUND).min(pause)
-                };
-                if let Err(before) = self.run_by_turns(further, round) {
-                    return Err(Cut {
-                        done: u64::from(done + before),
-                    });
+                let further = (rounds - done).min(pause);
+                if let Err(before) = self.run_by_turns(further) {
+                    return Err(u64::from(done) * u64::from(round) + before);
                 }
                 done += further;
                 held = 0;
@@ -105,68 +127,65 @@ impl<A: Allocator> Machine<A> {
 
     /// Up to so many whole rounds of the barrel, as many as are made quietly, and says how
     /// many that are.
-    #[tactic(auto, using(crate::proofs::QuietLemmas::rounds_ahead))]
     #[inline(never)]
     fn run_quiet_rounds(&mut self, most: u32) -> u32
         ensures most { result ≤ most }
-        ensures ran { self.new ≡ run (barrel (result * processor_count)) self.old }
+        ensures ran { self.new ≡ run (whole_rounds self.old.profile result) self.old }
         ensures headline { HoldsOnEachChannel self.new }
     {
         let turns = self.turns;
-        let rounds = run_ahead(&mut self.processors, &self.channels, 0, most);
-        self.turns = turns.saturating_add(u64::from(rounds) * u64::from(ROUND));
+        let round = self.round();
+        let rounds = run_ahead(&mut self.processors, &self.channels, round as usize, 0, most);
+        self.turns = turns.saturating_add(u64::from(rounds) * u64::from(round));
         rounds
     }
 
-    /// So many turns in rounds of the barrel, one after the other; processors at rest are passed over.
-    /// Refused, it says how many steps were done.
-    #[tactic(auto, using(crate::proofs::RoundLemmas::barrel_rounds))]
+    /// So many whole rounds of the barrel, turn by turn; processors at rest are passed over. Refused, it
+    /// says how many steps were done.
     #[inline(never)]
-    fn run_by_turns(&mut self, turns: u32, round: u32) -> Result<(), u32>
-        requires rounds { AreRounds turns round }
-        ensures ok { OnOk result (self.new ≡ run (barrel turns) self.old) }
-        ensures cut { IfErr result (λ done. self.new ≡ run (barrel done) self.old) }
-        ensures within { IfErr result (λ done. done < turns) }
-        ensures cut_at_event { IfErr result (λ done. IsSome (step_event (processor_in_turn done) self.new)) }
+    fn run_by_turns(&mut self, rounds: u32) -> Result<(), u64>
+        requires { HoldsOnEachChannel self.old }
+        ensures ok { OnOk result (self.new ≡ run (whole_rounds self.old.profile rounds) self.old) }
+        ensures cut { IfErr result (λ done. self.new ≡ run (barrel self.old.profile done) self.old) }
+        ensures within { IfErr result (λ done. done < rounds * processors_in self.old.profile) }
+        ensures cut_at_event { IfErr result (λ done. IsSome (step_event (processor_in_turn self.old.profile done) self.new)) }
         ensures headline { HoldsOnEachChannel self.new }
     {
-        let _sound = &self.turns;
+        let round = self.round();
         let mut done = 0;
-        while done < turns {
-            let further = (turns - done).min(LOOK_AFTER);
+        while done < rounds {
+            let further = (rounds - done).min(LOOK_AFTER);
             let next = next_running(&self.processors);
-            if let Err(before) = self.run_rounds(further, round, &next) {
-                return Err(done + before);
+            if let Err(before) = self.run_passing(further, &next) {
+                return Err(u64::from(done) * u64::from(round) + before);
             }
             done += further;
         }
         Ok(())
     }
 
-    /// So many turns in rounds of the barrel, where `next` tells which processors at rest to pass over.
+    /// So many whole rounds of the barrel, where `next` tells which processors at rest to pass over.
     /// Refused, it says how many steps were done.
-    #[tactic(auto, using(crate::proofs::RoundLemmas::barrel_rounds))]
-    fn run_rounds(
+    fn run_passing(
         &mut self,
-        turns: u32,
-        round: u32,
+        rounds: u32,
         next: &[usize; PROCESSORS + 1],
-    ) -> Result<(), u32>
-        requires rounds { AreRounds turns round }
+    ) -> Result<(), u64>
         requires passes { PassesOverRest next.now self.old.processors }
         requires sound { HoldsOnEachChannel self.old }
-        ensures ok { OnOk result (self.new ≡ run (barrel turns) self.old) }
-        ensures cut { IfErr result (λ done. self.new ≡ run (barrel done) self.old) }
-        ensures within { IfErr result (λ done. done < turns) }
-        ensures cut_at_event { IfErr result (λ done. IsSome (step_event (processor_in_turn done) self.new)) }
+        ensures ok { OnOk result (self.new ≡ run (whole_rounds self.old.profile rounds) self.old) }
+        ensures cut { IfErr result (λ done. self.new ≡ run (barrel self.old.profile done) self.old) }
+        ensures within { IfErr result (λ done. done < rounds * processors_in self.old.profile) }
+        ensures cut_at_event { IfErr result (λ done. IsSome (step_event (processor_in_turn self.old.profile done) self.new)) }
         ensures headline { HoldsOnEachChannel self.new }
     {
+        let round = self.round();
         let mut done = 0;
-        while done < turns {
+        while done < rounds {
             if let Err(before) = self.run_round(round as usize, next) {
-                return Err(done + before as u32);
+                return Err(u64::from(done) * u64::from(round) + before as u64);
             }
-            done += round;
+            done += 1;
         }
         Ok(())
     }
@@ -175,13 +194,13 @@ impl<A: Allocator> Machine<A> {
     /// over. Refused, it says how many steps were done.
     #[tactic(auto, using(crate::proofs::RunLemmas::barrel_more, crate::proofs::RunLemmas::some_event, crate::proofs::RoundLemmas::rest_to, crate::proofs::RoundLemmas::passes_over_stepped))]
     fn run_round(&mut self, turns: usize, next: &[usize; PROCESSORS + 1]) -> Result<(), usize>
-        requires round { turns ≤ processor_count }
+        requires round { turns ≤ processors_in self.old.profile }
         requires passes { PassesOverRest next.now self.old.processors }
         requires sound { HoldsOnEachChannel self.old }
-        ensures ok { OnOk result (self.new ≡ run (barrel turns) self.old) }
-        ensures cut { IfErr result (λ done. self.new ≡ run (barrel done) self.old) }
+        ensures ok { OnOk result (self.new ≡ run (barrel self.old.profile turns) self.old) }
+        ensures cut { IfErr result (λ done. self.new ≡ run (barrel self.old.profile done) self.old) }
         ensures within { IfErr result (λ done. done < turns) }
-        ensures cut_at_event { IfErr result (λ done. IsSome (step_event (processor_in_turn done) self.new)) }
+        ensures cut_at_event { IfErr result (λ done. IsSome (step_event (processor_in_turn self.old.profile done) self.new)) }
         ensures passes { PassesOverRest next.now self.new.processors }
         ensures headline { HoldsOnEachChannel self.new }
     {
@@ -204,7 +223,7 @@ impl<A: Allocator> Machine<A> {
     #[tactic(auto, using(crate::proofs::RoundLemmas::passed_to))]
     fn pass_to(&mut self, place: usize, running: usize)
         requires { RestBetween place running self.old.processors }
-        ensures ran { (m : MachineState) → self.old ≡ run (barrel place) m → self.new ≡ run (barrel running) m }
+        ensures ran { (profile : Profile) (m : MachineState) → running ≤ processors_in profile → self.old ≡ run (barrel profile place) m → self.new ≡ run (barrel profile running) m }
         ensures processors { self.new.processors ≡ self.old.processors }
         ensures headline { HoldsOnEachChannel self.new }
     {

@@ -3,11 +3,12 @@
 ghost use Rattle.std.specs.Prelude.{◌≡◌, ◌++◌, [], None, Some, IsTrue, vec_len, map, slice_set, slice_index_or, if◌then◌else◌, IfOk, IsOk, IsNone, OnOk, OnErr};
 ghost use Rattle.std.specs.Option.{option_to_list};
 ghost use Rattle.pp_channel.specs.Answer.{event_of, reply_to, history_after};
-ghost use Rattle.pp_channel.specs.ChannelNumber.{channel_count, channel_index, names_channel};
+ghost use Rattle.pp_channel.specs.ChannelNumber.{channel_count, channel_index};
 ghost use Rattle.pp_channel.specs.History.{IsLawful, HasTwelveBitWord};
 ghost use Rattle.pp_channel.specs.Law.{KeepsLaw};
 ghost use Rattle.pp_machine.specs.Direct.{IsAtInstruction, IsNext};
 ghost use Rattle.pp_machine.specs.NeedAndEffect.{need};
+ghost use Rattle.pp_machine.specs.Profile.{has_channel};
 ghost use Rattle.pp_machine.specs.Replay.{fits};
 ghost use Rattle.pp_machine.specs.StepLaws.{IsAtRest, IsAtFault, KeepsMemoryAndRegisters};
 
@@ -17,6 +18,7 @@ use crate::need::Need;
 use crate::outcome::Outcome;
 use crate::pp_no::PpNo;
 use crate::pp_state::PpState;
+use crate::profile::Profile;
 use crate::trace::Trace;
 use pp_channel::{ChanOp, Channel, ChannelNo, Event, Memory, Reply};
 use pp_word::{Opcode, Word6};
@@ -74,7 +76,8 @@ impl<A: Allocator> Machine<A> {
                 return Ok(Outcome::Moved);
             }
             if self.processors[i].tests_flags(*op, d) {
-                self.test_flags(n, *op, d);
+                let profile = self.processors[i].profile();
+                self.test_flags(n, *op, d, profile);
                 return Ok(Outcome::Moved);
             }
         }
@@ -83,14 +86,14 @@ impl<A: Allocator> Machine<A> {
 
     /// The step of a processor that tests the flags of a channel, a fault where there is no such channel.
     #[tactic(auto, using(crate::proofs::MachineStepLemmas::stepped_by_probe, crate::proofs::MachineStepLemmas::outcome_by_probe, crate::proofs::MachineStepLemmas::stepped_alone, crate::proofs::MachineStepLemmas::outcome_alone))]
-    fn test_flags(&mut self, n: PpNo, op: Opcode, d: Word6)
+    fn test_flags(&mut self, n: PpNo, op: Opcode, d: Word6, profile: Profile)
         requires next { IsAtInstruction op d (processor_of n self.old) }
-        requires probes { need (processor_of n self.old) ≡ (if names_channel d then Need.Channel d ChanOp.Probe else Need.Local) }
+        requires probes { need (processor_of n self.old) ≡ (if has_channel profile d then Need.Channel d ChanOp.Probe else Need.Local) }
         ensures stepped { self.new ≡ stepped n self.old }
         ensures outcome { step_outcome n self.old ≡ Outcome.Moved }
         ensures headline { HoldsOnEachChannel self.new }
     {
-        let Some(channel) = ChannelNo::new(d.get()) else {
+        let Some(channel) = profile.channel(d.get()) else {
             let _fault = self.processors[n.index()].give_local();
             self.count_turn();
             return;

@@ -3,11 +3,11 @@
 
 ghost use Rattle.std.specs.Prelude.{◌≡◌, ℕ, None, IsTrue, if◌then◌else◌};
 ghost use Rattle.std.specs.Bool.{OnTrue, OnFalse};
-ghost use Rattle.pp_channel.specs.ChannelNumber.{names_channel};
 ghost use Rattle.pp_machine.specs.Direct.{IsAtInstruction, IsNext};
 ghost use Rattle.pp_machine.specs.InstructionTable.{instruction};
 ghost use Rattle.pp_machine.specs.NeedAndEffect.{need, processor_after, outcome};
 ghost use Rattle.pp_machine.specs.Processor.{Processor};
+ghost use Rattle.pp_machine.specs.Profile.{has_channel};
 ghost use Rattle.pp_machine.specs.Replay.{fits};
 ghost use Rattle.pp_machine.specs.Step.{need_of};
 
@@ -63,7 +63,7 @@ impl Pp {
     #[tactic(auto, unfolding(crate::specs::NeedAndEffect::need))]
     pub(crate) fn tests_flags(&self, op: Opcode, d: Word6) -> bool
         requires { IsAtInstruction op d self.now }
-        ensures { OnTrue result (need self.now ≡ (if names_channel d then Need.Channel d ChanOp.Probe else Need.Local)) }
+        ensures { OnTrue result (need self.now ≡ (if has_channel self.now.profile d then Need.Channel d ChanOp.Probe else Need.Local)) }
     {
         matches!(op, Opcode::AJM | Opcode::IJM | Opcode::FJM | Opcode::EJM)
     }

@@ -10,7 +10,6 @@ use crate::answer::Answer;
 use crate::block::BlockKind;
 use crate::pp::Pp;
 use crate::pp_state::PpState;
-use pp_channel::ChannelNo;
 use pp_word::{
     Opcode, Word6, Word12, Word18, add18, and18, clear18, complement18, shift18, sub18, xor18,
 };
@@ -21,7 +20,7 @@ impl Pp {
         requires { self.old.state ≡ PpState.Running }
         ensures { self.new ≡ answered (instruction Opcode.IAM self.old d) self.old Answer.Local }
     {
-        match ChannelNo::new(d.get()) {
+        match self.channel(d) {
             Some(channel) => self.start_block(self.a.get(), BlockKind::Input { channel }),
             None => self.fault(3),
         }
@@ -32,7 +31,7 @@ impl Pp {
         requires { self.old.state ≡ PpState.Running }
         ensures { self.new ≡ answered (instruction Opcode.OAM self.old d) self.old Answer.Local }
     {
-        match ChannelNo::new(d.get()) {
+        match self.channel(d) {
             Some(channel) => self.start_block(self.a.get(), BlockKind::Output { channel }),
             None => self.fault(3),
         }

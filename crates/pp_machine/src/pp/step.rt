@@ -1,10 +1,10 @@
 //! One step: what it needs, and what its answer does.
 
 ghost use Rattle.std.specs.Prelude.{◌≡◌, ◌↔◌, if◌then◌else◌, IsTrue};
-ghost use Rattle.pp_channel.specs.ChannelNumber.{names_channel};
 ghost use Rattle.pp_machine.specs.Blocks.{block_word};
 ghost use Rattle.pp_machine.specs.InstructionTable.{instruction};
 ghost use Rattle.pp_machine.specs.NeedAndEffect.{need, processor_after, outcome, is_held};
+ghost use Rattle.pp_machine.specs.Profile.{has_channel};
 ghost use Rattle.pp_machine.specs.Replay.{fits};
 ghost use Rattle.pp_machine.specs.Step.{need_of};
 ghost use Rattle.pp_machine.specs.StepLaws.{IsAtRest, IsAtFault, IsHeldAnswer, KeepsMemoryAndRegisters};
@@ -15,20 +15,20 @@ use crate::need::Need;
 use crate::outcome::Outcome;
 use crate::pp::Pp;
 use crate::pp_state::PpState;
-use pp_channel::{ChanOp, ChannelNo, Reply};
+use pp_channel::{ChanOp, Reply};
 use pp_word::{Opcode, Word6, Word12};
 
-/// The need of an operation on channel d: local where there is no such channel.
-fn channel_need(d: Word6, operation: ChanOp) -> Need
-    ensures { result ≡ (if names_channel d then Need.Channel d operation else Need.Local) }
-{
-    match ChannelNo::new(d.get()) {
-        Some(channel) => Need::Channel(channel, operation),
-        None => Need::Local,
-    }
-}
-
 impl Pp {
+    /// The need of an operation on channel d: local where there is no such channel.
+    fn channel_need(&self, d: Word6, operation: ChanOp) -> Need
+        ensures { result ≡ (if has_channel self.now.profile d then Need.Channel d operation else Need.Local) }
+    {
+        match self.channel(d) {
+            Some(channel) => Need::Channel(channel, operation),
+            None => Need::Local,
+        }
+    }
+
     /// What an instruction needs.
     #[inline(always)]
     pub(super) fn instruction_need(&self, op: Opcode, d: Word6) -> Need
@@ -37,13 +37,13 @@ impl Pp {
         match op {
             Opcode::CRD => Need::Read(self.a),
             Opcode::CWD => Need::Write(self.a, self.central_from(Word12::from(d))),
-            Opcode::AJM | Opcode::IJM | Opcode::FJM | Opcode::EJM => channel_need(d, ChanOp::Probe),
-            Opcode::IAN => channel_need(d, ChanOp::Take),
-            Opcode::OAN => channel_need(d, ChanOp::Put(self.a.low())),
-            Opcode::ACN => channel_need(d, ChanOp::Activate),
-            Opcode::DCN => channel_need(d, ChanOp::Disconnect),
-            Opcode::FAN => channel_need(d, ChanOp::Function(self.a.low())),
-            Opcode::FNC => channel_need(d, ChanOp::Function(self.second_word())),
+            Opcode::AJM | Opcode::IJM | Opcode::FJM | Opcode::EJM => self.channel_need(d, ChanOp::Probe),
+            Opcode::IAN => self.channel_need(d, ChanOp::Take),
+            Opcode::OAN => self.channel_need(d, ChanOp::Put(self.a.low())),
+            Opcode::ACN => self.channel_need(d, ChanOp::Activate),
+            Opcode::DCN => self.channel_need(d, ChanOp::Disconnect),
+            Opcode::FAN => self.channel_need(d, ChanOp::Function(self.a.low())),
+            Opcode::FNC => self.channel_need(d, ChanOp::Function(self.second_word())),
             _ => Need::Local,
         }
     }

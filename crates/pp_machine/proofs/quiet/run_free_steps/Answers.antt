@@ -2,12 +2,13 @@ use Rattle.std.proofs.Common.{◌≡◌, ◌<◌, Bool, true, refl, List, [], ap
 use Rattle.std.specs.Prelude.{if◌then◌else◌}
 use Rattle.std.proofs.lemmas.List.{get_or_read}
 use Rattle.pp_channel.specs.Answer.{flags_of}
-use Rattle.pp_channel.specs.ChannelNumber.{channel_index, names_channel}
+use Rattle.pp_channel.specs.ChannelNumber.{channel_index}
 use Rattle.pp_channel.specs.declared.chan_op.ChanOp.TheVariants.{Probe}
 use Rattle.pp_channel.specs.declared.event.Event.{Event}
 use Rattle.pp_machine.specs.MachineState.{history_of}
 use Rattle.pp_machine.specs.NeedAndEffect.{need}
 use Rattle.pp_machine.specs.Processor.{Processor}
+use Rattle.pp_machine.specs.Profile.{has_channel}
 use Rattle.pp_machine.specs.Quiet.{IsAhead}
 use Rattle.pp_machine.specs.declared.need.Need.TheVariants as needs
 use Rattle.pp_machine.proofs.QuietLemmas.{none_ahead, local_ahead, probe_ahead}
@@ -24,19 +25,19 @@ pub returns-then-not-tests_flags-clause-ahead : goal.returns-then-not-tests_flag
 returns-then-not-tests_flags-clause-ahead g c = λ m same.
     subst (λ (pp : Processor). IsAhead c.loop-made.made m c.args.pp.now pp) (sym c.if-run_inner.ensures.otherwise) (c.loop-made.invariant m same)
 
-pub returns-in_default-new-clause-ahead : goal.returns-in_default-new-clause-ahead
-returns-in_default-new-clause-ahead g c = λ m same.
+pub returns-in_default-channel-clause-ahead : goal.returns-in_default-channel-clause-ahead
+returns-in_default-channel-clause-ahead g c = λ m same.
     subst (λ (pp : Processor). IsAhead c.loop-made.made m c.args.pp.now pp) (sym c.if-run_inner.ensures.otherwise) (c.loop-made.invariant m same)
 
 pub loop-made-preserved : goal.loop-made-preserved
 loop-made-preserved g c = λ m same.
     let histories = c.args.channels.now.items in
     let between = c.run_inner.new.self in
-    let channel = c.in-Some-new.channel in
+    let channel = c.in-Some-channel.channel in
     let d = c.next_instruction-next.result.1 in
     let ahead : IsAhead c.loop-made.made m c.args.pp.now between = subst (λ (pp : Processor). IsAhead c.loop-made.made m c.args.pp.now pp) (sym c.if-run_inner.ensures.otherwise) (c.loop-made.invariant m same) in
-    let number : channel ≡ d = c.in-Some-new.ensures.value ∙ c.get.ensures.value in
-    let named : names_channel d ≡ true = ap names_channel (sym c.get.ensures.value) ∙ c.in-Some-new.ensures.exists.0 refl in
+    let number : channel ≡ d = c.in-Some-channel.ensures.value in
+    let named : has_channel between.profile d ≡ true = c.in-Some-channel.ensures.exists.0 refl in
     let asks : need between ≡ needs.Channel channel Probe =
     c.if-not-tests_flags.ensures ∙ ap (λ (b : Bool). if b then needs.Channel d Probe else needs.Local) named ∙ ap (λ k. needs.Channel k Probe) (sym number) in
     let place = c.index.result in

@@ -1,6 +1,6 @@
 use Rattle.std.proofs.Common.{arith, ℕ, ◌≡◌, ◌+◌, ◌-◌, ◌<◌, length, ap, get_or, subst, inl, inr, ◌∙◌}
 use Rattle.std.proofs.lemmas.List.{length-set, get_or_read}
-use Rattle.pp_machine.specs.Processor.{Processor, new_processor}
+use Rattle.pp_machine.specs.Processor.{Processor, no_processor}
 use Rattle.pp_machine.specs.ProcessorNumber.{processor_count}
 use Rattle.pp_machine.specs.StepLaws.{IsAtRest}
 use Rattle.pp_machine.proofs.RoundLemmas.{PassesFrom, passes_from_running, passes_from_rest}
@@ -24,9 +24,9 @@ loop-place-preserved g c =
       so_far = elim c.match-state.branch [
         | in-Running w ↦ rw w.running-is (passes_from_running next place c.loop-place.running processors inside named so_far)
         | in-Stopped w ↦
-            let rests : IsAtRest (get_or processors place new_processor) =
-            let here = get_or_read processors place c.index.result.now (omega arith) c.index.ensures new_processor in
-            let state : c.state.result ≡ (get_or processors place new_processor).state = c.state.ensures.value ∙ ap (λ (pp : Processor). pp.state) here in
+            let rests : IsAtRest (get_or processors place no_processor) =
+            let here = get_or_read processors place c.index.result.now (omega arith) c.index.ensures no_processor in
+            let state : c.state.result ≡ (get_or processors place no_processor).state = c.state.ensures.value ∙ ap (λ (pp : Processor). pp.state) here in
             λ running. elim w.in-Stopped.is [ inl stopped ↦ cc | inr fault ↦ let is = fault.1 in cc ] in
             rw w.running-is (passes_from_rest next place c.loop-place.running processors inside rests so_far)
       ];

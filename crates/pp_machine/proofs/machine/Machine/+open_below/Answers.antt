@@ -1,4 +1,4 @@
-use Rattle.std.proofs.Common.{◌≡◌, ◌∙◌, ℕ, ◌+◌, ◌-◌, ◌%◌, ◌<◌, take, sym, ap, get_or, true, false, arith}
+use Rattle.std.proofs.Common.{◌≡◌, ◌∙◌, ℕ, ◌+◌, ◌-◌, ◌<◌, take, sym, ap, get_or, true, false, arith}
 use Rattle.pp_machine.specs.DeadStart.{dead_started, with_waiting}
 use Rattle.pp_machine.specs.MachineState.{history_of}
 use Rattle.pp_machine.specs.ProcessorNumber.{processor_count, processor_number}
@@ -14,8 +14,7 @@ pub let_wait-requires-clause-unused : goal.let_wait-requires-clause-unused
 let_wait-requires-clause-unused g t c =
     let place : ℕ = c.args.count - 1 in
     let below : place < processor_count = omega (arith, c.requires.count, c.if-count-eq0.false) in
-    let same : place % processor_count ≡ place = omega (arith, below) in
-    let number : c.at-n.result ≡ processor_number place = c.at-n.ensures ∙ ap processor_number same in
+    let number : c.at-n.result ≡ processor_number place = c.at-n.ensures.number in
     ap (λ s. history_of c.at-n.result s) c.in_ok-open_below.ensures.ok
     ∙ (ap (λ n. history_of n (dead_started (take place c.args.waiting.now) c.args.self.now)) number
     ∙ still_unused place c.args.waiting.now c.args.self.now below c.requires.before)
@@ -24,8 +23,7 @@ pub returns-clause-ok : goal.returns-clause-ok
 returns-clause-ok g t c =
     let place : ℕ = c.args.count - 1 in
     let below : place < processor_count = omega (arith, c.requires.count, c.if-count-eq0.false) in
-    let same : place % processor_count ≡ place = omega (arith, below) in
-    let number : c.at-n.result ≡ processor_number place = c.at-n.ensures ∙ ap processor_number same in
+    let number : c.at-n.result ≡ processor_number place = c.at-n.ensures.number in
     let next : place + 1 ≡ c.args.count = omega (arith, c.if-count-eq0.false) in
     let waiting : get_or c.args.waiting.now place false ≡ true = grind (arith, c.if-not-waiting-place.false) in
     c.let_wait.ensures

@@ -1,13 +1,15 @@
 use Rattle.std.proofs.Common.{◌≡◌, ◌<◌, Some, length, arith, refl, sym, ap, ◌∙◌, subst}
-use Rattle.std.specs.Prelude.{IfOk, OnOk}
+use Rattle.std.specs.Prelude.{IfOk, OnOk, if◌then◌else◌}
 use Rattle.std.proofs.lemmas.List.{length-set}
+use Rattle.pp_channel.specs.declared.chan_op.ChanOp.TheVariants.{Probe}
 use Rattle.pp_machine.specs.Direct.{IsNext}
 use Rattle.pp_machine.specs.MachineState.{MachineState, processor_of}
 use Rattle.pp_machine.specs.MachineStep.{stepped, step_outcome}
 use Rattle.pp_machine.specs.NeedAndEffect.{need, outcome}
 use Rattle.pp_machine.specs.Processor.{Processor}
+use Rattle.pp_machine.specs.Profile.{has_channel}
 use Rattle.pp_machine.specs.declared.answer.Answer.TheVariants as answers
-use Rattle.pp_machine.specs.declared.need.Need.TheVariants.{Local}
+use Rattle.pp_machine.specs.declared.need.Need.TheVariants.{Local, Channel}
 use Rattle.pp_machine.proofs.MachineStepLemmas.{stepped_alone, outcome_alone}
 use Rattle.pp_machine.proofs.TakenLemmas.{own_processor, taken_by, same_machine}
 use Rattle.pp_machine.proofs.machine.Machine.go_on.Goals.{in-Some+else-run_inner+else-tests_flags, in_default}
@@ -73,7 +75,9 @@ test_flags-requires-clause-probes g c =
     let same = same_machine c.index-i.result c.self.view_is c.index_mut.ensures.value c.if-run_inner.ensures.otherwise in
     let again = own_processor c.args.n same c.index-i.ensures.place
     (subst (λ k. c.index-i.result < k) (sym (length-set c.self.inside.processors.items c.index-i.result c.run_inner.new.self)) within) c.index-in-Some.ensures in
-    ap (λ (m : MachineState). need (processor_of c.args.n m)) same ∙ (ap need (sym again) ∙ c.if-tests_flags.ensures)
+    let once_more = own_processor c.args.n same c.index-i.ensures.place
+    (subst (λ k. c.index-i.result < k) (sym (length-set c.self.inside.processors.items c.index-i.result c.run_inner.new.self)) within) c.index-then-tests_flags.ensures in
+    ap (λ (m : MachineState). need (processor_of c.args.n m)) same ∙ (ap need (sym again) ∙ c.if-tests_flags.ensures ∙ ap (λ p. if has_channel p c.next_instruction-next.result.1 then Channel c.next_instruction-next.result.1 Probe else Local) (ap (λ (pp : Processor). pp.profile) (again ∙ sym once_more) ∙ sym c.profile-profile.ensures))
 
 pub returns-then-tests_flags-clause-ok : goal.returns-then-tests_flags-clause-ok
 returns-then-tests_flags-clause-ok g c = c.test_flags.ensures.stepped ∙ ap (stepped c.args.n) (same_machine c.index-i.result c.self.view_is c.index_mut.ensures.value c.if-run_inner.ensures.otherwise)

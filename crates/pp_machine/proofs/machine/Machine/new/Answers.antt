@@ -16,7 +16,7 @@ pub invariant_of-result : goal.invariant_of-result
 invariant_of-result g c =
     let histories = c.in_ok-new_channels.field-0.items in
     record {
-      processors = ap length c.in_ok-new_processors.ensures.items ∙ length-replicate processor_count new_processor;
+      processors = ap length c.in_ok-new_processors.ensures.items ∙ length-replicate processor_count (new_processor c.args.profile);
       channels = ap length c.in_ok-new_channels.ensures.items ∙ length-replicate {A = List Event} channel_count [];
       opened = length-replicate channel_count false;
       central = c.in_ok-central.ensures.sound;

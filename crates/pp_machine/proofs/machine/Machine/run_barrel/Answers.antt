@@ -1,22 +1,34 @@
-use Rattle.std.proofs.Common.{arith}
-use Rattle.std.proofs.lemmas.Grind.{common_steps}
-use Rattle.pp_machine.proofs.RoundLemmas.{barrel_rounds}
+use Rattle.std.proofs.Common.{refl, ◌≡◌, ◌<◌, ◌/◌, ◌%◌, ◌*◌, ◌+◌, sym, ap, subst, ◌∙◌, arith}
+use Rattle.pp_machine.specs.Profile.{processors_in}
+use Rattle.pp_machine.specs.Rounds.{whole_rounds}
+use Rattle.pp_machine.specs.Run.{run, barrel}
+use Rattle.pp_machine.proofs.ProfileLemmas.{rest_within, rounds_and_rest}
+use Rattle.pp_machine.proofs.RoundLemmas.{profile_after, counted_rounds, turns_after, event_after}
 use Rattle.pp_machine.proofs.machine.Machine.run_barrel.Goals as goal
 
-pub run_by_turns-requires : goal.run_by_turns-requires
-run_by_turns-requires g c = grind (arith, common_steps, barrel_rounds)
+pub run_round-requires-clause-round : goal.run_round-requires-clause-round
+run_round-requires-clause-round g c =
+    let m = c.args.self.now in
+    let same = profile_after (whole_rounds m.profile (c.args.turns / c.round-round.result)) m c.run_rounds.new.self c.in_default.ensures.ok in
+    let round : c.round-round.result ≡ processors_in m.profile = c.round-round.ensures in
+    let rest : c.args.turns % c.round-round.result < processors_in m.profile = subst (λ k. c.args.turns % k < processors_in m.profile) (sym round) (rest_within m.profile c.args.turns) in
+    let within : c.args.turns % c.round-round.result < processors_in c.run_rounds.new.self.profile = subst (λ p. c.args.turns % c.round-round.result < processors_in p) (sym same) rest in
+    omega (arith, within)
 
-pub loop-done-preserved-then-quiet-window : goal.loop-done-preserved-then-quiet-window
-loop-done-preserved-then-quiet-window g c = grind (arith, common_steps, barrel_rounds)
+pub returns-in-Ok-clause-ok : goal.returns-in-Ok-clause-ok
+returns-in-Ok-clause-ok g c =
+    let m = c.args.self.now in
+    let whole = c.args.turns / c.round-round.result in
+    let rest = c.args.turns % c.round-round.result in
+    let all : whole * processors_in m.profile + rest ≡ c.args.turns = subst (λ k. c.args.turns / k * processors_in m.profile + c.args.turns % k ≡ c.args.turns) (sym c.round-round.ensures) (rounds_and_rest m.profile c.args.turns) in
+    turns_after whole rest (whole * processors_in m.profile) m c.run_rounds.new.self c.run_round.new.self c.in_default.ensures.ok refl c.in-Ok.ensures.ok ∙ ap (λ k. run (barrel m.profile k) m) all
 
-pub loop-done-preserved : goal.loop-done-preserved
-loop-done-preserved g c = grind (arith, common_steps, barrel_rounds)
+pub returns-in-Err-run_round-clause-cut : goal.returns-in-Err-run_round-clause-cut
+returns-in-Err-run_round-clause-cut g c =
+    let m = c.args.self.now in
+    turns_after (c.args.turns / c.round-round.result) c.in-Err-run_round.before (c.from.result * c.from-in-Err-run_round.result) m c.run_rounds.new.self c.run_round.new.self c.in_default.ensures.ok (counted_rounds m.profile c.from.result c.from-in-Err-run_round.result (c.args.turns / c.round-round.result) c.round-round.result c.from.ensures c.from-in-Err-run_round.ensures c.round-round.ensures) c.in-Err-run_round.ensures.cut
 
-pub returns-clause-ok : goal.returns-clause-ok
-returns-clause-ok g c = grind (arith, common_steps, barrel_rounds)
-
-pub returns-in-Err-clause-cut : goal.returns-in-Err-clause-cut
-returns-in-Err-clause-cut g c = grind (arith, common_steps, barrel_rounds)
-
-pub returns-in-Err-clause-cut_at_event : goal.returns-in-Err-clause-cut_at_event
-returns-in-Err-clause-cut_at_event g c = grind (arith, common_steps, barrel_rounds)
+pub returns-in-Err-run_round-clause-cut_at_event : goal.returns-in-Err-run_round-clause-cut_at_event
+returns-in-Err-run_round-clause-cut_at_event g c =
+    let m = c.args.self.now in
+    event_after (c.args.turns / c.round-round.result) c.in-Err-run_round.before (c.from.result * c.from-in-Err-run_round.result) m c.run_rounds.new.self c.run_round.new.self c.in_default.ensures.ok (counted_rounds m.profile c.from.result c.from-in-Err-run_round.result (c.args.turns / c.round-round.result) c.round-round.result c.from.ensures c.from-in-Err-run_round.ensures c.round-round.ensures) c.in-Err-run_round.ensures.cut_at_event

@@ -1,19 +1,25 @@
-use Rattle.std.proofs.Common.{arith}
-use Rattle.std.proofs.lemmas.Grind.{common_steps}
-use Rattle.pp_machine.proofs.RoundLemmas.{barrel_rounds}
+use Rattle.std.proofs.Common.{◌*◌, arith}
+use Rattle.pp_machine.proofs.RoundLemmas.{counted_rounds, rounds_after, turns_after, within_after, event_after}
 use Rattle.pp_machine.proofs.machine.Machine.run_by_turns.Goals as goal
 
-pub run_rounds-requires-clause-rounds : goal.run_rounds-requires-clause-rounds
-run_rounds-requires-clause-rounds g c = grind (arith, common_steps, barrel_rounds)
-
 pub returns-in-Err-clause-cut : goal.returns-in-Err-clause-cut
-returns-in-Err-clause-cut g c = grind (arith, common_steps, barrel_rounds)
+returns-in-Err-clause-cut g c =
+    let counted = counted_rounds c.args.self.now.profile c.from.result c.from-in-Err.result c.loop-done.done c.round-round.result c.from.ensures c.from-in-Err.ensures c.round-round.ensures in
+    turns_after c.loop-done.done c.in-Err.before (c.from.result * c.from-in-Err.result) c.args.self.now c.loop-done.self c.run_passing.new.self c.loop-done.invariant.ran counted c.in-Err.ensures.cut
+
+pub returns-in-Err-clause-within : goal.returns-in-Err-clause-within
+returns-in-Err-clause-within g c =
+    let counted = counted_rounds c.args.self.now.profile c.from.result c.from-in-Err.result c.loop-done.done c.round-round.result c.from.ensures c.from-in-Err.ensures c.round-round.ensures in
+    within_after c.loop-done.done c.min-further.result c.args.rounds c.in-Err.before (c.from.result * c.from-in-Err.result) c.args.self.now c.loop-done.self c.loop-done.invariant.ran counted c.in-Err.ensures.within (omega arith)
 
 pub returns-in-Err-clause-cut_at_event : goal.returns-in-Err-clause-cut_at_event
-returns-in-Err-clause-cut_at_event g c = grind (arith, common_steps, barrel_rounds)
+returns-in-Err-clause-cut_at_event g c =
+    let counted = counted_rounds c.args.self.now.profile c.from.result c.from-in-Err.result c.loop-done.done c.round-round.result c.from.ensures c.from-in-Err.ensures c.round-round.ensures in
+    event_after c.loop-done.done c.in-Err.before (c.from.result * c.from-in-Err.result) c.args.self.now c.loop-done.self c.run_passing.new.self c.loop-done.invariant.ran counted c.in-Err.ensures.cut_at_event
 
 pub loop-done-preserved : goal.loop-done-preserved
-loop-done-preserved g c = grind (arith, common_steps, barrel_rounds)
-
-pub returns-clause-ok : goal.returns-clause-ok
-returns-clause-ok g c = grind (arith, common_steps, barrel_rounds)
+loop-done-preserved g c = record {
+  ran = rounds_after c.loop-done.done c.min-further.result c.args.self.now c.loop-done.self c.run_passing.new.self c.loop-done.invariant.ran c.in_default.ensures.ok;
+  within = omega arith;
+  headline = c.run_passing.ensures.headline;
+}

@@ -6,7 +6,7 @@ use Rattle.pp_machine.proofs.machine.Machine.run_round.Given as goal
 
 abbrev pub invariant-loop-self : goal.invariant-loop-self
 invariant-loop-self g l = record {
-  ran : l.self ≡ run (barrel l.place) l.fn.self;
+  ran : l.self ≡ run (barrel l.fn.self.profile l.place) l.fn.self;
   within : l.place ≤ l.turns;
   passes : PassesOverRest l.next l.self.processors;
   headline : HoldsOnEachChannel l.self;

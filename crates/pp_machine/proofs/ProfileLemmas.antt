@@ -1,0 +1,86 @@
+-- What proofs know of the processors and channels of a profile.
+use Rattle.std.proofs.Common.{◌≡◌, ℕ, suc, ◌+◌, ◌*◌, ◌/◌, ◌%◌, ◌<◌, ◌≤◌, ap, sym, ◌∙◌, arith}
+use Rattle.std.specs.Prelude.{IsTrue}
+use Rattle.pp_channel.specs.ChannelNumber.{channel_count, channel_index, names_channel}
+use Rattle.pp_channel.proofs.ChannelPlaces as channels
+use Rattle.pp_machine.specs.ProcessorNumber.{processor_count, processor_index, processor_number, names_processor}
+use Rattle.pp_machine.specs.Profile.{processors_in, channels_in, has_processor, has_channel, processor_in_turn}
+use Rattle.pp_machine.specs.declared.profile.Profile.{Profile}
+use Rattle.pp_machine.specs.declared.profile.Profile.TheVariants.{Ten, Twenty}
+use Rattle.pp_machine.proofs.ProcessorPlaces.{place_of_number, named_below}
+
+pub some_processors : (p : Profile) → 1 ≤ processors_in p
+some_processors Ten = omega arith
+some_processors Twenty = omega arith
+
+pub most_processors : (p : Profile) → processors_in p ≤ processor_count
+most_processors Ten = omega arith
+most_processors Twenty = omega arith
+
+pub most_channels : (p : Profile) → channels_in p ≤ channel_count
+most_channels Ten = omega arith
+most_channels Twenty = omega arith
+
+-- what a profile has, a number names
+pub processor_named : (p : Profile) (n : ℕ) → IsTrue (has_processor p n) → IsTrue (names_processor n)
+unfolding has_processor
+processor_named p n has = let most = most_processors p in named_below n (grind (arith))
+
+pub channel_named : (p : Profile) (c : ℕ) → IsTrue (has_channel p c) → IsTrue (names_channel c)
+unfolding has_channel
+channel_named p c has = let most = most_channels p in channels.named_below c (grind (arith))
+
+-- turns within the first round come in the order of places
+pub place_in_turn : (p : Profile) (turn : ℕ) → turn < processors_in p → turn % processors_in p ≡ turn
+place_in_turn Ten turn within = omega arith
+place_in_turn Twenty turn within = omega arith
+
+pub in_turn_at : (p : Profile) (place : ℕ) → place < processors_in p → processor_in_turn p place ≡ processor_number place
+in_turn_at p place within = ap processor_number (place_in_turn p place within)
+
+pub index_in_turn : (p : Profile) (place : ℕ) → place < processors_in p → processor_index (processor_in_turn p place) ≡ place
+index_in_turn p place within =
+    let most = most_processors p in
+    ap processor_index (in_turn_at p place within) ∙ place_of_number place (omega arith)
+
+-- after whole rounds the barrel begins anew
+pub place_in_round : (p : Profile) (rounds turn : ℕ) → (rounds * processors_in p + turn) % processors_in p ≡ turn % processors_in p
+place_in_round Ten rounds turn = omega arith
+place_in_round Twenty rounds turn = omega arith
+
+pub in_round : (p : Profile) (rounds turn : ℕ) → processor_in_turn p (rounds * processors_in p + turn) ≡ processor_in_turn p turn
+in_round p rounds turn = ap processor_number (place_in_round p rounds turn)
+
+-- rounds are counted in turns
+pub more_rounds : (p : Profile) (rounds more : ℕ) → (rounds + more) * processors_in p ≡ rounds * processors_in p + more * processors_in p
+more_rounds Ten rounds more = omega arith
+more_rounds Twenty rounds more = omega arith
+
+pub no_rounds : (p : Profile) → 0 * processors_in p ≡ 0
+no_rounds Ten = omega arith
+no_rounds Twenty = omega arith
+
+pub one_round : (p : Profile) → 1 * processors_in p ≡ processors_in p
+one_round Ten = omega arith
+one_round Twenty = omega arith
+
+pub next_round : (p : Profile) (rounds : ℕ) → suc rounds * processors_in p ≡ rounds * processors_in p + processors_in p
+next_round Ten rounds = omega arith
+next_round Twenty rounds = omega arith
+
+pub fewer_rounds : (p : Profile) (rounds more : ℕ) → rounds ≤ more → rounds * processors_in p ≤ more * processors_in p
+fewer_rounds Ten rounds more within = omega arith
+fewer_rounds Twenty rounds more within = omega arith
+
+pub rounds_and_rest : (p : Profile) (turns : ℕ) → turns / processors_in p * processors_in p + turns % processors_in p ≡ turns
+rounds_and_rest Ten turns = omega arith
+rounds_and_rest Twenty turns = omega arith
+
+pub rest_within : (p : Profile) (turns : ℕ) → turns % processors_in p < processors_in p
+rest_within Ten turns = omega arith
+rest_within Twenty turns = omega arith
+
+-- no more turns than twenty a round
+pub rounds_bound : (p : Profile) (rounds : ℕ) → rounds * processors_in p ≤ 20 * rounds
+rounds_bound Ten rounds = omega arith
+rounds_bound Twenty rounds = omega arith

@@ -1,0 +1,32 @@
+-- Profiles: how many processors and channels a machine has. Its processors stand at the first places of the barrel, its
+-- channels at the first places in order of number.
+--
+-- Control Data 6400/6500/6600 Computer Systems Reference Manual, publication 60100000, part on peripheral and
+-- control processors: ten processors and twelve channels. A machine of twenty has twice as many of both.
+use Rattle.std.specs.Prelude.{ℕ, ◌%◌, Bool, nat_lt}
+use Rattle.pp_channel.specs.ChannelNumber.{channel_count, channel_index}
+use Rattle.pp_machine.specs.ProcessorNumber.{processor_count, processor_index, processor_number}
+use Rattle.pp_machine.specs.declared.profile.Profile.{Profile}
+use Rattle.pp_machine.specs.declared.profile.Profile.TheVariants.{Ten, Twenty}
+
+-- how many processors it has
+abbrev pub processors_in : Profile → ℕ
+processors_in Ten = 0o12
+processors_in Twenty = processor_count
+
+-- how many channels
+abbrev pub channels_in : Profile → ℕ
+channels_in Ten = 0o14
+channels_in Twenty = channel_count
+
+-- whether it has a processor of this number
+unfoldable pub has_processor : Profile → ℕ → Bool
+has_processor profile number = nat_lt (processor_index number) (processors_in profile)
+
+-- whether it has a channel of this number
+unfoldable pub has_channel : Profile → ℕ → Bool
+has_channel profile number = nat_lt (channel_index number) (channels_in profile)
+
+-- the processor whose turn it is after so many turns of the barrel
+abbrev pub processor_in_turn : Profile → ℕ → ℕ
+processor_in_turn profile turn = processor_number (turn % processors_in profile)

@@ -1,0 +1,75 @@
+//! Which processors and channels a machine has.
+
+ghost use Rattle.std.specs.Prelude.{◌≡◌, ◌↔◌, IsTrue, IsSome, IfSome};
+ghost use Rattle.pp_machine.specs.Profile.{processors_in, channels_in, has_processor, has_channel};
+
+use crate::pp_no::{PROCESSORS, PpNo};
+use pp_channel::{CHANNELS, ChannelNo};
+
+/// How many processors and channels a machine has. The first have the same numbers in both profiles.
+#[derive(Clone, Copy, Debug, PartialEq, Eq)]
+pub enum Profile {
+    /// The 6600: ten processors, 0 to 11 (octal), and twelve channels, 0 to 13.
+    Ten,
+    /// A machine of twenty processors, 0 to 11 and 20 to 31 (octal), and twenty-four channels, 0 to 13
+    /// and 20 to 33.
+    Twenty,
+}
+
+/// How many processors the smaller machine has (decimal).
+const TEN: usize = 10;
+
+/// How many channels the smaller machine has (decimal).
+const TWELVE: usize = 12;
+
+impl Profile {
+    /// How many processors it has, 10 or 20 (decimal): so many turns are a round of the barrel.
+    pub fn processors(self) -> usize
+        ensures { result ≡ processors_in self }
+    {
+        match self {
+            Profile::Ten => TEN,
+            Profile::Twenty => PROCESSORS,
+        }
+    }
+
+    /// How many channels it has, 12 or 24 (decimal).
+    pub fn channels(self) -> usize
+        ensures { result ≡ channels_in self }
+    {
+        match self {
+            Profile::Ten => TWELVE,
+            Profile::Twenty => CHANNELS,
+        }
+    }
+
+    /// Its processor of this number, or nothing from 12 (octal) on under `Ten`, from 12 to 17 and from
+    /// 32 on under `Twenty`.
+    #[tactic(auto, using(crate::proofs::ProfileLemmas::processor_named), unfolding(crate::specs::Profile::has_processor))]
+    pub fn processor(self, number: u8) -> Option<PpNo>
+        ensures exists { IsSome result ↔ IsTrue (has_processor self number) }
+        ensures value { IfSome result (λ n. n ≡ number) }
+    {
+        let n = PpNo::new(number)?;
+        if n.index() < self.processors() {
+            Some(n)
+        } else {
+            None
+        }
+    }
+
+    /// Its channel of this number, or nothing from 14 (octal) on under `Ten`, from 14 to 17 and from 34
+    /// on under `Twenty`.
+    #[tactic(auto, using(crate::proofs::ProfileLemmas::channel_named), unfolding(crate::specs::Profile::has_channel))]
+    pub fn channel(self, number: u8) -> Option<ChannelNo>
+        ensures exists { IsSome result ↔ IsTrue (has_channel self number) }
+        ensures value { IfSome result (λ c. c ≡ number) }
+    {
+        let c = ChannelNo::new(number)?;
+        if c.index() < self.channels() {
+            Some(c)
+        } else {
+            None
+        }
+    }
+}
