@@ -1,31 +1,36 @@
 -- A loaded deck at dead start: who waits, on which channel, and what stays as the lines set it.
-use Rattle.std.proofs.Common.{◌≡◌, ℕ, ◌&&◌, Bool, true, false, IsTrue, List, [], ◌∷◌, length, map, get_or, if◌then◌else◌, refl, sym, ap, ◌∙◌, arith}
-use Rattle.std.specs.Prelude.{not}
+use Rattle.std.proofs.Common.{◌≡◌, ℕ, ◌<◌, ◌≤◌, ◌&&◌, Bool, true, false, IsTrue, List, [], ◌∷◌, length, map, get_or, if◌then◌else◌, refl, sym, ap, ◌∙◌, arith, inl, inr}
+use Rattle.std.specs.Prelude.{not, nat_lt, slice_index_or}
 use Rattle.std.specs.List.{list_any}
-use Rattle.std.proofs.lemmas.List.{get_or-map, get_or-replicate, get_or_default}
+use Rattle.std.proofs.lemmas.Bool.{ltb-true, ltb-false, le-ltb}
+use Rattle.std.proofs.lemmas.Bool.Decides.{leb_tells}
+use Rattle.std.proofs.lemmas.List.{ext_get_or, get_or_past, get_or-replicate, get_or_default}
 use Rattle.std.proofs.lemmas.List.FromFn.{length-map-range_with_len, get_or-map-range_with_len}
 use Rattle.std.proofs.lemmas.List.Folds.{Any-from_list_any, list_any_at}
 use Rattle.pp_channel.specs.ChannelNumber.{channel_count, channel_index, channel_number, names_channel}
 use Rattle.pp_channel.specs.declared.event.Event.TheVariants.{Activate}
 use Rattle.pp_channel.proofs.ChannelPlaces as channel_places
-use Rattle.pp_machine.specs.DeadStart.{waiting_on, waits, processor_started, history_started, processors_started, histories_started, opened_where, dead_started}
+use Rattle.pp_machine.specs.DeadStart.{WaitsWithin, waiting_on, waits, processor_started, history_started, processors_started, histories_started, opened_where, dead_started}
 use Rattle.pp_machine.specs.MachineState.{MachineState, processor_of, history_of, is_opened}
-use Rattle.pp_machine.specs.Processor.{new_processor}
+use Rattle.pp_machine.specs.Processor.{no_processor}
 use Rattle.pp_machine.specs.ProcessorNumber.{names_processor, processor_count, processor_index, processor_number}
+use Rattle.pp_machine.specs.Profile.{processors_in, has_processor}
 use Rattle.pp_machine.proofs.ProcessorPlaces as processor_places
+use Rattle.pp_machine.proofs.ProfileLemmas.{unnamed_lacks, has_at}
 use Rattle.pp_deck.specs.DeckLaw.{AsksForDeadStart, IsNamed, Waits, line_of}
 use Rattle.pp_deck.specs.DeckLine.{Line, nothing, central_size, central_words, section, start, words, dead_start}
 use Rattle.pp_deck.specs.DeckLoad.{is_dead_start, asks_dead_start, is_named, names, each_processor}
-use Rattle.pp_deck.specs.DeckMeaning.{LoadedDeck, set_by, with_dead_start}
+use Rattle.pp_deck.specs.DeckMeaning.{LoadedDeck, set_by, unnamed_in, with_dead_start}
 use Rattle.pp_deck.proofs.LawLemmas.{named_here, some_name, named_some}
-use Rattle.pp_deck.proofs.ListLemmas.{length-tabulate}
+use Rattle.pp_deck.proofs.ListLemmas.{length-tabulate, get_or-tabulate}
+use Rattle.pp_machine.specs.declared.profile.Profile.{Profile}
 
 -- ---- a machine at dead start, place by place
 
 processor_at : (list : List Bool) (m : MachineState) (n : ℕ) → IsTrue (names_processor n) → processor_of n (dead_started list m) ≡ processor_started (waits list) m n
 unfolding processors_started
 processor_at list m n named =
-    get_or-map-range_with_len (λ place. processor_started (waits list) m (processor_number place)) 0 processor_count (processor_index n) (processor_index n) new_processor (processor_places.place_below n named) (omega arith)
+    get_or-map-range_with_len (λ place. processor_started (waits list) m (processor_number place)) 0 processor_count (processor_index n) (processor_index n) no_processor (processor_places.place_below n named) (omega arith)
     ∙ ap (processor_started (waits list) m) (processor_places.number_of_place n named)
 
 history_at : (list : List Bool) (m : MachineState) (c : ℕ) → IsTrue (names_channel c) → history_of c (dead_started list m) ≡ history_started (waits list) m c
@@ -41,26 +46,6 @@ opened_at list m c named =
     ∙ ap (waits list) (channel_places.number_of_place c named)
 
 -- ---- who waits
-
--- dead start is asked for, and no line names processor n
-abbrev pub is_waiting : List Line → ℕ → Bool
-is_waiting lines n = asks_dead_start lines && (names_processor n && not (is_named lines n))
-
-waits_unnamed : (size : ℕ) (lines : List Line) (n : ℕ) → waits (map not (set_by size lines).named) n ≡ (names_processor n && not (is_named lines n))
-waits_unnamed size lines n = at_number (names_processor n) refl
-  where
-    named : List Bool
-    named = each_processor (is_named lines)
-
-    at_number : (b : Bool) → names_processor n ≡ b → waits (map not named) n ≡ (names_processor n && not (is_named lines n))
-    at_number true e =
-        ap (λ (b : Bool). names_processor n && b)
-        (get_or-map not named (processor_index n) false false (omega (arith, length-tabulate processor_count (λ place. is_named lines (processor_number place)), processor_places.place_below n e))
-        ∙ ap not (named_here size lines n e))
-    at_number false e = rw e refl
-
-waits_where_asked : (size : ℕ) (lines : List Line) (n : ℕ) → asks_dead_start lines ≡ true → waits (map not (set_by size lines).named) n ≡ is_waiting lines n
-waits_where_asked size lines n e = waits_unnamed size lines n ∙ sym (ap (λ (b : Bool). b && (names_processor n && not (is_named lines n))) e)
 
 some_asks : (lines : List Line) → asks_dead_start lines ≡ true → AsksForDeadStart lines
 some_asks lines e =
@@ -91,65 +76,16 @@ not_named : (n : ℕ) (lines : List Line) (b : Bool) → is_named lines n ≡ b 
 not_named n lines true e h some = absurd (cc)
 not_named n lines false e h some = let yes = named_some n lines some in absurd (cc)
 
-pub waiting : (lines : List Line) (n : ℕ) → is_waiting lines n ≡ true → Waits lines n
-waiting lines n e =
-    let unnamed = and_right (asks_dead_start lines) _ e in
-    record {
-      processor = and_left (names_processor n) _ unnamed;
-      asked = some_asks lines (and_left (asks_dead_start lines) _ e);
-      unnamed = not_named n lines (is_named lines n) refl (and_right (names_processor n) _ unnamed);
-    }
-
-pub waiting_where : (lines : List Line) (n : ℕ) → Waits lines n → is_waiting lines n ≡ true
-waiting_where lines n w =
-    ap (λ (b : Bool). b && (names_processor n && not (is_named lines n))) (asked_some lines w.asked)
-    ∙ ap (λ (b : Bool). b && not (is_named lines n)) w.processor ∙ ap not (unnamed (is_named lines n) refl)
-  where
-    unnamed : (b : Bool) → is_named lines n ≡ b → is_named lines n ≡ false
-    unnamed true e = absurd (w.unnamed (some_name n lines e))
-    unnamed false e = e
-
-pub not_waiting : (lines : List Line) (n : ℕ) → (Waits lines n → ⊥) → is_waiting lines n ≡ false
-not_waiting lines n not_so = by (is_waiting lines n) refl
-  where
-    by : (b : Bool) → is_waiting lines n ≡ b → is_waiting lines n ≡ false
-    by true e = absurd (not_so (waiting lines n e))
-    by false e = e
-
 -- ---- the loaded machine, where dead start was asked for and where it was not
-
-pub processor_is : (size : ℕ) (lines : List Line) (b : Bool) (n : ℕ) → asks_dead_start lines ≡ b → IsTrue (names_processor n) → processor_of n (with_dead_start b (set_by size lines)).machine ≡ (if is_waiting lines n then waiting_on n (processor_of n (set_by size lines).machine) else processor_of n (set_by size lines).machine)
-processor_is size lines true n e named =
-    let set = (set_by size lines).machine in
-    processor_at (map not (set_by size lines).named) set n named
-    ∙ ap (λ (b : Bool). if b then waiting_on n (processor_of n set) else processor_of n set) (waits_where_asked size lines n e)
-processor_is size lines false n e named =
-    let set = (set_by size lines).machine in
-    sym (ap (λ (b : Bool). if b && (names_processor n && not (is_named lines n)) then waiting_on n (processor_of n set) else processor_of n set) e)
-
-pub opened_is : (size : ℕ) (lines : List Line) (b : Bool) (c : ℕ) → asks_dead_start lines ≡ b → IsTrue (names_channel c) → is_opened c (with_dead_start b (set_by size lines)).machine ≡ is_waiting lines c
-opened_is size lines true c e named = opened_at (map not (set_by size lines).named) (set_by size lines).machine c named ∙ waits_where_asked size lines c e
-opened_is size lines false c e named =
-    get_or-replicate channel_count (channel_index c) false false (channel_places.place_below c named)
-    ∙ sym (ap (λ (b : Bool). b && (names_processor c && not (is_named lines c))) e)
-
-pub history_is : (size : ℕ) (lines : List Line) (b : Bool) (c : ℕ) → asks_dead_start lines ≡ b → IsTrue (names_channel c) → history_of c (with_dead_start b (set_by size lines)).machine ≡ (if is_waiting lines c then Activate ∷ [] else [])
-history_is size lines true c e named =
-    history_at (map not (set_by size lines).named) (set_by size lines).machine c named
-    ∙ ap (λ (b : Bool). if b then Activate ∷ [] else history_of c (set_by size lines).machine) (waits_where_asked size lines c e)
-    ∙ ap (λ h. if is_waiting lines c then Activate ∷ [] else h) (get_or-replicate channel_count (channel_index c) [] [] (channel_places.place_below c named))
-history_is size lines false c e named =
-    get_or-replicate channel_count (channel_index c) [] [] (channel_places.place_below c named)
-    ∙ sym (ap (λ (b : Bool). if b && (names_processor c && not (is_named lines c)) then Activate ∷ [] else []) e)
 
 pub each_history : (b : Bool) (deck : LoadedDeck) → length deck.machine.histories ≡ channel_count → length (with_dead_start b deck).machine.histories ≡ channel_count
 unfolding histories_started
-each_history true deck e = length-map-range_with_len (λ place. history_started (waits (map not deck.named)) deck.machine (channel_number place)) 0 channel_count
+each_history true deck e = length-map-range_with_len (λ place. history_started (waits (unnamed_in deck.machine.profile deck.named)) deck.machine (channel_number place)) 0 channel_count
 each_history false deck e = e
 
 pub all_processors : (b : Bool) (deck : LoadedDeck) → length deck.machine.processors ≡ processor_count → length (with_dead_start b deck).machine.processors ≡ processor_count
 unfolding processors_started
-all_processors true deck e = length-map-range_with_len (λ place. processor_started (waits (map not deck.named)) deck.machine (processor_number place)) 0 processor_count
+all_processors true deck e = length-map-range_with_len (λ place. processor_started (waits (unnamed_in deck.machine.profile deck.named)) deck.machine (processor_number place)) 0 processor_count
 all_processors false deck e = e
 
 pub central_stays : (b : Bool) (deck : LoadedDeck) → (with_dead_start b deck).machine.central ≡ deck.machine.central
@@ -167,3 +103,112 @@ trace_stays false deck = refl
 pub names_stay : (b : Bool) (deck : LoadedDeck) → (with_dead_start b deck).named ≡ deck.named
 names_stay true deck = refl
 names_stay false deck = refl
+
+-- ---- the processors that are not named
+
+pub unnamed_are : (p : Profile) (named list : List Bool) → length list ≡ processor_count
+    → ((k : ℕ) → k < processors_in p → get_or list k false ≡ not (get_or named k false)) → ((k : ℕ) → processors_in p ≤ k → get_or list k false ≡ false) → list ≡ unnamed_in p named
+unnamed_are p named list all done left =
+    ext_get_or false list (unnamed_in p named) (all ∙ sym (length-tabulate processor_count (λ place. wanted (processor_number place))))
+    (λ i inside. let within : i < processor_count = omega (arith, all) in at i within ∙ sym (get_or-tabulate processor_count (λ place. wanted (processor_number place)) i false within))
+  where
+    wanted : ℕ → Bool
+    wanted n = has_processor p n && not (slice_index_or named (processor_index n) false)
+
+    by : (i : ℕ) (b : Bool) → nat_lt i (processors_in p) ≡ b → get_or list i false ≡ (b && not (get_or named i false))
+    by i true e = done i (ltb-true i (processors_in p) e)
+    by i false e = left i (ltb-false i (processors_in p) e)
+
+    at : (i : ℕ) → i < processor_count → get_or list i false ≡ wanted (processor_number i)
+    at i within =
+        by i (nat_lt i (processors_in p)) refl
+        ∙ ap (λ (b : Bool). b && not (get_or named i false)) (sym (has_at p i within))
+        ∙ ap (λ k. has_processor p (processor_number i) && not (get_or named k false)) (sym (processor_places.place_of_number i within))
+
+-- none of them is one that the profile lacks
+pub unnamed_within : (p : Profile) (named : List Bool) → WaitsWithin p (unnamed_in p named)
+unnamed_within p named place past =
+    elim (leb_tells processor_count place) as (λ _. get_or (unnamed_in p named) place false ≡ false) [
+      | inl end ↦ get_or_past (unnamed_in p named) place false (omega (arith, end.1, length-tabulate processor_count (λ k. wanted (processor_number k))))
+      | inr within ↦
+          get_or-tabulate processor_count (λ k. wanted (processor_number k)) place false within.1
+          ∙ ap (λ (b : Bool). b && not (slice_index_or named (processor_index (processor_number place)) false)) (has_at p place within.1 ∙ le-ltb place (processors_in p) past)
+    ]
+  where
+    wanted : ℕ → Bool
+    wanted n = has_processor p n && not (slice_index_or named (processor_index n) false)
+
+-- ---- who waits, and the loaded machine, where dead start was asked for and where it was not
+
+module _ (profile : Profile) where
+  -- dead start is asked for, and no line names processor n
+  abbrev pub is_waiting : List Line → ℕ → Bool
+  is_waiting lines n = asks_dead_start lines && (has_processor profile n && not (is_named lines n))
+
+  waits_unnamed : (size : ℕ) (lines : List Line) (n : ℕ) → waits (unnamed_in profile (set_by profile size lines).named) n ≡ (has_processor profile n && not (is_named lines n))
+  waits_unnamed size lines n = at_number (names_processor n) refl
+    where
+      wanted : ℕ → Bool
+      wanted k = has_processor profile k && not (slice_index_or (set_by profile size lines).named (processor_index k) false)
+
+      at_number : (b : Bool) → names_processor n ≡ b → waits (each_processor wanted) n ≡ (has_processor profile n && not (is_named lines n))
+      at_number true e =
+          ap (λ (b : Bool). b && get_or (each_processor wanted) (processor_index n) false) e
+          ∙ get_or-tabulate processor_count (λ place. wanted (processor_number place)) (processor_index n) false (processor_places.place_below n e)
+          ∙ ap wanted (processor_places.number_of_place n e)
+          ∙ ap (λ (b : Bool). has_processor profile n && not b) (named_here profile size lines n e)
+      at_number false e =
+          ap (λ (b : Bool). b && get_or (each_processor wanted) (processor_index n) false) e
+          ∙ sym (ap (λ (b : Bool). b && not (is_named lines n)) (unnamed_lacks profile n e))
+
+  waits_where_asked : (size : ℕ) (lines : List Line) (n : ℕ) → asks_dead_start lines ≡ true → waits (unnamed_in profile (set_by profile size lines).named) n ≡ is_waiting lines n
+  waits_where_asked size lines n e = waits_unnamed size lines n ∙ sym (ap (λ (b : Bool). b && (has_processor profile n && not (is_named lines n))) e)
+
+  pub waiting : (lines : List Line) (n : ℕ) → is_waiting lines n ≡ true → Waits profile lines n
+  waiting lines n e =
+      let unnamed = and_right (asks_dead_start lines) _ e in
+      record {
+        processor = and_left (has_processor profile n) _ unnamed;
+        asked = some_asks lines (and_left (asks_dead_start lines) _ e);
+        unnamed = not_named n lines (is_named lines n) refl (and_right (has_processor profile n) _ unnamed);
+      }
+
+  pub waiting_where : (lines : List Line) (n : ℕ) → Waits profile lines n → is_waiting lines n ≡ true
+  waiting_where lines n w =
+      ap (λ (b : Bool). b && (has_processor profile n && not (is_named lines n))) (asked_some lines w.asked)
+      ∙ ap (λ (b : Bool). b && not (is_named lines n)) w.processor ∙ ap not (unnamed (is_named lines n) refl)
+    where
+      unnamed : (b : Bool) → is_named lines n ≡ b → is_named lines n ≡ false
+      unnamed true e = absurd (w.unnamed (some_name n lines e))
+      unnamed false e = e
+
+  pub not_waiting : (lines : List Line) (n : ℕ) → (Waits profile lines n → ⊥) → is_waiting lines n ≡ false
+  not_waiting lines n not_so = by (is_waiting lines n) refl
+    where
+      by : (b : Bool) → is_waiting lines n ≡ b → is_waiting lines n ≡ false
+      by true e = absurd (not_so (waiting lines n e))
+      by false e = e
+
+  pub processor_is : (size : ℕ) (lines : List Line) (b : Bool) (n : ℕ) → asks_dead_start lines ≡ b → IsTrue (names_processor n) → processor_of n (with_dead_start b (set_by profile size lines)).machine ≡ (if is_waiting lines n then waiting_on n (processor_of n (set_by profile size lines).machine) else processor_of n (set_by profile size lines).machine)
+  processor_is size lines true n e named =
+      let set = (set_by profile size lines).machine in
+      processor_at (unnamed_in profile (set_by profile size lines).named) set n named
+      ∙ ap (λ (b : Bool). if b then waiting_on n (processor_of n set) else processor_of n set) (waits_where_asked size lines n e)
+  processor_is size lines false n e named =
+      let set = (set_by profile size lines).machine in
+      sym (ap (λ (b : Bool). if b && (has_processor profile n && not (is_named lines n)) then waiting_on n (processor_of n set) else processor_of n set) e)
+
+  pub opened_is : (size : ℕ) (lines : List Line) (b : Bool) (c : ℕ) → asks_dead_start lines ≡ b → IsTrue (names_channel c) → is_opened c (with_dead_start b (set_by profile size lines)).machine ≡ is_waiting lines c
+  opened_is size lines true c e named = opened_at (unnamed_in profile (set_by profile size lines).named) (set_by profile size lines).machine c named ∙ waits_where_asked size lines c e
+  opened_is size lines false c e named =
+      get_or-replicate channel_count (channel_index c) false false (channel_places.place_below c named)
+      ∙ sym (ap (λ (b : Bool). b && (has_processor profile c && not (is_named lines c))) e)
+
+  pub history_is : (size : ℕ) (lines : List Line) (b : Bool) (c : ℕ) → asks_dead_start lines ≡ b → IsTrue (names_channel c) → history_of c (with_dead_start b (set_by profile size lines)).machine ≡ (if is_waiting lines c then Activate ∷ [] else [])
+  history_is size lines true c e named =
+      history_at (unnamed_in profile (set_by profile size lines).named) (set_by profile size lines).machine c named
+      ∙ ap (λ (b : Bool). if b then Activate ∷ [] else history_of c (set_by profile size lines).machine) (waits_where_asked size lines c e)
+      ∙ ap (λ h. if is_waiting lines c then Activate ∷ [] else h) (get_or-replicate channel_count (channel_index c) [] [] (channel_places.place_below c named))
+  history_is size lines false c e named =
+      get_or-replicate channel_count (channel_index c) [] [] (channel_places.place_below c named)
+      ∙ sym (ap (λ (b : Bool). if b && (has_processor profile c && not (is_named lines c)) then Activate ∷ [] else []) e)

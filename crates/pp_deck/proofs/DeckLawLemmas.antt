@@ -9,6 +9,7 @@ use Rattle.pp_machine.specs.DeadStart.{waiting_on}
 use Rattle.pp_machine.specs.MachineState.{processor_of}
 use Rattle.pp_machine.specs.Processor.{Processor, word_at}
 use Rattle.pp_machine.specs.ProcessorNumber.{names_processor, processor_count, processor_index, processor_number}
+use Rattle.pp_machine.proofs.ProfileLemmas.{processor_named}
 use Rattle.pp_deck.specs.DeckLaw.{SetsWord, SetsCentralWord, Starts, registers_of, at_rest, HoldsLast, Waits, KeepsDeckLaw, line_of}
 use Rattle.pp_deck.specs.DeckLine.{Line}
 use Rattle.pp_deck.specs.DeckLoad.{word_for, central_word_for, start_in, asks_dead_start, central_loaded, processor_loaded, is_named}
@@ -19,109 +20,140 @@ use Rattle.pp_deck.proofs.DeadStartLemmas.{is_waiting, waiting, waiting_where, n
 use Rattle.pp_deck.proofs.LawLemmas.{processor_here, place_here, registers_here, no_block_here, central_here, named_here, some_name, named_some, own_last, all_last, registers_at, start_set, set_start, word_set, set_word, central_set, set_central}
 use Rattle.pp_deck.proofs.ListLemmas.{length-tabulate}
 use Rattle.pp_deck.proofs.MemoryLemmas.{length-central_loaded}
+use Rattle.pp_machine.specs.declared.profile.Profile.{Profile}
 
--- a processor that waits keeps its memory
-word_either : (b : Bool) (n place : ℕ) (pp : Processor) → word_at (if b then waiting_on n pp else pp) place ≡ word_at pp place
-word_either true n place pp = refl
-word_either false n place pp = refl
+module _ (profile : Profile) where
+  -- a processor that waits keeps its memory
+  word_either : (b : Bool) (n place : ℕ) (pp : Processor) → word_at (if b then waiting_on n pp else pp) place ≡ word_at pp place
+  word_either true n place pp = refl
+  word_either false n place pp = refl
 
-here : (size : ℕ) (lines : List Line) (n : ℕ) → IsTrue (names_processor n) → processor_of n (loaded size lines).machine ≡ (if is_waiting lines n then waiting_on n (processor_of n (set_by size lines).machine) else processor_of n (set_by size lines).machine)
-here size lines n named = processor_is size lines (asks_dead_start lines) n refl named
+  here : (size : ℕ) (lines : List Line) (n : ℕ) → IsTrue (names_processor n) → processor_of n (loaded profile size lines).machine ≡ (if is_waiting profile lines n then waiting_on n (processor_of n (set_by profile size lines).machine) else processor_of n (set_by profile size lines).machine)
+  here size lines n named = processor_is profile size lines (asks_dead_start lines) n refl named
 
-as_set : (size : ℕ) (lines : List Line) (n : ℕ) → IsTrue (names_processor n) → (Waits lines n → ⊥) → processor_of n (loaded size lines).machine ≡ processor_of n (set_by size lines).machine
-as_set size lines n named not_so =
-    let set = (set_by size lines).machine in
-    here size lines n named ∙ ap (λ (b : Bool). if b then waiting_on n (processor_of n set) else processor_of n set) (not_waiting lines n not_so)
+  as_set : (size : ℕ) (lines : List Line) (n : ℕ) → IsTrue (names_processor n) → (Waits profile lines n → ⊥) → processor_of n (loaded profile size lines).machine ≡ processor_of n (set_by profile size lines).machine
+  as_set size lines n named not_so =
+      let set = (set_by profile size lines).machine in
+      here size lines n named ∙ ap (λ (b : Bool). if b then waiting_on n (processor_of n set) else processor_of n set) (not_waiting profile lines n not_so)
 
-waits_there : (size : ℕ) (lines : List Line) (n : ℕ) → Waits lines n → processor_of n (loaded size lines).machine ≡ waiting_on n (processor_of n (loaded size lines).machine)
-waits_there size lines n w =
-    let set = (set_by size lines).machine in
-    let is : processor_of n (loaded size lines).machine ≡ waiting_on n (processor_of n set) =
-    here size lines n w.processor ∙ ap (λ (b : Bool). if b then waiting_on n (processor_of n set) else processor_of n set) (waiting_where lines n w) in
-    is ∙ sym (ap (waiting_on n) is)
+  waits_there : (size : ℕ) (lines : List Line) (n : ℕ) → Waits profile lines n → processor_of n (loaded profile size lines).machine ≡ waiting_on n (processor_of n (loaded profile size lines).machine)
+  waits_there size lines n w =
+      let set = (set_by profile size lines).machine in
+      let is : processor_of n (loaded profile size lines).machine ≡ waiting_on n (processor_of n set) =
+      here size lines n (processor_named profile n w.processor) ∙ ap (λ (b : Bool). if b then waiting_on n (processor_of n set) else processor_of n set) (waiting_where profile lines n w) in
+      is ∙ sym (ap (waiting_on n) is)
 
-places_hold : (size : ℕ) (lines : List Line) (n place : ℕ) → IsTrue (names_processor n) → word_at (processor_of n (loaded size lines).machine) place ≡ word_at (processor_of n (set_by size lines).machine) place
-places_hold size lines n place named =
-    ap (λ (pp : Processor). word_at pp place) (here size lines n named) ∙ word_either (is_waiting lines n) n place (processor_of n (set_by size lines).machine)
+  places_hold : (size : ℕ) (lines : List Line) (n place : ℕ) → IsTrue (names_processor n) → word_at (processor_of n (loaded profile size lines).machine) place ≡ word_at (processor_of n (set_by profile size lines).machine) place
+  places_hold size lines n place named =
+      ap (λ (pp : Processor). word_at pp place) (here size lines n named) ∙ word_either (is_waiting profile lines n) n place (processor_of n (set_by profile size lines).machine)
 
-central_holds : (size : ℕ) (lines : List Line) (central : List ℕ) → central ≡ central_loaded size lines → (address : ℕ) → address < length central → HoldsLast lines (λ k w. SetsCentralWord (line_of lines k) address w) 0 (slice_index central address)
-central_holds size lines central is =
-    let P : List ℕ → Type 0 = λ words. (address : ℕ) → address < length words → HoldsLast lines (λ k w. SetsCentralWord (line_of lines k) address w) 0 (slice_index words address) in
-    subst P (sym is)
-    (λ address lt. all_last lines (central_word_for address) (λ line w. SetsCentralWord line address w) 0 _ (λ line w. central_set line address w) (λ line w. set_central line address w)
-    (central_here size lines address lt))
+  central_holds : (size : ℕ) (lines : List Line) (central : List ℕ) → central ≡ central_loaded size lines → (address : ℕ) → address < length central → HoldsLast lines (λ k w. SetsCentralWord (line_of lines k) address w) 0 (slice_index central address)
+  central_holds size lines central is =
+      let P : List ℕ → Type 0 = λ words. (address : ℕ) → address < length words → HoldsLast lines (λ k w. SetsCentralWord (line_of lines k) address w) 0 (slice_index words address) in
+      subst P (sym is)
+      (λ address lt. all_last lines (central_word_for address) (λ line w. SetsCentralWord line address w) 0 _ (λ line w. central_set line address w) (λ line w. set_central line address w)
+      (central_here size lines address lt))
 
-no_histories : (n : ℕ) → length (replicate n (let h : List Event = [] in h)) ≡ n
-no_histories n = length-replicate n (let h : List Event = [] in h)
+  no_histories : (n : ℕ) → length (replicate n (let h : List Event = [] in h)) ≡ n
+  no_histories n = length-replicate n (let h : List Event = [] in h)
 
-loaded_law : (size : ℕ) (lines : List Line) → KeepsDeckLaw lines (loaded size lines)
-loaded_law size lines =
-    let asked = asks_dead_start lines in
-    let set = set_by size lines in
-    record {
-      places = λ n place named within. own_last n lines (word_for place) (λ line w. SetsWord line place w) 0 _ (λ line w. word_set line place w) (λ line w. set_word line place w)
-          (places_hold size lines n place named ∙ ap (λ (pp : Processor). word_at pp place) (processor_here size lines n named) ∙ place_here lines n place within);
-      starts = λ n named not_so. own_last n lines (λ line. option_map registers_at (start_in line)) Starts at_rest _ start_set set_start
-          (ap registers_of (as_set size lines n named not_so ∙ processor_here size lines n named) ∙ registers_here lines n);
-      central = central_holds size lines _ (central_stays asked set);
-      named = λ n named.
-          let same = ap (λ (list : List Bool). get_or list (processor_index n) false) (names_stay asked set) ∙ named_here size lines n named in
-          (λ e. some_name n lines (sym same ∙ e), λ h. same ∙ named_some n lines h);
-      waits = waits_there size lines;
-      no_block = λ n named not_so. ap (λ (pp : Processor). pp.block) (as_set size lines n named not_so ∙ processor_here size lines n named) ∙ no_block_here lines n;
-      opened = λ c named.
-          let is = opened_is size lines asked c refl named in
-          (λ e. waiting lines c (sym is ∙ e), λ w. is ∙ waiting_where lines c w);
-      history = λ c named. history_is size lines asked c refl named ∙ sym (ap (λ (b : Bool). if b then Activate ∷ [] else []) (opened_is size lines asked c refl named));
-      each_processor = all_processors asked set (length-tabulate processor_count (λ place. processor_loaded lines (processor_number place)));
-      each_name = ap length (names_stay asked set) ∙ length-tabulate processor_count (λ place. is_named lines (processor_number place));
-      each_channel = each_history asked set (no_histories channel_count);
-      no_turn = turns_stay asked set;
-      no_event = trace_stays asked set;
-    }
+  profile_stays : (b : Bool) (deck : LoadedDeck) → (with_dead_start b deck).machine.profile ≡ deck.machine.profile
+  profile_stays true deck = refl
+  profile_stays false deck = refl
 
--- a deck that has a meaning is what its lines load
-deck_is : (size : ℕ) (lines : List Line) (faults : List DeckFault) (deck : LoadedDeck) → unless_faulty faults (loaded size lines) ≡ Ok deck → loaded size lines ≡ deck
-deck_is size lines [] deck e = cc
-deck_is size lines (fault ∷ faults) deck e = absurd (cc)
+  loaded_law : (size : ℕ) (lines : List Line) → KeepsDeckLaw lines (loaded profile size lines)
+  loaded_law size lines =
+      let asked = asks_dead_start lines in
+      let set = set_by profile size lines in
+      let same : (loaded profile size lines).machine.profile ≡ profile = profile_stays asked set in
+      let wait : (n : ℕ) → Waits profile lines n → Waits (loaded profile size lines).machine.profile lines n = λ n w. subst (λ p. Waits p lines n) (sym same) w in
+      let so : (n : ℕ) → Waits (loaded profile size lines).machine.profile lines n → Waits profile lines n = λ n w. subst (λ p. Waits p lines n) same w in
+      record {
+        places = λ n place named within. own_last n lines (word_for place) (λ line w. SetsWord line place w) 0 _ (λ line w. word_set line place w) (λ line w. set_word line place w)
+            (places_hold size lines n place named ∙ ap (λ (pp : Processor). word_at pp place) (processor_here profile size lines n named) ∙ place_here profile lines n place within);
+        starts = λ n named not_so. own_last n lines (λ line. option_map registers_at (start_in line)) Starts at_rest _ start_set set_start
+            (ap registers_of (as_set size lines n named (λ w. not_so (wait n w)) ∙ processor_here profile size lines n named) ∙ registers_here profile lines n);
+        central = central_holds size lines _ (central_stays asked set);
+        named = λ n named.
+            let same = ap (λ (list : List Bool). get_or list (processor_index n) false) (names_stay asked set) ∙ named_here profile size lines n named in
+            (λ e. some_name n lines (sym same ∙ e), λ h. same ∙ named_some n lines h);
+        waits = λ n w. waits_there size lines n (so n w);
+        no_block = λ n named not_so. ap (λ (pp : Processor). pp.block) (as_set size lines n named (λ w. not_so (wait n w)) ∙ processor_here profile size lines n named) ∙ no_block_here profile lines n;
+        opened = λ c named.
+            let is = opened_is profile size lines asked c refl named in
+            (λ e. wait c (waiting profile lines c (sym is ∙ e)), λ w. is ∙ waiting_where profile lines c (so c w));
+        history = λ c named. history_is profile size lines asked c refl named ∙ sym (ap (λ (b : Bool). if b then Activate ∷ [] else []) (opened_is profile size lines asked c refl named));
+        each_processor = all_processors asked set (length-tabulate processor_count (λ place. processor_loaded profile lines (processor_number place)));
+        each_name = ap length (names_stay asked set) ∙ length-tabulate processor_count (λ place. is_named lines (processor_number place));
+        each_channel = each_history asked set (no_histories channel_count);
+        no_turn = turns_stay asked set;
+        no_event = trace_stays asked set;
+      }
 
-of_lines : (lines : List (List (List ℕ))) (deck : LoadedDeck) → meaning_of_lines lines ≡ Ok deck → KeepsDeckLaw (lines_said lines) deck
-unfolding meaning_of_lines
-of_lines lines deck e =
-    let P : LoadedDeck → Type 0 = λ d. KeepsDeckLaw (lines_said lines) d in
-    subst P (deck_is (size_of lines) (lines_said lines) (faults_in lines) deck e) (loaded_law (size_of lines) (lines_said lines))
+  -- a deck that has a meaning is what its lines load
+  deck_is : (size : ℕ) (lines : List Line) (faults : List DeckFault) (deck : LoadedDeck) → unless_faulty faults (loaded profile size lines) ≡ Ok deck → loaded profile size lines ≡ deck
+  deck_is size lines [] deck e = cc
+  deck_is size lines (fault ∷ faults) deck e = absurd (cc)
 
-of_ascii : (text : List ℕ) (o : Option ℕ) (deck : LoadedDeck) → unless_foreign text o ≡ Ok deck → KeepsDeckLaw (lines_said (lines_of text)) deck
-of_ascii text None deck e = of_lines (lines_of text) deck e
-of_ascii text (Some i) deck e = absurd (cc)
+  of_lines : (lines : List (List (List ℕ))) (deck : LoadedDeck) → meaning_of_lines profile lines ≡ Ok deck → KeepsDeckLaw (lines_said profile lines) deck
+  unfolding meaning_of_lines
+  of_lines lines deck e =
+      let P : LoadedDeck → Type 0 = λ d. KeepsDeckLaw (lines_said profile lines) d in
+      subst P (deck_is (size_of lines) (lines_said profile lines) (faults_in profile lines) deck e) (loaded_law (size_of lines) (lines_said profile lines))
 
-of_short : (text : List ℕ) (b : Bool) (fault : DeckFault) (deck : LoadedDeck) → cond b (Err fault) (unless_foreign text (position is_foreign text)) ≡ Ok deck → KeepsDeckLaw (lines_said (lines_of text)) deck
-of_short text true fault deck e = absurd (cc)
-of_short text false fault deck e = of_ascii text (position is_foreign text) deck e
+  of_ascii : (text : List ℕ) (o : Option ℕ) (deck : LoadedDeck) → unless_foreign profile text o ≡ Ok deck → KeepsDeckLaw (lines_said profile (lines_of text)) deck
+  of_ascii text None deck e = of_lines (lines_of text) deck e
+  of_ascii text (Some i) deck e = absurd (cc)
 
--- each deck that has a meaning keeps the law of loaded decks
-pub deck_law_of : (text : List ℕ) (deck : LoadedDeck) → deck_meaning text ≡ Ok deck → KeepsDeckLaw (lines_said (lines_of text)) deck
-unfolding deck_meaning
-deck_law_of text deck e = of_short text _ _ deck e
+  of_short : (text : List ℕ) (b : Bool) (fault : DeckFault) (deck : LoadedDeck) → cond b (Err fault) (unless_foreign profile text (position is_foreign text)) ≡ Ok deck → KeepsDeckLaw (lines_said profile (lines_of text)) deck
+  of_short text true fault deck e = absurd (cc)
+  of_short text false fault deck e = of_ascii text (position is_foreign text) deck e
 
--- ---- the size of central memory
+  -- each deck that has a meaning keeps the law of loaded decks
+  pub deck_law_of : (text : List ℕ) (deck : LoadedDeck) → deck_meaning profile text ≡ Ok deck → KeepsDeckLaw (lines_said profile (lines_of text)) deck
+  unfolding deck_meaning
+  deck_law_of text deck e = of_short text _ _ deck e
 
-size_of_lines : (lines : List (List (List ℕ))) (deck : LoadedDeck) → meaning_of_lines lines ≡ Ok deck → length deck.machine.central ≡ size_of lines
-unfolding meaning_of_lines
-size_of_lines lines deck e =
-    let said = lines_said lines in
-    ap (λ (d : LoadedDeck). length d.machine.central) (sym (deck_is (size_of lines) said (faults_in lines) deck e))
-    ∙ ap length (central_stays (asks_dead_start said) (set_by (size_of lines) said)) ∙ length-central_loaded (size_of lines) said
+  -- ---- the size of central memory
 
-size_of_ascii : (text : List ℕ) (o : Option ℕ) (deck : LoadedDeck) → unless_foreign text o ≡ Ok deck → length deck.machine.central ≡ size_of (lines_of text)
-size_of_ascii text None deck e = size_of_lines (lines_of text) deck e
-size_of_ascii text (Some i) deck e = absurd (cc)
+  size_of_lines : (lines : List (List (List ℕ))) (deck : LoadedDeck) → meaning_of_lines profile lines ≡ Ok deck → length deck.machine.central ≡ size_of lines
+  unfolding meaning_of_lines
+  size_of_lines lines deck e =
+      let said = lines_said profile lines in
+      ap (λ (d : LoadedDeck). length d.machine.central) (sym (deck_is (size_of lines) said (faults_in profile lines) deck e))
+      ∙ ap length (central_stays (asks_dead_start said) (set_by profile (size_of lines) said)) ∙ length-central_loaded (size_of lines) said
 
-size_of_short : (text : List ℕ) (b : Bool) (fault : DeckFault) (deck : LoadedDeck) → cond b (Err fault) (unless_foreign text (position is_foreign text)) ≡ Ok deck → length deck.machine.central ≡ size_of (lines_of text)
-size_of_short text true fault deck e = absurd (cc)
-size_of_short text false fault deck e = size_of_ascii text (position is_foreign text) deck e
+  size_of_ascii : (text : List ℕ) (o : Option ℕ) (deck : LoadedDeck) → unless_foreign profile text o ≡ Ok deck → length deck.machine.central ≡ size_of (lines_of text)
+  size_of_ascii text None deck e = size_of_lines (lines_of text) deck e
+  size_of_ascii text (Some i) deck e = absurd (cc)
 
--- central memory has the size that the deck says
-pub deck_size_of : (text : List ℕ) (deck : LoadedDeck) → deck_meaning text ≡ Ok deck → length deck.machine.central ≡ size_of (lines_of text)
-unfolding deck_meaning
-deck_size_of text deck e = size_of_short text _ _ deck e
+  size_of_short : (text : List ℕ) (b : Bool) (fault : DeckFault) (deck : LoadedDeck) → cond b (Err fault) (unless_foreign profile text (position is_foreign text)) ≡ Ok deck → length deck.machine.central ≡ size_of (lines_of text)
+  size_of_short text true fault deck e = absurd (cc)
+  size_of_short text false fault deck e = size_of_ascii text (position is_foreign text) deck e
+
+  -- central memory has the size that the deck says
+  pub deck_size_of : (text : List ℕ) (deck : LoadedDeck) → deck_meaning profile text ≡ Ok deck → length deck.machine.central ≡ size_of (lines_of text)
+  unfolding deck_meaning
+  deck_size_of text deck e = size_of_short text _ _ deck e
+
+  -- ---- the profile
+
+  profile_of_lines : (lines : List (List (List ℕ))) (deck : LoadedDeck) → meaning_of_lines profile lines ≡ Ok deck → deck.machine.profile ≡ profile
+  unfolding meaning_of_lines
+  profile_of_lines lines deck e =
+      let said = lines_said profile lines in
+      ap (λ (d : LoadedDeck). d.machine.profile) (sym (deck_is (size_of lines) said (faults_in profile lines) deck e))
+      ∙ profile_stays (asks_dead_start said) (set_by profile (size_of lines) said)
+
+  profile_of_ascii : (text : List ℕ) (o : Option ℕ) (deck : LoadedDeck) → unless_foreign profile text o ≡ Ok deck → deck.machine.profile ≡ profile
+  profile_of_ascii text None deck e = profile_of_lines (lines_of text) deck e
+  profile_of_ascii text (Some i) deck e = absurd (cc)
+
+  profile_of_short : (text : List ℕ) (b : Bool) (fault : DeckFault) (deck : LoadedDeck) → cond b (Err fault) (unless_foreign profile text (position is_foreign text)) ≡ Ok deck → deck.machine.profile ≡ profile
+  profile_of_short text true fault deck e = absurd (cc)
+  profile_of_short text false fault deck e = profile_of_ascii text (position is_foreign text) deck e
+
+  -- the machine of a deck has the profile for which the deck was read
+  pub deck_profile_of : (text : List ℕ) (deck : LoadedDeck) → deck_meaning profile text ≡ Ok deck → deck.machine.profile ≡ profile
+  unfolding deck_meaning
+  deck_profile_of text deck e = profile_of_short text _ _ deck e

@@ -9,6 +9,7 @@ use Rattle.pp_deck.specs.declared.flaw.Flaw.{Flaw}
 use Rattle.pp_deck.specs.declared.flaw.Flaw.TheVariants.{PastEnd}
 use Rattle.pp_deck.specs.declared.keyword.Keyword.{Keyword}
 use Rattle.pp_deck.specs.declared.keyword.Keyword.TheVariants as keywords
+use Rattle.pp_machine.specs.declared.profile.Profile.{Profile}
 
 is_section : Line → Bool
 is_section (section n) = true
@@ -51,10 +52,6 @@ central_words_begin : (size : ℕ) (fields : List (List ℕ)) → OnRead (centra
 unfolding central_words_line Begins is_section
 central_words_begin size fields = after_number 6 fields _ (Begins false) (λ a more. with_words_of _ (central_words a) (Begins false) (λ ws. refl))
 
-section_begins : (fields : List (List ℕ)) → OnRead (section_line fields) (Begins true)
-unfolding section_line Begins is_section
-section_begins fields = after_number 2 fields _ (Begins true) (λ n more. where_true _ _ _ (Begins true) (at_end (section n) more (Begins true) refl))
-
 start_begins : (fields : List (List ℕ)) → OnRead (start_line fields) (Begins false)
 unfolding start_line Begins is_section
 start_begins fields = after_number 4 fields _ (Begins false) from_p
@@ -79,15 +76,6 @@ dead_start_begins : (fields : List (List ℕ)) → OnRead (ends_with dead_start 
 unfolding Begins is_section
 dead_start_begins fields = at_end dead_start fields (Begins false) refl
 
-line_begins : (size : ℕ) (keyword : Keyword) (field : List ℕ) (fields : List (List ℕ)) → OnRead (line_by size keyword field fields) (Begins (is_processor_keyword keyword))
-line_begins size keywords.Central field fields = central_begins fields
-line_begins size keywords.CentralWords field fields = central_words_begin size fields
-line_begins size keywords.Processor field fields = section_begins fields
-line_begins size keywords.Start field fields = start_begins fields
-line_begins size keywords.DeadStart field fields = dead_start_begins fields
-line_begins size keywords.Words field fields = words_begin field fields
-line_begins size keywords.Unknown field fields = tt
-
 unless_begins : (o : Option Flaw) (r : Result Line Flaw) (P : Line → Type 0) → OnRead r P → OnRead (unless_misplaced o r) P
 unless_begins (Some flaw) r P h = tt
 unless_begins None r P h = h
@@ -95,11 +83,6 @@ unless_begins None r P h = h
 nothing_begins : Begins false nothing
 unfolding Begins is_section
 nothing_begins = refl
-
-behind_begins : (size : ℕ) (is_behind_fields is_in_section : Bool) (fields : List (List ℕ)) → OnRead (line_behind size is_behind_fields is_in_section fields) (Begins (begins_section fields))
-unfolding line_behind
-behind_begins size b s [] = nothing_begins
-behind_begins size b s (field ∷ fields) = unless_begins (misplaced b s (keyword_of field)) _ _ (line_begins size (keyword_of field) field fields)
 
 kept : (b : Bool) → b ≡ (b || false)
 kept true = refl
@@ -123,7 +106,26 @@ of_line : (r : Result Line Flaw) (line : Line) (P : Line → Type 0) → OnRead 
 of_line (Ok l) line P h e = let same : l ≡ line = cc in subst P same h
 of_line (Err flaw) line P h e = absurd (cc)
 
--- after a line there is a current processor where there was one, or where the line begins with `PP`
-pub section_after : (size : ℕ) (is_behind_fields is_in_section : Bool) (fields : List (List ℕ)) (line : Line) (current : Option ℕ) → line_behind size is_behind_fields is_in_section fields ≡ Ok line → is_some (current_after line current) ≡ (is_some current || begins_section fields)
-section_after size b s fields line current e =
-    current_is_some line (begins_section fields) current (of_line (line_behind size b s fields) line (Begins (begins_section fields)) (behind_begins size b s fields) e)
+module _ (profile : Profile) where
+  section_begins : (fields : List (List ℕ)) → OnRead (section_line profile fields) (Begins true)
+  unfolding section_line Begins is_section
+  section_begins fields = after_number 2 fields _ (Begins true) (λ n more. where_true _ _ _ (Begins true) (at_end (section n) more (Begins true) refl))
+
+  line_begins : (size : ℕ) (keyword : Keyword) (field : List ℕ) (fields : List (List ℕ)) → OnRead (line_by profile size keyword field fields) (Begins (is_processor_keyword keyword))
+  line_begins size keywords.Central field fields = central_begins fields
+  line_begins size keywords.CentralWords field fields = central_words_begin size fields
+  line_begins size keywords.Processor field fields = section_begins fields
+  line_begins size keywords.Start field fields = start_begins fields
+  line_begins size keywords.DeadStart field fields = dead_start_begins fields
+  line_begins size keywords.Words field fields = words_begin field fields
+  line_begins size keywords.Unknown field fields = tt
+
+  behind_begins : (size : ℕ) (is_behind_fields is_in_section : Bool) (fields : List (List ℕ)) → OnRead (line_behind profile size is_behind_fields is_in_section fields) (Begins (begins_section fields))
+  unfolding line_behind
+  behind_begins size b s [] = nothing_begins
+  behind_begins size b s (field ∷ fields) = unless_begins (misplaced b s (keyword_of field)) _ _ (line_begins size (keyword_of field) field fields)
+
+  -- after a line there is a current processor where there was one, or where the line begins with `PP`
+  pub section_after : (size : ℕ) (is_behind_fields is_in_section : Bool) (fields : List (List ℕ)) (line : Line) (current : Option ℕ) → line_behind profile size is_behind_fields is_in_section fields ≡ Ok line → is_some (current_after line current) ≡ (is_some current || begins_section fields)
+  section_after size b s fields line current e =
+      current_is_some line (begins_section fields) current (of_line (line_behind profile size b s fields) line (Begins (begins_section fields)) (behind_begins size b s fields) e)

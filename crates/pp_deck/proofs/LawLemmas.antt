@@ -10,7 +10,7 @@ use Rattle.std.proofs.lemmas.List.FromFn.{fill_by_all}
 use Rattle.std.proofs.lemmas.Option.{slice_get-map}
 use Rattle.pp_word.specs.Address.{place_count}
 use Rattle.pp_machine.specs.MachineState.{processor_of}
-use Rattle.pp_machine.specs.Processor.{Processor, new_processor, word_at}
+use Rattle.pp_machine.specs.Processor.{Processor, no_processor, word_at}
 use Rattle.pp_machine.specs.ProcessorNumber.{processor_count, names_processor, processor_number, processor_index}
 use Rattle.pp_machine.proofs.ProcessorPlaces.{place_below, number_of_place}
 use Rattle.pp_deck.specs.DeckLaw.{IsFor, StandsAt, SetsWord, SetsCentralWord, Starts, Registers, registers_of, at_rest, started_at, HoldsLast, IsNamed, KeepsDeckLaw, line_of}
@@ -23,6 +23,7 @@ use Rattle.pp_deck.specs.DeckProgress.{current_after}
 use Rattle.pp_deck.proofs.ListLemmas.{range_append, range_more, last_of_more, filter_map_more, length-tabulate, get_or-tabulate}
 use Rattle.pp_deck.proofs.MemoryLemmas.{length-central_loaded}
 use Rattle.pp_deck.proofs.SectionLemmas.{section_more}
+use Rattle.pp_machine.specs.declared.profile.Profile.{Profile}
 
 -- ---- the last number at which there is something
 
@@ -281,39 +282,6 @@ last_mapped g xs = ap (λ (n : ℕ). slice_get (map g xs) (n - 1)) (length-map x
 last_start : (lines : List Line) → last_of (filter_map (λ line. option_map registers_at (start_in line)) lines) ≡ option_map registers_at (last_of (filter_map start_in lines))
 last_start lines = ap last_of (mapped_last registers_at start_in lines) ∙ last_mapped registers_at (filter_map start_in lines)
 
-registers_with : (memory : List ℕ) (s : Option (ℕ × ℕ)) → registers_of (processor_with memory s) ≡ unwrap_or (option_map registers_at s) at_rest
-registers_with memory None = refl
-registers_with memory (Some s) = refl
-
-memory_with : (memory : List ℕ) (s : Option (ℕ × ℕ)) → (processor_with memory s).memory ≡ memory
-memory_with memory None = refl
-memory_with memory (Some s) = refl
-
-block_with : (memory : List ℕ) (s : Option (ℕ × ℕ)) → (processor_with memory s).block ≡ None
-block_with memory None = refl
-block_with memory (Some s) = refl
-
-pub processor_here : (size : ℕ) (lines : List Line) (n : ℕ) → IsTrue (names_processor n) → processor_of n (set_by size lines).machine ≡ processor_loaded lines n
-processor_here size lines n names =
-    get_or-tabulate processor_count (λ place. processor_loaded lines (processor_number place)) (processor_index n) new_processor (place_below n names)
-    ∙ ap (processor_loaded lines) (number_of_place n names)
-
-pub place_here : (lines : List Line) (n place : ℕ) → place < place_count → word_at (processor_loaded lines n) place ≡ unwrap_or (last_of (filter_map (word_for place) (lines_for n lines))) 0
-unfolding processor_loaded memory_of
-place_here lines n place lt =
-    ap (λ (memory : List ℕ). get_or memory place 0) (memory_with _ (last_of (filter_map start_in (lines_for n lines))))
-    ∙ get_or-tabulate place_count (λ i. unwrap_or (last_of (filter_map (word_for i) (lines_for n lines))) 0) place 0 lt
-
-pub registers_here : (lines : List Line) (n : ℕ) → registers_of (processor_loaded lines n) ≡ unwrap_or (last_of (filter_map (λ line. option_map registers_at (start_in line)) (lines_for n lines))) at_rest
-unfolding processor_loaded
-registers_here lines n =
-    registers_with (memory_of (lines_for n lines)) (last_of (filter_map start_in (lines_for n lines)))
-    ∙ ap (λ (o : Option Registers). unwrap_or o at_rest) (sym (last_start (lines_for n lines)))
-
-pub no_block_here : (lines : List Line) (n : ℕ) → (processor_loaded lines n).block ≡ None
-unfolding processor_loaded
-no_block_here lines n = block_with (memory_of (lines_for n lines)) (last_of (filter_map start_in (lines_for n lines)))
-
 pub central_here : (size : ℕ) (lines : List Line) (address : ℕ) → address < length (central_loaded size lines) → get_or (central_loaded size lines) address 0 ≡ unwrap_or (last_of (filter_map (central_word_for address) lines)) 0
 unfolding central_loaded
 central_here size lines address lt =
@@ -339,7 +307,43 @@ some_name n lines e =
 pub named_some : (n : ℕ) (lines : List Line) → IsNamed lines n → list_any (names n) lines ≡ true
 named_some n lines h = list_any_at (names n) lines h.heading nothing h.within (ap (names n) h.names ∙ eq-eqb n n refl)
 
-pub named_here : (size : ℕ) (lines : List Line) (n : ℕ) → IsTrue (names_processor n) → get_or (set_by size lines).named (processor_index n) false ≡ list_any (names n) lines
-named_here size lines n named =
-    get_or-tabulate processor_count (λ place. is_named lines (processor_number place)) (processor_index n) false (place_below n named)
-    ∙ ap (is_named lines) (number_of_place n named)
+-- ---- what a loaded machine holds
+
+module _ (profile : Profile) where
+  registers_with : (memory : List ℕ) (s : Option (ℕ × ℕ)) → registers_of (processor_with profile memory s) ≡ unwrap_or (option_map registers_at s) at_rest
+  registers_with memory None = refl
+  registers_with memory (Some s) = refl
+
+  memory_with : (memory : List ℕ) (s : Option (ℕ × ℕ)) → (processor_with profile memory s).memory ≡ memory
+  memory_with memory None = refl
+  memory_with memory (Some s) = refl
+
+  block_with : (memory : List ℕ) (s : Option (ℕ × ℕ)) → (processor_with profile memory s).block ≡ None
+  block_with memory None = refl
+  block_with memory (Some s) = refl
+
+  pub processor_here : (size : ℕ) (lines : List Line) (n : ℕ) → IsTrue (names_processor n) → processor_of n (set_by profile size lines).machine ≡ processor_loaded profile lines n
+  processor_here size lines n names =
+      get_or-tabulate processor_count (λ place. processor_loaded profile lines (processor_number place)) (processor_index n) no_processor (place_below n names)
+      ∙ ap (processor_loaded profile lines) (number_of_place n names)
+
+  pub place_here : (lines : List Line) (n place : ℕ) → place < place_count → word_at (processor_loaded profile lines n) place ≡ unwrap_or (last_of (filter_map (word_for place) (lines_for n lines))) 0
+  unfolding processor_loaded memory_of
+  place_here lines n place lt =
+      ap (λ (memory : List ℕ). get_or memory place 0) (memory_with _ (last_of (filter_map start_in (lines_for n lines))))
+      ∙ get_or-tabulate place_count (λ i. unwrap_or (last_of (filter_map (word_for i) (lines_for n lines))) 0) place 0 lt
+
+  pub registers_here : (lines : List Line) (n : ℕ) → registers_of (processor_loaded profile lines n) ≡ unwrap_or (last_of (filter_map (λ line. option_map registers_at (start_in line)) (lines_for n lines))) at_rest
+  unfolding processor_loaded
+  registers_here lines n =
+      registers_with (memory_of (lines_for n lines)) (last_of (filter_map start_in (lines_for n lines)))
+      ∙ ap (λ (o : Option Registers). unwrap_or o at_rest) (sym (last_start (lines_for n lines)))
+
+  pub no_block_here : (lines : List Line) (n : ℕ) → (processor_loaded profile lines n).block ≡ None
+  unfolding processor_loaded
+  no_block_here lines n = block_with (memory_of (lines_for n lines)) (last_of (filter_map start_in (lines_for n lines)))
+
+  pub named_here : (size : ℕ) (lines : List Line) (n : ℕ) → IsTrue (names_processor n) → get_or (set_by profile size lines).named (processor_index n) false ≡ list_any (names n) lines
+  named_here size lines n named =
+      get_or-tabulate processor_count (λ place. is_named lines (processor_number place)) (processor_index n) false (place_below n named)
+      ∙ ap (is_named lines) (number_of_place n named)

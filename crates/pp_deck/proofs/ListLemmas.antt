@@ -104,10 +104,3 @@ last_push xs x =
 pub last_of_more : {A : Type 0} (xs : List A) (o : Option A) → last_of (xs ++ option_to_list o) ≡ or_else o (last_of xs)
 last_of_more xs None = ap last_of (append-nil xs)
 last_of_more xs (Some x) = last_push xs x
-
--- ---- truth values, each the opposite of another
-
-pub opposites : (xs ys : List Bool) → length ys ≡ length xs → ((k : ℕ) → k < length xs → get_or ys k false ≡ not (get_or xs k false)) → ys ≡ map not xs
-opposites xs ys long each =
-    ext_get_or false ys (map not xs) (long ∙ sym (length-map xs not))
-    (λ i lt. let below : i < length xs = omega (arith, lt, long) in each i below ∙ sym (get_or-map not xs i false false below))

@@ -6,7 +6,7 @@ use Rattle.std.proofs.lemmas.List.Folds.{list_any-append}
 use Rattle.pp_word.specs.Address.{place_count}
 use Rattle.pp_machine.specs.MachineState.{MachineState, new_machine}
 use Rattle.pp_machine.specs.PpMemory.{empty_memory}
-use Rattle.pp_machine.specs.Processor.{Processor, new_processor}
+use Rattle.pp_machine.specs.Processor.{Processor, new_processor, no_processor}
 use Rattle.pp_machine.specs.ProcessorNumber.{processor_count, processor_number, processor_index}
 use Rattle.pp_machine.proofs.ProcessorPlaces.{number_at}
 use Rattle.pp_deck.specs.DeckLine.{Line, nothing, central_size, central_words, section, start, words, dead_start}
@@ -15,275 +15,277 @@ use Rattle.pp_deck.specs.DeckProgress.{Progress, before_lines, with_words, loade
 use Rattle.pp_deck.proofs.ListLemmas.{or_else, last_of_more, filter_map_more, get_or-tabulate, tabulate_same, tabulate_const, set-tabulate}
 use Rattle.pp_deck.proofs.MemoryLemmas.{memory_none, memory_set, memory_kept, central_none, central_set, central_kept}
 use Rattle.pp_deck.proofs.SectionLemmas.{own, lines_for_more, section_more}
+use Rattle.pp_machine.specs.declared.profile.Profile.{Profile}
 
--- ---- a processor, by the lines for it
+module _ (profile : Profile) where
+  -- ---- a processor, by the lines for it
 
-by_own_lines : List Line → Processor
-by_own_lines lines = processor_with (memory_of lines) (last_of (filter_map start_in lines))
+  by_own_lines : List Line → Processor
+  by_own_lines lines = processor_with profile (memory_of lines) (last_of (filter_map start_in lines))
 
--- what a line changes in its processor
-abbrev pub own_after : Line → Processor → Processor
-own_after (words x ws) pp = loaded_from x ws pp
-own_after (start p a) pp = started p a pp
-own_after line pp = pp
+  -- what a line changes in its processor
+  abbrev pub own_after : Line → Processor → Processor
+  own_after (words x ws) pp = loaded_from x ws pp
+  own_after (start p a) pp = started p a pp
+  own_after line pp = pp
 
-starts_more : (lines : List Line) (line : Line) → last_of (filter_map start_in (lines ++ line ∷ [])) ≡ or_else (start_in line) (last_of (filter_map start_in lines))
-starts_more lines line = ap last_of (filter_map_more start_in lines line) ∙ last_of_more (filter_map start_in lines) (start_in line)
+  starts_more : (lines : List Line) (line : Line) → last_of (filter_map start_in (lines ++ line ∷ [])) ≡ or_else (start_in line) (last_of (filter_map start_in lines))
+  starts_more lines line = ap last_of (filter_map_more start_in lines line) ∙ last_of_more (filter_map start_in lines) (start_in line)
 
-both_with : (m n : List ℕ) (s t : Option (ℕ × ℕ)) → m ≡ n → s ≡ t → processor_with m s ≡ processor_with n t
-both_with m n s t e h = ap (λ (l : List ℕ). processor_with l s) e ∙ ap (processor_with n) h
+  both_with : (m n : List ℕ) (s t : Option (ℕ × ℕ)) → m ≡ n → s ≡ t → processor_with profile m s ≡ processor_with profile n t
+  both_with m n s t e h = ap (λ (l : List ℕ). processor_with profile l s) e ∙ ap (processor_with profile n) h
 
-words_with : (x : ℕ) (ws memory : List ℕ) (s : Option (ℕ × ℕ)) → processor_with (with_words x ws memory) s ≡ loaded_from x ws (processor_with memory s)
-words_with x ws memory None = refl
-words_with x ws memory (Some s) = refl
+  words_with : (x : ℕ) (ws memory : List ℕ) (s : Option (ℕ × ℕ)) → processor_with profile (with_words x ws memory) s ≡ loaded_from x ws (processor_with profile memory s)
+  words_with x ws memory None = refl
+  words_with x ws memory (Some s) = refl
 
-start_with : (p a : ℕ) (memory : List ℕ) (s : Option (ℕ × ℕ)) → processor_with memory (Some (p, a)) ≡ started p a (processor_with memory s)
-start_with p a memory None = refl
-start_with p a memory (Some s) = refl
+  start_with : (p a : ℕ) (memory : List ℕ) (s : Option (ℕ × ℕ)) → processor_with profile memory (Some (p, a)) ≡ started p a (processor_with profile memory s)
+  start_with p a memory None = refl
+  start_with p a memory (Some s) = refl
 
-by_own_more : (lines : List Line) (line : Line) → by_own_lines (lines ++ line ∷ []) ≡ own_after line (by_own_lines lines)
-unfolding by_own_lines
-by_own_more lines nothing = both_with _ _ _ _ (memory_kept lines nothing (λ place. refl)) (starts_more lines nothing)
-by_own_more lines (central_size n) = both_with _ _ _ _ (memory_kept lines (central_size n) (λ place. refl)) (starts_more lines (central_size n))
-by_own_more lines (central_words a ws) = both_with _ _ _ _ (memory_kept lines (central_words a ws) (λ place. refl)) (starts_more lines (central_words a ws))
-by_own_more lines (section n) = both_with _ _ _ _ (memory_kept lines (section n) (λ place. refl)) (starts_more lines (section n))
-by_own_more lines (start p a) =
-    both_with _ _ _ _ (memory_kept lines (start p a) (λ place. refl)) (starts_more lines (start p a))
-    ∙ start_with p a (memory_of lines) (last_of (filter_map start_in lines))
-by_own_more lines (words x ws) =
-    both_with _ _ _ _ (memory_set lines x ws) (starts_more lines (words x ws))
-    ∙ words_with x ws (memory_of lines) (last_of (filter_map start_in lines))
-by_own_more lines dead_start = both_with _ _ _ _ (memory_kept lines dead_start (λ place. refl)) (starts_more lines dead_start)
+  by_own_more : (lines : List Line) (line : Line) → by_own_lines (lines ++ line ∷ []) ≡ own_after line (by_own_lines lines)
+  unfolding by_own_lines
+  by_own_more lines nothing = both_with _ _ _ _ (memory_kept lines nothing (λ place. refl)) (starts_more lines nothing)
+  by_own_more lines (central_size n) = both_with _ _ _ _ (memory_kept lines (central_size n) (λ place. refl)) (starts_more lines (central_size n))
+  by_own_more lines (central_words a ws) = both_with _ _ _ _ (memory_kept lines (central_words a ws) (λ place. refl)) (starts_more lines (central_words a ws))
+  by_own_more lines (section n) = both_with _ _ _ _ (memory_kept lines (section n) (λ place. refl)) (starts_more lines (section n))
+  by_own_more lines (start p a) =
+      both_with _ _ _ _ (memory_kept lines (start p a) (λ place. refl)) (starts_more lines (start p a))
+      ∙ start_with p a (memory_of lines) (last_of (filter_map start_in lines))
+  by_own_more lines (words x ws) =
+      both_with _ _ _ _ (memory_set lines x ws) (starts_more lines (words x ws))
+      ∙ words_with x ws (memory_of lines) (last_of (filter_map start_in lines))
+  by_own_more lines dead_start = both_with _ _ _ _ (memory_kept lines dead_start (λ place. refl)) (starts_more lines dead_start)
 
-empty_is : replicate place_count 0 ≡ empty_memory
-unfolding empty_memory
-empty_is = refl
+  empty_is : replicate place_count 0 ≡ empty_memory
+  unfolding empty_memory
+  empty_is = refl
 
-by_own_none : by_own_lines [] ≡ new_processor
-unfolding by_own_lines
-by_own_none = ap (λ (memory : List ℕ). processor_with memory None) (memory_none ∙ empty_is)
+  by_own_none : by_own_lines [] ≡ (new_processor profile)
+  unfolding by_own_lines
+  by_own_none = ap (λ (memory : List ℕ). processor_with profile memory None) (memory_none ∙ empty_is)
 
--- ---- all processors
+  -- ---- all processors
 
-abbrev pub own_if : Bool → Line → Processor → Processor
-own_if true line pp = own_after line pp
-own_if false line pp = pp
+  abbrev pub own_if : Bool → Line → Processor → Processor
+  own_if true line pp = own_after line pp
+  own_if false line pp = pp
 
-loaded_is : (lines : List Line) (n : ℕ) → processor_loaded lines n ≡ by_own_lines (lines_for n lines)
-unfolding processor_loaded by_own_lines
-loaded_is lines n = refl
+  loaded_is : (lines : List Line) (n : ℕ) → processor_loaded profile lines n ≡ by_own_lines (lines_for n lines)
+  unfolding processor_loaded by_own_lines
+  loaded_is lines n = refl
 
-own_or_not : (b : Bool) (lines : List Line) (line : Line) → by_own_lines (lines ++ own b line) ≡ own_if b line (by_own_lines lines)
-own_or_not true lines line = by_own_more lines line
-own_or_not false lines line = ap by_own_lines (append-nil lines)
+  own_or_not : (b : Bool) (lines : List Line) (line : Line) → by_own_lines (lines ++ own b line) ≡ own_if b line (by_own_lines lines)
+  own_or_not true lines line = by_own_more lines line
+  own_or_not false lines line = ap by_own_lines (append-nil lines)
 
-processor_more : (lines : List Line) (line : Line) (n : ℕ) → processor_loaded (lines ++ line ∷ []) n ≡ own_if (is_for n (section_of lines)) line (processor_loaded lines n)
-processor_more lines line n =
-    loaded_is (lines ++ line ∷ []) n ∙ ap by_own_lines (lines_for_more n lines line)
-    ∙ own_or_not (is_for n (section_of lines)) (lines_for n lines) line
-    ∙ ap (own_if (is_for n (section_of lines)) line) (sym (loaded_is lines n))
+  processor_more : (lines : List Line) (line : Line) (n : ℕ) → processor_loaded profile (lines ++ line ∷ []) n ≡ own_if (is_for n (section_of lines)) line (processor_loaded profile lines n)
+  processor_more lines line n =
+      loaded_is (lines ++ line ∷ []) n ∙ ap by_own_lines (lines_for_more n lines line)
+      ∙ own_or_not (is_for n (section_of lines)) (lines_for n lines) line
+      ∙ ap (own_if (is_for n (section_of lines)) line) (sym (loaded_is lines n))
 
-no_lines : (n : ℕ) → lines_for n [] ≡ []
-unfolding lines_for
-no_lines n = refl
+  no_lines : (n : ℕ) → lines_for n [] ≡ []
+  unfolding lines_for
+  no_lines n = refl
 
-processor_none : (n : ℕ) → processor_loaded [] n ≡ new_processor
-processor_none n = loaded_is [] n ∙ ap by_own_lines (no_lines n) ∙ by_own_none
+  processor_none : (n : ℕ) → processor_loaded profile [] n ≡ (new_processor profile)
+  processor_none n = loaded_is [] n ∙ ap by_own_lines (no_lines n) ∙ by_own_none
 
-own_if_is : (b : Bool) (line : Line) (pp : Processor) → own_if b line pp ≡ cond b (own_after line pp) pp
-own_if_is true line pp = refl
-own_if_is false line pp = refl
+  own_if_is : (b : Bool) (line : Line) (pp : Processor) → own_if b line pp ≡ cond b (own_after line pp) pp
+  own_if_is true line pp = refl
+  own_if_is false line pp = refl
 
--- the processors that lines load
-all_of : List Line → List Processor
-all_of lines = each_processor (processor_loaded lines)
+  -- the processors that lines load
+  all_of : List Line → List Processor
+  all_of lines = each_processor (processor_loaded profile lines)
 
--- a line that changes none
-all_kept : (lines : List Line) (line : Line) → ((pp : Processor) → own_after line pp ≡ pp) → all_of (lines ++ line ∷ []) ≡ all_of lines
-unfolding all_of
-all_kept lines line same =
-    tabulate_same new_processor processor_count (λ i. processor_loaded (lines ++ line ∷ []) (processor_number i)) (λ i. processor_loaded lines (processor_number i))
-    (λ i lt. let n = processor_number i in processor_more lines line n ∙ own_if_is (is_for n (section_of lines)) line (processor_loaded lines n) ∙ either (is_for n (section_of lines)) (processor_loaded lines n))
-  where
-    either : (b : Bool) (pp : Processor) → cond b (own_after line pp) pp ≡ pp
-    either true pp = same pp
-    either false pp = refl
+  -- a line that changes none
+  all_kept : (lines : List Line) (line : Line) → ((pp : Processor) → own_after line pp ≡ pp) → all_of (lines ++ line ∷ []) ≡ all_of lines
+  unfolding all_of
+  all_kept lines line same =
+      tabulate_same no_processor processor_count (λ i. processor_loaded profile (lines ++ line ∷ []) (processor_number i)) (λ i. processor_loaded profile lines (processor_number i))
+      (λ i lt. let n = processor_number i in processor_more lines line n ∙ own_if_is (is_for n (section_of lines)) line (processor_loaded profile lines n) ∙ either (is_for n (section_of lines)) (processor_loaded profile lines n))
+    where
+      either : (b : Bool) (pp : Processor) → cond b (own_after line pp) pp ≡ pp
+      either true pp = same pp
+      either false pp = refl
 
--- one processor changes, where there is a current one
-abbrev pub changed_at : Option ℕ → (Processor → Processor) → List Processor → List Processor
-changed_at None change all = all
-changed_at (Some m) change all = slice_set all (processor_index m) (change (slice_index_or all (processor_index m) new_processor))
+  -- one processor changes, where there is a current one
+  abbrev pub changed_at : Option ℕ → (Processor → Processor) → List Processor → List Processor
+  changed_at None change all = all
+  changed_at (Some m) change all = slice_set all (processor_index m) (change (slice_index_or all (processor_index m) no_processor))
 
-entry_changed : (lines : List Line) (line : Line) (m i : ℕ) → i < processor_count → section_of lines ≡ Some m → processor_loaded (lines ++ line ∷ []) (processor_number i) ≡ cond (eqb i (processor_index m)) (own_after line (get_or (all_of lines) (processor_index m) new_processor)) (processor_loaded lines (processor_number i))
-unfolding all_of
-entry_changed lines line m i lt e =
-    processor_more lines line n ∙ ap (λ (current : Option ℕ). own_if (is_for n current) line (processor_loaded lines n)) e
-    ∙ own_if_is (eqb n m) line (processor_loaded lines n)
-    ∙ ap (λ (b : Bool). cond b (own_after line (processor_loaded lines n)) (processor_loaded lines n)) (number_at i m lt)
-    ∙ at_entry (cases_eq i place)
-  where
-    n : ℕ
-    n = processor_number i
+  entry_changed : (lines : List Line) (line : Line) (m i : ℕ) → i < processor_count → section_of lines ≡ Some m → processor_loaded profile (lines ++ line ∷ []) (processor_number i) ≡ cond (eqb i (processor_index m)) (own_after line (get_or (all_of lines) (processor_index m) no_processor)) (processor_loaded profile lines (processor_number i))
+  unfolding all_of
+  entry_changed lines line m i lt e =
+      processor_more lines line n ∙ ap (λ (current : Option ℕ). own_if (is_for n current) line (processor_loaded profile lines n)) e
+      ∙ own_if_is (eqb n m) line (processor_loaded profile lines n)
+      ∙ ap (λ (b : Bool). cond b (own_after line (processor_loaded profile lines n)) (processor_loaded profile lines n)) (number_at i m lt)
+      ∙ at_entry (cases_eq i place)
+    where
+      n : ℕ
+      n = processor_number i
 
-    place : ℕ
-    place = processor_index m
+      place : ℕ
+      place = processor_index m
 
-    at_entry : (i ≡ place) ⊎ (i ≡ place → ⊥) → cond (eqb i place) (own_after line (processor_loaded lines n)) (processor_loaded lines n) ≡ cond (eqb i place) (own_after line (get_or (all_of lines) place new_processor)) (processor_loaded lines n)
-    at_entry (inl same) =
-        ap (λ (pp : Processor). cond (eqb i place) (own_after line pp) (processor_loaded lines n))
-        (sym (get_or-tabulate processor_count (λ k. processor_loaded lines (processor_number k)) i new_processor lt)
-        ∙ ap (λ (k : ℕ). get_or (all_of lines) k new_processor) same)
-    at_entry (inr other) =
-        cond-false (eqb i place) (own_after line (processor_loaded lines n)) (processor_loaded lines n) (ne_eqb i place other)
-        ∙ sym (cond-false (eqb i place) (own_after line (get_or (all_of lines) place new_processor)) (processor_loaded lines n) (ne_eqb i place other))
+      at_entry : (i ≡ place) ⊎ (i ≡ place → ⊥) → cond (eqb i place) (own_after line (processor_loaded profile lines n)) (processor_loaded profile lines n) ≡ cond (eqb i place) (own_after line (get_or (all_of lines) place no_processor)) (processor_loaded profile lines n)
+      at_entry (inl same) =
+          ap (λ (pp : Processor). cond (eqb i place) (own_after line pp) (processor_loaded profile lines n))
+          (sym (get_or-tabulate processor_count (λ k. processor_loaded profile lines (processor_number k)) i no_processor lt)
+          ∙ ap (λ (k : ℕ). get_or (all_of lines) k no_processor) same)
+      at_entry (inr other) =
+          cond-false (eqb i place) (own_after line (processor_loaded profile lines n)) (processor_loaded profile lines n) (ne_eqb i place other)
+          ∙ sym (cond-false (eqb i place) (own_after line (get_or (all_of lines) place no_processor)) (processor_loaded profile lines n) (ne_eqb i place other))
 
-all_changed : (lines : List Line) (line : Line) (current : Option ℕ) → section_of lines ≡ current → changed_at current (own_after line) (all_of lines) ≡ all_of (lines ++ line ∷ [])
-unfolding all_of
-all_changed lines line None e =
-    sym (tabulate_same new_processor processor_count (λ i. processor_loaded (lines ++ line ∷ []) (processor_number i)) (λ i. processor_loaded lines (processor_number i))
-    (λ i lt. let n = processor_number i in processor_more lines line n ∙ ap (λ (current : Option ℕ). own_if (is_for n current) line (processor_loaded lines n)) e))
-all_changed lines line (Some m) e =
-    set-tabulate new_processor processor_count (λ i. processor_loaded lines (processor_number i)) (processor_index m) (own_after line (get_or (all_of lines) (processor_index m) new_processor))
-    ∙ sym (tabulate_same new_processor processor_count (λ i. processor_loaded (lines ++ line ∷ []) (processor_number i)) (λ i. cond (eqb i (processor_index m)) (own_after line (get_or (all_of lines) (processor_index m) new_processor)) (processor_loaded lines (processor_number i)))
-    (λ i lt. entry_changed lines line m i lt e))
+  all_changed : (lines : List Line) (line : Line) (current : Option ℕ) → section_of lines ≡ current → changed_at current (own_after line) (all_of lines) ≡ all_of (lines ++ line ∷ [])
+  unfolding all_of
+  all_changed lines line None e =
+      sym (tabulate_same no_processor processor_count (λ i. processor_loaded profile (lines ++ line ∷ []) (processor_number i)) (λ i. processor_loaded profile lines (processor_number i))
+      (λ i lt. let n = processor_number i in processor_more lines line n ∙ ap (λ (current : Option ℕ). own_if (is_for n current) line (processor_loaded profile lines n)) e))
+  all_changed lines line (Some m) e =
+      set-tabulate no_processor processor_count (λ i. processor_loaded profile lines (processor_number i)) (processor_index m) (own_after line (get_or (all_of lines) (processor_index m) no_processor))
+      ∙ sym (tabulate_same no_processor processor_count (λ i. processor_loaded profile (lines ++ line ∷ []) (processor_number i)) (λ i. cond (eqb i (processor_index m)) (own_after line (get_or (all_of lines) (processor_index m) no_processor)) (processor_loaded profile lines (processor_number i)))
+      (λ i lt. entry_changed lines line m i lt e))
 
--- ---- the machine
+  -- ---- the machine
 
-build : ℕ → List Processor → List ℕ → MachineState
-build size processors central = record (new_machine size) { processors = processors; central = central }
+  build : ℕ → List Processor → List ℕ → MachineState
+  build size processors central = record (new_machine profile size) { processors = processors; central = central }
 
-both_built : (size : ℕ) (ps qs : List Processor) (cs ds : List ℕ) → ps ≡ qs → cs ≡ ds → build size ps cs ≡ build size qs ds
-both_built size ps qs cs ds e h = ap (λ (l : List Processor). build size l cs) e ∙ ap (build size qs) h
+  both_built : (size : ℕ) (ps qs : List Processor) (cs ds : List ℕ) → ps ≡ qs → cs ≡ ds → build size ps cs ≡ build size qs ds
+  both_built size ps qs cs ds e h = ap (λ (l : List Processor). build size l cs) e ∙ ap (build size qs) h
 
-changed_machine : (size : ℕ) (current : Option ℕ) (change : Processor → Processor) (ps : List Processor) (cs : List ℕ) → with_processor current change (build size ps cs) ≡ build size (changed_at current change ps) cs
-unfolding build
-changed_machine size None change ps cs = refl
-changed_machine size (Some m) change ps cs = refl
+  changed_machine : (size : ℕ) (current : Option ℕ) (change : Processor → Processor) (ps : List Processor) (cs : List ℕ) → with_processor current change (build size ps cs) ≡ build size (changed_at current change ps) cs
+  unfolding build
+  changed_machine size None change ps cs = refl
+  changed_machine size (Some m) change ps cs = refl
 
-machine_of : ℕ → List Line → MachineState
-machine_of size lines = build size (all_of lines) (central_loaded size lines)
+  machine_of : ℕ → List Line → MachineState
+  machine_of size lines = build size (all_of lines) (central_loaded size lines)
 
-machine_kept : (size : ℕ) (lines : List Line) (line : Line) → ((pp : Processor) → own_after line pp ≡ pp) → central_loaded size (lines ++ line ∷ []) ≡ central_loaded size lines → machine_of size lines ≡ machine_of size (lines ++ line ∷ [])
-unfolding machine_of
-machine_kept size lines line same central = sym (both_built size _ _ _ _ (all_kept lines line same) central)
+  machine_kept : (size : ℕ) (lines : List Line) (line : Line) → ((pp : Processor) → own_after line pp ≡ pp) → central_loaded size (lines ++ line ∷ []) ≡ central_loaded size lines → machine_of size lines ≡ machine_of size (lines ++ line ∷ [])
+  unfolding machine_of
+  machine_kept size lines line same central = sym (both_built size _ _ _ _ (all_kept lines line same) central)
 
-machine_more : (size : ℕ) (lines : List Line) (line : Line) → machine_after (section_of lines) line (machine_of size lines) ≡ machine_of size (lines ++ line ∷ [])
-unfolding machine_of build
-machine_more size lines nothing = machine_kept size lines nothing (λ pp. refl) (central_kept size lines nothing (λ address. refl))
-machine_more size lines (central_size n) = machine_kept size lines (central_size n) (λ pp. refl) (central_kept size lines (central_size n) (λ address. refl))
-machine_more size lines (section n) = machine_kept size lines (section n) (λ pp. refl) (central_kept size lines (section n) (λ address. refl))
-machine_more size lines (central_words a ws) = sym (both_built size _ _ _ _ (all_kept lines (central_words a ws) (λ pp. refl)) (central_set size lines a ws))
-machine_more size lines (start p a) =
-    changed_machine size (section_of lines) (started p a) (all_of lines) (central_loaded size lines)
-    ∙ both_built size _ _ _ _ (all_changed lines (start p a) (section_of lines) refl) (sym (central_kept size lines (start p a) (λ address. refl)))
-machine_more size lines (words x ws) =
-    changed_machine size (section_of lines) (loaded_from x ws) (all_of lines) (central_loaded size lines)
-    ∙ both_built size _ _ _ _ (all_changed lines (words x ws) (section_of lines) refl) (sym (central_kept size lines (words x ws) (λ address. refl)))
-machine_more size lines dead_start = machine_kept size lines dead_start (λ pp. refl) (central_kept size lines dead_start (λ address. refl))
+  machine_more : (size : ℕ) (lines : List Line) (line : Line) → machine_after (section_of lines) line (machine_of size lines) ≡ machine_of size (lines ++ line ∷ [])
+  unfolding machine_of build
+  machine_more size lines nothing = machine_kept size lines nothing (λ pp. refl) (central_kept size lines nothing (λ address. refl))
+  machine_more size lines (central_size n) = machine_kept size lines (central_size n) (λ pp. refl) (central_kept size lines (central_size n) (λ address. refl))
+  machine_more size lines (section n) = machine_kept size lines (section n) (λ pp. refl) (central_kept size lines (section n) (λ address. refl))
+  machine_more size lines (central_words a ws) = sym (both_built size _ _ _ _ (all_kept lines (central_words a ws) (λ pp. refl)) (central_set size lines a ws))
+  machine_more size lines (start p a) =
+      changed_machine size (section_of lines) (started p a) (all_of lines) (central_loaded size lines)
+      ∙ both_built size _ _ _ _ (all_changed lines (start p a) (section_of lines) refl) (sym (central_kept size lines (start p a) (λ address. refl)))
+  machine_more size lines (words x ws) =
+      changed_machine size (section_of lines) (loaded_from x ws) (all_of lines) (central_loaded size lines)
+      ∙ both_built size _ _ _ _ (all_changed lines (words x ws) (section_of lines) refl) (sym (central_kept size lines (words x ws) (λ address. refl)))
+  machine_more size lines dead_start = machine_kept size lines dead_start (λ pp. refl) (central_kept size lines dead_start (λ address. refl))
 
-machine_none : (size : ℕ) → new_machine size ≡ machine_of size []
-unfolding machine_of build all_of
-machine_none size = sym (both_built size _ _ _ _ (tabulate_const processor_count (λ i. processor_loaded [] (processor_number i)) new_processor (λ i. processor_none (processor_number i))) (central_none size))
+  machine_none : (size : ℕ) → new_machine profile size ≡ machine_of size []
+  unfolding machine_of build all_of
+  machine_none size = sym (both_built size _ _ _ _ (tabulate_const processor_count (λ i. processor_loaded profile [] (processor_number i)) (new_processor profile) (λ i. processor_none (processor_number i))) (central_none size))
 
--- ---- the names
+  -- ---- the names
 
-named_of : List Line → List Bool
-named_of lines = each_processor (is_named lines)
+  named_of : List Line → List Bool
+  named_of lines = each_processor (is_named lines)
 
-or_false : (b : Bool) → (b || false) ≡ b
-or_false true = refl
-or_false false = refl
+  or_false : (b : Bool) → (b || false) ≡ b
+  or_false true = refl
+  or_false false = refl
 
-or_test : (b t : Bool) → cond t true b ≡ (b || (t || false))
-or_test true true = refl
-or_test true false = refl
-or_test false true = refl
-or_test false false = refl
+  or_test : (b t : Bool) → cond t true b ≡ (b || (t || false))
+  or_test true true = refl
+  or_test true false = refl
+  or_test false true = refl
+  or_test false false = refl
 
-named_kept : (lines : List Line) (line : Line) → ((n : ℕ) → names n line ≡ false) → named_of lines ≡ named_of (lines ++ line ∷ [])
-unfolding named_of
-named_kept lines line none =
-    sym (tabulate_same false processor_count (λ i. is_named (lines ++ line ∷ []) (processor_number i)) (λ i. is_named lines (processor_number i))
-    (λ i lt. let n = processor_number i in list_any-append (names n) lines (line ∷ []) ∙ ap (λ (t : Bool). is_named lines n || (t || false)) (none n) ∙ or_false (is_named lines n)))
+  named_kept : (lines : List Line) (line : Line) → ((n : ℕ) → names n line ≡ false) → named_of lines ≡ named_of (lines ++ line ∷ [])
+  unfolding named_of
+  named_kept lines line none =
+      sym (tabulate_same false processor_count (λ i. is_named (lines ++ line ∷ []) (processor_number i)) (λ i. is_named lines (processor_number i))
+      (λ i lt. let n = processor_number i in list_any-append (names n) lines (line ∷ []) ∙ ap (λ (t : Bool). is_named lines n || (t || false)) (none n) ∙ or_false (is_named lines n)))
 
-named_more : (lines : List Line) (line : Line) → named_after line (named_of lines) ≡ named_of (lines ++ line ∷ [])
-unfolding named_of
-named_more lines nothing = named_kept lines nothing (λ n. refl)
-named_more lines (central_size n) = named_kept lines (central_size n) (λ n. refl)
-named_more lines (central_words a ws) = named_kept lines (central_words a ws) (λ n. refl)
-named_more lines (start p a) = named_kept lines (start p a) (λ n. refl)
-named_more lines (words x ws) = named_kept lines (words x ws) (λ n. refl)
-named_more lines (section m) =
-    set-tabulate false processor_count (λ i. is_named lines (processor_number i)) (processor_index m) true
-    ∙ sym (tabulate_same false processor_count (λ i. is_named (lines ++ section m ∷ []) (processor_number i)) (λ i. cond (eqb i (processor_index m)) true (is_named lines (processor_number i)))
-    (λ i lt. let n = processor_number i in list_any-append (names n) lines (section m ∷ []) ∙ sym (or_test (is_named lines n) (eqb n m)) ∙ ap (λ (b : Bool). cond b true (is_named lines n)) (number_at i m lt)))
-named_more lines dead_start = named_kept lines dead_start (λ n. refl)
+  named_more : (lines : List Line) (line : Line) → named_after line (named_of lines) ≡ named_of (lines ++ line ∷ [])
+  unfolding named_of
+  named_more lines nothing = named_kept lines nothing (λ n. refl)
+  named_more lines (central_size n) = named_kept lines (central_size n) (λ n. refl)
+  named_more lines (central_words a ws) = named_kept lines (central_words a ws) (λ n. refl)
+  named_more lines (start p a) = named_kept lines (start p a) (λ n. refl)
+  named_more lines (words x ws) = named_kept lines (words x ws) (λ n. refl)
+  named_more lines (section m) =
+      set-tabulate false processor_count (λ i. is_named lines (processor_number i)) (processor_index m) true
+      ∙ sym (tabulate_same false processor_count (λ i. is_named (lines ++ section m ∷ []) (processor_number i)) (λ i. cond (eqb i (processor_index m)) true (is_named lines (processor_number i)))
+      (λ i lt. let n = processor_number i in list_any-append (names n) lines (section m ∷ []) ∙ sym (or_test (is_named lines n) (eqb n m)) ∙ ap (λ (b : Bool). cond b true (is_named lines n)) (number_at i m lt)))
+  named_more lines dead_start = named_kept lines dead_start (λ n. refl)
 
-named_none : replicate processor_count false ≡ named_of []
-unfolding named_of
-named_none = sym (tabulate_const processor_count (λ i. is_named [] (processor_number i)) false (λ i. refl))
+  named_none : replicate processor_count false ≡ named_of []
+  unfolding named_of
+  named_none = sym (tabulate_const processor_count (λ i. is_named [] (processor_number i)) false (λ i. refl))
 
--- ---- whether dead start was asked for
+  -- ---- whether dead start was asked for
 
-asked_kept : (lines : List Line) (line : Line) → is_dead_start line ≡ false → asks_dead_start lines ≡ asks_dead_start (lines ++ line ∷ [])
-asked_kept lines line none =
-    sym (list_any-append is_dead_start lines (line ∷ []) ∙ ap (λ (t : Bool). asks_dead_start lines || (t || false)) none ∙ or_false (asks_dead_start lines))
+  asked_kept : (lines : List Line) (line : Line) → is_dead_start line ≡ false → asks_dead_start lines ≡ asks_dead_start (lines ++ line ∷ [])
+  asked_kept lines line none =
+      sym (list_any-append is_dead_start lines (line ∷ []) ∙ ap (λ (t : Bool). asks_dead_start lines || (t || false)) none ∙ or_false (asks_dead_start lines))
 
-or_true : (b : Bool) → true ≡ (b || (true || false))
-or_true true = refl
-or_true false = refl
+  or_true : (b : Bool) → true ≡ (b || (true || false))
+  or_true true = refl
+  or_true false = refl
 
-asked_more : (lines : List Line) (line : Line) → asked_after line (asks_dead_start lines) ≡ asks_dead_start (lines ++ line ∷ [])
-asked_more lines nothing = asked_kept lines nothing refl
-asked_more lines (central_size n) = asked_kept lines (central_size n) refl
-asked_more lines (central_words a ws) = asked_kept lines (central_words a ws) refl
-asked_more lines (section n) = asked_kept lines (section n) refl
-asked_more lines (start p a) = asked_kept lines (start p a) refl
-asked_more lines (words x ws) = asked_kept lines (words x ws) refl
-asked_more lines dead_start = or_true (asks_dead_start lines) ∙ sym (list_any-append is_dead_start lines (dead_start ∷ []))
+  asked_more : (lines : List Line) (line : Line) → asked_after line (asks_dead_start lines) ≡ asks_dead_start (lines ++ line ∷ [])
+  asked_more lines nothing = asked_kept lines nothing refl
+  asked_more lines (central_size n) = asked_kept lines (central_size n) refl
+  asked_more lines (central_words a ws) = asked_kept lines (central_words a ws) refl
+  asked_more lines (section n) = asked_kept lines (section n) refl
+  asked_more lines (start p a) = asked_kept lines (start p a) refl
+  asked_more lines (words x ws) = asked_kept lines (words x ws) refl
+  asked_more lines dead_start = or_true (asks_dead_start lines) ∙ sym (list_any-append is_dead_start lines (dead_start ∷ []))
 
--- ---- the progress
+  -- ---- the progress
 
-progress_by : MachineState → List Bool → Option ℕ → Bool → Progress
-progress_by machine named current asked = record { machine = machine; named = named; current = current; asks_dead_start = asked }
+  progress_by : MachineState → List Bool → Option ℕ → Bool → Progress
+  progress_by machine named current asked = record { machine = machine; named = named; current = current; asks_dead_start = asked }
 
-progress_is : (size : ℕ) (lines : List Line) → progress_of size lines ≡ progress_by (machine_of size lines) (named_of lines) (section_of lines) (asks_dead_start lines)
-unfolding progress_of progress_by machine_of build all_of named_of
-progress_is size lines = refl
+  progress_is : (size : ℕ) (lines : List Line) → progress_of profile size lines ≡ progress_by (machine_of size lines) (named_of lines) (section_of lines) (asks_dead_start lines)
+  unfolding progress_of progress_by machine_of build all_of named_of
+  progress_is size lines = refl
 
-same_progress : (m n : MachineState) (bs cs : List Bool) (o p : Option ℕ) (a b : Bool) → m ≡ n → bs ≡ cs → o ≡ p → a ≡ b → progress_by m bs o a ≡ progress_by n cs p b
-same_progress m n bs cs o p a b e h k l =
-    ap (λ (x : MachineState). progress_by x bs o a) e ∙ ap (λ (named : List Bool). progress_by n named o a) h
-    ∙ ap (λ (current : Option ℕ). progress_by n cs current a) k ∙ ap (progress_by n cs p) l
+  same_progress : (m n : MachineState) (bs cs : List Bool) (o p : Option ℕ) (a b : Bool) → m ≡ n → bs ≡ cs → o ≡ p → a ≡ b → progress_by m bs o a ≡ progress_by n cs p b
+  same_progress m n bs cs o p a b e h k l =
+      ap (λ (x : MachineState). progress_by x bs o a) e ∙ ap (λ (named : List Bool). progress_by n named o a) h
+      ∙ ap (λ (current : Option ℕ). progress_by n cs current a) k ∙ ap (progress_by n cs p) l
 
-after_is : (m : MachineState) (bs : List Bool) (current : Option ℕ) (asked : Bool) (line : Line) → after_line (progress_by m bs current asked) line ≡ progress_by (machine_after current line m) (named_after line bs) (current_after line current) (asked_after line asked)
-unfolding after_line progress_by
-after_is m bs current asked line = refl
+  after_is : (m : MachineState) (bs : List Bool) (current : Option ℕ) (asked : Bool) (line : Line) → after_line (progress_by m bs current asked) line ≡ progress_by (machine_after current line m) (named_after line bs) (current_after line current) (asked_after line asked)
+  unfolding after_line progress_by
+  after_is m bs current asked line = refl
 
-progress_more : (size : ℕ) (lines : List Line) (line : Line) → after_line (progress_of size lines) line ≡ progress_of size (lines ++ line ∷ [])
-progress_more size lines line =
-    ap (λ (p : Progress). after_line p line) (progress_is size lines)
-    ∙ after_is (machine_of size lines) (named_of lines) (section_of lines) (asks_dead_start lines) line
-    ∙ same_progress _ _ _ _ _ _ _ _ (machine_more size lines line) (named_more lines line) (sym (section_more lines line)) (asked_more lines line)
-    ∙ sym (progress_is size (lines ++ line ∷ []))
+  progress_more : (size : ℕ) (lines : List Line) (line : Line) → after_line (progress_of profile size lines) line ≡ progress_of profile size (lines ++ line ∷ [])
+  progress_more size lines line =
+      ap (λ (p : Progress). after_line p line) (progress_is size lines)
+      ∙ after_is (machine_of size lines) (named_of lines) (section_of lines) (asks_dead_start lines) line
+      ∙ same_progress _ _ _ _ _ _ _ _ (machine_more size lines line) (named_more lines line) (sym (section_more lines line)) (asked_more lines line)
+      ∙ sym (progress_is size (lines ++ line ∷ []))
 
-no_section : None ≡ section_of []
-unfolding section_of
-no_section = refl
+  no_section : None ≡ section_of []
+  unfolding section_of
+  no_section = refl
 
-progress_none : (size : ℕ) → before_lines size ≡ progress_of size []
-unfolding before_lines progress_by
-progress_none size =
-    same_progress (new_machine size) (machine_of size []) (replicate processor_count false) (named_of []) None (section_of []) false (asks_dead_start []) (machine_none size) named_none no_section refl
-    ∙ sym (progress_is size [])
+  progress_none : (size : ℕ) → before_lines profile size ≡ progress_of profile size []
+  unfolding before_lines progress_by
+  progress_none size =
+      same_progress (new_machine profile size) (machine_of size []) (replicate processor_count false) (named_of []) None (section_of []) false (asks_dead_start []) (machine_none size) named_none no_section refl
+      ∙ sym (progress_is size [])
 
-read_on : (size : ℕ) (lines more : List Line) → fold after_line (progress_of size lines) more ≡ progress_of size (lines ++ more)
-read_on size lines [] = ap (progress_of size) (sym (append-nil lines))
-read_on size lines (line ∷ more) =
-    ap (λ (p : Progress). fold after_line p more) (progress_more size lines line) ∙ read_on size (lines ++ line ∷ []) more
-    ∙ ap (progress_of size) (append_assoc lines (line ∷ []) more)
+  read_on : (size : ℕ) (lines more : List Line) → fold after_line (progress_of profile size lines) more ≡ progress_of profile size (lines ++ more)
+  read_on size lines [] = ap (progress_of profile size) (sym (append-nil lines))
+  read_on size lines (line ∷ more) =
+      ap (λ (p : Progress). fold after_line p more) (progress_more size lines line) ∙ read_on size (lines ++ line ∷ []) more
+      ∙ ap (progress_of profile size) (append_assoc lines (line ∷ []) more)
 
--- lines that are read one after another load what they load all together
-pub after_lines_is : (size : ℕ) (lines : List Line) → after_lines size lines ≡ progress_of size lines
-unfolding after_lines
-after_lines_is size lines = ap (λ (p : Progress). fold after_line p lines) (progress_none size) ∙ read_on size [] lines
+  -- lines that are read one after another load what they load all together
+  pub after_lines_is : (size : ℕ) (lines : List Line) → after_lines profile size lines ≡ progress_of profile size lines
+  unfolding after_lines
+  after_lines_is size lines = ap (λ (p : Progress). fold after_line p lines) (progress_none size) ∙ read_on size [] lines

@@ -20,154 +20,164 @@ use Rattle.pp_deck.proofs.KeywordLemmas.{section_after}
 use Rattle.pp_deck.proofs.ListLemmas.{range_more, range_append, filter_map_more}
 use Rattle.pp_deck.proofs.MemoryLemmas.{length-central_loaded}
 use Rattle.pp_deck.proofs.ProgressLemmas.{after_lines_is}
+use Rattle.pp_machine.specs.declared.profile.Profile.{Profile}
 
-pub fault_at : List (List (List ℕ)) → ℕ → Option DeckFault
-fault_at lines k = fault_in k (line_at (size_of lines) lines k)
+module _ (profile : Profile) where
+  pub fault_at : List (List (List ℕ)) → ℕ → Option DeckFault
+  fault_at lines k = fault_in k (line_at profile (size_of lines) lines k)
 
-pub said_at : List (List (List ℕ)) → ℕ → Option Line
-said_at lines k = line_in (line_at (size_of lines) lines k)
+  pub said_at : List (List (List ℕ)) → ℕ → Option Line
+  said_at lines k = line_in (line_at profile (size_of lines) lines k)
 
--- the first k lines have no fault, and this is the progress behind them
-pub record ReadTo (lines : List (List (List ℕ))) (k : ℕ) (progress : Progress) (is_behind_fields : Bool) : Type 0 where
-  pub faultless : filter_map (fault_at lines) (range_with_len 0 k) ≡ []
-  pub progress_is : progress ≡ after_lines (size_of lines) (filter_map (said_at lines) (range_with_len 0 k))
-  pub behind : is_behind_fields ≡ list_any has_fields (take k lines)
-  pub in_section : is_some progress.current ≡ list_any begins_section (take k lines)
+  -- the first k lines have no fault, and this is the progress behind them
+  pub record ReadTo (lines : List (List (List ℕ))) (k : ℕ) (progress : Progress) (is_behind_fields : Bool) : Type 0 where
+    pub faultless : filter_map (fault_at lines) (range_with_len 0 k) ≡ []
+    pub progress_is : progress ≡ after_lines profile (size_of lines) (filter_map (said_at lines) (range_with_len 0 k))
+    pub behind : is_behind_fields ≡ list_any has_fields (take k lines)
+    pub in_section : is_some progress.current ≡ list_any begins_section (take k lines)
 
-pub read_none : (lines : List (List (List ℕ))) (progress : Progress) → progress ≡ before_lines (size_of lines) → ReadTo lines 0 progress false
-unfolding after_lines before_lines
-read_none lines progress e = record {
-  faultless = refl;
-  progress_is = e;
-  behind = refl;
-  in_section = ap (λ (p : Progress). is_some p.current) e;
-}
+  pub read_none : (lines : List (List (List ℕ))) (progress : Progress) → progress ≡ before_lines profile (size_of lines) → ReadTo lines 0 progress false
+  unfolding after_lines before_lines
+  read_none lines progress e = record {
+    faultless = refl;
+    progress_is = e;
+    behind = refl;
+    in_section = ap (λ (p : Progress). is_some p.current) e;
+  }
 
-or_false : (b : Bool) → (b || false) ≡ b
-or_false true = refl
-or_false false = refl
+  or_false : (b : Bool) → (b || false) ≡ b
+  or_false true = refl
+  or_false false = refl
 
-or_true : (b : Bool) → (b || true) ≡ true
-or_true true = refl
-or_true false = refl
+  or_true : (b : Bool) → (b || true) ≡ true
+  or_true true = refl
+  or_true false = refl
 
-some_fields : (n : ℕ) → ltb 0 (suc n) ≡ true
-some_fields n = lt-ltb 0 (suc n) (omega arith)
+  some_fields : (n : ℕ) → ltb 0 (suc n) ≡ true
+  some_fields n = lt-ltb 0 (suc n) (omega arith)
 
-one_first : (n : ℕ) → 1 + n ≡ suc n
-one_first n = omega arith
+  one_first : (n : ℕ) → 1 + n ≡ suc n
+  one_first n = omega arith
 
--- what the next line is
-line_is : (lines : List (List (List ℕ))) (k : ℕ) (progress : Progress) (b : Bool) → ReadTo lines k progress b → line_at (size_of lines) lines k ≡ line_behind (size_of lines) b (is_some progress.current) (get_or lines k [])
-unfolding line_at
-line_is lines k progress b h =
-    ap (λ (t : Bool). line_behind (size_of lines) t (list_any begins_section (take k lines)) (get_or lines k [])) (sym h.behind)
-    ∙ ap (λ (t : Bool). line_behind (size_of lines) b t (get_or lines k [])) (sym h.in_section)
+  -- what the next line is
+  line_is : (lines : List (List (List ℕ))) (k : ℕ) (progress : Progress) (b : Bool) → ReadTo lines k progress b → line_at profile (size_of lines) lines k ≡ line_behind profile (size_of lines) b (is_some progress.current) (get_or lines k [])
+  unfolding line_at
+  line_is lines k progress b h =
+      ap (λ (t : Bool). line_behind profile (size_of lines) t (list_any begins_section (take k lines)) (get_or lines k [])) (sym h.behind)
+      ∙ ap (λ (t : Bool). line_behind profile (size_of lines) b t (get_or lines k [])) (sym h.in_section)
 
-from_zero : (k : ℕ) → 0 + k ≡ k
-from_zero k = omega arith
+  from_zero : (k : ℕ) → 0 + k ≡ k
+  from_zero k = omega arith
 
-one_more : {A : Type 0} (f : ℕ → Option A) (k : ℕ) → filter_map f (range_with_len 0 (k + 1)) ≡ filter_map f (range_with_len 0 k) ++ option_to_list (f k)
-one_more {A} f k =
-    ap (filter_map f) (range_more 0 k) ∙ filter_map_more f (range_with_len 0 k) (0 + k)
-    ∙ ap (λ (i : ℕ). filter_map f (range_with_len 0 k) ++ option_to_list (f i)) (from_zero k)
+  one_more : {A : Type 0} (f : ℕ → Option A) (k : ℕ) → filter_map f (range_with_len 0 (k + 1)) ≡ filter_map f (range_with_len 0 k) ++ option_to_list (f k)
+  one_more {A} f k =
+      ap (filter_map f) (range_more 0 k) ∙ filter_map_more f (range_with_len 0 k) (0 + k)
+      ∙ ap (λ (i : ℕ). filter_map f (range_with_len 0 k) ++ option_to_list (f i)) (from_zero k)
 
--- a line more, without a fault
-pub read_more : (lines : List (List (List ℕ))) (k : ℕ) (progress : Progress) (b : Bool) (line : Line) → ReadTo lines k progress b → k < length lines → line_behind (size_of lines) b (is_some progress.current) (get_or lines k []) ≡ Ok line → ReadTo lines (k + 1) (after_line progress line) (b || has_fields (get_or lines k []))
-unfolding fault_at said_at after_lines after_line
-read_more lines k progress b line h lt e =
-    let there : line_at (size_of lines) lines k ≡ Ok line = line_is lines k progress b h ∙ e in
-    record {
-      faultless =
-          one_more (fault_at lines) k
-          ∙ ap (λ (o : Option DeckFault). filter_map (fault_at lines) (range_with_len 0 k) ++ option_to_list o) (ap (fault_in k) there)
-          ∙ append-nil (filter_map (fault_at lines) (range_with_len 0 k)) ∙ h.faultless;
-      progress_is =
-          ap (λ (p : Progress). after_line p line) h.progress_is
-          ∙ sym (fold-append after_line (before_lines (size_of lines)) (filter_map (said_at lines) (range_with_len 0 k)) (line ∷ []))
-          ∙ ap (fold after_line (before_lines (size_of lines))) (sym (one_more (said_at lines) k ∙ ap (λ (o : Option Line). filter_map (said_at lines) (range_with_len 0 k) ++ option_to_list o) (ap line_in there)));
-      behind = ap (λ (t : Bool). t || has_fields (get_or lines k [])) h.behind ∙ sym (list_any_more has_fields lines k [] lt);
-      in_section =
-          section_after (size_of lines) b (is_some progress.current) (get_or lines k []) line progress.current e
-          ∙ ap (λ (t : Bool). t || begins_section (get_or lines k [])) h.in_section ∙ sym (list_any_more begins_section lines k [] lt);
-    }
+  -- a line more, without a fault
+  pub read_more : (lines : List (List (List ℕ))) (k : ℕ) (progress : Progress) (b : Bool) (line : Line) → ReadTo lines k progress b → k < length lines → line_behind profile (size_of lines) b (is_some progress.current) (get_or lines k []) ≡ Ok line → ReadTo lines (k + 1) (after_line progress line) (b || has_fields (get_or lines k []))
+  unfolding fault_at said_at after_lines after_line
+  read_more lines k progress b line h lt e =
+      let there : line_at profile (size_of lines) lines k ≡ Ok line = line_is lines k progress b h ∙ e in
+      record {
+        faultless =
+            one_more (fault_at lines) k
+            ∙ ap (λ (o : Option DeckFault). filter_map (fault_at lines) (range_with_len 0 k) ++ option_to_list o) (ap (fault_in k) there)
+            ∙ append-nil (filter_map (fault_at lines) (range_with_len 0 k)) ∙ h.faultless;
+        progress_is =
+            ap (λ (p : Progress). after_line p line) h.progress_is
+            ∙ sym (fold-append after_line (before_lines profile (size_of lines)) (filter_map (said_at lines) (range_with_len 0 k)) (line ∷ []))
+            ∙ ap (fold after_line (before_lines profile (size_of lines))) (sym (one_more (said_at lines) k ∙ ap (λ (o : Option Line). filter_map (said_at lines) (range_with_len 0 k) ++ option_to_list o) (ap line_in there)));
+        behind = ap (λ (t : Bool). t || has_fields (get_or lines k [])) h.behind ∙ sym (list_any_more has_fields lines k [] lt);
+        in_section =
+            section_after profile (size_of lines) b (is_some progress.current) (get_or lines k []) line progress.current e
+            ∙ ap (λ (t : Bool). t || begins_section (get_or lines k [])) h.in_section ∙ sym (list_any_more begins_section lines k [] lt);
+      }
 
--- a line without fields
-pub read_blank : (lines : List (List (List ℕ))) (k : ℕ) (progress : Progress) (b : Bool) → ReadTo lines k progress b → k < length lines → get_or lines k [] ≡ [] → ReadTo lines (k + 1) progress b
-unfolding line_behind after_line
-read_blank lines k progress b h lt e =
-    let next = read_more lines k progress b nothing h lt (ap (line_behind (size_of lines) b (is_some progress.current)) e) in
-    let same : (b || has_fields (get_or lines k [])) ≡ b = ap (λ (fields : List (List ℕ)). b || has_fields fields) e ∙ or_false b in
-    record { faultless = next.faultless; progress_is = next.progress_is; behind = sym same ∙ next.behind; in_section = next.in_section }
+  -- a line without fields
+  pub read_blank : (lines : List (List (List ℕ))) (k : ℕ) (progress : Progress) (b : Bool) → ReadTo lines k progress b → k < length lines → get_or lines k [] ≡ [] → ReadTo lines (k + 1) progress b
+  unfolding line_behind after_line
+  read_blank lines k progress b h lt e =
+      let next = read_more lines k progress b nothing h lt (ap (line_behind profile (size_of lines) b (is_some progress.current)) e) in
+      let same : (b || has_fields (get_or lines k [])) ≡ b = ap (λ (fields : List (List ℕ)). b || has_fields fields) e ∙ or_false b in
+      record { faultless = next.faultless; progress_is = next.progress_is; behind = sym same ∙ next.behind; in_section = next.in_section }
 
--- central memory keeps its size
-pub central_length : (lines : List (List (List ℕ))) (k : ℕ) (progress : Progress) (b : Bool) → ReadTo lines k progress b → length progress.machine.central ≡ size_of lines
-unfolding progress_of
-central_length lines k progress b h =
-    let said = filter_map (said_at lines) (range_with_len 0 k) in
-    ap (λ (p : Progress). length p.machine.central) (h.progress_is ∙ after_lines_is (size_of lines) said) ∙ length-central_loaded (size_of lines) said
+  -- central memory keeps its size
+  pub central_length : (lines : List (List (List ℕ))) (k : ℕ) (progress : Progress) (b : Bool) → ReadTo lines k progress b → length progress.machine.central ≡ size_of lines
+  unfolding progress_of
+  central_length lines k progress b h =
+      let said = filter_map (said_at lines) (range_with_len 0 k) in
+      ap (λ (p : Progress). length p.machine.central) (h.progress_is ∙ after_lines_is profile (size_of lines) said) ∙ length-central_loaded (size_of lines) said
 
--- what a line says, with the size that central memory has
-line_here : (lines : List (List (List ℕ))) (k : ℕ) (progress : Progress) (b : Bool) (line fields : List (List ℕ)) → ReadTo lines k progress b → line ≡ fields → line_behind (size_of lines) b (is_some progress.current) line ≡ line_behind (length progress.machine.central) b (is_some progress.current) fields
-line_here lines k progress b line fields h e =
-    ap (line_behind (size_of lines) b (is_some progress.current)) e
-    ∙ ap (λ (size : ℕ). line_behind size b (is_some progress.current) fields) (sym (central_length lines k progress b h))
+  -- the machine keeps its profile
+  pub keeps_profile : (lines : List (List (List ℕ))) (k : ℕ) (progress : Progress) (b : Bool) → ReadTo lines k progress b → progress.machine.profile ≡ profile
+  unfolding progress_of
+  keeps_profile lines k progress b h =
+      let said = filter_map (said_at lines) (range_with_len 0 k) in
+      ap (λ (p : Progress). p.machine.profile) (h.progress_is ∙ after_lines_is profile (size_of lines) said)
 
-read_as : (lines : List (List (List ℕ))) (k : ℕ) (progress new : Progress) (b : Bool) (r : Result Line Flaw) → ReadTo lines k progress b → k < length lines → has_fields (get_or lines k []) ≡ true → line_behind (size_of lines) b (is_some progress.current) (get_or lines k []) ≡ r → on_read (after_line progress) r ≡ Ok new → ReadTo lines (k + 1) new true
-read_as lines k progress new b (Ok line) h lt some is e =
-    let next = read_more lines k progress b line h lt is in
-    let same : after_line progress line ≡ new = cc in
-    let yes : (b || has_fields (get_or lines k [])) ≡ true = ap (λ (t : Bool). b || t) some ∙ or_true b in
-    record {
-      faultless = next.faultless;
-      progress_is = sym same ∙ next.progress_is;
-      behind = sym yes ∙ next.behind;
-      in_section = ap (λ (p : Progress). is_some p.current) (sym same) ∙ next.in_section;
-    }
-read_as lines k progress new b (Err flaw) h lt some is e = absurd (cc)
+  -- what a line says, with the profile of the machine and the size that central memory has
+  line_here : (lines : List (List (List ℕ))) (k : ℕ) (progress : Progress) (b : Bool) (line fields : List (List ℕ)) → ReadTo lines k progress b → line ≡ fields → line_behind profile (size_of lines) b (is_some progress.current) line ≡ line_behind progress.machine.profile (length progress.machine.central) b (is_some progress.current) fields
+  line_here lines k progress b line fields h e =
+      ap (line_behind profile (size_of lines) b (is_some progress.current)) e
+      ∙ ap (λ (size : ℕ). line_behind profile size b (is_some progress.current) fields) (sym (central_length lines k progress b h))
+      ∙ ap (λ p. line_behind p (length progress.machine.central) b (is_some progress.current) fields) (sym (keeps_profile lines k progress b h))
 
--- a line with fields
-pub read_fields : (lines : List (List (List ℕ))) (k : ℕ) (progress new : Progress) (b : Bool) (first : List ℕ) (fields : List (List ℕ)) → ReadTo lines k progress b → k < length lines → get_or lines k [] ≡ first ∷ fields → on_read (after_line progress) (line_behind (length progress.machine.central) b (is_some progress.current) (first ∷ fields)) ≡ Ok new → ReadTo lines (k + 1) new true
-read_fields lines k progress new b first fields h lt e read =
-    read_as lines k progress new b (line_behind (size_of lines) b (is_some progress.current) (get_or lines k [])) h lt (ap has_fields e ∙ some_fields (length fields)) refl
-    (ap (on_read (after_line progress)) (line_here lines k progress b (get_or lines k []) (first ∷ fields) h e) ∙ read)
+  read_as : (lines : List (List (List ℕ))) (k : ℕ) (progress new : Progress) (b : Bool) (r : Result Line Flaw) → ReadTo lines k progress b → k < length lines → has_fields (get_or lines k []) ≡ true → line_behind profile (size_of lines) b (is_some progress.current) (get_or lines k []) ≡ r → on_read (after_line progress) r ≡ Ok new → ReadTo lines (k + 1) new true
+  read_as lines k progress new b (Ok line) h lt some is e =
+      let next = read_more lines k progress b line h lt is in
+      let same : after_line progress line ≡ new = cc in
+      let yes : (b || has_fields (get_or lines k [])) ≡ true = ap (λ (t : Bool). b || t) some ∙ or_true b in
+      record {
+        faultless = next.faultless;
+        progress_is = sym same ∙ next.progress_is;
+        behind = sym yes ∙ next.behind;
+        in_section = ap (λ (p : Progress). is_some p.current) (sym same) ∙ next.in_section;
+      }
+  read_as lines k progress new b (Err flaw) h lt some is e = absurd (cc)
 
-flaw_of : {A : Type 0} (use_of : Line → A) (r : Result Line Flaw) (flaw : Flaw) → on_read use_of r ≡ Err flaw → r ≡ Err flaw
-flaw_of use_of (Ok line) flaw e = absurd (cc)
-flaw_of use_of (Err other) flaw e = cc
+  -- a line with fields
+  pub read_fields : (lines : List (List (List ℕ))) (k : ℕ) (progress new : Progress) (b : Bool) (first : List ℕ) (fields : List (List ℕ)) → ReadTo lines k progress b → k < length lines → get_or lines k [] ≡ first ∷ fields → on_read (after_line progress) (line_behind progress.machine.profile (length progress.machine.central) b (is_some progress.current) (first ∷ fields)) ≡ Ok new → ReadTo lines (k + 1) new true
+  read_fields lines k progress new b first fields h lt e read =
+      read_as lines k progress new b (line_behind profile (size_of lines) b (is_some progress.current) (get_or lines k [])) h lt (ap has_fields e ∙ some_fields (length fields)) refl
+      (ap (on_read (after_line progress)) (line_here lines k progress b (get_or lines k []) (first ∷ fields) h e) ∙ read)
 
--- a faulty line is the first one
-pub read_flaw : (lines : List (List (List ℕ))) (k : ℕ) (progress : Progress) (b : Bool) (first : List ℕ) (fields : List (List ℕ)) (flaw : Flaw) → ReadTo lines k progress b → k < length lines → get_or lines k [] ≡ first ∷ fields → on_read (after_line progress) (line_behind (length progress.machine.central) b (is_some progress.current) (first ∷ fields)) ≡ Err flaw → meaning_of_lines lines ≡ Err (record { line = k + 1; code = code_of flaw })
-unfolding meaning_of_lines faults_in fault_at
-read_flaw lines k progress b first fields flaw h lt e read =
-    let there : line_at (size_of lines) lines k ≡ Err flaw = line_is lines k progress b h ∙ flaw_of (after_line progress) _ flaw (ap (on_read (after_line progress)) (line_here lines k progress b (get_or lines k []) (first ∷ fields) h e) ∙ read) in
-    let split : length lines ≡ k + (1 + (length lines - k - 1)) = omega (arith, lt) in
-    ap (λ (faults : List DeckFault). unless_faulty faults (loaded (size_of lines) (lines_said lines)))
-    (ap (λ (n : ℕ). filter_map (fault_at lines) (range_with_len 0 n)) split
-    ∙ ap (filter_map (fault_at lines)) (range_append 0 k (1 + (length lines - k - 1)))
-    ∙ filter_map-append (fault_at lines) (range_with_len 0 k) (range_with_len (0 + k) (1 + (length lines - k - 1)))
-    ∙ ap (λ (faults : List DeckFault). faults ++ filter_map (fault_at lines) (range_with_len (0 + k) (1 + (length lines - k - 1)))) h.faultless
-    ∙ ap (λ (i : ℕ). filter_map (fault_at lines) (range_with_len i (1 + (length lines - k - 1)))) (from_zero k)
-    ∙ ap (λ (n : ℕ). filter_map (fault_at lines) (range_with_len k n)) (one_first (length lines - k - 1))
-    ∙ ap (λ (o : Option DeckFault). cons_option o (filter_map (fault_at lines) (range_with_len (k + 1) (length lines - k - 1)))) (ap (fault_in k) there))
+  flaw_of : {A : Type 0} (use_of : Line → A) (r : Result Line Flaw) (flaw : Flaw) → on_read use_of r ≡ Err flaw → r ≡ Err flaw
+  flaw_of use_of (Ok line) flaw e = absurd (cc)
+  flaw_of use_of (Err other) flaw e = cc
 
--- all lines
-pub read_all : (lines : List (List (List ℕ))) (k : ℕ) (progress : Progress) (b : Bool) → ReadTo lines k progress b → k ≡ length lines → meaning_of_lines lines ≡ Ok (with_dead_start progress.asks_dead_start (deck_so_far progress))
-unfolding meaning_of_lines faults_in lines_said fault_at said_at progress_of
-read_all lines k progress b h e =
-    let none : faults_in lines ≡ [] = ap (λ (n : ℕ). filter_map (fault_at lines) (range_with_len 0 n)) (sym e) ∙ h.faultless in
-    let all : progress ≡ progress_of (size_of lines) (lines_said lines) =
-    h.progress_is ∙ ap (λ (n : ℕ). after_lines (size_of lines) (filter_map (said_at lines) (range_with_len 0 n))) e ∙ after_lines_is (size_of lines) (lines_said lines) in
-    ap (λ (faults : List DeckFault). unless_faulty faults (loaded (size_of lines) (lines_said lines))) none
-    ∙ ap (λ (p : Progress). Ok (with_dead_start p.asks_dead_start (deck_so_far p))) (sym all)
+  -- a faulty line is the first one
+  pub read_flaw : (lines : List (List (List ℕ))) (k : ℕ) (progress : Progress) (b : Bool) (first : List ℕ) (fields : List (List ℕ)) (flaw : Flaw) → ReadTo lines k progress b → k < length lines → get_or lines k [] ≡ first ∷ fields → on_read (after_line progress) (line_behind progress.machine.profile (length progress.machine.central) b (is_some progress.current) (first ∷ fields)) ≡ Err flaw → meaning_of_lines profile lines ≡ Err (record { line = k + 1; code = code_of flaw })
+  unfolding meaning_of_lines faults_in fault_at
+  read_flaw lines k progress b first fields flaw h lt e read =
+      let there : line_at profile (size_of lines) lines k ≡ Err flaw = line_is lines k progress b h ∙ flaw_of (after_line progress) _ flaw (ap (on_read (after_line progress)) (line_here lines k progress b (get_or lines k []) (first ∷ fields) h e) ∙ read) in
+      let split : length lines ≡ k + (1 + (length lines - k - 1)) = omega (arith, lt) in
+      ap (λ (faults : List DeckFault). unless_faulty faults (loaded profile (size_of lines) (lines_said profile lines)))
+      (ap (λ (n : ℕ). filter_map (fault_at lines) (range_with_len 0 n)) split
+      ∙ ap (filter_map (fault_at lines)) (range_append 0 k (1 + (length lines - k - 1)))
+      ∙ filter_map-append (fault_at lines) (range_with_len 0 k) (range_with_len (0 + k) (1 + (length lines - k - 1)))
+      ∙ ap (λ (faults : List DeckFault). faults ++ filter_map (fault_at lines) (range_with_len (0 + k) (1 + (length lines - k - 1)))) h.faultless
+      ∙ ap (λ (i : ℕ). filter_map (fault_at lines) (range_with_len i (1 + (length lines - k - 1)))) (from_zero k)
+      ∙ ap (λ (n : ℕ). filter_map (fault_at lines) (range_with_len k n)) (one_first (length lines - k - 1))
+      ∙ ap (λ (o : Option DeckFault). cons_option o (filter_map (fault_at lines) (range_with_len (k + 1) (length lines - k - 1)))) (ap (fault_in k) there))
 
--- no turn is counted yet, and no channel has a history
-pub before_first_turn : (lines : List (List (List ℕ))) (k : ℕ) (progress : Progress) (b : Bool) → ReadTo lines k progress b → IsBeforeFirstTurn progress.machine
-unfolding progress_of
-before_first_turn lines k progress b h =
-    let said = filter_map (said_at lines) (range_with_len 0 k) in
-    let is : progress ≡ progress_of (size_of lines) said = h.progress_is ∙ after_lines_is (size_of lines) said in
-    record {
-      turns = ap (λ (p : Progress). p.machine.turns) is;
-      histories = λ c named. ap (λ (p : Progress). history_of c p.machine) is ∙ get_or-replicate channel_count (channel_index c) [] [] (place_below c named);
-    }
+  -- all lines
+  pub read_all : (lines : List (List (List ℕ))) (k : ℕ) (progress : Progress) (b : Bool) → ReadTo lines k progress b → k ≡ length lines → meaning_of_lines profile lines ≡ Ok (with_dead_start progress.asks_dead_start (deck_so_far progress))
+  unfolding meaning_of_lines faults_in lines_said fault_at said_at progress_of
+  read_all lines k progress b h e =
+      let none : faults_in profile lines ≡ [] = ap (λ (n : ℕ). filter_map (fault_at lines) (range_with_len 0 n)) (sym e) ∙ h.faultless in
+      let all : progress ≡ progress_of profile (size_of lines) (lines_said profile lines) =
+      h.progress_is ∙ ap (λ (n : ℕ). after_lines profile (size_of lines) (filter_map (said_at lines) (range_with_len 0 n))) e ∙ after_lines_is profile (size_of lines) (lines_said profile lines) in
+      ap (λ (faults : List DeckFault). unless_faulty faults (loaded profile (size_of lines) (lines_said profile lines))) none
+      ∙ ap (λ (p : Progress). Ok (with_dead_start p.asks_dead_start (deck_so_far p))) (sym all)
+
+  -- no turn is counted yet, and no channel has a history
+  pub before_first_turn : (lines : List (List (List ℕ))) (k : ℕ) (progress : Progress) (b : Bool) → ReadTo lines k progress b → IsBeforeFirstTurn progress.machine
+  unfolding progress_of
+  before_first_turn lines k progress b h =
+      let said = filter_map (said_at lines) (range_with_len 0 k) in
+      let is : progress ≡ progress_of profile (size_of lines) said = h.progress_is ∙ after_lines_is profile (size_of lines) said in
+      record {
+        turns = ap (λ (p : Progress). p.machine.turns) is;
+        histories = λ c named. ap (λ (p : Progress). history_of c p.machine) is ∙ get_or-replicate channel_count (channel_index c) [] [] (place_below c named);
+      }

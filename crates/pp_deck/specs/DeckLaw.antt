@@ -7,8 +7,10 @@ use Rattle.pp_machine.specs.Headline.{opening_history}
 use Rattle.pp_machine.specs.MachineState.{processor_of, history_of, is_opened}
 use Rattle.pp_machine.specs.Processor.{Processor, word_at}
 use Rattle.pp_machine.specs.ProcessorNumber.{names_processor, processor_count, processor_index}
+use Rattle.pp_machine.specs.Profile.{has_processor}
 use Rattle.pp_machine.specs.declared.pp_state.PpState.{PpState}
 use Rattle.pp_machine.specs.declared.pp_state.PpState.TheVariants.{Running, Stopped}
+use Rattle.pp_machine.specs.declared.profile.Profile.{Profile}
 use Rattle.pp_deck.specs.DeckLine.{Line, nothing, central_words, section, start, words, dead_start}
 use Rattle.pp_deck.specs.DeckMeaning.{LoadedDeck}
 
@@ -75,9 +77,9 @@ pub record AsksForDeadStart (lines : List Line) : Type 0 where
   pub within : line < length lines
   pub asks : line_of lines line ≡ dead_start
 
--- processor n waits for its program: dead start is asked for, and no line names it
-pub record Waits (lines : List Line) (n : ℕ) : Type 0 where
-  pub processor : IsTrue (names_processor n)
+-- processor n of such a machine waits for its program: dead start is asked for, and no line names it
+pub record Waits (profile : Profile) (lines : List Line) (n : ℕ) : Type 0 where
+  pub processor : IsTrue (has_processor profile n)
   pub asked : AsksForDeadStart lines
   pub unnamed : IsNamed lines n → ⊥
 
@@ -87,7 +89,7 @@ pub record KeepsDeckLaw (lines : List Line) (deck : LoadedDeck) : Type 0 where
   pub places : (n place : ℕ) → IsTrue (names_processor n) → place < place_count
       → HoldsLast lines (λ k w. IsFor lines k n × SetsWord (line_of lines k) place w) 0 (word_at (processor_of n deck.machine) place)
   -- the last start of a processor holds; without one it is stopped, unless it waits
-  pub starts : (n : ℕ) → IsTrue (names_processor n) → (Waits lines n → ⊥)
+  pub starts : (n : ℕ) → IsTrue (names_processor n) → (Waits deck.machine.profile lines n → ⊥)
       → HoldsLast lines (λ k registers. IsFor lines k n × Starts (line_of lines k) registers) at_rest (registers_of (processor_of n deck.machine))
   -- each central word is the word of the last line that sets it, else 0
   pub central : (address : ℕ) → address < length deck.machine.central
@@ -95,10 +97,10 @@ pub record KeepsDeckLaw (lines : List Line) (deck : LoadedDeck) : Type 0 where
   -- a processor is named where some line names it
   pub named : (n : ℕ) → IsTrue (names_processor n) → (slice_index_or deck.named (processor_index n) false ≡ true) ↔ IsNamed lines n
   -- a processor that waits does so on the channel of its own number; in all others no block is in progress
-  pub waits : (n : ℕ) → Waits lines n → processor_of n deck.machine ≡ waiting_on n (processor_of n deck.machine)
-  pub no_block : (n : ℕ) → IsTrue (names_processor n) → (Waits lines n → ⊥) → (processor_of n deck.machine).block ≡ None
+  pub waits : (n : ℕ) → Waits deck.machine.profile lines n → processor_of n deck.machine ≡ waiting_on n (processor_of n deck.machine)
+  pub no_block : (n : ℕ) → IsTrue (names_processor n) → (Waits deck.machine.profile lines n → ⊥) → (processor_of n deck.machine).block ≡ None
   -- just the channels of waiting processors are opened, and nothing else has happened
-  pub opened : (c : ℕ) → IsTrue (names_channel c) → (is_opened c deck.machine ≡ true) ↔ Waits lines c
+  pub opened : (c : ℕ) → IsTrue (names_channel c) → (is_opened c deck.machine ≡ true) ↔ Waits deck.machine.profile lines c
   pub history : (c : ℕ) → IsTrue (names_channel c) → history_of c deck.machine ≡ opening_history c deck.machine
   -- there are as many of each as the machine has
   pub each_processor : length deck.machine.processors ≡ processor_count

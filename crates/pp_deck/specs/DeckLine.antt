@@ -2,7 +2,8 @@
 use Rattle.std.specs.Prelude.{ℕ, ◌+◌, ◌&&◌, Bool, List, [], ◌∷◌, Option, None, Some, Result, Ok, Err, nat_lt, nat_le, codes, slice_index, if◌then◌else◌}
 use Rattle.std.specs.Str.{bytes_eq}
 use Rattle.pp_word.specs.Address.{place_count}
-use Rattle.pp_machine.specs.ProcessorNumber.{names_processor}
+use Rattle.pp_machine.specs.Profile.{has_processor}
+use Rattle.pp_machine.specs.declared.profile.Profile.{Profile}
 use Rattle.pp_deck.specs.DeckText.{Field, Fields}
 use Rattle.pp_deck.specs.OctalNumber.{number}
 use Rattle.pp_deck.specs.declared.flaw.Flaw.{Flaw}
@@ -72,9 +73,10 @@ central_line fields = number_then 6 fields (λ n more. if nat_le 1 n && nat_le n
 unfoldable pub central_words_line : ℕ → Fields → Result Line Flaw
 central_words_line size fields = number_then 6 fields (λ a more. words_in 20 a size CentralRange more >>= λ ws. Ok (central_words a ws))
 
--- `PP n`
-unfoldable pub section_line : Fields → Result Line Flaw
-section_line fields = number_then 2 fields (λ n more. if names_processor n then ends_with (section n) more else Err BadProcessor)
+-- `PP n`, where the machine has processor n
+unfoldable pub section_line : Profile → Fields → Result Line Flaw
+section_line profile fields =
+    number_then 2 fields (λ n more. if has_processor profile n then ends_with (section n) more else Err BadProcessor)
 
 -- `START p`, where A is 0, or `START p a`
 abbrev pub start_from : ℕ → Fields → Result Line Flaw
@@ -88,15 +90,16 @@ start_line fields = number_then 4 fields start_from
 unfoldable pub words_line : Field → Fields → Result Line Flaw
 words_line field fields = number 4 field >>= λ x. words_in 4 x place_count PastEnd fields >>= λ ws. Ok (words x ws)
 
--- what a line says whose first field has this keyword, in a central memory of this size
-abbrev pub line_by : ℕ → Keyword → Field → Fields → Result Line Flaw
-line_by size Central field fields = central_line fields
-line_by size CentralWords field fields = central_words_line size fields
-line_by size Processor field fields = section_line fields
-line_by size Start field fields = start_line fields
-line_by size DeadStart field fields = ends_with dead_start fields
-line_by size Words field fields = words_line field fields
-line_by size Unknown field fields = Err UnknownLine
+-- what a line says whose first field has this keyword, for a machine of this profile with a central
+-- memory of this size
+abbrev pub line_by : Profile → ℕ → Keyword → Field → Fields → Result Line Flaw
+line_by profile size Central field fields = central_line fields
+line_by profile size CentralWords field fields = central_words_line size fields
+line_by profile size Processor field fields = section_line profile fields
+line_by profile size Start field fields = start_line fields
+line_by profile size DeadStart field fields = ends_with dead_start fields
+line_by profile size Words field fields = words_line field fields
+line_by profile size Unknown field fields = Err UnknownLine
 
 -- ---- where a line stands
 
@@ -113,8 +116,8 @@ abbrev pub unless_misplaced : Option Flaw → Result Line Flaw → Result Line F
 unless_misplaced (Some flaw) line = Err flaw
 unless_misplaced None line = line
 
--- what a line says behind such lines, in a central memory of this size
-unfoldable pub line_behind : ℕ → Bool → Bool → Fields → Result Line Flaw
-line_behind size is_behind_fields is_in_section [] = Ok nothing
-line_behind size is_behind_fields is_in_section (field ∷ fields) =
-    unless_misplaced (misplaced is_behind_fields is_in_section (keyword_of field)) (line_by size (keyword_of field) field fields)
+-- what a line says behind such lines, for a machine of this profile with a central memory of this size
+unfoldable pub line_behind : Profile → ℕ → Bool → Bool → Fields → Result Line Flaw
+line_behind profile size is_behind_fields is_in_section [] = Ok nothing
+line_behind profile size is_behind_fields is_in_section (field ∷ fields) =
+    unless_misplaced (misplaced is_behind_fields is_in_section (keyword_of field)) (line_by profile size (keyword_of field) field fields)

@@ -6,6 +6,7 @@ use Rattle.pp_machine.specs.MachineState.{MachineState, new_machine}
 use Rattle.pp_machine.specs.Processor.{Processor, new_processor}
 use Rattle.pp_machine.specs.ProcessorNumber.{processor_count, processor_number}
 use Rattle.pp_machine.specs.declared.pp_state.PpState.TheVariants.{Running}
+use Rattle.pp_machine.specs.declared.profile.Profile.{Profile}
 use Rattle.pp_deck.specs.DeckLine.{Line, nothing, central_words, section, start, words, dead_start}
 
 -- the last of a list
@@ -60,14 +61,16 @@ tabulate n f = map f (range_with_len 0 n)
 unfoldable pub memory_of : List Line → List ℕ
 memory_of lines = tabulate place_count (λ place. unwrap_or (last_of (filter_map (word_for place) lines)) 0)
 
--- a processor with this memory: stopped, or running from its start
-abbrev pub processor_with : List ℕ → Option (ℕ × ℕ) → Processor
-processor_with memory None = record new_processor { memory = memory }
-processor_with memory (Some s) = record new_processor { memory = memory; p = s.0; a = s.1; state = Running }
+-- a processor of this profile with this memory: stopped, or running from its start
+abbrev pub processor_with : Profile → List ℕ → Option (ℕ × ℕ) → Processor
+processor_with profile memory None = record (new_processor profile) { memory = memory }
+processor_with profile memory (Some s) =
+    record (new_processor profile) { memory = memory; p = s.0; a = s.1; state = Running }
 
 -- processor n as the lines for it leave it: the last start holds
-unfoldable pub processor_loaded : List Line → ℕ → Processor
-processor_loaded lines n = processor_with (memory_of (lines_for n lines)) (last_of (filter_map start_in (lines_for n lines)))
+unfoldable pub processor_loaded : Profile → List Line → ℕ → Processor
+processor_loaded profile lines n =
+    processor_with profile (memory_of (lines_for n lines)) (last_of (filter_map start_in (lines_for n lines)))
 
 -- central memory of this size: each address holds the last word that a line sets there, else 0
 unfoldable pub central_loaded : ℕ → List Line → List ℕ
@@ -89,7 +92,9 @@ asks_dead_start lines = list_any is_dead_start lines
 abbrev pub each_processor : {A : Type 0} → (ℕ → A) → List A
 each_processor of = tabulate processor_count (λ place. of (processor_number place))
 
--- a machine of this central size in which all is set that lines set, before any dead start
-abbrev pub machine_loaded : ℕ → List Line → MachineState
-machine_loaded size lines =
-    record (new_machine size) { processors = each_processor (processor_loaded lines); central = central_loaded size lines }
+-- a machine of this profile and this central size in which all is set that lines set, before any dead start
+abbrev pub machine_loaded : Profile → ℕ → List Line → MachineState
+machine_loaded profile size lines = record (new_machine profile size) {
+  processors = each_processor (processor_loaded profile lines);
+  central = central_loaded size lines;
+}

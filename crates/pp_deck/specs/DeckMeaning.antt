@@ -1,8 +1,11 @@
 -- What a whole deck means: the machine that it loads and the processors that it names, or why it is refused.
-use Rattle.std.specs.Prelude.{ℕ, ◌+◌, Bool, true, false, not, List, [], ◌∷◌, length, map, take, Option, None, Some, Result, Ok, Err, slice_index_or, nat_lt, nat_le, count_by, find, filter_map, position, if◌then◌else◌}
+use Rattle.std.specs.Prelude.{ℕ, ◌+◌, ◌&&◌, Bool, true, false, not, List, [], ◌∷◌, length, take, Option, None, Some, Result, Ok, Err, slice_index_or, nat_lt, nat_le, count_by, find, filter_map, position, if◌then◌else◌}
 use Rattle.std.specs.List.{list_any, range_with_len}
 use Rattle.pp_machine.specs.DeadStart.{dead_started}
 use Rattle.pp_machine.specs.MachineState.{MachineState}
+use Rattle.pp_machine.specs.ProcessorNumber.{processor_index}
+use Rattle.pp_machine.specs.Profile.{has_processor}
+use Rattle.pp_machine.specs.declared.profile.Profile.{Profile}
 use Rattle.pp_deck.specs.DeckLine.{Line, central_size, keyword_of, central_line, line_behind}
 use Rattle.pp_deck.specs.DeckLoad.{machine_loaded, is_named, asks_dead_start, each_processor}
 use Rattle.pp_deck.specs.DeckText.{Fields, is_line_feed, lines_of}
@@ -13,23 +16,29 @@ use Rattle.pp_deck.specs.declared.flaw.Flaw.{Flaw}
 use Rattle.pp_deck.specs.declared.keyword.Keyword.{Keyword}
 use Rattle.pp_deck.specs.declared.keyword.Keyword.TheVariants as keywords
 
--- the machine that a deck loads, and whether it names each processor, in the order of the barrel
+-- the machine that a deck loads, and whether it names each processor, in the order of the barrel; no processor is named
+-- that the machine lacks
 pub record LoadedDeck : Type 0 where
   pub machine : MachineState
   pub named : List Bool
 
+-- whether each processor is to wait at dead start, in the order of the barrel: those of the profile that are not named
+abbrev pub unnamed_in : Profile → List Bool → List Bool
+unnamed_in profile named =
+    each_processor (λ n. has_processor profile n && not (slice_index_or named (processor_index n) false))
+
 -- dead start, where a deck asks for it: the processors that it does not name wait for their programs
 abbrev pub with_dead_start : Bool → LoadedDeck → LoadedDeck
-with_dead_start true deck = record deck { machine = dead_started (map not deck.named) deck.machine }
+with_dead_start true deck = record deck { machine = dead_started (unnamed_in deck.machine.profile deck.named) deck.machine }
 with_dead_start false deck = deck
 
--- what lines set and name, in a central memory of this size
-abbrev pub set_by : ℕ → List Line → LoadedDeck
-set_by size lines = record { machine = machine_loaded size lines; named = each_processor (is_named lines) }
+-- what lines set and name, in a machine of this profile with a central memory of this size
+abbrev pub set_by : Profile → ℕ → List Line → LoadedDeck
+set_by profile size lines = record { machine = machine_loaded profile size lines; named = each_processor (is_named lines) }
 
 -- what lines load
-abbrev pub loaded : ℕ → List Line → LoadedDeck
-loaded size lines = with_dead_start (asks_dead_start lines) (set_by size lines)
+abbrev pub loaded : Profile → ℕ → List Line → LoadedDeck
+loaded profile size lines = with_dead_start (asks_dead_start lines) (set_by profile size lines)
 
 -- ---- what each line says where it stands; line k has k lines before it
 
@@ -46,9 +55,9 @@ begins_section [] = false
 begins_section (field ∷ fields) = is_processor_keyword (keyword_of field)
 
 -- what line k says
-unfoldable pub line_at : ℕ → List Fields → ℕ → Result Line Flaw
-line_at size lines k =
-    line_behind size (list_any has_fields (take k lines)) (list_any begins_section (take k lines)) (slice_index_or lines k [])
+unfoldable pub line_at : Profile → ℕ → List Fields → ℕ → Result Line Flaw
+line_at profile size lines k =
+    line_behind profile size (list_any has_fields (take k lines)) (list_any begins_section (take k lines)) (slice_index_or lines k [])
 
 -- ---- the size of central memory: n of a line `CENTRAL n` that is the first with fields, else 10000 (octal)
 
@@ -75,24 +84,27 @@ fault_in k (Ok line) = None
 fault_in k (Err flaw) = Some (record { line = k + 1; code = code_of flaw })
 
 -- all faults of lines, in their order
-unfoldable pub faults_in : List Fields → List DeckFault
-faults_in lines = filter_map (λ k. fault_in k (line_at (size_of lines) lines k)) (range_with_len 0 (length lines))
+unfoldable pub faults_in : Profile → List Fields → List DeckFault
+faults_in profile lines =
+    filter_map (λ k. fault_in k (line_at profile (size_of lines) lines k)) (range_with_len 0 (length lines))
 
 abbrev pub line_in : Result Line Flaw → Option Line
 line_in (Ok line) = Some line
 line_in (Err flaw) = None
 
 -- what lines without a fault say, one after another
-unfoldable pub lines_said : List Fields → List Line
-lines_said lines = filter_map (λ k. line_in (line_at (size_of lines) lines k)) (range_with_len 0 (length lines))
+unfoldable pub lines_said : Profile → List Fields → List Line
+lines_said profile lines =
+    filter_map (λ k. line_in (line_at profile (size_of lines) lines k)) (range_with_len 0 (length lines))
 
 abbrev pub unless_faulty : List DeckFault → LoadedDeck → Result LoadedDeck DeckFault
 unless_faulty (fault ∷ faults) deck = Err fault
 unless_faulty [] deck = Ok deck
 
 -- what lines mean: the first fault, else what they load
-unfoldable pub meaning_of_lines : List Fields → Result LoadedDeck DeckFault
-meaning_of_lines lines = unless_faulty (faults_in lines) (loaded (size_of lines) (lines_said lines))
+unfoldable pub meaning_of_lines : Profile → List Fields → Result LoadedDeck DeckFault
+meaning_of_lines profile lines =
+    unless_faulty (faults_in profile lines) (loaded profile (size_of lines) (lines_said profile lines))
 
 -- a byte that is not ASCII: from 200 (octal) on
 abbrev pub is_foreign : ℕ → Bool
@@ -102,12 +114,12 @@ is_foreign byte = nat_le 0o200 byte
 abbrev pub line_of_byte : List ℕ → ℕ → ℕ
 line_of_byte text i = count_by is_line_feed (take i text) + 1
 
-abbrev pub unless_foreign : List ℕ → Option ℕ → Result LoadedDeck DeckFault
-unless_foreign text (Some i) = Err (record { line = line_of_byte text i; code = NotAscii })
-unless_foreign text None = meaning_of_lines (lines_of text)
+abbrev pub unless_foreign : Profile → List ℕ → Option ℕ → Result LoadedDeck DeckFault
+unless_foreign profile text (Some i) = Err (record { line = line_of_byte text i; code = NotAscii })
+unless_foreign profile text None = meaning_of_lines profile (lines_of text)
 
--- what a deck means, by the bytes of its text: at most 1,048,576 (decimal), all ASCII
-unfoldable pub deck_meaning : List ℕ → Result LoadedDeck DeckFault
-deck_meaning text =
+-- what a deck means for a machine of this profile, by the bytes of its text: at most 1,048,576 (decimal), all ASCII
+unfoldable pub deck_meaning : Profile → List ℕ → Result LoadedDeck DeckFault
+deck_meaning profile text =
     if nat_lt 1048576 (length text) then Err (record { line = 0; code = TooLong })
-    else unless_foreign text (position is_foreign text)
+    else unless_foreign profile text (position is_foreign text)

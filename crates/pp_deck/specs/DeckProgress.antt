@@ -4,6 +4,7 @@ use Rattle.pp_machine.specs.MachineState.{MachineState, processor_of, new_machin
 use Rattle.pp_machine.specs.Processor.{Processor}
 use Rattle.pp_machine.specs.ProcessorNumber.{processor_count, processor_index}
 use Rattle.pp_machine.specs.declared.pp_state.PpState.TheVariants.{Running}
+use Rattle.pp_machine.specs.declared.profile.Profile.{Profile}
 use Rattle.pp_deck.specs.DeckLine.{Line, central_words, section, start, words, dead_start}
 use Rattle.pp_deck.specs.DeckLoad.{section_of, asks_dead_start}
 use Rattle.pp_deck.specs.DeckMeaning.{LoadedDeck, set_by}
@@ -16,9 +17,10 @@ pub record Progress : Type 0 where
   pub current : Option ℕ
   pub asks_dead_start : Bool
 
--- before the first line, with central memory of this size
-unfoldable pub before_lines : ℕ → Progress
-before_lines size = record { machine = new_machine size; named = replicate processor_count false; current = None; asks_dead_start = false }
+-- before the first line, for a machine of this profile with central memory of this size
+unfoldable pub before_lines : Profile → ℕ → Progress
+before_lines profile size =
+    record { machine = new_machine profile size; named = replicate processor_count false; current = None; asks_dead_start = false }
 
 -- a memory in which words come to a place and those behind it
 abbrev pub with_words : ℕ → List ℕ → List ℕ → List ℕ
@@ -73,15 +75,15 @@ after_line progress line = record {
   asks_dead_start = asked_after line progress.asks_dead_start;
 }
 
--- what lines leave that are read one after another, with central memory of this size
-unfoldable pub after_lines : ℕ → List Line → Progress
-after_lines size lines = fold after_line (before_lines size) lines
+-- what lines leave that are read one after another, for such a machine
+unfoldable pub after_lines : Profile → ℕ → List Line → Progress
+after_lines profile size lines = fold after_line (before_lines profile size) lines
 
 -- what lines set and name, the section that they end in, and whether they ask for dead start, told without an order of reading
-unfoldable pub progress_of : ℕ → List Line → Progress
-progress_of size lines = record {
-  machine = (set_by size lines).machine;
-  named = (set_by size lines).named;
+unfoldable pub progress_of : Profile → ℕ → List Line → Progress
+progress_of profile size lines = record {
+  machine = (set_by profile size lines).machine;
+  named = (set_by profile size lines).named;
   current = section_of lines;
   asks_dead_start = asks_dead_start lines;
 }

@@ -9,6 +9,7 @@ ghost use Rattle.pp_deck.specs.DeckProgress.{after_lines, progress_of};
 ghost use Rattle.pp_deck.specs.DeckText.{lines_of};
 ghost use Rattle.pp_machine.specs.Headline.{HoldsOnEachChannel};
 ghost use Rattle.pp_machine.specs.Run.{run};
+ghost use Rattle.pp_machine.specs.declared.profile.Profile.{Profile};
 
 use pp_channel::session_law;
 use pp_machine::run_law;
@@ -18,14 +19,15 @@ use pp_machine::run_law;
 /// the deck does not name wait, each on the channel of its own number. Central memory has the size that
 /// the first line with fields says.
 pub fn deck_law()
-    ensures size { (text : List ℕ) (deck : LoadedDeck) → deck_meaning text ≡ Ok deck → length deck.machine.central ≡ size_of (lines_of text) }
-    ensures law { (text : List ℕ) (deck : LoadedDeck) → deck_meaning text ≡ Ok deck → KeepsDeckLaw (lines_said (lines_of text)) deck }
+    ensures size { (profile : Profile) (text : List ℕ) (deck : LoadedDeck) → deck_meaning profile text ≡ Ok deck → length deck.machine.central ≡ size_of (lines_of text) }
+    ensures law { (profile : Profile) (text : List ℕ) (deck : LoadedDeck) → deck_meaning profile text ≡ Ok deck → KeepsDeckLaw (lines_said profile (lines_of text)) deck }
+    ensures profile { (profile : Profile) (text : List ℕ) (deck : LoadedDeck) → deck_meaning profile text ≡ Ok deck → deck.machine.profile ≡ profile }
 {}
 
 /// Lines that are read one after another leave what they load all together.
 #[tactic(auto, using(crate::proofs::ProgressLemmas::after_lines_is))]
 pub fn reading_law()
-    ensures { (size : ℕ) (lines : List Line) → after_lines size lines ≡ progress_of size lines }
+    ensures { (profile : Profile) (size : ℕ) (lines : List Line) → after_lines profile size lines ≡ progress_of profile size lines }
 {}
 
 /// The law of sessions, of every deck and every run: after any list of steps of the machine that a deck
@@ -34,7 +36,7 @@ pub fn reading_law()
 /// the words put, all but at most one, which is lost only where a disconnect finds the channel full; and no
 /// word passes outside a session.
 pub fn headline_law()
-    ensures { (text : List ℕ) (deck : LoadedDeck) (steps : List ℕ) → deck_meaning text ≡ Ok deck → HoldsOnEachChannel (run steps deck.machine) }
+    ensures { (profile : Profile) (text : List ℕ) (deck : LoadedDeck) (steps : List ℕ) → deck_meaning profile text ≡ Ok deck → HoldsOnEachChannel (run steps deck.machine) }
 {
     deck_law();
     run_law();

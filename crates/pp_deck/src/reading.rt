@@ -1,10 +1,10 @@
 //! A deck as far as it was read.
 
-ghost use Rattle.std.specs.Prelude.{◌≡◌, ◌≤◌, ◌∷◌, ◌^◌, length, map, not, is_some, None, Some, IfOk, IsErrOf, ◌↔◌, if◌then◌else◌};
+ghost use Rattle.std.specs.Prelude.{◌≡◌, ◌≤◌, ◌∷◌, ◌^◌, length, is_some, None, Some, IfOk, IsErrOf, ◌↔◌, if◌then◌else◌};
 ghost use Rattle.pp_machine.specs.Central.{IsCentralSize};
 ghost use Rattle.pp_deck.specs.DeckLine.{section_line, start_line, words_line, central_words_line, line_behind, unless_misplaced};
 ghost use Rattle.pp_machine.specs.DeadStart.{IsBeforeFirstTurn};
-ghost use Rattle.pp_deck.specs.DeckMeaning.{with_dead_start};
+ghost use Rattle.pp_deck.specs.DeckMeaning.{unnamed_in, with_dead_start};
 ghost use Rattle.pp_deck.specs.DeckProgress.{before_lines, after_line, deck_so_far, on_read, Leaves};
 
 use crate::deck::Deck;
@@ -14,7 +14,7 @@ use crate::flaw::Flaw;
 use crate::keyword::Keyword;
 use crate::octal_number::{number, word12, word18};
 use pp_channel::Memory;
-use pp_machine::{CentralFault, Machine, PROCESSORS, PpNo};
+use pp_machine::{CentralFault, Machine, PROCESSORS, PpNo, Profile};
 use std::alloc::Allocator;
 use std::marker::Model;
 
@@ -36,16 +36,17 @@ impl<A: Allocator> Model for Reading<A> {
 }
 
 impl<A: Allocator> Reading<A> {
-    /// Nothing is read yet, and central memory has this size.
+    /// Nothing is read yet, for a machine of this profile whose central memory has this size.
     #[tactic(auto, unfolding(crate::specs::DeckProgress::before_lines))]
-    pub(crate) fn new(alloc: A, size: u32) -> Result<Self, CentralFault>
+    pub(crate) fn new(alloc: A, profile: Profile, size: u32) -> Result<Self, CentralFault>
     where
         A: Copy,
-        ensures ok { IfOk result (λ reading. reading ≡ before_lines size) }
+        ensures ok { IfOk result (λ reading. reading ≡ before_lines profile size) }
+        ensures profile { IfOk result (λ reading. reading.machine.profile ≡ profile) }
         ensures bad_size { IsErrOf result CentralFault.BadSize ↔ ¬ IsCentralSize size }
     {
         Ok(Reading {
-            machine: Machine::new(alloc, size)?,
+            machine: Machine::new(alloc, profile, size)?,
             named: [false; PROCESSORS],
             current: None,
             asks_dead_start: false,
@@ -53,6 +54,7 @@ impl<A: Allocator> Reading<A> {
     }
 
     /// The deck, once all lines are read: at dead start the processors that it does not name wait.
+    #[tactic(auto, using(crate::proofs::DeadStartLemmas::unnamed_within))]
     pub(crate) fn into_deck(self) -> Result<Deck<A>, Memory>
     where
         A: Clone,
@@ -66,7 +68,8 @@ impl<A: Allocator> Reading<A> {
             asks_dead_start,
         } = self;
         if asks_dead_start {
-            machine.dead_start(&unnamed(&named))?;
+            let waiting = unnamed(machine.profile(), &named);
+            machine.dead_start(&waiting)?;
         }
         Ok(Deck { machine, named })
     }
@@ -81,7 +84,7 @@ impl<A: Allocator> Reading<A> {
         fields: &mut Fields,
     ) -> Result<(), Flaw>
         requires { length self.old.machine.central ≤ 2 ^ 17 }
-        ensures { Leaves self.new result (on_read (after_line self.old) (line_behind (length self.old.machine.central) is_behind_fields (is_some self.old.current) (first.now ∷ fields.old))) }
+        ensures { Leaves self.new result (on_read (after_line self.old) (line_behind self.old.machine.profile (length self.old.machine.central) is_behind_fields (is_some self.old.current) (first.now ∷ fields.old))) }
     {
         match Keyword::of(first) {
             Keyword::Central => {
@@ -117,10 +120,11 @@ impl<A: Allocator> Reading<A> {
     /// `PP n`, behind its keyword.
     #[tactic(auto, unfolding(crate::specs::DeckLine::section_line, crate::specs::DeckProgress::after_line))]
     fn read_section(&mut self, fields: &mut Fields) -> Result<(), Flaw>
-        ensures { Leaves self.new result (on_read (after_line self.old) (section_line fields.old)) }
+        ensures { Leaves self.new result (on_read (after_line self.old) (section_line self.old.machine.profile fields.old)) }
     {
+        let profile = self.machine.profile();
         let n = number(fields.next_field().ok_or(Flaw::UnknownLine)?, 2)?;
-        let processor = PpNo::new(n as u8).ok_or(Flaw::BadProcessor)?;
+        let processor = profile.processor(n as u8).ok_or(Flaw::BadProcessor)?;
         end_line(fields)?;
         self.named[processor.index()] = true;
         self.current = Some(processor);
@@ -150,13 +154,13 @@ impl<A: Allocator> Reading<A> {
     }
 }
 
-/// The processors that are not named.
-fn unnamed(named: &[bool; PROCESSORS]) -> [bool; PROCESSORS]
-    ensures { result ≡ map not named.now }
+/// The processors of a profile that are not named.
+fn unnamed(profile: Profile, named: &[bool; PROCESSORS]) -> [bool; PROCESSORS]
+    ensures { result ≡ unnamed_in profile named.now }
 {
     let mut unnamed = [false; PROCESSORS];
-    for (place, is_named) in named.iter().enumerate() {
-        unnamed[place] = !is_named;
+    for place in 0..profile.processors() {
+        unnamed[place] = !named[place];
     }
     unnamed
 }

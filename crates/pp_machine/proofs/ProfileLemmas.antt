@@ -1,6 +1,7 @@
 -- What proofs know of the processors and channels of a profile.
-use Rattle.std.proofs.Common.{◌≡◌, ℕ, suc, ◌+◌, ◌*◌, ◌/◌, ◌%◌, ◌<◌, ◌≤◌, ap, sym, ◌∙◌, arith}
-use Rattle.std.specs.Prelude.{IsTrue}
+use Rattle.std.proofs.Common.{◌≡◌, ℕ, suc, ◌+◌, ◌*◌, ◌/◌, ◌%◌, ◌<◌, ◌≤◌, Bool, true, false, refl, ap, sym, ◌∙◌, arith}
+use Rattle.std.specs.Prelude.{IsTrue, nat_lt}
+use Rattle.std.proofs.lemmas.Bool.{false≢true}
 use Rattle.pp_channel.specs.ChannelNumber.{channel_count, channel_index, names_channel}
 use Rattle.pp_channel.proofs.ChannelPlaces as channels
 use Rattle.pp_machine.specs.ProcessorNumber.{processor_count, processor_index, processor_number, names_processor}
@@ -26,9 +27,22 @@ pub processor_named : (p : Profile) (n : ℕ) → IsTrue (has_processor p n) →
 unfolding has_processor
 processor_named p n has = let most = most_processors p in named_below n (grind (arith))
 
+-- a number that names none, no profile has
+pub unnamed_lacks : (p : Profile) (n : ℕ) → names_processor n ≡ false → has_processor p n ≡ false
+unnamed_lacks p n none = by (has_processor p n) refl
+  where
+    by : (b : Bool) → has_processor p n ≡ b → has_processor p n ≡ false
+    by true has = absurd (false≢true (sym none ∙ processor_named p n has))
+    by false has = has
+
 pub channel_named : (p : Profile) (c : ℕ) → IsTrue (has_channel p c) → IsTrue (names_channel c)
 unfolding has_channel
 channel_named p c has = let most = most_channels p in channels.named_below c (grind (arith))
+
+-- a profile has the processors of the first places
+pub has_at : (p : Profile) (place : ℕ) → place < processor_count → has_processor p (processor_number place) ≡ nat_lt place (processors_in p)
+unfolding has_processor
+has_at p place within = ap (λ i. nat_lt i (processors_in p)) (place_of_number place within)
 
 -- turns within the first round come in the order of places
 pub place_in_turn : (p : Profile) (turn : ℕ) → turn < processors_in p → turn % processors_in p ≡ turn

@@ -8,19 +8,19 @@ pub loop-fields-init : goal.loop-fields-init
 loop-fields-init g c = record {
   within = omega arith;
   left = c.of-lines.ensures;
-  read = read_none (lines_of c.args.text.now) c.args.reading.now c.requires.fresh;
+  read = read_none c.args.reading.now.machine.profile (lines_of c.args.text.now) c.args.reading.now c.requires.fresh;
 }
 
 pub overflow_add-number : goal.overflow_add-number
 overflow_add-number g c = omega (arith, c.loop-fields.invariant.within, length-lines_of c.args.text.now, c.requires.limit)
 
 pub read_line-requires : goal.read_line-requires
-read_line-requires g c = omega (arith, c.requires.size, central_length _ _ _ _ c.loop-fields.invariant.read)
+read_line-requires g c = omega (arith, c.requires.size, central_length c.args.reading.now.machine.profile _ _ _ _ c.loop-fields.invariant.read)
 
 pub returns-in-Err-clause-fault : goal.returns-in-Err-clause-fault
 returns-in-Err-clause-fault g c =
     let next = next_line _ _ _ _ _ c.loop-fields.invariant.left c.in-Some.ensures.taken in
-    rw c.code.ensures (read_flaw _ _ _ _ _ _ c.in-Err.flaw c.loop-fields.invariant.read next.within (next.here ∙ c.in-Some-next_field.ensures.taken) c.in-Err.ensures)
+    rw c.code.ensures (read_flaw c.args.reading.now.machine.profile _ _ _ _ _ _ c.in-Err.flaw c.loop-fields.invariant.read next.within (next.here ∙ c.in-Some-next_field.ensures.taken) c.in-Err.ensures)
 
 pub loop-fields-preserved-in-Some-next_field : goal.loop-fields-preserved-in-Some-next_field
 loop-fields-preserved-in-Some-next_field g c =
@@ -28,7 +28,7 @@ loop-fields-preserved-in-Some-next_field g c =
     record {
       within = omega (arith, next.within);
       left = next.behind;
-      read = read_fields _ _ _ _ _ _ _ c.loop-fields.invariant.read next.within (next.here ∙ c.in-Some-next_field.ensures.taken) c.in_default-read_line.ensures;
+      read = read_fields c.args.reading.now.machine.profile _ _ _ _ _ _ _ c.loop-fields.invariant.read next.within (next.here ∙ c.in-Some-next_field.ensures.taken) c.in_default-read_line.ensures;
     }
 
 pub loop-fields-preserved : goal.loop-fields-preserved
@@ -37,12 +37,12 @@ loop-fields-preserved g c =
     record {
       within = omega (arith, next.within);
       left = next.behind;
-      read = read_blank _ _ _ _ c.loop-fields.invariant.read next.within (next.here ∙ c.in_default-next_field.ensures.none);
+      read = read_blank c.args.reading.now.machine.profile _ _ _ _ c.loop-fields.invariant.read next.within (next.here ∙ c.in_default-next_field.ensures.none);
     }
 
 pub returns-clause-before : goal.returns-clause-before
-returns-clause-before g c = before_first_turn _ _ _ _ c.loop-fields.invariant.read
+returns-clause-before g c = before_first_turn c.args.reading.now.machine.profile _ _ _ _ c.loop-fields.invariant.read
 
 pub returns-clause-ok : goal.returns-clause-ok
 returns-clause-ok g c =
-    read_all _ _ _ _ c.loop-fields.invariant.read (no_line _ _ _ c.loop-fields.invariant.within c.loop-fields.invariant.left c.in_default.ensures.none)
+    read_all c.args.reading.now.machine.profile _ _ _ _ c.loop-fields.invariant.read (no_line _ _ _ c.loop-fields.invariant.within c.loop-fields.invariant.left c.in_default.ensures.none)

@@ -1,4 +1,4 @@
-use Rattle.pp_deck.proofs.DeckLawLemmas.{deck_law_of, deck_size_of}
+use Rattle.pp_deck.proofs.DeckLawLemmas.{deck_law_of, deck_size_of, deck_profile_of}
 use Rattle.pp_deck.proofs.laws.deck_law.Goals as goal
 
 pub returns-clause-size : goal.returns-clause-size
@@ -6,3 +6,6 @@ returns-clause-size c = deck_size_of
 
 pub returns-clause-law : goal.returns-clause-law
 returns-clause-law c = deck_law_of
+
+pub returns-clause-profile : goal.returns-clause-profile
+returns-clause-profile c = deck_profile_of
