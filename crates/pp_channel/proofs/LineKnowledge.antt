@@ -35,11 +35,17 @@ history_has P [] i none all = none
 history_has P (h ∷ hs) zero none all = all 0 [] (omega arith)
 history_has P (h ∷ hs) (suc i) none all = history_has P hs i none (λ k d l. all (suc k) d (omega arith))
 
+pub lawful_at : (histories : List (List Event)) (place : ℕ) → All IsLawful histories → IsLawful (slice_index_or histories place [])
+lawful_at histories place all = history_has IsLawful histories place lawful_empty all
+
+pub bits_at : (histories : List (List Event)) (place : ℕ) → All HasTwelveBitWords histories → HasTwelveBitWords (slice_index_or histories place [])
+bits_at histories place all = history_has HasTwelveBitWords histories place (λ k d l. absurd (omega arith)) all
+
 pub lawful_on : (histories : List (List Event)) (c : ℕ) → All IsLawful histories → IsLawful (history_on c histories)
-lawful_on histories c all = history_has IsLawful histories (channel_index c) lawful_empty all
+lawful_on histories c all = lawful_at histories (channel_index c) all
 
 pub bits_on : (histories : List (List Event)) (c : ℕ) → All HasTwelveBitWords histories → HasTwelveBitWords (history_on c histories)
-bits_on histories c all = history_has HasTwelveBitWords histories (channel_index c) (λ k d l. absurd (omega arith)) all
+bits_on histories c all = bits_at histories (channel_index c) all
 
 -- a step found a word on channel c
 module _ {line : LineState} {c word : ℕ} (t : TellsLine line c word) where

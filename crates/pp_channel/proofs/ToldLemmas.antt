@@ -1,11 +1,11 @@
--- A history is filled from a log that tells it whole.
-use Rattle.std.proofs.Common.{◌≡◌, ◌≢◌, ℕ, ◌+◌, ◌<◌, ◌⊎◌, inl, inr, ⊎_elim, List, [], ◌∷◌, length, get_or, set, refl, sym, ap, ◌∙◌, subst, arith}
+-- Histories are filled from a log that tells them whole.
+use Rattle.std.proofs.Common.{◌≡◌, ◌≢◌, ℕ, ◌+◌, ◌<◌, ◌⊎◌, inl, inr, ⊎_elim, List, [], ◌∷◌, length, get_or, set, refl, sym, ap, ◌∙◌, arith}
 use mathlib.Core.Logic.{dite}
 use native.Mathlib.Decide.{dec_lt}
 use Rattle.std.specs.Prelude.{All}
 use Rattle.std.specs.List.{fold}
-use Rattle.std.proofs.lemmas.Bool.{eq-eqb, ne_eqb, cases_eq}
-use Rattle.std.proofs.lemmas.List.{length-set, get_or-set_same, get_or-set_other, same_lists}
+use Rattle.std.proofs.lemmas.Bool.{cases_eq}
+use Rattle.std.proofs.lemmas.List.{length-set, get_or_past, get_or-set_same, get_or-set_other, ext_get_or, same_lists}
 use Rattle.std.proofs.lemmas.List.Elements.{All-head, All-tail}
 use Rattle.std.proofs.lemmas.List.Sums.{sum_by-cons}
 use Rattle.std.proofs.lemmas.Option.{slice_get_within, get_or_from_slice_get}
@@ -13,61 +13,108 @@ use Rattle.pp_channel.specs.declared.event.Event.{Event}
 use Rattle.pp_channel.specs.declared.entry.Entry.{Entry}
 use Rattle.pp_channel.specs.declared.entry.Seen.{Seen}
 use Rattle.pp_channel.specs.declared.entry.Seen.TheVariants.{Did, Saw}
+use Rattle.pp_channel.specs.ChannelNumber.{channel_count, channel_index, channel_number}
 use Rattle.pp_channel.specs.Merge.{history_on, IsTrueAt, IsTrueOf, times_told, Merges, no_opening}
-use Rattle.pp_channel.specs.ToldHistory.{with_told, with_entry}
+use Rattle.pp_channel.specs.ToldHistory.{IsToldBy, with_told, with_entry}
+use Rattle.pp_channel.proofs.ChannelPlaces.{place_of_number}
 use Rattle.pp_channel.proofs.MergeLemmas.{told_by, told_not}
 
-length-told : (c : ℕ) (events : List Event) (d n : ℕ) (what : Seen) → length (with_told c events d n what) ≡ length events
-length-told c events d n (Saw f) = refl
-length-told c events d n (Did e) = ⊎_elim
-    (λ (same : d ≡ c). rw (eq-eqb d c same) (length-set events n e))
-    (λ (other : d ≢ c). rw (ne_eqb d c other) refl)
-    (cases_eq d c)
+-- one event is written over: no history grows
+length-written : (hs : List (List Event)) (place p n : ℕ) (e : Event) → length (get_or (set hs place (set (get_or hs place []) n e)) p []) ≡ length (get_or hs p [])
+length-written hs place p n e = ⊎_elim
+    (λ (same : p ≡ place). dite (dec_lt place (length hs))
+    (λ within. ap (λ i. length (get_or (set hs place (set (get_or hs place []) n e)) i [])) same ∙ (ap length (get_or-set_same hs place (set (get_or hs place []) n e) [] within)
+    ∙ (length-set (get_or hs place []) n e ∙ ap (λ i. length (get_or hs i [])) (sym same))))
+    (λ no. ap length (get_or_past (set hs place (set (get_or hs place []) n e)) p [] (let l = length-set hs place (set (get_or hs place []) n e) in omega (arith, l, no, same))
+    ∙ sym (get_or_past hs p [] (omega (arith, no, same))))))
+    (λ (other : p ≢ place). ap length (get_or-set_other hs place p (set (get_or hs place []) n e) [] other))
+    (cases_eq p place)
 
--- what one entry does at place k: where it tells event k of channel c, that event stands there afterwards
-told_at : (c k : ℕ) (h events : List Event) (d n : ℕ) (what : Seen) (x : Event) → length events ≡ length h → (d ≡ c → IsTrueAt h n what)
-    → (0 < told_by c k (record { channel = d; number = n; what = what })) ⊎ (get_or events k x ≡ get_or h k x) → get_or (with_told c events d n what) k x ≡ get_or h k x
-told_at c k h events d n (Saw f) x long true_of p = ⊎_elim (λ (told : 0 < 0). absurd (omega arith)) (λ same. same) p
-told_at c k h events d n (Did e) x long true_of p = ⊎_elim
-    (λ (same : d ≡ c).
-    rw (eq-eqb d c same)
-    (⊎_elim
+length-told : (hs : List (List Event)) (place p n : ℕ) (what : Seen) → length (get_or (with_told hs place n what) p []) ≡ length (get_or hs p [])
+length-told hs place p n (Saw f) = refl
+length-told hs place p n (Did e) = length-written hs place p n e
+
+count-told : (hs : List (List Event)) (place n : ℕ) (what : Seen) → length (with_told hs place n what) ≡ length hs
+count-told hs place n (Saw f) = refl
+count-told hs place n (Did e) = length-set hs place (set (get_or hs place []) n e)
+
+-- What one entry of channel d does to event k of channel c: where it tells that event, the event stands there afterwards,
+-- and where the event stood there, it still does.
+told_at : (c k d n : ℕ) (histories hs : List (List Event)) (what : Seen) (x : Event) → length (history_on d hs) ≡ length (history_on d histories) → IsTrueAt (history_on d histories) n what
+    → (0 < told_by c k (record { channel = d; number = n; what = what })) ⊎ (get_or (history_on c hs) k x ≡ get_or (history_on c histories) k x)
+    → get_or (history_on c (with_told hs (channel_index d) n what)) k x ≡ get_or (history_on c histories) k x
+told_at c k d n histories hs (Saw f) x long there p = ⊎_elim (λ (told : 0 < 0). absurd (omega arith)) (λ is. is) p
+told_at c k d n histories hs (Did e) x long there p =
+    let place : ℕ = channel_index d in
+    let h : List Event = history_on d histories in
+    let before : List Event = history_on d hs in
+    let within : n < length h = slice_get_within h n e there in
+    let inside : place < length hs = dite (dec_lt place (length hs)) (λ l. l) (λ no. let past = ap length (get_or_past hs place [] (omega (arith, no))) in absurd (omega (arith, past, long, within))) in
+    ⊎_elim
+    (λ (same : channel_index c ≡ place).
+    let written : history_on c (set hs place (set before n e)) ≡ set before n e =
+    ap (λ i. get_or (set hs place (set before n e)) i []) same ∙ get_or-set_same hs place (set before n e) [] inside in
+    let target : history_on c histories ≡ h = ap (λ i. get_or histories i []) same in
+    let source : history_on c hs ≡ before = ap (λ i. get_or hs i []) same in
+    ap (λ l. get_or l k x) written ∙ ⊎_elim
     (λ (at : k ≡ n).
-    let there = true_of same in
-    let within = slice_get_within h n e there in
-    ap (λ m. get_or (set events n e) m x) at ∙ (get_or-set_same events n e x (omega arith) ∙ sym (ap (λ m. get_or h m x) at ∙ get_or_from_slice_get h n e x there)))
+    ap (λ m. get_or (set before n e) m x) at ∙ (get_or-set_same before n e x (omega (arith, within, long))
+    ∙ sym (ap (λ l. get_or l k x) target ∙ (ap (λ m. get_or h m x) at ∙ get_or_from_slice_get h n e x there))))
     (λ (no : k ≢ n).
-    get_or-set_other events n k e x no ∙ ⊎_elim (λ (told : 0 < told_by c k (record { channel = d; number = n; what = Did e })). let none = told_not c k d n e (inr (λ is. no (sym is))) in absurd (omega arith)) (λ is. is) p)
-    (cases_eq k n)))
-    (λ (other : d ≢ c).
-    rw (ne_eqb d c other) (⊎_elim (λ (told : 0 < told_by c k (record { channel = d; number = n; what = Did e })). let none = told_not c k d n e (inl other) in absurd (omega arith)) (λ is. is) p))
-    (cases_eq d c)
+    get_or-set_other before n k e x no ∙ (ap (λ l. get_or l k x) (sym source)
+    ∙ ⊎_elim (λ (told : 0 < told_by c k (record { channel = d; number = n; what = Did e })). let none = told_not c k d n e (inr (λ is. no (sym is))) in absurd (omega (arith, told, none))) (λ is. is) p))
+    (cases_eq k n))
+    (λ (other : channel_index c ≢ place).
+    ap (λ l. get_or l k x) (get_or-set_other hs place (channel_index c) (set before n e) [] other)
+    ∙ ⊎_elim (λ (told : 0 < told_by c k (record { channel = d; number = n; what = Did e })). let none = told_not c k d n e (inl (λ is. other (ap channel_index (sym is)))) in absurd (omega (arith, told, none))) (λ is. is) p)
+    (cases_eq (channel_index c) place)
+
+length-filled : (log : List Entry) (hs : List (List Event)) (p : ℕ) → length (get_or (fold with_entry hs log) p []) ≡ length (get_or hs p [])
+length-filled [] hs p = refl
+length-filled (entry ∷ log) hs p = length-filled log (with_entry hs entry) p ∙ length-told hs (channel_index entry.channel) p entry.number entry.what
+
+count-filled : (log : List Entry) (hs : List (List Event)) → length (fold with_entry hs log) ≡ length hs
+count-filled [] hs = refl
+count-filled (entry ∷ log) hs = count-filled log (with_entry hs entry) ∙ count-told hs (channel_index entry.channel) entry.number entry.what
 
 module _ (histories : List (List Event)) (c : ℕ) where
-  length-filled : (log : List Entry) (events : List Event) → length (fold (with_entry c) events log) ≡ length events
-  length-filled [] events = refl
-  length-filled (entry ∷ log) events = length-filled log (with_entry c events entry) ∙ length-told c events entry.channel entry.number entry.what
-
-  filled_at : (log : List Entry) (events : List Event) (k : ℕ) (x : Event) → length events ≡ length (history_on c histories) → All (IsTrueOf histories) log
-      → (0 < times_told c k log) ⊎ (get_or events k x ≡ get_or (history_on c histories) k x) → get_or (fold (with_entry c) events log) k x ≡ get_or (history_on c histories) k x
-  filled_at [] events k x long all p = ⊎_elim (λ (told : 0 < 0). absurd (omega arith)) (λ is. is) p
-  filled_at (entry ∷ log) events k x long all p =
-      let h : List Event = history_on c histories in
-      let head = All-head (IsTrueOf histories) entry log all in
-      let true_of : entry.channel ≡ c → IsTrueAt h entry.number entry.what = λ same. let P : ℕ → Type 0 = λ d. IsTrueAt (history_on d histories) entry.number entry.what in subst P same head in
-      let here = told_at c k h events entry.channel entry.number entry.what x long true_of in
+  filled_at : (log : List Entry) (hs : List (List Event)) (k : ℕ) (x : Event) → ((p : ℕ) → length (get_or hs p []) ≡ length (get_or histories p [])) → All (IsTrueOf histories) log
+      → (0 < times_told c k log) ⊎ (get_or (history_on c hs) k x ≡ get_or (history_on c histories) k x) → get_or (history_on c (fold with_entry hs log)) k x ≡ get_or (history_on c histories) k x
+  filled_at [] hs k x long all p = ⊎_elim (λ (told : 0 < 0). absurd (omega arith)) (λ is. is) p
+  filled_at (entry ∷ log) hs k x long all p =
+      let d : ℕ = entry.channel in
+      let here = told_at c k d entry.number histories hs entry.what x (long (channel_index d)) (All-head (IsTrueOf histories) entry log all) in
       let sum = sum_by-cons (told_by c k) entry log in
-      filled_at log (with_entry c events entry) k x (length-told c events entry.channel entry.number entry.what ∙ long) (All-tail (IsTrueOf histories) entry log all) (⊎_elim
-      (λ (told : 0 < times_told c k (entry ∷ log)). dite (dec_lt 0 (told_by c k entry)) (λ now. inr (here (inl now))) (λ no. inl (omega arith)))
+      filled_at log (with_entry hs entry) k x (λ q. length-told hs (channel_index d) q entry.number entry.what ∙ long q) (All-tail (IsTrueOf histories) entry log all) (⊎_elim
+      (λ (told : 0 < times_told c k (entry ∷ log)). dite (dec_lt 0 (told_by c k entry)) (λ now. inr (here (inl now))) (λ no. inl (omega (arith, told, no, sum))))
       (λ is. inr (here (inr is)))
       p)
 
-  pub history_filled : (log : List Entry) (events : List Event) → Merges no_opening histories log → length events ≡ length (history_on c histories) → fold (with_entry c) events log ≡ history_on c histories
-  history_filled log events m long =
-      same_lists (fold (with_entry c) events log) (history_on c histories) (length-filled log events ∙ long) (λ k x within.
-      let l = length-filled log events in
-      let once = m.once c k (omega arith) (omega arith) in
-      filled_at log events k x long m.entries_true (inl (omega arith)))
+  history_filled : (log : List Entry) (hs : List (List Event)) → Merges no_opening histories log → ((p : ℕ) → length (get_or hs p []) ≡ length (get_or histories p []))
+      → history_on c (fold with_entry hs log) ≡ history_on c histories
+  history_filled log hs m long =
+      same_lists (history_on c (fold with_entry hs log)) (history_on c histories) (length-filled log hs (channel_index c) ∙ long (channel_index c)) (λ k x within.
+      let l = length-filled log hs (channel_index c) in
+      let s = long (channel_index c) in
+      let once = m.once c k (omega arith) (omega (arith, l, s, within)) in
+      filled_at log hs k x long m.entries_true (inl (omega (arith, once))))
+
+-- as many histories as there are, each as long
+room_for : (histories hs : List (List Event)) (seen : List ℕ) (log : List Entry) → IsToldBy log seen histories → length hs ≡ channel_count → ((p : ℕ) → p < channel_count → length (get_or hs p []) ≡ get_or seen p 0)
+    → (p : ℕ) → length (get_or hs p []) ≡ length (get_or histories p [])
+room_for histories hs seen log told each room p = dite (dec_lt p channel_count)
+    (λ below. room p below ∙ (let is : channel_index (channel_number p) ≡ p = place_of_number p below in
+    ap (λ i. get_or seen i 0) (sym is) ∙ (told.counted (channel_number p) ∙ ap (λ i. length (get_or histories i [])) is)))
+    (λ no. ap length (get_or_past hs p [] (omega (arith, each, no)) ∙ sym (get_or_past histories p [] (omega (arith, told.sound.each_channel, no)))))
+
+pub histories_filled : (histories hs : List (List Event)) (seen : List ℕ) (log : List Entry) → IsToldBy log seen histories → length hs ≡ channel_count
+    → ((p : ℕ) → p < channel_count → length (get_or hs p []) ≡ get_or seen p 0) → fold with_entry hs log ≡ histories
+histories_filled histories hs seen log told each room =
+    ext_get_or [] (fold with_entry hs log) histories (count-filled log hs ∙ (each ∙ sym told.sound.each_channel)) (λ p inside.
+    let many = count-filled log hs in
+    let is : channel_index (channel_number p) ≡ p = place_of_number p (omega (arith, inside, many, each)) in
+    ap (λ i. get_or (fold with_entry hs log) i []) (sym is) ∙ (history_filled histories (channel_number p) log hs told.merged (room_for histories hs seen log told each room)
+    ∙ ap (λ i. get_or histories i []) is))
 
 -- one more place has its element
 pub placed_more : {A : Type 0} (d : A) (xs : List A) (n : ℕ) (x : A) (f : ℕ → A) → n < length xs → ((k : ℕ) → k < n → get_or xs k d ≡ f k) → x ≡ f n

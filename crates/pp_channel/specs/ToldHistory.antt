@@ -1,9 +1,10 @@
 -- How the histories of the channels are taken from a log that tells them whole.
-use Rattle.std.specs.Prelude.{◌≡◌, ℕ, ◌==◌, List, length, slice_set, if◌then◌else◌}
+use Rattle.std.specs.Prelude.{◌≡◌, ℕ, List, [], length, slice_index_or, slice_set}
 use Rattle.pp_channel.specs.declared.event.Event.{Event}
 use Rattle.pp_channel.specs.declared.entry.Entry.{Entry}
 use Rattle.pp_channel.specs.declared.entry.Seen.{Seen}
 use Rattle.pp_channel.specs.declared.entry.Seen.TheVariants.{Did, Saw}
+use Rattle.pp_channel.specs.ChannelNumber.{channel_index}
 use Rattle.pp_channel.specs.Merge.{AreHistories, Merges, no_opening, history_on}
 use Rattle.pp_channel.specs.RisingLog.{seen_on}
 
@@ -13,10 +14,10 @@ pub record IsToldBy (log : List Entry) (seen : List ℕ) (histories : List (List
   pub merged : Merges no_opening histories log
   pub counted : (c : ℕ) → seen_on c seen ≡ length (history_on c histories)
 
--- the events of channel c, with that of an entry on this channel put at its number
-abbrev pub with_told : ℕ → List Event → ℕ → ℕ → Seen → List Event
-with_told c events channel number (Did e) = if channel == c then slice_set events number e else events
-with_told c events channel number (Saw f) = events
+-- the histories of all channels in order, with the event of an entry put at its number in that of its channel
+abbrev pub with_told : List (List Event) → ℕ → ℕ → Seen → List (List Event)
+with_told histories place number (Did e) = slice_set histories place (slice_set (slice_index_or histories place []) number e)
+with_told histories place number (Saw f) = histories
 
-abbrev pub with_entry : ℕ → List Event → Entry → List Event
-with_entry c events entry = with_told c events entry.channel entry.number entry.what
+abbrev pub with_entry : List (List Event) → Entry → List (List Event)
+with_entry histories entry = with_told histories (channel_index entry.channel) entry.number entry.what

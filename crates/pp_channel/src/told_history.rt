@@ -1,17 +1,54 @@
 //! The channels, of a log that tells their histories whole.
 
-ghost use Rattle.std.specs.Prelude.{◌≡◌, ◌<◌, List, length, IfOk, slice_set};
+ghost use Rattle.std.specs.Prelude.{◌≡◌, ℕ, ◌<◌, List, [], length, IfOk, slice_index_or, slice_set};
+ghost use Rattle.pp_channel.specs.ChannelNumber.{channel_count};
 ghost use Rattle.pp_channel.specs.declared.event.Event.{Event};
-ghost use Rattle.pp_channel.specs.Merge.{history_on};
 ghost use Rattle.pp_channel.specs.ToldHistory.{IsToldBy, with_entry};
 
 use crate::channel::Channel;
-use crate::channel_no::{CHANNELS, ChannelNo};
+use crate::channel_no::CHANNELS;
 use crate::entry::{Entry, Seen};
 use crate::event::Event;
 use crate::memory::Memory;
 use std::alloc::Allocator;
-use std::array;
+use std::marker::Model;
+use std::{array, mem};
+
+/// The events of a channel, each put at its number as a log tells it. Contracts see their list.
+#[derive(Drop)]
+struct EventsByNumber<A: Allocator> {
+    events: Vec<Event, A>,
+}
+
+impl<A: Allocator> Model for EventsByNumber<A> {
+    ghost use Rattle.std.specs.Prelude.{List};
+    ghost use Rattle.pp_channel.specs.declared.event.Event.{Event};
+
+    ghost Value = { List Event };
+
+    ghost view = { λ e. e.events.items };
+}
+
+impl<A: Allocator> EventsByNumber<A> {
+    /// As many events, of which none is told yet.
+    fn untold(alloc: A, count: u64) -> Result<Self, Memory>
+        ensures { IfOk result (λ untold. length untold ≡ count) }
+    {
+        let events = vec![in alloc; Event::Disconnect; count as usize]?;
+        Ok(EventsByNumber { events })
+    }
+
+    /// Puts an event at this number, where there is one.
+    #[tactic(auto, using(std::proofs::lemmas::List::set_past))]
+    fn put(&mut self, number: u64, event: Event)
+        ensures { self.new ≡ slice_set self.old number event }
+    {
+        let number = number as usize;
+        if number < self.events.len() {
+            self.events[number] = event;
+        }
+    }
+}
 
 /// All channels in order, with the histories that the log tells. Their lengths are the numbers seen.
 pub fn told_channels<A: Allocator + Copy>(
@@ -22,10 +59,11 @@ pub fn told_channels<A: Allocator + Copy>(
     requires { (histories : List (List Event)) × IsToldBy log.now seen.now histories }
     ensures { IfOk result (λ channels. (histories : List (List Event)) → IsToldBy log.now seen.now histories → channels ≡ histories) }
 {
+    let mut histories = told_histories(alloc, log, seen)?;
     let mut channels = array::from_fn(|_| Channel::new(alloc));
     for place in 0..CHANNELS {
-        let channel = told_channel(alloc, log, seen, ChannelNo::at(place))?;
-        put_channel(&mut channels, place, channel);
+        let events = take_events(alloc, &mut histories, place);
+        put_channel(&mut channels, place, Channel::of_history(events));
     }
     Ok(channels)
 }
@@ -37,54 +75,57 @@ fn put_channel<A: Allocator>(channels: &mut [Channel<A>], place: usize, channel:
     channels[place] = channel;
 }
 
-/// One of them.
-fn told_channel<A: Allocator>(
+/// The events of the history at a place, and none there.
+fn take_events<A: Allocator>(
     alloc: A,
-    log: &[Entry],
-    seen: &[u64; CHANNELS],
-    channel: ChannelNo,
-) -> Result<Channel<A>, Memory>
-    requires told { (histories : List (List Event)) × IsToldBy log.now seen.now histories }
-    ensures { IfOk result (λ told. (histories : List (List Event)) → IsToldBy log.now seen.now histories → told ≡ history_on channel histories) }
+    histories: &mut Vec<EventsByNumber<A>, A>,
+    place: usize,
+) -> Vec<Event, A>
+    requires { place < length histories.old.items }
+    ensures events { result.items ≡ slice_index_or histories.old.items place [] }
+    ensures taken { histories.new.items ≡ slice_set histories.old.items place [] }
 {
-    let events = told_events(alloc, log, seen, channel)?;
-    Ok(Channel::of_history(events))
+    let history = &mut histories[place];
+    mem::replace(&mut history.events, Vec::new(alloc))
 }
 
-/// Its events, each at its number.
-fn told_events<A: Allocator>(
+/// The histories of all channels in order, by one pass over the log.
+fn told_histories<A: Allocator + Copy>(
     alloc: A,
     log: &[Entry],
     seen: &[u64; CHANNELS],
-    channel: ChannelNo,
-) -> Result<Vec<Event, A>, Memory>
-    ensures { IfOk result (λ events. (histories : List (List Event)) → IsToldBy log.now seen.now histories → events.items ≡ history_on channel histories) }
+) -> Result<Vec<EventsByNumber<A>, A>, Memory>
+    ensures { IfOk result (λ told. (histories : List (List Event)) → IsToldBy log.now seen.now histories → told.items ≡ histories) }
 {
-    let count = seen[channel.index()] as usize;
-    let mut events = vec![in alloc; Event::Disconnect; count]?;
+    let mut told = untold_histories(alloc, seen)?;
     for entry in log {
-        put_event(&mut events, entry, channel);
+        put_entry(&mut told, entry);
     }
-    Ok(events)
+    Ok(told)
 }
 
-/// Puts the event of an entry on this channel at its number.
-fn put_event(events: &mut [Event], entry: &Entry, channel: ChannelNo)
-    ensures { events.new ≡ with_entry channel events.old entry.now }
+/// As many events of each channel as were seen, of which none is told yet.
+fn untold_histories<A: Allocator + Copy>(
+    alloc: A,
+    seen: &[u64; CHANNELS],
+) -> Result<Vec<EventsByNumber<A>, A>, Memory>
+    ensures each_channel { IfOk result (λ untold. length untold.items ≡ channel_count) }
+    ensures each_event { IfOk result (λ untold. (place : ℕ) → place < channel_count → length (slice_index_or untold.items place []) ≡ slice_index_or seen.now place 0) }
+{
+    let mut untold = Vec::with_capacity(alloc, CHANNELS)?;
+    for count in seen {
+        untold.push(EventsByNumber::untold(alloc, *count)?)?;
+    }
+    Ok(untold)
+}
+
+/// Puts the event of an entry at its number, in the history of its channel.
+fn put_entry<A: Allocator>(histories: &mut [EventsByNumber<A>], entry: &Entry)
+    requires { length histories.old ≡ channel_count }
+    ensures { histories.new ≡ with_entry histories.old entry.now }
 {
     match entry.what {
-        Seen::Did(event) if entry.channel == channel => put(events, entry.number, event),
-        Seen::Did(_) | Seen::Saw(_) => {}
-    }
-}
-
-/// Puts an event at this number, where there is one.
-#[tactic(auto, using(std::proofs::lemmas::List::set_past))]
-fn put(events: &mut [Event], number: u64, event: Event)
-    ensures { events.new ≡ slice_set events.old number event }
-{
-    let number = number as usize;
-    if number < events.len() {
-        events[number] = event;
+        Seen::Did(event) => histories[entry.channel.index()].put(entry.number, event),
+        Seen::Saw(_) => {}
     }
 }

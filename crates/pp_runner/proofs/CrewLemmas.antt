@@ -1,7 +1,8 @@
 -- A worker and its line more.
-use Rattle.std.proofs.Common.{◌≡◌, ℕ, suc, ◌+◌, ◌-◌, ◌<◌, ◌≤◌, List, [], ◌∷◌, ◌++◌, length, drop, refl, sym, ap, ◌∙◌, subst, arith}
-use Rattle.std.specs.Prelude.{Some, Result, Ok, Err, IfOk, All}
-use Rattle.std.proofs.lemmas.List.{drop_more, drop_all, append-nil, length-append}
+use Rattle.std.proofs.Common.{◌≡◌, ℕ, suc, ◌+◌, ◌-◌, ◌%◌, ◌<◌, ◌≤◌, List, [], ◌∷◌, ◌++◌, length, take, refl, sym, ap, ◌∙◌, subst, arith}
+use Rattle.std.specs.Prelude.{Some, Result, Ok, Err, IfOk, All, slice_index_or}
+use Rattle.std.proofs.lemmas.List.{take_more, append-nil, length-append}
+use Rattle.std.proofs.lemmas.List.Concat.{flat_map-append}
 use Rattle.std.proofs.lemmas.List.Elements.{All-append, All-cons, All-nil, All-pop, All-push, All-weaker}
 use Rattle.pp_channel.specs.LineState.{LineState, IsSplitFrom, joined, ForgetsNothing}
 use Rattle.pp_channel.specs.RisingLog.{IsRising, seen_on}
@@ -10,7 +11,7 @@ use Rattle.pp_machine.specs.MachineState.{MachineState, processor_of}
 use Rattle.pp_machine.specs.Processor.{Processor, new_processor}
 use Rattle.pp_machine.specs.ProcessorNumber.{processor_count, processor_index, processor_in_turn}
 use Rattle.pp_machine.specs.Replay.{sights_given}
-use Rattle.pp_machine.proofs.ProcessorPlaces.{place_after}
+use Rattle.pp_machine.proofs.ProcessorPlaces.{place_in_turn}
 use Rattle.pp_runner.proofs.LogLemmas.{settles, stands_settled}
 use Rattle.pp_runner.proofs.EndLemmas.{worn_later}
 use Rattle.pp_runner.proofs.LineLemmas.{same_line_still, same_line_twice}
@@ -18,7 +19,7 @@ use Rattle.pp_runner.specs.Crew.{IsFresh, AreReady, IsEnded, IsAlone, AreEnded}
 use Rattle.pp_runner.specs.Labour.{IsAtWork, HasSeen, NoneOlder, IsSameLine, HasOperated, GaveUpWithCause}
 use Rattle.pp_runner.specs.WorkerEnd.{IsEnd, WornWithCause}
 use Rattle.pp_runner.specs.WorkerLog.{events_in, sights_in, StandsIn}
-use Rattle.pp_runner.specs.WorkerReport.{AreWorkers, logs_of}
+use Rattle.pp_runner.specs.WorkerReport.{IsWorker, AreWorkers, logs_of}
 use Rattle.pp_runner.specs.declared.crew.Crew.{Crew}
 use Rattle.pp_runner.specs.declared.end.End.{End}
 use Rattle.pp_runner.specs.declared.end.End.TheVariants.{Patience}
@@ -41,27 +42,39 @@ begun_after size steps room load family line mine w one fresh happened has =
     subst (λ (l : List Entry). NoneOlder happened l) (sym (ap (λ l. l.entries) fresh.log)) (All-nil (λ (entry : Entry). happened entry.channel ≤ entry.number)) in
     subst (λ (l : List Entry). NoneOlder happened l) one.log (one.same_line.none_older happened seen none)
 
--- the workers after one that has ended
-ended_first : {A : Type 0} (loads : List Processor) (size steps count room : ℕ) (load : Processor) (family line mine others after : LineState) (w : Worker A) (ws : List (Worker A))
-    → IsEnded load size steps line w mine → AreEnded loads size steps count family ws others → IsFresh room family line → after ≡ joined mine others
-    → ForgetsNothing mine after × ForgetsNothing others after → AreEnded (load ∷ loads) size steps (1 + count) family (w ∷ ws) after
-ended_first {A} loads size steps count room load family line mine others after w ws one all fresh is more =
+-- a worker for each of these processors, and one for one more
+workers_push : {A : Type 0} (loads : List Processor) (size steps : ℕ) (ws : List (Worker A)) (load : Processor) (w : Worker A) → AreWorkers loads size steps ws → IsWorker load size steps w
+    → AreWorkers (loads ++ load ∷ []) size steps (ws ++ w ∷ [])
+workers_push [] size steps [] load w all one = (one, tt)
+workers_push [] size steps (v ∷ ws) load w all one = absurd all
+workers_push (p ∷ loads) size steps [] load w all one = absurd all
+workers_push (p ∷ loads) size steps (v ∷ ws) load w all one = (all.0, workers_push loads size steps ws load w all.1 one)
+
+logs_push : {A : Type 0} (ws : List (Worker A)) (w : Worker A) → logs_of (ws ++ w ∷ []) ≡ logs_of ws ++ w.log.items
+logs_push ws w = flat_map-append (λ v. v.log.items) ws (w ∷ []) ∙ ap (λ l. logs_of ws ++ l) (append-nil w.log.items)
+
+-- workers that have ended, and one more behind them
+ended_push : {A : Type 0} (loads : List Processor) (size steps count room : ℕ) (load : Processor) (family line mine others after : LineState) (w : Worker A) (ws : List (Worker A))
+    → IsEnded load size steps line w mine → AreEnded loads size steps count family ws others → IsFresh room family line → after ≡ joined others mine
+    → ForgetsNothing others after × ForgetsNothing mine after → AreEnded (loads ++ load ∷ []) size steps (count + 1) family (ws ++ w ∷ []) after
+ended_push {A} loads size steps count room load family line mine others after w ws one all fresh is more =
     let P : LineState → Worker A → Type 0 = λ l v. WornWithCause (λ c. seen_on c l.seen) v.finish v.pp in
-    let first : P after w = worn_later (λ c. seen_on c mine.seen) (λ c. seen_on c after.seen) w.finish w.pp more.0 one.worn in
-    let rest : All (P after) ws = All-weaker (P others) (P after) (λ v. worn_later (λ c. seen_on c others.seen) (λ c. seen_on c after.seen) v.finish v.pp more.1) ws all.worn in record {
-      workers = (one.worker, all.workers);
-      log = ap (λ l. l.log.entries) is ∙ (λ i. one.log i ++ all.log i);
-      begun = λ happened has. All-append (λ (entry : Entry). happened entry.channel ≤ entry.number) w.log.items (logs_of ws)
-          (begun_after size steps room load family line mine w one fresh happened has) (all.begun happened has);
-      worn = All-cons (P after) w ws first rest;
+    let last : P after w = worn_later (λ c. seen_on c mine.seen) (λ c. seen_on c after.seen) w.finish w.pp more.1 one.worn in
+    let before : All (P after) ws = All-weaker (P others) (P after) (λ v. worn_later (λ c. seen_on c others.seen) (λ c. seen_on c after.seen) v.finish v.pp more.0) ws all.worn in record {
+      workers = workers_push loads size steps ws load w all.workers one.worker;
+      log = ap (λ l. l.log.entries) is ∙ ((λ i. all.log i ++ one.log i) ∙ sym (logs_push ws w));
+      begun = λ happened has. subst (λ (l : List Entry). NoneOlder happened l) (sym (logs_push ws w))
+          (All-append (λ (entry : Entry). happened entry.channel ≤ entry.number) (logs_of ws) w.log.items
+          (all.begun happened has) (begun_after size steps room load family line mine w one fresh happened has));
+      worn = All-push (P after) ws w before last;
       shares = omega (arith, ap (λ l. l.shares) is, one.same_line.shares, all.shares, fresh.shares);
       kin = record {
-        whole = ap (λ l. l.whole) is ∙ (one.same_line.whole ∙ fresh.kin.whole);
-        table = ap (λ l. l.table) is ∙ (one.same_line.table ∙ fresh.kin.table);
+        whole = ap (λ l. l.whole) is ∙ all.kin.whole;
+        table = ap (λ l. l.table) is ∙ all.kin.table;
       };
     }
 
--- the worker after which there is none
+-- the worker before which there is none
 ended_last : {A : Type 0} (size steps room : ℕ) (load : Processor) (family line mine : LineState) (w : Worker A) → IsEnded load size steps line w mine → IsFresh room family line
     → AreEnded (load ∷ []) size steps 1 family (w ∷ []) mine
 ended_last {A} size steps room load family line mine w one fresh =
@@ -124,19 +137,24 @@ pub not_given_up : {A E : Type 0} (patience : ℕ) (line : LineState) (finish : 
 not_given_up patience line finish (Err e) other was = tt
 not_given_up patience line finish (Ok ended) other was = λ is. absurd (other (sym was ∙ is))
 
--- the processors from a place on begin with the one at that place
-pub processors_from : (m : MachineState) (n : ℕ) → processor_index n < length m.processors → drop (processor_index n) m.processors ≡ processor_of n m ∷ drop (processor_index n + 1) m.processors
-processors_from m n below = drop_more m.processors (processor_index n) new_processor below
+-- the processor of the place behind so many
+place_behind : (n place : ℕ) → n ≡ processor_in_turn place → place < processor_count → processor_index n ≡ place
+place_behind n place is below = let within : place % processor_count ≡ place = omega arith in ap processor_index is ∙ (place_in_turn place ∙ within)
 
--- the line that is taken first, and those that are left
-pub record IsTaken (m : MachineState) (n room : ℕ) (family line : LineState) (others : List LineState) : Type 0 where
+-- the first processors, with the one that comes next
+processors_push : (m : MachineState) (n place : ℕ) → processor_index n ≡ place → place < length m.processors → take (place + 1) m.processors ≡ take place m.processors ++ processor_of n m ∷ []
+processors_push m n place at below =
+    take_more m.processors place new_processor below ∙ ap (λ k. take place m.processors ++ slice_index_or m.processors k new_processor ∷ []) (sym at)
+
+-- the last line, and those before it
+pub record IsTaken (m : MachineState) (room : ℕ) (family line : LineState) (others : List LineState) : Type 0 where
   pub each : length m.processors ≡ processor_count
-  pub count : processor_index n + (length others + 1) ≡ processor_count
+  pub count : length others < processor_count
   pub fresh : IsFresh room family line
   pub fresh_others : All (IsFresh room family) others
 
-pub taken_of : (m : MachineState) (n room : ℕ) (family line : LineState) (lines others : List LineState) → lines ≡ others ++ line ∷ [] → AreReady m n room family lines → IsTaken m n room family line others
-taken_of m n room family line lines others is ready =
+pub taken_of : (m : MachineState) (room : ℕ) (family line : LineState) (lines others : List LineState) → lines ≡ others ++ line ∷ [] → AreReady m room family lines → IsTaken m room family line others
+taken_of m room family line lines others is ready =
     let parts = All-pop (IsFresh room family) lines others (Some line) is ready.fresh in record {
       each = ready.each;
       count = omega (arith, ready.count, ap length is, length-append others (line ∷ []));
@@ -148,48 +166,47 @@ taken_of m n room family line lines others is ready =
 pub some_left : (lines others : List LineState) (line : LineState) → lines ≡ others ++ line ∷ [] → 1 < length lines → 0 < length others
 some_left lines others line is several = omega (arith, several, ap length is, length-append others (line ∷ []))
 
--- those after the first are ready too
-pub ready_after : (m : MachineState) (n next room : ℕ) (family line : LineState) (others : List LineState) → IsTaken m n room family line others → 0 < length others →
-    ((turn : ℕ) → n ≡ processor_in_turn turn → next ≡ processor_in_turn (turn + 1)) → AreReady m next room family others
-ready_after m n next room family line others taken some is = record {
+-- those before the last are ready too
+pub ready_before : (m : MachineState) (room : ℕ) (family line : LineState) (others : List LineState) → IsTaken m room family line others → 0 < length others → AreReady m room family others
+ready_before m room family line others taken some = record {
   each = taken.each;
-  count = omega (arith, taken.count, place_after n next is (omega (arith, taken.count, some)));
+  count = omega (arith, taken.count);
   some = some;
   fresh = taken.fresh_others;
 }
 
--- the last worker
-pub ended_alone : {A E : Type 0} (m : MachineState) (n room size steps total : ℕ) (load : Processor) (family line : LineState) (lines others : List LineState) (r : Result (Crew A) E) → AreReady m n room family lines
-    → lines ≡ others ++ line ∷ [] → total ≡ length lines → total ≤ 1 → load ≡ processor_of n m
+-- the first worker
+pub ended_alone : {A E : Type 0} (m : MachineState) (n room size steps total : ℕ) (load : Processor) (family line : LineState) (lines others : List LineState) (r : Result (Crew A) E) → AreReady m room family lines
+    → lines ≡ others ++ line ∷ [] → total ≡ length lines → total ≤ 1 → n ≡ processor_in_turn (length others) → load ≡ processor_of n m
     → IfOk r (λ crew. IsAlone load size steps line crew.workers.items crew.line)
-    → IfOk r (λ crew. AreEnded (drop (processor_index n) m.processors) size steps total family crew.workers.items crew.line)
-ended_alone m n room size steps total load family line lines others (Err e) ready is sum few load_is one = tt
-ended_alone {A} m n room size steps total load family line lines others (Ok crew) ready is sum few load_is one =
-    let taken = taken_of m n room family line lines others is ready in
+    → IfOk r (λ crew. AreEnded (take total m.processors) size steps total family crew.workers.items crew.line)
+ended_alone m n room size steps total load family line lines others (Err e) ready is sum few at load_is one = tt
+ended_alone {A} m n room size steps total load family line lines others (Ok crew) ready is sum few at load_is one =
+    let taken = taken_of m room family line lines others is ready in
     let only : total ≡ 1 = omega (arith, sum, few, ready.some) in
-    let none : drop (processor_index n + 1) m.processors ≡ [] = drop_all (processor_index n + 1) m.processors (omega (arith, ready.count, ready.each, sum, only)) in
-    let loads : drop (processor_index n) m.processors ≡ load ∷ [] =
-    processors_from m n (omega (arith, taken.count, taken.each)) ∙ ((λ i. processor_of n m ∷ none i) ∙ ap (λ p. p ∷ []) (sym load_is)) in
-    subst (λ (ps : List Processor). AreEnded ps size steps total family crew.workers.items crew.line) (sym loads)
-    (subst (λ (k : ℕ). AreEnded (load ∷ []) size steps k family crew.workers.items crew.line) (sym only)
+    let none : length others ≡ 0 = omega (arith, ap length is, length-append others (line ∷ []), sum, only) in
+    let place : processor_index n ≡ 0 = place_behind n (length others) at taken.count ∙ none in
+    let loads : take 1 m.processors ≡ load ∷ [] = processors_push m n 0 place (omega (arith, taken.each)) ∙ ap (λ p. p ∷ []) (sym load_is) in
+    subst (λ (k : ℕ). AreEnded (take k m.processors) size steps k family crew.workers.items crew.line) (sym only)
+    (subst (λ (ps : List Processor). AreEnded ps size steps 1 family crew.workers.items crew.line) (sym loads)
     (alone_ended size steps room load family line crew.line crew.workers.items one taken.fresh))
 
--- a worker and those after it
-pub ended_beside : {A E : Type 0} (m : MachineState) (n next room size steps left total : ℕ) (family line mine after : LineState) (others : List LineState) (w : Worker A) (ws : List (Worker A)) (r : Result (Crew A) E)
-    → IsTaken m n room family line others → 0 < length others → ((turn : ℕ) → n ≡ processor_in_turn turn → next ≡ processor_in_turn (turn + 1)) → total ≡ 1 + left
-    → IsEnded (processor_of n m) size steps line w mine → AreEnded (drop (processor_index next) m.processors) size steps left family ws after
-    → IfOk r (λ crew. crew.workers.items ≡ w ∷ ws) → IfOk r (λ crew. crew.line ≡ joined mine after) → IfOk r (λ crew. ForgetsNothing mine crew.line × ForgetsNothing after crew.line)
-    → IfOk r (λ crew. AreEnded (drop (processor_index n) m.processors) size steps total family crew.workers.items crew.line)
-ended_beside m n next room size steps left total family line mine after others w ws (Err e) taken some is sum one all workers_are line_is more = tt
-ended_beside {A} m n next room size steps left total family line mine after others w ws (Ok crew) taken some is sum one all workers_are line_is more =
-    let place : processor_index next ≡ processor_index n + 1 = place_after n next is (omega (arith, taken.count, some)) in
-    let loads : drop (processor_index n) m.processors ≡ processor_of n m ∷ drop (processor_index next) m.processors =
-    processors_from m n (omega (arith, taken.count, taken.each)) ∙ ap (λ i. processor_of n m ∷ drop i m.processors) (sym place) in
-    let ended : AreEnded (processor_of n m ∷ drop (processor_index next) m.processors) size steps (1 + left) family (w ∷ ws) crew.line =
-    ended_first (drop (processor_index next) m.processors) size steps left room (processor_of n m) family line mine after crew.line w ws one all taken.fresh line_is more in
-    subst (λ (ps : List Processor). AreEnded ps size steps total family crew.workers.items crew.line) (sym loads)
-    (subst (λ (k : ℕ). AreEnded (processor_of n m ∷ drop (processor_index next) m.processors) size steps k family crew.workers.items crew.line) (sym sum)
-    (subst (λ (vs : List (Worker A)). AreEnded (processor_of n m ∷ drop (processor_index next) m.processors) size steps (1 + left) family vs crew.line) (sym workers_are) ended))
+-- workers, and the one behind them
+pub ended_beside : {A E : Type 0} (m : MachineState) (n room size steps left total : ℕ) (family line mine after : LineState) (others : List LineState) (w : Worker A) (ws : List (Worker A)) (r : Result (Crew A) E)
+    → IsTaken m room family line others → n ≡ processor_in_turn left → left ≡ length others → total ≡ left + 1
+    → IsEnded (processor_of n m) size steps line w mine → AreEnded (take left m.processors) size steps left family ws after
+    → IfOk r (λ crew. crew.workers.items ≡ ws ++ w ∷ []) → IfOk r (λ crew. crew.line ≡ joined after mine) → IfOk r (λ crew. ForgetsNothing after crew.line × ForgetsNothing mine crew.line)
+    → IfOk r (λ crew. AreEnded (take total m.processors) size steps total family crew.workers.items crew.line)
+ended_beside m n room size steps left total family line mine after others w ws (Err e) taken at those sum one all workers_are line_is more = tt
+ended_beside {A} m n room size steps left total family line mine after others w ws (Ok crew) taken at those sum one all workers_are line_is more =
+    let below : left < processor_count = omega (arith, taken.count, those) in
+    let loads : take (left + 1) m.processors ≡ take left m.processors ++ processor_of n m ∷ [] =
+    processors_push m n left (place_behind n left at below) (omega (arith, below, taken.each)) in
+    let ended : AreEnded (take left m.processors ++ processor_of n m ∷ []) size steps (left + 1) family (ws ++ w ∷ []) crew.line =
+    ended_push (take left m.processors) size steps left room (processor_of n m) family line mine after crew.line w ws one all taken.fresh line_is more in
+    subst (λ (k : ℕ). AreEnded (take k m.processors) size steps k family crew.workers.items crew.line) (sym sum)
+    (subst (λ (ps : List Processor). AreEnded ps size steps (left + 1) family crew.workers.items crew.line) (sym loads)
+    (subst (λ (vs : List (Worker A)). AreEnded (take left m.processors ++ processor_of n m ∷ []) size steps (left + 1) family vs crew.line) (sym workers_are) ended))
 
 -- what a promise says, in the words of what it was made from
 pub promised : {A : Type 0} (load was : Processor) (size size_was steps steps_was : ℕ) (line line_was : LineState) (w : Worker A) (after : LineState) → was ≡ load → size_was ≡ size → steps_was ≡ steps → line_was ≡ line

@@ -1,11 +1,11 @@
 -- Workers that run at once, with their lines.
-use Rattle.std.specs.Prelude.{◌≡◌, ◌+◌, ◌<◌, ℕ, List, [], ◌∷◌, All, length}
+use Rattle.std.specs.Prelude.{◌≡◌, ◌<◌, ◌≤◌, ℕ, List, [], ◌∷◌, All, length}
 use Rattle.pp_channel.specs.LineLog.{empty_log}
 use Rattle.pp_channel.specs.LineState.{LineState}
 use Rattle.pp_channel.specs.RisingLog.{seen_on}
 use Rattle.pp_machine.specs.MachineState.{MachineState}
 use Rattle.pp_machine.specs.Processor.{Processor}
-use Rattle.pp_machine.specs.ProcessorNumber.{processor_count, processor_index}
+use Rattle.pp_machine.specs.ProcessorNumber.{processor_count}
 use Rattle.pp_runner.specs.Labour.{HasSeen, NoneOlder, IsSameLine}
 use Rattle.pp_runner.specs.WorkerEnd.{WornWithCause}
 use Rattle.pp_runner.specs.WorkerReport.{IsWorker, AreWorkers, logs_of}
@@ -23,10 +23,10 @@ pub record IsFresh (room : ℕ) (family line : LineState) : Type 0 where
   pub shares : line.shares ≡ 1
   pub kin : IsKin family line
 
--- The worker of processor n and those of all after it are ready to begin, each on one of these lines.
-pub record AreReady (m : MachineState) (n room : ℕ) (family : LineState) (lines : List LineState) : Type 0 where
+-- The workers of the barrel's first processors are ready to begin, each on one of these lines.
+pub record AreReady (m : MachineState) (room : ℕ) (family : LineState) (lines : List LineState) : Type 0 where
   pub each : length m.processors ≡ processor_count
-  pub count : processor_index n + length lines ≡ processor_count
+  pub count : length lines ≤ processor_count
   pub some : 0 < length lines
   pub fresh : All (IsFresh room family) lines
 

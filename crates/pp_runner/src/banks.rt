@@ -44,10 +44,16 @@ impl Location {
     }
 }
 
+/// How many numbers a bank has beside its words: with its lock it takes 128 bytes at least, so that no
+/// two banks share a cache line.
+const APART: usize = 12;
+
 /// One bank. Contracts see the list of its words, by place.
 #[derive(Drop)]
 pub struct Bank<A: Allocator> {
     words: Vec<Word60, A>,
+    /// Keeps it apart from the next bank.
+    _apart: [u64; APART],
 }
 
 impl<A: Allocator> Model for Bank<A> {
@@ -66,7 +72,10 @@ impl<A: Allocator> Bank<A> {
         ensures { IfOk result (λ b. b ≡ replicate 4096 0) }
     {
         let words = vec![in alloc; Word60::ZERO; BANK_WORDS]?;
-        Ok(Bank { words })
+        Ok(Bank {
+            words,
+            _apart: [0; APART],
+        })
     }
 
     /// The words of central memory that stand in this bank.

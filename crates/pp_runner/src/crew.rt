@@ -1,10 +1,9 @@
 //! Workers that run at once, each in a thread of its own.
 
-ghost use Rattle.std.specs.Prelude.{◌≡◌, ◌+◌, ◌*◌, ◌<◌, [], ◌∷◌, drop, vec_len, IfOk};
+ghost use Rattle.std.specs.Prelude.{◌≡◌, ◌+◌, ◌*◌, ◌<◌, [], ◌∷◌, ◌++◌, take, vec_len, IfOk};
 ghost use denote.Param.Send.{IsSync, IsSend, Frees};
 ghost use Rattle.pp_channel.specs.LineLog.{empty_log};
 ghost use Rattle.pp_channel.specs.LineState.{joined, ForgetsNothing};
-ghost use Rattle.pp_machine.specs.ProcessorNumber.{processor_index};
 ghost use Rattle.pp_runner.specs.Crew.{IsEnded, IsAlone, AreEnded, AreReady};
 
 use crate::gate::Gate;
@@ -43,26 +42,26 @@ impl<A: Allocator> Promise<Result<Ended<A>, Memory>> for EndOf<A> {
     ghost kept_by = { λ p r. IfOk r (λ ended. IsEnded p.load.value p.size p.steps p.line.value ended.worker ended.line) };
 }
 
-/// A worker before the others, and their lines as one.
-fn combined<A: Allocator + Copy>(mine: Ended<A>, others: Crew<A>) -> Result<Crew<A>, RunFault>
-    requires { others.line.table ≡ mine.line.table }
-    ensures workers { IfOk result (λ crew. crew.workers.items ≡ mine.worker ∷ others.workers.items) }
-    ensures line { IfOk result (λ crew. crew.line ≡ joined mine.line others.line) }
-    ensures nothing_forgotten { IfOk result (λ crew. ForgetsNothing mine.line crew.line × ForgetsNothing others.line crew.line) }
+/// A worker behind the others, and their lines as one. The last line's log alone is copied.
+fn combined<A: Allocator + Copy>(others: Crew<A>, last: Ended<A>) -> Result<Crew<A>, RunFault>
+    requires { last.line.table ≡ others.line.table }
+    ensures workers { IfOk result (λ crew. crew.workers.items ≡ others.workers.items ++ last.worker ∷ []) }
+    ensures line { IfOk result (λ crew. crew.line ≡ joined others.line last.line) }
+    ensures nothing_forgotten { IfOk result (λ crew. ForgetsNothing others.line crew.line × ForgetsNothing last.line crew.line) }
 {
-    let Ended { worker, line } = mine;
     let Crew {
         mut workers,
-        line: rest,
+        line: before,
     } = others;
-    workers.insert(0, worker)?;
-    match line.join(rest) {
+    let Ended { worker, line } = last;
+    workers.push(worker)?;
+    match before.join(line) {
         Ok(line) => Ok(Crew { workers, line }),
         Err((_, _, refused)) => Err(RunFault::from(refused)),
     }
 }
 
-/// The last worker, in this thread.
+/// The first worker, in this thread.
 fn alone<R: Wait, G: Gate, A: Allocator + Copy>(
     rt: &R,
     site: &Site<A>,
@@ -80,56 +79,56 @@ fn alone<R: Wait, G: Gate, A: Allocator + Copy>(
     Ok(Crew { workers, line })
 }
 
-/// The workers of this processor and of all after it, at once, one on each line; their lines come back
-/// as one. The last works in this thread.
+/// The workers of the barrel's first processors, one on each line, at once; their lines come back as
+/// one. The first works in this thread.
 #[cycle(crew)]
-pub fn run_from<R: Threads + Wait + Sync, G: Gate + Sync, A: Allocator + Copy + Send + Sync>(
+pub fn run_first<R: Threads + Wait + Sync, G: Gate + Sync, A: Allocator + Copy + Send + Sync>(
     rt: &R,
     site: &Site<A>,
     gate: &G,
     machine: &Machine<A>,
-    number: PpNo,
     family: Snapshot<Line<A>>,
     mut lines: Vec<Line<A>, A>,
 ) -> Result<Crew<A>, RunFault>
-    requires { AreReady machine.now number (2 * site.now.limits.steps + 1) family.value lines.items }
-    ensures { IfOk result (λ crew. AreEnded (drop (processor_index number) machine.now.processors) site.now.central site.now.limits.steps (vec_len lines) family.value crew.workers.items crew.line) }
+    requires { AreReady machine.now (2 * site.now.limits.steps + 1) family.value lines.items }
+    ensures { IfOk result (λ crew. AreEnded (take (vec_len lines) machine.now.processors) site.now.central site.now.limits.steps (vec_len lines) family.value crew.workers.items crew.line) }
 {
     if lines.len() > 1 {
-        return beside(rt, site, gate, machine, number, family, lines);
+        return beside(rt, site, gate, machine, family, lines);
     }
     let Some(line) = lines.pop() else {
         unreachable!()
     };
+    let number = PpNo::at(lines.len());
     alone(rt, site, gate, number, machine.pp(number), line)
 }
 
-/// The worker of this processor in a thread of its own, beside those after it.
+/// The worker on the last line in a thread of its own, beside those before it.
 #[cycle(crew)]
 fn beside<R: Threads + Wait + Sync, G: Gate + Sync, A: Allocator + Copy + Send + Sync>(
     rt: &R,
     site: &Site<A>,
     gate: &G,
     machine: &Machine<A>,
-    number: PpNo,
     family: Snapshot<Line<A>>,
     lines: Vec<Line<A>, A>,
 ) -> Result<Crew<A>, RunFault>
     requires several { 1 < vec_len lines }
-    requires ready { AreReady machine.now number (2 * site.now.limits.steps + 1) family.value lines.items }
-    ensures { IfOk result (λ crew. AreEnded (drop (processor_index number) machine.now.processors) site.now.central site.now.limits.steps (vec_len lines) family.value crew.workers.items crew.line) }
+    requires ready { AreReady machine.now (2 * site.now.limits.steps + 1) family.value lines.items }
+    ensures { IfOk result (λ crew. AreEnded (take (vec_len lines) machine.now.processors) site.now.central site.now.limits.steps (vec_len lines) family.value crew.workers.items crew.line) }
 {
     thread::scope(
         thread::scope_env(),
         rt,
         |scope| -> Result<Crew<A>, RunFault>
-            requires { IsSync R.row × IsSync G.row × IsSend A.row × IsSync A.row × Frees A.Allocator A.dealloc_token × (1 < vec_len lines) × AreReady machine.now number (2 * site.now.limits.steps + 1) family.value lines.items }
-            ensures { IfOk result (λ crew. AreEnded (drop (processor_index number) machine.entry.now.processors) site.entry.now.central site.entry.now.limits.steps (vec_len lines) family.value crew.workers.items crew.line) }
+            requires { IsSync R.row × IsSync G.row × IsSend A.row × IsSync A.row × Frees A.Allocator A.dealloc_token × (1 < vec_len lines) × AreReady machine.now (2 * site.now.limits.steps + 1) family.value lines.items }
+            ensures { IfOk result (λ crew. AreEnded (take (vec_len lines) machine.entry.now.processors) site.entry.now.central site.entry.now.limits.steps (vec_len lines) family.value crew.workers.items crew.line) }
         {
             let mut others = lines;
             let Some(line) = others.pop() else {
                 unreachable!()
             };
+            let number = PpNo::at(others.len());
             let load = machine.pp(number);
             let promise = EndOf {
                 load: Snapshot::of(load),
@@ -144,9 +143,9 @@ fn beside<R: Threads + Wait + Sync, G: Gate + Sync, A: Allocator + Copy + Send +
                     ensures { IfOk result (λ ended. IsEnded load.entry.now site.entry.now.central site.entry.now.limits.steps line ended.worker ended.line) }
                 { work(rt, site, gate, number, load, line) },
             )?;
-            let others = run_from(rt, site, gate, machine, number.next(), family, others);
-            let mine = child.join(rt);
-            combined(mine?, others?)
+            let others = run_first(rt, site, gate, machine, family, others);
+            let last = child.join(rt);
+            combined(others?, last?)
         },
     )
 }

@@ -9,7 +9,7 @@ ghost use Rattle.pp_runner.specs.Crew.{IsFresh};
 ghost use Rattle.pp_runner.specs.Labour.{HasSeen};
 ghost use Rattle.pp_runner.specs.Report.{IsReportOf};
 
-use crate::crew::{Crew, run_from};
+use crate::crew::{Crew, run_first};
 use crate::gate::Gate;
 use crate::limits::Limits;
 use crate::locked_central::LockedCentral;
@@ -18,7 +18,7 @@ use crate::report::Report;
 use crate::run_fault::RunFault;
 use crate::site::Site;
 use pp_channel::{CHANNELS, Channel, Line, Memory};
-use pp_machine::{Machine, PROCESSORS, PpNo};
+use pp_machine::{Machine, PROCESSORS};
 use std::alloc::Allocator;
 use std::snapshot::Snapshot;
 use std::sync::Wait;
@@ -74,7 +74,7 @@ pub fn run_threads<R: Threads + Wait + Sync, G: Gate + Sync, A: Allocator + Copy
     // Two entries an answer at most, and a look at which the worker gives up.
     let (first, lines) = open_family(alloc, machine, 2 * limits.steps() + 1)?;
     let family = Snapshot::of(&first);
-    let Crew { workers, line } = run_from(rt, &site, gate, machine, PpNo::FIRST, family, lines)?;
+    let Crew { workers, line } = run_first(rt, &site, gate, machine, family, lines)?;
     let channels = close_with(line, first)?;
     Ok(Report {
         ends: workers,

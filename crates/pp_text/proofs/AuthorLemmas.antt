@@ -1,14 +1,18 @@
--- Authors of events, log after log.
-use Rattle.std.proofs.Common.{◌≡◌, ◌∙◌, ℕ, ◌+◌, ◌<◌, ◌≤◌, Bool, true, false, cond, List, [], ◌∷◌, ◌++◌, length, take, Option, Some, None, option_map, slice_index_or, refl, sym, ap, arith, add-one}
-use Rattle.std.specs.List.{position, position_from}
+-- Authors of events, log after log, and the lines that name them.
+use Rattle.std.proofs.Common.{◌≡◌, ◌∙◌, ℕ, ◌+◌, ◌<◌, ◌≤◌, Bool, true, false, cond, List, [], ◌∷◌, ◌++◌, length, take, Option, Some, None, option_map, slice_index_or, refl, sym, ap, subst, arith, add-one}
+use Rattle.std.specs.Prelude.{IsTrue, Result, Ok, Err, OnOk, if◌then◌else◌}
+use Rattle.std.specs.List.{enumerate_from, flat_map, position, position_from}
 use Rattle.std.proofs.Math.Seq.{take-suc}
 use Rattle.std.proofs.lemmas.Iterator.Adapters.{position_from-zero}
-use Rattle.std.proofs.lemmas.List.{length-take-le}
+use Rattle.std.proofs.lemmas.List.{get_or_default, length-take-le}
+use Rattle.pp_channel.specs.ChannelNumber.{channel_index, names_channel}
+use Rattle.pp_channel.specs.Merge.{history_on}
+use Rattle.pp_channel.specs.declared.event.Event.{Event}
 use Rattle.pp_machine.specs.ProcessorNumber.{processor_count, processor_in_turn, processor_number}
 use Rattle.pp_machine.proofs.ProcessorPlaces.{in_turn_at}
 use Rattle.pp_runner.specs.declared.worker.Worker.{Worker}
-use Rattle.pp_text.specs.Authors.{or_told}
-use Rattle.pp_text.specs.PrintedReport.{author_place, log_tells}
+use Rattle.pp_text.specs.Authors.{AreAuthors, AreAuthorsOn, or_told}
+use Rattle.pp_text.specs.PrintedReport.{author_place, channel_events, log_tells, numbered_event_line}
 
 -- where the first does not pass, the search goes on behind it
 seek_on : (passes : Bool) (i j : ℕ) (more rest : Option ℕ) (last : Bool) → more ≡ or_told rest last j
@@ -52,3 +56,22 @@ author_push {Z} c number place workers worker before after author l few at by wa
     let same : author ≡ processor_number place = by ∙ in_turn_at place (omega arith) in
     now ∙ (ap (λ known. or_told known (test worker) author) was ∙ (ap (or_told (option_map processor_number (author_place c (take place workers) number)) (test worker)) same
     ∙ (sym (or_told_map processor_number (author_place c (take place workers) number) (test worker) place) ∙ sym (ap (option_map processor_number) found))))
+
+-- the lines of one channel's events, where it is the channel of this number
+pub named_events : {Z : Type 0} (c number : ℕ) (workers : List (Worker Z)) (histories : List (List Event)) (h : List Event) → IsTrue (names_channel number) → c ≡ number → h ≡ history_on c histories
+    → flat_map (numbered_event_line c workers) (enumerate_from 0 h) ≡ channel_events workers histories number
+named_events {Z} c number workers histories h names is same =
+    ap (λ l. flat_map (numbered_event_line c workers) (enumerate_from 0 l)) same ∙ (ap (λ k. flat_map (numbered_event_line k workers) (enumerate_from 0 (history_on k histories))) is
+    ∙ sym (ap (λ b. if b then flat_map (numbered_event_line number workers) (enumerate_from 0 (history_on number histories)) else []) names))
+
+-- the authors on one channel, of those on all
+pub authors_here : {Z : Type 0} (c place : ℕ) (workers : List (Worker Z)) (histories : List (List Event)) (all : List (List (Option ℕ))) (h : List Event) (here : List (Option ℕ)) → IsTrue (names_channel c)
+    → place ≡ channel_index c → place < length all → here ≡ slice_index_or all place here → h ≡ history_on c histories → AreAuthors workers histories all → AreAuthorsOn c workers h here
+authors_here {Z} c place workers histories all h here names at within is same are number below =
+    ap (λ l. slice_index_or l number None) (is ∙ (get_or_default all place here [] within ∙ ap (λ i. slice_index_or all i []) at))
+    ∙ are c names number (subst (λ (l : List Event). number < length l) same below)
+
+-- what follows where a call answers Ok
+pub ok_then : {T E : Type 0} (r : Result T E) (X Y : Type 0) → (X → Y) → OnOk r X → OnOk r Y
+ok_then (Ok t) X Y f x = f x
+ok_then (Err e) X Y f x = x

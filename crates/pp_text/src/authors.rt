@@ -1,87 +1,118 @@
-//! Who made the events of a channel.
+//! Who made the events of the channels.
 
-ghost use Rattle.std.specs.Prelude.{◌≡◌, ◌<◌, ◌≤◌, ◌==◌, ℕ, None, length, slice_index_or, IfOk, option_map};
-ghost use Rattle.pp_machine.specs.ProcessorNumber.{processor_count, processor_number};
-ghost use Rattle.pp_text.specs.Authors.{or_told};
-ghost use Rattle.pp_channel.specs.Merge.{tells_event};
-ghost use Rattle.pp_text.specs.PrintedReport.{author_place, log_tells};
+ghost use Rattle.std.specs.Prelude.{◌≡◌, ◌<◌, ◌≤◌, ◌==◌, ℕ, [], None, length, slice_index_or, IfOk, IsTrue};
+ghost use Rattle.pp_channel.specs.ChannelNumber.{channel_count, names_channel};
+ghost use Rattle.pp_channel.specs.Merge.{history_on, tells_event};
+ghost use Rattle.pp_machine.specs.ProcessorNumber.{processor_count};
+ghost use Rattle.pp_text.specs.Authors.{AreAuthors, authors_on, or_told};
+ghost use Rattle.pp_text.specs.PrintedReport.{log_tells};
 
-use pp_channel::{ChannelNo, Entry, Seen};
+use pp_channel::{CHANNELS, Channel, Entry, Seen};
 use pp_machine::PpNo;
 use pp_runner::Worker;
 use std::alloc::{AllocError, Allocator};
+use std::marker::Model;
 
-/// The authors of the first `count` events of a channel, by the logs of the workers, which stand in
-/// order.
-pub(crate) fn authors<A: Allocator, B: Allocator>(
+/// The authors of a channel's events, by number, as far as they are known. Contracts see their list.
+#[derive(Drop)]
+pub(crate) struct ChannelAuthors<A: Allocator> {
+    by_number: Vec<Option<PpNo>, A>,
+}
+
+impl<A: Allocator> Model for ChannelAuthors<A> {
+    ghost use Rattle.std.specs.Prelude.{ℕ, List, Option};
+
+    ghost Value = { List (Option ℕ) };
+
+    ghost view = { λ a. a.by_number.items };
+}
+
+impl<A: Allocator> ChannelAuthors<A> {
+    /// Those of so many events, when none is known.
+    fn unknown(alloc: A, count: usize) -> Result<Self, AllocError>
+        ensures length { IfOk result (λ authors. length authors ≡ count) }
+        ensures none { IfOk result (λ authors. (number : ℕ) → slice_index_or authors number None ≡ None) }
+    {
+        let by_number = vec![in alloc; None; count]?;
+        Ok(ChannelAuthors { by_number })
+    }
+
+    /// The author of the event with this number, where it is known.
+    pub(crate) fn of(&self, number: usize) -> Option<PpNo>
+        ensures { result ≡ slice_index_or self.now number None }
+    {
+        match self.by_number.get(number) {
+            Some(author) => *author,
+            None => None,
+        }
+    }
+
+    /// Marks an event, where it has no author yet.
+    fn mark(&mut self, number: usize, author: PpNo)
+        ensures length { length self.new ≡ length self.old }
+        ensures marked { (k : ℕ) → k < length self.old
+            → slice_index_or self.new k None ≡ or_told (slice_index_or self.old k None) (number == k) author }
+    {
+        if number < self.by_number.len() && self.by_number[number].is_none() {
+            self.by_number[number] = Some(author);
+        }
+    }
+}
+
+/// The authors of all events of the channels, by the logs of the workers, which stand in order: for each
+/// channel in order a list by number.
+pub(crate) fn authors<A: Allocator + Copy>(
     alloc: A,
-    workers: &[Worker<B>],
-    channel: ChannelNo,
-    count: usize,
-) -> Result<Vec<Option<PpNo>, A>, AllocError>
+    workers: &[Worker<A>],
+    channels: &[Channel<A>; CHANNELS],
+) -> Result<Vec<ChannelAuthors<A>, A>, AllocError>
     requires { length workers.now ≤ processor_count }
-    ensures length { IfOk result (λ authors. length authors.items ≡ count) }
-    ensures authors { IfOk result (λ authors. (number : ℕ) → number < count
-        → slice_index_or authors.items number None ≡ option_map processor_number (author_place channel workers.now number)) }
+    ensures each_channel { IfOk result (λ authors. length authors.items ≡ channel_count) }
+    ensures authors { IfOk result (λ authors. AreAuthors workers.now channels.now authors.items) }
 {
-    let mut authors = no_authors(alloc, count)?;
+    let mut authors = unknown_authors(alloc, channels)?;
     for (place, worker) in workers.iter().enumerate() {
-        mark(
-            &mut authors,
-            worker.log.as_slice(),
-            channel,
-            PpNo::at(place),
-        );
+        mark(&mut authors, worker.log.as_slice(), PpNo::at(place));
     }
     Ok(authors)
 }
 
-fn no_authors<A: Allocator>(alloc: A, count: usize) -> Result<Vec<Option<PpNo>, A>, AllocError>
-    ensures length { IfOk result (λ authors. length authors.items ≡ count) }
-    ensures none { IfOk result (λ authors. (number : ℕ) → slice_index_or authors.items number None ≡ None) }
+fn unknown_authors<A: Allocator + Copy>(
+    alloc: A,
+    channels: &[Channel<A>; CHANNELS],
+) -> Result<Vec<ChannelAuthors<A>, A>, AllocError>
+    ensures each_channel { IfOk result (λ authors. length authors.items ≡ channel_count) }
+    ensures each_event { IfOk result (λ authors. (c : ℕ) → length (authors_on c authors.items) ≡ length (history_on c channels.now)) }
+    ensures none { IfOk result (λ authors. (c number : ℕ) → slice_index_or (authors_on c authors.items) number None ≡ None) }
 {
-    vec![in alloc; None; count]
+    let mut authors = Vec::with_capacity(alloc, CHANNELS)?;
+    for channel in channels {
+        authors.push(ChannelAuthors::unknown(alloc, channel.history().len())?)?;
+    }
+    Ok(authors)
 }
 
-/// Marks the events that a log tells, where they have no author yet.
-fn mark<A: Allocator>(
-    authors: &mut Vec<Option<PpNo>, A>,
-    log: &[Entry],
-    channel: ChannelNo,
-    author: PpNo,
-)
-    ensures length { length authors.new.items ≡ length authors.old.items }
-    ensures marked { (number : ℕ) → number < length authors.old.items
-        → slice_index_or authors.new.items number None ≡ or_told (slice_index_or authors.old.items number None) (log_tells channel number log.now) author }
+/// Marks the events that a log tells, on all channels, where they have no author yet.
+fn mark<A: Allocator>(authors: &mut Vec<ChannelAuthors<A>, A>, log: &[Entry], author: PpNo)
+    requires { length authors.old.items ≡ channel_count }
+    ensures each_channel { length authors.new.items ≡ channel_count }
+    ensures each_event { (c : ℕ) → length (authors_on c authors.new.items) ≡ length (authors_on c authors.old.items) }
+    ensures marked { (c number : ℕ) → IsTrue (names_channel c) → number < length (authors_on c authors.old.items)
+        → slice_index_or (authors_on c authors.new.items) number None ≡ or_told (slice_index_or (authors_on c authors.old.items) number None) (log_tells c number log.now) author }
 {
     for entry in log {
-        mark_entry(authors, entry, channel, author);
+        mark_entry(authors, entry, author);
     }
 }
 
-fn mark_entry<A: Allocator>(
-    authors: &mut Vec<Option<PpNo>, A>,
-    entry: &Entry,
-    channel: ChannelNo,
-    author: PpNo,
-)
-    ensures length { length authors.new.items ≡ length authors.old.items }
-    ensures marked { (number : ℕ) → number < length authors.old.items
-        → slice_index_or authors.new.items number None ≡ or_told (slice_index_or authors.old.items number None) (tells_event channel number entry.now) author }
+fn mark_entry<A: Allocator>(authors: &mut Vec<ChannelAuthors<A>, A>, entry: &Entry, author: PpNo)
+    requires { length authors.old.items ≡ channel_count }
+    ensures each_channel { length authors.new.items ≡ channel_count }
+    ensures each_event { (c : ℕ) → length (authors_on c authors.new.items) ≡ length (authors_on c authors.old.items) }
+    ensures marked { (c number : ℕ) → IsTrue (names_channel c) → number < length (authors_on c authors.old.items)
+        → slice_index_or (authors_on c authors.new.items) number None ≡ or_told (slice_index_or (authors_on c authors.old.items) number None) (tells_event c number entry.now) author }
 {
-    if let Seen::Did(_) = entry.what
-        && entry.channel.get() == channel.get()
-    {
-        mark_event(authors, entry.number as usize, author);
-    }
-}
-
-fn mark_event<A: Allocator>(authors: &mut Vec<Option<PpNo>, A>, event: usize, author: PpNo)
-    ensures length { length authors.new.items ≡ length authors.old.items }
-    ensures marked { (number : ℕ) → number < length authors.old.items
-        → slice_index_or authors.new.items number None ≡ or_told (slice_index_or authors.old.items number None) (event == number) author }
-{
-    if event < authors.len() && authors[event].is_none() {
-        authors[event] = Some(author);
+    if let Seen::Did(_) = entry.what {
+        authors[entry.channel.index()].mark(entry.number as usize, author);
     }
 }

@@ -1,16 +1,18 @@
 //! The whole printed text of a report.
 
-ghost use Rattle.std.specs.Prelude.{◌≡◌, ◌≤◌, ◌++◌, ℕ, All, Option, length, slice_get, OnOk, IfOk, IfSome, IsTrue, option_map};
+ghost use Rattle.std.specs.Prelude.{◌≡◌, ◌≤◌, ◌++◌, ℕ, All, List, Option, length, slice_get, OnOk, IfOk, IfSome, IsTrue, option_map};
 ghost use Rattle.std.specs.List.{enumerate_from, flat_map};
-ghost use Rattle.pp_channel.specs.ChannelNumber.{names_channel};
+ghost use Rattle.pp_channel.specs.ChannelNumber.{channel_count, names_channel};
 ghost use Rattle.pp_channel.specs.Merge.{history_on};
 ghost use Rattle.pp_machine.specs.ProcessorNumber.{processor_count, processor_index, processor_number};
+ghost use Rattle.pp_runner.specs.declared.worker.Worker.{Worker};
+ghost use Rattle.pp_text.specs.Authors.{AreAuthors, AreAuthorsOn};
 ghost use Rattle.pp_text.specs.PrintedText.{each_below, is_named, used_channel_line};
 ghost use Rattle.pp_text.specs.PrintedReport.{channel_events, line_by, named_worker_line, numbered_event_line, printed_report};
 ghost use Rattle.pp_text.specs.ReportLaw.{FitsItsEnd, FitsItsLine, FitsItsReport, shown_end, told_by, told_events};
 ghost use Rattle.pp_text.specs.TextLaw.{IsListed};
 
-use crate::authors::authors;
+use crate::authors::{ChannelAuthors, authors};
 use crate::machine_text::NUMBERS;
 use crate::printed_line::{push_channel, push_numbered_event, push_worker};
 use pp_channel::{CHANNELS, Channel, ChannelNo, Event};
@@ -47,44 +49,44 @@ fn push_events<A: Allocator + Copy>(
     ensures text { OnOk result (text.new.items ≡ text.old.items ++ each_below NUMBERS (channel_events workers.now channels.now)) }
     ensures fits { OnOk result ((c : ℕ) → IsTrue (names_channel c) → All FitsItsLine (told_events c workers.now (history_on c channels.now))) }
 {
+    let authors = authors(alloc, workers, channels)?;
     for number in 0..NUMBERS {
-        push_channel_events(alloc, text, workers, channels, number)?;
+        push_channel_events(text, channels, &authors, number)?;
     }
     Ok(())
 }
 
-fn push_channel_events<A: Allocator + Copy>(
-    alloc: A,
+fn push_channel_events<A: Allocator>(
     text: &mut Vec<u8, A>,
-    workers: &[Worker<A>],
     channels: &[Channel<A>; CHANNELS],
+    authors: &[ChannelAuthors<A>],
     number: u8,
 ) -> Result<(), AllocError>
-    requires { length workers.now ≤ processor_count }
-    ensures text { OnOk result (text.new.items ≡ text.old.items ++ channel_events workers.now channels.now number) }
-    ensures fits { OnOk result (IsTrue (names_channel number) → All FitsItsLine (told_events number workers.now (history_on number channels.now))) }
+    requires { length authors.now ≡ channel_count }
+    ensures text { OnOk result ((workers : List (Worker A)) → AreAuthors workers channels.now authors.now
+        → text.new.items ≡ text.old.items ++ channel_events workers channels.now number) }
+    ensures fits { OnOk result ((workers : List (Worker A)) → AreAuthors workers channels.now authors.now
+        → IsTrue (names_channel number) → All FitsItsLine (told_events number workers (history_on number channels.now))) }
 {
     match ChannelNo::new(number) {
-        Some(c) => push_history(alloc, text, workers, c, channel_of(channels, c)),
+        Some(c) => push_history(text, c, channel_of(channels, c), &authors[c.index()]),
         None => Ok(()),
     }
 }
 
-fn push_history<A: Allocator + Copy>(
-    alloc: A,
+fn push_history<A: Allocator>(
     text: &mut Vec<u8, A>,
-    workers: &[Worker<A>],
     c: ChannelNo,
     channel: &Channel<A>,
+    authors: &ChannelAuthors<A>,
 ) -> Result<(), AllocError>
-    requires { length workers.now ≤ processor_count }
-    ensures text { OnOk result (text.new.items ≡ text.old.items ++ flat_map (numbered_event_line c workers.now) (enumerate_from 0 channel.now)) }
-    ensures fits { OnOk result (All FitsItsLine (told_events c workers.now channel.now)) }
+    ensures text { OnOk result ((workers : List (Worker A)) → AreAuthorsOn c workers channel.now authors.now
+        → text.new.items ≡ text.old.items ++ flat_map (numbered_event_line c workers) (enumerate_from 0 channel.now)) }
+    ensures fits { OnOk result ((workers : List (Worker A)) → AreAuthorsOn c workers channel.now authors.now
+        → All FitsItsLine (told_events c workers channel.now)) }
 {
-    let events = channel.history();
-    let authors = authors(alloc, workers, c, events.len())?;
-    for (number, event) in events.iter().enumerate() {
-        push_event_by(text, c, number, &authors[number], event)?;
+    for (number, event) in channel.history().iter().enumerate() {
+        push_event_by(text, c, number, &authors.of(number), event)?;
     }
     Ok(())
 }

@@ -7,5 +7,5 @@ decreases-beside g l = 3 * vec_len l.lines + 2
 abbrev pub decreases-beside-scope : goal.decreases-beside-scope
 decreases-beside-scope g l = 3 * vec_len l.lines + 1
 
-abbrev pub decreases-run_from : goal.decreases-run_from
-decreases-run_from g l = 3 * vec_len l.lines + 3
+abbrev pub decreases-run_first : goal.decreases-run_first
+decreases-run_first g l = 3 * vec_len l.lines + 3

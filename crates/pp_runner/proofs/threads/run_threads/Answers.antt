@@ -1,5 +1,6 @@
-use Rattle.std.proofs.Common.{rules, ◌≡◌, ◌∙◌, ℕ, ◌+◌, ◌*◌, List, ◌++◌, length, drop, sym, ap, subst, arith}
+use Rattle.std.proofs.Common.{rules, ◌≡◌, ◌∙◌, ℕ, ◌+◌, ◌*◌, List, ◌++◌, length, sym, ap, subst, arith}
 use Rattle.std.specs.Prelude.{All}
+use Rattle.std.proofs.lemmas.List.{take_all}
 use Rattle.std.proofs.lemmas.List.Elements.{All-weaker}
 use Rattle.pp_channel.specs.LineState.{LineState, KnowsAll, joined}
 use Rattle.pp_channel.specs.Merge.{Merges, no_opening, history_on}
@@ -7,7 +8,7 @@ use Rattle.pp_channel.specs.RisingLog.{seen_on}
 use Rattle.pp_channel.specs.declared.entry.Entry.{Entry}
 use Rattle.pp_channel.proofs.OpeningLemmas.{merges_before}
 use Rattle.pp_machine.specs.Headline.{opening_history}
-use Rattle.pp_machine.proofs.ProcessorPlaces.{place_of_first}
+use Rattle.pp_machine.specs.Processor.{Processor}
 use Rattle.pp_runner.proofs.CrewLemmas.{workers_count}
 use Rattle.pp_runner.proofs.EndLemmas.{worn_later}
 use Rattle.pp_runner.specs.Crew.{IsFresh}
@@ -22,7 +23,8 @@ returns g c =
     let ws = c.in_ok-workers.field-0.workers.items in
     let line = c.in_ok-workers.field-0.line in
     let workers : AreWorkers c.args.machine.now.processors c.in_ok-new.field-0 c.args.limits.steps ws =
-    subst (λ (i : ℕ). AreWorkers (drop i c.args.machine.now.processors) c.in_ok-new.field-0 c.args.limits.steps ws) place_of_first ended.workers in
+    subst (λ (loads : List Processor). AreWorkers loads c.in_ok-new.field-0 c.args.limits.steps ws)
+    (take_all _ c.args.machine.now.processors (omega (arith, c.turns-turns.ensures.sound.processors, opened.each_processor))) ended.workers in
     let channels = c.in_ok-channels.channels in
     let closed = c.in_ok-channels.ensures.closed in
     let whole : line.whole ≡ c.in_ok-first.first.whole = ended.kin.whole ∙ ap (λ l. l.whole) c.of-family.ensures in
@@ -40,10 +42,10 @@ returns g c =
           (λ k. let all = known.seen k in let less = c.in_ok-channels.ensures.nothing_forgotten k in omega (arith, all, less))) ws ended.worn;
     }
 
-pub run_from-requires-after_bounds : goal.run_from-requires-after_bounds
-run_from-requires-after_bounds g c κs within = record {
+pub run_first-requires-after_bounds : goal.run_first-requires-after_bounds
+run_first-requires-after_bounds g c κs within = record {
   each = c.turns-turns.ensures.sound.processors;
-  count = omega (arith, place_of_first, c.in_ok-first.ensures.each_processor, c.in_ok-first.lines.ok.0);
+  count = omega (arith, c.in_ok-first.ensures.each_processor, c.in_ok-first.lines.ok.0);
   some = omega (arith, c.in_ok-first.ensures.each_processor, c.in_ok-first.lines.ok.0);
   fresh = subst (λ (family : LineState). All (IsFresh (2 * c.args.limits.steps + 1) family) c.in_ok-first.lines.items) (sym c.of-family.ensures)
       (subst (λ (steps : ℕ). All (IsFresh (2 * steps + 1) c.in_ok-first.first) c.in_ok-first.lines.items) c.steps.ensures.value c.in_ok-first.ensures.fresh);

@@ -1,11 +1,16 @@
 use Rattle.std.proofs.Common.{◌≡◌, ◌<◌, ℕ, None, length, slice_index_or, option_map, take}
+use Rattle.std.specs.Prelude.{IsTrue}
+use Rattle.pp_channel.specs.ChannelNumber.{channel_count, names_channel}
+use Rattle.pp_channel.specs.Merge.{history_on}
 use Rattle.pp_machine.specs.ProcessorNumber.{processor_number}
+use Rattle.pp_text.specs.Authors.{authors_on}
 use Rattle.pp_text.specs.PrintedReport.{author_place}
 use Rattle.pp_text.proofs.authors.authors.Given as goal
 
 abbrev pub invariant-loop-place : goal.invariant-loop-place
 invariant-loop-place g l = record {
-  long : length l.authors.items ≡ l.count;
-  found : (number : ℕ) → number < l.count
-      → slice_index_or l.authors.items number None ≡ option_map processor_number (author_place l.channel (take l.place l.workers) number);
+  each : length l.authors.items ≡ channel_count;
+  each_event : (c : ℕ) → length (authors_on c l.authors.items) ≡ length (history_on c l.channels);
+  found : (c number : ℕ) → IsTrue (names_channel c) → number < length (history_on c l.channels)
+      → slice_index_or (authors_on c l.authors.items) number None ≡ option_map processor_number (author_place c (take l.place l.workers) number);
 }

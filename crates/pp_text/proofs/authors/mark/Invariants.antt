@@ -1,11 +1,15 @@
 use Rattle.std.proofs.Common.{◌≡◌, ◌<◌, ℕ, None, length, slice_index_or, take}
-use Rattle.pp_text.specs.Authors.{or_told}
+use Rattle.std.specs.Prelude.{IsTrue}
+use Rattle.pp_channel.specs.ChannelNumber.{channel_count, names_channel}
+use Rattle.pp_text.specs.Authors.{authors_on, or_told}
 use Rattle.pp_text.specs.PrintedReport.{log_tells}
 use Rattle.pp_text.proofs.authors.mark.Given as goal
 
 abbrev pub invariant-loop-entry : goal.invariant-loop-entry
 invariant-loop-entry g l = record {
-  long : length l.authors.items ≡ length l.fn.authors.items;
-  marked : (number : ℕ) → number < length l.fn.authors.items
-      → slice_index_or l.authors.items number None ≡ or_told (slice_index_or l.fn.authors.items number None) (log_tells l.channel number (take l.entry-index l.log)) l.author;
+  each : length l.authors.items ≡ channel_count;
+  each_event : (c : ℕ) → length (authors_on c l.authors.items) ≡ length (authors_on c l.fn.authors.items);
+  marked : (c number : ℕ) → IsTrue (names_channel c) → number < length (authors_on c l.fn.authors.items)
+      → slice_index_or (authors_on c l.authors.items) number None
+      ≡ or_told (slice_index_or (authors_on c l.fn.authors.items) number None) (log_tells c number (take l.entry-index l.log)) l.author;
 }

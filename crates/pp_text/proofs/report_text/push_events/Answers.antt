@@ -1,7 +1,8 @@
-use Rattle.std.proofs.Common.{ℕ, ◌<◌, All, arith}
+use Rattle.std.proofs.Common.{ℕ, List, Option, All, sym, subst, arith}
 use Rattle.std.specs.Prelude.{IsTrue}
 use Rattle.pp_channel.specs.ChannelNumber.{names_channel}
 use Rattle.pp_channel.specs.Merge.{history_on}
+use Rattle.pp_text.specs.Authors.{AreAuthors}
 use Rattle.pp_text.specs.ReportLaw.{FitsItsLine, told_events}
 use Rattle.pp_text.proofs.TextLemmas.{text_before, text_goes_on}
 use Rattle.pp_text.proofs.TextLawLemmas.{below_goes_on, channel_digits}
@@ -11,11 +12,14 @@ pub loop-number-init : goal.loop-number-init
 loop-number-init g c = (text_before _ _, λ n within. absurd (omega (arith, within)))
 
 pub loop-number-preserved : goal.loop-number-preserved
-loop-number-preserved g c = (
-  text_goes_on _ _ _ _ _ c.loop-number.invariant.0 c.in_ok-push_channel_events.ensures.text,
-  below_goes_on (λ (n : ℕ). IsTrue (names_channel n) → All FitsItsLine (told_events n c.args.workers.now (history_on n c.args.channels.now)))
-      c.loop-number.number c.loop-number.invariant.1 c.in_ok-push_channel_events.ensures.fits,
-)
+loop-number-preserved g c =
+    let workers = c.args.workers.now in
+    let are : AreAuthors workers c.args.channels.now c.deref.result.now =
+    subst (λ (all : List (List (Option ℕ))). AreAuthors workers c.args.channels.now all) (sym c.deref.ensures.value) c.in_ok-authors.ensures.authors in (
+      text_goes_on _ _ _ _ _ c.loop-number.invariant.0 (c.in_ok-push_channel_events.ensures.text workers are),
+      below_goes_on (λ (n : ℕ). IsTrue (names_channel n) → All FitsItsLine (told_events n workers (history_on n c.args.channels.now)))
+          c.loop-number.number c.loop-number.invariant.1 (c.in_ok-push_channel_events.ensures.fits workers are),
+    )
 
 pub returns-clause-fits : goal.returns-clause-fits
 returns-clause-fits g c = λ n is. let low = channel_digits n is in c.loop-number.invariant.1 n (omega (arith, low)) is

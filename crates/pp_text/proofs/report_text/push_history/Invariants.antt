@@ -1,10 +1,12 @@
-use Rattle.std.proofs.Common.{◌≡◌, ◌++◌, All, take}
+use Rattle.std.proofs.Common.{◌≡◌, ◌++◌, List, All, take}
 use Rattle.std.specs.List.{enumerate_from, flat_map}
+use Rattle.pp_runner.specs.declared.worker.Worker.{Worker}
+use Rattle.pp_text.specs.Authors.{AreAuthorsOn}
 use Rattle.pp_text.specs.PrintedReport.{numbered_event_line}
 use Rattle.pp_text.specs.ReportLaw.{FitsItsLine, told_events}
 use Rattle.pp_text.proofs.report_text.push_history.Given as goal
 
 abbrev pub invariant-loop-number : goal.invariant-loop-number
-invariant-loop-number g l =
-    (l.text.items ≡ l.fn.text.items ++ flat_map (numbered_event_line l.c l.workers) (enumerate_from 0 (take l.number l.channel)))
-    × All FitsItsLine (told_events l.c l.workers (take l.number l.channel))
+invariant-loop-number g l = (workers : List (Worker g.row.A.Denot)) → AreAuthorsOn l.c workers l.channel l.authors
+    → (l.text.items ≡ l.fn.text.items ++ flat_map (numbered_event_line l.c workers) (enumerate_from 0 (take l.number l.channel)))
+    × All FitsItsLine (told_events l.c workers (take l.number l.channel))
