@@ -8,10 +8,10 @@ use Rattle.pp_channel.specs.LineState.{LineState, IsSplitFrom, joined, ForgetsNo
 use Rattle.pp_channel.specs.RisingLog.{IsRising, seen_on}
 use Rattle.pp_channel.specs.declared.entry.Entry.{Entry}
 use Rattle.pp_machine.specs.MachineState.{MachineState, processor_of}
-use Rattle.pp_machine.specs.Processor.{Processor, new_processor}
-use Rattle.pp_machine.specs.ProcessorNumber.{processor_count, processor_index, processor_in_turn}
+use Rattle.pp_machine.specs.Processor.{Processor, no_processor}
+use Rattle.pp_machine.specs.ProcessorNumber.{processor_count, processor_index, processor_number}
 use Rattle.pp_machine.specs.Replay.{sights_given}
-use Rattle.pp_machine.proofs.ProcessorPlaces.{place_in_turn}
+use Rattle.pp_machine.proofs.ProcessorPlaces.{place_of_number}
 use Rattle.pp_runner.proofs.LogLemmas.{settles, stands_settled}
 use Rattle.pp_runner.proofs.EndLemmas.{worn_later}
 use Rattle.pp_runner.proofs.LineLemmas.{same_line_still, same_line_twice}
@@ -138,13 +138,13 @@ not_given_up patience line finish (Err e) other was = tt
 not_given_up patience line finish (Ok ended) other was = λ is. absurd (other (sym was ∙ is))
 
 -- the processor of the place behind so many
-place_behind : (n place : ℕ) → n ≡ processor_in_turn place → place < processor_count → processor_index n ≡ place
-place_behind n place is below = let within : place % processor_count ≡ place = omega arith in ap processor_index is ∙ (place_in_turn place ∙ within)
+place_behind : (n place : ℕ) → n ≡ processor_number place → place < processor_count → processor_index n ≡ place
+place_behind n place is below = ap processor_index is ∙ place_of_number place below
 
 -- the first processors, with the one that comes next
 processors_push : (m : MachineState) (n place : ℕ) → processor_index n ≡ place → place < length m.processors → take (place + 1) m.processors ≡ take place m.processors ++ processor_of n m ∷ []
 processors_push m n place at below =
-    take_more m.processors place new_processor below ∙ ap (λ k. take place m.processors ++ slice_index_or m.processors k new_processor ∷ []) (sym at)
+    take_more m.processors place no_processor below ∙ ap (λ k. take place m.processors ++ slice_index_or m.processors k no_processor ∷ []) (sym at)
 
 -- the last line, and those before it
 pub record IsTaken (m : MachineState) (room : ℕ) (family line : LineState) (others : List LineState) : Type 0 where
@@ -177,7 +177,7 @@ ready_before m room family line others taken some = record {
 
 -- the first worker
 pub ended_alone : {A E : Type 0} (m : MachineState) (n room size steps total : ℕ) (load : Processor) (family line : LineState) (lines others : List LineState) (r : Result (Crew A) E) → AreReady m room family lines
-    → lines ≡ others ++ line ∷ [] → total ≡ length lines → total ≤ 1 → n ≡ processor_in_turn (length others) → load ≡ processor_of n m
+    → lines ≡ others ++ line ∷ [] → total ≡ length lines → total ≤ 1 → n ≡ processor_number (length others) → load ≡ processor_of n m
     → IfOk r (λ crew. IsAlone load size steps line crew.workers.items crew.line)
     → IfOk r (λ crew. AreEnded (take total m.processors) size steps total family crew.workers.items crew.line)
 ended_alone m n room size steps total load family line lines others (Err e) ready is sum few at load_is one = tt
@@ -193,7 +193,7 @@ ended_alone {A} m n room size steps total load family line lines others (Ok crew
 
 -- workers, and the one behind them
 pub ended_beside : {A E : Type 0} (m : MachineState) (n room size steps left total : ℕ) (family line mine after : LineState) (others : List LineState) (w : Worker A) (ws : List (Worker A)) (r : Result (Crew A) E)
-    → IsTaken m room family line others → n ≡ processor_in_turn left → left ≡ length others → total ≡ left + 1
+    → IsTaken m room family line others → n ≡ processor_number left → left ≡ length others → total ≡ left + 1
     → IsEnded (processor_of n m) size steps line w mine → AreEnded (take left m.processors) size steps left family ws after
     → IfOk r (λ crew. crew.workers.items ≡ ws ++ w ∷ []) → IfOk r (λ crew. crew.line ≡ joined after mine) → IfOk r (λ crew. ForgetsNothing after crew.line × ForgetsNothing mine crew.line)
     → IfOk r (λ crew. AreEnded (take total m.processors) size steps total family crew.workers.items crew.line)

@@ -1,5 +1,5 @@
 -- What a report of a run says.
-use Rattle.std.specs.Prelude.{◌≡◌, ◌≤◌, length, All}
+use Rattle.std.specs.Prelude.{◌≡◌, ◌≤◌, length, take, All}
 use Rattle.std.specs.Borrow.{RattleType}
 use Rattle.std.specs.Mem.{FitsInMemory}
 use Rattle.std.specs.declared.alloc.Allocator.{Ghosts}
@@ -8,21 +8,21 @@ use Rattle.pp_channel.specs.Law.{KeepsLaw}
 use Rattle.pp_channel.specs.Merge.{Merges, history_on}
 use Rattle.pp_machine.specs.Headline.{opening_history}
 use Rattle.pp_machine.specs.MachineState.{MachineState}
-use Rattle.pp_machine.specs.ProcessorNumber.{processor_count}
+use Rattle.pp_machine.specs.Profile.{processors_in}
 use Rattle.pp_runner.specs.RunLimits.{RunLimits}
 use Rattle.pp_runner.specs.WorkerEnd.{WornWithCause}
 use Rattle.pp_runner.specs.WorkerReport.{AreWorkers, logs_of}
 use Rattle.pp_runner.specs.contracts.report.Report.{the_row}
 use Rattle.pp_runner.specs.declared.report.Report.{Report}
 
--- A report of a run of this machine within these limits: a worker for each processor, in their order, and the channels,
+-- A report of a run of this machine within these limits: a worker for each processor of its profile, in their order, and the channels,
 -- whose histories are lawful, keep the law of sessions, and are what the workers' logs merge to. The workers began when
 -- dead start's channels were open: nothing that one did or saw is older than the opening history of its channel. A worker
 -- ended as worn only at a channel whose history has as many events as its word can count. No report shows how often a
 -- worker was held, so the patience is not told.
 pub record IsReportOf {A : Type 0} (limits : RunLimits) (machine : MachineState) (report : Report A) : Type 0 where
-  pub each_processor : length report.ends.items ≡ processor_count
-  pub workers : AreWorkers machine.processors (length machine.central) limits.steps report.ends.items
+  pub each_processor : length report.ends.items ≡ processors_in machine.profile
+  pub workers : AreWorkers (take (processors_in machine.profile) machine.processors) (length machine.central) limits.steps report.ends.items
   pub lawful : All IsLawful report.channels
   pub law : All KeepsLaw report.channels
   pub twelve_bits : All HasTwelveBitWords report.channels

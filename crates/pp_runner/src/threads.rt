@@ -4,7 +4,7 @@ ghost use Rattle.std.specs.Prelude.{◌≡◌, ◌+◌, [], All, length, vec_len
 ghost use Rattle.pp_channel.specs.LineState.{AreClosed, ForgetsNothing, joined};
 ghost use Rattle.pp_channel.specs.Merge.{IsOpeningLog};
 ghost use Rattle.pp_machine.specs.Headline.{opening_history};
-ghost use Rattle.pp_machine.specs.ProcessorNumber.{processor_count};
+ghost use Rattle.pp_machine.specs.Profile.{processors_in};
 ghost use Rattle.pp_runner.specs.Crew.{IsFresh};
 ghost use Rattle.pp_runner.specs.Labour.{HasSeen};
 ghost use Rattle.pp_runner.specs.Report.{IsReportOf};
@@ -18,7 +18,7 @@ use crate::report::Report;
 use crate::run_fault::RunFault;
 use crate::site::Site;
 use pp_channel::{CHANNELS, Channel, Line, Memory};
-use pp_machine::{Machine, PROCESSORS};
+use pp_machine::Machine;
 use std::alloc::Allocator;
 use std::snapshot::Snapshot;
 use std::sync::Wait;
@@ -31,16 +31,17 @@ fn open_family<A: Allocator + Copy>(
     machine: &Machine<A>,
     room: u32,
 ) -> Result<(Line<A>, Vec<Line<A>, A>), Memory>
-    ensures each_processor { IfOk result (λ opened. vec_len opened.1 ≡ processor_count) }
+    ensures each_processor { IfOk result (λ opened. vec_len opened.1 ≡ processors_in machine.now.profile) }
     ensures fresh { IfOk result (λ opened. All (IsFresh room opened.0) opened.1.items) }
     ensures opening { IfOk result (λ opened. IsOpeningLog (λ c. opening_history c machine.now) opened.0.log.entries) }
     ensures seen { IfOk result (λ opened. HasSeen (λ c. length (opening_history c machine.now)) opened.0) }
     ensures share { IfOk result (λ opened. opened.0.shares ≡ 1) }
-    ensures whole { IfOk result (λ opened. opened.0.whole ≡ processor_count + 1) }
+    ensures whole { IfOk result (λ opened. opened.0.whole ≡ processors_in machine.now.profile + 1) }
 {
-    let mut first = opening_line(alloc, machine, PROCESSORS as u32 + 1)?;
-    let mut lines = Vec::with_capacity(alloc, PROCESSORS)?;
-    for count in 0..PROCESSORS {
+    let processors = machine.profile().processors();
+    let mut first = opening_line(alloc, machine, processors as u32 + 1)?;
+    let mut lines = Vec::with_capacity(alloc, processors)?;
+    for count in 0..processors {
         lines.push(first.split(room)?)?;
     }
     Ok((first, lines))
@@ -64,7 +65,7 @@ pub fn run_threads<R: Threads + Wait + Sync, G: Gate + Sync, A: Allocator + Copy
     requires { machine.now.trace ≡ [] }
     ensures { IfOk result (λ report. IsReportOf limits machine.now report) }
 {
-    // This call tells the proof that the machine has ten processors.
+    // This call tells the proof what holds of every machine.
     let _turns = machine.turns();
     let site = Site {
         alloc,

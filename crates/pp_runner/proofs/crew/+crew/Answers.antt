@@ -1,6 +1,6 @@
 use Rattle.std.proofs.Common.{◌+◌, ◌*◌, ◌∙◌, sym, ap, subst, vec_len, rules, arith}
 use Rattle.pp_machine.specs.MachineState.{processor_of}
-use Rattle.pp_machine.specs.ProcessorNumber.{processor_in_turn}
+use Rattle.pp_machine.specs.ProcessorNumber.{processor_number}
 use Rattle.pp_runner.proofs.CrewLemmas.{taken_of, some_left, ready_before, ended_alone, ended_beside, promised, promise_kept}
 use Rattle.pp_runner.specs.Crew.{IsEnded}
 use Rattle.pp_runner.specs.declared.crew.EndOf.{EndOf}
@@ -30,7 +30,7 @@ beside-scope-returns g t c =
     ended_beside c.captures.machine.now c.at-number.result (2 * c.captures.site.now.limits.steps + 1) c.captures.site.now.central c.captures.site.now.limits.steps (vec_len c.pop.new.self) (vec_len c.captures.lines)
     c.captures.family.value c.in-Some.line last.line others.line c.pop.new.self.items last.worker others.workers.items c.combined.result
     (taken_of c.captures.machine.now (2 * c.captures.site.now.limits.steps + 1) c.captures.family.value c.in-Some.line c.captures.lines.items c.pop.new.self.items c.in-Some.ensures.items c.requires.6)
-    (c.at-number.ensures ∙ ap processor_in_turn c.len.ensures) c.pop.new.self.ok.0
+    (c.at-number.ensures.number ∙ ap processor_number c.len.ensures) c.pop.new.self.ok.0
     (omega (arith, c.in-Some.ensures.len)) one c.in_ok-others.ensures c.combined.ensures.workers c.combined.ensures.line c.combined.ensures.nothing_forgotten
 
 pub fn::beside::scope+FnOnce::call_once-scope-requires : goal.fn::beside::scope+FnOnce::call_once-scope-requires
@@ -39,7 +39,7 @@ fn::beside::scope+FnOnce::call_once-scope-requires g t c = search rules
 pub run_first-returns : goal.run_first-returns
 run_first-returns g t c =
     ended_alone c.args.machine.now c.at-number.result (2 * c.args.site.now.limits.steps + 1) c.args.site.now.central c.args.site.now.limits.steps (vec_len c.args.lines) c.pp.result.now c.args.family.value c.in-Some.line c.args.lines.items c.pop.new.self.items c.alone.result
-    c.requires c.in-Some.ensures.items c.args.lines.ok.0 (omega (arith, c.len.ensures, c.if-len-gt1.false)) (c.at-number.ensures ∙ ap processor_in_turn (c.len-2.ensures ∙ c.pop.new.self.ok.0)) c.pp.ensures c.alone.ensures
+    c.requires c.in-Some.ensures.items c.args.lines.ok.0 (omega (arith, c.len.ensures, c.if-len-gt1.false)) (c.at-number.ensures.number ∙ ap processor_number (c.len-2.ensures ∙ c.pop.new.self.ok.0)) c.pp.ensures c.alone.ensures
 
 pub beside-returns : goal.beside-returns
 beside-returns g t c = c.scoped.ensures.1

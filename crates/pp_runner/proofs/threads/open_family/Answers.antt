@@ -5,6 +5,7 @@ use Rattle.pp_channel.specs.LineState.{LineState}
 use Rattle.pp_channel.specs.Merge.{IsOpeningLog}
 use Rattle.pp_channel.specs.declared.entry.Entry.{Entry}
 use Rattle.pp_machine.specs.Headline.{opening_history}
+use Rattle.pp_machine.specs.Profile.{processors_in}
 use Rattle.pp_runner.proofs.CrewLemmas.{split_kin, same_seen}
 use Rattle.pp_runner.specs.Crew.{IsFresh}
 use Rattle.pp_runner.proofs.threads.open_family.Goals as goal
@@ -13,14 +14,14 @@ pub loop-count-init : goal.loop-count-init
 loop-count-init g c = record {
   opening = c.in_ok-first.ensures.log;
   seen = c.in_ok-first.ensures.seen;
-  whole = c.in_ok-first.ensures.whole;
-  shares = omega (arith, c.in_ok-first.ensures.shares);
+  whole = let many = (c.processors-processors.ensures ∙ ap (λ p. processors_in p) c.profile.ensures) in omega (arith, c.in_ok-first.ensures.whole, many);
+  shares = let many = (c.processors-processors.ensures ∙ ap (λ p. processors_in p) c.profile.ensures) in omega (arith, c.in_ok-first.ensures.shares, many);
   fresh = subst (λ (ls : List LineState). All (IsFresh c.args.room c.in_ok-first.first) ls) (sym c.in_ok-lines.ensures.items) (All-nil (IsFresh c.args.room c.in_ok-first.first));
   made = omega (arith, c.in_ok-lines.ensures.len);
 }
 
 pub split-requires : goal.split-requires
-split-requires g c = omega (arith, c.loop-count.invariant.shares, c.loop-count-test.true)
+split-requires g c = let many = (c.processors-processors.ensures ∙ ap (λ p. processors_in p) c.profile.ensures) in omega (arith, many, c.loop-count.invariant.shares, c.loop-count-test.true)
 
 pub loop-count-preserved : goal.loop-count-preserved
 loop-count-preserved g c =
@@ -28,14 +29,14 @@ loop-count-preserved g c =
       opening = subst (λ (log : List Entry). IsOpeningLog (λ k. opening_history k c.args.machine.now) log) (sym (ap (λ l. l.log.entries) parent)) c.loop-count.invariant.opening;
       seen = same_seen (λ k. length (opening_history k c.args.machine.now)) c.loop-count.first c.split.new.self (ap (λ l. l.seen) parent) c.loop-count.invariant.seen;
       whole = ap (λ l. l.whole) parent ∙ c.loop-count.invariant.whole;
-      shares = omega (arith, ap (λ l. l.shares) parent, c.loop-count.invariant.shares, c.loop-count-test.true);
+      shares = let many = (c.processors-processors.ensures ∙ ap (λ p. processors_in p) c.profile.ensures) in omega (arith, many, ap (λ l. l.shares) parent, c.loop-count.invariant.shares, c.loop-count-test.true);
       fresh = subst (λ (ls : List LineState). All (IsFresh c.args.room c.split.new.self) ls) (sym c.in_ok-push.ensures.items)
           (split_kin c.args.room c.loop-count.first c.split.new.self c.in_ok-split.field-0 c.loop-count.lines.items parent c.in_ok-split.ensures.line c.loop-count.invariant.fresh);
       made = omega (arith, c.in_ok-push.ensures.len, c.loop-count.invariant.made);
     }
 
 pub returns-clause-each_processor : goal.returns-clause-each_processor
-returns-clause-each_processor g c = omega (arith, c.loop-count.invariant.made, c.loop-count-test.false, c.loop-count.auto.count-end)
+returns-clause-each_processor g c = let many = (c.processors-processors.ensures ∙ ap (λ p. processors_in p) c.profile.ensures) in omega (arith, many, c.loop-count.invariant.made, c.loop-count-test.false, c.loop-count.auto.count-end)
 
 pub returns-clause-fresh : goal.returns-clause-fresh
 returns-clause-fresh g c = c.loop-count.invariant.fresh
@@ -47,7 +48,7 @@ pub returns-clause-seen : goal.returns-clause-seen
 returns-clause-seen g c = c.loop-count.invariant.seen
 
 pub returns-clause-share : goal.returns-clause-share
-returns-clause-share g c = omega (arith, c.loop-count.invariant.shares, c.loop-count-test.false, c.loop-count.auto.count-end)
+returns-clause-share g c = let many = (c.processors-processors.ensures ∙ ap (λ p. processors_in p) c.profile.ensures) in omega (arith, many, c.loop-count.invariant.shares, c.loop-count-test.false, c.loop-count.auto.count-end)
 
 pub returns-clause-whole : goal.returns-clause-whole
 returns-clause-whole g c = c.loop-count.invariant.whole

@@ -1,6 +1,6 @@
-use Rattle.std.proofs.Common.{rules, ◌≡◌, ◌∙◌, ℕ, ◌+◌, ◌*◌, List, ◌++◌, length, sym, ap, subst, arith}
+use Rattle.std.proofs.Common.{rules, ◌≡◌, ◌∙◌, ℕ, ◌+◌, ◌*◌, List, ◌++◌, length, take, sym, ap, subst, arith}
 use Rattle.std.specs.Prelude.{All}
-use Rattle.std.proofs.lemmas.List.{take_all}
+use Rattle.std.proofs.lemmas.List.{length-take-le}
 use Rattle.std.proofs.lemmas.List.Elements.{All-weaker}
 use Rattle.pp_channel.specs.LineState.{LineState, KnowsAll, joined}
 use Rattle.pp_channel.specs.Merge.{Merges, no_opening, history_on}
@@ -8,7 +8,9 @@ use Rattle.pp_channel.specs.RisingLog.{seen_on}
 use Rattle.pp_channel.specs.declared.entry.Entry.{Entry}
 use Rattle.pp_channel.proofs.OpeningLemmas.{merges_before}
 use Rattle.pp_machine.specs.Headline.{opening_history}
-use Rattle.pp_machine.specs.Processor.{Processor}
+use Rattle.pp_machine.specs.ProcessorNumber.{processor_count}
+use Rattle.pp_machine.specs.Profile.{processors_in}
+use Rattle.pp_machine.proofs.ProfileLemmas.{some_processors, most_processors}
 use Rattle.pp_runner.proofs.CrewLemmas.{workers_count}
 use Rattle.pp_runner.proofs.EndLemmas.{worn_later}
 use Rattle.pp_runner.specs.Crew.{IsFresh}
@@ -22,14 +24,18 @@ returns g c =
     let opened = c.in_ok-first.ensures in
     let ws = c.in_ok-workers.field-0.workers.items in
     let line = c.in_ok-workers.field-0.line in
-    let workers : AreWorkers c.args.machine.now.processors c.in_ok-new.field-0 c.args.limits.steps ws =
-    subst (λ (loads : List Processor). AreWorkers loads c.in_ok-new.field-0 c.args.limits.steps ws)
-    (take_all _ c.args.machine.now.processors (omega (arith, c.turns-turns.ensures.sound.processors, opened.each_processor))) ended.workers in
+    let p = c.args.machine.now.profile in
+    let loads = take (processors_in p) c.args.machine.now.processors in
+    let some = most_processors p in
+    let all : length c.args.machine.now.processors ≡ processor_count = c.turns-turns.ensures.sound.processors in
+    let many : length loads ≡ processors_in p = length-take-le (processors_in p) c.args.machine.now.processors (omega (arith, all, some)) in
+    let workers : AreWorkers loads c.in_ok-new.field-0 c.args.limits.steps ws =
+    subst (λ (k : ℕ). AreWorkers (take k c.args.machine.now.processors) c.in_ok-new.field-0 c.args.limits.steps ws) opened.each_processor ended.workers in
     let channels = c.in_ok-channels.channels in
     let closed = c.in_ok-channels.ensures.closed in
     let whole : line.whole ≡ c.in_ok-first.first.whole = ended.kin.whole ∙ ap (λ l. l.whole) c.of-family.ensures in
     let known : KnowsAll (joined line c.in_ok-first.first) channels = closed.known.all_known (omega (arith, ended.shares, whole, opened.whole, opened.share, opened.each_processor)) in record {
-      each_processor = workers_count c.args.machine.now.processors c.in_ok-new.field-0 c.args.limits.steps ws workers ∙ c.turns-turns.ensures.sound.processors;
+      each_processor = workers_count loads c.in_ok-new.field-0 c.args.limits.steps ws workers ∙ many;
       workers = search rules;
       lawful = closed.known.sound.lawful;
       law = closed.law;
@@ -45,8 +51,8 @@ returns g c =
 pub run_first-requires-after_bounds : goal.run_first-requires-after_bounds
 run_first-requires-after_bounds g c κs within = record {
   each = c.turns-turns.ensures.sound.processors;
-  count = omega (arith, c.in_ok-first.ensures.each_processor, c.in_ok-first.lines.ok.0);
-  some = omega (arith, c.in_ok-first.ensures.each_processor, c.in_ok-first.lines.ok.0);
+  count = let most = most_processors c.args.machine.now.profile in omega (arith, most, c.in_ok-first.ensures.each_processor, c.in_ok-first.lines.ok.0);
+  some = let some = some_processors c.args.machine.now.profile in omega (arith, some, c.in_ok-first.ensures.each_processor, c.in_ok-first.lines.ok.0);
   fresh = subst (λ (family : LineState). All (IsFresh (2 * c.args.limits.steps + 1) family) c.in_ok-first.lines.items) (sym c.of-family.ensures)
       (subst (λ (steps : ℕ). All (IsFresh (2 * steps + 1) c.in_ok-first.first) c.in_ok-first.lines.items) c.steps.ensures.value c.in_ok-first.ensures.fresh);
 }
