@@ -24,8 +24,8 @@ pub fn barrel_text_law()
 }
 
 /// The same for threads: where two runs of one deck come to one text, their reports agree on the events
-/// of each channel, each with its number and its author, on what is said of the processors named and of
-/// their ends, and on the channels; and each channel has the same history in both.
+/// of each channel, each with its number and its author, on P, A and the end of each processor named, and
+/// on the channels; and each channel has the same history in both.
 pub fn threads_text_law<A: Allocator>()
     ensures { (deck : LoadedDeck) (limits others : RunLimits) (text : List ℕ) (one : IsThreadsText A limits deck text) (also : IsThreadsText A others deck text)
         → AgreeOnReport deck.named one.report also.report × HaveSameHistories one.report also.report }

@@ -10,7 +10,7 @@ ghost use Rattle.pp_runner.specs.declared.report.Report.{Report};
 ghost use Rattle.pp_runner.specs.declared.worker.Worker.{Worker};
 ghost use Rattle.pp_text.specs.PrintedReport.{author_place, printed_report};
 ghost use Rattle.pp_text.specs.PrintedText.{printed};
-ghost use Rattle.pp_text.specs.ReportLaw.{AgreeOnReport, FitsItsReport, told_of};
+ghost use Rattle.pp_text.specs.ReportLaw.{AgreeOnReport, FitsItsReport, HasNumberedEnds, told_of};
 ghost use Rattle.pp_text.specs.TextLaw.{AgreeOnText, FitsItsText};
 
 use std::alloc::Allocator;
@@ -31,12 +31,13 @@ pub fn text_law()
     ensures { (named : List Bool) (one other : MachineState) → FitsItsText named one → FitsItsText named other → printed named one ≡ printed named other → AgreeOnText named one other }
 {}
 
-/// The text of a run by threads is its report: two reports with one text agree on the events of each
-/// channel that have an author, each with its number and its author, on what is said of each processor
-/// named and of its end, and on what is shown of each channel. Where the logs of both merge over the same
-/// opening histories, the histories are the same too.
+/// The text of a run by threads is its report: two reports with one text, each of whose faults is a
+/// numbered one, agree on the events of each channel that have an author, each with its number and its
+/// author, on P, A and the end of each processor named, and on what is shown of each channel. Where the
+/// logs of both merge over the same opening histories, the histories are the same too.
 pub fn report_law<A: Allocator>()
-    ensures text { (named : List Bool) (one other : Report A) → FitsItsReport named one → FitsItsReport named other → printed_report named one ≡ printed_report named other → AgreeOnReport named one other }
+    ensures text { (named : List Bool) (one other : Report A) → FitsItsReport named one → FitsItsReport named other
+        → HasNumberedEnds one → HasNumberedEnds other → printed_report named one ≡ printed_report named other → AgreeOnReport named one other }
     ensures histories { (opening : ℕ → List Event) (one other : Report A) (c : ℕ) → Merges opening one.channels (logs_of one.ends.items) → Merges opening other.channels (logs_of other.ends.items)
         → told_of c one ≡ told_of c other → history_on c one.channels ≡ history_on c other.channels }
 {}
