@@ -8,17 +8,18 @@ ghost use Rattle.pp_runner.specs.RunLimits.{RunLimits};
 ghost use Rattle.pp_sim.specs.BarrelText.{IsBarrelText};
 ghost use Rattle.pp_sim.specs.ThreadsText.{IsThreadsText};
 ghost use Rattle.pp_text.specs.ReportLaw.{AgreeOnReport, HaveSameHistories};
-ghost use Rattle.pp_text.specs.TextLaw.{AgreeOnText};
+ghost use Rattle.pp_text.specs.TextLaw.{AgreeOnText, AreSameHistories};
 
 use pp_text::{report_law, text_law};
 use std::alloc::Allocator;
 
-/// The text is the trace: where two decks that name the same processors run to one text, their machines
-/// made the same events in the same turns, and agree on what is shown of each processor named and of
-/// each channel.
+/// The text is the trace: where two decks run to one text, they name the same processors, their machines
+/// made the same events in the same turns, agree on what is shown of each processor named and of each
+/// channel, and have the same history on each channel.
 pub fn barrel_text_law()
-    ensures { (deck other : LoadedDeck) (turns others : ℕ) (text : List ℕ) → deck.named ≡ other.named → IsBarrelText turns deck text → IsBarrelText others other text
-        → AgreeOnText deck.named (run (barrel turns) deck.machine) (run (barrel others) other.machine) }
+    ensures { (deck other : LoadedDeck) (turns others : ℕ) (text : List ℕ) → IsBarrelText turns deck text → IsBarrelText others other text
+        → AgreeOnText deck.named other.named (run (barrel turns) deck.machine) (run (barrel others) other.machine)
+        × AreSameHistories (run (barrel turns) deck.machine).histories (run (barrel others) other.machine).histories }
 {
     text_law();
 }

@@ -12,7 +12,7 @@ use Rattle.pp_runner.specs.declared.report.Report.{Report}
 use Rattle.pp_runner.specs.declared.worker.Worker.{Worker}
 use Rattle.pp_text.specs.PrintedReport.{author_place}
 use Rattle.pp_text.specs.PrintedText.{is_named}
-use Rattle.pp_text.specs.TextLaw.{IsListed, IsToldAlike}
+use Rattle.pp_text.specs.TextLaw.{AreSameHistories, IsListed, IsToldAlike}
 
 -- an event as a report's text tells it: its number in the history, the processor that made it, and what happened
 pub record ToldEvent : Type 0 where
@@ -76,4 +76,4 @@ pub record AgreeOnReport {Y Z : Type 0} (named : List Bool) (one : Report Y) (ot
 
 -- the same history on each channel
 abbrev pub HaveSameHistories : {Y Z : Type 0} → Report Y → Report Z → Type 0
-HaveSameHistories one other = (c : ℕ) → IsTrue (names_channel c) → history_on c one.channels ≡ history_on c other.channels
+HaveSameHistories one other = AreSameHistories one.channels other.channels

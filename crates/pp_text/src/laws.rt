@@ -4,6 +4,7 @@
 ghost use Rattle.std.specs.Prelude.{ℕ, ◌≡◌, ◌<◌, ◌↔◌, Bool, List, length, None};
 ghost use Rattle.pp_channel.specs.Merge.{Merges, history_on};
 ghost use Rattle.pp_channel.specs.declared.event.Event.{Event};
+ghost use Rattle.pp_machine.specs.Headline.{HoldsOnEachChannel};
 ghost use Rattle.pp_machine.specs.MachineState.{MachineState};
 ghost use Rattle.pp_runner.specs.WorkerReport.{logs_of};
 ghost use Rattle.pp_runner.specs.declared.report.Report.{Report};
@@ -11,7 +12,7 @@ ghost use Rattle.pp_runner.specs.declared.worker.Worker.{Worker};
 ghost use Rattle.pp_text.specs.PrintedReport.{author_place, printed_report};
 ghost use Rattle.pp_text.specs.PrintedText.{printed};
 ghost use Rattle.pp_text.specs.ReportLaw.{AgreeOnReport, FitsItsReport, HasNumberedEnds, told_of};
-ghost use Rattle.pp_text.specs.TextLaw.{AgreeOnText, FitsItsText};
+ghost use Rattle.pp_text.specs.TextLaw.{AgreeOnText, AreSameHistories, FitsItsText};
 
 use std::alloc::Allocator;
 
@@ -23,12 +24,15 @@ pub fn author_law<A: Allocator>()
         → (author_place c workers number ≡ None) ↔ (number < length (opening c)) }
 {}
 
-/// The text of a run is the run: two machines with one text agree on the trace, event by event, on what
-/// is shown of each processor named and on what is shown of each channel. A machine that is printed fits
-/// its text, by the clause `fits` of `printed_text`.
-#[tactic(auto, using(crate::proofs::TextLawLemmas::text_tells))]
+/// The text of a run is the run: two machines with one text have the same processors named, and agree on
+/// the trace, event by event, on what is shown of each processor named and on what is shown of each
+/// channel. A machine that is printed fits its text, by the clause `fits` of `printed_text`. Where the
+/// headline holds of both, each channel has the same history in both, opening events and all.
 pub fn text_law()
-    ensures { (named : List Bool) (one other : MachineState) → FitsItsText named one → FitsItsText named other → printed named one ≡ printed named other → AgreeOnText named one other }
+    ensures text { (named others : List Bool) (one other : MachineState) → FitsItsText named one → FitsItsText others other
+        → printed named one ≡ printed others other → AgreeOnText named others one other }
+    ensures histories { (named others : List Bool) (one other : MachineState) → HoldsOnEachChannel one → HoldsOnEachChannel other
+        → AgreeOnText named others one other → AreSameHistories one.histories other.histories }
 {}
 
 /// The text of a run by threads is its report: two reports with one text, each of whose faults is a
