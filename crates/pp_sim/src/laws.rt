@@ -13,23 +13,28 @@ ghost use Rattle.pp_text.specs.TextLaw.{AgreeOnText, AreSameHistories};
 use pp_text::{report_law, text_law};
 use std::alloc::Allocator;
 
-/// The text is the trace: where two decks run to one text, they name the same processors, their machines
-/// made the same events in the same turns, agree on what is shown of each processor named and of each
-/// channel, and have the same history on each channel.
+/// The text is the trace: where two decks run to one text, they name the same processors, their
+/// machines made the same events in the same turns, agree on what is shown of each processor named
+/// and of each channel, and have the same history on each channel.
 pub fn barrel_text_law()
-    ensures { (deck other : LoadedDeck) (turns others : ℕ) (text : List ℕ) → IsBarrelText turns deck text → IsBarrelText others other text
-        → AgreeOnText deck.named other.named (run (barrel turns) deck.machine) (run (barrel others) other.machine)
-        × AreSameHistories (run (barrel turns) deck.machine).histories (run (barrel others) other.machine).histories }
+    ensures { (deck other : LoadedDeck) (turns others : ℕ) (text : List ℕ)
+        → IsBarrelText turns deck text → IsBarrelText others other text
+        → (let one = run (barrel turns) deck.machine in
+        let also = run (barrel others) other.machine in
+        AgreeOnText deck.named other.named one also
+        × AreSameHistories one.histories also.histories) }
 {
     text_law();
 }
 
-/// The same for threads: where two runs of one deck come to one text, their reports agree on the events
-/// of each channel, each with its number and its author, on P, A and the end of each processor named, and
-/// on the channels; and each channel has the same history in both.
+/// The same for threads: where two runs of one deck come to one text, their reports agree on the
+/// events of each channel, each with its number and its author, on P, A and the end of each
+/// processor named, and on the channels; and each channel has the same history in both.
 pub fn threads_text_law<A: Allocator>()
-    ensures { (deck : LoadedDeck) (limits others : RunLimits) (text : List ℕ) (one : IsThreadsText A limits deck text) (also : IsThreadsText A others deck text)
-        → AgreeOnReport deck.named one.report also.report × HaveSameHistories one.report also.report }
+    ensures { (deck : LoadedDeck) (limits others : RunLimits) (text : List ℕ)
+        (one : IsThreadsText A limits deck text) (also : IsThreadsText A others deck text)
+        → AgreeOnReport deck.named one.report also.report
+        × HaveSameHistories one.report also.report }
 {
     report_law::<A>();
 }

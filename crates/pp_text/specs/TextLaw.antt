@@ -53,8 +53,8 @@ pub record IsToldAlike (h other : List Event) : Type 0 where
   pub waiting : waiting h ≡ waiting other
 
 -- the same processors named; the same events in the same order; of each processor named the same P,
--- A and state; and of each channel whether anything has happened, whether it is active, and the word
--- that waits
+-- A and state; and of each channel whether anything has happened, whether it is active, and the
+-- word that waits
 pub record AgreeOnText (named others : List Bool) (one other : MachineState) : Type 0 where
   pub names : (n : ℕ) → is_named named n ≡ is_named others n
   pub trace : one.trace ≡ other.trace
