@@ -14,7 +14,7 @@ use Rattle.pp_machine.specs.Replay.{sights_given}
 use Rattle.pp_machine.proofs.ProcessorPlaces.{place_of_number}
 use Rattle.pp_runner.proofs.LogLemmas.{settles, stands_settled}
 use Rattle.pp_runner.proofs.EndLemmas.{worn_later}
-use Rattle.pp_runner.proofs.LineLemmas.{same_line_still, same_line_twice}
+use Rattle.pp_runner.proofs.LineLemmas.{operated_least, same_line_still, same_line_twice}
 use Rattle.pp_runner.specs.Crew.{IsFresh, AreReady, IsEnded, IsAlone, AreEnded}
 use Rattle.pp_runner.specs.Labour.{IsAtWork, HasSeen, NoneOlder, IsSameLine, HasOperated, GaveUpWithCause}
 use Rattle.pp_runner.specs.WorkerEnd.{IsEnd, WornWithCause}
@@ -129,7 +129,7 @@ pub gave_up : {A E : Type 0} (patience : ℕ) (line mid after : LineState) (fini
 gave_up patience line mid after finish (Err e) more operated same was = tt
 gave_up patience line mid after finish (Ok ended) more operated same was = λ is.
     let last = operated (sym was ∙ is) in
-    omega (arith, more, last.least, ap (λ l. length l.found) same)
+    omega (arith, more, operated_least patience mid after last, ap (λ l. length l.found) same)
 
 -- one that has not
 pub not_given_up : {A E : Type 0} (patience : ℕ) (line : LineState) (finish : End) (r : Result (Ended A) E) → (finish ≡ Patience → ⊥)

@@ -3,7 +3,7 @@ use Rattle.std.proofs.Common.{◌≡◌, ℕ, ◌<◌, ◌≤◌, List, [], Opti
 use Rattle.std.specs.Prelude.{IfNone, IfSome, unwrap_or}
 use Rattle.pp_channel.specs.declared.entry.Entry.{Entry}
 use Rattle.pp_machine.specs.NeedAndEffect.{need}
-use Rattle.pp_machine.specs.Processor.{Processor}
+use Rattle.pp_machine.specs.Processor.{Processor, IsFaultNumber}
 use Rattle.pp_machine.specs.declared.answer.Answer.{Answer}
 use Rattle.pp_machine.specs.declared.pp_state.PpState.TheVariants as states
 use Rattle.pp_runner.specs.WorkerEnd.{IsEnd, NeedsWornChannel, WornWithCause, WasHeld}
@@ -14,16 +14,18 @@ pub end_stopped : (steps : ℕ) (pp : Processor) (xs : List Answer) (log : List 
 end_stopped steps pp xs log is = record {
   stopped = (λ e. is, λ s. refl);
   fault = λ n. (λ e. absurd cc, λ s. absurd cc);
+  numbered = tt;
   all_steps = λ e. absurd cc;
   patience = λ e. absurd cc;
   memory = λ e. absurd cc;
   worn = λ e. absurd cc;
 }
 
-pub end_fault : (steps number : ℕ) (pp : Processor) (xs : List Answer) (log : List Entry) → pp.state ≡ states.Fault number → IsEnd steps (ends.Fault number) pp xs log
-end_fault steps number pp xs log is = record {
+pub end_fault : (steps number : ℕ) (pp : Processor) (xs : List Answer) (log : List Entry) → pp.state ≡ states.Fault number → IsFaultNumber number → IsEnd steps (ends.Fault number) pp xs log
+end_fault steps number pp xs log is numbered = record {
   stopped = (λ e. absurd cc, λ s. absurd cc);
   fault = λ n. (λ e. cc, λ s. cc);
+  numbered = numbered;
   all_steps = λ e. absurd cc;
   patience = λ e. absurd cc;
   memory = λ e. absurd cc;
@@ -34,6 +36,7 @@ pub end_steps : (steps : ℕ) (pp : Processor) (xs : List Answer) (log : List En
 end_steps steps pp xs log running all = record {
   stopped = (λ e. absurd cc, λ s. absurd cc);
   fault = λ n. (λ e. absurd cc, λ s. absurd cc);
+  numbered = tt;
   all_steps = λ e. (running, all);
   patience = λ e. absurd cc;
   memory = λ e. absurd cc;
@@ -44,6 +47,7 @@ pub end_patience : (steps : ℕ) (pp : Processor) (xs : List Answer) (log : List
 end_patience steps pp xs log running fewer held = record {
   stopped = (λ e. absurd cc, λ s. absurd cc);
   fault = λ n. (λ e. absurd cc, λ s. absurd cc);
+  numbered = tt;
   all_steps = λ e. absurd cc;
   patience = λ e. (record { running = running; fewer = fewer }, held);
   memory = λ e. absurd cc;
@@ -54,6 +58,7 @@ pub end_memory : (steps : ℕ) (pp : Processor) (xs : List Answer) (log : List E
 end_memory steps pp xs log running fewer = record {
   stopped = (λ e. absurd cc, λ s. absurd cc);
   fault = λ n. (λ e. absurd cc, λ s. absurd cc);
+  numbered = tt;
   all_steps = λ e. absurd cc;
   patience = λ e. absurd cc;
   memory = λ e. record { running = running; fewer = fewer };
@@ -64,6 +69,7 @@ pub end_worn : (steps : ℕ) (pp : Processor) (xs : List Answer) (log : List Ent
 end_worn steps pp xs log happened running fewer needs = record {
   stopped = (λ e. absurd cc, λ s. absurd cc);
   fault = λ n. (λ e. absurd cc, λ s. absurd cc);
+  numbered = tt;
   all_steps = λ e. absurd cc;
   patience = λ e. absurd cc;
   memory = λ e. absurd cc;

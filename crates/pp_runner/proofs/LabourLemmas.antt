@@ -1,9 +1,9 @@
 -- What a try of a step keeps of what a worker has.
-use Rattle.std.proofs.Common.{◌≡◌, ℕ, ◌+◌, ◌-◌, ◌*◌, ◌<◌, ◌≤◌, Bool, true, false, List, [], ◌∷◌, ◌++◌, length, map, take, Option, None, Some, refl, sym, ap, ◌∙◌, subst, inl, inr, arith, append_assoc}
-use Rattle.std.specs.Prelude.{◌⊎◌, ◌==◌, ◌≢◌, IsTrue, slice_get, is_none}
+use Rattle.std.proofs.Common.{◌≡◌, ℕ, ◌+◌, ◌-◌, ◌*◌, ◌<◌, ◌≤◌, true, false, List, [], ◌∷◌, ◌++◌, length, map, take, Option, None, Some, refl, sym, ap, ◌∙◌, subst, inl, inr, arith}
+use Rattle.std.specs.Prelude.{IsTrue, slice_get}
 use Rattle.std.specs.List.{last_or, filter_map}
 use Rattle.std.specs.Option.{option_map, option_to_list}
-use Rattle.std.proofs.lemmas.Bool.{both_ways, eq-eqb, cases_Bool, cases_lt, cases_eq}
+use Rattle.std.proofs.lemmas.Bool.{both_ways, eq-eqb, cases_Bool, cases_lt}
 use Rattle.std.proofs.lemmas.List.{append-nil, length-append, take-append-le}
 use Rattle.std.proofs.lemmas.Option.{slice_get_within, slice_get-get_or}
 use Rattle.std.proofs.Math.ListN.{get_or-append}
@@ -30,9 +30,9 @@ use Rattle.pp_machine.specs.declared.answer.Answer.TheVariants as answers
 use Rattle.pp_machine.specs.declared.need.Need.{Need}
 use Rattle.pp_machine.specs.declared.need.Need.TheVariants as needs
 use Rattle.pp_machine.specs.declared.outcome.Outcome.TheVariants.{Moved}
-use Rattle.pp_runner.proofs.LogLemmas.{IsLooked, looked_at, settled_kept, settled_held, settled_look, IsSettled, settles, events_settled, events_in-push, sights_in-push, stands_more, stands_push, stands_settled}
-use Rattle.pp_runner.proofs.ReplyLemmas.{IsSight, sight_of, IsReplyTo, reply_to_channel}
-use Rattle.pp_runner.specs.AnswersGiven.{OfEachAnswer, AllMoved, AllBySize, IsBySize}
+use Rattle.pp_runner.proofs.LogLemmas.{looked_at, settled_kept, settled_look, IsSettled, settles, events_settled, events_in-push, sights_in-push, stands_push, stands_settled}
+use Rattle.pp_runner.proofs.ReplyLemmas.{sight_of, reply_to_channel}
+use Rattle.pp_runner.specs.AnswersGiven.{OfEachAnswer, IsBySize}
 use Rattle.pp_runner.specs.Labour.{IsAtWork, IsAnswered, IsNoted, noted_as, settled}
 use Rattle.pp_runner.specs.WorkerEnd.{WasHeld, NeedsChannel}
 use Rattle.pp_runner.specs.WorkerLog.{event_in, events_in, sights_in, StandsIn}

@@ -1,27 +1,32 @@
 -- A line after a call: it is the same line, later.
-use Rattle.std.proofs.Common.{◌≡◌, ℕ, suc, ◌≤◌, ◌+◌, ◌-◌, ◌*◌, List, refl, sym, ap, ◌∙◌, subst, inl, inr, arith}
+use Rattle.std.proofs.Common.{◌≡◌, ℕ, suc, ◌≤◌, ◌+◌, ◌-◌, ◌*◌, List, [], ◌∷◌, ◌++◌, All, length, refl, sym, ap, ◌∙◌, subst, append_assoc, inl, inr, arith}
 use Rattle.std.specs.Prelude.{slice_set}
+use Rattle.std.specs.List.{flat_map}
 use Rattle.std.proofs.lemmas.Bool.{cases_eq}
-use Rattle.std.proofs.lemmas.List.Elements.{All-push}
+use Rattle.std.proofs.lemmas.Grind.{flat_map-append}
+use Rattle.std.proofs.lemmas.List.{append-nil, length-append}
+use Rattle.std.proofs.lemmas.List.Elements.{All-append, All-cons, All-head, All-nil, All-push, All-tail}
 use Rattle.std.proofs.Math.Nat.{suc-mul, mul-one, zero-mul}
 use Rattle.pp_channel.proofs.LineKnowledge.{all_looked}
 use Rattle.pp_channel.proofs.SeenLemmas.{set_raises}
 use Rattle.pp_channel.specs.ChannelNumber.{channel_index}
 use Rattle.pp_channel.specs.LineLog.{LogState}
-use Rattle.pp_channel.specs.LineState.{LineState, IsActed, number_after}
+use Rattle.pp_channel.specs.LineState.{LineState, AreFoundBy, IsActed, IsAnsweredBy, IsWornOut, found_on, number_after}
 use Rattle.pp_channel.specs.Merge.{history_on}
 use Rattle.pp_channel.specs.RisingLog.{seen_on}
 use Rattle.pp_channel.specs.declared.chan_op.ChanOp.{ChanOp}
 use Rattle.pp_channel.specs.declared.entry.Entry.{Entry}
+use Rattle.pp_channel.specs.declared.event.Event.{Event}
 use Rattle.pp_channel.specs.declared.entry.Seen.{Seen}
 use Rattle.pp_channel.specs.declared.entry.Seen.TheVariants.{Did, Saw}
 use Rattle.pp_channel.specs.declared.numbered.Numbered.{Numbered}
 use Rattle.pp_channel.specs.declared.reply.Reply.{Reply}
+use Rattle.pp_channel.specs.declared.rule.FoundWord.{FoundWord}
 use Rattle.pp_channel.specs.declared.reply.Reply.TheVariants as replies
 use Rattle.pp_machine.specs.NeedAndEffect.{need}
 use Rattle.pp_machine.specs.Processor.{Processor}
 use Rattle.pp_runner.proofs.ReplyLemmas.{line_reply_fits, sight_of}
-use Rattle.pp_runner.specs.Labour.{NoneOlder, IsSameLine, HasOperated, operations, noted_as}
+use Rattle.pp_runner.specs.Labour.{AreFoundByOne, NoneOlder, IsSameLine, HasOperated, operations, noted_as}
 use Rattle.pp_runner.specs.WorkerEnd.{WasHeld}
 
 -- nothing came
@@ -80,17 +85,68 @@ same_line_acted line after c op r acted =
           (none_older_noted happened line.log c r.number s.what (let had = has.seen c in omega (arith, had, later)) none);
     }
 
+-- what one operation found
+operated_once : (words : List FoundWord) (line after : LineState) → AreFoundByOne words → after.found ≡ line.found ++ words → HasOperated 1 line after
+operated_once words line after are found = record {
+  finds = words ∷ [];
+  each = All-cons AreFoundByOne words [] are (All-nil AreFoundByOne);
+  number = refl;
+  found = found ∙ ap (λ ws. line.found ++ ws) (sym (append-nil words));
+}
+
+found_by_answer : (history : List Event) (c : ℕ) (op : ChanOp) (r : Numbered) (words : List ℕ) → AreFoundBy r words → IsAnsweredBy history op r → AreFoundByOne (found_on c words)
+found_by_answer history c op r [] none _ = none
+found_by_answer history c op r (word ∷ []) are _ = tt
+found_by_answer history c op r (word ∷ other ∷ []) are answered =
+    let later = (answered.lost are.2).later in (refl, omega (arith, are.0, are.1, later))
+found_by_answer history c op r (word ∷ other ∷ more ∷ rest) none _ = none
+
+-- an answer came
+pub operated_acted : (line after : LineState) (c : ℕ) (op : ChanOp) (r : Numbered) → IsActed line c op r after → HasOperated 1 line after
+operated_acted line after c op r acted =
+    operated_once (found_on c acted.words) line after (found_by_answer (history_on c acted.histories) c op r acted.words acted.words_found acted.answer)
+    (ap (λ l. l.found) acted.after_is)
+
+-- the channel was found worn
+pub operated_worn : (line after : LineState) (c : ℕ) (op : ChanOp) → IsWornOut line c op after → HasOperated 1 line after
+operated_worn line after c op worn =
+    operated_once (record { channel = c; word = worn.word } ∷ []) line after tt (ap (λ l. l.found) worn.after_is)
+
+-- no operation
+pub operated_not : (line : LineState) → HasOperated 0 line line
+operated_not line = record { finds = []; each = All-nil AreFoundByOne; number = refl; found = sym (append-nil line.found) }
+
 -- no try yet
 pub operated_none : (each : ℕ) (line : LineState) → HasOperated (0 * each) line line
-operated_none each line =
-    let none : 0 * each ≡ 0 = zero-mul each in record {
-      least = omega (arith, none);
-      most = omega (arith, none);
-    }
+operated_none each line = subst (λ (n : ℕ). HasOperated n line line) (sym (zero-mul each)) (operated_not line)
 
 -- some operations, and then some more
 pub operated_twice : (n m : ℕ) (line mid after : LineState) → HasOperated n line mid → HasOperated m mid after → HasOperated (n + m) line after
-operated_twice n m line mid after a b = record { least = omega (arith, a.least, b.least); most = omega (arith, a.most, b.most) }
+operated_twice n m line mid after a b = record {
+  finds = a.finds ++ b.finds;
+  each = All-append AreFoundByOne a.finds b.finds a.each b.each;
+  number = length-append a.finds b.finds ∙ (ap (λ k. k + length b.finds) a.number ∙ ap (λ k. n + k) b.number);
+  found = b.found
+      ∙ (ap (λ ws. ws ++ flat_map (λ words. words) b.finds) a.found
+      ∙ (append_assoc line.found (flat_map (λ words. words) a.finds) (flat_map (λ words. words) b.finds)
+      ∙ ap (λ ws. line.found ++ ws) (sym (flat_map-append (λ words. words) a.finds b.finds))));
+}
+
+-- each operation found a word at least
+found_each : (finds : List (List FoundWord)) → All AreFoundByOne finds → length finds ≤ length (flat_map (λ words. words) finds)
+found_each [] each = omega arith
+found_each (words ∷ finds) each =
+    let some = found_some words (All-head AreFoundByOne words finds each) in
+    let rest = found_each finds (All-tail AreFoundByOne words finds each) in
+    omega (arith, some, rest, length-append words (flat_map (λ words. words) finds))
+  where
+    found_some : (words : List FoundWord) → AreFoundByOne words → 1 ≤ length words
+    found_some [] none = absurd none
+    found_some (word ∷ more) are = omega arith
+
+pub operated_least : (count : ℕ) (line after : LineState) → HasOperated count line after → length line.found + count ≤ length after.found
+operated_least count line after a =
+    omega (arith, found_each a.finds a.each, a.number, ap length a.found, length-append line.found (flat_map (λ words. words) a.finds))
 
 -- one more try of a step
 pub operated_again : (tries each : ℕ) (line mid after : LineState) → HasOperated (tries * each) line mid → HasOperated each mid after → HasOperated ((tries + 1) * each) line after

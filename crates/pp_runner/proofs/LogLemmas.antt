@@ -1,17 +1,17 @@
 -- Logs with one entry more, and the lists that stand in them.
-use Rattle.std.proofs.Common.{◌≡◌, ℕ, suc, ◌+◌, ◌-◌, ◌<◌, ◌≤◌, Bool, true, false, ◌&&◌, List, [], ◌∷◌, ◌++◌, length, map, take, drop, Option, None, Some, refl, sym, ap, ◌∙◌, subst, inl, inr, arith}
-use Rattle.std.specs.Prelude.{◌⊎◌, ◌==◌, not, if◌then◌else◌, IsTrue, slice_set}
-use Rattle.std.specs.List.{last_or, filter_map}
-use Rattle.std.proofs.lemmas.List.{map-append, append-nil, length-append, take-append-drop}
+use Rattle.std.proofs.Common.{◌≡◌, ℕ, ◌+◌, ◌-◌, ◌≤◌, true, false, List, [], ◌∷◌, ◌++◌, length, take, None, Some, refl, sym, ap, ◌∙◌, subst, inl, inr, arith}
+use Rattle.std.specs.Prelude.{◌==◌, not, IsTrue, slice_set}
+use Rattle.std.specs.List.{last_or}
+use Rattle.std.proofs.lemmas.List.{map-append, append-nil, length-append}
 use Rattle.std.proofs.lemmas.List.Elements.{filter_map-append}
 use Rattle.std.proofs.lemmas.Bool.{and_parts, cases_Bool}
 use Rattle.std.proofs.Math.Seq.{take-append_seam, set-append_seam}
 use Rattle.pp_channel.proofs.LastElements.{last_or-push}
-use Rattle.pp_channel.specs.LineLog.{LogState, appended, looked, is_event, is_look_at, ends_in_look_at}
+use Rattle.pp_channel.specs.LineLog.{LogState, appended, looked, is_event, is_look_at}
 use Rattle.pp_channel.specs.declared.entry.Entry.{Entry}
 use Rattle.pp_channel.specs.declared.entry.Seen.{Seen}
 use Rattle.pp_channel.specs.declared.entry.Seen.TheVariants.{Did, Saw}
-use Rattle.pp_machine.specs.Replay.{ChannelEvent, ChannelSight}
+use Rattle.pp_machine.specs.Replay.{ChannelSight}
 use Rattle.pp_runner.specs.Labour.{settled}
 use Rattle.pp_runner.specs.WorkerLog.{event_in, events_in, sights_in, StandsIn}
 

@@ -1,10 +1,10 @@
 -- Replies of a line: each goes with its operation, and the log tells what it did or saw.
-use Rattle.std.proofs.Common.{◌≡◌, ℕ, Bool, true, false, List, [], ◌∷◌, ◌++◌, map, refl, sym, ap, ◌∙◌, subst, inl, inr}
-use Rattle.std.specs.Prelude.{◌⊎◌, ◌≢◌, take}
+use Rattle.std.proofs.Common.{◌≡◌, ℕ, true, List, [], ◌∷◌, refl, sym, ap, ◌∙◌, subst, inl, inr}
+use Rattle.std.specs.Prelude.{take}
 use Rattle.std.proofs.lemmas.Bool.{cases_eq}
 use Rattle.pp_channel.specs.Answer.{IsAnswer, operation_of, reply_made, reply_shown}
-use Rattle.pp_channel.specs.LineLog.{LogState, log_after, with_answer}
-use Rattle.pp_channel.specs.LineState.{LineState, IsActed, IsAnsweredBy, IsLost, answered}
+use Rattle.pp_channel.specs.LineLog.{LogState, with_answer}
+use Rattle.pp_channel.specs.LineState.{LineState, IsActed, IsAnsweredBy, IsLost}
 use Rattle.pp_channel.specs.Merge.{history_on}
 use Rattle.pp_channel.specs.RisingLog.{IsRising}
 use Rattle.pp_channel.specs.declared.chan_op.ChanOp.{ChanOp}
@@ -20,7 +20,6 @@ use Rattle.pp_channel.specs.declared.reply.Reply.TheVariants as replies
 use Rattle.pp_machine.specs.Replay.{ChannelSight, fits, reply_fits, sights_of}
 use Rattle.pp_machine.specs.declared.answer.Answer.{Answer}
 use Rattle.pp_machine.specs.declared.answer.Answer.TheVariants as answers
-use Rattle.pp_machine.specs.declared.need.Need.{Need}
 use Rattle.pp_machine.specs.declared.need.Need.TheVariants as needs
 use Rattle.pp_runner.specs.Labour.{IsAnswered, IsNoted, noted_as}
 

@@ -1,15 +1,19 @@
 -- What holds of a worker between any two tries of a step.
-use Rattle.std.specs.Prelude.{◌≡◌, ◌≤◌, ◌+◌, ◌-◌, ◌*◌, ℕ, true, false, List, [], ◌∷◌, length, take, All, if◌then◌else◌}
-use Rattle.pp_channel.specs.ChannelWord.{greatest_number}
+use Rattle.std.specs.Prelude.{◌≡◌, ◌<◌, ◌≤◌, ◌+◌, ◌-◌, ◌*◌, ℕ, true, false, List, [], ◌∷◌, ◌++◌, length, take, All, if◌then◌else◌}
+use Rattle.std.specs.List.{flat_map}
+use Rattle.pp_channel.specs.ChannelWord.{greatest_number, number_in}
 use Rattle.pp_channel.specs.LineLog.{LogState, appended, looked}
-use Rattle.pp_channel.specs.LineState.{LineState}
+use Rattle.pp_channel.specs.LineState.{LineState, IsActed}
 use Rattle.pp_channel.specs.RisingLog.{IsRising, seen_on}
 use Rattle.pp_channel.specs.declared.entry.Entry.{Entry}
 use Rattle.pp_channel.specs.declared.entry.Seen.{Seen}
 use Rattle.pp_channel.specs.declared.entry.Seen.TheVariants.{Did, Saw}
+use Rattle.pp_channel.specs.declared.numbered.Numbered.{Numbered}
+use Rattle.pp_channel.specs.declared.rule.FoundWord.{FoundWord}
 use Rattle.pp_machine.specs.Processor.{Processor}
 use Rattle.pp_machine.specs.Replay.{ChannelSight, fits, replayed, given_count, events_given, sights_of, sights_given}
 use Rattle.pp_machine.specs.declared.answer.Answer.{Answer}
+use Rattle.pp_machine.specs.declared.answer.Answer.TheVariants as answers
 use Rattle.pp_machine.specs.declared.need.Need.{Need}
 use Rattle.pp_machine.specs.declared.need.Need.TheVariants as needs
 use Rattle.pp_runner.specs.declared.end.End.{End}
@@ -55,6 +59,14 @@ pub record IsAnswered (size : ℕ) (needed : Need) (answer : Answer) (before aft
   pub noted : IsNoted (sights_of needed answer) before after
   pub rising : IsRising before.entries → IsRising after.entries
 
+-- What the operation of a step did to the line: it gave this answer. A step without one leaves the
+-- line as it was.
+abbrev pub HasActed : Need → LineState → Answer → LineState → Type 0
+HasActed (needs.Channel channel operation) before answer after =
+    (numbered : Numbered) × (answer ≡ answers.Channel numbered.reply)
+    × IsActed before channel operation numbered after
+HasActed needed before answer after = after ≡ before
+
 -- how many operations on channels one try of a step makes
 abbrev pub operations : Need → ℕ
 operations needs.Nothing = 0
@@ -63,10 +75,20 @@ operations (needs.Channel channel operation) = 1
 operations (needs.Read address) = 0
 operations (needs.Write address word) = 0
 
--- The line has made so many operations: each found a word, and a second one where its exchange was lost.
+-- What one operation finds: a word, and where its exchange was lost a later one of the same channel.
+abbrev pub AreFoundByOne : List FoundWord → Type 0
+AreFoundByOne [] = ⊥
+AreFoundByOne (word ∷ []) = Unit {0}
+AreFoundByOne (word ∷ other ∷ []) =
+    (other.channel ≡ word.channel) × (number_in word.word < number_in other.word)
+AreFoundByOne (word ∷ other ∷ more ∷ rest) = ⊥
+
+-- The line has made so many operations, and has found what each of them finds, one after another.
 pub record HasOperated (count : ℕ) (before after : LineState) : Type 0 where
-  pub least : length before.found + count ≤ length after.found
-  pub most : length after.found ≤ length before.found + 2 * count
+  pub finds : List (List FoundWord)
+  pub each : All AreFoundByOne finds
+  pub number : length finds ≡ count
+  pub found : after.found ≡ before.found ++ flat_map (λ words. words) finds
 
 -- Only a worker that made at least as many operations as its patience has given up.
 abbrev pub GaveUpWithCause : ℕ → LineState → End → LineState → Type 0

@@ -7,7 +7,7 @@ use Rattle.pp_channel.specs.declared.chan_op.ChanOp.{ChanOp}
 use Rattle.pp_channel.specs.declared.chan_op.ChanOp.TheVariants.{Probe}
 use Rattle.pp_channel.specs.declared.entry.Entry.{Entry}
 use Rattle.pp_machine.specs.NeedAndEffect.{need}
-use Rattle.pp_machine.specs.Processor.{Processor}
+use Rattle.pp_machine.specs.Processor.{Processor, IsFaultNumber}
 use Rattle.pp_machine.specs.declared.answer.Answer.{Answer}
 use Rattle.pp_machine.specs.declared.need.Need.{Need}
 use Rattle.pp_machine.specs.declared.need.Need.TheVariants.{Channel}
@@ -32,8 +32,8 @@ pub record WasHeld (pp : Processor) (log : List Entry) : Type 0 where
   pub needs : NeedsChannel (need pp) channel
   pub looked : IsTrue (is_look_at channel (last_or None log))
 
--- Where so many events happened on each channel: a step needs such an operation on a worn one, which has had as many as its
--- word can count.
+-- Where so many events happened on each channel: a step needs such an operation on a worn one,
+-- which has had as many as its word can count.
 pub record NeedsWornChannel (happened : ℕ → ℕ) (needed : Need) : Type 0 where
   pub channel : ℕ
   pub needs : NeedsChannel needed channel
@@ -43,10 +43,16 @@ pub record NeedsWornChannel (happened : ℕ → ℕ) (needed : Need) : Type 0 wh
 abbrev pub WornWithCause : (ℕ → ℕ) → End → Processor → Type 0
 WornWithCause happened finish pp = finish ≡ Worn → NeedsWornChannel happened (need pp)
 
+-- An end at a fault is one of the numbered faults.
+abbrev pub HasEndNumber : End → Type 0
+HasEndNumber (Fault number) = IsFaultNumber number
+HasEndNumber finish = Unit {0}
+
 -- What each end says of the processor, the answers and the log.
 pub record IsEnd (steps : ℕ) (finish : End) (pp : Processor) (answers : List Answer) (log : List Entry) : Type 0 where
   pub stopped : (finish ≡ Stopped) ↔ (pp.state ≡ states.Stopped)
   pub fault : (number : ℕ) → (finish ≡ Fault number) ↔ (pp.state ≡ states.Fault number)
+  pub numbered : HasEndNumber finish
   pub all_steps : finish ≡ Steps → (pp.state ≡ states.Running) × (length answers ≡ steps)
   pub patience : finish ≡ Patience → HasStepsLeft steps pp answers × WasHeld pp log
   pub memory : finish ≡ Memory → HasStepsLeft steps pp answers

@@ -7,7 +7,7 @@ ghost use Rattle.pp_channel.specs.declared.entry.Entry.{Entry};
 ghost use Rattle.pp_machine.specs.NeedAndEffect.{need};
 ghost use Rattle.pp_machine.specs.declared.answer.Answer.{Answer};
 ghost use Rattle.pp_runner.specs.Crew.{IsEnded};
-ghost use Rattle.pp_runner.specs.Labour.{IsAtWork, IsAnswered, IsSameLine, HasOperated, GaveUpWithCause, operations};
+ghost use Rattle.pp_runner.specs.Labour.{IsAtWork, IsAnswered, IsSameLine, HasActed, HasOperated, GaveUpWithCause, operations};
 ghost use Rattle.pp_runner.specs.WorkerEnd.{IsEnd, NeedsWornChannel, WornWithCause, WasHeld};
 
 use crate::end::End;
@@ -55,6 +55,7 @@ fn ask<R: Wait, A: Allocator + Copy>(
 ) -> Result<Answer, Worn>
     requires { 1 ≤ line.old.log.room }
     ensures answered { IfOk result (λ x. IsAnswered central.now needed x line.old.log line.new.log) }
+    ensures acted { IfOk result (λ x. HasActed needed line.old x line.new) }
     ensures worn { OnErr result (NeedsWornChannel (λ c. seen_on c line.new.seen) needed) }
     ensures unchanged_when_worn { OnErr result (line.new.log ≡ line.old.log) }
     ensures same_line { IsSameLine line.old line.new }

@@ -8,27 +8,33 @@ ghost use Rattle.pp_runner.specs.RunLimits.{RunLimits};
 ghost use Rattle.pp_sim.specs.BarrelText.{IsBarrelText};
 ghost use Rattle.pp_sim.specs.ThreadsText.{IsThreadsText};
 ghost use Rattle.pp_text.specs.ReportLaw.{AgreeOnReport, HaveSameHistories};
-ghost use Rattle.pp_text.specs.TextLaw.{AgreeOnText};
+ghost use Rattle.pp_text.specs.TextLaw.{AgreeOnText, AreSameHistories};
 
 use pp_text::{report_law, text_law};
 use std::alloc::Allocator;
 
-/// The text is the trace: where two decks that name the same processors run to one text, their machines
-/// made the same events in the same turns, and agree on what is shown of each processor named and of
-/// each channel.
+/// The text is the trace: where two decks run to one text, they name the same processors, their
+/// machines made the same events in the same turns, agree on what is shown of each processor named
+/// and of each channel, and have the same history on each channel.
 pub fn barrel_text_law()
-    ensures { (deck other : LoadedDeck) (turns others : ℕ) (text : List ℕ) → deck.named ≡ other.named → IsBarrelText turns deck text → IsBarrelText others other text
-        → AgreeOnText deck.named (run (barrel turns) deck.machine) (run (barrel others) other.machine) }
+    ensures { (deck other : LoadedDeck) (turns others : ℕ) (text : List ℕ)
+        → IsBarrelText turns deck text → IsBarrelText others other text
+        → (let one = run (barrel turns) deck.machine in
+        let also = run (barrel others) other.machine in
+        AgreeOnText deck.named other.named one also
+        × AreSameHistories one.histories also.histories) }
 {
     text_law();
 }
 
-/// The same for threads: where two runs of one deck come to one text, their reports agree on the events
-/// of each channel, each with its number and its author, on what is said of the processors named and of
-/// their ends, and on the channels; and each channel has the same history in both.
+/// The same for threads: where two runs of one deck come to one text, their reports agree on the
+/// events of each channel, each with its number and its author, on P, A and the end of each
+/// processor named, and on the channels; and each channel has the same history in both.
 pub fn threads_text_law<A: Allocator>()
-    ensures { (deck : LoadedDeck) (limits others : RunLimits) (text : List ℕ) (one : IsThreadsText A limits deck text) (also : IsThreadsText A others deck text)
-        → AgreeOnReport deck.named one.report also.report × HaveSameHistories one.report also.report }
+    ensures { (deck : LoadedDeck) (limits others : RunLimits) (text : List ℕ)
+        (one : IsThreadsText A limits deck text) (also : IsThreadsText A others deck text)
+        → AgreeOnReport deck.named one.report also.report
+        × HaveSameHistories one.report also.report }
 {
     report_law::<A>();
 }

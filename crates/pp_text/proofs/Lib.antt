@@ -4,3 +4,4 @@ pub mod EventLineLemmas
 pub mod ReportLawLemmas
 pub mod TextLawLemmas
 pub mod TextLemmas
+pub mod HistoryLawLemmas

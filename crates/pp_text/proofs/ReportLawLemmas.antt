@@ -1,30 +1,32 @@
 -- The text of a report tells its events, its workers' ends and its channels.
-use Rattle.std.proofs.Common.{◌≡◌, ◌∙◌, ◌≢◌, All, ℕ, zero, suc, ◌+◌, ◌*◌, ◌^◌, ◌/◌, ◌%◌, ◌<◌, ◌≤◌, ◌-◌, ◌⊎◌, inl, inr, length, Bool, true, false, List, [], ◌∷◌, ◌++◌, Option, Some, None, map, take, drop, refl, sym, ap, subst, add-one, arith, append_assoc, codes}
+use Rattle.std.proofs.Common.{◌≡◌, ◌∙◌, ◌≢◌, All, ℕ, suc, ◌+◌, ◌^◌, ◌/◌, ◌%◌, ◌<◌, ◌≤◌, ◌-◌, ◌⊎◌, inl, inr, length, Bool, true, false, List, [], ◌∷◌, ◌++◌, Option, Some, None, map, take, drop, refl, sym, ap, subst, add-one, arith, append_assoc, codes}
 use Rattle.std.specs.Prelude.{◌==◌, ◌&&◌, ◌↔◌, nat_lt, get_or, option_map, slice_get, slice_index_or, Result, Ok, Err, OnOk, IfSome, IsTrue, if◌then◌else◌}
 use Rattle.std.specs.List.{cons_option, enumerate_from, filter, filter_map, flat_map}
 use Rattle.std.proofs.lemmas.Bool.{cases_lt, eq-eqb, le-ltb, lt-ltb, ne_eqb}
 use Rattle.std.proofs.lemmas.List.{append-nil, length-take-le}
-use Rattle.std.proofs.lemmas.List.Elements.{All-append, All-cons, All-head, All-nil, All-tail, filter-append, filter_map-append}
+use Rattle.std.proofs.lemmas.List.Elements.{All-append, All-cons, All-get_or, All-head, All-nil, All-tail, filter-append, filter_map-append}
+use Rattle.std.proofs.lemmas.Option.{slice_get_cases}
 use Rattle.std.proofs.Math.Bool.{and-false}
 use Rattle.std.proofs.Math.Seq.{drop-append_seam, drop-nil, take-suc}
 use Rattle.pp_channel.specs.ChannelNumber.{names_channel}
 use Rattle.pp_channel.specs.History.{active, waiting}
 use Rattle.pp_channel.specs.Merge.{Merges, history_on}
 use Rattle.pp_channel.specs.declared.event.Event.{Event}
-use Rattle.pp_machine.specs.ProcessorNumber.{names_processor, processor_index, processor_number}
+use Rattle.pp_machine.specs.ProcessorNumber.{processor_index, processor_number}
+use Rattle.pp_runner.specs.WorkerEnd.{HasEndNumber}
 use Rattle.pp_runner.specs.declared.end.End.{End}
 use Rattle.pp_runner.specs.declared.end.End.TheVariants.{Stopped, Fault, Steps, Patience, Memory, Worn}
 use Rattle.pp_runner.specs.declared.report.Report.{Report}
 use Rattle.pp_runner.specs.WorkerReport.{logs_of}
 use Rattle.pp_runner.specs.declared.worker.Worker.{Worker}
-use Rattle.pp_text.specs.Numeral.{decimal, digit, digits, octal, unpadded}
+use Rattle.pp_text.specs.Numeral.{decimal, digits, octal, unpadded}
 use Rattle.pp_text.specs.PrintedReport.{author_place, channel_events, end_text, line_by, named_worker_line, numbered_event_line, printed_report, worker_line}
 use Rattle.pp_text.specs.PrintedText.{channel_text, each_below, event_text, is_named, line_end, processor_line, used_channel_line}
-use Rattle.pp_text.specs.ReportLaw.{AgreeOnReport, FitsItsEnd, FitsItsLine, FitsItsReport, HasEndNumber, ShownEnd, ToldEvent, end_of, shown_end, told_by, told_events, told_of}
+use Rattle.pp_text.specs.ReportLaw.{AgreeOnReport, FitsItsEnd, FitsItsLine, FitsItsReport, HasNumberedEnds, ShownEnd, ToldEvent, end_of, shown_end, told_by, told_events, told_of}
 use Rattle.pp_text.specs.TextLaw.{IsListed, IsToldAlike, is_used}
 use Rattle.pp_text.proofs.AuthorLawLemmas.{only_openings}
 use Rattle.pp_text.proofs.EventLineLemmas.{enumerate_push}
-use Rattle.pp_text.proofs.TextLawLemmas.{Above, above-append, above_less, above_decimal, above_event, above_octal, above_one, cut, octal_tells, decimal_tells, unlines, unlines-append, AreLines, are_lines-append, lines_told, lines_below, said_in_lines, are_lines_below, heading, is_of, none_below, one_among, kept, left_out, one_line, one_is, one_where, same_event, processor_digits, channel_digits, named_digits, first_digit, channels, channel_body, channel_in_lines, plain_channels, used_alike}
+use Rattle.pp_text.proofs.TextLawLemmas.{Above, above-append, above_less, above_decimal, above_event, above_octal, cut, octal_tells, decimal_tells, unlines, unlines-append, AreLines, are_lines-append, lines_told, lines_below, said_in_lines, are_lines_below, heading, is_of, none_below, one_among, kept, left_out, one_is, same_event, processor_digits, channel_digits, named_digits, first_digit, channels, channel_body, channel_in_lines, plain_channels, used_alike}
 
 -- ---- the line of an event
 
@@ -193,7 +195,7 @@ events_others {Z} workers histories m n low within apart = no_events (λ l. nat_
 -- ---- the line of a worker, and of a channel
 
 end_body : ℕ → ShownEnd → List ℕ
-end_body n shown = codes "PP" ++ (octal 2 n ++ (codes " P=" ++ (octal 4 shown.p ++ (codes " A=" ++ (octal 6 shown.a ++ (codes " " ++ shown.said))))))
+end_body n shown = codes "PP" ++ (octal 2 n ++ (codes " P=" ++ (octal 4 shown.p ++ (codes " A=" ++ (octal 6 shown.a ++ (codes " " ++ end_text shown.finish))))))
 
 one_of : ℕ → Option ShownEnd → List (List ℕ)
 one_of n None = []
@@ -339,20 +341,20 @@ above_end Patience = above_six 80 65 84 73 69 78 (codes "CE") (omega arith) (ome
 above_end Memory = above_six 77 69 77 79 82 89 [] (omega arith) (omega arith) (omega arith) (omega arith) (omega arith) (omega arith) tt
 above_end Worn = (omega arith, (omega arith, (omega arith, (omega arith, tt))))
 
-above_shown : (n : ℕ) (s : ShownEnd) → Above 10 s.said → Above 10 (end_body n s)
+above_shown : (n : ℕ) (s : ShownEnd) → Above 10 (end_body n s)
 unfolding end_body
-above_shown n s plain = (
+above_shown n s = (
   omega arith,
   (
     omega arith,
-    above_octal 2 n (codes " P=" ++ (octal 4 s.p ++ (codes " A=" ++ (octal 6 s.a ++ (codes " " ++ s.said))))) (
+    above_octal 2 n (codes " P=" ++ (octal 4 s.p ++ (codes " A=" ++ (octal 6 s.a ++ (codes " " ++ end_text s.finish))))) (
       omega arith,
       (
         omega arith,
         (
           omega arith,
-          above_octal 4 s.p (codes " A=" ++ (octal 6 s.a ++ (codes " " ++ s.said)))
-              (omega arith, (omega arith, (omega arith, above_octal 6 s.a (codes " " ++ s.said) (omega arith, plain)))),
+          above_octal 4 s.p (codes " A=" ++ (octal 6 s.a ++ (codes " " ++ end_text s.finish)))
+              (omega arith, (omega arith, (omega arith, above_octal 6 s.a (codes " " ++ end_text s.finish) (omega arith, above_end s.finish)))),
         ),
       ),
     ),
@@ -361,12 +363,12 @@ above_shown n s plain = (
 
 plain_ends : {Z : Type 0} (named : List Bool) (report : Report Z) (n : ℕ) → AreLines (ends named report n)
 unfolding ends one_of
-plain_ends {Z} named report n = by_case (is_named named n) (slice_get report.ends.items (processor_index n))
+plain_ends {Z} named report n = by_case (is_named named n) (end_of n report)
   where
-    by_case : (b : Bool) (worker : Option (Worker Z)) → AreLines (if b then one_of n (option_map shown_end worker) else [])
+    by_case : (b : Bool) (shown : Option ShownEnd) → AreLines (if b then one_of n shown else [])
     by_case true None = tt
-    by_case true (Some w) = (above_shown n (shown_end w) (above_end w.finish), tt)
-    by_case false worker = tt
+    by_case true (Some s) = (above_shown n s, tt)
+    by_case false shown = tt
 
 -- ---- the whole text
 
@@ -455,24 +457,54 @@ among_states {Z} named report c within =
 
 -- ---- what a worker's line tells
 
-shown_alike : (s t : ShownEnd) → s.p ≡ t.p → s.a ≡ t.a → s.said ≡ t.said → s ≡ t
-shown_alike s t p a said =
+-- an end is told by what is said of it
+same_finish : (f g : End) → HasEndNumber f → HasEndNumber g → end_text f ≡ end_text g → f ≡ g
+same_finish Stopped Stopped _ _ e = refl
+same_finish (Fault m) (Fault n) one other e = ap Fault (octal_tells 1 m n (omega (arith, one.last)) (omega (arith, other.last)) (ap (drop 6) e))
+same_finish Steps Steps _ _ e = refl
+same_finish Patience Patience _ _ e = refl
+same_finish Memory Memory _ _ e = refl
+same_finish Worn Worn _ _ e = refl
+same_finish f g _ _ e =
+    let third : get_or (end_text f) 2 0 ≡ get_or (end_text g) 2 0 = ap (λ text. get_or text 2 0) e in
+    absurd (omega (arith, third))
+
+shown_alike : (s t : ShownEnd) → s.p ≡ t.p → s.a ≡ t.a → s.finish ≡ t.finish → s ≡ t
+shown_alike s t p a finish =
     ap (λ n. record s { p = n }) p
     ∙ (ap (λ n. record s { p = t.p; a = n }) a
-    ∙ ap (λ x. record s { p = t.p; a = t.a; said = x }) said)
+    ∙ ap (λ x. record s { p = t.p; a = t.a; finish = x }) finish)
 
-same_shown : (n : ℕ) (s t : ShownEnd) → FitsItsEnd s → FitsItsEnd t → end_body n s ≡ end_body n t → s ≡ t
+-- it fits its line, and a fault at its end is a numbered one
+record IsClear (s : ShownEnd) : Type 0 where
+  fits : FitsItsEnd s
+  numbered : HasEndNumber s.finish
+
+same_shown : (n : ℕ) (s t : ShownEnd) → IsClear s → IsClear t → end_body n s ≡ end_body n t → s ≡ t
 unfolding end_body
-same_shown n s t fits also e =
-    shown_alike s t (octal_tells 4 s.p t.p fits.p also.p (ap (λ l. take 4 (drop 7 l)) e)) (octal_tells 6 s.a t.a fits.a also.a (ap (λ l. take 6 (drop 14 l)) e))
-    (ap (drop 21) e)
+same_shown n s t clear also e =
+    shown_alike s t (octal_tells 4 s.p t.p clear.fits.p also.fits.p (ap (λ l. take 4 (drop 7 l)) e)) (octal_tells 6 s.a t.a clear.fits.a also.fits.a (ap (λ l. take 6 (drop 14 l)) e))
+    (same_finish s.finish t.finish clear.numbered also.numbered (ap (drop 21) e))
 
-same_one : (n : ℕ) (s t : Option ShownEnd) → IfSome s FitsItsEnd → IfSome t FitsItsEnd → one_of n s ≡ one_of n t → s ≡ t
+same_one : (n : ℕ) (s t : Option ShownEnd) → IfSome s IsClear → IfSome t IsClear → one_of n s ≡ one_of n t → s ≡ t
 unfolding one_of
 same_one n None None _ _ e = refl
 same_one n None (Some t) _ _ e = absurd cc
 same_one n (Some s) None _ _ e = absurd cc
-same_one n (Some s) (Some t) fits also e = ap Some (same_shown n s t fits also (one_is (end_body n s) (end_body n t) e))
+same_one n (Some s) (Some t) clear also e = ap Some (same_shown n s t clear also (one_is (end_body n s) (end_body n t) e))
+
+-- what is shown of the worker of processor n is clear, where each end is
+clear_end : {Z : Type 0} (n : ℕ) (report : Report Z) → IfSome (end_of n report) FitsItsEnd → HasNumberedEnds report → IfSome (end_of n report) IsClear
+clear_end {Z} n report fits numbered = elim (slice_get_cases report.ends.items (processor_index n)).1 [
+  | inl within ↦
+      let worker : Worker Z = within.0 in
+      let is : slice_get report.ends.items (processor_index n) ≡ Some worker = within.2 in
+      let told : HasEndNumber worker.finish =
+      subst (λ (w : Worker Z). HasEndNumber w.finish) within.3 (All-get_or (λ (w : Worker Z). HasEndNumber w.finish) report.ends.items (processor_index n) worker within.1 numbered) in
+      let fit : FitsItsEnd (shown_end worker) = subst (λ (w : Option (Worker Z)). IfSome (option_map shown_end w) FitsItsEnd) is fits in
+      subst (λ (w : Option (Worker Z)). IfSome (option_map shown_end w) IsClear) (sym is) (record { fits = fit; numbered = told })
+  | inr past ↦ subst (λ (w : Option (Worker Z)). IfSome (option_map shown_end w) IsClear) (sym past.1) tt
+]
 
 -- ---- the law
 
@@ -488,13 +520,13 @@ tells_events {Y} {Z} named one other c is fits also e =
     let lines = sym (among_events named one c within) ∙ ap (filter (is_told c)) (same_lines named one other e) ∙ among_events named other c within in
     same_tellings c (told_of c one) (told_of c other) fits also (where_true (names_channel c) (map (told_body c) (told_of c one)) (map (told_body c) (told_of c other)) is lines)
 
-tells_end : {Y Z : Type 0} (named : List Bool) (one : Report Y) (other : Report Z) (n : ℕ) → IsTrue (is_named named n) → IfSome (end_of n one) FitsItsEnd → IfSome (end_of n other) FitsItsEnd
+tells_end : {Y Z : Type 0} (named : List Bool) (one : Report Y) (other : Report Z) (n : ℕ) → IsTrue (is_named named n) → IfSome (end_of n one) IsClear → IfSome (end_of n other) IsClear
     → printed_report named one ≡ printed_report named other → end_of n one ≡ end_of n other
 unfolding ends
-tells_end {Y} {Z} named one other n is fits also e =
+tells_end {Y} {Z} named one other n is clear also e =
     let within = named_digits named n is in
     let lines = sym (among_ends named one n within) ∙ ap (filter (is_of 80 n)) (same_lines named one other e) ∙ among_ends named other n within in
-    same_one n (end_of n one) (end_of n other) fits also (where_true (is_named named n) (one_of n (end_of n one)) (one_of n (end_of n other)) is lines)
+    same_one n (end_of n one) (end_of n other) clear also (where_true (is_named named n) (one_of n (end_of n one)) (one_of n (end_of n other)) is lines)
 
 tells_state : {Y Z : Type 0} (named : List Bool) (one : Report Y) (other : Report Z) (c : ℕ) → IsTrue (names_channel c) → IsListed (history_on c one.channels) → IsListed (history_on c other.channels)
     → printed_report named one ≡ printed_report named other → IsToldAlike (history_on c one.channels) (history_on c other.channels)
@@ -504,11 +536,11 @@ tells_state {Y} {Z} named one other c is small also e =
     used_alike (names_channel c) c (history_on c one.channels) (history_on c other.channels) is
     (sym (among_states named one c within) ∙ ap (filter (is_state c)) (same_lines named one other e) ∙ among_states named other c within) small also
 
-pub report_tells : {Y Z : Type 0} (named : List Bool) (one : Report Y) (other : Report Z) → FitsItsReport named one → FitsItsReport named other
+pub report_tells : {Y Z : Type 0} (named : List Bool) (one : Report Y) (other : Report Z) → FitsItsReport named one → FitsItsReport named other → HasNumberedEnds one → HasNumberedEnds other
     → printed_report named one ≡ printed_report named other → AgreeOnReport named one other
-report_tells {Y} {Z} named one other fits also e = record {
+report_tells {Y} {Z} named one other fits also numbered told e = record {
   events = λ c is. tells_events named one other c is (fits.events c is) (also.events c is) e;
-  workers = λ n is. tells_end named one other n is (fits.workers n is) (also.workers n is) e;
+  workers = λ n is. tells_end named one other n is (clear_end n one (fits.workers n is) numbered) (clear_end n other (also.workers n is) told) e;
   channels = λ c is. tells_state named one other c is (fits.channels c is) (also.channels c is) e;
 }
 
@@ -552,18 +584,6 @@ pub histories_told : {Y Z : Type 0} (opening : ℕ → List Event) (one : Report
     → told_of c one ≡ told_of c other → history_on c one.channels ≡ history_on c other.channels
 histories_told {Y} {Z} opening one other c merged also same =
     whole_history opening one c merged ∙ ap (λ ts. opening c ++ map (λ (t : ToldEvent). t.event) ts) same ∙ sym (whole_history opening other c also)
-
--- an end is told by what is said of it
-pub same_finish : (f g : End) → HasEndNumber f → HasEndNumber g → end_text f ≡ end_text g → f ≡ g
-same_finish Stopped Stopped _ _ e = refl
-same_finish (Fault m) (Fault n) one other e = ap Fault (octal_tells 1 m n (omega (arith, one.last)) (omega (arith, other.last)) (ap (drop 6) e))
-same_finish Steps Steps _ _ e = refl
-same_finish Patience Patience _ _ e = refl
-same_finish Memory Memory _ _ e = refl
-same_finish Worn Worn _ _ e = refl
-same_finish f g _ _ e =
-    let third : get_or (end_text f) 2 0 ≡ get_or (end_text g) 2 0 = ap (λ text. get_or text 2 0) e in
-    absurd (omega (arith, third))
 
 -- ---- what is printed fits
 

@@ -483,9 +483,9 @@ plain_lines named m =
     (are_lines-append (lines_below 0o100 (processors named m)) (lines_below 0o100 (channels m.histories)) (are_lines_below 0o100 (processors named m) (plain_processors named m))
     (are_lines_below 0o100 (channels m.histories) (plain_channels m.histories)))
 
-same_lines : (named : List Bool) (one other : MachineState) → printed named one ≡ printed named other → lines_of named one ≡ lines_of named other
-same_lines named one other e =
-    lines_told (lines_of named one) (lines_of named other) (plain_lines named one) (plain_lines named other) (sym (text_in_lines named one) ∙ e ∙ text_in_lines named other)
+same_lines : (named others : List Bool) (one other : MachineState) → printed named one ≡ printed others other → lines_of named one ≡ lines_of others other
+same_lines named others one other e =
+    lines_told (lines_of named one) (lines_of others other) (plain_lines named one) (plain_lines others other) (sym (text_in_lines named one) ∙ e ∙ text_in_lines others other)
 
 -- ---- the lines of the trace among them
 
@@ -558,13 +558,13 @@ told_channel named m c within =
     ∙ (ap (λ more. more ++ filter (is_of 67 c) cs) (none_below 0o100 (is_of 67 c) (processors named m) (λ k _. ours.elsewhere 67 c k (λ same. absurd (omega (arith, same)))))
     ∙ one_below 0o100 c 67 (channels m.histories) (channels_are_of m.histories) (omega arith) within)))
 
-same_processors : (named : List Bool) (one other : MachineState) (n : ℕ) → n < 0o100 → printed named one ≡ printed named other → processors named one n ≡ processors named other n
-same_processors named one other n within e =
-    sym (told_processor named one n within) ∙ ap (filter (is_of 80 n)) (same_lines named one other e) ∙ told_processor named other n within
+same_processors : (named others : List Bool) (one other : MachineState) (n : ℕ) → n < 0o100 → printed named one ≡ printed others other → processors named one n ≡ processors others other n
+same_processors named others one other n within e =
+    sym (told_processor named one n within) ∙ ap (filter (is_of 80 n)) (same_lines named others one other e) ∙ told_processor others other n within
 
-same_channels : (named : List Bool) (one other : MachineState) (c : ℕ) → c < 0o100 → printed named one ≡ printed named other → channels one.histories c ≡ channels other.histories c
-same_channels named one other c within e =
-    sym (told_channel named one c within) ∙ ap (filter (is_of 67 c)) (same_lines named one other e) ∙ told_channel named other c within
+same_channels : (named others : List Bool) (one other : MachineState) (c : ℕ) → c < 0o100 → printed named one ≡ printed others other → channels one.histories c ≡ channels other.histories c
+same_channels named others one other c within e =
+    sym (told_channel named one c within) ∙ ap (filter (is_of 67 c)) (same_lines named others one other e) ∙ told_channel others other c within
 
 -- ---- what a processor's line tells
 
@@ -587,14 +587,14 @@ same_processor n pp other shown also e = (
   same_state pp.state other.state shown.state also.state (ap (drop 21) e),
 )
 
-tells_processor : (named : List Bool) (one other : MachineState) (n : ℕ) → n < 0o100 → IsTrue (is_named named n) → IsShown (processor_of n one) → IsShown (processor_of n other)
-    → printed named one ≡ printed named other → IsShownAlike (processor_of n one) (processor_of n other)
+tells_processor : (named others : List Bool) (one other : MachineState) (n : ℕ) → n < 0o100 → IsTrue (is_named named n) → IsTrue (is_named others n) → IsShown (processor_of n one) → IsShown (processor_of n other)
+    → printed named one ≡ printed others other → IsShownAlike (processor_of n one) (processor_of n other)
 unfolding processors
-tells_processor named one other n within is shown also e =
-    let lines : (if is_named named n then processor_body n (processor_of n one) ∷ [] else []) ≡ (if is_named named n then processor_body n (processor_of n other) ∷ [] else []) =
-    same_processors named one other n within e in
+tells_processor named others one other n within is too shown also e =
+    let lines : (if is_named named n then processor_body n (processor_of n one) ∷ [] else []) ≡ (if is_named others n then processor_body n (processor_of n other) ∷ [] else []) =
+    same_processors named others one other n within e in
     let line : processor_body n (processor_of n one) ∷ [] ≡ processor_body n (processor_of n other) ∷ [] =
-    sym (ap (λ (b : Bool). if b then processor_body n (processor_of n one) ∷ [] else []) is) ∙ lines ∙ ap (λ (b : Bool). if b then processor_body n (processor_of n other) ∷ [] else []) is in
+    sym (ap (λ (b : Bool). if b then processor_body n (processor_of n one) ∷ [] else []) is) ∙ lines ∙ ap (λ (b : Bool). if b then processor_body n (processor_of n other) ∷ [] else []) too in
     let same = same_processor n (processor_of n one) (processor_of n other) shown also (one_is _ _ line) in
     record { p = same.0; a = same.1; state = same.2 }
 
@@ -635,12 +635,12 @@ used_alike true c (x ∷ h) (y ∷ k) is e small also =
     let same = same_channel_text (active (x ∷ h)) (active (y ∷ k)) (waiting (x ∷ h)) (waiting (y ∷ k)) (full_is_active (x ∷ h)) (full_is_active (y ∷ k)) small also (ap (drop 5) line) in
     record { used = refl; active = same.0; waiting = same.1 }
 
-tells_channel : (named : List Bool) (one other : MachineState) (c : ℕ) → c < 0o100 → IsTrue (names_channel c)
+tells_channel : (named others : List Bool) (one other : MachineState) (c : ℕ) → c < 0o100 → IsTrue (names_channel c)
     → IsListed (history_on c one.histories) → IsListed (history_on c other.histories)
-    → printed named one ≡ printed named other → IsToldAlike (history_on c one.histories) (history_on c other.histories)
+    → printed named one ≡ printed others other → IsToldAlike (history_on c one.histories) (history_on c other.histories)
 unfolding channels
-tells_channel named one other c within is small also e =
-    used_alike (names_channel c) c (history_on c one.histories) (history_on c other.histories) is (same_channels named one other c within e) small also
+tells_channel named others one other c within is small also e =
+    used_alike (names_channel c) c (history_on c one.histories) (history_on c other.histories) is (same_channels named others one other c within e) small also
 
 -- ---- the law
 
@@ -651,12 +651,37 @@ left_true false b is = is
 pub named_digits : (named : List Bool) (n : ℕ) → IsTrue (is_named named n) → n < 0o100
 named_digits named n is = processor_digits n (left_true (names_processor n) (slice_index_or named (processor_index n) false) is)
 
-pub text_tells : (named : List Bool) (one other : MachineState) → FitsItsText named one → FitsItsText named other → printed named one ≡ printed named other → AgreeOnText named one other
-text_tells named one other fits also e = record {
-  trace = same_trace one.trace other.trace fits.trace also.trace (sym (told_trace named one) ∙ ap (filter is_event) (same_lines named one other e) ∙ told_trace named other);
-  processors = λ n is. tells_processor named one other n (named_digits named n is) is (fits.processors n is) (also.processors n is) e;
-  channels = λ c is. tells_channel named one other c (channel_digits c is) is (fits.channels c is) (also.channels c is) e;
-}
+-- which processors are named: those with a line
+same_name : (a b : Bool) (l k : List ℕ) → (if a then l ∷ [] else []) ≡ (if b then k ∷ [] else []) → a ≡ b
+same_name true true l k e = refl
+same_name true false l k e = absurd cc
+same_name false true l k e = absurd cc
+same_name false false l k e = refl
+
+unnamed : (b : Bool) → (IsTrue b → ⊥) → b ≡ false
+unnamed true none = absurd (none refl)
+unnamed false none = refl
+
+tells_names : (named others : List Bool) (one other : MachineState) → printed named one ≡ printed others other → (n : ℕ) → is_named named n ≡ is_named others n
+unfolding processors
+tells_names named others one other e n = elim (cases_lt n 0o100) [
+  | inl within ↦
+      same_name (is_named named n) (is_named others n) (processor_body n (processor_of n one)) (processor_body n (processor_of n other)) (same_processors named others one other n within e)
+  | inr past ↦
+      unnamed (is_named named n) (λ is. let low = named_digits named n is in absurd (omega (arith, low, past)))
+      ∙ sym (unnamed (is_named others n) (λ is. let low = named_digits others n is in absurd (omega (arith, low, past))))
+]
+
+pub text_tells : (named others : List Bool) (one other : MachineState) → FitsItsText named one → FitsItsText others other → printed named one ≡ printed others other → AgreeOnText named others one other
+text_tells named others one other fits also e =
+    let names = tells_names named others one other e in record {
+      names = names;
+      trace = same_trace one.trace other.trace fits.trace also.trace (sym (told_trace named one) ∙ ap (filter is_event) (same_lines named others one other e) ∙ told_trace others other);
+      processors = λ n is.
+          let too : IsTrue (is_named others n) = sym (names n) ∙ is in
+          tells_processor named others one other n (named_digits named n is) is too (fits.processors n is) (also.processors n too) e;
+      channels = λ c is. tells_channel named others one other c (channel_digits c is) is (fits.channels c is) (also.channels c is) e;
+    }
 
 -- ---- what is printed fits
 

@@ -5,17 +5,17 @@ use Rattle.pp_channel.specs.ChannelNumber.{names_channel}
 use Rattle.pp_channel.specs.History.{HasTwelveBitWord}
 use Rattle.pp_channel.specs.Merge.{history_on}
 use Rattle.pp_channel.specs.declared.event.Event.{Event}
-use Rattle.pp_machine.specs.Processor.{IsFaultNumber}
 use Rattle.pp_machine.specs.ProcessorNumber.{names_processor, processor_index, processor_number}
+use Rattle.pp_runner.specs.WorkerEnd.{HasEndNumber}
 use Rattle.pp_runner.specs.declared.end.End.{End}
-use Rattle.pp_runner.specs.declared.end.End.TheVariants.{Fault}
 use Rattle.pp_runner.specs.declared.report.Report.{Report}
 use Rattle.pp_runner.specs.declared.worker.Worker.{Worker}
-use Rattle.pp_text.specs.PrintedReport.{author_place, end_text}
+use Rattle.pp_text.specs.PrintedReport.{author_place}
 use Rattle.pp_text.specs.PrintedText.{is_named}
-use Rattle.pp_text.specs.TextLaw.{IsListed, IsToldAlike}
+use Rattle.pp_text.specs.TextLaw.{AreSameHistories, IsListed, IsToldAlike}
 
--- an event as a report's text tells it: its number in the history, the processor that made it, and what happened
+-- an event as a report's text tells it: its number in the history, the processor that made it, and
+-- what happened
 pub record ToldEvent : Type 0 where
   pub number : ℕ
   pub author : ℕ
@@ -24,25 +24,24 @@ pub record ToldEvent : Type 0 where
 -- by the place of its author; an opening event has none, and is not told
 abbrev pub told_by : ℕ → Event → Option ℕ → Option ToldEvent
 told_by number event None = None
-told_by number event (Some place) = Some (record { number = number; author = processor_number place; event = event })
+told_by number event (Some place) =
+    Some (record { number = number; author = processor_number place; event = event })
 
 -- the events of channel c that the text tells, in order
 abbrev pub told_events : {Z : Type 0} → ℕ → List (Worker Z) → List Event → List ToldEvent
-told_events {Z} c workers history = filter_map (λ ((number, event) : ℕ × Event). told_by number event (author_place c workers number)) (enumerate_from 0 history)
+told_events {Z} c workers history =
+    filter_map
+    (λ ((number, event) : ℕ × Event). told_by number event (author_place c workers number))
+    (enumerate_from 0 history)
 
--- what a worker's line shows: P, A and what is said of its end
+-- what a worker's line shows: P, A and the end
 pub record ShownEnd : Type 0 where
   pub p : ℕ
   pub a : ℕ
-  pub said : List ℕ
+  pub finish : End
 
 abbrev pub shown_end : {Z : Type 0} → Worker Z → ShownEnd
-shown_end worker = record { p = worker.pp.p; a = worker.pp.a; said = end_text worker.finish }
-
--- where an end is a fault, it is a numbered one
-abbrev pub HasEndNumber : End → Type 0
-HasEndNumber (Fault number) = IsFaultNumber number
-HasEndNumber finish = Unit {0}
+shown_end worker = record { p = worker.pp.p; a = worker.pp.a; finish = worker.finish }
 
 -- an event fits its line
 pub record FitsItsLine (told : ToldEvent) : Type 0 where
@@ -69,13 +68,20 @@ pub record FitsItsReport {Z : Type 0} (named : List Bool) (report : Report Z) : 
   pub workers : (n : ℕ) → IsTrue (is_named named n) → IfSome (end_of n report) FitsItsEnd
   pub channels : (c : ℕ) → IsTrue (names_channel c) → IsListed (history_on c report.channels)
 
--- The same events on each channel, each with its number and its author; the same said of each processor named; and of
--- each channel whether anything has happened, whether it is active, and the word that waits.
-pub record AgreeOnReport {Y Z : Type 0} (named : List Bool) (one : Report Y) (other : Report Z) : Type 0 where
+-- each worker that ended at a fault is at a numbered one
+abbrev pub HasNumberedEnds : {Z : Type 0} → Report Z → Type 0
+HasNumberedEnds report = All (λ worker. HasEndNumber worker.finish) report.ends.items
+
+-- The same events on each channel, each with its number and its author; the same P, A and end of
+-- each processor named; and of each channel whether anything has happened, whether it is active,
+-- and the word that waits.
+pub record AgreeOnReport {Y Z : Type 0} (named : List Bool) (one : Report Y) (other : Report Z)
+    : Type 0 where
   pub events : (c : ℕ) → IsTrue (names_channel c) → told_of c one ≡ told_of c other
   pub workers : (n : ℕ) → IsTrue (is_named named n) → end_of n one ≡ end_of n other
-  pub channels : (c : ℕ) → IsTrue (names_channel c) → IsToldAlike (history_on c one.channels) (history_on c other.channels)
+  pub channels : (c : ℕ) → IsTrue (names_channel c)
+      → IsToldAlike (history_on c one.channels) (history_on c other.channels)
 
 -- the same history on each channel
 abbrev pub HaveSameHistories : {Y Z : Type 0} → Report Y → Report Z → Type 0
-HaveSameHistories one other = (c : ℕ) → IsTrue (names_channel c) → history_on c one.channels ≡ history_on c other.channels
+HaveSameHistories one other = AreSameHistories one.channels other.channels

@@ -52,9 +52,18 @@ pub record IsToldAlike (h other : List Event) : Type 0 where
   pub active : active h ≡ active other
   pub waiting : waiting h ≡ waiting other
 
--- the same events in the same order; of each processor named the same P, A and state; and of each channel whether
--- anything has happened, whether it is active, and the word that waits
-pub record AgreeOnText (named : List Bool) (one other : MachineState) : Type 0 where
+-- the same processors named; the same events in the same order; of each processor named the same P,
+-- A and state; and of each channel whether anything has happened, whether it is active, and the
+-- word that waits
+pub record AgreeOnText (named others : List Bool) (one other : MachineState) : Type 0 where
+  pub names : (n : ℕ) → is_named named n ≡ is_named others n
   pub trace : one.trace ≡ other.trace
-  pub processors : (n : ℕ) → IsTrue (is_named named n) → IsShownAlike (processor_of n one) (processor_of n other)
-  pub channels : (c : ℕ) → IsTrue (names_channel c) → IsToldAlike (history_on c one.histories) (history_on c other.histories)
+  pub processors :
+      (n : ℕ) → IsTrue (is_named named n) → IsShownAlike (processor_of n one) (processor_of n other)
+  pub channels : (c : ℕ) → IsTrue (names_channel c)
+      → IsToldAlike (history_on c one.histories) (history_on c other.histories)
+
+-- the same history on each channel
+abbrev pub AreSameHistories : List (List Event) → List (List Event) → Type 0
+AreSameHistories histories others =
+    (c : ℕ) → IsTrue (names_channel c) → history_on c histories ≡ history_on c others

@@ -4,39 +4,53 @@
 ghost use Rattle.std.specs.Prelude.{ℕ, ◌≡◌, ◌<◌, ◌↔◌, Bool, List, length, None};
 ghost use Rattle.pp_channel.specs.Merge.{Merges, history_on};
 ghost use Rattle.pp_channel.specs.declared.event.Event.{Event};
+ghost use Rattle.pp_machine.specs.Headline.{HoldsOnEachChannel};
 ghost use Rattle.pp_machine.specs.MachineState.{MachineState};
 ghost use Rattle.pp_runner.specs.WorkerReport.{logs_of};
 ghost use Rattle.pp_runner.specs.declared.report.Report.{Report};
 ghost use Rattle.pp_runner.specs.declared.worker.Worker.{Worker};
 ghost use Rattle.pp_text.specs.PrintedReport.{author_place, printed_report};
 ghost use Rattle.pp_text.specs.PrintedText.{printed};
-ghost use Rattle.pp_text.specs.ReportLaw.{AgreeOnReport, FitsItsReport, told_of};
-ghost use Rattle.pp_text.specs.TextLaw.{AgreeOnText, FitsItsText};
+ghost use Rattle.pp_text.specs.ReportLaw.{AgreeOnReport, FitsItsReport, HasNumberedEnds, told_of};
+ghost use Rattle.pp_text.specs.TextLaw.{AgreeOnText, AreSameHistories, FitsItsText};
 
 use std::alloc::Allocator;
 
-/// Only opening events have no author, and so no line: where the logs of workers merge to histories, each
-/// event that is not one of the opening history stands in the log of one of them.
+/// Only opening events have no author, and so no line: where the logs of workers merge to
+/// histories, each event that is not one of the opening history stands in the log of one of them.
 pub fn author_law<A: Allocator>()
     ensures { (opening : ℕ → List Event) (histories : List (List Event)) (workers : List (Worker A))
-        → Merges opening histories (logs_of workers) → (c number : ℕ) → number < length (history_on c histories)
+        → Merges opening histories (logs_of workers)
+        → (c number : ℕ) → number < length (history_on c histories)
         → (author_place c workers number ≡ None) ↔ (number < length (opening c)) }
 {}
 
-/// The text of a run is the run: two machines with one text agree on the trace, event by event, on what
-/// is shown of each processor named and on what is shown of each channel. A machine that is printed fits
-/// its text, by the clause `fits` of `printed_text`.
-#[tactic(auto, using(crate::proofs::TextLawLemmas::text_tells))]
+/// The text of a run is the run: two machines with one text have the same processors named, and
+/// agree on the trace, event by event, on what is shown of each processor named and on what is
+/// shown of each channel. A machine that is printed fits its text, by the clause `fits` of
+/// `printed_text`. Where the headline holds of both, each channel has the same history in both,
+/// opening events and all.
 pub fn text_law()
-    ensures { (named : List Bool) (one other : MachineState) → FitsItsText named one → FitsItsText named other → printed named one ≡ printed named other → AgreeOnText named one other }
+    ensures text { (named others : List Bool) (one other : MachineState)
+        → FitsItsText named one → FitsItsText others other
+        → printed named one ≡ printed others other → AgreeOnText named others one other }
+    ensures histories { (named others : List Bool) (one other : MachineState)
+        → HoldsOnEachChannel one → HoldsOnEachChannel other
+        → AgreeOnText named others one other → AreSameHistories one.histories other.histories }
 {}
 
-/// The text of a run by threads is its report: two reports with one text agree on the events of each
-/// channel that have an author, each with its number and its author, on what is said of each processor
-/// named and of its end, and on what is shown of each channel. Where the logs of both merge over the same
-/// opening histories, the histories are the same too.
+/// The text of a run by threads is its report: two reports with one text, each of whose faults is a
+/// numbered one, agree on the events of each channel that have an author, each with its number and
+/// its author, on P, A and the end of each processor named, and on what is shown of each channel.
+/// Where the logs of both merge over the same opening histories, the histories are the same too.
 pub fn report_law<A: Allocator>()
-    ensures text { (named : List Bool) (one other : Report A) → FitsItsReport named one → FitsItsReport named other → printed_report named one ≡ printed_report named other → AgreeOnReport named one other }
-    ensures histories { (opening : ℕ → List Event) (one other : Report A) (c : ℕ) → Merges opening one.channels (logs_of one.ends.items) → Merges opening other.channels (logs_of other.ends.items)
-        → told_of c one ≡ told_of c other → history_on c one.channels ≡ history_on c other.channels }
+    ensures text { (named : List Bool) (one other : Report A)
+        → FitsItsReport named one → FitsItsReport named other
+        → HasNumberedEnds one → HasNumberedEnds other
+        → printed_report named one ≡ printed_report named other → AgreeOnReport named one other }
+    ensures histories { (opening : ℕ → List Event) (one other : Report A) (c : ℕ)
+        → Merges opening one.channels (logs_of one.ends.items)
+        → Merges opening other.channels (logs_of other.ends.items)
+        → told_of c one ≡ told_of c other
+        → history_on c one.channels ≡ history_on c other.channels }
 {}

@@ -3,7 +3,7 @@ use Rattle.pp_channel.specs.RisingLog.{seen_on}
 use Rattle.pp_runner.proofs.CrewLemmas.{ended_since, gave_up, not_given_up}
 use Rattle.pp_runner.proofs.EndLemmas.{end_at_last, worn_at_rest, worn_at_last, patience_at_rest, patience_at_last}
 use Rattle.pp_runner.proofs.LabourLemmas.{work_begins}
-use Rattle.pp_runner.proofs.LineLemmas.{same_line_still, same_line_twice}
+use Rattle.pp_runner.proofs.LineLemmas.{operated_least, same_line_still, same_line_twice}
 use Rattle.pp_runner.specs.WorkerEnd.{IsEnd, WornWithCause}
 use Rattle.pp_runner.specs.declared.end.End.{End}
 use Rattle.pp_runner.proofs.labour.work.Goals as goal
@@ -76,7 +76,7 @@ pub loop-done-preserved : goal.loop-done-preserved
 loop-done-preserved g c = record {
   work = c.take_step.ensures.work;
   same_line = same_line_twice c.args.line c.loop-done.labour.line c.take_step.new.self.line c.loop-done.invariant.same_line c.take_step.ensures.same_line;
-  found = omega (arith, c.loop-done.invariant.found, c.take_step.ensures.operated.least);
+  found = omega (arith, c.loop-done.invariant.found, operated_least _ _ _ c.take_step.ensures.operated);
   few_tries = omega (arith, c.loop-done.invariant.few_tries, c.take_step.ensures.few_tries.1, c.patience-patience.ensures.value);
   count = omega (arith, c.in_default-take_step.ensures.moved, c.loop-done.invariant.count);
 }

@@ -1,4 +1,4 @@
-use Rattle.std.proofs.Common.{ℕ, ◌<◌, arith}
+use Rattle.std.proofs.Common.{ℕ, arith}
 use Rattle.std.specs.Prelude.{IsTrue}
 use Rattle.pp_channel.specs.ChannelNumber.{names_channel}
 use Rattle.pp_channel.specs.Merge.{history_on}

@@ -1,0 +1,57 @@
+-- What is shown of a machine tells the history of each of its channels: the text has the events of the
+-- trace, and they tell whether an Activate of dead start stands in front of them.
+use Rattle.std.proofs.Common.{◌≡◌, ◌∙◌, Bool, true, false, List, [], ◌∷◌, ◌++◌, Option, Some, None, refl, sym, ap, subst}
+use Rattle.std.specs.Prelude.{if◌then◌else◌}
+use Rattle.pp_channel.specs.History.{IsLawful}
+use Rattle.pp_channel.specs.declared.event.Event.{Event}
+use Rattle.pp_channel.specs.declared.event.Event.TheVariants.{Activate, Disconnect, Put, Take, Function}
+use Rattle.pp_channel.proofs.HistoryLemmas.{state_at}
+use Rattle.pp_channel.proofs.HistoryWalk.{State, Inactive, Empty, step, walk, walk_none}
+use Rattle.pp_machine.specs.Headline.{HoldsOnEachChannel, events_on, opening_history}
+use Rattle.pp_machine.specs.MachineState.{MachineState, history_of, is_opened}
+use Rattle.pp_text.specs.TextLaw.{AgreeOnText, AreSameHistories, is_used}
+
+abbrev opening : Bool → List Event
+opening is_open = if is_open then Activate ∷ [] else []
+
+-- no history goes on from a step that is not allowed
+goes_on : (o : Option State) (events : List Event) (s : State) → walk o events ≡ Some s → o ≡ None → ⊥
+goes_on o events s is none =
+    let no : None ≡ Some s = sym (walk_none events) ∙ (ap (λ x. walk x events) (sym none) ∙ is) in cc
+
+-- no event is allowed both on an inactive channel and on one that was just opened
+not_both : (e : Event) → (step Inactive e ≡ None → ⊥) → (step Empty e ≡ None → ⊥) → ⊥
+not_both Activate inactive empty = empty refl
+not_both Disconnect inactive empty = inactive refl
+not_both (Put w) inactive empty = inactive refl
+not_both (Take w) inactive empty = inactive refl
+not_both (Function w) inactive empty = empty refl
+
+-- so one of two histories with the same later events can't be opened alone
+not_opened_alone : (events : List Event) → IsLawful (Activate ∷ events) → IsLawful events → is_used (Activate ∷ events) ≡ is_used events → ⊥
+not_opened_alone [] opened closed used = cc
+not_opened_alone (e ∷ events) opened closed used =
+    let after = state_at (Activate ∷ e ∷ events) opened in
+    let alone = state_at (e ∷ events) closed in
+    not_both e (goes_on (step Inactive e) events alone.0 alone.1) (goes_on (step Empty e) events after.0 after.1)
+
+opened_alike : (a b : Bool) (events : List Event) → IsLawful (opening a ++ events) → IsLawful (opening b ++ events)
+    → is_used (opening a ++ events) ≡ is_used (opening b ++ events) → opening a ++ events ≡ opening b ++ events
+opened_alike true true events _ _ _ = refl
+opened_alike false false events _ _ _ = refl
+opened_alike true false events opened closed used = absurd (not_opened_alone events opened closed used)
+opened_alike false true events closed opened used = absurd (not_opened_alone events opened closed (sym used))
+
+-- two histories of a channel, each its opening history followed by the same events
+pub one_history : (a b : Bool) (events h other : List Event) → h ≡ opening a ++ events → other ≡ opening b ++ events → IsLawful h → IsLawful other
+    → is_used h ≡ is_used other → h ≡ other
+one_history a b events h other is also lawful keeps used =
+    is
+    ∙ (opened_alike a b events (subst IsLawful is lawful) (subst IsLawful also keeps) (sym (ap is_used is) ∙ (used ∙ ap is_used also))
+    ∙ sym also)
+
+pub text_tells_histories : (named others : List Bool) (one other : MachineState) → HoldsOnEachChannel one → HoldsOnEachChannel other → AgreeOnText named others one other
+    → AreSameHistories one.histories other.histories
+text_tells_histories named others one other holds also agree c is =
+    one_history (is_opened c one) (is_opened c other) (events_on c one.trace) (history_of c one) (history_of c other) (holds c is).traced
+    ((also c is).traced ∙ ap (λ trace. opening_history c other ++ events_on c trace) (sym agree.trace)) (holds c is).lawful (also c is).lawful (agree.channels c is).used
