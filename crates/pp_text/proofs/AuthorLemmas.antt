@@ -8,8 +8,7 @@ use Rattle.std.proofs.lemmas.List.{get_or_default, length-take-le}
 use Rattle.pp_channel.specs.ChannelNumber.{channel_index, names_channel}
 use Rattle.pp_channel.specs.Merge.{history_on}
 use Rattle.pp_channel.specs.declared.event.Event.{Event}
-use Rattle.pp_machine.specs.ProcessorNumber.{processor_count, processor_in_turn, processor_number}
-use Rattle.pp_machine.proofs.ProcessorPlaces.{in_turn_at}
+use Rattle.pp_machine.specs.ProcessorNumber.{processor_count, processor_number}
 use Rattle.pp_runner.specs.declared.worker.Worker.{Worker}
 use Rattle.pp_text.specs.Authors.{AreAuthors, AreAuthorsOn, or_told}
 use Rattle.pp_text.specs.PrintedReport.{author_place, channel_events, log_tells, numbered_event_line}
@@ -42,7 +41,7 @@ or_told_map f None false author = refl
 
 -- the author, by one worker more
 pub author_push : {Z : Type 0} (c number place : ℕ) (workers : List (Worker Z)) (worker : Worker Z) (before after : Option ℕ) (author : ℕ)
-    → place < length workers → length workers ≤ processor_count → worker ≡ slice_index_or workers place worker → author ≡ processor_in_turn place
+    → place < length workers → length workers ≤ processor_count → worker ≡ slice_index_or workers place worker → author ≡ processor_number place
     → before ≡ option_map processor_number (author_place c (take place workers) number)
     → after ≡ or_told before (log_tells c number worker.log.items) author
     → after ≡ option_map processor_number (author_place c (take (place + 1) workers) number)
@@ -53,7 +52,7 @@ author_push {Z} c number place workers worker before after author l few at by wa
     let found : author_place c (take (place + 1) workers) number ≡ or_told (author_place c (take place workers) number) (test worker) place =
     ap (position test) more ∙ (position_push test (take place workers) worker
     ∙ ap (or_told (position test (take place workers)) (test worker)) (length-take-le place workers (omega arith))) in
-    let same : author ≡ processor_number place = by ∙ in_turn_at place (omega arith) in
+    let same : author ≡ processor_number place = by in
     now ∙ (ap (λ known. or_told known (test worker) author) was ∙ (ap (or_told (option_map processor_number (author_place c (take place workers) number)) (test worker)) same
     ∙ (sym (or_told_map processor_number (author_place c (take place workers) number) (test worker) place) ∙ sym (ap (option_map processor_number) found))))
 

@@ -257,11 +257,11 @@ same_event e k _ _ same =
 -- numbers of processors and channels have two octal digits
 pub processor_digits : (n : ℕ) → IsTrue (names_processor n) → n < 0o100
 unfolding names_processor
-processor_digits n is = let below = ltb-true n processor_count is in omega (arith, below)
+processor_digits n is = grind (arith)
 
 pub channel_digits : (c : ℕ) → IsTrue (names_channel c) → c < 0o100
 unfolding names_channel
-channel_digits c is = let below = ltb-true c channel_count is in omega (arith, below)
+channel_digits c is = grind (arith)
 
 same_tail : (e k : Trace) → IsTold e → IsTold k → event_tail e ≡ event_tail k → (e.pp ≡ k.pp) × (e.channel ≡ k.channel) × (e.event ≡ k.event)
 unfolding event_tail

@@ -9,7 +9,7 @@ loop-place-preserved g c =
     let before = c.loop-place.invariant in record {
       each = c.mark.ensures.each_channel;
       each_event = λ k. c.mark.ensures.each_event k ∙ before.each_event k;
-      found = λ k number names l. author_push k number _ c.args.workers.now c.index-workers-place.result _ _ _ (search rules) c.requires (search rules) c.at.ensures
+      found = λ k number names l. author_push k number _ c.args.workers.now c.index-workers-place.result _ _ _ (search rules) c.requires (search rules) c.at.ensures.number
           (before.found k number names l)
           (c.mark.ensures.marked k number names (let long = before.each_event k in omega (arith, long, l))
           ∙ ap (λ log. or_told (slice_index_or (authors_on k c.loop-place.authors.items) number None) (log_tells k number log) c.at.result) c.as_slice.ensures.value);
