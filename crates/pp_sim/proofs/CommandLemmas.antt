@@ -1,6 +1,6 @@
 -- From what clap ensures of a parse to what the words ask for.
-use Rattle.std.proofs.Common.{◌≡◌, ◌∙◌, true, List, [], Option, Some, None, option_map, sym, subst, refl, inl, inr, codes}
-use Rattle.std.specs.Prelude.{Box, ◌≢◌}
+use Rattle.std.proofs.Common.{◌≡◌, ◌∙◌, ℕ, true, List, [], Option, Some, None, option_map, sym, subst, refl, inl, inr, codes}
+use Rattle.std.specs.Prelude.{Box, ◌≢◌, is_some}
 use Rattle.std.specs.Box.{box_value}
 use Rattle.clap.specs.Words.{App, HasKind, IsAmong, Kinds, Text, Row, HasMatchesOf, fault_of, is_simple, is_simple_and_free, first_value, found_of, kind_of, rows_of, subcommand_of, subcommand_rows, subcommand_rows_of, subcommand_name_of}
 use Rattle.clap.specs.declared.error.Error.{Error}
@@ -11,7 +11,9 @@ use Rattle.clap.specs.declared.parser.matches.ArgMatches.{ArgMatches}
 use Rattle.clap.specs.declared.parser.matches.ArgMatches.TheViews.{out-ArgMatches, out-SubCommand}
 use Rattle.clap.proofs.WalkLemmas.{first_value-rows}
 use Rattle.clap.proofs.OnLiterals.{clap_on_literals}
-use Rattle.pp_sim.specs.CommandLine.{IsFaultBy, IsOutOfRange, IsRefused, IsWorkAmong, IsWorkOf, ppsim, refusals}
+use Rattle.pp_machine.specs.Profile.{processors_in}
+use Rattle.pp_machine.specs.declared.profile.Profile.{Profile}
+use Rattle.pp_sim.specs.CommandLine.{IsFaultBy, IsOutOfRange, IsRefused, IsWorkAmong, IsWorkOf, ReadsNumber, ReadsProfile, ppsim, refusals}
 use Rattle.pp_sim.specs.declared.line_fault.LineFault.{LineFault}
 use Rattle.pp_sim.specs.declared.line_fault.LineFault.TheVariants.{Memory, Refused, Number}
 use Rattle.pp_sim.specs.declared.work.Work.{Work}
@@ -76,11 +78,29 @@ met_none words app m is h e =
 
 -- an option's text is the same by its matches and by its rows
 pub work_by_rows : (name : Text) (f : Found) (work : Work) → IsWorkOf name (first_value f) work → IsWorkAmong (Some (name, rows_of f)) work
-work_by_rows name f (Barrel turns) k = (k.0, rw (← first_value-rows f (codes "turns")) k.1, k.2)
-work_by_rows name f (Threads limits) k =
-    (k.0, rw (← first_value-rows f (codes "steps")) k.1, rw (← first_value-rows f (codes "patience")) k.2, k.3)
+work_by_rows name f (Barrel profile turns) k =
+    (k.0, rw (← first_value-rows f (codes "processors")) k.1, rw (← first_value-rows f (codes "turns")) k.2, k.3)
+work_by_rows name f (Threads profile limits) k = (
+  k.0,
+  rw (← first_value-rows f (codes "processors")) k.1,
+  rw (← first_value-rows f (codes "steps")) k.2,
+  rw (← first_value-rows f (codes "patience")) k.3,
+  k.4,
+)
 
 pub work_by_values : (name : Text) (f : Found) (work : Work) → IsWorkAmong (Some (name, rows_of f)) work → IsWorkOf name (first_value f) work
-work_by_values name f (Barrel turns) k = (k.0, rw (first_value-rows f (codes "turns")) k.1, k.2)
-work_by_values name f (Threads limits) k =
-    (k.0, rw (first_value-rows f (codes "steps")) k.1, rw (first_value-rows f (codes "patience")) k.2, k.3)
+work_by_values name f (Barrel profile turns) k =
+    (k.0, rw (first_value-rows f (codes "processors")) k.1, rw (first_value-rows f (codes "turns")) k.2, k.3)
+work_by_values name f (Threads profile limits) k = (
+  k.0,
+  rw (first_value-rows f (codes "processors")) k.1,
+  rw (first_value-rows f (codes "steps")) k.2,
+  rw (first_value-rows f (codes "patience")) k.3,
+  k.4,
+)
+
+-- where the text of an option is there, and is no number, it says no profile
+pub no_profile : {B : Type 0} (of : B → Text) (o : Option B) (text : Option Text) → is_some o ≡ true → option_map of o ≡ text → ((n : ℕ) → ReadsNumber text n → ⊥) → (profile : Profile) → ReadsProfile text profile → ⊥
+no_profile of None text some is none profile reads = absurd (cc)
+no_profile of (Some x) None some is none profile reads = absurd (cc)
+no_profile of (Some x) (Some text) some is none profile reads = none (processors_in profile) reads

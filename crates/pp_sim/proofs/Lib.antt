@@ -1,6 +1,5 @@
 pub mod AnswerLemmas
 pub mod ByteLemmas
 pub mod CommandLemmas
-pub mod FreshDeckLemmas
 pub mod NumeralLemmas
 pub mod ReportLemmas

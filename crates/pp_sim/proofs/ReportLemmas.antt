@@ -1,9 +1,10 @@
 -- What a report of a run tells of its ends.
-use Rattle.std.proofs.Common.{ℕ, List, [], ◌∷◌, All}
+use Rattle.std.proofs.Common.{ℕ, List, [], ◌∷◌, All, take}
 use Rattle.std.proofs.lemmas.List.Elements.{All-cons, All-nil}
 use Rattle.std.specs.List.{AllZip}
 use Rattle.pp_machine.specs.MachineState.{MachineState}
 use Rattle.pp_machine.specs.Processor.{Processor}
+use Rattle.pp_machine.specs.Profile.{processors_in}
 use Rattle.pp_runner.specs.Report.{IsReportOf}
 use Rattle.pp_runner.specs.RunLimits.{RunLimits}
 use Rattle.pp_runner.specs.WorkerEnd.{HasEndNumber}
@@ -22,4 +23,4 @@ each_numbered {Z} size steps (load ∷ loads) (w ∷ ws) each =
 
 -- a worker of a run that ended at a fault is at a numbered one
 pub report_numbered : {Z : Type 0} (limits : RunLimits) (machine : MachineState) (report : Report Z) → IsReportOf limits machine report → HasNumberedEnds report
-report_numbered {Z} limits machine report is = each_numbered _ limits.steps machine.processors report.ends.items is.workers
+report_numbered {Z} limits machine report is = each_numbered _ limits.steps (take (processors_in machine.profile) machine.processors) report.ends.items is.workers

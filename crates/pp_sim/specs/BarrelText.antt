@@ -10,6 +10,6 @@ use Rattle.pp_text.specs.TextLaw.{FitsItsText}
 -- its opening history and then the trace's events on it, and keeps the law of sessions; and all
 -- that the machine then shows fits its lines, so that the text tells it
 pub record IsBarrelText (turns : ℕ) (deck : LoadedDeck) (text : List ℕ) : Type 0 where
-  pub told : text ≡ printed deck.named (run (barrel turns) deck.machine)
-  pub headline : HoldsOnEachChannel (run (barrel turns) deck.machine)
-  pub fits : FitsItsText deck.named (run (barrel turns) deck.machine)
+  pub told : text ≡ printed deck.named (run (barrel deck.machine.profile turns) deck.machine)
+  pub headline : HoldsOnEachChannel (run (barrel deck.machine.profile turns) deck.machine)
+  pub fits : FitsItsText deck.named (run (barrel deck.machine.profile turns) deck.machine)

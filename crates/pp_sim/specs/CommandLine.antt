@@ -5,6 +5,9 @@ use Rattle.clap.specs.Words.{App, IsAmong, Kinds, Row, Rule, Text, fault_of, fir
 use Rattle.clap.specs.declared.builder.action.ArgAction.TheVariants.{Set}
 use Rattle.clap.specs.declared.error.Error.{Error}
 use Rattle.clap.specs.declared.error.kind.ErrorKind.TheVariants.{OutOfMemory}
+use Rattle.pp_machine.specs.Profile.{processors_in}
+use Rattle.pp_machine.specs.declared.profile.Profile.{Profile}
+use Rattle.pp_machine.specs.declared.profile.Profile.TheVariants.{Ten}
 use Rattle.pp_runner.specs.RunLimits.{AreLimits}
 use Rattle.pp_sim.specs.declared.line_fault.LineFault.{LineFault}
 use Rattle.pp_sim.specs.declared.line_fault.LineFault.TheVariants.{Memory, Refused, Number}
@@ -12,17 +15,23 @@ use Rattle.pp_sim.specs.declared.work.Work.{Work}
 use Rattle.pp_sim.specs.declared.work.Work.TheVariants.{Barrel, Threads}
 
 -- THE COMMAND LINE, as clap sees it: `ppsim barrel --turns N` or `ppsim threads --steps N --patience N`, the command
--- and all its options required
+-- and these options required, and for each `--processors N`, which may be left out
 
 -- a required option whose value is a number
 abbrev pub number_option : Text → Rule
 number_option id = record (new_rule id) { long = Some id; action = Some Set; required = true; value_names = 1 }
 
+-- the option that says how many processors the machine has
+abbrev pub processors_option : Rule
+processors_option = record (new_rule (codes "processors")) { long = Some (codes "processors"); action = Some Set; value_names = 1 }
+
 abbrev pub barrel : App
-barrel = with_rule (new_app (codes "barrel")) (number_option (codes "turns"))
+barrel = with_rule (with_rule (new_app (codes "barrel")) (number_option (codes "turns"))) processors_option
 
 abbrev pub threads : App
-threads = with_rule (with_rule (new_app (codes "threads")) (number_option (codes "steps"))) (number_option (codes "patience"))
+threads =
+    with_rule (with_rule (with_rule (new_app (codes "threads")) (number_option (codes "steps"))) (number_option (codes "patience")))
+    processors_option
 
 abbrev pub bare : App
 bare = record (new_app (codes "ppsim")) { top = record (new_app (codes "ppsim")).top { subcommand_required = true } }
@@ -41,12 +50,18 @@ abbrev pub ReadsNumber : Option Text → ℕ → Type 0
 ReadsNumber None n = ⊥
 ReadsNumber (Some text) n = ParsesUnsigned {E = ℕ} 32 10 text (Ok n)
 
+-- the profile with this many processors; the 6600's own where none is said
+abbrev pub ReadsProfile : Option Text → Profile → Type 0
+ReadsProfile None profile = profile ≡ Ten
+ReadsProfile (Some text) profile = ReadsNumber (Some text) (processors_in profile)
+
 -- WHAT IT ASKS FOR
 
 -- the command of this name, with these texts of its options, asks for this work
 abbrev pub IsWorkOf : Text → (Text → Option Text) → Work → Type 0
-IsWorkOf name text_of (Barrel turns) = (name ≡ codes "barrel") × ReadsNumber (text_of (codes "turns")) turns × (turns ≤ 999999)
-IsWorkOf name text_of (Threads limits) = (name ≡ codes "threads")
+IsWorkOf name text_of (Barrel profile turns) = (name ≡ codes "barrel") × ReadsProfile (text_of (codes "processors")) profile
+    × ReadsNumber (text_of (codes "turns")) turns × (turns ≤ 999999)
+IsWorkOf name text_of (Threads profile limits) = (name ≡ codes "threads") × ReadsProfile (text_of (codes "processors")) profile
     × ReadsNumber (text_of (codes "steps")) limits.steps × ReadsNumber (text_of (codes "patience")) limits.patience
     × AreLimits limits
 

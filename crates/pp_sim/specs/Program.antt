@@ -4,6 +4,7 @@ use Rattle.std.specs.Io.KnownBytes.{Appends, Keeps}
 use Rattle.clap.specs.Words.{Text, kind_of}
 use Rattle.clap.specs.declared.error.Error.{Error}
 use Rattle.clap.specs.declared.error.kind.ErrorKind.TheVariants.{DisplayHelp, DisplayVersion}
+use Rattle.pp_machine.specs.declared.profile.Profile.{Profile}
 use Rattle.pp_sim.specs.BarrelText.{IsBarrelText}
 use Rattle.pp_sim.specs.CommandLine.{AskFor, IsOutOfRange, IsRefused, refusals}
 use Rattle.pp_deck.specs.DeckMeaning.{LoadedDeck}
@@ -20,13 +21,18 @@ use Rattle.pp_sim.specs.declared.work.Work.TheVariants.{Barrel, Threads}
 
 -- the texts that a work may print of a deck; Z is the allocator's type, of which a report is made
 abbrev pub IsTextBy : Type 0 → Work → LoadedDeck → List ℕ → Type 0
-IsTextBy Z (Barrel turns) = IsBarrelText turns
-IsTextBy Z (Threads limits) = IsThreadsText Z limits
+IsTextBy Z (Barrel profile turns) = IsBarrelText turns
+IsTextBy Z (Threads profile limits) = IsThreadsText Z limits
+
+-- the profile of its machine
+abbrev pub profile_of : Work → Profile
+profile_of (Barrel profile turns) = profile
+profile_of (Threads profile limits) = profile
 
 -- the answer of a work, to the bytes that were read, and to the first bytes of a reader that tells what it has
 pub record IsDone (Z : Type 0) (work : Work) (answer : Result (Unit {0}) TextFault) (before after old new : Option (List ℕ)) : Type 0 where
-  pub every_reader : (bytes : List ℕ) × AnswersTo (IsTextBy Z work) answer before after old new bytes
-  pub telling_reader : IfSome before (λ bytes. IsAnswer (IsTextBy Z work) answer (take most_bytes bytes) old new)
+  pub every_reader : (bytes : List ℕ) × AnswersTo (profile_of work) (IsTextBy Z work) answer before after old new bytes
+  pub telling_reader : IfSome before (λ bytes. IsAnswer (profile_of work) (IsTextBy Z work) answer (take most_bytes bytes) old new)
 
 -- the status of a work that was done, or failed
 abbrev pub status_of : Result (Unit {0}) TextFault → ℕ

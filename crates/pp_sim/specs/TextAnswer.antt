@@ -1,6 +1,7 @@
 -- How the answer to a deck stands to the bytes that were read and written.
 use Rattle.std.specs.Prelude.{◌≡◌, ◌≢◌, ◌≤◌, ℕ, List, length, take, Option, Result, Ok, Err, OnOk}
 use Rattle.std.specs.Io.KnownBytes.{Appends, Consumes, IsAtEnd, Keeps}
+use Rattle.pp_machine.specs.declared.profile.Profile.{Profile}
 use Rattle.pp_deck.specs.DeckMeaning.{LoadedDeck, deck_meaning}
 use Rattle.pp_deck.specs.declared.deck_fault.DeckCode.TheVariants as code
 use Rattle.pp_deck.specs.declared.deck_fault.DeckFault.{DeckFault}
@@ -15,31 +16,31 @@ most_bytes = 1048577
 abbrev pub AppendsFront : Option (List ℕ) → Option (List ℕ) → List ℕ → Type 0
 AppendsFront old new text = (count : ℕ) × (count ≤ length text) × Appends old new (take count text)
 
--- the bytes are refused as a deck by this fault, which is no want of memory
-pub record IsFaultOf (bytes : List ℕ) (f : DeckFault) : Type 0 where
-  pub told : deck_meaning bytes ≡ Err f
+-- the bytes are refused as a deck for a machine of this profile by this fault, which is no want of memory
+pub record IsFaultOf (profile : Profile) (bytes : List ℕ) (f : DeckFault) : Type 0 where
+  pub told : deck_meaning profile bytes ≡ Err f
   pub no_memory : f.code ≢ code.Memory
 
--- the bytes are a deck, and this is a text of its run
-pub record IsTextOf (IsRunText : LoadedDeck → List ℕ → Type 0) (bytes text : List ℕ) : Type 0 where
+-- the bytes are a deck for such a machine, and this is a text of its run
+pub record IsTextOf (profile : Profile) (IsRunText : LoadedDeck → List ℕ → Type 0) (bytes text : List ℕ) : Type 0 where
   pub deck : LoadedDeck
-  pub meant : deck_meaning bytes ≡ Ok deck
+  pub meant : deck_meaning profile bytes ≡ Ok deck
   pub run : IsRunText deck text
 
--- THE ANSWER to a deck of these bytes, and what was written: a whole text of its run, a front of one, or nothing
-abbrev pub IsAnswer : (LoadedDeck → List ℕ → Type 0) → Result (Unit {0}) TextFault → List ℕ → Option (List ℕ) → Option (List ℕ) → Type 0
-IsAnswer IsRunText (Ok done) bytes old new = (text : List ℕ) × IsTextOf IsRunText bytes text × Appends old new text
-IsAnswer IsRunText (Err fault.Write) bytes old new = (text : List ℕ) × IsTextOf IsRunText bytes text × AppendsFront old new text
-IsAnswer IsRunText (Err (fault.Deck f)) bytes old new = IsFaultOf bytes f × Keeps old new
-IsAnswer IsRunText (Err fault.Read) bytes old new = Keeps old new
-IsAnswer IsRunText (Err fault.Memory) bytes old new = Keeps old new
+-- THE ANSWER to a deck of these bytes, for a machine of this profile, and what was written: a whole text of its run, a front of one, or nothing
+abbrev pub IsAnswer : Profile → (LoadedDeck → List ℕ → Type 0) → Result (Unit {0}) TextFault → List ℕ → Option (List ℕ) → Option (List ℕ) → Type 0
+IsAnswer profile IsRunText (Ok done) bytes old new = (text : List ℕ) × IsTextOf profile IsRunText bytes text × Appends old new text
+IsAnswer profile IsRunText (Err fault.Write) bytes old new = (text : List ℕ) × IsTextOf profile IsRunText bytes text × AppendsFront old new text
+IsAnswer profile IsRunText (Err (fault.Deck f)) bytes old new = IsFaultOf profile bytes f × Keeps old new
+IsAnswer profile IsRunText (Err fault.Read) bytes old new = Keeps old new
+IsAnswer profile IsRunText (Err fault.Memory) bytes old new = Keeps old new
 
 -- One call, whatever its reader is: these bytes were consumed, no more than a deck may have and one; the answer is
 -- that to the deck that they spell; and where it is Ok, they were all that the reader had.
-pub record AnswersTo (IsRunText : LoadedDeck → List ℕ → Type 0) (answer : Result (Unit {0}) TextFault) (before after old new : Option (List ℕ)) (bytes : List ℕ) : Type 0 where
+pub record AnswersTo (profile : Profile) (IsRunText : LoadedDeck → List ℕ → Type 0) (answer : Result (Unit {0}) TextFault) (before after old new : Option (List ℕ)) (bytes : List ℕ) : Type 0 where
   pub consumed : Consumes before after bytes
   pub bounded : length bytes ≤ most_bytes
-  pub answered : IsAnswer IsRunText answer bytes old new
+  pub answered : IsAnswer profile IsRunText answer bytes old new
   pub whole : OnOk answer (IsAtEnd after)
 
 -- ---- parts of a call
@@ -52,8 +53,8 @@ IsReadFault fault.Write = ⊥
 IsReadFault (fault.Deck f) = ⊥
 
 -- a run fails by the deck or for want of memory
-abbrev pub IsRunFault : List ℕ → TextFault → Type 0
-IsRunFault bytes (fault.Deck f) = IsFaultOf bytes f
-IsRunFault bytes fault.Memory = Unit {0}
-IsRunFault bytes fault.Read = ⊥
-IsRunFault bytes fault.Write = ⊥
+abbrev pub IsRunFault : Profile → List ℕ → TextFault → Type 0
+IsRunFault profile bytes (fault.Deck f) = IsFaultOf profile bytes f
+IsRunFault profile bytes fault.Memory = Unit {0}
+IsRunFault profile bytes fault.Read = ⊥
+IsRunFault profile bytes fault.Write = ⊥

@@ -3,7 +3,7 @@
 ghost use Rattle.std.specs.Prelude.{◌≡◌, false, IfOk};
 ghost use Rattle.clap.specs.Words.{app_of, rule_of, with_rule};
 ghost use Rattle.clap.specs.declared.builder.command.Command.TheViews.{out-Command as fields_of};
-ghost use Rattle.pp_sim.specs.CommandLine.{barrel, number_option, ppsim, threads};
+ghost use Rattle.pp_sim.specs.CommandLine.{barrel, number_option, processors_option, ppsim, threads};
 
 use crate::number_range::{NumberRange, PATIENCE, STEPS, TURNS};
 use clap::{Arg, ArgAction, Command};
@@ -25,7 +25,8 @@ where handoff.deck has the lines
 const BARREL_ABOUT: &str = "Runs a deck in the barrel, one step a turn, and prints what happened";
 
 const BARREL_LONG_ABOUT: &str = "\
-Runs a deck in the barrel: processors 0, 1, .. and 11 (octal) take one step a turn, again and again.
+Runs a deck in the barrel: processors 0, 1, .. and 11 (octal) take one step a turn, again and again;
+of twenty processors, 20, 21, .. and 31 come behind them in each round.
 
 Reads the deck from standard input. Prints to standard output a line for each channel event, in
 order; the P, the A and the state of each processor that the deck names; and the state of each
@@ -34,10 +35,12 @@ channel that has a history. A fault is one line on standard error.
 Where the deck has a line DEAD, the processors without a section wait for their programs, each on
 the channel of its own number, as at a dead start.";
 
+const PROCESSORS_HELP: &str = "How many processors the machine has, 10 or 20 (decimal); 10 if not given";
+
 const THREADS_ABOUT: &str = "Runs a deck with one thread per processor, and prints what happened";
 
 const THREADS_LONG_ABOUT: &str = "\
-Runs a deck with one thread per processor, all ten at once. Each goes on at its own speed, so the
+Runs a deck with one thread per processor, all at once. Each goes on at its own speed, so the
 order of events on different channels, and sometimes the events themselves, differ from run to run.
 
 A processor ends where its program stops or faults, after its steps are done (STEPS), or where a
@@ -63,6 +66,18 @@ fn number_option<'a>(alloc: Global, id: &'a str, help: &'a str) -> Arg<'a>
         .help(help)
 }
 
+/// The option that says how many processors the machine has.
+fn processors_option<'a>(alloc: Global) -> Arg<'a>
+    ensures rule { rule_of result ≡ processors_option }
+    ensures local { result.global ≡ false }
+{
+    Arg::new(alloc, "processors")
+        .long("processors")
+        .action(ArgAction::Set)
+        .value_name("N")
+        .help(PROCESSORS_HELP)
+}
+
 /// A command with one more required option, whose value is a number of this range.
 fn with_number<'a>(
     alloc: Global,
@@ -77,7 +92,7 @@ fn with_number<'a>(
     command.arg(number_option(alloc, id, range.help))
 }
 
-/// `barrel --turns N`
+/// `barrel --turns N [--processors N]`
 fn barrel_command<'a>(alloc: Global) -> Result<Command<'a>, AllocError>
     ensures app { IfOk result (λ c. app_of c ≡ barrel) }
     ensures local { IfOk result (λ c. (fields_of c).has_globals ≡ false) }
@@ -86,10 +101,11 @@ fn barrel_command<'a>(alloc: Global) -> Result<Command<'a>, AllocError>
         .about(BARREL_ABOUT)
         .long_about(BARREL_LONG_ABOUT)
         .after_help(EXAMPLE);
-    with_number(alloc, command, "turns", TURNS)
+    let command = with_number(alloc, command, "turns", TURNS)?;
+    command.arg(processors_option(alloc))
 }
 
-/// `threads --steps N --patience N`
+/// `threads --steps N --patience N [--processors N]`
 fn threads_command<'a>(alloc: Global) -> Result<Command<'a>, AllocError>
     ensures app { IfOk result (λ c. app_of c ≡ threads) }
     ensures local { IfOk result (λ c. (fields_of c).has_globals ≡ false) }
@@ -98,7 +114,8 @@ fn threads_command<'a>(alloc: Global) -> Result<Command<'a>, AllocError>
         .about(THREADS_ABOUT)
         .long_about(THREADS_LONG_ABOUT);
     let command = with_number(alloc, command, "steps", STEPS)?;
-    with_number(alloc, command, "patience", PATIENCE)
+    let command = with_number(alloc, command, "patience", PATIENCE)?;
+    command.arg(processors_option(alloc))
 }
 
 /// The whole command line.

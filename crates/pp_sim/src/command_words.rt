@@ -1,9 +1,10 @@
 //! Reading the words of a command line.
 
-ghost use Rattle.std.specs.Prelude.{◌≡◌, ◌↔◌, ℕ, [], map, IfOk, IfErr, IfSome, IsSome, OnOk, MatchOption};
+ghost use Rattle.std.specs.Prelude.{◌≡◌, ◌↔◌, ℕ, [], codes, map, IfOk, IfErr, IfSome, IsSome, OnOk, MatchOption};
 ghost use Rattle.clap.specs.Words.{first_value, found_of};
+ghost use Rattle.pp_machine.specs.declared.profile.Profile.{Profile};
 ghost use Rattle.pp_runner.specs.RunLimits.{AreLimits};
-ghost use Rattle.pp_sim.specs.CommandLine.{AskFor, IsFaultBy, IsOutOfRange, IsRefused, IsWorkOf, ReadsNumber, refusals};
+ghost use Rattle.pp_sim.specs.CommandLine.{AskFor, IsFaultBy, IsOutOfRange, IsRefused, IsWorkOf, ReadsNumber, ReadsProfile, refusals};
 ghost use Rattle.pp_sim.specs.declared.work.Work.{Work};
 
 use crate::command::command;
@@ -12,6 +13,7 @@ use crate::number_range::{PATIENCE, STEPS, TURNS};
 use crate::work::Work;
 use clap::error::ErrorKind;
 use clap::{ArgMatches, Error};
+use pp_machine::Profile;
 use pp_runner::Limits;
 use std::alloc::Global;
 
@@ -26,6 +28,22 @@ fn number_of(matches: &ArgMatches<'_>, id: &str) -> Option<u32>
             Err(_) => None,
         },
         None => None,
+    }
+}
+
+/// The profile with as many processors as the options say, if there is one; the 6600's own where they
+/// do not say it.
+fn profile_of(matches: &ArgMatches<'_>) -> Option<Profile>
+    ensures { MatchOption result ((profile : Profile) → ¬ ReadsProfile (first_value (found_of matches.now) (codes "processors")) profile)
+        (ReadsProfile (first_value (found_of matches.now) (codes "processors"))) }
+{
+    if matches.get_str("processors").is_none() {
+        return Some(Profile::Ten);
+    }
+    match number_of(matches, "processors") {
+        Some(10) => Some(Profile::Ten),
+        Some(20) => Some(Profile::Twenty),
+        _ => None,
     }
 }
 
@@ -50,16 +68,18 @@ fn work_of(name: &str, matches: &ArgMatches<'_>) -> Option<Work>
         (IsWorkOf name.now (first_value (found_of matches.now))) }
 {
     if name == "barrel" {
+        let profile = profile_of(matches)?;
         let turns = number_of(matches, "turns")?;
         if !TURNS.contains(turns) {
             return None;
         }
-        Some(Work::Barrel { turns })
+        Some(Work::Barrel { profile, turns })
     } else if name == "threads" {
+        let profile = profile_of(matches)?;
         let steps = number_of(matches, "steps")?;
         let patience = number_of(matches, "patience")?;
         let limits = limits_of(steps, patience)?;
-        Some(Work::Threads { limits })
+        Some(Work::Threads { profile, limits })
     } else {
         None
     }

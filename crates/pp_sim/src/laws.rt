@@ -19,8 +19,8 @@ use std::alloc::Allocator;
 pub fn barrel_text_law()
     ensures { (deck other : LoadedDeck) (turns others : ℕ) (text : List ℕ)
         → IsBarrelText turns deck text → IsBarrelText others other text
-        → (let one = run (barrel turns) deck.machine in
-        let also = run (barrel others) other.machine in
+        → (let one = run (barrel deck.machine.profile turns) deck.machine in
+        let also = run (barrel other.machine.profile others) other.machine in
         AgreeOnText deck.named other.named one also
         × AreSameHistories one.histories also.histories) }
 {

@@ -5,17 +5,23 @@ ghost use Rattle.pp_sim.specs.TextAnswer.{IsRunFault, most_bytes};
 ghost use Rattle.std.specs.Prelude.{◌≡◌, ◌<◌, [], Ok, length, OnOk, IfOk, IfErr};
 
 use crate::text_fault::TextFault;
-use pp_deck::{Deck, DeckCode, read_deck};
+use pp_deck::{Deck, DeckCode, deck_law, read_deck};
+use pp_machine::Profile;
 use std::alloc::Allocator;
 
-/// The deck of these bytes. Its machine has not run yet.
-pub(crate) fn loaded_deck<A: Allocator + Copy>(alloc: A, bytes: &[u8]) -> Result<Deck<A>, TextFault>
-    ensures ok { IfOk result (λ deck. deck_meaning bytes.now ≡ Ok (record { machine = deck.machine; named = deck.named })) }
+/// The deck of these bytes, for a machine of this profile. Its machine has not run yet.
+pub(crate) fn loaded_deck<A: Allocator + Copy>(
+    alloc: A,
+    profile: Profile,
+    bytes: &[u8],
+) -> Result<Deck<A>, TextFault>
+    ensures ok { IfOk result (λ deck. deck_meaning profile bytes.now ≡ Ok (record { machine = deck.machine; named = deck.named })) }
     ensures fresh { IfOk result (λ deck. deck.machine.trace ≡ []) }
     ensures bounded { OnOk result (length bytes.now < most_bytes) }
-    ensures fault { IfErr result (IsRunFault bytes.now) }
+    ensures fault { IfErr result (IsRunFault profile bytes.now) }
 {
-    match read_deck(alloc, bytes) {
+    deck_law();
+    match read_deck(alloc, profile, bytes) {
         Ok(deck) => Ok(deck),
         Err(fault) if fault.code == DeckCode::Memory => Err(TextFault::Memory),
         Err(fault) => Err(TextFault::Deck(fault)),

@@ -62,8 +62,10 @@ fn do_work<T: Threads + Wait + Sync, I: Read, A: Allocator + Copy + Send + Sync,
     ensures { IsDone A work result (I.remaining input.old) (I.remaining input.new) (O.contents output.old) (O.contents output.new) }
 {
     match work {
-        Work::Barrel { turns } => barrel_text(alloc, input, output, turns),
-        Work::Threads { limits } => threads_text(rt, alloc, input, output, limits),
+        Work::Barrel { profile, turns } => barrel_text(alloc, profile, input, output, turns),
+        Work::Threads { profile, limits } => {
+            threads_text(rt, alloc, profile, input, output, limits)
+        }
     }
 }
 

@@ -8,51 +8,60 @@ ghost use Rattle.pp_sim.specs.TextAnswer.{AnswersTo, IsAnswer, IsRunFault, IsTex
 use crate::loaded_deck::loaded_deck;
 use crate::streams::{read_front, write_whole};
 use crate::text_fault::TextFault;
+use pp_machine::Profile;
 use pp_text::printed_text;
 use std::alloc::Allocator;
 use std::io::{Read, Write};
 
-/// Reads a deck, runs it in the barrel for so many turns (decimal), and writes the text of the run.
+/// Reads a deck for a machine of this profile, runs it in the barrel for so many turns (decimal), and
+/// writes the text of the run.
 pub fn barrel_text<A: Allocator + Copy, R: Read, W: Write>(
     alloc: A,
+    profile: Profile,
     reader: &mut R,
     writer: &mut W,
     turns: u32,
 ) -> Result<(), TextFault>
     // For every reader, whatever it tells.
-    ensures every_reader { (bytes : List ℕ) × AnswersTo (IsBarrelText turns) result (R.remaining reader.old) (R.remaining reader.new)
+    ensures every_reader { (bytes : List ℕ) × AnswersTo profile (IsBarrelText turns) result (R.remaining reader.old) (R.remaining reader.new)
         (W.contents writer.old) (W.contents writer.new) bytes }
     // For a reader that tells the bytes that it has.
-    ensures telling_reader { IfSome (R.remaining reader.old) (λ bytes. IsAnswer (IsBarrelText turns) result (take most_bytes bytes)
+    ensures telling_reader { IfSome (R.remaining reader.old) (λ bytes. IsAnswer profile (IsBarrelText turns) result (take most_bytes bytes)
         (W.contents writer.old) (W.contents writer.new)) }
     // Every fault but Write comes before the first byte is written.
     ensures unwritten { IfErr result (λ fault. fault ≢ TextFault.Write → Keeps (W.contents writer.old) (W.contents writer.new)) }
 {
     let deck = read_front(alloc, reader)?;
-    write_run(alloc, deck.as_slice(), writer, turns)
+    write_run(alloc, profile, deck.as_slice(), writer, turns)
 }
 
 /// Writes the text of the run of a deck.
 fn write_run<A: Allocator + Copy, W: Write>(
     alloc: A,
+    profile: Profile,
     deck: &[u8],
     writer: &mut W,
     turns: u32,
 ) -> Result<(), TextFault>
-    ensures answer { IsAnswer (IsBarrelText turns) result deck.now (W.contents writer.old) (W.contents writer.new) }
+    ensures answer { IsAnswer profile (IsBarrelText turns) result deck.now (W.contents writer.old) (W.contents writer.new) }
     ensures bounded { OnOk result (length deck.now < most_bytes) }
 {
-    let text = run_text(alloc, deck, turns)?;
+    let text = run_text(alloc, profile, deck, turns)?;
     write_whole(writer, text.as_slice())
 }
 
 /// The text of the run of a deck.
-fn run_text<A: Allocator + Copy>(alloc: A, deck: &[u8], turns: u32) -> Result<Vec<u8, A>, TextFault>
-    ensures ok { IfOk result (λ text. IsTextOf (IsBarrelText turns) deck.now text.items) }
+fn run_text<A: Allocator + Copy>(
+    alloc: A,
+    profile: Profile,
+    deck: &[u8],
+    turns: u32,
+) -> Result<Vec<u8, A>, TextFault>
+    ensures ok { IfOk result (λ text. IsTextOf profile (IsBarrelText turns) deck.now text.items) }
     ensures bounded { OnOk result (length deck.now < most_bytes) }
-    ensures fault { IfErr result (IsRunFault deck.now) }
+    ensures fault { IfErr result (IsRunFault profile deck.now) }
 {
-    let mut loaded = loaded_deck(alloc, deck)?;
+    let mut loaded = loaded_deck(alloc, profile, deck)?;
     if loaded.machine.run_barrel(turns).is_err() {
         return Err(TextFault::Memory);
     }

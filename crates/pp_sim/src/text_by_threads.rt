@@ -9,6 +9,7 @@ ghost use Rattle.pp_sim.specs.ThreadsText.{IsThreadsText};
 use crate::loaded_deck::loaded_deck;
 use crate::streams::{read_front, write_whole};
 use crate::text_fault::TextFault;
+use pp_machine::Profile;
 use pp_runner::{Gate, Limits, NoGate, run_threads};
 use pp_text::printed_report;
 use std::alloc::Allocator;
@@ -19,11 +20,12 @@ use std::thread::Threads;
 // The allocator is the third type parameter here, as it is in `run_threads`: the checker takes over what
 // is known of a type by its place.
 
-/// Reads a deck, runs it with one thread per processor within these limits, and writes the text of
-/// the run. What stands in it beyond what the deck determines may differ from run to run.
+/// Reads a deck for a machine of this profile, runs it with one thread per processor within these
+/// limits, and writes the text of the run. What stands in it beyond what the deck determines may differ from run to run.
 pub fn threads_text<T: Threads + Wait + Sync, R: Read, A: Allocator + Copy + Send + Sync, W: Write>(
     rt: &T,
     alloc: A,
+    profile: Profile,
     reader: &mut R,
     writer: &mut W,
     limits: Limits,
@@ -31,31 +33,32 @@ pub fn threads_text<T: Threads + Wait + Sync, R: Read, A: Allocator + Copy + Sen
     // A report takes less than all of memory, as it does with every allocator that there is.
     requires { ReportFitsInMemory A.row A.Allocator }
     // For every reader, whatever it tells.
-    ensures every_reader { (bytes : List ℕ) × AnswersTo (IsThreadsText A limits) result (R.remaining reader.old) (R.remaining reader.new)
+    ensures every_reader { (bytes : List ℕ) × AnswersTo profile (IsThreadsText A limits) result (R.remaining reader.old) (R.remaining reader.new)
         (W.contents writer.old) (W.contents writer.new) bytes }
     // For a reader that tells the bytes that it has.
-    ensures telling_reader { IfSome (R.remaining reader.old) (λ bytes. IsAnswer (IsThreadsText A limits) result (take most_bytes bytes)
+    ensures telling_reader { IfSome (R.remaining reader.old) (λ bytes. IsAnswer profile (IsThreadsText A limits) result (take most_bytes bytes)
         (W.contents writer.old) (W.contents writer.new)) }
     // Every fault but Write comes before the first byte is written.
     ensures unwritten { IfErr result (λ fault. fault ≢ TextFault.Write → Keeps (W.contents writer.old) (W.contents writer.new)) }
 {
     let deck = read_front(alloc, reader)?;
-    write_threads(rt, alloc, deck.as_slice(), writer, limits)
+    write_threads(rt, alloc, profile, deck.as_slice(), writer, limits)
 }
 
 /// Writes the text of the run of a deck.
 fn write_threads<T: Threads + Wait + Sync, W: Write, A: Allocator + Copy + Send + Sync>(
     rt: &T,
     alloc: A,
+    profile: Profile,
     deck: &[u8],
     writer: &mut W,
     limits: Limits,
 ) -> Result<(), TextFault>
     requires { ReportFitsInMemory A.row A.Allocator }
-    ensures answer { IsAnswer (IsThreadsText A limits) result deck.now (W.contents writer.old) (W.contents writer.new) }
+    ensures answer { IsAnswer profile (IsThreadsText A limits) result deck.now (W.contents writer.old) (W.contents writer.new) }
     ensures bounded { OnOk result (length deck.now < most_bytes) }
 {
-    let text = run_text(rt, &NoGate, alloc, deck, limits)?;
+    let text = run_text(rt, &NoGate, alloc, profile, deck, limits)?;
     write_whole(writer, text.as_slice())
 }
 
@@ -64,15 +67,16 @@ fn run_text<T: Threads + Wait + Sync, G: Gate + Sync, A: Allocator + Copy + Send
     rt: &T,
     gate: &G,
     alloc: A,
+    profile: Profile,
     deck: &[u8],
     limits: Limits,
 ) -> Result<Vec<u8, A>, TextFault>
     requires { ReportFitsInMemory A.row A.Allocator }
-    ensures ok { IfOk result (λ text. IsTextOf (IsThreadsText A limits) deck.now text.items) }
+    ensures ok { IfOk result (λ text. IsTextOf profile (IsThreadsText A limits) deck.now text.items) }
     ensures bounded { OnOk result (length deck.now < most_bytes) }
-    ensures fault { IfErr result (IsRunFault deck.now) }
+    ensures fault { IfErr result (IsRunFault profile deck.now) }
 {
-    let loaded = loaded_deck(alloc, deck)?;
+    let loaded = loaded_deck(alloc, profile, deck)?;
     let Ok(report) = run_threads(rt, alloc, &loaded.machine, limits, gate) else {
         return Err(TextFault::Memory);
     };

@@ -4,7 +4,7 @@ use Rattle.pp_sim.proofs.laws.barrel_text_law.Goals as goal
 
 pub returns : goal.returns
 returns c deck other turns others text one also =
-    let m = run (barrel turns) deck.machine in
-    let k = run (barrel others) other.machine in
+    let m = run (barrel deck.machine.profile turns) deck.machine in
+    let k = run (barrel other.machine.profile others) other.machine in
     let agree = c.text_law.ensures.text deck.named other.named m k one.fits also.fits (sym one.told ∙ also.told) in
     (agree, c.text_law.ensures.histories deck.named other.named m k one.headline also.headline agree)

@@ -8,7 +8,7 @@ use Rattle.pp_sim.proofs.text.run_text.Goals as goal
 
 pub returns-in-Ok-clause-ok : goal.returns-in-Ok-clause-ok
 returns-in-Ok-clause-ok g c =
-    let ran : c.run_barrel.new.self ≡ run (barrel c.args.turns) c.in_ok-loaded.loaded.machine = search rules in
+    let ran : c.run_barrel.new.self ≡ run (barrel c.in_ok-loaded.loaded.machine.profile c.args.turns) c.in_ok-loaded.loaded.machine = search rules in
     record {
       deck = _;
       meant = c.in_ok-loaded.ensures.ok;
