@@ -17,7 +17,7 @@ use std::alloc::{AllocError, Allocator};
 pub(crate) const NUMBERS: u8 = 0o100;
 
 /// The length of the longest line of an event, where its turn has six digits.
-const EVENT_LINE: usize = 26;
+pub(crate) const EVENT_LINE: usize = 26;
 
 /// The length of the longest line of a processor or a channel.
 const STATE_LINE: usize = 29;

@@ -13,14 +13,18 @@ ghost use Rattle.pp_text.specs.ReportLaw.{FitsItsEnd, FitsItsLine, FitsItsReport
 ghost use Rattle.pp_text.specs.TextLaw.{IsListed};
 
 use crate::authors::{ChannelAuthors, authors};
-use crate::machine_text::NUMBERS;
+use crate::machine_text::{EVENT_LINE, NUMBERS};
 use crate::printed_line::{push_channel, push_numbered_event, push_worker};
 use pp_channel::{CHANNELS, Channel, ChannelNo, Event};
 use pp_machine::{PROCESSORS, PpNo};
 use pp_runner::{Report, Worker};
 use std::alloc::{AllocError, Allocator};
 
-/// The text of a report, with the lines of the processors named.
+/// The length of the longest line of a worker or a channel.
+const STATE_LINE: usize = 30;
+
+/// The text of a report, with the lines of the processors named. It takes its room at once, so that it
+/// never moves while it grows.
 #[tactic(auto, unfolding(crate::specs::PrintedReport::printed_report))]
 pub fn printed_report<A: Allocator + Copy>(
     alloc: A,
@@ -31,12 +35,24 @@ pub fn printed_report<A: Allocator + Copy>(
     ensures text { IfOk result (λ text. text.items ≡ printed_report named.now report.now) }
     ensures fits { OnOk result (FitsItsReport named.now report.now) }
 {
-    let mut text = Vec::new(alloc);
+    let room = event_count(&report.channels)
+        .saturating_mul(EVENT_LINE)
+        .saturating_add((PROCESSORS + CHANNELS) * STATE_LINE);
+    let mut text = Vec::with_capacity(alloc, room)?;
     let workers = report.ends.as_slice();
     push_events(alloc, &mut text, workers, &report.channels)?;
     push_workers(&mut text, workers, named)?;
     push_channels(&mut text, &report.channels)?;
     Ok(text)
+}
+
+/// How many events have happened on all channels.
+fn event_count<A: Allocator>(channels: &[Channel<A>; CHANNELS]) -> usize {
+    let mut count: usize = 0;
+    for channel in channels {
+        count = count.saturating_add(channel.history().len());
+    }
+    count
 }
 
 fn push_events<A: Allocator + Copy>(
