@@ -40,8 +40,8 @@ impl<R: Threads> Threads for Words<'_, R> {}
 
 impl<R: Wait> Wait for Words<'_, R> {}
 
-/// The status of a run with these words, whether its output and its standard error are as they have to
-/// be, and how often it asked the reader.
+/// The status of a run with these words, whether its output and its standard error are as they have
+/// to be, and how often it asked the reader.
 fn ending<R: AllocGlobal + Threads + Wait + Sync>(
     rt: &R,
     words: &[&[u8]],
