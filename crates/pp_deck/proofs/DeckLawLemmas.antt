@@ -10,7 +10,7 @@ use Rattle.pp_machine.specs.MachineState.{processor_of}
 use Rattle.pp_machine.specs.Processor.{Processor, word_at}
 use Rattle.pp_machine.specs.ProcessorNumber.{names_processor, processor_count, processor_index, processor_number}
 use Rattle.pp_machine.proofs.ProfileLemmas.{processor_named}
-use Rattle.pp_deck.specs.DeckLaw.{SetsWord, SetsCentralWord, Starts, registers_of, at_rest, HoldsLast, Waits, KeepsDeckLaw, line_of}
+use Rattle.pp_deck.specs.DeckLaw.{NamesWithin, SetsWord, SetsCentralWord, Starts, registers_of, at_rest, HoldsLast, Waits, KeepsDeckLaw, line_of}
 use Rattle.pp_deck.specs.DeckLine.{Line}
 use Rattle.pp_deck.specs.DeckLoad.{word_for, central_word_for, start_in, asks_dead_start, central_loaded, processor_loaded, is_named}
 use Rattle.pp_deck.specs.DeckMeaning.{LoadedDeck, set_by, with_dead_start, loaded, size_of, lines_said, faults_in, unless_faulty, meaning_of_lines, is_foreign, unless_foreign, deck_meaning}
@@ -19,6 +19,7 @@ use Rattle.pp_deck.specs.declared.deck_fault.DeckFault.{DeckFault}
 use Rattle.pp_deck.proofs.DeadStartLemmas.{is_waiting, waiting, waiting_where, not_waiting, processor_is, opened_is, history_is, all_processors, each_history, central_stays, turns_stay, trace_stays, names_stay}
 use Rattle.pp_deck.proofs.LawLemmas.{processor_here, place_here, registers_here, no_block_here, central_here, named_here, some_name, named_some, own_last, all_last, registers_at, start_set, set_start, word_set, set_word, central_set, set_central}
 use Rattle.pp_deck.proofs.ListLemmas.{length-tabulate}
+use Rattle.pp_deck.proofs.NamesLemmas.{named_within}
 use Rattle.pp_deck.proofs.MemoryLemmas.{length-central_loaded}
 use Rattle.pp_machine.specs.declared.profile.Profile.{Profile}
 
@@ -157,3 +158,8 @@ module _ (profile : Profile) where
   pub deck_profile_of : (text : List ℕ) (deck : LoadedDeck) → deck_meaning profile text ≡ Ok deck → deck.machine.profile ≡ profile
   unfolding deck_meaning
   deck_profile_of text deck e = profile_of_short text _ _ deck e
+
+  -- ---- the names
+
+  pub deck_names_within : (text : List ℕ) (deck : LoadedDeck) → deck_meaning profile text ≡ Ok deck → NamesWithin profile deck.named
+  deck_names_within text deck e n named is = named_within profile (lines_of text) n (((deck_law_of text deck e).named n named).0 is)

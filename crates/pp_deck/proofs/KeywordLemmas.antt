@@ -20,7 +20,7 @@ abbrev pub OnRead : Result Line Flaw → (Line → Type 0) → Type 0
 OnRead (Ok line) P = P line
 OnRead (Err flaw) P = Unit {0}
 
-after_number : (most : ℕ) (fields : List (List ℕ)) (next : ℕ → List (List ℕ) → Result Line Flaw) (P : Line → Type 0) → ((n : ℕ) (more : List (List ℕ)) → OnRead (next n more) P) → OnRead (number_then most fields next) P
+pub after_number : (most : ℕ) (fields : List (List ℕ)) (next : ℕ → List (List ℕ) → Result Line Flaw) (P : Line → Type 0) → ((n : ℕ) (more : List (List ℕ)) → OnRead (next n more) P) → OnRead (number_then most fields next) P
 after_number most [] next P h = tt
 after_number most (field ∷ fields) next P h = with_number (number most field)
   where
@@ -28,7 +28,7 @@ after_number most (field ∷ fields) next P h = with_number (number most field)
     with_number (Ok n) = h n fields
     with_number (Err flaw) = tt
 
-at_end : (line : Line) (more : List (List ℕ)) (P : Line → Type 0) → P line → OnRead (ends_with line more) P
+pub at_end : (line : Line) (more : List (List ℕ)) (P : Line → Type 0) → P line → OnRead (ends_with line more) P
 at_end line [] P h = h
 at_end line (field ∷ more) P h = tt
 
@@ -36,7 +36,7 @@ where_true : (b : Bool) (r : Result Line Flaw) (flaw : Flaw) (P : Line → Type 
 where_true true r flaw P h = h
 where_true false r flaw P h = tt
 
-with_words_of : (r : Result (List ℕ) Flaw) (f : List ℕ → Line) (P : Line → Type 0) → ((ws : List ℕ) → P (f ws)) → OnRead (r >>= λ ws. Ok (f ws)) P
+pub with_words_of : (r : Result (List ℕ) Flaw) (f : List ℕ → Line) (P : Line → Type 0) → ((ws : List ℕ) → P (f ws)) → OnRead (r >>= λ ws. Ok (f ws)) P
 with_words_of (Ok ws) f P h = h ws
 with_words_of (Err flaw) f P h = tt
 
@@ -102,7 +102,7 @@ current_is_some (words x ws) b current e = kept (is_some current) ∙ ap (λ (t 
 current_is_some (section n) b current e = begun (is_some current) ∙ ap (λ (t : Bool). is_some current || t) e
 current_is_some dead_start b current e = kept (is_some current) ∙ ap (λ (t : Bool). is_some current || t) e
 
-of_line : (r : Result Line Flaw) (line : Line) (P : Line → Type 0) → OnRead r P → r ≡ Ok line → P line
+pub of_line : (r : Result Line Flaw) (line : Line) (P : Line → Type 0) → OnRead r P → r ≡ Ok line → P line
 of_line (Ok l) line P h e = let same : l ≡ line = cc in subst P same h
 of_line (Err flaw) line P h e = absurd (cc)
 

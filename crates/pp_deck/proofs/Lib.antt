@@ -12,3 +12,4 @@ pub mod ProgressLemmas
 pub mod ReadingLemmas
 pub mod SectionLemmas
 pub mod WordsLemmas
+pub mod NamesLemmas

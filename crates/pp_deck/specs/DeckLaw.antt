@@ -1,5 +1,5 @@
 -- What holds of each loaded deck, told by its lines one beside another: what the last line sets, holds.
-use Rattle.std.specs.Prelude.{◌≡◌, ℕ, ◌+◌, ◌<◌, ◌↔◌, IsTrue, true, false, List, [], length, None, Some, slice_get, slice_index, slice_index_or}
+use Rattle.std.specs.Prelude.{◌≡◌, ℕ, ◌+◌, ◌<◌, ◌↔◌, IsTrue, Bool, true, false, List, [], length, None, Some, slice_get, slice_index, slice_index_or}
 use Rattle.pp_word.specs.Address.{place_count}
 use Rattle.pp_channel.specs.ChannelNumber.{channel_count, names_channel}
 use Rattle.pp_machine.specs.DeadStart.{waiting_on}
@@ -82,6 +82,11 @@ pub record Waits (profile : Profile) (lines : List Line) (n : ℕ) : Type 0 wher
   pub processor : IsTrue (has_processor profile n)
   pub asked : AsksForDeadStart lines
   pub unnamed : IsNamed lines n → ⊥
+
+-- no processor is named that a machine of this profile lacks
+abbrev pub NamesWithin : Profile → List Bool → Type 0
+NamesWithin profile named = (n : ℕ) → IsTrue (names_processor n) → slice_index_or named (processor_index n) false ≡ true
+    → IsTrue (has_processor profile n)
 
 -- the law of loaded decks
 pub record KeepsDeckLaw (lines : List Line) (deck : LoadedDeck) : Type 0 where

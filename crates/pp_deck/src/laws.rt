@@ -2,7 +2,7 @@
 //! definitions.
 
 ghost use Rattle.std.specs.Prelude.{ℕ, ◌≡◌, List, length, Ok};
-ghost use Rattle.pp_deck.specs.DeckLaw.{KeepsDeckLaw};
+ghost use Rattle.pp_deck.specs.DeckLaw.{KeepsDeckLaw, NamesWithin};
 ghost use Rattle.pp_deck.specs.DeckLine.{Line};
 ghost use Rattle.pp_deck.specs.DeckMeaning.{LoadedDeck, deck_meaning, lines_said, size_of};
 ghost use Rattle.pp_deck.specs.DeckProgress.{after_lines, progress_of};
@@ -17,10 +17,12 @@ use pp_machine::run_law;
 /// In a loaded deck each place and each central word holds the word of the last line that sets it,
 /// else 0, and the last start of a processor holds. Where dead start is asked for, the processors that
 /// the deck does not name wait, each on the channel of its own number. Central memory has the size that
-/// the first line with fields says.
+/// the first line with fields says. The machine has the profile for which the text was read, and no
+/// processor is named that it lacks.
 pub fn deck_law()
     ensures size { (profile : Profile) (text : List ℕ) (deck : LoadedDeck) → deck_meaning profile text ≡ Ok deck → length deck.machine.central ≡ size_of (lines_of text) }
     ensures law { (profile : Profile) (text : List ℕ) (deck : LoadedDeck) → deck_meaning profile text ≡ Ok deck → KeepsDeckLaw (lines_said profile (lines_of text)) deck }
+    ensures names { (profile : Profile) (text : List ℕ) (deck : LoadedDeck) → deck_meaning profile text ≡ Ok deck → NamesWithin profile deck.named }
     ensures profile { (profile : Profile) (text : List ℕ) (deck : LoadedDeck) → deck_meaning profile text ≡ Ok deck → deck.machine.profile ≡ profile }
 {}
 

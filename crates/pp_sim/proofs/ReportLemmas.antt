@@ -1,17 +1,25 @@
--- What a report of a run tells of its ends.
-use Rattle.std.proofs.Common.{ℕ, List, [], ◌∷◌, All, take}
+-- What a report of a run tells of its ends, and its text of the processors named.
+use Rattle.std.proofs.Common.{◌≡◌, ◌∙◌, ℕ, Bool, true, false, List, [], ◌∷◌, Option, Some, None, All, take, length, refl, sym, ap, inl, inr, arith}
+use Rattle.std.specs.Prelude.{◌&&◌, IsTrue, option_map, slice_index_or, if◌then◌else◌}
+use Rattle.std.proofs.lemmas.Bool.{ltb-true}
+use Rattle.std.proofs.lemmas.Option.{slice_get_cases}
 use Rattle.std.proofs.lemmas.List.Elements.{All-cons, All-nil}
 use Rattle.std.specs.List.{AllZip}
 use Rattle.pp_machine.specs.MachineState.{MachineState}
 use Rattle.pp_machine.specs.Processor.{Processor}
-use Rattle.pp_machine.specs.Profile.{processors_in}
+use Rattle.pp_machine.specs.ProcessorNumber.{names_processor, processor_index}
+use Rattle.pp_machine.specs.Profile.{processors_in, has_processor}
+use Rattle.pp_machine.specs.declared.profile.Profile.{Profile}
+use Rattle.pp_deck.specs.DeckLaw.{NamesWithin}
 use Rattle.pp_runner.specs.Report.{IsReportOf}
 use Rattle.pp_runner.specs.RunLimits.{RunLimits}
 use Rattle.pp_runner.specs.WorkerEnd.{HasEndNumber}
 use Rattle.pp_runner.specs.WorkerReport.{IsWorker}
 use Rattle.pp_runner.specs.declared.report.Report.{Report}
 use Rattle.pp_runner.specs.declared.worker.Worker.{Worker}
-use Rattle.pp_text.specs.ReportLaw.{HasNumberedEnds}
+use Rattle.pp_text.specs.PrintedText.{is_named}
+use Rattle.pp_text.specs.ReportLaw.{HasNumberedEnds, ShownEnd, end_of, shown_end, shown_of}
+use Rattle.pp_text.specs.TextLaw.{NameAlike}
 
 each_numbered : {Z : Type 0} (size steps : ℕ) (loads : List Processor) (workers : List (Worker Z))
     → AllZip (λ load w. IsWorker load size steps w) loads workers → All (λ (w : Worker Z). HasEndNumber w.finish) workers
@@ -24,3 +32,34 @@ each_numbered {Z} size steps (load ∷ loads) (w ∷ ws) each =
 -- a worker of a run that ended at a fault is at a numbered one
 pub report_numbered : {Z : Type 0} (limits : RunLimits) (machine : MachineState) (report : Report Z) → IsReportOf limits machine report → HasNumberedEnds report
 report_numbered {Z} limits machine report is = each_numbered _ limits.steps (take (processors_in machine.profile) machine.processors) report.ends.items is.workers
+
+-- where each that is named is shown, it is named just where it is shown
+shown_where_named : (b d : Bool) (s t : Option ShownEnd) → (b ≡ true → s ≡ None → ⊥) → (d ≡ true → t ≡ None → ⊥) → (if b then s else None) ≡ (if d then t else None) → b ≡ d
+shown_where_named true true s t _ _ e = refl
+shown_where_named true false s t some _ e = absurd (some refl e)
+shown_where_named false true s t _ some e = absurd (some refl (sym e))
+shown_where_named false false s t _ _ e = refl
+
+has_end : {Z : Type 0} (p : Profile) (n : ℕ) (report : Report Z) → length report.ends.items ≡ processors_in p → IsTrue (has_processor p n) → end_of n report ≡ None → ⊥
+unfolding has_processor
+has_end {Z} p n report all has none = elim (slice_get_cases report.ends.items (processor_index n)).1 [
+  | inl within ↦
+      let some : Some (shown_end within.0) ≡ None = sym (ap (λ (w : Option (Worker Z)). option_map shown_end w) within.2) ∙ none in
+      cc
+  | inr past ↦ let below = ltb-true (processor_index n) (processors_in p) has in absurd (omega (arith, below, all, past.0))
+]
+
+-- a processor that is named has its line
+named_shown : {Z : Type 0} (p : Profile) (named : List Bool) (n : ℕ) (report : Report Z) → NamesWithin p named → length report.ends.items ≡ processors_in p → is_named named n ≡ true → end_of n report ≡ None → ⊥
+named_shown p named n report within all is = by (names_processor n) refl is
+  where
+    by : (b : Bool) → names_processor n ≡ b → (b && slice_index_or named (processor_index n) false) ≡ true → end_of n report ≡ None → ⊥
+    by true e flag = has_end p n report all (within n e flag)
+    by false e flag = absurd (cc)
+
+-- which processors are named is shown by a report with a worker for each processor of its profile
+pub report_names : {Y Z : Type 0} (p q : Profile) (named others : List Bool) (one : Report Y) (other : Report Z) → NamesWithin p named → NamesWithin q others
+    → length one.ends.items ≡ processors_in p → length other.ends.items ≡ processors_in q
+    → ((n : ℕ) → shown_of named n one ≡ shown_of others n other) → NameAlike named others
+report_names {Y} {Z} p q named others one other within also_within each also same n =
+    shown_where_named (is_named named n) (is_named others n) (end_of n one) (end_of n other) (named_shown p named n one within each) (named_shown q others n other also_within also) (same n)

@@ -8,7 +8,7 @@ ghost use Rattle.pp_runner.specs.RunLimits.{RunLimits};
 ghost use Rattle.pp_sim.specs.BarrelText.{IsBarrelText};
 ghost use Rattle.pp_sim.specs.ThreadsText.{IsThreadsText};
 ghost use Rattle.pp_text.specs.ReportLaw.{AgreeOnReport, HaveSameHistories};
-ghost use Rattle.pp_text.specs.TextLaw.{AgreeOnText, AreSameHistories};
+ghost use Rattle.pp_text.specs.TextLaw.{AgreeOnText, AreSameHistories, NameAlike};
 
 use pp_text::{report_law, text_law};
 use std::alloc::Allocator;
@@ -27,13 +27,15 @@ pub fn barrel_text_law()
     text_law();
 }
 
-/// The same for threads: where two runs of one deck come to one text, their reports agree on the
-/// events of each channel, each with its number and its author, on P, A and the end of each
-/// processor named, and on the channels; and each channel has the same history in both.
+/// The same for threads: where runs of two decks come to one text, the decks name the same
+/// processors, and the reports agree on the events of each channel, each with its number and its
+/// author, on P, A and the end of each processor named, and on the channels; and each channel has
+/// the same history in both.
 pub fn threads_text_law<A: Allocator>()
-    ensures { (deck : LoadedDeck) (limits others : RunLimits) (text : List ℕ)
-        (one : IsThreadsText A limits deck text) (also : IsThreadsText A others deck text)
-        → AgreeOnReport deck.named one.report also.report
+    ensures { (deck other : LoadedDeck) (limits others : RunLimits) (text : List ℕ)
+        (one : IsThreadsText A limits deck text) (also : IsThreadsText A others other text)
+        → NameAlike deck.named other.named
+        × AgreeOnReport deck.named other.named one.report also.report
         × HaveSameHistories one.report also.report }
 {
     report_law::<A>();

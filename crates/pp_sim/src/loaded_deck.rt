@@ -1,5 +1,6 @@
 //! The deck that the bytes of a reader spell.
 
+ghost use Rattle.pp_deck.specs.DeckLaw.{NamesWithin};
 ghost use Rattle.pp_deck.specs.DeckMeaning.{deck_meaning};
 ghost use Rattle.pp_sim.specs.TextAnswer.{IsRunFault, most_bytes};
 ghost use Rattle.std.specs.Prelude.{◌≡◌, ◌<◌, [], Ok, length, OnOk, IfOk, IfErr};
@@ -17,6 +18,7 @@ pub(crate) fn loaded_deck<A: Allocator + Copy>(
 ) -> Result<Deck<A>, TextFault>
     ensures ok { IfOk result (λ deck. deck_meaning profile bytes.now ≡ Ok (record { machine = deck.machine; named = deck.named })) }
     ensures fresh { IfOk result (λ deck. deck.machine.trace ≡ []) }
+    ensures names { IfOk result (λ deck. NamesWithin deck.machine.profile deck.named) }
     ensures bounded { OnOk result (length bytes.now < most_bytes) }
     ensures fault { IfErr result (IsRunFault profile bytes.now) }
 {

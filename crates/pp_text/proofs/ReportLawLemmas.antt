@@ -9,9 +9,12 @@ use Rattle.std.proofs.lemmas.Option.{slice_get_cases}
 use Rattle.std.proofs.Math.Bool.{and-false}
 use Rattle.std.proofs.Math.Seq.{drop-append_seam, drop-nil, take-suc}
 use Rattle.pp_channel.specs.ChannelNumber.{names_channel}
-use Rattle.pp_channel.specs.History.{active, waiting}
+use Rattle.pp_channel.specs.History.{IsLawful, active, waiting}
 use Rattle.pp_channel.specs.Merge.{Merges, history_on}
 use Rattle.pp_channel.specs.declared.event.Event.{Event}
+use Rattle.pp_channel.proofs.LineKnowledge.{lawful_on}
+use Rattle.pp_machine.specs.Headline.{opening_history}
+use Rattle.pp_machine.specs.MachineState.{MachineState, is_opened}
 use Rattle.pp_machine.specs.ProcessorNumber.{processor_index, processor_number}
 use Rattle.pp_runner.specs.WorkerEnd.{HasEndNumber}
 use Rattle.pp_runner.specs.declared.end.End.{End}
@@ -22,11 +25,12 @@ use Rattle.pp_runner.specs.declared.worker.Worker.{Worker}
 use Rattle.pp_text.specs.Numeral.{decimal, digits, octal, unpadded}
 use Rattle.pp_text.specs.PrintedReport.{author_place, channel_events, end_text, line_by, named_worker_line, numbered_event_line, printed_report, worker_line}
 use Rattle.pp_text.specs.PrintedText.{channel_text, each_below, event_text, is_named, line_end, processor_line, used_channel_line}
-use Rattle.pp_text.specs.ReportLaw.{AgreeOnReport, FitsItsEnd, FitsItsLine, FitsItsReport, HasNumberedEnds, ShownEnd, ToldEvent, end_of, shown_end, told_by, told_events, told_of}
+use Rattle.pp_text.specs.ReportLaw.{AgreeOnReport, FitsItsEnd, FitsItsLine, FitsItsReport, HasNumberedEnds, ShownEnd, ToldEvent, end_of, shown_end, shown_of, told_by, told_events, told_of}
 use Rattle.pp_text.specs.TextLaw.{IsListed, IsToldAlike, is_used}
 use Rattle.pp_text.proofs.AuthorLawLemmas.{only_openings}
 use Rattle.pp_text.proofs.EventLineLemmas.{enumerate_push}
-use Rattle.pp_text.proofs.TextLawLemmas.{Above, above-append, above_less, above_decimal, above_event, above_octal, cut, octal_tells, decimal_tells, unlines, unlines-append, AreLines, are_lines-append, lines_told, lines_below, said_in_lines, are_lines_below, heading, is_of, none_below, one_among, kept, left_out, one_is, same_event, processor_digits, channel_digits, named_digits, first_digit, channels, channel_body, channel_in_lines, plain_channels, used_alike}
+use Rattle.pp_text.proofs.HistoryLawLemmas.{one_history}
+use Rattle.pp_text.proofs.TextLawLemmas.{Above, above-append, above_less, above_decimal, above_event, above_octal, cut, octal_tells, decimal_tells, unlines, unlines-append, AreLines, are_lines-append, lines_told, lines_below, said_in_lines, are_lines_below, heading, is_of, none_below, one_among, kept, left_out, one_is, same_event, processor_digits, channel_digits, named_digits, first_digit, channels, channel_body, channel_in_lines, plain_channels, unnamed, used_alike}
 
 -- ---- the line of an event
 
@@ -398,9 +402,9 @@ plain_lines {Z} named report =
     (are_lines-append (lines_below 0o100 (ends named report)) (lines_below 0o100 (channels report.channels)) (are_lines_below 0o100 (ends named report) (plain_ends named report))
     (are_lines_below 0o100 (channels report.channels) (plain_channels report.channels)))
 
-same_lines : {Y Z : Type 0} (named : List Bool) (one : Report Y) (other : Report Z) → printed_report named one ≡ printed_report named other → lines_of named one ≡ lines_of named other
-same_lines {Y} {Z} named one other e =
-    lines_told (lines_of named one) (lines_of named other) (plain_lines named one) (plain_lines named other) (sym (text_in_lines named one) ∙ e ∙ text_in_lines named other)
+same_lines : {Y Z : Type 0} (named others : List Bool) (one : Report Y) (other : Report Z) → printed_report named one ≡ printed_report others other → lines_of named one ≡ lines_of others other
+same_lines {Y} {Z} named others one other e =
+    lines_told (lines_of named one) (lines_of others other) (plain_lines named one) (plain_lines others other) (sym (text_in_lines named one) ∙ e ∙ text_in_lines others other)
 
 -- a test of one kind of lines that no other line passes
 among_events : {Z : Type 0} (named : List Bool) (report : Report Z) (c : ℕ) → c < 0o100 → filter (is_told c) (lines_of named report) ≡ events_lines report.ends.items report.channels c
@@ -506,42 +510,66 @@ clear_end {Z} n report fits numbered = elim (slice_get_cases report.ends.items (
   | inr past ↦ subst (λ (w : Option (Worker Z)). IfSome (option_map shown_end w) IsClear) (sym past.1) tt
 ]
 
+clear_where_named : (b : Bool) (shown : Option ShownEnd) → (IsTrue b → IfSome shown IsClear) → IfSome (if b then shown else None) IsClear
+clear_where_named true shown clear = clear refl
+clear_where_named false shown clear = tt
+
+clear_shown : {Z : Type 0} (named : List Bool) (n : ℕ) (report : Report Z) → FitsItsReport named report → HasNumberedEnds report → IfSome (shown_of named n report) IsClear
+clear_shown {Z} named n report fits numbered =
+    clear_where_named (is_named named n) (end_of n report) (λ is. clear_end n report (fits.workers n is) numbered)
+
+-- the line of a processor, by what is shown of it
+one_where_named : (b : Bool) (n : ℕ) (shown : Option ShownEnd) → (if b then one_of n shown else []) ≡ one_of n (if b then shown else None)
+unfolding one_of
+one_where_named true n shown = refl
+one_where_named false n shown = refl
+
+ends_shown : {Z : Type 0} (named : List Bool) (report : Report Z) (n : ℕ) → ends named report n ≡ one_of n (shown_of named n report)
+unfolding ends
+ends_shown {Z} named report n = one_where_named (is_named named n) n (end_of n report)
+
 -- ---- the law
 
 where_true : (b : Bool) (xs ys : List (List ℕ)) → IsTrue b → (if b then xs else []) ≡ (if b then ys else []) → xs ≡ ys
 where_true true xs ys is e = e
 where_true false xs ys is e = absurd cc
 
-tells_events : {Y Z : Type 0} (named : List Bool) (one : Report Y) (other : Report Z) (c : ℕ) → IsTrue (names_channel c) → All FitsItsLine (told_of c one) → All FitsItsLine (told_of c other)
-    → printed_report named one ≡ printed_report named other → told_of c one ≡ told_of c other
+tells_events : {Y Z : Type 0} (named others : List Bool) (one : Report Y) (other : Report Z) (c : ℕ) → IsTrue (names_channel c) → All FitsItsLine (told_of c one) → All FitsItsLine (told_of c other)
+    → printed_report named one ≡ printed_report others other → told_of c one ≡ told_of c other
 unfolding events_lines
-tells_events {Y} {Z} named one other c is fits also e =
+tells_events {Y} {Z} named others one other c is fits also e =
     let within = channel_digits c is in
-    let lines = sym (among_events named one c within) ∙ ap (filter (is_told c)) (same_lines named one other e) ∙ among_events named other c within in
+    let lines = sym (among_events named one c within) ∙ ap (filter (is_told c)) (same_lines named others one other e) ∙ among_events others other c within in
     same_tellings c (told_of c one) (told_of c other) fits also (where_true (names_channel c) (map (told_body c) (told_of c one)) (map (told_body c) (told_of c other)) is lines)
 
-tells_end : {Y Z : Type 0} (named : List Bool) (one : Report Y) (other : Report Z) (n : ℕ) → IsTrue (is_named named n) → IfSome (end_of n one) IsClear → IfSome (end_of n other) IsClear
-    → printed_report named one ≡ printed_report named other → end_of n one ≡ end_of n other
-unfolding ends
-tells_end {Y} {Z} named one other n is clear also e =
-    let within = named_digits named n is in
-    let lines = sym (among_ends named one n within) ∙ ap (filter (is_of 80 n)) (same_lines named one other e) ∙ among_ends named other n within in
-    same_one n (end_of n one) (end_of n other) clear also (where_true (is_named named n) (one_of n (end_of n one)) (one_of n (end_of n other)) is lines)
+-- no processor is shown past the numbers of two digits
+none_shown : {Z : Type 0} (named : List Bool) (n : ℕ) (report : Report Z) → 0o100 ≤ n → shown_of named n report ≡ None
+none_shown {Z} named n report past =
+    ap (λ (b : Bool). if b then end_of n report else None) (unnamed (is_named named n) (λ is. let low = named_digits named n is in absurd (omega (arith, low, past))))
 
-tells_state : {Y Z : Type 0} (named : List Bool) (one : Report Y) (other : Report Z) (c : ℕ) → IsTrue (names_channel c) → IsListed (history_on c one.channels) → IsListed (history_on c other.channels)
-    → printed_report named one ≡ printed_report named other → IsToldAlike (history_on c one.channels) (history_on c other.channels)
+tells_end : {Y Z : Type 0} (named others : List Bool) (one : Report Y) (other : Report Z) (n : ℕ) → IfSome (shown_of named n one) IsClear → IfSome (shown_of others n other) IsClear
+    → printed_report named one ≡ printed_report others other → shown_of named n one ≡ shown_of others n other
+tells_end {Y} {Z} named others one other n clear also e = elim (cases_lt n 0o100) [
+  | inl within ↦
+      let lines = sym (among_ends named one n within) ∙ ap (filter (is_of 80 n)) (same_lines named others one other e) ∙ among_ends others other n within in
+      same_one n (shown_of named n one) (shown_of others n other) clear also (sym (ends_shown named one n) ∙ lines ∙ ends_shown others other n)
+  | inr past ↦ none_shown named n one past ∙ sym (none_shown others n other past)
+]
+
+tells_state : {Y Z : Type 0} (named others : List Bool) (one : Report Y) (other : Report Z) (c : ℕ) → IsTrue (names_channel c) → IsListed (history_on c one.channels) → IsListed (history_on c other.channels)
+    → printed_report named one ≡ printed_report others other → IsToldAlike (history_on c one.channels) (history_on c other.channels)
 unfolding channels
-tells_state {Y} {Z} named one other c is small also e =
+tells_state {Y} {Z} named others one other c is small also e =
     let within = channel_digits c is in
     used_alike (names_channel c) c (history_on c one.channels) (history_on c other.channels) is
-    (sym (among_states named one c within) ∙ ap (filter (is_state c)) (same_lines named one other e) ∙ among_states named other c within) small also
+    (sym (among_states named one c within) ∙ ap (filter (is_state c)) (same_lines named others one other e) ∙ among_states others other c within) small also
 
-pub report_tells : {Y Z : Type 0} (named : List Bool) (one : Report Y) (other : Report Z) → FitsItsReport named one → FitsItsReport named other → HasNumberedEnds one → HasNumberedEnds other
-    → printed_report named one ≡ printed_report named other → AgreeOnReport named one other
-report_tells {Y} {Z} named one other fits also numbered told e = record {
-  events = λ c is. tells_events named one other c is (fits.events c is) (also.events c is) e;
-  workers = λ n is. tells_end named one other n is (clear_end n one (fits.workers n is) numbered) (clear_end n other (also.workers n is) told) e;
-  channels = λ c is. tells_state named one other c is (fits.channels c is) (also.channels c is) e;
+pub report_tells : {Y Z : Type 0} (named others : List Bool) (one : Report Y) (other : Report Z) → FitsItsReport named one → FitsItsReport others other → HasNumberedEnds one → HasNumberedEnds other
+    → printed_report named one ≡ printed_report others other → AgreeOnReport named others one other
+report_tells {Y} {Z} named others one other fits also numbered told e = record {
+  events = λ c is. tells_events named others one other c is (fits.events c is) (also.events c is) e;
+  workers = λ n. tells_end named others one other n (clear_shown named n one fits numbered) (clear_shown others n other also told) e;
+  channels = λ c is. tells_state named others one other c is (fits.channels c is) (also.channels c is) e;
 }
 
 -- ---- and the histories, where both began alike
@@ -584,6 +612,17 @@ pub histories_told : {Y Z : Type 0} (opening : ℕ → List Event) (one : Report
     → told_of c one ≡ told_of c other → history_on c one.channels ≡ history_on c other.channels
 histories_told {Y} {Z} opening one other c merged also same =
     whole_history opening one c merged ∙ ap (λ ts. opening c ++ map (λ (t : ToldEvent). t.event) ts) same ∙ sym (whole_history opening other c also)
+
+-- the same where dead start opened the channels, each in its own machine: what is told of a channel tells
+-- whether it was opened
+pub openings_told : {Y Z : Type 0} (m k : MachineState) (one : Report Y) (other : Report Z) (c : ℕ) → Merges (λ d. opening_history d m) one.channels (logs_of one.ends.items)
+    → Merges (λ d. opening_history d k) other.channels (logs_of other.ends.items) → All IsLawful one.channels → All IsLawful other.channels
+    → told_of c one ≡ told_of c other → IsToldAlike (history_on c one.channels) (history_on c other.channels) → history_on c one.channels ≡ history_on c other.channels
+openings_told {Y} {Z} m k one other c merged also lawful keeps same alike =
+    one_history (is_opened c m) (is_opened c k) (map (λ (t : ToldEvent). t.event) (told_of c one)) (history_on c one.channels) (history_on c other.channels)
+    (whole_history (λ d. opening_history d m) one c merged)
+    (whole_history (λ d. opening_history d k) other c also ∙ ap (λ ts. opening_history c k ++ map (λ (t : ToldEvent). t.event) ts) (sym same))
+    (lawful_on one.channels c lawful) (lawful_on other.channels c keeps) alike.used
 
 -- ---- what is printed fits
 

@@ -658,7 +658,7 @@ same_name true false l k e = absurd cc
 same_name false true l k e = absurd cc
 same_name false false l k e = refl
 
-unnamed : (b : Bool) → (IsTrue b → ⊥) → b ≡ false
+pub unnamed : (b : Bool) → (IsTrue b → ⊥) → b ≡ false
 unnamed true none = absurd (none refl)
 unnamed false none = refl
 

@@ -1,5 +1,5 @@
 -- What the text of a report tells of it: two reports with one text agree on all that it shows.
-use Rattle.std.specs.Prelude.{◌≡◌, ℕ, ◌<◌, ◌^◌, List, Bool, All, Option, Some, None, IfSome, IsTrue, slice_get, option_map}
+use Rattle.std.specs.Prelude.{◌≡◌, ℕ, ◌<◌, ◌^◌, List, Bool, All, Option, Some, None, IfSome, IsTrue, slice_get, option_map, if◌then◌else◌}
 use Rattle.std.specs.List.{enumerate_from, filter_map}
 use Rattle.pp_channel.specs.ChannelNumber.{names_channel}
 use Rattle.pp_channel.specs.History.{HasTwelveBitWord}
@@ -68,17 +68,21 @@ pub record FitsItsReport {Z : Type 0} (named : List Bool) (report : Report Z) : 
   pub workers : (n : ℕ) → IsTrue (is_named named n) → IfSome (end_of n report) FitsItsEnd
   pub channels : (c : ℕ) → IsTrue (names_channel c) → IsListed (history_on c report.channels)
 
+-- what is shown of processor n: nothing where it is not named
+abbrev pub shown_of : {Z : Type 0} → List Bool → ℕ → Report Z → Option ShownEnd
+shown_of named n report = if is_named named n then end_of n report else None
+
 -- each worker that ended at a fault is at a numbered one
 abbrev pub HasNumberedEnds : {Z : Type 0} → Report Z → Type 0
 HasNumberedEnds report = All (λ worker. HasEndNumber worker.finish) report.ends.items
 
--- The same events on each channel, each with its number and its author; the same P, A and end of
--- each processor named; and of each channel whether anything has happened, whether it is active,
+-- The same events on each channel, each with its number and its author; the same processors shown, each
+-- with the same P, A and end; and of each channel whether anything has happened, whether it is active,
 -- and the word that waits.
-pub record AgreeOnReport {Y Z : Type 0} (named : List Bool) (one : Report Y) (other : Report Z)
+pub record AgreeOnReport {Y Z : Type 0} (named others : List Bool) (one : Report Y) (other : Report Z)
     : Type 0 where
   pub events : (c : ℕ) → IsTrue (names_channel c) → told_of c one ≡ told_of c other
-  pub workers : (n : ℕ) → IsTrue (is_named named n) → end_of n one ≡ end_of n other
+  pub workers : (n : ℕ) → shown_of named n one ≡ shown_of others n other
   pub channels : (c : ℕ) → IsTrue (names_channel c)
       → IsToldAlike (history_on c one.channels) (history_on c other.channels)
 

@@ -5,6 +5,8 @@
 #[cfg(test)]
 mod command_line;
 #[cfg(test)]
+mod entry;
+#[cfg(test)]
 mod faults;
 #[cfg(test)]
 mod help;

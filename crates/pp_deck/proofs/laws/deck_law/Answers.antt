@@ -1,4 +1,4 @@
-use Rattle.pp_deck.proofs.DeckLawLemmas.{deck_law_of, deck_size_of, deck_profile_of}
+use Rattle.pp_deck.proofs.DeckLawLemmas.{deck_law_of, deck_size_of, deck_profile_of, deck_names_within}
 use Rattle.pp_deck.proofs.laws.deck_law.Goals as goal
 
 pub returns-clause-size : goal.returns-clause-size
@@ -9,3 +9,6 @@ returns-clause-law c = deck_law_of
 
 pub returns-clause-profile : goal.returns-clause-profile
 returns-clause-profile c = deck_profile_of
+
+pub returns-clause-names : goal.returns-clause-names
+returns-clause-names c = deck_names_within

@@ -21,6 +21,7 @@ returns-in-Ok-printed_report-clause-ok g c = record {
   meant = c.in_ok-loaded.ensures.ok;
   run = record {
     report = _;
+    named = c.in_ok-loaded.ensures.names;
     run = c.in-Ok.ensures;
     told = c.in-Ok-printed_report.ensures.text;
     fits = c.in-Ok-printed_report.ensures.fits;
