@@ -3,7 +3,7 @@
 ghost use Rattle.std.specs.Prelude.{◌≡◌, [], IfOk};
 
 use crate::numbers::{first, word};
-use pp_machine::{CentralFault, Machine, Pp};
+use pp_machine::{CentralFault, Machine, Pp, Profile};
 use pp_word::{Word18, next};
 use std::alloc::Allocator;
 
@@ -36,11 +36,15 @@ pub const HANDOFF_PAIR: Pair = Pair {
 };
 
 impl Pair {
-    /// A machine with the two programs started.
-    pub fn machine<A: Allocator + Copy>(&self, alloc: A) -> Result<Machine<A>, CentralFault>
+    /// A machine of this profile with the two programs started.
+    pub fn machine<A: Allocator + Copy>(
+        &self,
+        alloc: A,
+        profile: Profile,
+    ) -> Result<Machine<A>, CentralFault>
         ensures no_event_yet { IfOk result (λ machine. machine.trace ≡ []) }
     {
-        let mut machine = Machine::new(alloc, 0o10000)?;
+        let mut machine = Machine::new(alloc, profile, 0o10000)?;
         put_program(machine.pp_mut(first()), 0o100, self.zero);
         put_program(machine.pp_mut(first().next()), 0o200, self.one);
         Ok(machine)
