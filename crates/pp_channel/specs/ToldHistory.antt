@@ -14,10 +14,13 @@ pub record IsToldBy (log : List Entry) (seen : List ℕ) (histories : List (List
   pub merged : Merges no_opening histories log
   pub counted : (c : ℕ) → seen_on c seen ≡ length (history_on c histories)
 
--- the histories of all channels in order, with the event of an entry put at its number in that of its channel
+-- the histories of all channels in order, with the event of an entry put at its number in that of
+-- its channel
 abbrev pub with_told : List (List Event) → ℕ → ℕ → Seen → List (List Event)
-with_told histories place number (Did e) = slice_set histories place (slice_set (slice_index_or histories place []) number e)
+with_told histories place number (Did e) =
+    slice_set histories place (slice_set (slice_index_or histories place []) number e)
 with_told histories place number (Saw f) = histories
 
 abbrev pub with_entry : List (List Event) → Entry → List (List Event)
-with_entry histories entry = with_told histories (channel_index entry.channel) entry.number entry.what
+with_entry histories entry =
+    with_told histories (channel_index entry.channel) entry.number entry.what

@@ -95,7 +95,8 @@ fn told_histories<A: Allocator + Copy>(
     log: &[Entry],
     seen: &[u64; CHANNELS],
 ) -> Result<Vec<EventsByNumber<A>, A>, Memory>
-    ensures { IfOk result (λ told. (histories : List (List Event)) → IsToldBy log.now seen.now histories → told.items ≡ histories) }
+    ensures { IfOk result (λ told. (histories : List (List Event))
+        → IsToldBy log.now seen.now histories → told.items ≡ histories) }
 {
     let mut told = untold_histories(alloc, seen)?;
     for entry in log {
@@ -110,7 +111,8 @@ fn untold_histories<A: Allocator + Copy>(
     seen: &[u64; CHANNELS],
 ) -> Result<Vec<EventsByNumber<A>, A>, Memory>
     ensures each_channel { IfOk result (λ untold. length untold.items ≡ channel_count) }
-    ensures each_event { IfOk result (λ untold. (place : ℕ) → place < channel_count → length (slice_index_or untold.items place []) ≡ slice_index_or seen.now place 0) }
+    ensures each_event { IfOk result (λ untold. (place : ℕ) → place < channel_count
+        → length (slice_index_or untold.items place []) ≡ slice_index_or seen.now place 0) }
 {
     let mut untold = Vec::with_capacity(alloc, CHANNELS)?;
     for count in seen {

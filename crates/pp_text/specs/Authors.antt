@@ -1,5 +1,6 @@
 -- Finding the authors of events, log after log.
-use Rattle.std.specs.Prelude.{◌≡◌, ℕ, ◌<◌, Bool, List, [], length, slice_index_or, Option, Some, None, option_map, IsTrue, if◌then◌else◌}
+use Rattle.std.specs.Prelude.{◌≡◌, ℕ, ◌<◌, Bool, List, [], length, slice_index_or}
+use Rattle.std.specs.Prelude.{Option, Some, None, option_map, IsTrue, if◌then◌else◌}
 use Rattle.pp_channel.specs.ChannelNumber.{channel_index, names_channel}
 use Rattle.pp_channel.specs.Merge.{history_on}
 use Rattle.pp_channel.specs.declared.event.Event.{Event}
@@ -16,12 +17,15 @@ or_told None told author = if told then Some author else None
 abbrev pub authors_on : ℕ → List (List (Option ℕ)) → List (Option ℕ)
 authors_on c authors = slice_index_or authors (channel_index c) []
 
--- The authors of the events of channel c, by number: of each the processor in whose log it stands, of these workers in
--- order, and none of an opening event.
-abbrev pub AreAuthorsOn : {Z : Type 0} → ℕ → List (Worker Z) → List Event → List (Option ℕ) → Type 0
+-- The authors of the events of channel c, by number: of each the processor in whose log it stands, by
+-- the workers in order; an opening event has none.
+abbrev pub AreAuthorsOn : {Z : Type 0} → ℕ → List (Worker Z) → List Event
+    → List (Option ℕ) → Type 0
 AreAuthorsOn c workers history authors = (number : ℕ) → number < length history
     → slice_index_or authors number None ≡ option_map processor_number (author_place c workers number)
 
 -- the same of each channel
-abbrev pub AreAuthors : {Z : Type 0} → List (Worker Z) → List (List Event) → List (List (Option ℕ)) → Type 0
-AreAuthors workers histories authors = (c : ℕ) → IsTrue (names_channel c) → AreAuthorsOn c workers (history_on c histories) (authors_on c authors)
+abbrev pub AreAuthors : {Z : Type 0} → List (Worker Z) → List (List Event)
+    → List (List (Option ℕ)) → Type 0
+AreAuthors workers histories authors = (c : ℕ) → IsTrue (names_channel c)
+    → AreAuthorsOn c workers (history_on c histories) (authors_on c authors)

@@ -13,7 +13,8 @@ use pp_runner::Worker;
 use std::alloc::{AllocError, Allocator};
 use std::marker::Model;
 
-/// The authors of a channel's events, by number, as far as they are known. Contracts see their list.
+/// The authors of a channel's events, by number, as far as they are known. Contracts see their
+/// list.
 #[derive(Drop)]
 pub(crate) struct ChannelAuthors<A: Allocator> {
     by_number: Vec<Option<PpNo>, A>,
@@ -31,7 +32,8 @@ impl<A: Allocator> ChannelAuthors<A> {
     /// Those of so many events, when none is known.
     fn unknown(alloc: A, count: usize) -> Result<Self, AllocError>
         ensures length { IfOk result (λ authors. length authors ≡ count) }
-        ensures none { IfOk result (λ authors. (number : ℕ) → slice_index_or authors number None ≡ None) }
+        ensures none { IfOk result (λ authors. (number : ℕ)
+            → slice_index_or authors number None ≡ None) }
     {
         let by_number = vec![in alloc; None; count]?;
         Ok(ChannelAuthors { by_number })
@@ -51,7 +53,8 @@ impl<A: Allocator> ChannelAuthors<A> {
     fn mark(&mut self, number: usize, author: PpNo)
         ensures length { length self.new ≡ length self.old }
         ensures marked { (k : ℕ) → k < length self.old
-            → slice_index_or self.new k None ≡ or_told (slice_index_or self.old k None) (number == k) author }
+            → slice_index_or self.new k None
+            ≡ or_told (slice_index_or self.old k None) (number == k) author }
     {
         if number < self.by_number.len() && self.by_number[number].is_none() {
             self.by_number[number] = Some(author);
@@ -59,8 +62,8 @@ impl<A: Allocator> ChannelAuthors<A> {
     }
 }
 
-/// The authors of all events of the channels, by the logs of the workers, which stand in order: for each
-/// channel in order a list by number.
+/// The authors of all events of the channels, by the logs of the workers, which stand in order: for
+/// each channel in order a list by number.
 pub(crate) fn authors<A: Allocator + Copy>(
     alloc: A,
     workers: &[Worker<A>],
@@ -82,8 +85,10 @@ fn unknown_authors<A: Allocator + Copy>(
     channels: &[Channel<A>; CHANNELS],
 ) -> Result<Vec<ChannelAuthors<A>, A>, AllocError>
     ensures each_channel { IfOk result (λ authors. length authors.items ≡ channel_count) }
-    ensures each_event { IfOk result (λ authors. (c : ℕ) → length (authors_on c authors.items) ≡ length (history_on c channels.now)) }
-    ensures none { IfOk result (λ authors. (c number : ℕ) → slice_index_or (authors_on c authors.items) number None ≡ None) }
+    ensures each_event { IfOk result (λ authors. (c : ℕ)
+        → length (authors_on c authors.items) ≡ length (history_on c channels.now)) }
+    ensures none { IfOk result (λ authors. (c number : ℕ)
+        → slice_index_or (authors_on c authors.items) number None ≡ None) }
 {
     let mut authors = Vec::with_capacity(alloc, CHANNELS)?;
     for channel in channels {
@@ -96,9 +101,13 @@ fn unknown_authors<A: Allocator + Copy>(
 fn mark<A: Allocator>(authors: &mut Vec<ChannelAuthors<A>, A>, log: &[Entry], author: PpNo)
     requires { length authors.old.items ≡ channel_count }
     ensures each_channel { length authors.new.items ≡ channel_count }
-    ensures each_event { (c : ℕ) → length (authors_on c authors.new.items) ≡ length (authors_on c authors.old.items) }
-    ensures marked { (c number : ℕ) → IsTrue (names_channel c) → number < length (authors_on c authors.old.items)
-        → slice_index_or (authors_on c authors.new.items) number None ≡ or_told (slice_index_or (authors_on c authors.old.items) number None) (log_tells c number log.now) author }
+    ensures each_event { (c : ℕ)
+        → length (authors_on c authors.new.items) ≡ length (authors_on c authors.old.items) }
+    ensures marked { (c number : ℕ) → IsTrue (names_channel c)
+        → number < length (authors_on c authors.old.items)
+        → slice_index_or (authors_on c authors.new.items) number None
+        ≡ or_told (slice_index_or (authors_on c authors.old.items) number None)
+        (log_tells c number log.now) author }
 {
     for entry in log {
         mark_entry(authors, entry, author);
@@ -108,9 +117,13 @@ fn mark<A: Allocator>(authors: &mut Vec<ChannelAuthors<A>, A>, log: &[Entry], au
 fn mark_entry<A: Allocator>(authors: &mut Vec<ChannelAuthors<A>, A>, entry: &Entry, author: PpNo)
     requires { length authors.old.items ≡ channel_count }
     ensures each_channel { length authors.new.items ≡ channel_count }
-    ensures each_event { (c : ℕ) → length (authors_on c authors.new.items) ≡ length (authors_on c authors.old.items) }
-    ensures marked { (c number : ℕ) → IsTrue (names_channel c) → number < length (authors_on c authors.old.items)
-        → slice_index_or (authors_on c authors.new.items) number None ≡ or_told (slice_index_or (authors_on c authors.old.items) number None) (tells_event c number entry.now) author }
+    ensures each_event { (c : ℕ)
+        → length (authors_on c authors.new.items) ≡ length (authors_on c authors.old.items) }
+    ensures marked { (c number : ℕ) → IsTrue (names_channel c)
+        → number < length (authors_on c authors.old.items)
+        → slice_index_or (authors_on c authors.new.items) number None
+        ≡ or_told (slice_index_or (authors_on c authors.old.items) number None)
+        (tells_event c number entry.now) author }
 {
     if let Seen::Did(_) = entry.what {
         authors[entry.channel.index()].mark(entry.number as usize, author);

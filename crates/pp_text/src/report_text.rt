@@ -79,10 +79,12 @@ fn push_channel_events<A: Allocator>(
     number: u8,
 ) -> Result<(), AllocError>
     requires { length authors.now ≡ channel_count }
-    ensures text { OnOk result ((workers : List (Worker A)) → AreAuthors workers channels.now authors.now
+    ensures text { OnOk result ((workers : List (Worker A))
+        → AreAuthors workers channels.now authors.now
         → text.new.items ≡ text.old.items ++ channel_events workers channels.now number) }
-    ensures fits { OnOk result ((workers : List (Worker A)) → AreAuthors workers channels.now authors.now
-        → IsTrue (names_channel number) → All FitsItsLine (told_events number workers (history_on number channels.now))) }
+    ensures fits { OnOk result ((workers : List (Worker A))
+        → AreAuthors workers channels.now authors.now → IsTrue (names_channel number)
+        → All FitsItsLine (told_events number workers (history_on number channels.now))) }
 {
     match ChannelNo::new(number) {
         Some(c) => push_history(text, c, channel_of(channels, c), &authors[c.index()]),
@@ -96,9 +98,12 @@ fn push_history<A: Allocator>(
     channel: &Channel<A>,
     authors: &ChannelAuthors<A>,
 ) -> Result<(), AllocError>
-    ensures text { OnOk result ((workers : List (Worker A)) → AreAuthorsOn c workers channel.now authors.now
-        → text.new.items ≡ text.old.items ++ flat_map (numbered_event_line c workers) (enumerate_from 0 channel.now)) }
-    ensures fits { OnOk result ((workers : List (Worker A)) → AreAuthorsOn c workers channel.now authors.now
+    ensures text { OnOk result ((workers : List (Worker A))
+        → AreAuthorsOn c workers channel.now authors.now
+        → text.new.items ≡ text.old.items
+        ++ flat_map (numbered_event_line c workers) (enumerate_from 0 channel.now)) }
+    ensures fits { OnOk result ((workers : List (Worker A))
+        → AreAuthorsOn c workers channel.now authors.now
         → All FitsItsLine (told_events c workers channel.now)) }
 {
     for (number, event) in channel.history().iter().enumerate() {
