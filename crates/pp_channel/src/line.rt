@@ -1,4 +1,4 @@
-//! One thread's access to the twelve channels.
+//! One thread's access to all channels.
 
 ghost use Rattle.std.specs.Prelude.{◌≡◌, ◌≤◌, ◌+◌, ◌-◌, List, [], ◌∷◌, ◌++◌, Contains, true, IfOk, OnOk, OnErr, IfErr, length};
 ghost use Rattle.pp_channel.specs.declared.event.Event.{Event};
@@ -25,7 +25,7 @@ use crate::worn::Worn;
 use std::alloc::Allocator;
 use std::marker::Model;
 
-/// One thread's access to the twelve channels, which it shares with other lines without a lock.
+/// One thread's access to all channels, which it shares with other lines without a lock.
 /// Contracts see its log, what it has seen and found, how often it weighed, and its shares.
 #[derive(Drop)]
 pub struct Line<A: Allocator> {
@@ -48,7 +48,7 @@ impl<A: Allocator> Model for Line<A> {
     ghost invariant = { λ line. IsLineKept line.words.seat.me.0 (record { log = line.log; seen = line.seen; found = line.words.seat.me.0.found; weighed = line.words.seat.me.0.weighed; shares = line.shares; whole = line.whole; table = line.words.seat.table_id }) };
 }
 
-/// Twelve channels without history, and the first line of their family, which holds all of `lines`
+/// All channels, without history, and the first line of their family, which holds all of `lines`
 /// shares, at least 1, with room for `room` entries in its log.
 pub fn open_lines<A: Allocator + Copy>(alloc: A, room: u32, lines: u32) -> Result<Line<A>, Memory>
     requires { 1 ≤ lines }
