@@ -4,7 +4,8 @@
 -- Control Data 6400/6500/6600 Computer Systems Reference Manual, publication 60100000, part on
 -- peripheral and control processors: twelve data channels, numbered 0 to 13 (octal). A machine of twenty
 -- peripheral processors has twelve more, numbered 20 to 33.
-use Rattle.std.specs.Prelude.{ℕ, ◌+◌, ◌-◌, ◌&&◌, ◌||◌, Bool, nat_lt, if◌then◌else◌}
+use Rattle.std.specs.Prelude.{ℕ, ◌≡◌, ◌+◌, ◌-◌, ◌&&◌, ◌||◌, Bool, IsTrue, nat_lt, if◌then◌else◌}
+use Rattle.std.proofs.Common.{arith}
 
 -- how many channels there are
 abbrev pub channel_count : ℕ
@@ -22,3 +23,8 @@ channel_index number = if nat_lt number 0o14 then number else if nat_lt number 0
 -- the number of the channel at a place of that list
 unfoldable pub channel_number : ℕ → ℕ
 channel_number place = if nat_lt place 0o14 then place else place + 4
+
+-- the number of a channel tells its place
+pub place_again : (place : ℕ) → IsTrue (names_channel (channel_number place)) → channel_index (channel_number place) ≡ place
+unfolding names_channel channel_number channel_index
+place_again place names = grind (arith)

@@ -49,6 +49,10 @@ number_at place n below = ⊎_elim
     (λ (other : place ≢ processor_index n). ne_eqb (processor_number place) n (λ is. other (sym (place_of_number place below) ∙ ap processor_index is)) ∙ sym (ne_eqb place (processor_index n) other))
     (cases_eq place (processor_index n))
 
+pub first_number : processor_number 0 ≡ 0
+unfolding processor_number
+first_number = grind (arith)
+
 -- the barrel begins with the processor of the first place
 pub place_of_first : processor_index 0 ≡ 0
 unfolding processor_index

@@ -1,6 +1,6 @@
 -- What proofs know of the processors and channels of a profile.
 use Rattle.std.proofs.Common.{◌≡◌, ℕ, suc, ◌+◌, ◌*◌, ◌/◌, ◌%◌, ◌<◌, ◌≤◌, Bool, true, false, refl, ap, sym, ◌∙◌, arith}
-use Rattle.std.specs.Prelude.{IsTrue, nat_lt}
+use Rattle.std.specs.Prelude.{◌↔◌, IsTrue, nat_lt}
 use Rattle.std.proofs.lemmas.Bool.{false≢true}
 use Rattle.pp_channel.specs.ChannelNumber.{channel_count, channel_index, names_channel}
 use Rattle.pp_channel.proofs.ChannelPlaces as channels
@@ -38,6 +38,19 @@ unnamed_lacks p n none = by (has_processor p n) refl
 pub channel_named : (p : Profile) (c : ℕ) → IsTrue (has_channel p c) → IsTrue (names_channel c)
 unfolding has_channel
 channel_named p c has = let most = most_channels p in channels.named_below c (grind (arith))
+
+-- the channels of each profile by number
+pub channels_of_ten : (c : ℕ) → IsTrue (has_channel Ten c) ↔ (c < 0o14)
+unfolding has_channel channel_index
+channels_of_ten c = (λ has. grind (arith), λ below. grind (arith))
+
+-- numbers that are small enough name one
+pub small_channels : (c : ℕ) → c < 0o14 → IsTrue (names_channel c)
+small_channels c below = channel_named Ten c ((channels_of_ten c).1 below)
+
+pub channels_of_twenty : (c : ℕ) → IsTrue (has_channel Twenty c) ↔ IsTrue (names_channel c)
+unfolding has_channel
+channels_of_twenty c = (λ has. channel_named Twenty c has, λ names. let below = channels.place_below c names in grind (arith))
 
 -- a profile has the processors of the first places
 pub has_at : (p : Profile) (place : ℕ) → place < processor_count → has_processor p (processor_number place) ≡ nat_lt place (processors_in p)

@@ -4,7 +4,8 @@
 -- Control Data 6400/6500/6600 Computer Systems Reference Manual, publication 60100000, part on peripheral and
 -- control processors: ten processors, numbered 0 to 11 (octal), which take turns in a barrel. A machine of
 -- twenty has ten more, numbered 20 to 31, which follow them in the barrel.
-use Rattle.std.specs.Prelude.{ℕ, ◌+◌, ◌-◌, ◌&&◌, ◌||◌, Bool, nat_lt, if◌then◌else◌}
+use Rattle.std.specs.Prelude.{ℕ, ◌≡◌, ◌+◌, ◌-◌, ◌&&◌, ◌||◌, Bool, IsTrue, nat_lt, if◌then◌else◌}
+use Rattle.std.proofs.Common.{arith}
 
 -- how many processors there are
 abbrev pub processor_count : ℕ
@@ -22,3 +23,8 @@ processor_index number = if nat_lt number 0o12 then number else if nat_lt number
 -- the number of the processor at a place
 unfoldable pub processor_number : ℕ → ℕ
 processor_number place = if nat_lt place 0o12 then place else place + 6
+
+-- the number of a processor tells its place
+pub place_again : (place : ℕ) → IsTrue (names_processor (processor_number place)) → processor_index (processor_number place) ≡ place
+unfolding names_processor processor_number processor_index
+place_again place names = grind (arith)

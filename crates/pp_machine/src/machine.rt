@@ -22,13 +22,13 @@ use std::marker::Model;
 /// A machine. Contracts see it as a `MachineState`: its channels by their histories alone.
 #[derive(Drop)]
 pub struct Machine<A: Allocator> {
-    pub(crate) profile: Profile,
     pub(crate) processors: Vec<Pp, A>,
     pub(crate) channels: Vec<Channel<A>, A>,
     pub(crate) central: Central<A>,
     pub(crate) turns: u64,
     pub(crate) trace: Vec<Trace, A>,
     pub(crate) opened: [bool; CHANNELS],
+    pub(crate) profile: Profile,
 }
 
 impl<A: Allocator> Model for Machine<A> {
@@ -61,13 +61,13 @@ impl<A: Allocator> Machine<A> {
     {
         let central = Central::new(alloc, size)?;
         Ok(Machine {
-            profile,
             processors: new_processors(alloc, profile)?,
             channels: new_channels(alloc)?,
             central,
             turns: 0,
             trace: Vec::new(alloc),
             opened: [false; CHANNELS],
+            profile,
         })
     }
 

@@ -28,12 +28,12 @@ use std::marker::Model;
 /// Contracts see it as a `Processor`.
 #[derive(Drop)]
 pub struct Pp {
-    profile: Profile,
     memory: PpMemory,
     a: Word18,
     p: Word12,
     state: PpState,
     block: Option<Block>,
+    profile: Profile,
 }
 
 impl Model for Pp {
@@ -52,12 +52,12 @@ impl Pp {
         ensures { result ≡ new_processor profile }
     {
         Pp {
-            profile,
             memory: PpMemory::new(),
             a: Word18::ZERO,
             p: Word12::ZERO,
             state: PpState::Stopped,
             block: None,
+            profile,
         }
     }
 

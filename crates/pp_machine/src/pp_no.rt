@@ -8,80 +8,83 @@ use std::marker::Model;
 /// How many peripheral processors the greater machine has (decimal).
 pub const PROCESSORS: usize = 20;
 
-/// The number of a peripheral processor, 0 to 11 or 20 to 31 (octal). Contracts see it as that number.
+/// The number of a peripheral processor, 0 to 11 or 20 to 31 (octal). It is kept as its place in the
+/// barrel of twenty; contracts see it as the number.
 #[derive(Clone, Copy, Debug, PartialEq, Eq)]
 pub struct PpNo {
-    number: u8,
+    place: u8,
 }
 
 impl Model for PpNo {
+    ghost use Rattle.std.specs.Prelude.{ℕ, IsTrue};
+    ghost use Rattle.std.proofs.Common.{ap};
+    ghost use Rattle.pp_machine.specs.ProcessorNumber.{names_processor, processor_index, processor_number, place_again};
+
     ghost Value = { ℕ };
 
-    ghost view = { λ n. n.number };
+    ghost view = { λ n. processor_number n.place };
 
-    ghost invariant = { λ n. IsTrue (names_processor n.number) };
+    ghost invariant = { λ n. IsTrue (names_processor (processor_number n.place)) };
 
-    ghost inverse = { λ n. record { number = n } };
+    ghost inverse = { λ n. record { place = processor_index n } };
+
+    ghost inverse_ok = { λ n names. ap (λ k. record { place = k }) (place_again n.place names) };
 }
 
 impl PpNo {
     /// The processor with which the barrel begins.
-    pub const FIRST: PpNo = PpNo { number: 0 };
+    pub const FIRST: PpNo = PpNo { place: 0 };
 
     /// The processor of this number, or nothing from 12 to 17 (octal) and from 32 on.
-    #[tactic(auto, unfolding(crate::specs::ProcessorNumber::names_processor))]
+    #[tactic(auto, unfolding(crate::specs::ProcessorNumber::names_processor, crate::specs::ProcessorNumber::processor_number))]
     pub fn new(number: u8) -> Option<Self>
         ensures exists { IsSome result ↔ IsTrue (names_processor number) }
         ensures value { IfSome result (λ n. n ≡ number) }
     {
-        if matches!(number, 0..=0o11 | 0o20..=0o31) {
-            Some(PpNo { number })
-        } else {
-            None
-        }
+        let place = match number {
+            0..=0o11 => number,
+            0o20..=0o31 => number - 6,
+            _ => return None,
+        };
+        Some(PpNo { place })
     }
 
     /// Its number.
+    #[tactic(auto, unfolding(crate::specs::ProcessorNumber::names_processor, crate::specs::ProcessorNumber::processor_number))]
     pub fn get(self) -> u8
         ensures value { result ≡ self }
         ensures names { IsTrue (names_processor result) }
     {
-        self.number
+        if self.place < 0o12 {
+            self.place
+        } else {
+            self.place + 6
+        }
     }
 
     /// Its place in a list of all processors in the barrel's order.
-    #[tactic(auto, using(crate::proofs::ProcessorPlaces::one_place), unfolding(crate::specs::ProcessorNumber::names_processor, crate::specs::ProcessorNumber::processor_index))]
+    #[tactic(auto, using(crate::proofs::ProcessorPlaces::one_place, crate::proofs::ProcessorPlaces::place_below, crate::specs::ProcessorNumber::place_again))]
     pub fn index(self) -> usize
         ensures place { result ≡ processor_index self }
         ensures below { result < processor_count }
         // No other processor has this place.
         ensures own { (n : ℕ) → IsTrue (names_processor n) → processor_index n ≡ result → n ≡ self }
     {
-        let number = usize::from(self.get());
-        if number < 0o12 {
-            number
-        } else {
-            number - 6
-        }
+        usize::from(self.place)
     }
 
     /// The processor at a place in the barrel's order.
-    #[tactic(auto, unfolding(crate::specs::ProcessorNumber::names_processor, crate::specs::ProcessorNumber::processor_index, crate::specs::ProcessorNumber::processor_number))]
+    #[tactic(auto, using(crate::proofs::ProcessorPlaces::number_named, crate::proofs::ProcessorPlaces::place_of_number))]
     pub fn at(place: usize) -> Self
         requires { place < processor_count }
         ensures number { result ≡ processor_number place }
         ensures place { processor_index result ≡ place }
     {
-        let number = if place < 0o12 {
-            place as u8
-        } else {
-            place as u8 + 6
-        };
-        PpNo { number }
+        PpNo { place: place as u8 }
     }
 
     /// The processor at the next place of twenty; after the last comes the first.
-    #[tactic(auto, using(crate::proofs::ProcessorPlaces::one_place), unfolding(crate::specs::ProcessorNumber::names_processor, crate::specs::ProcessorNumber::processor_index, crate::specs::ProcessorNumber::processor_number))]
+    #[tactic(auto, using(crate::proofs::ProcessorPlaces::place_below), unfolding(crate::specs::ProcessorNumber::names_processor, crate::specs::ProcessorNumber::processor_index, crate::specs::ProcessorNumber::processor_number))]
     pub fn next(self) -> Self
         ensures { result ≡ processor_number ((processor_index self + 1) % processor_count) }
     {

@@ -60,16 +60,14 @@ impl Profile {
 
     /// Its channel of this number, or nothing from 14 (octal) on under `Ten`, from 14 to 17 and from 34
     /// on under `Twenty`.
-    #[tactic(auto, using(crate::proofs::ProfileLemmas::channel_named), unfolding(crate::specs::Profile::has_channel))]
+    #[tactic(auto, using(crate::proofs::ProfileLemmas::channels_of_ten, crate::proofs::ProfileLemmas::channels_of_twenty, crate::proofs::ProfileLemmas::small_channels))]
     pub fn channel(self, number: u8) -> Option<ChannelNo>
         ensures exists { IsSome result ↔ IsTrue (has_channel self number) }
         ensures value { IfSome result (λ c. c ≡ number) }
     {
-        let c = ChannelNo::new(number)?;
-        if c.index() < self.channels() {
-            Some(c)
-        } else {
-            None
+        match self {
+            Profile::Ten if usize::from(number) >= TWELVE => None,
+            Profile::Ten | Profile::Twenty => ChannelNo::new(number),
         }
     }
 }

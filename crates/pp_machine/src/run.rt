@@ -135,7 +135,13 @@ impl<A: Allocator> Machine<A> {
     {
         let turns = self.turns;
         let round = self.round();
-        let rounds = run_ahead(&mut self.processors, &self.channels, round as usize, 0, most);
+        let rounds = run_ahead(
+            &mut self.processors,
+            &self.channels,
+            round as usize,
+            0,
+            most,
+        );
         self.turns = turns.saturating_add(u64::from(rounds) * u64::from(round));
         rounds
     }
@@ -166,11 +172,7 @@ impl<A: Allocator> Machine<A> {
 
     /// So many whole rounds of the barrel, where `next` tells which processors at rest to pass over.
     /// Refused, it says how many steps were done.
-    fn run_passing(
-        &mut self,
-        rounds: u32,
-        next: &[usize; PROCESSORS + 1],
-    ) -> Result<(), u64>
+    fn run_passing(&mut self, rounds: u32, next: &[usize; PROCESSORS + 1]) -> Result<(), u64>
         requires passes { PassesOverRest next.now self.old.processors }
         requires sound { HoldsOnEachChannel self.old }
         ensures ok { OnOk result (self.new ≡ run (whole_rounds self.old.profile rounds) self.old) }

@@ -37,7 +37,10 @@ impl Pp {
         match op {
             Opcode::CRD => Need::Read(self.a),
             Opcode::CWD => Need::Write(self.a, self.central_from(Word12::from(d))),
-            Opcode::AJM | Opcode::IJM | Opcode::FJM | Opcode::EJM => self.channel_need(d, ChanOp::Probe),
+            Opcode::AJM | Opcode::IJM | Opcode::FJM | Opcode::EJM => self.channel_need(
+                d,
+                ChanOp::Probe,
+            ),
             Opcode::IAN => self.channel_need(d, ChanOp::Take),
             Opcode::OAN => self.channel_need(d, ChanOp::Put(self.a.low())),
             Opcode::ACN => self.channel_need(d, ChanOp::Activate),
