@@ -10,8 +10,12 @@ mod lines;
 #[cfg(test)]
 mod machine;
 #[cfg(test)]
+mod numbers;
+#[cfg(test)]
 mod one_channel;
 #[cfg(test)]
 mod processor;
+#[cfg(test)]
+mod twenty;
 #[cfg(test)]
 mod words;

@@ -50,15 +50,22 @@ fn join_lines<A: Allocator + Copy>(line: Line<A>, other: Line<A>) -> Result<Line
     }
 }
 
-/// Closes a line: channel 5 has to have this history, and each other channel none.
-fn expect_history(rt: &impl Abort, line: Line<Global>, events: &[Event]) -> Result<(), Fail>
+/// Closes a line: the channel at this place has to have this history, and each of the twenty-three others
+/// none.
+fn expect_history(
+    rt: &impl Abort,
+    line: Line<Global>,
+    used: usize,
+    events: &[Event],
+) -> Result<(), Fail>
     requires { line.shares ≡ line.whole }
 {
     let Ok(channels) = line.close() else {
         return Err("no close".into());
     };
+    assert_eq!(rt; channels.len(), 24);
     for (place, channel) in channels.iter().enumerate() {
-        let history = if place == 5 { events } else { &[] };
+        let history = if place == used { events } else { &[] };
         assert_eq!(rt; channel.history(), history);
     }
     Ok(())
@@ -92,7 +99,17 @@ fn line_by_calls(rt: HostRuntime) -> Result<(), Fail> {
     let shown = (line.log().len(), line.room(), line.shares());
     assert_eq!(rt; shown, (4, 5, 2));
     let events = [Event::Activate, Event::Put(first), Event::Take(first)];
-    expect_history(&rt, line, &events)
+    expect_history(&rt, line, 5, &events)
+}
+
+/// Channel 33 stands at the last place.
+#[test]
+fn far_channel(rt: HostRuntime) -> Result<(), Fail> {
+    let far = channel(0o33)?;
+    let mut line = open_lines(rt.alloc(), 8, 1)?;
+    assert_eq!(rt; line.act(far, ChanOp::Activate)?, numbered(Reply::Done, 0));
+    assert_eq!(rt; (line.seen(far), line.seen(channel(0o13)?)), (1, 0));
+    expect_history(&rt, line, 23, &[Event::Activate])
 }
 
 #[test]

@@ -1,6 +1,6 @@
 //! One channel by calls.
 
-use pp_channel::{ChanOp, Channel, ChannelNo, Event, Memory, Reply};
+use pp_channel::{ChanOp, Channel, Event, Memory, Reply};
 use std::alloc::Allocator;
 use std::test::Fail;
 use test_bench::{EMPTY, FULL, INACTIVE, word};
@@ -81,14 +81,5 @@ fn held_where_not_ready(rt: HostRuntime) -> Result<(), Fail> {
     ];
     assert!(rt; answers(&mut channel, &calls)?);
     assert_eq!(rt; channel.history().len(), 2);
-    Ok(())
-}
-
-#[test]
-fn numbers_of_channels(rt: HostRuntime) -> Result<(), Fail> {
-    let last = ChannelNo::new(0o13).ok_or("no channel 13")?;
-    assert_eq!(rt; last.get(), 11);
-    assert_eq!(rt; last.index(), 11);
-    assert_eq!(rt; ChannelNo::new(0o14), None);
     Ok(())
 }

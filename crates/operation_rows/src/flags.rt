@@ -1,7 +1,7 @@
 //! The codes 64 to 67, which jump by the flags of a channel.
 
 use pp_channel::{Flags, Reply};
-use pp_machine::{Answer, Pp};
+use pp_machine::{Answer, Pp, Profile};
 use std::test::Fail;
 use test_bench::{EMPTY, FULL, INACTIVE, put_program};
 
@@ -23,11 +23,13 @@ const ROWS: [(u16, Flags, u16); 12] = [
 
 #[test]
 fn tests_of_flags(rt: HostRuntime) -> Result<(), Fail> {
-    for (code, flags, p) in ROWS {
-        let mut pp = Pp::new();
-        put_program(&mut pp, 0o1000, &[code, 0o2345]);
-        assert_eq!(rt; pp.replay(&[Answer::Channel(Reply::Flags(flags))]), 1);
-        assert_eq!(rt; (pp.p().get(), pp.a().get()), (p, 0), "{code}");
+    for profile in [Profile::Ten, Profile::Twenty] {
+        for (code, flags, p) in ROWS {
+            let mut pp = Pp::new(profile);
+            put_program(&mut pp, 0o1000, &[code, 0o2345]);
+            assert_eq!(rt; pp.replay(&[Answer::Channel(Reply::Flags(flags))]), 1);
+            assert_eq!(rt; (pp.p().get(), pp.a().get()), (p, 0), "{code}");
+        }
     }
     Ok(())
 }

@@ -1,7 +1,7 @@
 //! The codes 00 to 57, which need nothing from outside.
 
 use pp_machine::PpState::{self, Fault, Running, Stopped};
-use pp_machine::{Answer, Pp};
+use pp_machine::{Answer, Pp, Profile};
 use pp_word::Word18;
 use std::test::Fail;
 use test_bench::{put_program, put_words, word};
@@ -188,8 +188,8 @@ const ROWS: [Row; 66] = [
 ];
 
 /// The processor of a row, before its step.
-fn before(words: [u16; 2], a: u32) -> Pp {
-    let mut pp = Pp::new();
+fn before(profile: Profile, words: [u16; 2], a: u32) -> Pp {
+    let mut pp = Pp::new(profile);
     put_words(&mut pp, 0o0005, &[0o0070]);
     put_words(&mut pp, 0o0070, &[0o4321]);
     put_words(&mut pp, 0o0270, &[0o1357]);
@@ -215,17 +215,19 @@ fn changed(one: &Pp, other: &Pp) -> Option<Option<(u16, u16)>> {
 
 #[test]
 fn local_operations(rt: HostRuntime) -> Result<(), Fail> {
-    for (words, a, p, a_after, state, change) in ROWS {
-        let old = before(words, a);
-        let mut pp = old.copy();
-        let code = words[0];
-        assert_eq!(rt; pp.replay(&[Answer::Local]), 1, "{code}");
-        assert_eq!(rt;
-            (pp.p().get(), pp.a().get(), pp.state()),
-            (p, a_after, state),
-            "{code}"
-        );
-        assert_eq!(rt; changed(&old, &pp), Some(change), "{code}");
+    for profile in [Profile::Ten, Profile::Twenty] {
+        for (words, a, p, a_after, state, change) in ROWS {
+            let old = before(profile, words, a);
+            let mut pp = old.copy();
+            let code = words[0];
+            assert_eq!(rt; pp.replay(&[Answer::Local]), 1, "{code}");
+            assert_eq!(rt;
+                (pp.p().get(), pp.a().get(), pp.state()),
+                (p, a_after, state),
+                "{code}"
+            );
+            assert_eq!(rt; changed(&old, &pp), Some(change), "{code}");
+        }
     }
     Ok(())
 }

@@ -1,15 +1,15 @@
 //! The codes 60 to 63 and 70 to 77, which move words to and from central memory and channels.
 
 use pp_channel::{ChanOp, Reply};
-use pp_machine::{Answer, Need, Pp};
+use pp_machine::{Answer, BlockKind, Need, Pp, PpState, Profile};
 use pp_word::{Word18, Word60};
 use std::test::Fail;
 use test_bench::{channel, put_program, put_words, word};
 
 /// A processor at an instruction at 1000, with A; place 0005 holds 0002, and ten words from 0070 on hold
 /// 0001 to 0012 (all octal).
-fn before(words: [u16; 2], a: u32) -> Pp {
-    let mut pp = Pp::new();
+fn before(profile: Profile, words: [u16; 2], a: u32) -> Pp {
+    let mut pp = Pp::new(profile);
     put_words(&mut pp, 0o0005, &[0o0002]);
     put_words(&mut pp, 0o0070, &[1, 2, 3, 4, 5, 6, 7, 0o10, 0o11, 0o12]);
     put_program(&mut pp, 0o1000, &words);
@@ -76,13 +76,15 @@ fn one_word_on_a_channel(rt: HostRuntime) -> Result<(), Fail> {
             0o123477,
         ),
     ];
-    for (words, op, reply, p, a) in rows {
-        let old = before(words, 0o123477);
-        let mut pp = old.copy();
-        let need = Need::Channel(channel(5)?, op);
-        assert!(rt; goes_on(&mut pp, need, Answer::Channel(reply)));
-        assert_eq!(rt; shown(&pp), (p, a));
-        assert!(rt; has_changed(&old, &pp, 0, 0, &[]));
+    for profile in [Profile::Ten, Profile::Twenty] {
+        for (words, op, reply, p, a) in &rows {
+            let old = before(profile, *words, 0o123477);
+            let mut pp = old.copy();
+            let need = Need::Channel(channel(5)?, *op);
+            assert!(rt; goes_on(&mut pp, need, Answer::Channel(*reply)));
+            assert_eq!(rt; shown(&pp), (*p, *a));
+            assert!(rt; has_changed(&old, &pp, 0, 0, &[]));
+        }
     }
     Ok(())
 }
@@ -90,7 +92,7 @@ fn one_word_on_a_channel(rt: HostRuntime) -> Result<(), Fail> {
 /// IAM and OAM: a word a step, A counts down, and place 0000 keeps the address of the second word.
 #[test]
 fn blocks_on_a_channel(rt: HostRuntime) -> Result<(), Fail> {
-    let old = before([0o7105, 0o0200], 2);
+    let old = before(Profile::Ten, [0o7105, 0o0200], 2);
     let mut pp = old.copy();
     assert!(rt; begins(&mut pp));
     for number in [0o1111, 0o2222] {
@@ -100,7 +102,7 @@ fn blocks_on_a_channel(rt: HostRuntime) -> Result<(), Fail> {
     assert_eq!(rt; shown(&pp), (0o1002, 0));
     assert!(rt; has_changed(&old, &pp, 0o1001, 0o0200, &[0o1111, 0o2222]));
 
-    let old = before([0o7305, 0o0070], 2);
+    let old = before(Profile::Ten, [0o7305, 0o0070], 2);
     let mut pp = old.copy();
     assert!(rt; begins(&mut pp));
     for number in [1, 2] {
@@ -120,14 +122,14 @@ const PARTS: [u64; 2] = [0o0001_0002_0003_0004_0005, 0o0006_0007_0010_0011_0012]
 fn one_central_word(rt: HostRuntime) {
     let address = Word18::truncated(0o345);
     let central = Word60::truncated(PARTS[1]);
-    let old = before([0o6030, 0], 0o345);
+    let old = before(Profile::Ten, [0o6030, 0], 0o345);
     let mut pp = old.copy();
     assert!(rt; goes_on(&mut pp, Need::Read(address), Answer::Read(Some(central))));
     assert_eq!(rt; shown(&pp), (0o1001, 0o345));
     assert!(rt; has_changed(&old, &pp, 0, 0o0030, &[6, 7, 0o10, 0o11, 0o12]));
 
     let central = Word60::truncated(PARTS[0]);
-    let old = before([0o6270, 0], 0o345);
+    let old = before(Profile::Ten, [0o6270, 0], 0o345);
     let mut pp = old.copy();
     assert!(rt; goes_on(&mut pp, Need::Write(address, central), Answer::Wrote(true)));
     assert_eq!(rt; shown(&pp), (0o1001, 0o345));
@@ -137,7 +139,7 @@ fn one_central_word(rt: HostRuntime) {
 /// CRM and CWM: as many central words as place d says, one a step; A goes up by one each.
 #[test]
 fn blocks_of_central_words(rt: HostRuntime) {
-    let old = before([0o6105, 0o0200], 0o345);
+    let old = before(Profile::Ten, [0o6105, 0o0200], 0o345);
     let mut pp = old.copy();
     assert!(rt; begins(&mut pp));
     for (address, parts) in [0o345, 0o346].into_iter().zip(PARTS) {
@@ -148,7 +150,7 @@ fn blocks_of_central_words(rt: HostRuntime) {
     let words = [1, 2, 3, 4, 5, 6, 7, 0o10, 0o11, 0o12];
     assert!(rt; has_changed(&old, &pp, 0o1001, 0o0200, &words));
 
-    let old = before([0o6305, 0o0070], 0o345);
+    let old = before(Profile::Ten, [0o6305, 0o0070], 0o345);
     let mut pp = old.copy();
     assert!(rt; begins(&mut pp));
     for (address, parts) in [0o345, 0o346].into_iter().zip(PARTS) {
@@ -157,4 +159,52 @@ fn blocks_of_central_words(rt: HostRuntime) {
     }
     assert_eq!(rt; shown(&pp), (0o1002, 0o347));
     assert!(rt; has_changed(&old, &pp, 0o1001, 0, &[]));
+}
+
+/// The codes 64 to 67 and 70 to 77 (octal), each with d = 00.
+const CODES_OF_CHANNELS: [u16; 12] = [
+    0o6400, 0o6500, 0o6600, 0o6700, 0o7000, 0o7100, 0o7200, 0o7300, 0o7400, 0o7500, 0o7600, 0o7700,
+];
+
+/// Whether the first step of an instruction is fault 3, with P and A as they were.
+fn is_fault(profile: Profile, code: u16) -> bool {
+    let mut pp = before(profile, [code, 0o2345], 0o123477);
+    goes_on(&mut pp, Need::Local, Answer::Local)
+        && pp.state() == PpState::Fault(3)
+        && shown(&pp) == (0o1000, 0o123477)
+}
+
+/// The channel to which an instruction goes, at once or by the block that it begins.
+fn channel_of(profile: Profile, code: u16) -> Option<u8> {
+    let mut pp = before(profile, [code, 0o2345], 0o123477);
+    let need = pp.wants();
+    if let Need::Channel(channel, _) = &need {
+        return Some(channel.get());
+    }
+    if !begins(&mut pp) {
+        return None;
+    }
+    let block = pp.block()?;
+    match &block.kind {
+        BlockKind::Input { channel } | BlockKind::Output { channel } => Some(channel.get()),
+        BlockKind::CentralIn { .. } | BlockKind::CentralOut { .. } => None,
+    }
+}
+
+/// A d from 14 on is fault 3 on the smaller machine, on the greater one from 14 to 17 and from 34 on
+/// (octal).
+#[test]
+fn channels_of_each_profile(rt: HostRuntime) {
+    for d in 0..0o100u8 {
+        let near = d < 0o14;
+        let far = d >= 0o20 && d < 0o34;
+        for (profile, named) in [(Profile::Ten, near), (Profile::Twenty, near || far)] {
+            let expected = if named { Some(d) } else { None };
+            for code in CODES_OF_CHANNELS {
+                let word = code | u16::from(d);
+                assert_eq!(rt; is_fault(profile, word), !named, "{word}");
+                assert_eq!(rt; channel_of(profile, word), expected, "{word}");
+            }
+        }
+    }
 }

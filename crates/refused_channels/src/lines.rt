@@ -129,18 +129,19 @@ fn join_refused(rt: HostRuntime) -> Result<(), Fail> {
 
 /// A close with this request refused: whether it was made.
 fn close_at(rt: &impl Abort, heap: &Rationed<Global>, number: u64) -> Result<bool, Fail> {
-    let (five, last) = (channel(5)?, channel(0o13)?);
+    let (five, near, far) = (channel(5)?, channel(0o13)?, channel(0o33)?);
     heap.refuse(0);
     let mut line = open_lines(heap, 8, 1)?;
     act(&mut line, five, ChanOp::Activate)?;
-    act(&mut line, last, ChanOp::Activate)?;
+    act(&mut line, near, ChanOp::Activate)?;
+    act(&mut line, far, ChanOp::Activate)?;
     act(&mut line, five, ChanOp::Disconnect)?;
     let before = shown(&line, five);
     heap.refuse(number);
     let refused = match line.close() {
         Ok(channels) => {
-            let lengths = (channels[5].history().len(), channels[11].history().len());
-            assert_eq!(rt; lengths, (2, 1));
+            let lengths = [5, 11, 23].map(|place: usize| channels[place].history().len());
+            assert_eq!(rt; lengths, [2, 1, 1]);
             false
         }
         Err((line, _memory)) => {
@@ -157,7 +158,7 @@ fn close_refused(rt: HostRuntime) -> Result<(), Fail> {
     let heap = Rationed::new(rt.alloc());
     for number in 1..100u64 {
         if !close_at(&rt, &heap, number)? {
-            assert!(rt; number > 2);
+            assert!(rt; number > 3);
             return Ok(());
         }
     }

@@ -1,7 +1,7 @@
 //! Central memories of every kind of size, and late events, over an allocator that counts the
 //! requests and refuses none: so none may be out of memory. And the numbers of the faults.
 
-use pp_machine::{Central, CentralFault, Machine};
+use pp_machine::{Central, CentralFault, Machine, Profile};
 use pp_word::{Word18, Word60};
 use rationed::Rationed;
 use std::alloc::{Allocator, Global};
@@ -22,8 +22,12 @@ fn holds_its_last_word<A: Allocator>(central: &mut Central<A>, size: u32) -> boo
 }
 
 /// The size of the central memory of a new machine.
-fn size_of_machine(heap: &Rationed<Global>, size: u32) -> Result<u32, CentralFault> {
-    Ok(Machine::new(heap, size)?.central().size())
+fn size_of_machine(
+    heap: &Rationed<Global>,
+    profile: Profile,
+    size: u32,
+) -> Result<u32, CentralFault> {
+    Ok(Machine::new(heap, profile, size)?.central().size())
 }
 
 #[test]
@@ -32,7 +36,8 @@ fn sizes(rt: HostRuntime) -> Result<(), Fail> {
     for size in [1, 2, 0o7777, 0o10000, 0o10001, 0o12345, 12_345, 0o400_000] {
         let mut central = Central::new(&heap, size)?;
         assert!(rt; holds_its_last_word(&mut central, size), "{size}");
-        assert_eq!(rt; size_of_machine(&heap, size), Ok(size));
+        assert_eq!(rt; size_of_machine(&heap, Profile::Ten, size), Ok(size));
+        assert_eq!(rt; size_of_machine(&heap, Profile::Twenty, size), Ok(size));
     }
     assert!(rt; heap.asked() > 8, "words are asked for");
     Ok(())
@@ -67,12 +72,17 @@ const LATE: Pair = Pair {
 #[test]
 fn a_late_event(rt: HostRuntime) -> Result<(), Fail> {
     let heap = Rationed::new(rt.alloc());
-    let mut machine = LATE.machine(&heap)?;
-    machine.run_barrel(1_400_000)?;
-    // One step loads A, and two go with each number from 177777 down to 1.
-    let turn = machine.events().first().map(|entry| entry.turn);
-    assert_eq!(rt; turn, Some(10 * (1 + 2 * 65_535)));
-    assert_eq!(rt; machine.pp(first()).p().get(), 0o105);
+    // One step loads A, and two go with each number from 177777 down to 1 (octal).
+    for (profile, turns, late) in [
+        (Profile::Ten, 1_400_000, 10 * (1 + 2 * 65_535)),
+        (Profile::Twenty, 2_800_000, 20 * (1 + 2 * 65_535)),
+    ] {
+        let mut machine = LATE.machine(&heap, profile)?;
+        machine.run_barrel(turns)?;
+        let turn = machine.events().first().map(|entry| entry.turn);
+        assert_eq!(rt; turn, Some(late));
+        assert_eq!(rt; machine.pp(first()).p().get(), 0o105);
+    }
     assert!(rt; heap.asked() > 0);
     Ok(())
 }

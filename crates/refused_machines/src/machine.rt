@@ -1,15 +1,15 @@
 //! A machine whose growths are refused.
 
-ghost use Rattle.std.specs.Prelude.{IfOk};
-ghost use Rattle.pp_machine.specs.DeadStart.{IsBeforeFirstTurn};
+ghost use Rattle.std.specs.Prelude.{◌≡◌, IfOk};
+ghost use Rattle.pp_machine.specs.DeadStart.{IsBeforeFirstTurn, WaitsWithin};
 
-use pp_channel::{ChannelNo, Memory};
-use pp_machine::{Central, CentralFault, Machine, Outcome, PROCESSORS, PpNo};
+use pp_channel::{CHANNELS, ChannelNo, Memory};
+use pp_machine::{Central, CentralFault, Machine, Outcome, PROCESSORS, PpNo, Profile};
 use rationed::Rationed;
 use std::alloc::{Allocator, Global};
 use std::process::Abort;
 use std::test::Fail;
-use test_bench::{HANDOFF_PAIR, Pair, first, put_program, word};
+use test_bench::{HANDOFF_PAIR, Pair, first, put_program, waiting, word};
 
 /// PP 1 activates channel 5 and disconnects it, again and again; PP 0 is held.
 const FLAPPING: Pair = Pair {
@@ -27,8 +27,8 @@ const LOADER: Pair = Pair {
 
 /// Two machines show the same processors, histories, turns and events.
 fn expect_same<R: Abort, A: Allocator, B: Allocator>(rt: &R, one: &Machine<A>, other: &Machine<B>) {
-    let mut n = first();
-    for _ in 0..PROCESSORS {
+    for place in 0..PROCESSORS {
+        let n = PpNo::at(place);
         let (pp, twin) = (one.pp(n), other.pp(n));
         assert_eq!(rt; pp.p(), twin.p());
         assert_eq!(rt; pp.a(), twin.a());
@@ -37,13 +37,11 @@ fn expect_same<R: Abort, A: Allocator, B: Allocator>(rt: &R, one: &Machine<A>, o
         for place in 0..4096u16 {
             assert_eq!(rt; pp.get(word(place)), twin.get(word(place)));
         }
-        n = n.next();
     }
-    for number in 0..14u8 {
-        if let Some(c) = ChannelNo::new(number) {
-            assert_eq!(rt; one.channel(c).history(), other.channel(c).history());
-            assert_eq!(rt; one.opened(c), other.opened(c));
-        }
+    for place in 0..CHANNELS {
+        let c = ChannelNo::at(place);
+        assert_eq!(rt; one.channel(c).history(), other.channel(c).history());
+        assert_eq!(rt; one.opened(c), other.opened(c));
     }
     assert_eq!(rt; one.turns(), other.turns());
     assert_eq!(rt; one.events(), other.events());
@@ -59,12 +57,12 @@ fn no_memory(refused: bool) -> Option<CentralFault> {
 }
 
 /// Whether a central memory and a machine are made where this request is refused.
-fn made(rt: &impl Abort, heap: &Rationed<Global>, number: u64) -> (bool, bool) {
+fn made(rt: &impl Abort, heap: &Rationed<Global>, profile: Profile, number: u64) -> (bool, bool) {
     heap.refuse(number);
     let central = Central::new(heap, 0o41).err();
     assert_eq!(rt; central, no_memory(heap.has_refused()));
     heap.refuse(number);
-    let machine = Machine::new(heap, 0o41).err();
+    let machine = Machine::new(heap, profile, 0o41).err();
     assert_eq!(rt; machine, no_memory(heap.has_refused()));
     heap.refuse(0);
     (central.is_none(), machine.is_none())
@@ -73,8 +71,11 @@ fn made(rt: &impl Abort, heap: &Rationed<Global>, number: u64) -> (bool, bool) {
 #[test]
 fn making_refused(rt: HostRuntime) {
     let heap = Rationed::new(rt.alloc());
-    for number in 1..10u64 {
-        assert_eq!(rt; made(&rt, &heap, number), (number > 1, number > 3));
+    for profile in [Profile::Ten, Profile::Twenty] {
+        for number in 1..10u64 {
+            let made = made(&rt, &heap, profile, number);
+            assert_eq!(rt; made, (number > 1, number > 3));
+        }
     }
 }
 
@@ -85,7 +86,8 @@ fn a_bad_size_comes_before_memory(rt: HostRuntime) {
     for size in [0, 0o400_001] {
         let bad_size = Some(CentralFault::BadSize);
         assert_eq!(rt; Central::new(&heap, size).err(), bad_size);
-        assert_eq!(rt; Machine::new(&heap, size).err(), bad_size);
+        assert_eq!(rt; Machine::new(&heap, Profile::Ten, size).err(), bad_size);
+        assert_eq!(rt; Machine::new(&heap, Profile::Twenty, size).err(), bad_size);
     }
     assert_eq!(rt; heap.asked(), 0);
 }
@@ -116,11 +118,12 @@ fn step_both(
 fn steps_refused(
     rt: &(impl Abort + AllocGlobal),
     heap: &Rationed<Global>,
+    profile: Profile,
     number: u64,
 ) -> Result<bool, Fail> {
     let (zero, one) = (first(), first().next());
-    let mut twin = HANDOFF_PAIR.machine(rt.alloc())?;
-    let mut machine = HANDOFF_PAIR.machine(heap)?;
+    let mut twin = HANDOFF_PAIR.machine(rt.alloc(), profile)?;
+    let mut machine = HANDOFF_PAIR.machine(heap, profile)?;
     heap.refuse(number);
     for (n, expected) in [
         (one, Outcome::Held),
@@ -139,16 +142,23 @@ fn steps_refused(
     Ok(refused)
 }
 
-#[test]
-fn step_refused(rt: HostRuntime) -> Result<(), Fail> {
+/// The number of the first request that is not made.
+fn first_not_made(rt: &(impl Abort + AllocGlobal), profile: Profile) -> Result<u64, Fail> {
     let heap = Rationed::new(rt.alloc());
     for number in 1..20u64 {
-        if !steps_refused(&rt, &heap, number)? {
-            assert!(rt; number > 2, "both lists grow");
-            return Ok(());
+        if !steps_refused(rt, &heap, profile, number)? {
+            return Ok(number);
         }
     }
     panic!(rt; "a request is refused in each run")
+}
+
+#[test]
+fn step_refused(rt: HostRuntime) -> Result<(), Fail> {
+    for profile in [Profile::Ten, Profile::Twenty] {
+        assert!(rt; first_not_made(&rt, profile)? > 2, "both lists grow");
+    }
+    Ok(())
 }
 
 /// A run that is cut is as after the steps that it did, and goes on from there. This tells whether the
@@ -156,12 +166,13 @@ fn step_refused(rt: HostRuntime) -> Result<(), Fail> {
 fn run_refused(
     rt: &(impl Abort + AllocGlobal),
     heap: &Rationed<Global>,
+    profile: Profile,
     number: u64,
     programs: Pair,
     turns: &[PpNo],
 ) -> Result<bool, Fail> {
-    let mut machine = programs.machine(heap)?;
-    let mut twin = programs.machine(rt.alloc())?;
+    let mut machine = programs.machine(heap, profile)?;
+    let mut twin = programs.machine(rt.alloc(), profile)?;
     heap.refuse(number);
     let answer = machine.run_turns(turns);
     let refused = heap.has_refused();
@@ -184,12 +195,13 @@ fn run_refused(
 /// The number of the first request that is not made.
 fn runs_refused(
     rt: &(impl Abort + AllocGlobal),
+    profile: Profile,
     programs: Pair,
     turns: &[PpNo],
 ) -> Result<u64, Fail> {
     let heap = Rationed::new(rt.alloc());
     for number in 1..100u64 {
-        if !run_refused(rt, &heap, number, programs, turns)? {
+        if !run_refused(rt, &heap, profile, number, programs, turns)? {
             return Ok(number);
         }
     }
@@ -200,20 +212,26 @@ fn runs_refused(
 fn turns_refused(rt: HostRuntime) -> Result<(), Fail> {
     let zero = first();
     let one = zero.next();
-    assert!(rt; runs_refused(&rt, HANDOFF_PAIR, &[one, zero, zero, zero, one])? > 2);
-    assert!(rt;
-        runs_refused(&rt, FLAPPING, &[one; 60])? > 6,
-        "the lists grow again and again"
-    );
+    for profile in [Profile::Ten, Profile::Twenty] {
+        let handoff = [one, zero, zero, zero, one];
+        assert!(rt; runs_refused(&rt, profile, HANDOFF_PAIR, &handoff)? > 2);
+        assert!(rt;
+            runs_refused(&rt, profile, FLAPPING, &[one; 60])? > 6,
+            "the lists grow again and again"
+        );
+    }
     Ok(())
 }
 
 /// So many turns of the barrel, each by a call of `step`.
 fn step_in_turn<A: Allocator>(machine: &mut Machine<A>, turns: u64) -> Result<(), Memory> {
-    let mut n = first();
-    for _ in 0..turns {
-        machine.step(n)?;
-        n = n.next();
+    let profile = machine.profile();
+    for turn in 0..turns {
+        let place = match profile {
+            Profile::Ten => turn % 10,
+            Profile::Twenty => turn % 20,
+        };
+        machine.step(PpNo::at(place as usize))?;
     }
     Ok(())
 }
@@ -222,35 +240,38 @@ fn step_in_turn<A: Allocator>(machine: &mut Machine<A>, turns: u64) -> Result<()
 fn before_first_turn<A: Allocator + Copy>(
     programs: Pair,
     alloc: A,
+    profile: Profile,
 ) -> Result<Machine<A>, CentralFault>
-    ensures { IfOk result (λ machine. IsBeforeFirstTurn machine) }
+    ensures fresh { IfOk result (λ machine. IsBeforeFirstTurn machine) }
+    ensures profile { IfOk result (λ machine. machine.profile ≡ profile) }
 {
-    let mut machine = Machine::new(alloc, 0o10000)?;
+    let mut machine = Machine::new(alloc, profile, 0o10000)?;
     put_program(machine.pp_mut(first()), 0o100, programs.zero);
     put_program(machine.pp_mut(first().next()), 0o200, programs.one);
     Ok(machine)
 }
 
-/// All processors but 0 wait, or none.
-fn others(wait: bool) -> [bool; PROCESSORS] {
-    let mut waiting = [wait; PROCESSORS];
-    waiting[0] = false;
-    waiting
+/// All processors of a profile but 0 wait, or none.
+fn others(profile: Profile, wait: bool) -> [bool; PROCESSORS]
+    ensures { WaitsWithin profile result }
+{
+    waiting(profile, if wait { 1..PROCESSORS } else { 0..0 })
 }
 
 /// As for lists of turns: whether the request of this number was made.
 fn round_refused(
     rt: &(impl Abort + AllocGlobal),
     heap: &Rationed<Global>,
+    profile: Profile,
     number: u64,
     programs: Pair,
     wait: bool,
     turns: u32,
 ) -> Result<bool, Fail> {
-    let mut machine = before_first_turn(programs, heap)?;
-    let mut twin = before_first_turn(programs, rt.alloc())?;
-    machine.dead_start(&others(wait))?;
-    twin.dead_start(&others(wait))?;
+    let mut machine = before_first_turn(programs, heap, profile)?;
+    let mut twin = before_first_turn(programs, rt.alloc(), profile)?;
+    machine.dead_start(&others(profile, wait))?;
+    twin.dead_start(&others(profile, wait))?;
     heap.refuse(number);
     let answer = machine.run_barrel(turns);
     let refused = heap.has_refused();
@@ -266,13 +287,14 @@ fn round_refused(
 /// The number of the first request that is not made.
 fn rounds_refused(
     rt: &(impl Abort + AllocGlobal),
+    profile: Profile,
     programs: Pair,
     wait: bool,
     turns: u32,
 ) -> Result<u64, Fail> {
     let heap = Rationed::new(rt.alloc());
     for number in 1..100u64 {
-        if !round_refused(rt, &heap, number, programs, wait, turns)? {
+        if !round_refused(rt, &heap, profile, number, programs, wait, turns)? {
             return Ok(number);
         }
     }
@@ -281,25 +303,31 @@ fn rounds_refused(
 
 #[test]
 fn barrel_refused(rt: HostRuntime) -> Result<(), Fail> {
-    assert!(rt; rounds_refused(&rt, HANDOFF_PAIR, false, 40)? > 2);
-    assert!(rt;
-        rounds_refused(&rt, FLAPPING, false, 1405)? > 8,
-        "the lists grow again and again"
-    );
-    assert!(rt; rounds_refused(&rt, LOADER, true, 90)? > 2);
+    for (profile, handoff, flapping, loading) in [
+        (Profile::Ten, 40, 1405, 90),
+        (Profile::Twenty, 80, 2805, 180),
+    ] {
+        assert!(rt; rounds_refused(&rt, profile, HANDOFF_PAIR, false, handoff)? > 2);
+        assert!(rt;
+            rounds_refused(&rt, profile, FLAPPING, false, flapping)? > 8,
+            "the lists grow again and again"
+        );
+        assert!(rt; rounds_refused(&rt, profile, LOADER, true, loading)? > 2);
+    }
     Ok(())
 }
 
-/// Nine processors wait, with this request refused: whether it was made. After a refusal the machine is
-/// as one that was never started.
+/// All processors but one wait, with this request refused: whether it was made. After a refusal the machine
+/// is as one that was never started.
 fn waiting_refused(
     rt: &(impl Abort + AllocGlobal),
     heap: &Rationed<Global>,
+    profile: Profile,
     number: u64,
 ) -> Result<bool, Fail> {
-    let waiting = others(true);
-    let mut twin = before_first_turn(HANDOFF_PAIR, rt.alloc())?;
-    let mut machine = before_first_turn(HANDOFF_PAIR, heap)?;
+    let waiting = others(profile, true);
+    let mut twin = before_first_turn(HANDOFF_PAIR, rt.alloc(), profile)?;
+    let mut machine = before_first_turn(HANDOFF_PAIR, heap, profile)?;
     heap.refuse(number);
     let answer = machine.dead_start(&waiting);
     let refused = heap.has_refused();
@@ -312,14 +340,26 @@ fn waiting_refused(
     Ok(refused)
 }
 
-#[test]
-fn dead_start_refused(rt: HostRuntime) -> Result<(), Fail> {
+/// The number of the first request that no dead start makes.
+fn dead_starts_refused(rt: &(impl Abort + AllocGlobal), profile: Profile) -> Result<u64, Fail> {
     let heap = Rationed::new(rt.alloc());
     for number in 1..100u64 {
-        if !waiting_refused(&rt, &heap, number)? {
-            assert!(rt; number > 9, "nine channels grow");
-            return Ok(());
+        if !waiting_refused(rt, &heap, profile, number)? {
+            return Ok(number);
         }
     }
     panic!(rt; "a request is refused in each run")
+}
+
+#[test]
+fn dead_start_refused(rt: HostRuntime) -> Result<(), Fail> {
+    assert!(rt;
+        dead_starts_refused(&rt, Profile::Ten)? > 9,
+        "nine channels grow"
+    );
+    assert!(rt;
+        dead_starts_refused(&rt, Profile::Twenty)? > 19,
+        "nineteen channels grow"
+    );
+    Ok(())
 }

@@ -1,10 +1,11 @@
 //! Calls of central memory and of a machine that make no event answer as ever where the first request
 //! would be refused. Words and processors hold no allocator and take none.
 
-use pp_machine::{Central, CentralFault, Machine, Outcome, PpNo, PpState};
+use pp_machine::{Central, CentralFault, Machine, Outcome, PpNo, PpState, Profile};
 use pp_word::{Word18, Word60};
 use rationed::Rationed;
 use std::alloc::Allocator;
+use std::process::Abort;
 use std::test::Fail;
 use test_bench::{channel, first, put_program, put_words};
 
@@ -44,8 +45,8 @@ const ENDS: [(u16, u32, PpState); 6] = [
 ];
 
 /// A machine with these programs, and two central words at its end.
-fn loaded<A: Allocator + Copy>(alloc: A) -> Result<Machine<A>, CentralFault> {
-    let mut machine = Machine::new(alloc, 7)?;
+fn loaded<A: Allocator + Copy>(alloc: A, profile: Profile) -> Result<Machine<A>, CentralFault> {
+    let mut machine = Machine::new(alloc, profile, 7)?;
     let mut n = first();
     for (start, words) in PROGRAMS {
         let pp = machine.pp_mut(n);
@@ -63,12 +64,16 @@ fn shown<A: Allocator>(machine: &Machine<A>, n: PpNo) -> (u16, u32, PpState) {
     (pp.p().get(), pp.a().get(), pp.state())
 }
 
-#[test]
-fn machine_asks_for_nothing(rt: HostRuntime) -> Result<(), Fail> {
+/// Such a machine makes so many turns of the barrel, and four more steps.
+fn expect_no_request<R: Abort + AllocGlobal>(
+    rt: &R,
+    profile: Profile,
+    turns: u32,
+) -> Result<(), Fail> {
     let (zero, one) = (first(), first().next());
     let five = channel(5)?;
     let heap = Rationed::new(rt.alloc());
-    let mut machine = loaded(&heap)?;
+    let mut machine = loaded(&heap, profile)?;
     heap.refuse(1);
     let words = Word60::truncated(0o0001_0002_0003_0004_0005);
     let others = Word60::truncated(0o0006_0007_0010_0011_0012);
@@ -76,11 +81,11 @@ fn machine_asks_for_nothing(rt: HostRuntime) -> Result<(), Fail> {
     assert!(rt; machine.write_central(Word18::truncated(6), others));
     assert!(rt; !machine.write_central(Word18::truncated(7), others));
     put_words(machine.pp_mut(one), 0o7000, &[1]);
-    machine.run_barrel(60)?;
+    machine.run_barrel(turns)?;
     machine.run_turns(&[one, zero])?;
     assert_eq!(rt; machine.step(one)?, Outcome::Held);
     assert_eq!(rt; machine.step(zero)?, Outcome::AtRest);
-    assert_eq!(rt; machine.turns(), 64);
+    assert_eq!(rt; machine.turns(), u64::from(turns) + 4);
     let mut n = zero;
     for end in ENDS {
         assert_eq!(rt; shown(&machine, n), end);
@@ -95,4 +100,10 @@ fn machine_asks_for_nothing(rt: HostRuntime) -> Result<(), Fail> {
     );
     assert_eq!(rt; heap.asked(), 0);
     Ok(())
+}
+
+#[test]
+fn machine_asks_for_nothing(rt: HostRuntime) -> Result<(), Fail> {
+    expect_no_request(&rt, Profile::Ten, 60)?;
+    expect_no_request(&rt, Profile::Twenty, 120)
 }

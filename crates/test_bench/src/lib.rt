@@ -1,7 +1,8 @@
 //! What the crates of tests share: decks with their texts, devices that fail, a plain check of
-//! histories, and words, channels, processors and programs by number.
+//! histories, words, channels, processors and programs by number, and which processors wait.
 #![tactic(auto)]
 
+mod dead_start;
 mod decks;
 mod flags;
 mod histories;
@@ -10,6 +11,7 @@ mod programs;
 mod sink;
 mod source;
 
+pub use dead_start::waiting;
 pub use decks::{BLOCK, HANDOFF, HANDOFF_TEXT, LONG_PATIENCE, WORDS_OF_A_RUN};
 pub use flags::{EMPTY, FULL, INACTIVE};
 pub use histories::is_lawful;

@@ -1,7 +1,7 @@
 //! Gates, which see each try of each worker: workers run at once, and give up as their limits say.
 
 use crate::runs::{block_history, counting, history, limits, loaded};
-use pp_machine::{PROCESSORS, PpNo};
+use pp_machine::{PROCESSORS, PpNo, Profile};
 use pp_runner::{Gate, run_threads};
 use std::sync::atomic::{AtomicU64, Ordering};
 use std::test::Fail;
@@ -46,20 +46,23 @@ impl Gate for Meeting {
 
 #[test]
 fn gate_together(rt: HostRuntime) -> Result<(), Fail> {
-    let gate = Meeting {
-        flags: [zero(), zero(), zero(), zero(), zero(), zero()],
-        met: zero(),
-    };
-    let machine = loaded(rt.alloc(), BLOCK)?;
-    let report = run_threads(&rt, rt.alloc(), &machine, limits(LONG_PATIENCE)?, &gate)?;
-    assert_eq!(rt; gate.met.load(Ordering::SeqCst), 6);
-    assert_eq!(rt; history(&report, 5)?, block_history().as_slice());
+    for profile in [Profile::Ten, Profile::Twenty] {
+        let gate = Meeting {
+            flags: [zero(), zero(), zero(), zero(), zero(), zero()],
+            met: zero(),
+        };
+        let machine = loaded(rt.alloc(), profile, BLOCK)?;
+        let report = run_threads(&rt, rt.alloc(), &machine, limits(LONG_PATIENCE)?, &gate)?;
+        assert_eq!(rt; gate.met.load(Ordering::SeqCst), 6);
+        assert_eq!(rt; history(&report, 5)?, block_history().as_slice());
+    }
     Ok(())
 }
 
-/// At turn 0 each processor sets a flag, and waits until all ten are set.
+/// At turn 0 each processor sets a flag, and waits until the flags of all processors of the profile are set.
 #[derive(Drop)]
 struct MeetingOfAll {
+    profile: Profile,
     flags: [AtomicU64; PROCESSORS],
     met: AtomicU64,
 }
@@ -70,8 +73,8 @@ impl Gate for MeetingOfAll {
             return;
         }
         self.flags[pp.index()].store(1, Ordering::SeqCst);
-        for place in 0..PROCESSORS {
-            if !wait_for(&self.flags[place], 1) {
+        for flag in self.flags.iter().take(self.profile.processors()) {
+            if !wait_for(flag, 1) {
                 return;
             }
         }
@@ -79,16 +82,20 @@ impl Gate for MeetingOfAll {
     }
 }
 
-/// Nobody gets past turn 0 before all ten have come, each with the number of its own processor.
+/// Nobody gets past turn 0 before all ten or all twenty have come, each with the number of its own
+/// processor.
 #[test]
-fn all_ten_together(rt: HostRuntime) -> Result<(), Fail> {
-    let gate = MeetingOfAll {
-        flags: array::from_fn(|_| zero()),
-        met: zero(),
-    };
-    let machine = counting(rt.alloc())?;
-    run_threads(&rt, rt.alloc(), &machine, limits(1)?, &gate)?;
-    assert_eq!(rt; gate.met.load(Ordering::SeqCst), 10);
+fn all_together(rt: HostRuntime) -> Result<(), Fail> {
+    for (profile, met) in [(Profile::Ten, 10), (Profile::Twenty, 20)] {
+        let gate = MeetingOfAll {
+            profile,
+            flags: array::from_fn(|_| zero()),
+            met: zero(),
+        };
+        let machine = counting(rt.alloc(), profile)?;
+        run_threads(&rt, rt.alloc(), &machine, limits(1)?, &gate)?;
+        assert_eq!(rt; gate.met.load(Ordering::SeqCst), met);
+    }
     Ok(())
 }
 
@@ -110,7 +117,7 @@ impl Gate for Uneven {
 #[test]
 fn uneven_gates(rt: HostRuntime) -> Result<(), Fail> {
     let gate = Uneven { flag: zero() };
-    let machine = loaded(rt.alloc(), BLOCK)?;
+    let machine = loaded(rt.alloc(), Profile::Ten, BLOCK)?;
     for _ in 0..200 {
         let report = run_threads(&rt, rt.alloc(), &machine, limits(LONG_PATIENCE)?, &gate)?;
         assert_eq!(rt; history(&report, 5)?, block_history().as_slice());

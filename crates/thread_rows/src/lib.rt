@@ -10,6 +10,8 @@ mod locked_central;
 #[cfg(test)]
 mod locked_channels;
 #[cfg(test)]
+mod relay;
+#[cfg(test)]
 mod ring;
 #[cfg(test)]
 mod runs;

@@ -1,6 +1,7 @@
 //! Ten processors that pass words round a ring, each in a thread of its own.
 
 use crate::runs::loaded;
+use pp_machine::Profile;
 use pp_runner::{End, Limits, NoGate, run_threads};
 use std::test::Fail;
 use test_bench::is_lawful;
@@ -43,9 +44,10 @@ START 0100
 /// A processor whose neighbour has made all its steps waits in vain.
 #[test]
 fn ring_of_ten(rt: HostRuntime) -> Result<(), Fail> {
-    let machine = loaded(rt.alloc(), RING)?;
+    let machine = loaded(rt.alloc(), Profile::Ten, RING)?;
     let limits = Limits::new(100_000, 1_000_000).ok_or("no limits")?;
     let report = run_threads(&rt, rt.alloc(), &machine, limits, &NoGate)?;
+    assert_eq!(rt; report.ends.len(), 10);
     let mut steps = 0usize;
     for worker in &report.ends {
         assert!(rt; matches!(worker.finish, End::Steps | End::Patience));

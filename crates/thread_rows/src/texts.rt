@@ -1,6 +1,7 @@
 //! The texts of runs with one thread per processor, and devices that fail there.
 
 use crate::runs::limits;
+use pp_machine::Profile;
 use pp_sim::{TextFault, threads_text};
 use std::io::ErrorKind;
 use std::sync::Wait;
@@ -51,20 +52,30 @@ CH05 ACTIVE EMPTY
 /// Whether a deck gives this text.
 fn gives<R: AllocGlobal + Threads + Wait + Sync>(
     rt: &R,
+    profile: Profile,
     deck: &str,
     patience: u32,
     text: &str,
 ) -> Result<bool, Fail> {
     let mut writer = Vec::new(rt.alloc());
     let limits = limits(patience)?;
-    threads_text(rt, rt.alloc(), &mut deck.as_bytes(), &mut writer, limits)?;
+    threads_text(
+        rt,
+        rt.alloc(),
+        profile,
+        &mut deck.as_bytes(),
+        &mut writer,
+        limits,
+    )?;
     Ok(writer.as_slice() == text.as_bytes())
 }
 
 #[test]
 fn decks_give_their_texts(rt: HostRuntime) -> Result<(), Fail> {
-    for (deck, patience, text) in TEXTS {
-        assert!(rt; gives(&rt, deck, patience, text)?, "{deck}{text}");
+    for profile in [Profile::Ten, Profile::Twenty] {
+        for (deck, patience, text) in TEXTS {
+            assert!(rt; gives(&rt, profile, deck, patience, text)?, "{deck}{text}");
+        }
     }
     Ok(())
 }
@@ -78,6 +89,9 @@ PP 0
 START 0100
 PP 2\nPP 3\nPP 4\nPP 5\nPP 6\nPP 7\nPP 10\nPP 11
 ";
+
+/// The lines that the greater machine's deck has besides.
+const FAR_SECTIONS: &str = "PP 20\nPP 21\nPP 22\nPP 23\nPP 24\nPP 25\nPP 26\nPP 27\nPP 30\nPP 31\n";
 
 /// Its events up to the last word: the opening is number 0 and has no line.
 const LOADED: &str = "\
@@ -95,7 +109,7 @@ const LOST: &str = "CH01 000008 PP00 DCN\n";
 
 const TAKEN: &str = "CH01 000008 PP01 TAK 0000\nCH01 000009 PP00 DCN\n";
 
-/// The processors that are named, and the one channel on which anything happened.
+/// The processors that are named.
 const NAMED: &str = "\
 PP00 P=0104 A=000000 STOPPED
 PP02 P=0000 A=000000 STOPPED
@@ -106,24 +120,47 @@ PP06 P=0000 A=000000 STOPPED
 PP07 P=0000 A=000000 STOPPED
 PP10 P=0000 A=000000 STOPPED
 PP11 P=0000 A=000000 STOPPED
-CH01 INACTIVE
 ";
+
+/// Those that the greater machine's deck names besides.
+const FAR_NAMED: &str = "\
+PP20 P=0000 A=000000 STOPPED
+PP21 P=0000 A=000000 STOPPED
+PP22 P=0000 A=000000 STOPPED
+PP23 P=0000 A=000000 STOPPED
+PP24 P=0000 A=000000 STOPPED
+PP25 P=0000 A=000000 STOPPED
+PP26 P=0000 A=000000 STOPPED
+PP27 P=0000 A=000000 STOPPED
+PP30 P=0000 A=000000 STOPPED
+PP31 P=0000 A=000000 STOPPED
+";
+
+/// The one channel on which anything happened.
+const CHANNEL: &str = "CH01 INACTIVE\n";
 
 #[test]
 fn a_dead_start_gives_one_of_its_texts(rt: HostRuntime) -> Result<(), Fail> {
-    let mut writer = Vec::new(rt.alloc());
-    let limits = limits(LONG_PATIENCE)?;
-    threads_text(
-        &rt,
-        rt.alloc(),
-        &mut DEAD_START.as_bytes(),
-        &mut writer,
-        limits,
-    )?;
-    let lost = format!(in rt.alloc(); "{LOADED}{LOST}{NAMED}")?;
-    let taken = format!(in rt.alloc(); "{LOADED}{TAKEN}{NAMED}")?;
-    let text = writer.as_slice();
-    assert!(rt; text == lost.as_bytes() || text == taken.as_bytes());
+    for (profile, sections, named) in [
+        (Profile::Ten, "", ""),
+        (Profile::Twenty, FAR_SECTIONS, FAR_NAMED),
+    ] {
+        let deck = format!(in rt.alloc(); "{DEAD_START}{sections}")?;
+        let mut writer = Vec::new(rt.alloc());
+        let limits = limits(LONG_PATIENCE)?;
+        threads_text(
+            &rt,
+            rt.alloc(),
+            profile,
+            &mut deck.as_bytes(),
+            &mut writer,
+            limits,
+        )?;
+        let lost = format!(in rt.alloc(); "{LOADED}{LOST}{NAMED}{named}{CHANNEL}")?;
+        let taken = format!(in rt.alloc(); "{LOADED}{TAKEN}{NAMED}{named}{CHANNEL}")?;
+        let text = writer.as_slice();
+        assert!(rt; text == lost.as_bytes() || text == taken.as_bytes());
+    }
     Ok(())
 }
 
@@ -132,7 +169,14 @@ fn reader_that_fails(rt: HostRuntime) -> Result<(), Fail> {
     let mut reader = Source::new(b"".as_slice(), 1, Some(ErrorKind::Interrupted));
     let mut writer = Vec::new(rt.alloc());
     let limits = limits(LONG_PATIENCE)?;
-    let done = threads_text(&rt, rt.alloc(), &mut reader, &mut writer, limits);
+    let done = threads_text(
+        &rt,
+        rt.alloc(),
+        Profile::Ten,
+        &mut reader,
+        &mut writer,
+        limits,
+    );
     assert!(rt; done == Err(TextFault::Read));
     assert_eq!(rt; reader.calls(), 1);
     assert!(rt; writer.is_empty());
@@ -147,7 +191,14 @@ fn writer_that_fails(rt: HostRuntime) -> Result<(), Fail> {
     ] {
         let mut writer = Sink::new(rt.alloc(), 0, 1, failure);
         let limits = limits(LONG_PATIENCE)?;
-        let done = threads_text(&rt, rt.alloc(), &mut BLOCK.as_bytes(), &mut writer, limits);
+        let done = threads_text(
+            &rt,
+            rt.alloc(),
+            Profile::Ten,
+            &mut BLOCK.as_bytes(),
+            &mut writer,
+            limits,
+        );
         assert!(rt; done == Err(TextFault::Write));
         assert_eq!(rt; writer.failures(), 1);
         assert!(rt; writer.taken().is_empty());

@@ -3,7 +3,7 @@
 use crate::gates::{wait_for, zero};
 use crate::runs::{counting, history, limits, loaded};
 use pp_channel::Event;
-use pp_machine::{PROCESSORS, PpNo};
+use pp_machine::{PROCESSORS, PpNo, Profile};
 use pp_runner::{End, Gate, Limits, run_threads};
 use std::array;
 use std::sync::atomic::{AtomicU64, Ordering};
@@ -45,16 +45,26 @@ impl Gate for Tally {
 /// Each processor passes the gate before each of its tries, with its own number. None is ever held,
 /// so a patience of 1 is enough.
 #[test]
-fn tries_of_all_ten(rt: HostRuntime) -> Result<(), Fail> {
-    let gate = Tally::new();
-    let machine = counting(rt.alloc())?;
-    let limits = Limits::new(5000, 1).ok_or("no limits")?;
-    let report = run_threads(&rt, rt.alloc(), &machine, limits, &gate)?;
-    for place in 0..PROCESSORS {
-        let steps = 1002 + 2 * place;
-        assert_eq!(rt; gate.tries(PpNo::at(place)), Some(steps as u64));
-        assert_eq!(rt; report.ends[place].answers.len(), steps);
-        assert_eq!(rt; report.ends[place].finish, End::Stopped);
+fn tries_of_all(rt: HostRuntime) -> Result<(), Fail> {
+    for (profile, processors) in [(Profile::Ten, 10), (Profile::Twenty, 20)] {
+        let gate = Tally::new();
+        let machine = counting(rt.alloc(), profile)?;
+        let limits = Limits::new(5000, 1).ok_or("no limits")?;
+        let report = run_threads(&rt, rt.alloc(), &machine, limits, &gate)?;
+        assert_eq!(rt; report.ends.len(), processors);
+        assert_eq!(rt; report.channels.len(), 24);
+        for place in 0..PROCESSORS {
+            let steps = 1002 + 2 * place;
+            let tries = gate.tries(PpNo::at(place));
+            match report.ends.get(place) {
+                Some(worker) => {
+                    assert_eq!(rt; tries, Some(steps as u64));
+                    assert_eq!(rt; worker.answers.len(), steps);
+                    assert_eq!(rt; worker.finish, End::Stopped);
+                }
+                None => assert_eq!(rt; tries, Some(0)),
+            }
+        }
     }
     Ok(())
 }
@@ -66,7 +76,7 @@ const IN_VAIN: &str = "PP 0\n0100 7405 2600\nSTART 0100\nPP 1\n0200 7005 0300\nS
 fn patience(rt: HostRuntime) -> Result<(), Fail> {
     for patience in [1, 2, 50, 20_011, 1_000_001] {
         let gate = Tally::new();
-        let machine = loaded(rt.alloc(), IN_VAIN)?;
+        let machine = loaded(rt.alloc(), Profile::Ten, IN_VAIN)?;
         let limits = Limits::new(100, patience).ok_or("no limits")?;
         let report = run_threads(&rt, rt.alloc(), &machine, limits, &gate)?;
         assert_eq!(rt; gate.tries(processor(0)?), Some(2));
@@ -134,7 +144,7 @@ fn each_last_try_is_made(rt: HostRuntime) -> Result<(), Fail> {
             last_tries,
             turns: [zero(), zero()],
         };
-        let machine = loaded(rt.alloc(), THREE_WORDS)?;
+        let machine = loaded(rt.alloc(), Profile::Ten, THREE_WORDS)?;
         let report = run_threads(&rt, rt.alloc(), &machine, limits(patience)?, &gate)?;
         assert_eq!(rt; report.ends[1].finish, End::Stopped, "patience {patience}");
         assert_eq!(rt; history(&report, 5)?, events.as_slice());
