@@ -1,5 +1,6 @@
 //! Command lines, each with what it asks for.
 
+use pp_machine::Profile;
 use pp_sim::{LineFault, Work, read_words};
 use std::alloc::Global;
 
@@ -25,11 +26,11 @@ fn asked(alloc: Global, words: &[&str]) -> Result<Work, Refused> {
 const RUNS: [(&[&str], Result<Work, Refused>); 4] = [
     (
         &["ppsim", "barrel", "--turns", "40"],
-        Ok(Work::Barrel { turns: 40 }),
+        Ok(barrel(Profile::Ten, 40)),
     ),
     (
         &["ppsim", "barrel", "--turns=999999"],
-        Ok(Work::Barrel { turns: 999_999 }),
+        Ok(barrel(Profile::Ten, 999_999)),
     ),
     (
         &["ppsim", "barrel", "--turns", "1000000"],
