@@ -1,11 +1,15 @@
 //! Readers and writers that give up, as a pipe whose other end is closed does.
 
+use pp_machine::Profile;
 use pp_sim::{DeckCode, DeckFault, TextFault, barrel_text, run_program};
 use std::io::{self, ErrorKind, Read};
 use std::sync::Wait;
 use std::test::Fail;
 use std::thread::Threads;
-use test_bench::{Failure, HANDOFF, HANDOFF_TEXT, Sink, Source, WORDS_OF_A_RUN};
+use test_bench::{
+    Failure, HANDOFF, HANDOFF_ON_TWENTY, HANDOFF_TEXT, Sink, Source, WORDS_OF_A_RUN,
+    WORDS_OF_TWENTY,
+};
 
 const KINDS: [ErrorKind; 12] = [
     ErrorKind::BrokenPipe,
@@ -22,16 +26,16 @@ const KINDS: [ErrorKind; 12] = [
     ErrorKind::Other,
 ];
 
-/// A run of 40 turns on what a reader gives: the status, whether the standard error is this line, whether
-/// the output is empty, and how many errors the reader gave.
+/// A run on what a reader gives: the status, whether the standard error is this line, whether the output
+/// is empty, and how many errors the reader gave.
 fn run_on<R: AllocGlobal + Threads + Wait + Sync>(
     rt: &R,
+    words: &[&str],
     mut input: Source,
     line: &str,
 ) -> (u8, bool, bool, u32) {
     let mut output = Vec::new(rt.alloc());
     let mut error = Vec::new(rt.alloc());
-    let words = &WORDS_OF_A_RUN;
     let status = run_program(rt, rt.alloc(), words, &mut input, &mut output, &mut error);
     (
         status,
@@ -49,40 +53,51 @@ fn readers_that_give_up(rt: HostRuntime) {
         for front in ["", "PP", "words\n", &HANDOFF[..71], HANDOFF] {
             for piece in [1, 7, 1000usize] {
                 let input = Source::new(front.as_bytes(), piece, Some(kind));
-                let ended = run_on(&rt, input, "ppsim: read fault\n");
+                let ended = run_on(&rt, &WORDS_OF_A_RUN, input, "ppsim: read fault\n");
                 assert_eq!(rt; ended, (3, true, true, 1), "{kind:?}");
             }
         }
     }
 }
 
-/// The same after each byte of a deck, and after the last.
+/// The same after each byte of a deck, and after the last, on ten processors and on twenty.
 #[test]
 fn readers_that_give_up_anywhere(rt: HostRuntime) {
-    for length in 0..=72usize {
-        let front = HANDOFF.as_bytes().get(..length).unwrap_or(&[]);
-        let input = Source::new(front, 1, Some(ErrorKind::Interrupted));
-        let ended = run_on(&rt, input, "ppsim: read fault\n");
-        assert_eq!(rt; ended, (3, true, true, 1), "after {length}");
+    for words in [WORDS_OF_A_RUN.as_slice(), WORDS_OF_TWENTY.as_slice()] {
+        for length in 0..=72usize {
+            let front = HANDOFF.as_bytes().get(..length).unwrap_or(&[]);
+            let input = Source::new(front, 1, Some(ErrorKind::Interrupted));
+            let ended = run_on(&rt, words, input, "ppsim: read fault\n");
+            assert_eq!(rt; ended, (3, true, true, 1), "after {length}");
+        }
     }
 }
 
-/// A run of 40 turns into a writer: the status, whether the standard error is this line, whether the writer
-/// took as much of the text as it has room for, and how often it failed.
+/// A command line, and the text of its run.
+type Run = (&'static [&'static str], &'static str);
+
+/// The same run on ten processors and on twenty. Both texts have 149 bytes.
+const RUNS: [Run; 2] = [
+    (&WORDS_OF_A_RUN, HANDOFF_TEXT),
+    (&WORDS_OF_TWENTY, HANDOFF_ON_TWENTY),
+];
+
+/// A run into a writer: the status, whether the standard error is this line, whether the writer took as
+/// much of the text as it has room for, and how often it failed.
 fn run_into<R: AllocGlobal + Threads + Wait + Sync>(
     rt: &R,
+    (words, text): Run,
     mut output: Sink,
     room: usize,
     line: &str,
 ) -> (u8, bool, bool, u32) {
     let mut input = HANDOFF.as_bytes();
     let mut error = Vec::new(rt.alloc());
-    let words = &WORDS_OF_A_RUN;
     let status = run_program(rt, rt.alloc(), words, &mut input, &mut output, &mut error);
     (
         status,
         error.as_slice() == line.as_bytes(),
-        Some(output.taken()) == HANDOFF_TEXT.as_bytes().get(..room),
+        Some(output.taken()) == text.as_bytes().get(..room),
         output.failures(),
     )
 }
@@ -93,7 +108,7 @@ fn writers_that_give_up(rt: HostRuntime) {
         for room in [0, 1, 21, 100, 148usize] {
             for piece in [1, 7, 1000usize] {
                 let output = Sink::new(rt.alloc(), room, piece, Failure::Error(kind));
-                let ended = run_into(&rt, output, room, "ppsim: write fault\n");
+                let ended = run_into(&rt, RUNS[0], output, room, "ppsim: write fault\n");
                 assert_eq!(rt; ended, (3, true, true, 1), "{kind:?} after {room}");
             }
         }
@@ -107,10 +122,12 @@ fn writers_that_give_up_anywhere(rt: HostRuntime) {
         Failure::Error(ErrorKind::Interrupted),
         Failure::TakesNothing,
     ] {
-        for room in 0..149usize {
-            let output = Sink::new(rt.alloc(), room, 1, failure);
-            let ended = run_into(&rt, output, room, "ppsim: write fault\n");
-            assert_eq!(rt; ended, (3, true, true, 1), "{failure:?} after {room}");
+        for run in RUNS {
+            for room in 0..149usize {
+                let output = Sink::new(rt.alloc(), room, 1, failure);
+                let ended = run_into(&rt, run, output, room, "ppsim: write fault\n");
+                assert_eq!(rt; ended, (3, true, true, 1), "{failure:?} after {room}");
+            }
         }
     }
 }
@@ -118,12 +135,14 @@ fn writers_that_give_up_anywhere(rt: HostRuntime) {
 /// The whole text is taken byte by byte, and then a flush that fails is a fault of the writer.
 #[test]
 fn flushes(rt: HostRuntime) {
-    let failure = Failure::TakesNothing;
-    let output = Sink::new(rt.alloc(), 149, 1, failure);
-    assert_eq!(rt; run_into(&rt, output, 149, ""), (0, true, true, 0));
-    let output = Sink::new(rt.alloc(), 149, 1, Failure::Flush);
-    let ended = run_into(&rt, output, 149, "ppsim: write fault\n");
-    assert_eq!(rt; ended, (3, true, true, 1));
+    for run in RUNS {
+        let output = Sink::new(rt.alloc(), 149, 1, Failure::TakesNothing);
+        let ended = run_into(&rt, run, output, 149, "");
+        assert_eq!(rt; ended, (0, true, true, 0));
+        let output = Sink::new(rt.alloc(), 149, 1, Failure::Flush);
+        let ended = run_into(&rt, run, output, 149, "ppsim: write fault\n");
+        assert_eq!(rt; ended, (3, true, true, 1));
+    }
 }
 
 /// An output that fills up at the end of the text is not noticed, and one that fails is not touched
@@ -175,7 +194,7 @@ fn run_on_spaces<R: AllocGlobal + Threads + Wait + Sync>(
 ) -> Result<(u8, u32), Fail> {
     let spaces = vec![in rt.alloc(); b' '; count]?;
     let input = Source::new(&spaces, 1000, Some(ErrorKind::BrokenPipe));
-    let (status, _, _, errors) = run_on(rt, input, "");
+    let (status, _, _, errors) = run_on(rt, &WORDS_OF_A_RUN, input, "");
     Ok((status, errors))
 }
 
@@ -205,7 +224,7 @@ impl Read for Spaces {
 fn spaces_without_end(rt: HostRuntime) {
     let mut reader = Spaces { given: 0 };
     let mut writer = Vec::new(rt.alloc());
-    let done = barrel_text(rt.alloc(), &mut reader, &mut writer, 40);
+    let done = barrel_text(rt.alloc(), Profile::Ten, &mut reader, &mut writer, 40);
     let too_long = DeckFault {
         line: 0,
         code: DeckCode::TooLong,

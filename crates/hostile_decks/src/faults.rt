@@ -1,7 +1,10 @@
 //! Malformed decks, by the code of their fault, each with its line.
 
+use pp_machine::Profile;
 use pp_sim::{DeckCode, DeckFault, read_deck};
+use std::alloc::Global;
 use std::process::Abort;
+use std::test::Fail;
 use test_bench::HANDOFF;
 
 /// First fields that are no keyword and begin with no digit; keywords that come too late; fields that
@@ -148,6 +151,7 @@ const BAD_DIGITS: &[(u32, &str)] = &[
     (2, "PP 11\nPP 8\nPP 12"),
 ];
 
+/// Numbers that no processor of ten has.
 const BAD_PROCESSORS: &[(u32, &str)] = &[
     (1, "PP 12"),
     (1, "PP 12 0"),
@@ -159,6 +163,30 @@ const BAD_PROCESSORS: &[(u32, &str)] = &[
     (2, "PP 11\nPP 12\nPP 8"),
     (4, "CENTRAL 1\n\n*\n PP 20 20"),
     (3, "PP 1\nPP 10\x20\nPP 14\n"),
+    (1, "PP 20"),
+    (1, "PP 31"),
+    (1, "PP 32"),
+];
+
+/// Numbers that no processor of twenty has.
+const BAD_PROCESSORS_OF_TWENTY: &[(u32, &str)] = &[
+    (1, "PP 12"),
+    (1, "PP 12 0"),
+    (1, "PP 13"),
+    (1, "PP 14"),
+    (1, "PP 15"),
+    (1, "PP 16"),
+    (1, "PP 17"),
+    (1, "PP 32"),
+    (1, "PP 77"),
+    (1, "PP 32\r"),
+    (1, "PP 33 *"),
+    (1, "PP 32 x"),
+    (1, "PP\t13\n0 0"),
+    (2, "PP 11\nPP 12\nPP 8"),
+    (2, "PP 31\nPP 32\nPP 8"),
+    (4, "CENTRAL 1\n\n*\n PP 40 40"),
+    (3, "PP 20\nPP 30\x20\nPP 14\n"),
 ];
 
 /// Words and starts before any section, whatever else is wrong with their line.
@@ -227,31 +255,85 @@ const FOREIGN_BYTES: &[(u32, &[u8])] = &[
     (3, b"9\n9\r\n\x7f\xa0"),
 ];
 
-fn expect_fault(rt: &(impl Abort + AllocGlobal), text: &[u8], line: u32, code: DeckCode) {
-    let fault = read_deck(rt.alloc(), text).err();
+fn expect_fault(
+    rt: &(impl Abort + AllocGlobal),
+    profile: Profile,
+    text: &[u8],
+    line: u32,
+    code: DeckCode,
+) {
+    let fault = read_deck(rt.alloc(), profile, text).err();
     assert_eq!(rt; fault, Some(DeckFault { line, code }), "{text:?}");
 }
 
-fn expect_faults(rt: &(impl Abort + AllocGlobal), code: DeckCode, decks: &[(u32, &str)]) {
+fn expect_faults(
+    rt: &(impl Abort + AllocGlobal),
+    profile: Profile,
+    code: DeckCode,
+    decks: &[(u32, &str)],
+) {
     for (line, text) in decks {
-        expect_fault(rt, text.as_bytes(), *line, code);
+        expect_fault(rt, profile, text.as_bytes(), *line, code);
+    }
+}
+
+/// The profiles, whose decks differ in the numbers of processors alone.
+const PROFILES: [Profile; 2] = [Profile::Ten, Profile::Twenty];
+
+#[test]
+fn malformed_decks(rt: HostRuntime) {
+    for profile in PROFILES {
+        expect_faults(&rt, profile, DeckCode::UnknownLine, UNKNOWN_LINES);
+        expect_faults(&rt, profile, DeckCode::BadDigits, BAD_DIGITS);
+        expect_faults(&rt, profile, DeckCode::NoProcessor, NO_PROCESSORS);
+        expect_faults(&rt, profile, DeckCode::PastEnd, PAST_ENDS);
+        expect_faults(&rt, profile, DeckCode::CentralRange, CENTRAL_RANGES);
     }
 }
 
 #[test]
-fn malformed_decks(rt: HostRuntime) {
-    expect_faults(&rt, DeckCode::UnknownLine, UNKNOWN_LINES);
-    expect_faults(&rt, DeckCode::BadDigits, BAD_DIGITS);
-    expect_faults(&rt, DeckCode::BadProcessor, BAD_PROCESSORS);
-    expect_faults(&rt, DeckCode::NoProcessor, NO_PROCESSORS);
-    expect_faults(&rt, DeckCode::PastEnd, PAST_ENDS);
-    expect_faults(&rt, DeckCode::CentralRange, CENTRAL_RANGES);
+fn processors_that_are_not_there(rt: HostRuntime) {
+    let code = DeckCode::BadProcessor;
+    expect_faults(&rt, Profile::Ten, code, BAD_PROCESSORS);
+    expect_faults(&rt, Profile::Twenty, code, BAD_PROCESSORS_OF_TWENTY);
+}
+
+/// Whether a deck that names this processor alone is refused for that.
+fn is_refused(alloc: Global, profile: Profile, number: u8) -> Result<bool, Fail> {
+    let text = format!(in alloc; "PP {number:o}")?;
+    match read_deck(alloc, profile, text.as_bytes()) {
+        Ok(_) => Ok(false),
+        Err(fault) => {
+            let line = 1;
+            let code = DeckCode::BadProcessor;
+            if fault == (DeckFault { line, code }) {
+                Ok(true)
+            } else {
+                Err(fault.into())
+            }
+        }
+    }
+}
+
+#[test]
+fn each_number_of_a_processor(rt: HostRuntime) -> Result<(), Fail> {
+    for number in 0..=0o77u8 {
+        let is_of_ten = number < 0o12;
+        let is_of_twenty = is_of_ten || (0o20..0o32).contains(&number);
+        let refused = is_refused(rt.alloc(), Profile::Ten, number)?;
+        assert_eq!(rt; refused, !is_of_ten, "{number}");
+        let refused = is_refused(rt.alloc(), Profile::Twenty, number)?;
+        assert_eq!(rt; refused, !is_of_twenty, "{number}");
+    }
+    Ok(())
 }
 
 #[test]
 fn foreign_bytes(rt: HostRuntime) {
-    for (line, text) in FOREIGN_BYTES {
-        expect_fault(&rt, text, *line, DeckCode::NotAscii);
+    for profile in PROFILES {
+        for (line, text) in FOREIGN_BYTES {
+            expect_fault(&rt, profile, text, *line, DeckCode::NotAscii);
+        }
     }
 }
 
@@ -273,6 +355,9 @@ fn cut_decks(rt: HostRuntime) {
             line,
             code: DeckCode::UnknownLine,
         });
-        assert_eq!(rt; read_deck(rt.alloc(), text).err(), fault, "cut to {length}");
+        for profile in PROFILES {
+            let answer = read_deck(rt.alloc(), profile, text).err();
+            assert_eq!(rt; answer, fault, "cut to {length}");
+        }
     }
 }

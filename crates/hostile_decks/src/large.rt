@@ -3,6 +3,7 @@
 
 use crate::loaded::Loaded::{self, Named, Started, Word};
 use crate::loaded::expect_loaded;
+use pp_machine::Profile;
 use pp_sim::{DeckCode, DeckFault, read_deck};
 use pp_word::{Word12, Word18, Word60};
 use std::alloc::Global;
@@ -157,7 +158,8 @@ fn faults_of_long_decks(rt: HostRuntime) -> Result<(), Fail> {
             line: *line,
             code: *code,
         };
-        assert_eq!(rt; read_deck(rt.alloc(), &text).err(), Some(fault));
+        let answer = read_deck(rt.alloc(), Profile::Ten, &text).err();
+        assert_eq!(rt; answer, Some(fault));
     }
     Ok(())
 }
@@ -167,7 +169,7 @@ fn long_decks(rt: HostRuntime) -> Result<(), Fail> {
     for (deck, length, facts) in DECKS {
         let text = deck.text(rt.alloc())?;
         assert_eq!(rt; text.len(), *length);
-        expect_loaded(&rt, &text, facts)?;
+        expect_loaded(&rt, Profile::Ten, &text, facts)?;
     }
     Ok(())
 }
@@ -175,7 +177,7 @@ fn long_decks(rt: HostRuntime) -> Result<(), Fail> {
 /// How many places of processor 0 hold 1, and how many central words.
 fn ones(alloc: Global, deck: Long) -> Result<(u32, u32), Fail> {
     let text = deck.text(alloc)?;
-    let machine = read_deck(alloc, &text)?.machine;
+    let machine = read_deck(alloc, Profile::Ten, &text)?.machine;
     let pp = machine.pp(first());
     let central = machine.central();
     let mut places = 0u32;

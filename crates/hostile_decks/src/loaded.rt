@@ -1,7 +1,7 @@
 //! What a deck loads, told fact by fact.
 
 use pp_channel::{ChannelNo, Event};
-use pp_machine::{Block, BlockKind, Central, PpNo, PpState};
+use pp_machine::{Block, BlockKind, Central, PpNo, PpState, Profile};
 use pp_sim::{Deck, read_deck};
 use pp_word::{Word12, Word18, Word60};
 use std::alloc::Global;
@@ -97,10 +97,11 @@ fn central_in(facts: &[Loaded], address: u32) -> u64 {
 /// A deck that loads just these facts.
 pub(crate) fn expect_loaded(
     rt: &(impl Abort + AllocGlobal),
+    profile: Profile,
     text: &[u8],
     facts: &[Loaded],
 ) -> Result<(), Fail> {
-    let deck = read_deck(rt.alloc(), text)?;
+    let deck = read_deck(rt.alloc(), profile, text)?;
     expect_deck(rt, &deck, facts);
     Ok(())
 }

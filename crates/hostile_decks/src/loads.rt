@@ -2,6 +2,7 @@
 
 use crate::loaded::Loaded::{self, Central, Named, Size, Started, Waiting, Word};
 use crate::loaded::expect_loaded;
+use pp_machine::Profile;
 use std::test::Fail;
 use test_bench::HANDOFF;
 
@@ -148,7 +149,10 @@ const DECKS: &[(&str, &[Loaded])] = &[
         "CENTRAL 400000\nCM 377777 7",
         &[Size(0o400_000), Central(0o377_777, 7)],
     ),
-    // Dead start: just those without a section wait, wherever the line stands and however often.
+];
+
+/// Dead start: just those without a section wait, wherever the line stands and however often.
+const DEAD_STARTS: &[(&str, &[Loaded])] = &[
     (
         "DEAD",
         &[
@@ -217,8 +221,96 @@ const DECKS: &[(&str, &[Loaded])] = &[
 
 #[test]
 fn odd_decks(rt: HostRuntime) -> Result<(), Fail> {
-    for (text, facts) in DECKS {
-        expect_loaded(&rt, text.as_bytes(), facts)?;
+    for profile in [Profile::Ten, Profile::Twenty] {
+        for (text, facts) in DECKS {
+            expect_loaded(&rt, profile, text.as_bytes(), facts)?;
+        }
+    }
+    Ok(())
+}
+
+/// The further ten of twenty processors, where none of them has a section.
+const FURTHER: [Loaded; 10] = [
+    Waiting(0o20),
+    Waiting(0o21),
+    Waiting(0o22),
+    Waiting(0o23),
+    Waiting(0o24),
+    Waiting(0o25),
+    Waiting(0o26),
+    Waiting(0o27),
+    Waiting(0o30),
+    Waiting(0o31),
+];
+
+#[test]
+fn dead_starts(rt: HostRuntime) -> Result<(), Fail> {
+    for (text, facts) in DEAD_STARTS {
+        expect_loaded(&rt, Profile::Ten, text.as_bytes(), facts)?;
+        let mut facts = facts.to_vec(rt.alloc())?;
+        facts.extend_from_slice(&FURTHER)?;
+        expect_loaded(&rt, Profile::Twenty, text.as_bytes(), facts.as_slice())?;
+    }
+    Ok(())
+}
+
+/// Decks with sections for the further processors.
+const DECKS_OF_TWENTY: &[(&str, &[Loaded])] = &[
+    (
+        "PP 20\nPP 27\nPP 30\nPP 31",
+        &[Named(0o20), Named(0o27), Named(0o30), Named(0o31)],
+    ),
+    // Each has a memory and a start of its own: 10 is not 20, and none takes another's place.
+    (
+        "PP 11\n0100 1\nPP 20\n0100 2\nSTART 0100 3\nPP 31\n0100 4\nSTART 7777\nPP 10\n0100 5\nPP 20\n0101 6",
+        &[
+            Named(0o10),
+            Named(0o11),
+            Named(0o20),
+            Named(0o31),
+            Word(0o10, 0o100, 5),
+            Word(0o11, 0o100, 1),
+            Word(0o20, 0o100, 2),
+            Word(0o20, 0o101, 6),
+            Word(0o31, 0o100, 4),
+            Started(0o20, 0o100, 3),
+            Started(0o31, 0o7777, 0),
+        ],
+    ),
+    (
+        "CENTRAL 10\nDEAD\nPP 1\nPP 2\nPP 3\nPP 4\nPP 5\nPP 6\nPP 7\nPP 10\nPP 11\nPP 20\n0 7\nPP 21\nPP 22\nPP 23\nPP 24\nPP 25\nPP 26\nPP 27\nSTART 1\nPP 31",
+        &[
+            Size(8),
+            Named(1),
+            Named(2),
+            Named(3),
+            Named(4),
+            Named(5),
+            Named(6),
+            Named(7),
+            Named(0o10),
+            Named(0o11),
+            Named(0o20),
+            Named(0o21),
+            Named(0o22),
+            Named(0o23),
+            Named(0o24),
+            Named(0o25),
+            Named(0o26),
+            Named(0o27),
+            Named(0o31),
+            Word(0o20, 0, 7),
+            Started(0o27, 1, 0),
+            Waiting(0),
+            Waiting(0o30),
+        ],
+    ),
+];
+
+#[test]
+fn decks_of_twenty(rt: HostRuntime) -> Result<(), Fail> {
+    for (text, facts) in DECKS_OF_TWENTY {
+        expect_loaded(&rt, Profile::Twenty, text.as_bytes(), facts)?;
     }
     Ok(())
 }

@@ -8,8 +8,9 @@ use std::fs::{self, Files};
 use std::io::Print;
 use std::sync::Wait;
 use std::thread::Threads;
+use test_bench::text_of_twenty;
 
-/// The examples that run in the barrel, and their turns.
+/// The examples that run in the barrel of ten processors, and their turns.
 const IN_THE_BARREL: [(&str, &str); 14] = [
     ("handoff", "40"),
     ("no_turns", "0"),
@@ -27,6 +28,43 @@ const IN_THE_BARREL: [(&str, &str); 14] = [
     ("dead_start", "1600"),
 ];
 
+/// The same on twenty processors, in twice the turns, and the lines that stand behind their texts then:
+/// the channels on which the further processors wait.
+const ON_TWENTY: [(&str, &str, &str); 14] = [
+    ("handoff", "80", ""),
+    ("no_turns", "0", ""),
+    ("lost_word", "160", ""),
+    ("short_block", "160", ""),
+    ("function_codes", "80", ""),
+    ("two_zeros", "140", ""),
+    ("replace_by_one", "40", ""),
+    ("index_wrap", "80", ""),
+    ("central_block", "100", ""),
+    ("fault_codes", "60", ""),
+    ("loader", "2400", ""),
+    ("token_ring", "600", ""),
+    ("central_copy", "400", ""),
+    (
+        "dead_start",
+        "3200",
+        "\
+CH20 ACTIVE EMPTY
+CH21 ACTIVE EMPTY
+CH22 ACTIVE EMPTY
+CH23 ACTIVE EMPTY
+CH24 ACTIVE EMPTY
+CH25 ACTIVE EMPTY
+CH26 ACTIVE EMPTY
+CH27 ACTIVE EMPTY
+CH30 ACTIVE EMPTY
+CH31 ACTIVE EMPTY
+",
+    ),
+];
+
+/// The examples of twenty processors that run in the barrel, and their turns.
+const OF_TWENTY: [(&str, &str); 2] = [("far_processors", "80"), ("relay", "1200")];
+
 /// The examples that run with one thread per processor, and the text that comes of each.
 const BY_THREADS: [(&str, &str); 2] = [("block_by_threads", "text"), ("token_ring", "threads")];
 
@@ -41,6 +79,18 @@ const BY_CHANCE: [(&str, &str, &str); 2] = [
 const THREADS: [&str; 6] = [
     "ppsim",
     "threads",
+    "--steps",
+    "100",
+    "--patience",
+    "4294967295",
+];
+
+/// The same of twenty processors.
+const THREADS_OF_TWENTY: [&str; 8] = [
+    "ppsim",
+    "threads",
+    "--processors",
+    "20",
     "--steps",
     "100",
     "--patience",
@@ -63,6 +113,36 @@ fn main(rt: HostRuntime) -> anyhow::Result<()> {
         let is_foreign = output == read(&rt, "handoff", "text")?;
         println!(rt; "{name} by threads as handoff: {}", verdict(is_foreign))?;
     }
+    for (name, turns, behind) in ON_TWENTY {
+        compare_on_twenty(&rt, name, turns, behind)?;
+    }
+    for (name, kind) in BY_THREADS {
+        let is_expected = run(&rt, name, THREADS_OF_TWENTY.as_slice())? == read(&rt, name, kind)?;
+        println!(rt; "{name} by twenty threads: {}", verdict(is_expected))?;
+    }
+    for (name, turns) in OF_TWENTY {
+        let words = ["ppsim", "barrel", "--turns", turns, "--processors", "20"];
+        show(&rt, name, words.as_slice(), "text")?;
+    }
+    show(&rt, "relay", THREADS_OF_TWENTY.as_slice(), "threads")?;
+    Ok(())
+}
+
+/// Says whether twenty processors give the text of ten with the turns of its events changed, and these
+/// lines behind it.
+fn compare_on_twenty<R: Files + Print + Alloc<A = Global> + Threads + Wait + Sync>(
+    rt: &R,
+    name: &str,
+    turns: &str,
+    behind: &str,
+) -> anyhow::Result<()> {
+    let text = String::from_utf8(read(rt, name, "text")?)?;
+    let mut expected = text_of_twenty(rt.alloc(), text.as_str())?;
+    expected.push_str(behind)?;
+    let words = ["ppsim", "barrel", "--turns", turns, "--processors", "20"];
+    let output = run(rt, name, words.as_slice())?;
+    let is_expected = output.as_slice() == expected.as_bytes();
+    println!(rt; "{name} on twenty: {}", verdict(is_expected))?;
     Ok(())
 }
 

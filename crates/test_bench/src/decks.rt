@@ -23,6 +23,19 @@ CH05 ACTIVE EMPTY
 /// The command line of that run.
 pub const WORDS_OF_A_RUN: [&str; 4] = ["ppsim", "barrel", "--turns", "40"];
 
+/// The text of the same deck on twenty processors after 80 turns, 149 bytes too.
+pub const HANDOFF_ON_TWENTY: &str = "\
+000000 PP00 CH05 ACN
+000040 PP00 CH05 PUT 0007
+000041 PP01 CH05 TAK 0007
+PP00 P=0103 A=000007 STOPPED
+PP01 P=0201 A=000007 STOPPED
+CH05 ACTIVE EMPTY
+";
+
+/// The command line of that run.
+pub const WORDS_OF_TWENTY: [&str; 6] = ["ppsim", "barrel", "--turns", "80", "--processors", "20"];
+
 /// A deck in which processor 0 sends a block of four words over channel 5. Processor 1 waits until the
 /// channel is active, takes three of them by a block and the fourth too, and disconnects.
 pub const BLOCK: &str = "\

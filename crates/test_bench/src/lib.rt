@@ -8,14 +8,19 @@ mod flags;
 mod histories;
 mod numbers;
 mod programs;
+mod rounds;
 mod sink;
 mod source;
 
 pub use dead_start::waiting;
 pub use decks::{BLOCK, HANDOFF, HANDOFF_TEXT, LONG_PATIENCE, WORDS_OF_A_RUN};
+pub use decks::{
+    BLOCK, HANDOFF, HANDOFF_ON_TWENTY, HANDOFF_TEXT, LONG_PATIENCE, WORDS_OF_A_RUN, WORDS_OF_TWENTY,
+};
 pub use flags::{EMPTY, FULL, INACTIVE};
 pub use histories::is_lawful;
 pub use numbers::{channel, first, numbered, processor, word};
 pub use programs::{HANDOFF_PAIR, Pair, put_program, put_words};
+pub use rounds::text_of_twenty;
 pub use sink::{Failure, Sink};
 pub use source::Source;

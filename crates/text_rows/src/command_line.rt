@@ -1,5 +1,6 @@
 //! Command lines, each with what it asks for.
 
+use pp_machine::Profile;
 use pp_sim::{LineFault, Work, read_words};
 use std::alloc::Global;
 
@@ -25,11 +26,17 @@ fn asked(alloc: Global, words: &[&str]) -> Result<Work, Refused> {
 const RUNS: [(&[&str], Result<Work, Refused>); 4] = [
     (
         &["ppsim", "barrel", "--turns", "40"],
-        Ok(Work::Barrel { turns: 40 }),
+        Ok(Work::Barrel {
+            profile: Profile::Ten,
+            turns: 40,
+        }),
     ),
     (
         &["ppsim", "barrel", "--turns=999999"],
-        Ok(Work::Barrel { turns: 999_999 }),
+        Ok(Work::Barrel {
+            profile: Profile::Ten,
+            turns: 999_999,
+        }),
     ),
     (
         &["ppsim", "barrel", "--turns", "1000000"],
@@ -67,7 +74,7 @@ fn asked_limits(alloc: Global, steps: &str, patience: &str) -> Option<(u32, u32)
 /// The steps and the patience of a run by threads, if one is asked for.
 fn limits_in(asked: Result<Work, Refused>) -> Option<(u32, u32)> {
     match asked.ok()? {
-        Work::Threads { limits } => Some((limits.steps(), limits.patience())),
+        Work::Threads { limits, .. } => Some((limits.steps(), limits.patience())),
         Work::Barrel { .. } => None,
     }
 }

@@ -33,7 +33,8 @@ where handoff.deck has the lines
 ";
 
 const BARREL: &str = "\
-Runs a deck in the barrel: processors 0, 1, .. and 11 (octal) take one step a turn, again and again.
+Runs a deck in the barrel: processors 0, 1, .. and 11 (octal) take one step a turn, again and again;
+of twenty processors, 20, 21, .. and 31 come behind them in each round.
 
 Reads the deck from standard input. Prints to standard output a line for each channel event, in
 order; the P, the A and the state of each processor that the deck names; and the state of each
@@ -42,11 +43,14 @@ channel that has a history. A fault is one line on standard error.
 Where the deck has a line DEAD, the processors without a section wait for their programs, each on
 the channel of its own number, as at a dead start.
 
-Usage: ppsim barrel --turns <N>
+Usage: ppsim barrel [OPTIONS] --turns <N>
 
 Options:
       --turns <N>
           How many turns to run, 0 to 999999 (decimal)
+
+      --processors <N>
+          How many processors the machine has, 10 or 20 (decimal); 10 if not given
 
   -h, --help
           Print help (see a summary with '-h')
@@ -65,11 +69,12 @@ where handoff.deck has the lines
 const BARREL_IN_SHORT: &str = "\
 Runs a deck in the barrel, one step a turn, and prints what happened
 
-Usage: ppsim barrel --turns <N>
+Usage: ppsim barrel [OPTIONS] --turns <N>
 
 Options:
-      --turns <N>  How many turns to run, 0 to 999999 (decimal)
-  -h, --help       Print help (see more with '--help')
+      --turns <N>       How many turns to run, 0 to 999999 (decimal)
+      --processors <N>  How many processors the machine has, 10 or 20 (decimal); 10 if not given
+  -h, --help            Print help (see more with '--help')
 
 Example:
   ppsim barrel --turns 40 < handoff.deck
@@ -83,7 +88,7 @@ where handoff.deck has the lines
 ";
 
 const THREADS: &str = "\
-Runs a deck with one thread per processor, all ten at once. Each goes on at its own speed, so the
+Runs a deck with one thread per processor, all at once. Each goes on at its own speed, so the
 order of events on different channels, and sometimes the events themselves, differ from run to run.
 
 A processor ends where its program stops or faults, after its steps are done (STEPS), or where a
@@ -96,7 +101,7 @@ each channel that has a history. A fault is one line on standard error.
 Where the deck has a line DEAD, the processors without a section wait for their programs, each on
 the channel of its own number, as at a dead start.
 
-Usage: ppsim threads --steps <N> --patience <N>
+Usage: ppsim threads [OPTIONS] --steps <N> --patience <N>
 
 Options:
       --steps <N>
@@ -105,6 +110,9 @@ Options:
       --patience <N>
           How often in a row a channel may hold a step, 1 to 4294967295 (decimal)
 
+      --processors <N>
+          How many processors the machine has, 10 or 20 (decimal); 10 if not given
+
   -h, --help
           Print help (see a summary with '-h')
 ";
@@ -112,12 +120,13 @@ Options:
 const THREADS_IN_SHORT: &str = "\
 Runs a deck with one thread per processor, and prints what happened
 
-Usage: ppsim threads --steps <N> --patience <N>
+Usage: ppsim threads [OPTIONS] --steps <N> --patience <N>
 
 Options:
-      --steps <N>     How many steps each processor may do, 1 to 100000 (decimal)
-      --patience <N>  How often in a row a channel may hold a step, 1 to 4294967295 (decimal)
-  -h, --help          Print help (see more with '--help')
+      --steps <N>       How many steps each processor may do, 1 to 100000 (decimal)
+      --patience <N>    How often in a row a channel may hold a step, 1 to 4294967295 (decimal)
+      --processors <N>  How many processors the machine has, 10 or 20 (decimal); 10 if not given
+  -h, --help            Print help (see more with '--help')
 ";
 
 /// Words that ask for help, each with its text.

@@ -13,8 +13,12 @@ mod help;
 #[cfg(test)]
 mod memories;
 #[cfg(test)]
+mod processors;
+#[cfg(test)]
 mod program;
 #[cfg(test)]
 mod refusals;
 #[cfg(test)]
 mod texts;
+#[cfg(test)]
+mod threads;

@@ -1,6 +1,8 @@
 //! What stands in a processor's memory after a run, which no text shows.
 
+use pp_machine::{Machine, Profile};
 use pp_sim::read_deck;
+use pp_word::next;
 use std::alloc::Global;
 use std::test::Fail;
 use test_bench::{processor, word};
@@ -58,21 +60,45 @@ const MEMORIES: [(&str, u32, u8, u16, &[u16]); 9] = [
     (CENTRAL_BLOCK, 50, 0, 0o60, &[0, 0, 0, 0, 0]),
 ];
 
-/// The word at a place of a processor after so many turns of a deck.
-fn word_after(alloc: Global, deck: &str, turns: u32, pp: u8, place: u16) -> Result<u16, Fail> {
-    let mut machine = read_deck(alloc, deck.as_bytes())?.machine;
+/// The machine of a deck after so many turns of ten processors, or of twenty in twice as many.
+fn machine_after(
+    alloc: Global,
+    profile: Profile,
+    deck: &str,
+    turns: u32,
+) -> Result<Machine<Global>, Fail> {
+    let turns = match profile {
+        Profile::Ten => turns,
+        Profile::Twenty => turns.saturating_mul(2),
+    };
+    let mut machine = read_deck(alloc, profile, deck.as_bytes())?.machine;
     machine.run_barrel(turns)?;
-    Ok(machine.pp(processor(pp)?).get(word(place)).get())
+    Ok(machine)
+}
+
+/// Whether these words stand in a processor from a place on, after so many turns of a deck.
+fn has_words(
+    alloc: Global,
+    profile: Profile,
+    (deck, turns, pp, first, words): (&str, u32, u8, u16, &[u16]),
+) -> Result<bool, Fail> {
+    let machine = machine_after(alloc, profile, deck, turns)?;
+    let pp = machine.pp(processor(pp)?);
+    let mut place = word(first);
+    for expected in words {
+        if pp.get(place).get() != *expected {
+            return Ok(false);
+        }
+        place = next(place);
+    }
+    Ok(true)
 }
 
 #[test]
 fn memories(rt: HostRuntime) -> Result<(), Fail> {
-    for (deck, turns, pp, first, words) in MEMORIES {
-        let mut place = first;
-        for expected in words {
-            let found = word_after(rt.alloc(), deck, turns, pp, place)?;
-            assert_eq!(rt; found, *expected, "{deck} at {place}");
-            place = place.wrapping_add(1);
+    for profile in [Profile::Ten, Profile::Twenty] {
+        for row in MEMORIES {
+            assert!(rt; has_words(rt.alloc(), profile, row)?, "{profile:?} {row:?}");
         }
     }
     Ok(())

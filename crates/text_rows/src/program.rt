@@ -4,7 +4,10 @@ use pp_sim::run_program;
 use std::io::ErrorKind;
 use std::sync::Wait;
 use std::thread::Threads;
-use test_bench::{Failure, HANDOFF, HANDOFF_TEXT, Sink, Source, WORDS_OF_A_RUN};
+use test_bench::{
+    Failure, HANDOFF, HANDOFF_ON_TWENTY, HANDOFF_TEXT, Sink, Source, WORDS_OF_A_RUN,
+    WORDS_OF_TWENTY,
+};
 
 /// What came of a run: its status, whether its output and its standard error are as they have to be,
 /// and how often it asked the reader.
@@ -38,6 +41,29 @@ fn whole_run(rt: HostRuntime) {
     let ended = ending(&rt, &WORDS_OF_A_RUN, handoff(), HANDOFF_TEXT, "");
     // Each byte of the deck, and its end, once.
     assert_eq!(rt; ended, (0, true, true, HANDOFF.len() as u32 + 1));
+}
+
+/// The same on twenty processors: each round has twice as many turns.
+#[test]
+fn whole_run_of_twenty(rt: HostRuntime) {
+    let ended = ending(&rt, &WORDS_OF_TWENTY, handoff(), HANDOFF_ON_TWENTY, "");
+    assert_eq!(rt; ended, (0, true, true, HANDOFF.len() as u32 + 1));
+}
+
+/// A command line, and a processor that its machine has not.
+const BEHIND_THE_LAST: [(&[&str], &str); 3] = [
+    (&WORDS_OF_A_RUN, "PP 20"),
+    (&WORDS_OF_TWENTY, "PP 12"),
+    (&WORDS_OF_TWENTY, "PP 32"),
+];
+
+#[test]
+fn processors_that_are_not_there(rt: HostRuntime) {
+    for (words, deck) in BEHIND_THE_LAST {
+        let input = Source::new(deck.as_bytes(), 1, None);
+        let ended = ending(&rt, words, input, "", "ppsim: deck fault 5 at line 1\n");
+        assert_eq!(rt; ended, (1, true, true, 6), "{words:?} {deck}");
+    }
 }
 
 /// A deck, whether its reader gives an error at its end, the status, and what stands on the

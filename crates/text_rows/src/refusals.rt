@@ -60,7 +60,7 @@ For more information, try '--help'.
         "\
 error: unexpected argument '--steps' found
 
-Usage: ppsim barrel --turns <N>
+Usage: ppsim barrel [OPTIONS] --turns <N>
 
 For more information, try '--help'.
 ",
@@ -70,7 +70,7 @@ For more information, try '--help'.
         "\
 error: the argument '--turns <N>' cannot be used multiple times
 
-Usage: ppsim barrel --turns <N>
+Usage: ppsim barrel [OPTIONS] --turns <N>
 
 For more information, try '--help'.
 ",
@@ -126,7 +126,7 @@ For more information, try '--help'.
         "\
 error: unexpected argument '6' found
 
-Usage: ppsim threads --steps <N> --patience <N>
+Usage: ppsim threads [OPTIONS] --steps <N> --patience <N>
 
 For more information, try '--help'.
 ",
@@ -164,5 +164,97 @@ fn refused_words(rt: HostRuntime) {
     for (words, text) in REFUSED {
         let ended = ending(&rt, words, handoff(), "", text);
         assert_eq!(rt; ended, (2, true, true, 0), "{text}");
+    }
+}
+
+/// The same of words that have the number of processors.
+const REFUSED_PROCESSORS: [(&[&str], &str); 4] = [
+    (
+        &["ppsim", "barrel", "--processors", "20"],
+        "\
+error: the following required arguments were not provided:
+  --turns <N>
+
+Usage: ppsim barrel --turns <N> --processors <N>
+
+For more information, try '--help'.
+",
+    ),
+    (
+        &["ppsim", "barrel", "--turns", "40", "--processors"],
+        "\
+error: a value is required for '--processors <N>' but none was supplied
+
+For more information, try '--help'.
+",
+    ),
+    (
+        &[
+            "ppsim",
+            "barrel",
+            "--processors",
+            "20",
+            "--turns",
+            "40",
+            "--processors",
+            "20",
+        ],
+        "\
+error: the argument '--processors <N>' cannot be used multiple times
+
+Usage: ppsim barrel [OPTIONS] --turns <N>
+
+For more information, try '--help'.
+",
+    ),
+    (
+        &["ppsim", "--processors", "20", "barrel", "--turns", "40"],
+        "\
+error: unexpected argument '--processors' found
+
+  tip: 'barrel --processors' exists
+
+Usage: ppsim <COMMAND>
+
+For more information, try '--help'.
+",
+    ),
+];
+
+#[test]
+fn refused_numbers_of_processors(rt: HostRuntime) {
+    for (words, text) in REFUSED_PROCESSORS {
+        let ended = ending(&rt, words, handoff(), "", text);
+        assert_eq!(rt; ended, (2, true, true, 0), "{text}");
+    }
+    for number in ["0", "9", "11", "21", "x", ""] {
+        let lines: [&[&str]; 4] = [
+            &["ppsim", "barrel", "--turns", "40", "--processors", number],
+            &["ppsim", "barrel", "--processors", number, "--turns", "40"],
+            &[
+                "ppsim",
+                "threads",
+                "--steps",
+                "5",
+                "--patience",
+                "6",
+                "--processors",
+                number,
+            ],
+            &[
+                "ppsim",
+                "threads",
+                "--processors",
+                number,
+                "--steps",
+                "5",
+                "--patience",
+                "6",
+            ],
+        ];
+        for words in lines {
+            let ended = ending(&rt, words, handoff(), "", OUT_OF_RANGE);
+            assert_eq!(rt; ended, (2, true, true, 0), "{words:?}");
+        }
     }
 }

@@ -1,10 +1,12 @@
 //! The texts of runs in the barrel that no example shows.
 
+use pp_machine::Profile;
 use pp_sim::barrel_text;
 use std::test::Fail;
+use test_bench::{HANDOFF, HANDOFF_ON_TWENTY, text_of_twenty};
 
-/// Decks, turns and the texts that they give, worked by hand.
-const TEXTS: [(&str, u32, &str); 5] = [
+/// Decks, turns and the texts that they give on ten processors, worked by hand.
+const TEXTS: [(&str, u32, &str); 3] = [
     // A word that nobody takes.
     (
         "PP 0\n0100 7405 1407 7205 0300\nSTART 0100\n",
@@ -28,6 +30,10 @@ CH05 ACTIVE FULL 0007
         10,
         "PP00 P=0100 A=000000 FAULT 1\nPP01 P=0100 A=000000 FAULT 2\nPP02 P=0100 A=000000 FAULT 3\n",
     ),
+];
+
+/// The same where processors wait for their programs.
+const DEAD_STARTS: [(&str, u32, &str); 2] = [
     // At dead start the processors without a section wait, and have no line; their channels have.
     (
         "DEAD\nPP 0\n0100 1403 7301 0200 6601 0103 7501 0300\n0200 0000 1405 0300\nSTART 0100\n",
@@ -72,16 +78,183 @@ PP11 P=0000 A=000000 STOPPED
 ];
 
 /// Whether a deck gives this text after so many turns.
-fn gives(rt: &impl AllocGlobal, deck: &str, turns: u32, text: &str) -> Result<bool, Fail> {
+fn gives(
+    rt: &impl AllocGlobal,
+    profile: Profile,
+    deck: &str,
+    turns: u32,
+    text: &str,
+) -> Result<bool, Fail> {
     let mut writer = Vec::new(rt.alloc());
-    barrel_text(rt.alloc(), &mut deck.as_bytes(), &mut writer, turns)?;
+    let mut reader = deck.as_bytes();
+    barrel_text(rt.alloc(), profile, &mut reader, &mut writer, turns)?;
     Ok(writer.as_slice() == text.as_bytes())
 }
 
 #[test]
 fn decks_give_their_texts(rt: HostRuntime) -> Result<(), Fail> {
+    for decks in [TEXTS.as_slice(), DEAD_STARTS.as_slice()] {
+        for (deck, turns, text) in decks {
+            assert!(rt; gives(&rt, Profile::Ten, deck, *turns, text)?, "{deck}");
+        }
+    }
+    Ok(())
+}
+
+/// Whether a deck gives on twenty processors, in twice the turns, the text that it has on ten with
+/// the turns of its events changed, and these lines behind it.
+fn gives_on_twenty(
+    rt: &impl AllocGlobal,
+    deck: &str,
+    turns: u32,
+    text: &str,
+    behind: &str,
+) -> Result<bool, Fail> {
+    let mut expected = text_of_twenty(rt.alloc(), text)?;
+    expected.push_str(behind)?;
+    let turns = turns.saturating_mul(2);
+    gives(rt, Profile::Twenty, deck, turns, expected.as_str())
+}
+
+/// The channels on which the ten further processors wait.
+const FURTHER: &str = "\
+CH20 ACTIVE EMPTY
+CH21 ACTIVE EMPTY
+CH22 ACTIVE EMPTY
+CH23 ACTIVE EMPTY
+CH24 ACTIVE EMPTY
+CH25 ACTIVE EMPTY
+CH26 ACTIVE EMPTY
+CH27 ACTIVE EMPTY
+CH30 ACTIVE EMPTY
+CH31 ACTIVE EMPTY
+";
+
+#[test]
+fn decks_give_their_texts_on_twenty(rt: HostRuntime) -> Result<(), Fail> {
     for (deck, turns, text) in TEXTS {
-        assert!(rt; gives(&rt, deck, turns, text)?, "{deck}");
+        assert!(rt; gives_on_twenty(&rt, deck, turns, text, "")?, "{deck}");
+    }
+    for (deck, turns, text) in DEAD_STARTS {
+        assert!(rt; gives_on_twenty(&rt, deck, turns, text, FURTHER)?, "{deck}");
+    }
+    Ok(())
+}
+
+/// What differs between the profiles: decks, turns and their texts on ten processors.
+const OF_TEN: [(&str, u32, &str); 3] = [
+    // Channel 20 is none of the twelve.
+    (
+        "PP 0\n0100 7420\nSTART 0100\n",
+        10,
+        "PP00 P=0100 A=000000 FAULT 3\n",
+    ),
+    // 13 is the last of them, and 14 to 17 are channels of neither profile.
+    (
+        "PP 0\n0100 7413\nSTART 0100\n",
+        10,
+        "000000 PP00 CH13 ACN\nPP00 P=0101 A=000000 RUNNING\nCH13 ACTIVE EMPTY\n",
+    ),
+    (
+        "PP 11\n0100 7417\nSTART 0100\n",
+        10,
+        "PP11 P=0100 A=000000 FAULT 3\n",
+    ),
+];
+
+/// The same on twenty.
+const OF_TWENTY: [(&str, u32, &str); 8] = [
+    (HANDOFF, 80, HANDOFF_ON_TWENTY),
+    // Two of the further processors on the last channel.
+    (
+        "PP 20\n0100 7433 1407 7233 0300\nSTART 0100\nPP 31\n0200 7033 0300\nSTART 0200\n",
+        80,
+        "\
+000010 PP20 CH33 ACN
+000050 PP20 CH33 PUT 0007
+000059 PP31 CH33 TAK 0007
+PP20 P=0103 A=000007 STOPPED
+PP31 P=0201 A=000007 STOPPED
+CH33 ACTIVE EMPTY
+",
+    ),
+    // The numbers beside those of channels.
+    (
+        "PP 0\n0100 7017\nSTART 0100\nPP 1\n0100 7034\nSTART 0100\n",
+        20,
+        "PP00 P=0100 A=000000 FAULT 3\nPP01 P=0100 A=000000 FAULT 3\n",
+    ),
+    (
+        "PP 0\n0100 7014\nSTART 0100\nPP 31\n0100 7077\nSTART 0100\n",
+        20,
+        "PP00 P=0100 A=000000 FAULT 3\nPP31 P=0100 A=000000 FAULT 3\n",
+    ),
+    (
+        "PP 0\n0100 7420\nSTART 0100\n",
+        20,
+        "000000 PP00 CH20 ACN\nPP00 P=0101 A=000000 RUNNING\nCH20 ACTIVE EMPTY\n",
+    ),
+    // Processor 31 has no turn yet, and then one, and 0 its second after that.
+    (
+        "PP 0\n0100 7605 7605\nSTART 0100\nPP 31\n0100 7605\nSTART 0100\n",
+        19,
+        "000000 PP00 CH05 FNC 0000\nPP00 P=0101 A=000000 RUNNING\nPP31 P=0100 A=000000 RUNNING\nCH05 INACTIVE\n",
+    ),
+    (
+        "PP 0\n0100 7605 7605\nSTART 0100\nPP 31\n0100 7605\nSTART 0100\n",
+        21,
+        "\
+000000 PP00 CH05 FNC 0000
+000019 PP31 CH05 FNC 0000
+000020 PP00 CH05 FNC 0000
+PP00 P=0102 A=000000 RUNNING
+PP31 P=0101 A=000000 RUNNING
+CH05 INACTIVE
+",
+    ),
+    // At dead start processor 20 is loaded over channel 20.
+    (
+        "DEAD\nPP 0\n0100 1403 7320 0200 6620 0103 7520 0300\n0200 0000 1405 0300\nSTART 0100\n",
+        180,
+        "\
+000040 PP00 CH20 PUT 0000
+000050 PP20 CH20 TAK 0000
+000060 PP00 CH20 PUT 1405
+000070 PP20 CH20 TAK 1405
+000080 PP00 CH20 PUT 0300
+000090 PP20 CH20 TAK 0300
+000120 PP00 CH20 DCN
+PP00 P=0106 A=000000 STOPPED
+CH01 ACTIVE EMPTY
+CH02 ACTIVE EMPTY
+CH03 ACTIVE EMPTY
+CH04 ACTIVE EMPTY
+CH05 ACTIVE EMPTY
+CH06 ACTIVE EMPTY
+CH07 ACTIVE EMPTY
+CH10 ACTIVE EMPTY
+CH11 ACTIVE EMPTY
+CH20 INACTIVE
+CH21 ACTIVE EMPTY
+CH22 ACTIVE EMPTY
+CH23 ACTIVE EMPTY
+CH24 ACTIVE EMPTY
+CH25 ACTIVE EMPTY
+CH26 ACTIVE EMPTY
+CH27 ACTIVE EMPTY
+CH30 ACTIVE EMPTY
+CH31 ACTIVE EMPTY
+",
+    ),
+];
+
+#[test]
+fn decks_of_one_profile(rt: HostRuntime) -> Result<(), Fail> {
+    for (deck, turns, text) in OF_TEN {
+        assert!(rt; gives(&rt, Profile::Ten, deck, turns, text)?, "{deck}");
+    }
+    for (deck, turns, text) in OF_TWENTY {
+        assert!(rt; gives(&rt, Profile::Twenty, deck, turns, text)?, "{deck}");
     }
     Ok(())
 }
