@@ -2,13 +2,17 @@ pub mod DeadStartLemmas
 pub mod DeckLawLemmas
 pub mod DigitLemmas
 pub mod FieldLemmas
+pub mod FieldTextLemmas
 pub mod HeadlineLemmas
 pub mod KeywordLemmas
 pub mod LawLemmas
 pub mod LinesLemmas
 pub mod ListLemmas
+pub mod LoadedRangeLemmas
 pub mod MemoryLemmas
 pub mod ProgressLemmas
+pub mod RangeLemmas
 pub mod ReadingLemmas
 pub mod SectionLemmas
+pub mod SectionLinesLemmas
 pub mod WordsLemmas
