@@ -1,13 +1,14 @@
 -- Lines that stand in sections, and what each section sets.
-use Rattle.std.proofs.Common.{◌≡◌, ℕ, zero, suc, ◌+◌, ◌<◌, ◌≤◌, ◌⊎◌, Bool, true, false, cond, eqb, List, [], ◌∷◌, ◌++◌, Option, None, refl, sym, ap, ◌∙◌, arith, append_assoc, append-nil, inl, inr}
+use Rattle.std.proofs.Common.{◌≡◌, ℕ, zero, suc, ◌+◌, ◌<◌, ◌≤◌, ◌⊎◌, Bool, true, false, cond, eqb, List, [], ◌∷◌, ◌++◌, length, take, get_or, Option, Some, None, refl, sym, ap, ◌∙◌, arith, append_assoc, append-nil, inl, inr}
 use Rattle.std.specs.Prelude.{filter_map, ◌&&◌, ◌||◌}
 use Rattle.std.specs.List.{flat_map, list_any, range_with_len, cons_option}
-use Rattle.std.proofs.lemmas.Bool.{eq-eqb, ne_eqb, cases_eq, cond-true, cond-false}
+use Rattle.std.proofs.lemmas.Bool.{eqb-true, eq-eqb, ne_eqb, cases_eq, cond-true, cond-false}
 use Rattle.std.proofs.lemmas.List.Elements.{filter_map-append}
-use Rattle.std.proofs.lemmas.List.Folds.{list_any-append}
-use Rattle.pp_deck.specs.DeckLine.{Line, section}
+use Rattle.std.proofs.lemmas.List.Folds.{list_any-append, list_any_at}
+use Rattle.pp_deck.specs.DeckLine.{Line, nothing, section}
 use Rattle.pp_deck.specs.DeckLoad.{is_for, section_of, lines_for, names}
 use Rattle.pp_deck.specs.DeckProgress.{current_after}
+use Rattle.pp_deck.proofs.LawLemmas.{heading_of}
 use Rattle.pp_deck.proofs.SectionLemmas.{section_more, lines_for_more, own}
 
 -- ---- lists over a range of which one number counts
@@ -35,7 +36,7 @@ any_none q a zero none = refl
 any_none q a (suc len) none =
     ap (λ (b : Bool). b || list_any q (range_with_len (a + 1) len)) (none a (omega arith)) ∙ any_none q (a + 1) len (λ m le. none m (omega (arith, le)))
 
-or_false : (b : Bool) → (b || false) ≡ b
+pub or_false : (b : Bool) → (b || false) ≡ b
 or_false true = refl
 or_false false = refl
 
@@ -50,6 +51,23 @@ any_only q n a (suc len) none low high = at (λ ne. any_only q n (a + 1) len non
     at later (inr ne) =
         ap (λ (b : Bool). b || list_any q (range_with_len (a + 1) len)) (none a ne)
         ∙ later ne
+
+or_left : (a b : Bool) → (a || b) ≡ false → a ≡ false
+or_left true b e = absurd (cc)
+or_left false b e = refl
+
+or_right : (a b : Bool) → (a || b) ≡ false → b ≡ false
+or_right true b e = absurd (cc)
+or_right false b e = e
+
+pub any_false : (q : ℕ → Bool) (n a len : ℕ) → list_any q (range_with_len a len) ≡ false → a ≤ n → n < a + len → q n ≡ false
+any_false q n a zero e low high = absurd (omega (arith, low, high))
+any_false q n a (suc len) e low high =
+    at (λ ne. any_false q n (a + 1) len (or_right (q a) (list_any q (range_with_len (a + 1) len)) e) (omega (arith, low, ne)) (omega (arith, high))) (cases_eq n a)
+  where
+    at : ((n ≡ a → ⊥) → q n ≡ false) → (n ≡ a) ⊎ (n ≡ a → ⊥) → q n ≡ false
+    at later (inl same) = ap q same ∙ or_left (q a) (list_any q (range_with_len (a + 1) len)) e
+    at later (inr ne) = later ne
 
 pub filter_flat : {X Y A : Type 0} (f : Y → Option A) (g : X → List Y) (xs : List X) → filter_map f (flat_map g xs) ≡ flat_map (λ x. filter_map f (g x)) xs
 filter_flat f g [] = refl
@@ -211,3 +229,30 @@ unset_by_sections f named body count head none no_body =
     ∙ ap (λ (xs : List ℕ). filter_map f head ++ xs)
     (filter_flat f (section_if named body) (range_with_len 0 count) ∙ flat_none (λ m. filter_map f (section_if named body m)) 0 count (λ m le. central_if f m (named m) (body m) (none m) (no_body m)))
     ∙ append-nil (filter_map f head)
+
+-- ---- processors that are not named
+
+-- no line is for them
+none_between : {A : Type 0} (f : ℕ → Option A) (a n : ℕ) → ((k : ℕ) → a ≤ k → k < a + n → f k ≡ None) → filter_map f (range_with_len a n) ≡ []
+none_between f a zero none = refl
+none_between {A} f a (suc n) none =
+    ap (λ (o : Option A). cons_option o (filter_map f (range_with_len (a + 1) n))) (none a (omega arith) (omega arith))
+    ∙ none_between f (a + 1) n (λ k le lt. none k (omega (arith, le)) (omega (arith, lt)))
+
+is_section : (n : ℕ) (current : Option ℕ) → is_for n current ≡ true → current ≡ Some n
+is_section n None e = absurd (cc)
+is_section n (Some m) e = ap Some (sym (eqb-true n m e))
+
+not_picked : (n : ℕ) (lines : List Line) (k : ℕ) → k < length lines → list_any (names n) lines ≡ false → (b : Bool) → is_for n (section_of (take k lines)) ≡ b → cond b (Some (get_or lines k nothing)) None ≡ None
+not_picked n lines k lt absent false e = refl
+not_picked n lines k lt absent true e =
+    let h = heading_of lines k n (omega (arith, lt)) (is_section n (section_of (take k lines)) e) in
+    let here : list_any (names n) lines ≡ true = list_any_at (names n) lines h.heading nothing (omega (arith, h.before, lt)) (ap (names n) h.names ∙ eq-eqb n n refl) in
+    absurd (cc)
+
+-- no line is for them
+pub unnamed_empty : (n : ℕ) (lines : List Line) → list_any (names n) lines ≡ false → lines_for n lines ≡ []
+unfolding lines_for
+unnamed_empty n lines absent =
+    none_between (λ k. cond (is_for n (section_of (take k lines))) (Some (get_or lines k nothing)) None) 0 (length lines)
+    (λ k le lt. not_picked n lines k (omega (arith, lt)) absent (is_for n (section_of (take k lines))) refl)
