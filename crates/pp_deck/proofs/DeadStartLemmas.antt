@@ -1,13 +1,13 @@
 -- A loaded deck at dead start: who waits, on which channel, and what stays as the lines set it.
-use Rattle.std.proofs.Common.{◌≡◌, ℕ, ◌<◌, ◌≤◌, ◌&&◌, Bool, true, false, IsTrue, List, [], ◌∷◌, length, map, get_or, if◌then◌else◌, refl, sym, ap, ◌∙◌, arith, inl, inr}
+use Rattle.std.proofs.Common.{◌≡◌, ℕ, ◌<◌, ◌≤◌, ◌&&◌, Bool, true, false, IsTrue, List, [], ◌∷◌, length, replicate, get_or, if◌then◌else◌, refl, sym, ap, ◌∙◌, arith, inl, inr}
 use Rattle.std.specs.Prelude.{not, nat_lt, slice_index_or}
-use Rattle.std.specs.List.{list_any}
 use Rattle.std.proofs.lemmas.Bool.{ltb-true, ltb-false, le-ltb}
 use Rattle.std.proofs.lemmas.Bool.Decides.{leb_tells}
-use Rattle.std.proofs.lemmas.List.{ext_get_or, get_or_past, get_or-replicate, get_or_default}
+use Rattle.std.proofs.lemmas.List.{ext_get_or, get_or_past, get_or-replicate, get_or_default, length-replicate}
 use Rattle.std.proofs.lemmas.List.FromFn.{length-map-range_with_len, get_or-map-range_with_len}
 use Rattle.std.proofs.lemmas.List.Folds.{Any-from_list_any, list_any_at}
 use Rattle.pp_channel.specs.ChannelNumber.{channel_count, channel_index, channel_number, names_channel}
+use Rattle.pp_channel.specs.declared.event.Event.{Event}
 use Rattle.pp_channel.specs.declared.event.Event.TheVariants.{Activate}
 use Rattle.pp_channel.proofs.ChannelPlaces as channel_places
 use Rattle.pp_machine.specs.DeadStart.{WaitsWithin, waiting_on, waits, processor_started, history_started, processors_started, histories_started, opened_where, dead_started}
@@ -15,14 +15,15 @@ use Rattle.pp_machine.specs.MachineState.{MachineState, processor_of, history_of
 use Rattle.pp_machine.specs.Processor.{no_processor}
 use Rattle.pp_machine.specs.ProcessorNumber.{names_processor, processor_count, processor_index, processor_number}
 use Rattle.pp_machine.specs.Profile.{processors_in, has_processor}
+use Rattle.pp_machine.proofs.DeadStartLemmas.{channel_of_processor}
 use Rattle.pp_machine.proofs.ProcessorPlaces as processor_places
 use Rattle.pp_machine.proofs.ProfileLemmas.{unnamed_lacks, has_at}
-use Rattle.pp_deck.specs.DeckLaw.{AsksForDeadStart, IsNamed, Waits, line_of}
+use Rattle.pp_deck.specs.DeckLaw.{AsksForDeadStart, IsNamed, Waits}
 use Rattle.pp_deck.specs.DeckLine.{Line, nothing, central_size, central_words, section, start, words, dead_start}
-use Rattle.pp_deck.specs.DeckLoad.{is_dead_start, asks_dead_start, is_named, names, each_processor}
+use Rattle.pp_deck.specs.DeckLoad.{is_dead_start, asks_dead_start, is_named, each_processor, processor_loaded, tabulate}
 use Rattle.pp_deck.specs.DeckMeaning.{LoadedDeck, set_by, unnamed_in, with_dead_start}
 use Rattle.pp_deck.proofs.LawLemmas.{named_here, some_name, named_some}
-use Rattle.pp_deck.proofs.ListLemmas.{length-tabulate, get_or-tabulate}
+use Rattle.pp_deck.proofs.ListLemmas.{length-tabulate, get_or-tabulate, tabulate_is, tabulate_const}
 use Rattle.pp_machine.specs.declared.profile.Profile.{Profile}
 
 -- ---- a machine at dead start, place by place
@@ -138,6 +139,26 @@ unnamed_within p named place past =
     wanted : ℕ → Bool
     wanted n = has_processor p n && not (slice_index_or named (processor_index n) false)
 
+-- ---- dead start where nobody waits
+
+same_processors : (list : List Bool) (m : MachineState) → ((n : ℕ) → waits list n ≡ false) → length m.processors ≡ processor_count → processors_started (waits list) m ≡ m.processors
+unfolding processors_started tabulate
+same_processors list m none long =
+    sym (tabulate_is no_processor m.processors processor_count (λ place. processor_started (waits list) m (processor_number place)) long
+    (λ place below. sym (ap (λ (b : Bool). if b then waiting_on (processor_number place) (processor_of (processor_number place) m) else processor_of (processor_number place) m) (none (processor_number place))
+    ∙ ap (λ (i : ℕ). get_or m.processors i no_processor) (processor_places.place_of_number place below))))
+
+same_histories : (list : List Bool) (m : MachineState) → ((n : ℕ) → waits list n ≡ false) → length m.histories ≡ channel_count → histories_started (waits list) m ≡ m.histories
+unfolding histories_started tabulate
+same_histories list m none long =
+    sym (tabulate_is [] m.histories channel_count (λ place. history_started (waits list) m (channel_number place)) long
+    (λ place below. sym (ap (λ (b : Bool). if b then Activate ∷ [] else history_of (channel_number place) m) (none (channel_number place))
+    ∙ ap (λ (i : ℕ). get_or m.histories i []) (channel_places.place_of_number place below))))
+
+none_opened : (list : List Bool) → ((n : ℕ) → waits list n ≡ false) → opened_where (waits list) ≡ replicate channel_count false
+unfolding opened_where tabulate
+none_opened list none = tabulate_const channel_count (λ place. waits list (channel_number place)) false (λ place. none (channel_number place))
+
 -- ---- who waits, and the loaded machine, where dead start was asked for and where it was not
 
 module _ (profile : Profile) where
@@ -212,3 +233,37 @@ module _ (profile : Profile) where
   history_is size lines false c e named =
       get_or-replicate channel_count (channel_index c) [] [] (channel_places.place_below c named)
       ∙ sym (ap (λ (b : Bool). if b && (has_processor profile c && not (is_named lines c)) then Activate ∷ [] else []) e)
+
+  waits_nowhere : (size : ℕ) (lines : List Line) → asks_dead_start lines ≡ true → ((c : ℕ) → IsTrue (names_channel c) → is_waiting lines c ≡ false) → (n : ℕ) → waits (unnamed_in profile (set_by profile size lines).named) n ≡ false
+  waits_nowhere size lines e none n = by_name (names_processor n) refl
+    where
+      list : List Bool
+      list = unnamed_in profile (set_by profile size lines).named
+
+      by_name : (b : Bool) → names_processor n ≡ b → waits list n ≡ false
+      by_name true named = waits_where_asked size lines n e ∙ none n (channel_of_processor n named)
+      by_name false named = rw named refl
+
+  -- dead start changes nothing where no channel is that of a waiting processor
+  pub no_dead_start : (size : ℕ) (lines : List Line) → asks_dead_start lines ≡ true → ((c : ℕ) → IsTrue (names_channel c) → is_waiting lines c ≡ false) → with_dead_start true (set_by profile size lines) ≡ set_by profile size lines
+  no_dead_start size lines e none =
+      let set : LoadedDeck = set_by profile size lines in
+      let list : List Bool = unnamed_in profile set.named in
+      let nobody = waits_nowhere size lines e none in
+      let same : dead_started list set.machine ≡ set.machine =
+      ap (λ pps. record set.machine { processors = pps; histories = histories_started (waits list) set.machine; opened = opened_where (waits list) })
+      (same_processors list set.machine nobody (length-tabulate processor_count (λ place. processor_loaded profile lines (processor_number place))))
+      ∙ ap (λ histories. record set.machine { histories = histories; opened = opened_where (waits list) }) (same_histories list set.machine nobody (length-replicate {A = List Event} channel_count []))
+      ∙ ap (λ opened. record set.machine { opened = opened }) (none_opened list nobody) in
+      ap (λ (m : MachineState). record set { machine = m }) same
+
+  not_asked : (size : ℕ) (lines : List Line) (c : ℕ) → asks_dead_start lines ≡ false → IsTrue (names_channel c) → is_opened c (set_by profile size lines).machine ≡ false
+  not_asked size lines c e named = opened_is size lines false c e named ∙ ap (λ (b : Bool). b && (has_processor profile c && not (is_named lines c))) e
+
+  -- whether dead start was asked for shows in the channels that it opened, as far as it changed anything
+  pub dead_start_shows : (size : ℕ) (lines : List Line) (b shown : Bool) → asks_dead_start lines ≡ b → (((c : ℕ) → IsTrue (names_channel c) → is_opened c (with_dead_start b (set_by profile size lines)).machine ≡ false) → shown ≡ false) → (shown ≡ false → (c : ℕ) → IsTrue (names_channel c) → is_opened c (with_dead_start b (set_by profile size lines)).machine ≡ false)
+      → with_dead_start shown (set_by profile size lines) ≡ with_dead_start b (set_by profile size lines)
+  dead_start_shows size lines true true e none hidden = refl
+  dead_start_shows size lines true false e none hidden = sym (no_dead_start size lines e (λ c named. sym (opened_is size lines true c e named) ∙ hidden refl c named))
+  dead_start_shows size lines false true e none hidden = let h : true ≡ false = none (λ c named. not_asked size lines c e named) in absurd (cc)
+  dead_start_shows size lines false false e none hidden = refl

@@ -1,6 +1,6 @@
 -- The last line that sets something holds.
-use Rattle.std.proofs.Common.{◌≡◌, ℕ, zero, suc, ◌+◌, ◌-◌, ◌<◌, ◌≤◌, ◌⊎◌, Bool, true, false, cond, leb, List, [], ◌∷◌, ◌++◌, length, take, map, get_or, Option, Some, None, Ok, Err, refl, sym, ap, subst, ◌∙◌, arith, inl, inr, append-nil}
-use Rattle.std.specs.Prelude.{IsTrue, filter_map, option_to_list, option_map, slice_get, unwrap_or, position}
+use Rattle.std.proofs.Common.{◌≡◌, ℕ, zero, suc, ◌+◌, ◌-◌, ◌<◌, ◌≤◌, ◌⊎◌, Bool, true, false, cond, leb, List, [], ◌∷◌, ◌++◌, length, take, map, get_or, Option, Some, None, refl, sym, ap, subst, ◌∙◌, arith, inl, inr, append-nil}
+use Rattle.std.specs.Prelude.{IsTrue, filter_map, option_to_list, option_map, slice_get, unwrap_or}
 use Rattle.std.specs.List.{range_with_len, cons_option, list_any}
 use Rattle.std.proofs.lemmas.Bool.{leb-true, le-leb, eqb-true, eq-eqb, cases_order}
 use Rattle.std.proofs.lemmas.List.{take_more, length-map, get_or_default}
@@ -10,18 +10,15 @@ use Rattle.std.proofs.lemmas.List.FromFn.{fill_by_all}
 use Rattle.std.proofs.lemmas.Option.{slice_get-map}
 use Rattle.pp_word.specs.Address.{place_count}
 use Rattle.pp_machine.specs.MachineState.{processor_of}
-use Rattle.pp_machine.specs.Processor.{Processor, no_processor, word_at}
+use Rattle.pp_machine.specs.Processor.{no_processor, word_at}
 use Rattle.pp_machine.specs.ProcessorNumber.{processor_count, names_processor, processor_number, processor_index}
 use Rattle.pp_machine.proofs.ProcessorPlaces.{place_below, number_of_place}
-use Rattle.pp_deck.specs.DeckLaw.{IsFor, StandsAt, SetsWord, SetsCentralWord, Starts, Registers, registers_of, at_rest, started_at, HoldsLast, IsNamed, KeepsDeckLaw, line_of}
+use Rattle.pp_deck.specs.DeckLaw.{IsFor, StandsAt, SetsWord, SetsCentralWord, Starts, Registers, registers_of, at_rest, started_at, HoldsLast, IsNamed, line_of}
 use Rattle.pp_deck.specs.DeckLine.{Line, nothing, central_size, central_words, section, start, words, dead_start}
 use Rattle.pp_deck.specs.DeckLoad.{last_of, word_among, word_for, central_word_for, start_in, is_for, section_of, lines_for, names, is_named, memory_of, processor_with, processor_loaded, central_loaded}
-use Rattle.pp_deck.specs.DeckMeaning.{LoadedDeck, set_by, loaded, size_of, lines_said, faults_in, unless_faulty, meaning_of_lines, is_foreign, unless_foreign, deck_meaning}
-use Rattle.pp_deck.specs.DeckText.{lines_of}
-use Rattle.pp_deck.specs.declared.deck_fault.DeckFault.{DeckFault}
+use Rattle.pp_deck.specs.DeckMeaning.{set_by}
 use Rattle.pp_deck.specs.DeckProgress.{current_after}
 use Rattle.pp_deck.proofs.ListLemmas.{range_append, range_more, last_of_more, filter_map_more, length-tabulate, get_or-tabulate}
-use Rattle.pp_deck.proofs.MemoryLemmas.{length-central_loaded}
 use Rattle.pp_deck.proofs.SectionLemmas.{section_more}
 use Rattle.pp_machine.specs.declared.profile.Profile.{Profile}
 

@@ -17,7 +17,7 @@ use Rattle.pp_sim.specs.CommandLine.{IsFaultBy, IsOutOfRange, IsRefused, IsWorkA
 use Rattle.pp_sim.specs.declared.line_fault.LineFault.{LineFault}
 use Rattle.pp_sim.specs.declared.line_fault.LineFault.TheVariants.{Memory, Refused, Number}
 use Rattle.pp_sim.specs.declared.work.Work.{Work}
-use Rattle.pp_sim.specs.declared.work.Work.TheVariants.{Barrel, Threads}
+use Rattle.pp_sim.specs.declared.work.Work.TheVariants as works
 
 simple : is_simple ppsim ≡ true
 unfolding clap_on_literals ppsim
@@ -78,26 +78,28 @@ met_none words app m is h e =
 
 -- an option's text is the same by its matches and by its rows
 pub work_by_rows : (name : Text) (f : Found) (work : Work) → IsWorkOf name (first_value f) work → IsWorkAmong (Some (name, rows_of f)) work
-work_by_rows name f (Barrel profile turns) k =
+work_by_rows name f (works.Barrel profile turns) k =
     (k.0, rw (← first_value-rows f (codes "processors")) k.1, rw (← first_value-rows f (codes "turns")) k.2, k.3)
-work_by_rows name f (Threads profile limits) k = (
+work_by_rows name f (works.Threads profile limits) k = (
   k.0,
   rw (← first_value-rows f (codes "processors")) k.1,
   rw (← first_value-rows f (codes "steps")) k.2,
   rw (← first_value-rows f (codes "patience")) k.3,
   k.4,
 )
+work_by_rows name f (works.List profile) k = (k.0, rw (← first_value-rows f (codes "processors")) k.1)
 
 pub work_by_values : (name : Text) (f : Found) (work : Work) → IsWorkAmong (Some (name, rows_of f)) work → IsWorkOf name (first_value f) work
-work_by_values name f (Barrel profile turns) k =
+work_by_values name f (works.Barrel profile turns) k =
     (k.0, rw (first_value-rows f (codes "processors")) k.1, rw (first_value-rows f (codes "turns")) k.2, k.3)
-work_by_values name f (Threads profile limits) k = (
+work_by_values name f (works.Threads profile limits) k = (
   k.0,
   rw (first_value-rows f (codes "processors")) k.1,
   rw (first_value-rows f (codes "steps")) k.2,
   rw (first_value-rows f (codes "patience")) k.3,
   k.4,
 )
+work_by_values name f (works.List profile) k = (k.0, rw (first_value-rows f (codes "processors")) k.1)
 
 -- where the text of an option is there, and is no number, it says no profile
 pub no_profile : {B : Type 0} (of : B → Text) (o : Option B) (text : Option Text) → is_some o ≡ true → option_map of o ≡ text → ((n : ℕ) → ReadsNumber text n → ⊥) → (profile : Profile) → ReadsProfile text profile → ⊥

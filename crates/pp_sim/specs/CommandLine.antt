@@ -12,10 +12,10 @@ use Rattle.pp_runner.specs.RunLimits.{AreLimits}
 use Rattle.pp_sim.specs.declared.line_fault.LineFault.{LineFault}
 use Rattle.pp_sim.specs.declared.line_fault.LineFault.TheVariants.{Memory, Refused, Number}
 use Rattle.pp_sim.specs.declared.work.Work.{Work}
-use Rattle.pp_sim.specs.declared.work.Work.TheVariants.{Barrel, Threads}
+use Rattle.pp_sim.specs.declared.work.Work.TheVariants as works
 
--- THE COMMAND LINE, as clap sees it: `ppsim barrel --turns N` or `ppsim threads --steps N --patience N`, the command
--- and these options required, and for each `--processors N`, which may be left out
+-- THE COMMAND LINE, as clap sees it: `ppsim barrel --turns N`, `ppsim threads --steps N --patience N` or `ppsim list`, the
+-- command and these options required, and for each `--processors N`, which may be left out
 
 -- a required option whose value is a number
 abbrev pub number_option : Text → Rule
@@ -33,11 +33,14 @@ threads =
     with_rule (with_rule (with_rule (new_app (codes "threads")) (number_option (codes "steps"))) (number_option (codes "patience")))
     processors_option
 
+abbrev pub list : App
+list = with_rule (new_app (codes "list")) processors_option
+
 abbrev pub bare : App
 bare = record (new_app (codes "ppsim")) { top = record (new_app (codes "ppsim")).top { subcommand_required = true } }
 
 unfoldable pub ppsim : App
-ppsim = with_subcommand (with_subcommand bare barrel.top) threads.top
+ppsim = with_subcommand (with_subcommand (with_subcommand bare barrel.top) threads.top) list.top
 
 -- the kinds of refusal that clap's parse may give to the words: none where they are a command line
 unfoldable pub refusals : List Text → Kinds
@@ -59,11 +62,12 @@ ReadsProfile (Some text) profile = ReadsNumber (Some text) (processors_in profil
 
 -- the command of this name, with these texts of its options, asks for this work
 abbrev pub IsWorkOf : Text → (Text → Option Text) → Work → Type 0
-IsWorkOf name text_of (Barrel profile turns) = (name ≡ codes "barrel") × ReadsProfile (text_of (codes "processors")) profile
+IsWorkOf name text_of (works.Barrel profile turns) = (name ≡ codes "barrel") × ReadsProfile (text_of (codes "processors")) profile
     × ReadsNumber (text_of (codes "turns")) turns × (turns ≤ 999999)
-IsWorkOf name text_of (Threads profile limits) = (name ≡ codes "threads") × ReadsProfile (text_of (codes "processors")) profile
+IsWorkOf name text_of (works.Threads profile limits) = (name ≡ codes "threads") × ReadsProfile (text_of (codes "processors")) profile
     × ReadsNumber (text_of (codes "steps")) limits.steps × ReadsNumber (text_of (codes "patience")) limits.patience
     × AreLimits limits
+IsWorkOf name text_of (works.List profile) = (name ≡ codes "list") × ReadsProfile (text_of (codes "processors")) profile
 
 abbrev pub IsWorkAmong : Option (Text × List Row) → Work → Type 0
 IsWorkAmong None work = ⊥

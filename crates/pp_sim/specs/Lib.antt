@@ -1,5 +1,6 @@
 pub mod TextAnswer
 pub mod BarrelText
 pub mod ThreadsText
+pub mod ListText
 pub mod CommandLine
 pub mod Program

@@ -7,6 +7,7 @@ use Rattle.clap.specs.declared.error.kind.ErrorKind.TheVariants.{DisplayHelp, Di
 use Rattle.pp_machine.specs.declared.profile.Profile.{Profile}
 use Rattle.pp_sim.specs.BarrelText.{IsBarrelText}
 use Rattle.pp_sim.specs.CommandLine.{AskFor, IsOutOfRange, IsRefused, refusals}
+use Rattle.pp_sim.specs.ListText.{IsListText}
 use Rattle.pp_deck.specs.DeckMeaning.{LoadedDeck}
 use Rattle.pp_sim.specs.TextAnswer.{AnswersTo, AppendsFront, IsAnswer, most_bytes}
 use Rattle.pp_sim.specs.ThreadsText.{IsThreadsText}
@@ -15,19 +16,21 @@ use Rattle.pp_sim.specs.declared.line_fault.LineFault.TheVariants as line
 use Rattle.pp_sim.specs.declared.text_fault.TextFault.{TextFault}
 use Rattle.pp_sim.specs.declared.text_fault.TextFault.TheVariants as fault
 use Rattle.pp_sim.specs.declared.work.Work.{Work}
-use Rattle.pp_sim.specs.declared.work.Work.TheVariants.{Barrel, Threads}
+use Rattle.pp_sim.specs.declared.work.Work.TheVariants as works
 
 -- ---- words that ask for work
 
 -- the texts that a work may print of a deck; Z is the allocator's type, of which a report is made
 abbrev pub IsTextBy : Type 0 → Work → LoadedDeck → List ℕ → Type 0
-IsTextBy Z (Barrel profile turns) = IsBarrelText turns
-IsTextBy Z (Threads profile limits) = IsThreadsText Z limits
+IsTextBy Z (works.Barrel profile turns) = IsBarrelText turns
+IsTextBy Z (works.Threads profile limits) = IsThreadsText Z limits
+IsTextBy Z (works.List profile) = IsListText
 
 -- the profile of its machine
 abbrev pub profile_of : Work → Profile
-profile_of (Barrel profile turns) = profile
-profile_of (Threads profile limits) = profile
+profile_of (works.Barrel profile turns) = profile
+profile_of (works.Threads profile limits) = profile
+profile_of (works.List profile) = profile
 
 -- the answer of a work, to the bytes that were read, and to the first bytes of a reader that tells what it has
 pub record IsDone (Z : Type 0) (work : Work) (answer : Result (Unit {0}) TextFault) (before after old new : Option (List ℕ)) : Type 0 where

@@ -21,26 +21,26 @@ pub record IsFaultOf (profile : Profile) (bytes : List ℕ) (f : DeckFault) : Ty
   pub told : deck_meaning profile bytes ≡ Err f
   pub no_memory : f.code ≢ code.Memory
 
--- the bytes are a deck for such a machine, and this is a text of its run
-pub record IsTextOf (profile : Profile) (IsRunText : LoadedDeck → List ℕ → Type 0) (bytes text : List ℕ) : Type 0 where
+-- the bytes are a deck for such a machine, and this is a text that a work prints of it
+pub record IsTextOf (profile : Profile) (IsDeckText : LoadedDeck → List ℕ → Type 0) (bytes text : List ℕ) : Type 0 where
   pub deck : LoadedDeck
   pub meant : deck_meaning profile bytes ≡ Ok deck
-  pub run : IsRunText deck text
+  pub run : IsDeckText deck text
 
--- THE ANSWER to a deck of these bytes, for a machine of this profile, and what was written: a whole text of its run, a front of one, or nothing
+-- THE ANSWER to a deck of these bytes, for a machine of this profile, and what was written: a whole text of the deck, a front of one, or nothing
 abbrev pub IsAnswer : Profile → (LoadedDeck → List ℕ → Type 0) → Result (Unit {0}) TextFault → List ℕ → Option (List ℕ) → Option (List ℕ) → Type 0
-IsAnswer profile IsRunText (Ok done) bytes old new = (text : List ℕ) × IsTextOf profile IsRunText bytes text × Appends old new text
-IsAnswer profile IsRunText (Err fault.Write) bytes old new = (text : List ℕ) × IsTextOf profile IsRunText bytes text × AppendsFront old new text
-IsAnswer profile IsRunText (Err (fault.Deck f)) bytes old new = IsFaultOf profile bytes f × Keeps old new
-IsAnswer profile IsRunText (Err fault.Read) bytes old new = Keeps old new
-IsAnswer profile IsRunText (Err fault.Memory) bytes old new = Keeps old new
+IsAnswer profile IsDeckText (Ok done) bytes old new = (text : List ℕ) × IsTextOf profile IsDeckText bytes text × Appends old new text
+IsAnswer profile IsDeckText (Err fault.Write) bytes old new = (text : List ℕ) × IsTextOf profile IsDeckText bytes text × AppendsFront old new text
+IsAnswer profile IsDeckText (Err (fault.Deck f)) bytes old new = IsFaultOf profile bytes f × Keeps old new
+IsAnswer profile IsDeckText (Err fault.Read) bytes old new = Keeps old new
+IsAnswer profile IsDeckText (Err fault.Memory) bytes old new = Keeps old new
 
 -- One call, whatever its reader is: these bytes were consumed, no more than a deck may have and one; the answer is
 -- that to the deck that they spell; and where it is Ok, they were all that the reader had.
-pub record AnswersTo (profile : Profile) (IsRunText : LoadedDeck → List ℕ → Type 0) (answer : Result (Unit {0}) TextFault) (before after old new : Option (List ℕ)) (bytes : List ℕ) : Type 0 where
+pub record AnswersTo (profile : Profile) (IsDeckText : LoadedDeck → List ℕ → Type 0) (answer : Result (Unit {0}) TextFault) (before after old new : Option (List ℕ)) (bytes : List ℕ) : Type 0 where
   pub consumed : Consumes before after bytes
   pub bounded : length bytes ≤ most_bytes
-  pub answered : IsAnswer profile IsRunText answer bytes old new
+  pub answered : IsAnswer profile IsDeckText answer bytes old new
   pub whole : OnOk answer (IsAtEnd after)
 
 -- ---- parts of a call
@@ -52,7 +52,7 @@ IsReadFault fault.Memory = Unit {0}
 IsReadFault fault.Write = ⊥
 IsReadFault (fault.Deck f) = ⊥
 
--- a run fails by the deck or for want of memory
+-- a run, or a listing, fails by the deck or for want of memory
 abbrev pub IsRunFault : Profile → List ℕ → TextFault → Type 0
 IsRunFault profile bytes (fault.Deck f) = IsFaultOf profile bytes f
 IsRunFault profile bytes fault.Memory = Unit {0}

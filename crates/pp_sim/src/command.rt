@@ -3,7 +3,7 @@
 ghost use Rattle.std.specs.Prelude.{◌≡◌, false, IfOk};
 ghost use Rattle.clap.specs.Words.{app_of, rule_of, with_rule};
 ghost use Rattle.clap.specs.declared.builder.command.Command.TheViews.{out-Command as fields_of};
-ghost use Rattle.pp_sim.specs.CommandLine.{barrel, number_option, processors_option, ppsim, threads};
+ghost use Rattle.pp_sim.specs.CommandLine.{barrel, list, number_option, processors_option, ppsim, threads};
 
 use crate::number_range::{NumberRange, PATIENCE, STEPS, TURNS};
 use clap::{Arg, ArgAction, Command};
@@ -35,7 +35,8 @@ channel that has a history. A fault is one line on standard error.
 Where the deck has a line DEAD, the processors without a section wait for their programs, each on
 the channel of its own number, as at a dead start.";
 
-const PROCESSORS_HELP: &str = "How many processors the machine has, 10 or 20 (decimal); 10 if not given";
+const PROCESSORS_HELP: &str =
+    "How many processors the machine has, 10 or 20 (decimal); 10 if not given";
 
 const THREADS_ABOUT: &str = "Runs a deck with one thread per processor, and prints what happened";
 
@@ -52,6 +53,20 @@ each channel that has a history. A fault is one line on standard error.
 
 Where the deck has a line DEAD, the processors without a section wait for their programs, each on
 the channel of its own number, as at a dead start.";
+
+const LIST_ABOUT: &str =
+    "Prints the listing of a deck, one instruction a line, which is itself a deck";
+
+const LIST_LONG_ABOUT: &str = "\
+Prints the listing of a deck: the words of each processor that are not 0, one instruction a line,
+with its mnemonic and operands behind it as a comment. Nothing is run.
+
+Reads the deck from standard input. Prints to standard output the size of central memory and its
+words; DEAD, where processors wait for their programs; and the section of each processor that the
+deck names. A fault is one line on standard error.
+
+The listing is itself a deck, and loads the same machine, where it is no longer than a deck may be,
+1048576 bytes (decimal).";
 
 /// A required option whose value is a number.
 fn number_option<'a>(alloc: Global, id: &'a str, help: &'a str) -> Arg<'a>
@@ -118,6 +133,17 @@ fn threads_command<'a>(alloc: Global) -> Result<Command<'a>, AllocError>
     command.arg(processors_option(alloc))
 }
 
+/// `list [--processors N]`
+fn list_command<'a>(alloc: Global) -> Result<Command<'a>, AllocError>
+    ensures app { IfOk result (λ c. app_of c ≡ list) }
+    ensures local { IfOk result (λ c. (fields_of c).has_globals ≡ false) }
+{
+    let command = Command::new(alloc, "list")
+        .about(LIST_ABOUT)
+        .long_about(LIST_LONG_ABOUT);
+    command.arg(processors_option(alloc))
+}
+
 /// The whole command line.
 #[tactic(auto, unfolding(crate::specs::CommandLine::ppsim))]
 pub(crate) fn command<'a>(alloc: Global) -> Result<Command<'a>, AllocError>
@@ -125,10 +151,12 @@ pub(crate) fn command<'a>(alloc: Global) -> Result<Command<'a>, AllocError>
 {
     let barrel = barrel_command(alloc)?;
     let threads = threads_command(alloc)?;
+    let list = list_command(alloc)?;
     let bare = Command::new(alloc, "ppsim")
         .about(ABOUT)
         .after_help(EXAMPLE)
         .subcommand_required(true);
-    let whole = bare.subcommand(barrel)?.subcommand(threads)?;
+    let runs = bare.subcommand(barrel)?.subcommand(threads)?;
+    let whole = runs.subcommand(list)?;
     Ok(whole)
 }

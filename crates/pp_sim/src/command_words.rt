@@ -80,6 +80,9 @@ fn work_of(name: &str, matches: &ArgMatches<'_>) -> Option<Work>
         let patience = number_of(matches, "patience")?;
         let limits = limits_of(steps, patience)?;
         Some(Work::Threads { profile, limits })
+    } else if name == "list" {
+        let profile = profile_of(matches)?;
+        Some(Work::List { profile })
     } else {
         None
     }

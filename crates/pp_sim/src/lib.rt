@@ -1,4 +1,4 @@
-//! Runs of decks, the texts of these runs, and the program that writes them.
+//! Runs of decks, the texts of these runs, listings, and the program that writes them.
 #![tactic(auto)]
 
 mod command;
@@ -6,6 +6,7 @@ mod command_words;
 mod entry;
 mod laws;
 mod line_fault;
+mod listing_text;
 mod loaded_deck;
 mod number_range;
 mod numeral;
@@ -20,8 +21,10 @@ pub use command_words::read_words;
 pub use entry::run_main;
 pub use laws::{barrel_text_law, threads_text_law};
 pub use line_fault::LineFault;
+pub use listing_text::list_text;
 pub use numeral::numeral_law;
 pub use pp_deck::{Deck, DeckCode, DeckFault, deck_law, headline_law, read_deck, reading_law};
+pub use pp_listing::{listing, listing_law};
 pub use program::run_program;
 pub use text::barrel_text;
 pub use text_by_threads::threads_text;

@@ -18,6 +18,7 @@ pub(crate) fn loaded_deck<A: Allocator + Copy>(
 ) -> Result<Deck<A>, TextFault>
     ensures ok { IfOk result (λ deck. deck_meaning profile bytes.now ≡ Ok (record { machine = deck.machine; named = deck.named })) }
     ensures fresh { IfOk result (λ deck. deck.machine.trace ≡ []) }
+    ensures profile { IfOk result (λ deck. deck.machine.profile ≡ profile) }
     ensures names { IfOk result (λ deck. NamesWithin deck.machine.profile deck.named) }
     ensures bounded { OnOk result (length bytes.now < most_bytes) }
     ensures fault { IfErr result (IsRunFault profile bytes.now) }

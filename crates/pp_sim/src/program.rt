@@ -6,6 +6,7 @@ ghost use Rattle.pp_sim.specs.Program.{IsDone, IsPrinted, IsRun, IsTold, status_
 
 use crate::command_words::read_words;
 use crate::line_fault::LineFault;
+use crate::listing_text::list_text;
 use crate::streams::write_whole;
 use crate::text::barrel_text;
 use crate::text_by_threads::threads_text;
@@ -66,6 +67,7 @@ fn do_work<T: Threads + Wait + Sync, I: Read, A: Allocator + Copy + Send + Sync,
         Work::Threads { profile, limits } => {
             threads_text(rt, alloc, profile, input, output, limits)
         }
+        Work::List { profile } => list_text(alloc, profile, input, output),
     }
 }
 

@@ -11,4 +11,6 @@ pub enum Work {
     Barrel { profile: Profile, turns: u32 },
     /// The run of a deck with one thread per processor of this profile, within these limits.
     Threads { profile: Profile, limits: Limits },
+    /// The listing of a deck for a machine of this profile.
+    List { profile: Profile },
 }

@@ -9,4 +9,6 @@ returns c =
     let bare_is : app_of c.subcommand_required-bare.result ≡ bare = search rules in
     let behind : app_of c.in_ok-subcommand.field-0 ≡ with_subcommand bare _ =
     c.in_ok-subcommand.ensures.shape c.in_ok-barrel.ensures.local ∙ ap₂ with_subcommand bare_is (ap (λ (a : App). a.top) c.in_ok-barrel.ensures.app) in
-    c.in_ok-whole.ensures.shape c.in_ok-threads.ensures.local ∙ ap₂ with_subcommand behind (ap (λ (a : App). a.top) c.in_ok-threads.ensures.app)
+    let runs_are : app_of c.in_ok-runs.runs ≡ with_subcommand (with_subcommand bare _) _ =
+    c.in_ok-runs.ensures.shape c.in_ok-threads.ensures.local ∙ ap₂ with_subcommand behind (ap (λ (a : App). a.top) c.in_ok-threads.ensures.app) in
+    c.in_ok-whole.ensures.shape c.in_ok-list.ensures.local ∙ ap₂ with_subcommand runs_are (ap (λ (a : App). a.top) c.in_ok-list.ensures.app)

@@ -5,6 +5,9 @@ use Rattle.pp_sim.proofs.loaded_deck.loaded_deck.Goals as goal
 pub returns-in-Ok-clause-fresh : goal.returns-in-Ok-clause-fresh
 returns-in-Ok-clause-fresh g c = (c.deck_law.ensures.law c.args.profile c.args.bytes.now _ c.in-Ok.ensures.ok).no_event
 
+pub returns-in-Ok-clause-profile : goal.returns-in-Ok-clause-profile
+returns-in-Ok-clause-profile g c = c.deck_law.ensures.profile c.args.profile c.args.bytes.now _ c.in-Ok.ensures.ok
+
 pub returns-in-Ok-clause-names : goal.returns-in-Ok-clause-names
 returns-in-Ok-clause-names g c =
     let p = c.args.profile in

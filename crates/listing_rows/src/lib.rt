@@ -1,0 +1,9 @@
+//! Listings of decks: their texts, the text of each instruction, and each growth refused in turn.
+#![tactic(auto)]
+
+#[cfg(test)]
+mod decks;
+#[cfg(test)]
+mod instructions;
+#[cfg(test)]
+mod memories;

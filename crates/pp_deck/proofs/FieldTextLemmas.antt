@@ -1,0 +1,138 @@
+-- Fields that were printed are read as they stand.
+use Rattle.std.proofs.Common.{◌≡◌, ℕ, zero, suc, replicate, ◌-◌, ◌<◌, ◌≤◌, Bool, true, false, not, cond, List, [], ◌∷◌, ◌++◌, length, get_or, refl, sym, ap, ◌∙◌, arith}
+use Rattle.std.specs.Prelude.{nat_le, filter, slice_index, ◌==◌, ◌&&◌}
+use Rattle.std.specs.List.{list_all, slice_split, onto_first, take_while, All}
+use Rattle.std.proofs.lemmas.Bool.{leb-true, ne_eqb, cond-false}
+use Rattle.std.proofs.lemmas.List.{append-nil}
+use Rattle.std.proofs.lemmas.List.Sums.{take_while-cons, AllPass-from_list_all}
+use Rattle.std.proofs.lemmas.List.Splits.{slice_split-cons_yes, slice_split-cons_no, slice_split_none, slice_split_at}
+use Rattle.pp_deck.specs.DeckText.{is_blank, is_comment, is_nonempty, fields_in, fields_of}
+
+-- a character that may stand in any field
+abbrev pub is_ink : ℕ → Bool
+is_ink c = nat_le 43 c && nat_le c 126
+
+-- a character that may stand in any line
+abbrev pub is_plain : ℕ → Bool
+is_plain c = nat_le 32 c && nat_le c 126
+
+pub and_left : (a b : Bool) → (a && b) ≡ true → a ≡ true
+and_left true b e = refl
+and_left false b e = absurd (cc)
+
+pub and_right : (a b : Bool) → (a && b) ≡ true → b ≡ true
+and_right true b e = e
+and_right false b e = absurd (cc)
+
+pub and_both : (a b : Bool) → a ≡ true → b ≡ true → (a && b) ≡ true
+and_both a b e f = rw (e, f) refl
+
+pub ink_least : (c : ℕ) → is_ink c ≡ true → 43 ≤ c
+ink_least c e = leb-true 43 c (and_left (nat_le 43 c) (nat_le c 126) e)
+
+pub plain_least : (c : ℕ) → is_plain c ≡ true → 32 ≤ c
+plain_least c e = leb-true 32 c (and_left (nat_le 32 c) (nat_le c 126) e)
+
+pub plain_most : (c : ℕ) → is_plain c ≡ true → c ≤ 126
+plain_most c e = leb-true c 126 (and_right (nat_le 32 c) (nat_le c 126) e)
+
+ink_no_blank : (c : ℕ) → is_ink c ≡ true → is_blank c ≡ false
+ink_no_blank c e =
+    let least = ink_least c e in
+    let space : (c == 32) ≡ false = ne_eqb c 32 (λ h. absurd (omega (arith, least, h))) in
+    let tab : (c == 9) ≡ false = ne_eqb c 9 (λ h. absurd (omega (arith, least, h))) in
+    rw (space, tab) refl
+
+-- the text of a field: not empty, and all ink
+pub record IsField (field : List ℕ) : Type 0 where
+  pub some : 0 < length field
+  pub ink : list_all is_ink field ≡ true
+
+no_blanks : (field : List ℕ) → list_all is_ink field ≡ true → All (λ c. is_blank c ≡ false) field
+no_blanks field e = λ k d lt. ink_no_blank (get_or field k d) (AllPass-from_list_all is_ink field e k d lt)
+
+pieces : List (List ℕ) → List (List ℕ)
+pieces parts = take_while (λ field. not (is_comment field)) (filter is_nonempty parts)
+
+fields_are : (text : List ℕ) → fields_in text ≡ pieces (slice_split is_blank text)
+unfolding fields_in pieces
+fields_are text = refl
+
+no_star : (c : ℕ) (field : List ℕ) → list_all is_ink (c ∷ field) ≡ true → (c == 42) ≡ false
+no_star c field e = let least = ink_least c (and_left (is_ink c) (list_all is_ink field) e) in ne_eqb c 42 (λ h. absurd (omega (arith, least, h)))
+
+field_piece : (c : ℕ) (field : List ℕ) (more : List (List ℕ)) → list_all is_ink (c ∷ field) ≡ true → pieces ((c ∷ field) ∷ more) ≡ (c ∷ field) ∷ pieces more
+unfolding pieces
+field_piece c field more e =
+    take_while-cons (λ field. not (is_comment field)) (c ∷ field) (filter is_nonempty more)
+    ∙ ap (λ (b : Bool). cond (not b) ((c ∷ field) ∷ take_while (λ field. not (is_comment field)) (filter is_nonempty more)) []) (no_star c field e)
+
+empty_piece : (more : List (List ℕ)) → pieces ([] ∷ more) ≡ pieces more
+unfolding pieces
+empty_piece more = refl
+
+no_more : pieces [] ≡ []
+unfolding pieces
+no_more = refl
+
+-- a text that begins with a blank or is empty, so that a field may stand before it, and its fields
+abbrev pub IsTail : List ℕ → List (List ℕ) → Type 0
+IsTail text fields = (field : List ℕ) → IsField field → fields_in (field ++ text) ≡ field ∷ fields
+
+pub tail_none : IsTail [] []
+tail_none [] h = absurd (omega (arith, h.some))
+tail_none (c ∷ field) h =
+    ap fields_in (append-nil (c ∷ field)) ∙ fields_are (c ∷ field)
+    ∙ ap pieces (slice_split_none is_blank (c ∷ field) (no_blanks (c ∷ field) h.ink))
+    ∙ field_piece c field [] h.ink ∙ ap (λ (more : List (List ℕ)). (c ∷ field) ∷ more) no_more
+
+pub tail_blank : (text : List ℕ) → IsTail (32 ∷ text) (fields_in text)
+tail_blank text [] h = absurd (omega (arith, h.some))
+tail_blank text (c ∷ field) h =
+    fields_are (c ∷ field ++ 32 ∷ text)
+    ∙ ap pieces (slice_split_at is_blank (c ∷ field) 32 text (no_blanks (c ∷ field) h.ink) refl)
+    ∙ field_piece c field (slice_split is_blank text) h.ink
+    ∙ ap (λ (more : List (List ℕ)). (c ∷ field) ∷ more) (sym (fields_are text))
+
+pub tail_field : (field text : List ℕ) (fields : List (List ℕ)) → IsField field → IsTail text fields → IsTail (32 ∷ field ++ text) (field ∷ fields)
+tail_field field text fields h tail = λ first is. tail_blank (field ++ text) first is ∙ ap (λ (more : List (List ℕ)). first ∷ more) (tail field h)
+
+pub fields_blank : (text : List ℕ) → fields_in (32 ∷ text) ≡ fields_in text
+fields_blank text = fields_are (32 ∷ text) ∙ ap pieces (slice_split-cons_yes is_blank 32 text refl) ∙ empty_piece (slice_split is_blank text) ∙ sym (fields_are text)
+
+-- a comment has no fields
+star_piece : (parts : List (List ℕ)) → pieces (onto_first 42 parts) ≡ []
+unfolding pieces
+star_piece [] = refl
+star_piece (part ∷ parts) = take_while-cons (λ field. not (is_comment field)) (42 ∷ part) (filter is_nonempty parts)
+
+pub fields_comment : (text : List ℕ) → fields_in (42 ∷ text) ≡ []
+fields_comment text = fields_are (42 ∷ text) ∙ ap pieces (slice_split-cons_no is_blank 42 text refl) ∙ star_piece (slice_split is_blank text)
+
+-- a field at the end of a text
+pub fields_last : (field : List ℕ) → IsField field → fields_in field ≡ field ∷ []
+fields_last field h = ap fields_in (sym (append-nil field)) ∙ tail_none field h
+
+pub tail_last : (field : List ℕ) → IsField field → IsTail (32 ∷ field) (field ∷ [])
+tail_last field h = λ first is. tail_blank field first is ∙ ap (λ (more : List (List ℕ)). first ∷ more) (fields_last field h)
+
+pub no_fields : fields_in [] ≡ []
+unfolding fields_in
+no_fields = refl
+
+-- a comment behind blanks
+pub blanks_comment : (k : ℕ) (text : List ℕ) → fields_in (replicate k 32 ++ 42 ∷ text) ≡ []
+blanks_comment zero text = fields_comment text
+blanks_comment (suc k) text = fields_blank (replicate k 32 ++ 42 ∷ text) ∙ blanks_comment k text
+
+pub tail_comment : (k : ℕ) (text : List ℕ) → IsTail (32 ∷ replicate k 32 ++ 42 ∷ text) []
+tail_comment k text = λ field h. tail_blank (replicate k 32 ++ 42 ∷ text) field h ∙ ap (λ (more : List (List ℕ)). field ∷ more) (blanks_comment k text)
+
+-- a line that does not end in CR
+plain_here : (line : List ℕ) (i : ℕ) → list_all is_plain line ≡ true → (slice_index line i == 13) ≡ false
+plain_here [] i e = refl
+plain_here (c ∷ line) zero e = let least = plain_least c (and_left (is_plain c) (list_all is_plain line) e) in ne_eqb c 13 (λ h. absurd (omega (arith, least, h)))
+plain_here (c ∷ line) (suc i) e = plain_here line i (and_right (is_plain c) (list_all is_plain line) e)
+
+pub fields_of_plain : (line : List ℕ) → list_all is_plain line ≡ true → fields_of line ≡ fields_in line
+fields_of_plain line e = ap fields_in (cond-false (slice_index line (length line - 1) == 13) _ line (plain_here line (length line - 1) e))

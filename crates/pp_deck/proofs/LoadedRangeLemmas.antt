@@ -1,0 +1,162 @@
+-- The words, starts and central words that a deck loads are in range.
+use Rattle.std.proofs.Common.{◌≡◌, ℕ, zero, suc, ◌-◌, ◌^◌, ◌<◌, Bool, true, false, cond, leb, List, [], ◌∷◌, length, take, get_or, Option, Some, None, Result, Ok, Err, sym, subst, arith}
+use Rattle.std.specs.Prelude.{filter_map, unwrap_or, slice_get, All}
+use Rattle.std.specs.List.{cons_option, range_with_len, list_any}
+use Rattle.std.proofs.lemmas.List.Elements.{All-head, All-tail}
+use Rattle.pp_word.specs.Address.{place_count}
+use Rattle.pp_machine.specs.Processor.{Processor}
+use Rattle.pp_machine.specs.declared.profile.Profile.{Profile}
+use Rattle.pp_deck.specs.DeckLine.{Line, nothing, central_size, central_words, section, start, words, dead_start}
+use Rattle.pp_deck.specs.DeckLoad.{last_of, word_for, central_word_for, start_in, is_for, section_of, lines_for, memory_of, central_loaded, processor_with, processor_loaded, tabulate}
+use Rattle.pp_deck.specs.DeckMeaning.{has_fields, begins_section, line_at, size_of, line_in, lines_said}
+use Rattle.pp_deck.proofs.ListLemmas.{length-tabulate, get_or-tabulate}
+use Rattle.pp_deck.proofs.RangeLemmas.{Holds, InRange, line_holds}
+use Rattle.pp_deck.proofs.SectionLinesLemmas.{AllLines}
+
+abbrev pub OnSome : {A : Type 0} → (A → Type 0) → Option A → Type 0
+OnSome P None = Unit {0}
+OnSome P (Some x) = P x
+
+-- ---- the lines of a deck
+
+cons_all : (P : Line → Type 0) (o : Option Line) (lines : List Line) → OnSome P o → AllLines P lines → AllLines P (cons_option o lines)
+cons_all P None lines h k = k
+cons_all P (Some line) lines h k = (h, k)
+
+all_found : (P : Line → Type 0) (f : ℕ → Option Line) (ks : List ℕ) → ((k : ℕ) → OnSome P (f k)) → AllLines P (filter_map f ks)
+all_found P f [] h = tt
+all_found P f (k ∷ ks) h = cons_all P (f k) (filter_map f ks) (h k) (all_found P f ks h)
+
+said_line : (r : Result Line _) → Holds InRange r → OnSome InRange (line_in r)
+said_line (Ok line) h = h
+said_line (Err flaw) h = tt
+
+line_at_holds : (profile : Profile) (size : ℕ) (lines : List (List (List ℕ))) (k : ℕ) → Holds InRange (line_at profile size lines k)
+unfolding line_at
+line_at_holds profile size lines k = line_holds profile size (list_any has_fields (take k lines)) (list_any begins_section (take k lines)) (get_or lines k [])
+
+pub said_in_range : (profile : Profile) (lines : List (List (List ℕ))) → AllLines InRange (lines_said profile lines)
+unfolding lines_said
+said_in_range profile lines =
+    all_found InRange (λ k. line_in (line_at profile (size_of lines) lines k)) (range_with_len 0 (length lines))
+    (λ k. said_line (line_at profile (size_of lines) lines k) (line_at_holds profile (size_of lines) lines k))
+
+get_in : (P : Line → Type 0) (lines : List Line) (k : ℕ) (d : Line) → AllLines P lines → P d → P (get_or lines k d)
+get_in P [] k d h e = e
+get_in P (line ∷ lines) zero d h e = h.0
+get_in P (line ∷ lines) (suc k) d h e = get_in P lines k d h.1 e
+
+picked : (b : Bool) (line : Line) → InRange line → OnSome InRange (cond b (Some line) None)
+picked true line h = h
+picked false line h = tt
+
+pub for_in_range : (n : ℕ) (lines : List Line) → AllLines InRange lines → AllLines InRange (lines_for n lines)
+unfolding lines_for
+for_in_range n lines h =
+    all_found InRange (λ k. cond (is_for n (section_of (take k lines))) (Some (get_or lines k nothing)) None) (range_with_len 0 (length lines))
+    (λ k. picked (is_for n (section_of (take k lines))) (get_or lines k nothing) (get_in InRange lines k nothing h tt))
+
+-- ---- what they set
+
+abbrev Each : {A : Type 0} → (A → Type 0) → List A → Type 0
+Each P [] = Unit {0}
+Each P (x ∷ xs) = P x × Each P xs
+
+each_cons : {A : Type 0} (P : A → Type 0) (o : Option A) (xs : List A) → OnSome P o → Each P xs → Each P (cons_option o xs)
+each_cons P None xs h k = k
+each_cons P (Some x) xs h k = (h, k)
+
+each_set : {A : Type 0} (P : A → Type 0) (g : Line → Option A) (lines : List Line) → ((line : Line) → InRange line → OnSome P (g line)) → AllLines InRange lines → Each P (filter_map g lines)
+each_set P g [] h k = tt
+each_set P g (line ∷ lines) h k = each_cons P (g line) (filter_map g lines) (h line k.0) (each_set P g lines h k.1)
+
+each_get : {A : Type 0} (P : A → Type 0) (xs : List A) (i : ℕ) → Each P xs → OnSome P (slice_get xs i)
+each_get P [] i h = tt
+each_get P (x ∷ xs) zero h = h.0
+each_get P (x ∷ xs) (suc i) h = each_get P xs i h.1
+
+last_set : {A : Type 0} (P : A → Type 0) (g : Line → Option A) (lines : List Line) → ((line : Line) → InRange line → OnSome P (g line)) → AllLines InRange lines → OnSome P (last_of (filter_map g lines))
+last_set P g lines h k = each_get P (filter_map g lines) (length (filter_map g lines) - 1) (each_set P g lines h k)
+
+all_get : (P : ℕ → Type 0) (ws : List ℕ) (i : ℕ) → All P ws → OnSome P (slice_get ws i)
+all_get P [] i h = tt
+all_get P (w ∷ ws) zero h = All-head P w ws h
+all_get P (w ∷ ws) (suc i) h = all_get P ws i (All-tail P w ws h)
+
+among_in : (P : ℕ → Type 0) (b : Bool) (ws : List ℕ) (i : ℕ) → All P ws → OnSome P (cond b (slice_get ws i) None)
+among_in P true ws i h = all_get P ws i h
+among_in P false ws i h = tt
+
+word_small : (place : ℕ) (line : Line) → InRange line → OnSome (λ w. w < 8 ^ 4) (word_for place line)
+word_small place (words x ws) h = among_in (λ w. w < 8 ^ 4) (leb x place) ws (place - x) h
+word_small place nothing h = tt
+word_small place (central_size n) h = tt
+word_small place (central_words a ws) h = tt
+word_small place (section n) h = tt
+word_small place (start p a) h = tt
+word_small place dead_start h = tt
+
+central_small : (address : ℕ) (line : Line) → InRange line → OnSome (λ w. w < 8 ^ 20) (central_word_for address line)
+central_small address (central_words a ws) h = among_in (λ w. w < 8 ^ 20) (leb a address) ws (address - a) h
+central_small address nothing h = tt
+central_small address (central_size n) h = tt
+central_small address (words x ws) h = tt
+central_small address (section n) h = tt
+central_small address (start p a) h = tt
+central_small address dead_start h = tt
+
+-- P and A are in range
+abbrev pub IsStart : ℕ × ℕ → Type 0
+IsStart s = (s.0 < 8 ^ 4) × (s.1 < 8 ^ 6)
+
+start_small : (line : Line) → InRange line → OnSome IsStart (start_in line)
+start_small (start p a) h = h
+start_small nothing h = tt
+start_small (central_size n) h = tt
+start_small (central_words a ws) h = tt
+start_small (section n) h = tt
+start_small (words x ws) h = tt
+start_small dead_start h = tt
+
+pub last_start_small : (lines : List Line) → AllLines InRange lines → OnSome IsStart (last_of (filter_map start_in lines))
+last_start_small lines h = last_set IsStart start_in lines start_small h
+
+else_zero : (o : Option ℕ) (bound : ℕ) → 0 < bound → OnSome (λ w. w < bound) o → unwrap_or o 0 < bound
+else_zero None bound some h = some
+else_zero (Some w) bound some h = h
+
+all_tabulate : (P : ℕ → Type 0) (n : ℕ) (f : ℕ → ℕ) → ((k : ℕ) → P (f k)) → All P (tabulate n f)
+all_tabulate P n f h = λ k d lt. subst P (sym (get_or-tabulate n f k d (omega (arith, lt, length-tabulate n f)))) (h k)
+
+pub memory_small : (lines : List Line) → AllLines InRange lines → All (λ w. w < 8 ^ 4) (memory_of lines)
+unfolding memory_of
+memory_small lines h =
+    all_tabulate (λ w. w < 8 ^ 4) place_count (λ place. unwrap_or (last_of (filter_map (word_for place) lines)) 0)
+    (λ place. else_zero (last_of (filter_map (word_for place) lines)) (8 ^ 4) (omega arith) (last_set (λ w. w < 8 ^ 4) (word_for place) lines (word_small place) h))
+
+pub length-memory_of : (lines : List Line) → length (memory_of lines) ≡ place_count
+unfolding memory_of
+length-memory_of lines = length-tabulate place_count (λ place. unwrap_or (last_of (filter_map (word_for place) lines)) 0)
+
+pub central_words_small : (size : ℕ) (lines : List Line) → AllLines InRange lines → All (λ w. w < 8 ^ 20) (central_loaded size lines)
+unfolding central_loaded
+central_words_small size lines h =
+    all_tabulate (λ w. w < 8 ^ 20) size (λ address. unwrap_or (last_of (filter_map (central_word_for address) lines)) 0)
+    (λ address. else_zero (last_of (filter_map (central_word_for address) lines)) (8 ^ 20) (omega arith) (last_set (λ w. w < 8 ^ 20) (central_word_for address) lines (central_small address) h))
+
+-- a processor as lines leave it
+pub record IsSmall (pp : Processor) : Type 0 where
+  pub memory : All (λ w. w < 8 ^ 4) pp.memory
+  pub long : length pp.memory ≡ place_count
+  pub p : pp.p < 8 ^ 4
+  pub a : pp.a < 8 ^ 6
+
+with_small : (profile : Profile) (memory : List ℕ) (o : Option (ℕ × ℕ)) → All (λ w. w < 8 ^ 4) memory → length memory ≡ place_count → OnSome IsStart o → IsSmall (processor_with profile memory o)
+with_small profile memory None h e s = record { memory = h; long = e; p = omega arith; a = omega arith }
+with_small profile memory (Some s) h e small = record { memory = h; long = e; p = small.0; a = small.1 }
+
+pub processor_small : (profile : Profile) (n : ℕ) (lines : List Line) → AllLines InRange lines → IsSmall (processor_loaded profile lines n)
+unfolding processor_loaded
+processor_small profile n lines h =
+    let own = for_in_range n lines h in
+    with_small profile (memory_of (lines_for n lines)) (last_of (filter_map start_in (lines_for n lines))) (memory_small (lines_for n lines) own) (length-memory_of (lines_for n lines)) (last_start_small (lines_for n lines) own)

@@ -1,0 +1,10 @@
+pub mod InstructionLemmas
+pub mod InstructionTextLemmas
+pub mod ListedLemmas
+pub mod ListedLineLemmas
+pub mod ListingLemmas
+pub mod NumberLemmas
+pub mod OctalDigitLemmas
+pub mod PrintedLineLemmas
+pub mod PrintedTextLemmas
+pub mod TextLemmas

@@ -1,0 +1,244 @@
+-- The lines of a listing, taken all together, load the deck that they list.
+use Rattle.std.proofs.Common.{◌≡◌, ℕ, suc, ◌-◌, ◌<◌, ◌⊎◌, Bool, true, false, cond, eqb, List, [], ◌∷◌, ◌++◌, length, get_or, Option, Some, None, refl, sym, ap, ◌∙◌, arith, append-nil, inl, inr}
+use Rattle.std.specs.Prelude.{filter_map, unwrap_or, IsTrue, ◌&&◌, ◌||◌}
+use Rattle.std.specs.List.{flat_map, list_any, range_with_len, cons_option}
+use Rattle.std.proofs.lemmas.Bool.{eqb-true, cases_order}
+use Rattle.std.proofs.lemmas.List.Elements.{filter_map-append}
+use Rattle.std.proofs.lemmas.List.Folds.{list_any-append}
+use Rattle.pp_word.specs.Address.{place_count}
+use Rattle.pp_machine.specs.MachineState.{new_machine}
+use Rattle.pp_machine.specs.Processor.{Processor, no_processor}
+use Rattle.pp_machine.specs.ProcessorNumber.{names_processor, processor_count, processor_number}
+use Rattle.pp_machine.proofs.ProcessorPlaces.{number_named}
+use Rattle.pp_machine.specs.declared.profile.Profile.{Profile}
+use Rattle.pp_deck.specs.DeckLine.{Line, central_size, central_words, section, dead_start}
+use Rattle.pp_deck.specs.DeckLoad.{last_of, word_among, word_for, central_word_for, start_in, lines_for, names, is_named, is_dead_start, asks_dead_start, tabulate, each_processor, memory_of, central_loaded, processor_with, processor_loaded}
+use Rattle.pp_deck.specs.DeckMeaning.{LoadedDeck, set_by}
+use Rattle.pp_deck.proofs.ListLemmas.{tabulate_is, tabulate_same}
+use Rattle.pp_deck.proofs.MemoryLemmas.{length-central_loaded}
+use Rattle.pp_deck.proofs.SectionLinesLemmas.{AllLines, all_append, or_false, flat_only, filter_flat, any_flat, any_none, KeepCurrent, keep_append, keep_flat, unnamed_empty, section_if, held_by_sections, named_by_sections, unset_by_sections}
+use Rattle.pp_listing.proofs.InstructionLemmas.{word_lines, start_by, IsOwn, instructions_own, start_own, all_keep, all_unnamed, all_no_central, all_no_request, among_at, among_before, instructions_hold, no_words, no_start}
+use Rattle.pp_deck.proofs.LoadedRangeLemmas.{length-memory_of}
+use Rattle.pp_listing.proofs.NumberLemmas.{number_count, processor_counts}
+
+-- the lines of a processor behind its heading
+abbrev pub body_of : Processor → List Line
+body_of pp = word_lines 0 pp.memory ++ start_by pp.state pp.p pp.a
+
+pub body_own : (pp : Processor) → AllLines IsOwn (body_of pp)
+body_own pp = all_append IsOwn (word_lines 0 pp.memory) (start_by pp.state pp.p pp.a) (instructions_own 0 pp.memory) (start_own pp.state pp.p pp.a)
+
+-- the lines of central words
+abbrev pub word_line : List ℕ → ℕ → List Line
+word_line central a = cond (eqb (get_or central a 0) 0) [] (central_words a (get_or central a 0 ∷ []) ∷ [])
+
+abbrev pub central_lines : List ℕ → List Line
+central_lines central = flat_map (word_line central) (range_with_len 0 (length central))
+
+-- the lines before the sections
+abbrev pub dead_line : Bool → List Line
+dead_line dead = cond dead (dead_start ∷ []) []
+
+abbrev pub head_of : List ℕ → Bool → List Line
+head_of central dead = (central_size (length central) ∷ central_lines central) ++ dead_line dead
+
+-- all lines: those of the processors come from functions of the number
+abbrev pub lines_of_parts : List ℕ → Bool → (ℕ → Bool) → (ℕ → Processor) → List Line
+lines_of_parts central dead named pp = head_of central dead ++ flat_map (section_if named (λ n. body_of (pp n))) (range_with_len 0 number_count)
+
+-- ---- central words
+
+word_if : (a w : ℕ) (b : Bool) → eqb w 0 ≡ b → unwrap_or (last_of (filter_map (central_word_for a) (cond b [] (central_words a (w ∷ []) ∷ [])))) 0 ≡ w
+word_if a w true e = sym (eqb-true w 0 e)
+word_if a w false e = ap (λ (o : Option ℕ). unwrap_or (last_of (cons_option o [])) 0) (among_at a 0 a (w ∷ []) (omega arith))
+
+other_word : (n m w : ℕ) → (n ≡ m → ⊥) → (n ≡ m) ⊎ ((n < m) ⊎ (m < n)) → word_among m (w ∷ []) n ≡ None
+other_word n m w ne (inl e) = absurd (ne e)
+other_word n m w ne (inr (inl less)) = among_before m n (w ∷ []) less
+other_word n m w ne (inr (inr more)) = among_at m (suc (n - m - 1)) n (w ∷ []) (omega (arith, more))
+
+no_word_if : (n m w : ℕ) (b : Bool) → (n ≡ m → ⊥) → filter_map (central_word_for n) (cond b [] (central_words m (w ∷ []) ∷ [])) ≡ []
+no_word_if n m w true ne = refl
+no_word_if n m w false ne = ap (λ (o : Option ℕ). cons_option o []) (other_word n m w ne (cases_order n m))
+
+head_words : (central : List ℕ) (dead : Bool) (a : ℕ) → filter_map (central_word_for a) (head_of central dead) ≡ filter_map (central_word_for a) (central_lines central)
+head_words central true a =
+    filter_map-append (central_word_for a) (central_size (length central) ∷ central_lines central) (dead_start ∷ []) ∙ append-nil (filter_map (central_word_for a) (central_lines central))
+head_words central false a = ap (filter_map (central_word_for a)) (append-nil (central_size (length central) ∷ central_lines central))
+
+pub central_held : (central : List ℕ) (dead : Bool) (named : ℕ → Bool) (pp : ℕ → Processor) (a : ℕ) → a < length central → unwrap_or (last_of (filter_map (central_word_for a) (lines_of_parts central dead named pp))) 0 ≡ get_or central a 0
+central_held central dead named pp a lt =
+    ap (λ (ws : List ℕ). unwrap_or (last_of ws) 0)
+    (unset_by_sections (central_word_for a) named (λ n. body_of (pp n)) number_count (head_of central dead) (λ m. refl) (λ m. all_no_central a (body_of (pp m)) (body_own (pp m)))
+    ∙ head_words central dead a
+    ∙ filter_flat (central_word_for a) (word_line central) (range_with_len 0 (length central))
+    ∙ flat_only (λ m. filter_map (central_word_for a) (word_line central m)) a 0 (length central) (λ m ne. no_word_if a m (get_or central m 0) (eqb (get_or central m 0) 0) ne) (omega arith) (omega (arith, lt)))
+    ∙ word_if a (get_or central a 0) (eqb (get_or central a 0) 0) refl
+
+-- ---- the lines before the sections
+
+line_keeps : (a w : ℕ) (b : Bool) → KeepCurrent (cond b [] (central_words a (w ∷ []) ∷ []))
+line_keeps a w true = tt
+line_keeps a w false = (λ c. refl, tt)
+
+dead_keeps : (dead : Bool) → KeepCurrent (dead_line dead)
+dead_keeps true = (λ c. refl, tt)
+dead_keeps false = tt
+
+head_keeps : (central : List ℕ) (dead : Bool) → KeepCurrent (head_of central dead)
+head_keeps central dead =
+    keep_append (central_size (length central) ∷ central_lines central) (dead_line dead)
+    (λ c. refl, keep_flat (word_line central) (range_with_len 0 (length central)) (λ a. line_keeps a (get_or central a 0) (eqb (get_or central a 0) 0))) (dead_keeps dead)
+
+-- whether a line of the head has a trait that only a line DEAD may have
+line_without : (p : Line → Bool) (a w : ℕ) (b : Bool) → p (central_words a (w ∷ [])) ≡ false → list_any p (cond b [] (central_words a (w ∷ []) ∷ [])) ≡ false
+line_without p a w true e = refl
+line_without p a w false e = ap (λ (b : Bool). b || false) e
+
+dead_if : (p : Line → Bool) (dead : Bool) → list_any p (dead_line dead) ≡ (dead && p dead_start)
+dead_if p true = or_false (p dead_start)
+dead_if p false = refl
+
+any_head : (p : Line → Bool) (central : List ℕ) (dead : Bool) → p (central_size (length central)) ≡ false → ((a w : ℕ) → p (central_words a (w ∷ [])) ≡ false) → list_any p (head_of central dead) ≡ (dead && p dead_start)
+any_head p central dead no_size no_word =
+    list_any-append p (central_size (length central) ∷ central_lines central) (dead_line dead)
+    ∙ ap (λ (b : Bool). (b || list_any p (central_lines central)) || list_any p (dead_line dead)) no_size
+    ∙ ap (λ (b : Bool). b || list_any p (dead_line dead))
+    (any_flat p (word_line central) (range_with_len 0 (length central))
+    ∙ any_none (λ a. list_any p (word_line central a)) 0 (length central) (λ a le. line_without p a (get_or central a 0) (eqb (get_or central a 0) 0) (no_word a (get_or central a 0))))
+    ∙ dead_if p dead
+
+and_false : (b : Bool) → (b && false) ≡ false
+and_false true = refl
+and_false false = refl
+
+and_true : (b : Bool) → (b && true) ≡ b
+and_true true = refl
+and_true false = refl
+
+head_unnamed : (n : ℕ) (central : List ℕ) (dead : Bool) → list_any (names n) (head_of central dead) ≡ false
+head_unnamed n central dead = any_head (names n) central dead refl (λ a w. refl) ∙ and_false dead
+
+-- ---- names
+
+pub named_held : (central : List ℕ) (dead : Bool) (named : ℕ → Bool) (pp : ℕ → Processor) (n : ℕ) → n < number_count → is_named (lines_of_parts central dead named pp) n ≡ named n
+named_held central dead named pp n lt =
+    named_by_sections named (λ m. body_of (pp m)) n number_count (head_of central dead) (λ m. all_unnamed n (body_of (pp m)) (body_own (pp m))) (head_unnamed n central dead) lt
+
+-- ---- dead start
+
+section_unasking : (m : ℕ) (b : Bool) (body : List Line) → AllLines IsOwn body → list_any is_dead_start (cond b (section m ∷ body) []) ≡ false
+section_unasking m true body own = all_no_request body own
+section_unasking m false body own = refl
+
+pub asked_held : (central : List ℕ) (dead : Bool) (named : ℕ → Bool) (pp : ℕ → Processor) → asks_dead_start (lines_of_parts central dead named pp) ≡ dead
+asked_held central dead named pp =
+    list_any-append is_dead_start (head_of central dead) (flat_map (section_if named (λ n. body_of (pp n))) (range_with_len 0 number_count))
+    ∙ ap (λ (b : Bool). b || list_any is_dead_start (flat_map (section_if named (λ n. body_of (pp n))) (range_with_len 0 number_count))) (any_head is_dead_start central dead refl (λ a w. refl) ∙ and_true dead)
+    ∙ ap (λ (b : Bool). dead || b)
+    (any_flat is_dead_start (section_if named (λ n. body_of (pp n))) (range_with_len 0 number_count)
+    ∙ any_none (λ m. list_any is_dead_start (section_if named (λ n. body_of (pp n)) m)) 0 number_count (λ m le. section_unasking m (named m) (body_of (pp m)) (body_own (pp m))))
+    ∙ or_false dead
+
+-- ---- processors
+
+own_held : {A : Type 0} (f : Line → Option A) (central : List ℕ) (dead : Bool) (named : ℕ → Bool) (pp : ℕ → Processor) (n : ℕ) → ((m : ℕ) → f (section m) ≡ None) → n < number_count → filter_map f (lines_for n (lines_of_parts central dead named pp)) ≡ cond (named n) (filter_map f (body_of (pp n))) []
+own_held f central dead named pp n none lt =
+    held_by_sections f named (λ m. body_of (pp m)) n number_count (head_of central dead) none (λ m. all_keep (body_of (pp m)) (body_own (pp m))) (head_keeps central dead) lt
+
+memory_is : (lines : List Line) → memory_of lines ≡ tabulate place_count (λ place. unwrap_or (last_of (filter_map (word_for place) lines)) 0)
+unfolding memory_of
+memory_is lines = refl
+
+-- a named processor has its memory
+body_words : (pp : Processor) (place : ℕ) → unwrap_or (last_of (filter_map (word_for place) (body_of pp))) 0 ≡ get_or pp.memory place 0
+body_words pp place =
+    ap (λ (ws : List ℕ). unwrap_or (last_of ws) 0)
+    (filter_map-append (word_for place) (word_lines 0 pp.memory) (start_by pp.state pp.p pp.a)
+    ∙ ap (λ (ws : List ℕ). filter_map (word_for place) (word_lines 0 pp.memory) ++ ws) (no_words place pp.state pp.p pp.a)
+    ∙ append-nil (filter_map (word_for place) (word_lines 0 pp.memory)))
+    ∙ instructions_hold 0 place place pp.memory (omega arith)
+
+memory_held : (central : List ℕ) (dead : Bool) (named : ℕ → Bool) (pp : ℕ → Processor) (n : ℕ) → n < number_count → named n ≡ true → length (pp n).memory ≡ place_count → memory_of (lines_for n (lines_of_parts central dead named pp)) ≡ (pp n).memory
+memory_held central dead named pp n lt here long =
+    memory_is (lines_for n (lines_of_parts central dead named pp))
+    ∙ sym (tabulate_is 0 (pp n).memory place_count (λ place. unwrap_or (last_of (filter_map (word_for place) (lines_for n (lines_of_parts central dead named pp)))) 0) long
+    (λ i within. sym (ap (λ (ws : List ℕ). unwrap_or (last_of ws) 0)
+    (own_held (word_for i) central dead named pp n (λ m. refl) lt ∙ ap (λ (b : Bool). cond b (filter_map (word_for i) (body_of (pp n))) []) here) ∙ body_words (pp n) i)))
+
+-- and its start
+body_start : (pp : Processor) → filter_map start_in (body_of pp) ≡ filter_map start_in (start_by pp.state pp.p pp.a)
+body_start pp =
+    filter_map-append start_in (word_lines 0 pp.memory) (start_by pp.state pp.p pp.a)
+    ∙ ap (λ (xs : List (ℕ × ℕ)). xs ++ filter_map start_in (start_by pp.state pp.p pp.a)) (no_start 0 pp.memory)
+
+module _ (profile : Profile) where
+  starts_of : (memory : List ℕ) (o : Option (ℕ × ℕ)) → last_of (filter_map start_in (start_by (processor_with profile memory o).state (processor_with profile memory o).p (processor_with profile memory o).a)) ≡ o
+  starts_of memory None = refl
+  starts_of memory (Some s) = refl
+
+  start_held : (central : List ℕ) (dead : Bool) (named : ℕ → Bool) (pp : ℕ → Processor) (n : ℕ) → n < number_count → named n ≡ true → (memory : List ℕ) (o : Option (ℕ × ℕ)) → pp n ≡ processor_with profile memory o → last_of (filter_map start_in (lines_for n (lines_of_parts central dead named pp))) ≡ o
+  start_held central dead named pp n lt here memory o is =
+      ap last_of (own_held start_in central dead named pp n (λ m. refl) lt ∙ ap (λ (b : Bool). cond b (filter_map start_in (body_of (pp n))) []) here ∙ body_start (pp n))
+      ∙ ap (λ (q : Processor). last_of (filter_map start_in (start_by q.state q.p q.a))) is
+      ∙ starts_of memory o
+
+  -- ---- the whole
+
+  processor_is : (lines : List Line) (n : ℕ) → processor_loaded profile lines n ≡ processor_with profile (memory_of (lines_for n lines)) (last_of (filter_map start_in (lines_for n lines)))
+  unfolding processor_loaded
+  processor_is lines n = refl
+
+  memory_with : (memory : List ℕ) (o : Option (ℕ × ℕ)) → (processor_with profile memory o).memory ≡ memory
+  memory_with memory None = refl
+  memory_with memory (Some s) = refl
+
+  processor_named : (central : List ℕ) (dead : Bool) (named : ℕ → Bool) (pp : ℕ → Processor) (lines : List Line) (n : ℕ) → n < number_count → named n ≡ true → pp n ≡ processor_loaded profile lines n → processor_loaded profile (lines_of_parts central dead named pp) n ≡ processor_loaded profile lines n
+  processor_named central dead named pp lines n lt here is =
+      let memory = memory_of (lines_for n lines) in
+      let o = last_of (filter_map start_in (lines_for n lines)) in
+      let is_with : pp n ≡ processor_with profile memory o = is ∙ processor_is lines n in
+      let its : (pp n).memory ≡ memory = ap (λ (q : Processor). q.memory) is_with ∙ memory_with memory o in
+      processor_is (lines_of_parts central dead named pp) n
+      ∙ ap (λ (ws : List ℕ). processor_with profile ws (last_of (filter_map start_in (lines_for n (lines_of_parts central dead named pp)))))
+      (memory_held central dead named pp n lt here (ap length its ∙ length-memory_of (lines_for n lines)) ∙ its)
+      ∙ ap (processor_with profile memory) (start_held central dead named pp n lt here memory o is_with)
+      ∙ sym (processor_is lines n)
+
+  processor_unnamed : (central : List ℕ) (dead : Bool) (named : ℕ → Bool) (pp : ℕ → Processor) (lines : List Line) (n : ℕ) → n < number_count → named n ≡ false → list_any (names n) lines ≡ false → processor_loaded profile (lines_of_parts central dead named pp) n ≡ processor_loaded profile lines n
+  processor_unnamed central dead named pp lines n lt absent none =
+      processor_is (lines_of_parts central dead named pp) n
+      ∙ ap (λ (ls : List Line). processor_with profile (memory_of ls) (last_of (filter_map start_in ls)))
+      (unnamed_empty n (lines_of_parts central dead named pp) (named_held central dead named pp n lt ∙ absent) ∙ sym (unnamed_empty n lines none))
+      ∙ sym (processor_is lines n)
+
+  processor_held : (central : List ℕ) (dead : Bool) (named : ℕ → Bool) (pp : ℕ → Processor) (lines : List Line) (n : ℕ) → n < number_count → named n ≡ is_named lines n → (named n ≡ true → pp n ≡ processor_loaded profile lines n) → (b : Bool) → named n ≡ b → processor_loaded profile (lines_of_parts central dead named pp) n ≡ processor_loaded profile lines n
+  processor_held central dead named pp lines n lt same is true e = processor_named central dead named pp lines n lt e (is e)
+  processor_held central dead named pp lines n lt same is false e = processor_unnamed central dead named pp lines n lt e (sym same ∙ e)
+
+  -- what a deck is made of
+  abbrev deck_of : ℕ → List Processor → List ℕ → List Bool → LoadedDeck
+  deck_of size pps central named = record { machine = record (new_machine profile size) { processors = pps; central = central }; named = named }
+
+  central_is : (size : ℕ) (lines : List Line) → central_loaded size lines ≡ tabulate size (λ address. unwrap_or (last_of (filter_map (central_word_for address) lines)) 0)
+  unfolding central_loaded
+  central_is size lines = refl
+
+  -- lines that are made of what other lines set, set the same
+  pub set_again : (size : ℕ) (lines : List Line) (dead : Bool) (named : ℕ → Bool) (pp : ℕ → Processor) → ((n : ℕ) → IsTrue (names_processor n) → named n ≡ is_named lines n) → ((n : ℕ) → IsTrue (names_processor n) → named n ≡ true → pp n ≡ processor_loaded profile lines n)
+      → set_by profile size (lines_of_parts (central_loaded size lines) dead named pp) ≡ set_by profile size lines
+  set_again size lines dead named pp named_same pp_same =
+      let again = lines_of_parts (central_loaded size lines) dead named pp in
+      let processors : each_processor (processor_loaded profile again) ≡ each_processor (processor_loaded profile lines) =
+      tabulate_same no_processor processor_count (λ place. processor_loaded profile again (processor_number place)) (λ place. processor_loaded profile lines (processor_number place))
+      (λ place lt. let n = processor_number place in let is = number_named place lt in processor_held (central_loaded size lines) dead named pp lines n (processor_counts n is) (named_same n is) (pp_same n is) (named n) refl) in
+      let names_are : each_processor (is_named again) ≡ each_processor (is_named lines) =
+      tabulate_same false processor_count (λ place. is_named again (processor_number place)) (λ place. is_named lines (processor_number place))
+      (λ place lt. let n = processor_number place in let is = number_named place lt in named_held (central_loaded size lines) dead named pp n (processor_counts n is) ∙ named_same n is) in
+      let central : central_loaded size again ≡ central_loaded size lines =
+      central_is size again
+      ∙ sym (tabulate_is 0 (central_loaded size lines) size (λ address. unwrap_or (last_of (filter_map (central_word_for address) again)) 0) (length-central_loaded size lines)
+      (λ a lt. sym (central_held (central_loaded size lines) dead named pp a (omega (arith, lt, length-central_loaded size lines))))) in
+      ap (λ (pps : List Processor). deck_of size pps (central_loaded size again) (each_processor (is_named again))) processors
+      ∙ ap (λ (words : List ℕ). deck_of size (each_processor (processor_loaded profile lines)) words (each_processor (is_named again))) central
+      ∙ ap (deck_of size (each_processor (processor_loaded profile lines)) (central_loaded size lines)) names_are

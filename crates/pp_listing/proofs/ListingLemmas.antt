@@ -1,0 +1,271 @@
+-- The listing of a deck, read as a deck.
+use Rattle.std.proofs.Common.{◌≡◌, ℕ, zero, suc, ◌+◌, ◌^◌, ◌<◌, ◌≤◌, Bool, true, false, cond, eqb, List, [], ◌∷◌, ◌++◌, length, get_or, map, Option, Some, None, Ok, Err, refl, sym, ap, subst, ◌∙◌, arith}
+use Rattle.std.specs.Prelude.{IsTrue, ◌&&◌, not, All, position, is_some, nat_lt}
+use Rattle.std.specs.List.{flat_map, list_any, range_with_len}
+use Rattle.std.proofs.lemmas.List.{map-append}
+use Rattle.std.proofs.lemmas.List.Elements.{All-cons, All-nil}
+use Rattle.pp_channel.specs.ChannelNumber.{names_channel}
+use Rattle.pp_machine.specs.MachineState.{MachineState, processor_of, is_opened}
+use Rattle.pp_machine.specs.DeadStart.{waiting_on}
+use Rattle.pp_machine.specs.Processor.{Processor, word_at}
+use Rattle.pp_machine.specs.ProcessorNumber.{names_processor, processor_index}
+use Rattle.pp_machine.specs.Profile.{has_processor}
+use Rattle.pp_machine.specs.declared.profile.Profile.{Profile}
+use Rattle.pp_deck.specs.DeckLine.{Line, nothing, central_size, central_words, section, start, words, dead_start}
+use Rattle.pp_deck.specs.DeckLoad.{processor_loaded, central_loaded, asks_dead_start}
+use Rattle.pp_deck.specs.DeckLoad as load
+use Rattle.pp_deck.specs.DeckMeaning.{LoadedDeck, set_by, with_dead_start, loaded, deck_meaning, meaning_of_lines, faults_in, lines_said, size_of, unless_faulty, unless_foreign, is_foreign}
+use Rattle.pp_deck.specs.DeckProgress.{current_after}
+use Rattle.pp_deck.specs.DeckText.{lines_of}
+use Rattle.pp_deck.proofs.DeadStartLemmas as dead
+use Rattle.pp_deck.proofs.LawLemmas as law
+use Rattle.pp_deck.proofs.LoadedRangeLemmas.{IsSmall, processor_small, central_words_small, said_in_range}
+use Rattle.pp_deck.proofs.MemoryLemmas.{length-central_loaded}
+use Rattle.pp_deck.proofs.NamesLemmas.{named_within}
+use Rattle.pp_deck.proofs.RangeLemmas.{InRange, size_in_range}
+use Rattle.pp_deck.proofs.SectionLinesLemmas.{AllLines, all_append, any_none, any_false, section_if}
+use Rattle.pp_listing.specs.ListedLine.{ListedLine, bare, says, text_line}
+use Rattle.pp_listing.specs.Listing.{ReadsBackAs, central_word_line, dead_start_line, instruction_lines, is_named, is_opened_channel, listed, listing, named_section, numbers, section_lines, start_line}
+use Rattle.pp_listing.proofs.InstructionLemmas.{word_lines, start_by, says_words, says_start, IsOwn, IsReadInSection, instructions_read, start_is_read}
+use Rattle.pp_listing.proofs.ListedLemmas.{body_of, body_own, word_line, central_lines, dead_line, lines_of_parts, asked_held, set_again}
+use Rattle.pp_listing.proofs.ListedLineLemmas.{fields_said}
+use Rattle.pp_listing.proofs.NumberLemmas.{number_count, numbers_are, channel_counts}
+use Rattle.pp_listing.proofs.PrintedLineLemmas.{central_words_read, section_read, dead_start_read}
+use Rattle.pp_listing.proofs.PrintedTextLemmas.{IsReady, meaning_printed, read_lines}
+
+-- ---- the lines are read as they are
+
+own_after : (line : Line) (n : ℕ) → IsOwn line → current_after line (Some n) ≡ Some n
+own_after (words x ws) n h = refl
+own_after (start p a) n h = refl
+own_after (section m) n h = absurd h
+own_after (central_size m) n h = absurd h
+own_after (central_words a ws) n h = absurd h
+own_after nothing n h = absurd h
+own_after dead_start n h = absurd h
+
+module _ (profile : Profile) where
+  ready_append : (size : ℕ) (xs ys : List Line) (c : Option ℕ) → IsReady profile size c xs → ((c : Option ℕ) → IsReady profile size c ys) → IsReady profile size c (xs ++ ys)
+  ready_append size [] ys c h k = k c
+  ready_append size (x ∷ xs) ys c h k = (h.0, ready_append size xs ys (current_after x c) h.1 k)
+
+  ready_each : (size : ℕ) (f : ℕ → List Line) (a n : ℕ) → ((k : ℕ) → a ≤ k → k < a + n → (c : Option ℕ) → IsReady profile size c (f k)) → (c : Option ℕ) → IsReady profile size c (flat_map f (range_with_len a n))
+  ready_each size f a zero h c = tt
+  ready_each size f a (suc n) h c =
+      ready_append size (f a) (flat_map f (range_with_len (a + 1) n)) c (h a (omega arith) (omega arith) c)
+      (ready_each size f (a + 1) n (λ k le lt. h k (omega (arith, le)) (omega (arith, lt))))
+
+  ready_body : (size n : ℕ) (lines : List Line) → AllLines IsOwn lines → AllLines (IsReadInSection profile size) lines → IsReady profile size (Some n) lines
+  ready_body size n [] h k = tt
+  ready_body size n (line ∷ lines) h k =
+      let P : Option ℕ → Type 0 = λ c. IsReady profile size c lines in
+      (k.0, subst P (sym (own_after line n h.0)) (ready_body size n lines h.1 k.1))
+
+  body_read : (size : ℕ) (pp : Processor) → IsSmall pp → AllLines (IsReadInSection profile size) (body_of pp)
+  body_read size pp h =
+      all_append (IsReadInSection profile size) (word_lines 0 pp.memory) (start_by pp.state pp.p pp.a)
+      (instructions_read profile size 0 pp.memory h.memory (omega (arith, h.long))) (start_is_read profile size pp.state pp.p pp.a h.p h.a)
+
+  ready_section : (size n : ℕ) (pp : Processor) (b : Bool) (c : Option ℕ) → (b ≡ true → IsTrue (has_processor profile n)) → (b ≡ true → IsSmall pp) → IsReady profile size c (cond b (section n ∷ body_of pp) [])
+  ready_section size n pp true c has h = (λ b. section_read profile size n b (is_some c) (has refl), ready_body size n (body_of pp) (body_own pp) (body_read size pp (h refl)))
+  ready_section size n pp false c has h = tt
+
+  ready_central : (size a w : ℕ) (b : Bool) (c : Option ℕ) → size ≤ 0o400000 → a < size → w < 8 ^ 20 → IsReady profile size c (cond b [] (central_words a (w ∷ []) ∷ []))
+  ready_central size a w true c most lt small = tt
+  ready_central size a w false c most lt small =
+      (λ b. central_words_read profile size a (w ∷ []) b (is_some c) (omega (arith, most, lt)) (All-cons (λ v. v < 8 ^ 20) w [] small (All-nil (λ v. v < 8 ^ 20))) (omega (arith, lt)), tt)
+
+  ready_dead : (size : ℕ) (dead : Bool) (c : Option ℕ) → IsReady profile size c (dead_line dead)
+  ready_dead size true c = (λ b. dead_start_read profile size b (is_some c), tt)
+  ready_dead size false c = tt
+
+  parts_ready : (central : List ℕ) (dead : Bool) (named : ℕ → Bool) (pp : ℕ → Processor) → length central ≤ 0o400000 → All (λ w. w < 8 ^ 20) central → ((n : ℕ) → named n ≡ true → IsTrue (has_processor profile n)) → ((n : ℕ) → named n ≡ true → IsSmall (pp n))
+      → IsReady profile (length central) None ((central_lines central ++ dead_line dead) ++ flat_map (section_if named (λ n. body_of (pp n))) (range_with_len 0 number_count))
+  parts_ready central dead named pp most small has h =
+      let size = length central in
+      ready_append size (central_lines central ++ dead_line dead) (flat_map (section_if named (λ n. body_of (pp n))) (range_with_len 0 number_count)) None
+      (ready_append size (central_lines central) (dead_line dead) None
+      (ready_each size (word_line central) 0 (length central)
+      (λ a le lt c. let below : a < length central = omega (arith, lt) in
+      ready_central size a (get_or central a 0) (eqb (get_or central a 0) 0) c most below (small a 0 below)) None)
+      (λ c. ready_dead size dead c))
+      (ready_each size (section_if named (λ n. body_of (pp n))) 0 number_count
+      (λ n le lt c. ready_section size n (pp n) (named n) c (has n) (h n)))
+
+-- ---- the lines of a deck, without their comments
+
+says_each : (f : ℕ → List ListedLine) (g : ℕ → List Line) (ns : List ℕ) → ((n : ℕ) → map says (f n) ≡ g n) → map says (flat_map f ns) ≡ flat_map g ns
+says_each f g [] same = refl
+says_each f g (n ∷ ns) same =
+    map-append says (f n) (flat_map f ns) ∙ ap (λ (ls : List Line). ls ++ map says (flat_map f ns)) (same n) ∙ ap (λ (ls : List Line). g n ++ ls) (says_each f g ns same)
+
+says_central : (a w : ℕ) (b : Bool) → map says (cond b [] (bare (central_words a (w ∷ [])) ∷ [])) ≡ cond b [] (central_words a (w ∷ []) ∷ [])
+says_central a w true = refl
+says_central a w false = refl
+
+says_dead : (b : Bool) → map says (cond b (bare dead_start ∷ []) []) ≡ dead_line b
+says_dead true = refl
+says_dead false = refl
+
+says_body : (pp : Processor) → map says (instruction_lines (word_at pp 0) 0 pp.memory ++ start_line pp.state pp.p pp.a) ≡ body_of pp
+says_body pp =
+    map-append says (instruction_lines (word_at pp 0) 0 pp.memory) (start_line pp.state pp.p pp.a)
+    ∙ ap (λ (ls : List Line). ls ++ map says (start_line pp.state pp.p pp.a)) (says_words (word_at pp 0) 0 pp.memory)
+    ∙ ap (λ (ls : List Line). word_lines 0 pp.memory ++ ls) (says_start pp.state pp.p pp.a)
+
+says_section : (n : ℕ) (pp : Processor) (b : Bool) → map says (cond b (section_lines n pp) []) ≡ cond b (section n ∷ body_of pp) []
+says_section n pp true = ap (λ (ls : List Line). section n ∷ ls) (says_body pp)
+says_section n pp false = refl
+
+dead_of : LoadedDeck → Bool
+dead_of deck = list_any (is_opened_channel deck.machine) numbers
+
+names_of : LoadedDeck → ℕ → Bool
+names_of deck n = is_named deck.named n
+
+processors_of : LoadedDeck → ℕ → Processor
+processors_of deck n = processor_of n deck.machine
+
+said : (deck : LoadedDeck) → map says (listed deck) ≡ lines_of_parts deck.machine.central (dead_of deck) (names_of deck) (processors_of deck)
+unfolding listed dead_of names_of processors_of
+said deck =
+    let central = deck.machine.central in
+    let size = bare (central_size (length central)) in
+    let words_of = flat_map (central_word_line central) (range_with_len 0 (length central)) in
+    let sections = flat_map (named_section deck.named deck.machine) numbers in
+    map-append says ((size ∷ words_of) ++ dead_start_line deck.machine) sections
+    ∙ ap (λ (ls : List Line). ls ++ map says sections)
+    (map-append says (size ∷ words_of) (dead_start_line deck.machine)
+    ∙ ap (λ (ls : List Line). (central_size (length central) ∷ ls) ++ map says (dead_start_line deck.machine))
+    (says_each (central_word_line central) (word_line central) (range_with_len 0 (length central)) (λ a. says_central a (get_or central a 0) (eqb (get_or central a 0) 0)))
+    ∙ ap (λ (ls : List Line). (central_size (length central) ∷ central_lines central) ++ ls) (says_dead (list_any (is_opened_channel deck.machine) numbers)))
+    ∙ ap (λ (ls : List Line). ((central_size (length central) ∷ central_lines central) ++ dead_line (list_any (is_opened_channel deck.machine) numbers)) ++ ls)
+    (says_each (named_section deck.named deck.machine) (section_if (λ n. is_named deck.named n) (λ n. body_of (processor_of n deck.machine))) numbers (λ n. says_section n (processor_of n deck.machine) (is_named deck.named n))
+    ∙ ap (flat_map (section_if (λ n. is_named deck.named n) (λ n. body_of (processor_of n deck.machine)))) numbers_are)
+
+listing_is : (deck : LoadedDeck) → listing deck ≡ flat_map text_line (listed deck)
+unfolding listing
+listing_is deck = refl
+
+-- ---- what lines load
+
+and_left : (a b : Bool) → (a && b) ≡ true → a ≡ true
+and_left true b e = refl
+and_left false b e = absurd (cc)
+
+numbered : (deck : LoadedDeck) (n : ℕ) → names_of deck n ≡ true → IsTrue (names_processor n)
+unfolding names_of
+numbered deck n e = and_left (names_processor n) (get_or deck.named (processor_index n) false) e
+
+awake_if : (asked number named : Bool) → named ≡ true → (asked && (number && not named)) ≡ false
+awake_if true true named e = ap not e
+awake_if true false named e = refl
+awake_if false number named e = refl
+
+unopened : (b is_open : Bool) → (b ≡ true → is_open ≡ false) → (b && is_open) ≡ false
+unopened true is_open h = h refl
+unopened false is_open h = refl
+
+none_opened : (deck : LoadedDeck) → ((c : ℕ) → IsTrue (names_channel c) → is_opened c deck.machine ≡ false) → dead_of deck ≡ false
+unfolding dead_of
+none_opened deck none =
+    ap (list_any (is_opened_channel deck.machine)) numbers_are
+    ∙ any_none (is_opened_channel deck.machine) 0 number_count (λ c le. unopened (names_channel c) (is_opened c deck.machine) (none c))
+
+not_opened : (deck : LoadedDeck) → dead_of deck ≡ false → (c : ℕ) → IsTrue (names_channel c) → is_opened c deck.machine ≡ false
+unfolding dead_of
+not_opened deck e c named =
+    sym (ap (λ (b : Bool). b && is_opened c deck.machine) named)
+    ∙ any_false (is_opened_channel deck.machine) c 0 number_count (sym (ap (list_any (is_opened_channel deck.machine)) numbers_are) ∙ e) (omega arith) (omega (arith, channel_counts c named))
+
+-- ---- the listing of what lines load
+
+module _ (profile : Profile) where
+  name_here : (size : ℕ) (lines : List Line) (n : ℕ) → IsTrue (names_processor n) → names_of (loaded profile size lines) n ≡ load.is_named lines n
+  unfolding names_of
+  name_here size lines n named =
+      ap (λ (list : List Bool). names_processor n && get_or list (processor_index n) false) (dead.names_stay (asks_dead_start lines) (set_by profile size lines))
+      ∙ ap (λ (b : Bool). b && get_or (set_by profile size lines).named (processor_index n) false) named
+      ∙ law.named_here profile size lines n named
+
+  processor_here : (size : ℕ) (lines : List Line) (n : ℕ) → IsTrue (names_processor n) → names_of (loaded profile size lines) n ≡ true → processors_of (loaded profile size lines) n ≡ processor_loaded profile lines n
+  unfolding processors_of
+  processor_here size lines n named is =
+      let set : MachineState = (set_by profile size lines).machine in
+      dead.processor_is profile size lines (asks_dead_start lines) n refl named
+      ∙ ap (λ (b : Bool). cond b (waiting_on n (processor_of n set)) (processor_of n set)) (awake_if (asks_dead_start lines) (has_processor profile n) (load.is_named lines n) (sym (name_here size lines n named) ∙ is))
+      ∙ law.processor_here profile size lines n named
+
+  -- the parts of a deck that lines load
+  parts : ℕ → List Line → List Line
+  parts size lines = lines_of_parts (central_loaded size lines) (dead_of (loaded profile size lines)) (names_of (loaded profile size lines)) (processors_of (loaded profile size lines))
+
+  said_here : (size : ℕ) (lines : List Line) → map says (listed (loaded profile size lines)) ≡ parts size lines
+  unfolding parts
+  said_here size lines =
+      let deck = loaded profile size lines in
+      said deck ∙ ap (λ (central : List ℕ). lines_of_parts central (dead_of deck) (names_of deck) (processors_of deck)) (dead.central_stays (asks_dead_start lines) (set_by profile size lines))
+
+  parts_again : (size : ℕ) (lines : List Line) → loaded profile size (parts size lines) ≡ loaded profile size lines
+  unfolding parts
+  parts_again size lines =
+      let deck = loaded profile size lines in
+      ap (λ (b : Bool). with_dead_start b (set_by profile size (lines_of_parts (central_loaded size lines) (dead_of deck) (names_of deck) (processors_of deck)))) (asked_held (central_loaded size lines) (dead_of deck) (names_of deck) (processors_of deck))
+      ∙ ap (with_dead_start (dead_of deck)) (set_again profile size lines (dead_of deck) (names_of deck) (processors_of deck) (name_here size lines) (processor_here size lines))
+      ∙ dead.dead_start_shows profile size lines (asks_dead_start lines) (dead_of deck) refl (none_opened deck) (not_opened deck)
+
+  parts_read : (size : ℕ) (lines : List Line) → 1 ≤ size → size ≤ 0o400000 → AllLines InRange lines → ((n : ℕ) → load.is_named lines n ≡ true → IsTrue (has_processor profile n)) → meaning_of_lines profile (map fields_said (parts size lines) ++ [] ∷ []) ≡ Ok (loaded profile size (parts size lines))
+  unfolding parts
+  parts_read size lines least most small has =
+      let deck = loaded profile size lines in
+      let central = central_loaded size lines in
+      let dead_asked = dead_of deck in
+      let long : length central ≡ size = length-central_loaded size lines in
+      let small_pp : (n : ℕ) → names_of deck n ≡ true → IsSmall (processors_of deck n) = λ n is.
+      (let Q : Processor → Type 0 = λ pp. IsSmall pp in subst Q (sym (processor_here size lines n (numbered deck n is) is)) (processor_small profile n lines small)) in
+      read_lines profile (length central) ((central_lines central ++ dead_line dead_asked) ++ flat_map (section_if (names_of deck) (λ n. body_of (processors_of deck n))) (range_with_len 0 number_count)) (omega (arith, least, long)) (omega (arith, most, long))
+      (parts_ready profile central dead_asked (names_of deck) (processors_of deck) (omega (arith, most, long)) (central_words_small size lines small) (λ n is. has n (sym (name_here size lines n (numbered deck n is)) ∙ is)) small_pp)
+      ∙ ap (λ (n : ℕ). Ok (loaded profile n (lines_of_parts central dead_asked (names_of deck) (processors_of deck)))) long
+
+  loaded_listing : (size : ℕ) (lines : List Line) → 1 ≤ size → size ≤ 0o400000 → AllLines InRange lines → ((n : ℕ) → load.is_named lines n ≡ true → IsTrue (has_processor profile n)) → length (listing (loaded profile size lines)) ≤ 1048576 → deck_meaning profile (listing (loaded profile size lines)) ≡ Ok (loaded profile size lines)
+  loaded_listing size lines least most small has short =
+      let its = listing_is (loaded profile size lines) in
+      ap (deck_meaning profile) its
+      ∙ meaning_printed profile (listed (loaded profile size lines)) (omega (arith, short, ap length its))
+      ∙ ap (λ (ls : List Line). meaning_of_lines profile (map fields_said ls ++ [] ∷ [])) (said_here size lines)
+      ∙ parts_read size lines least most small has
+      ∙ ap (λ (deck : LoadedDeck). Ok deck) (parts_again size lines)
+
+  -- ---- each deck that a text means
+
+  -- a deck whose listing, where it is no longer than a deck may be, means the deck
+  ReadsBack : LoadedDeck → Type 0
+  ReadsBack deck = length (listing deck) ≤ 1048576 → deck_meaning profile (listing deck) ≡ Ok deck
+
+  deck_is : (size : ℕ) (lines : List Line) (faults : List _) (deck : LoadedDeck) → unless_faulty faults (loaded profile size lines) ≡ Ok deck → loaded profile size lines ≡ deck
+  deck_is size lines [] deck e = cc
+  deck_is size lines (fault ∷ faults) deck e = absurd (cc)
+
+  of_lines : (lines : List (List (List ℕ))) (deck : LoadedDeck) → meaning_of_lines profile lines ≡ Ok deck → ReadsBack deck
+  unfolding meaning_of_lines ReadsBack
+  of_lines lines deck e =
+      let size = size_in_range lines in
+      let said_lines = lines_said profile lines in
+      subst ReadsBack (deck_is (size_of lines) said_lines (faults_in profile lines) deck e)
+      (loaded_listing (size_of lines) said_lines size.0 size.1 (said_in_range profile lines) (λ n is. named_within profile lines n (law.some_name n said_lines is)))
+
+  of_ascii : (text : List ℕ) (o : Option ℕ) (deck : LoadedDeck) → unless_foreign profile text o ≡ Ok deck → ReadsBack deck
+  of_ascii text None deck e = of_lines (lines_of text) deck e
+  of_ascii text (Some i) deck e = absurd (cc)
+
+  of_short : (text : List ℕ) (b : Bool) (fault : _) (deck : LoadedDeck) → cond b (Err fault) (unless_foreign profile text (position is_foreign text)) ≡ Ok deck → ReadsBack deck
+  of_short text true fault deck e = absurd (cc)
+  of_short text false fault deck e = of_ascii text (position is_foreign text) deck e
+
+  pub listing_is_deck : (text : List ℕ) (deck : LoadedDeck) → deck_meaning profile text ≡ Ok deck → length (listing deck) ≤ 1048576 → deck_meaning profile (listing deck) ≡ Ok deck
+  unfolding deck_meaning ReadsBack
+  listing_is_deck text deck e short = of_short text (nat_lt 1048576 (length text)) _ deck e short
+
+pub reads_back : (text : List ℕ) (deck : LoadedDeck) → text ≡ listing deck → ReadsBackAs text deck
+reads_back text deck is =
+    λ source e short. ap (deck_meaning deck.machine.profile) is ∙ listing_is_deck deck.machine.profile source deck e (omega (arith, short, ap length is))

@@ -1,0 +1,135 @@
+-- A text of printed lines is read as these lines, one after another.
+use Rattle.std.proofs.Common.{◌≡◌, ℕ, ◌+◌, ◌<◌, ◌≤◌, Bool, true, false, List, [], ◌∷◌, ◌++◌, length, drop, get_or, map, fold, Option, Some, None, Ok, refl, sym, ap, subst, ◌∙◌, arith, append_assoc, ltb, le-ltb}
+use Rattle.std.specs.Prelude.{nat_le, position, is_some}
+use Rattle.std.specs.List.{list_all, flat_map, slice_split, All}
+use Rattle.std.proofs.lemmas.Bool.{leb-true, le-leb, ne_eqb, cond-false}
+use Rattle.std.proofs.lemmas.List.{length-drop}
+use Rattle.std.proofs.lemmas.List.Folds.{list_all-append}
+use Rattle.std.proofs.lemmas.List.Sums.{AllPass-from_list_all}
+use Rattle.std.proofs.lemmas.List.Splits.{slice_split_at}
+use Rattle.std.proofs.lemmas.List.Quantifiers.{position-Some}
+use Rattle.pp_machine.specs.declared.profile.Profile.{Profile}
+use Rattle.pp_deck.specs.DeckLine.{Line, line_behind, central_size}
+use Rattle.pp_deck.specs.DeckMeaning.{LoadedDeck, deck_meaning, meaning_of_lines, is_foreign, unless_foreign, size_of, loaded, with_dead_start}
+use Rattle.pp_deck.specs.DeckProgress.{Progress, before_lines, after_line, after_lines, current_after, deck_so_far, progress_of}
+use Rattle.pp_deck.specs.DeckText.{is_line_feed, fields_of, lines_of}
+use Rattle.pp_deck.proofs.LinesLemmas.{next_line}
+use Rattle.pp_deck.proofs.ProgressLemmas.{after_lines_is}
+use Rattle.pp_deck.proofs.ReadingLemmas.{ReadTo, read_none, read_more, read_blank, read_all}
+use Rattle.pp_listing.specs.ListedLine.{ListedLine, says, listed_text, text_line}
+use Rattle.pp_deck.proofs.FieldTextLemmas.{is_plain, and_left, and_right, and_both, plain_least, plain_most, no_fields, fields_of_plain}
+use Rattle.pp_listing.proofs.ListedLineLemmas.{fields_said, line_fields, line_plain}
+use Rattle.pp_listing.proofs.PrintedLineLemmas.{central_size_read, size_read}
+
+-- ---- the lines of the text
+
+no_line_feed : (line : ListedLine) → All (λ c. is_line_feed c ≡ false) (listed_text line)
+no_line_feed line = λ k d lt.
+    let least = plain_least (get_or (listed_text line) k d) (AllPass-from_list_all is_plain (listed_text line) (line_plain line) k d lt) in
+    ne_eqb (get_or (listed_text line) k d) 10 (λ e. absurd (omega (arith, least, e)))
+
+line_first : (line : ListedLine) (rest : List ℕ) → lines_of (text_line line ++ rest) ≡ fields_said (says line) ∷ lines_of rest
+unfolding lines_of
+line_first line rest =
+    ap (λ (text : List ℕ). map fields_of (slice_split is_line_feed text)) (append_assoc (listed_text line) (10 ∷ []) rest)
+    ∙ ap (map fields_of) (slice_split_at is_line_feed (listed_text line) 10 rest (no_line_feed line) refl)
+    ∙ ap (λ (fields : List (List ℕ)). fields ∷ map fields_of (slice_split is_line_feed rest)) (fields_of_plain (listed_text line) (line_plain line) ∙ line_fields line)
+
+no_text : lines_of [] ≡ [] ∷ []
+unfolding lines_of
+no_text = ap (λ (fields : List (List ℕ)). fields ∷ []) no_fields
+
+-- each line, and behind the last line feed a line without fields
+pub lines_printed : (lines : List ListedLine) → lines_of (flat_map text_line lines) ≡ map fields_said (map says lines) ++ [] ∷ []
+lines_printed [] = no_text
+lines_printed (line ∷ lines) = line_first line (flat_map text_line lines) ∙ ap (λ (more : List (List (List ℕ))). fields_said (says line) ∷ more) (lines_printed lines)
+
+-- ---- no byte is foreign
+
+is_ascii : ℕ → Bool
+is_ascii c = nat_le c 127
+
+plain_ascii : (text : List ℕ) → list_all is_plain text ≡ true → list_all is_ascii text ≡ true
+unfolding is_ascii
+plain_ascii [] e = refl
+plain_ascii (c ∷ text) e =
+    let most = plain_most c (and_left (is_plain c) (list_all is_plain text) e) in
+    and_both (nat_le c 127) (list_all is_ascii text) (le-leb c 127 (omega (arith, most))) (plain_ascii text (and_right (is_plain c) (list_all is_plain text) e))
+
+ascii_append : (xs ys : List ℕ) → list_all is_ascii xs ≡ true → list_all is_ascii ys ≡ true → list_all is_ascii (xs ++ ys) ≡ true
+ascii_append xs ys h k = list_all-append is_ascii xs ys ∙ and_both (list_all is_ascii xs) (list_all is_ascii ys) h k
+
+end_ascii : list_all is_ascii (10 ∷ []) ≡ true
+unfolding is_ascii
+end_ascii = refl
+
+text_ascii : (lines : List ListedLine) → list_all is_ascii (flat_map text_line lines) ≡ true
+text_ascii [] = refl
+text_ascii (line ∷ lines) =
+    ascii_append (text_line line) (flat_map text_line lines) (ascii_append (listed_text line) (10 ∷ []) (plain_ascii (listed_text line) (line_plain line)) end_ascii) (text_ascii lines)
+
+none_foreign : (text : List ℕ) → list_all is_ascii text ≡ true → (o : Option ℕ) → position is_foreign text ≡ o → position is_foreign text ≡ None
+unfolding is_ascii
+none_foreign text h None e = e
+none_foreign text h (Some i) e =
+    let there = position-Some is_foreign text i 0 e in
+    let most = leb-true (get_or text i 0) 127 (AllPass-from_list_all is_ascii text h i 0 there.0) in
+    let least = leb-true 128 (get_or text i 0) there.1 in
+    absurd (omega (arith, most, least))
+
+pub meaning_printed : (profile : Profile) (lines : List ListedLine) → length (flat_map text_line lines) ≤ 1048576 → deck_meaning profile (flat_map text_line lines) ≡ meaning_of_lines profile (map fields_said (map says lines) ++ [] ∷ [])
+unfolding deck_meaning
+meaning_printed profile lines le =
+    let text = flat_map text_line lines in
+    cond-false (ltb 1048576 (length text)) _ (unless_foreign profile text (position is_foreign text)) (le-ltb 1048576 (length text) le)
+    ∙ ap (unless_foreign profile text) (none_foreign text (text_ascii lines) (position is_foreign text) refl)
+    ∙ ap (meaning_of_lines profile) (lines_printed lines)
+
+-- ---- reading the lines
+
+after_current : (progress : Progress) (line : Line) → (after_line progress line).current ≡ current_after line progress.current
+unfolding after_line
+after_current progress line = refl
+
+-- the deck behind all lines
+abbrev deck_after : Progress → LoadedDeck
+deck_after progress = with_dead_start progress.asks_dead_start (deck_so_far progress)
+
+module _ (profile : Profile) where
+  -- each line is read as it is, behind those before it, where this is the section before the first
+  abbrev pub IsReady : ℕ → Option ℕ → List Line → Type 0
+  IsReady size current [] = Unit {0}
+  IsReady size current (line ∷ lines) = ((b : Bool) → line_behind profile size b (is_some current) (fields_said line) ≡ Ok line) × IsReady size (current_after line current) lines
+
+  read_rest : (size : ℕ) (all : List (List (List ℕ))) (lines : List Line) (k : ℕ) (progress : Progress) (b : Bool) → size_of all ≡ size → ReadTo profile all k progress b → map fields_said lines ++ [] ∷ [] ≡ drop k all → IsReady size progress.current lines → meaning_of_lines profile all ≡ Ok (deck_after (fold after_line progress lines))
+  read_rest size all [] k progress b is h e ready =
+      let next = next_line all ([] ∷ []) [] k [] e refl in
+      let blank = read_blank profile all k progress b h next.within next.here in
+      let long = ap length next.behind in
+      read_all profile all (k + 1) progress b blank (at_end k (length all) (drop_long (k + 1) all long) next.within)
+    where
+      drop_long : (n : ℕ) (xs : List (List (List ℕ))) → 0 ≡ length (drop n xs) → length xs ≤ n
+      drop_long n xs e = omega (arith, e, length-drop n xs)
+
+      at_end : (k n : ℕ) → n ≤ k + 1 → k < n → k + 1 ≡ n
+      at_end k n le lt = omega (arith, le, lt)
+  read_rest size all (line ∷ lines) k progress b is h e ready =
+      let next = next_line all (fields_said line ∷ (map fields_said lines ++ [] ∷ [])) (map fields_said lines ++ [] ∷ []) k (fields_said line) e refl in
+      let reads : line_behind profile (size_of all) b (is_some progress.current) (get_or all k []) ≡ Ok line =
+      ap (λ (n : ℕ). line_behind profile n b (is_some progress.current) (get_or all k [])) is ∙ ap (line_behind profile size b (is_some progress.current)) next.here ∙ ready.0 b in
+      let more = read_more profile all k progress b line h next.within reads in
+      let Q : Option ℕ → Type 0 = λ c. IsReady size c lines in
+      read_rest size all lines (k + 1) (after_line progress line) _ is more next.behind (subst Q (sym (after_current progress line)) ready.1)
+
+  -- lines behind a first line that says the size of central memory
+  pub read_lines : (n : ℕ) (lines : List Line) → 1 ≤ n → n ≤ 0o400000 → IsReady n None lines → meaning_of_lines profile (map fields_said (central_size n ∷ lines) ++ [] ∷ []) ≡ Ok (loaded profile n (central_size n ∷ lines))
+  unfolding after_lines before_lines after_line progress_of
+  read_lines n lines least most ready =
+      let all = fields_said (central_size n) ∷ (map fields_said lines ++ [] ∷ []) in
+      let is : size_of all ≡ n = size_read n (map fields_said lines ++ [] ∷ []) least most in
+      let start = read_none profile all (before_lines profile (size_of all)) refl in
+      let reads : line_behind profile (size_of all) false false (fields_said (central_size n)) ≡ Ok (central_size n) = central_size_read profile (size_of all) n false least most in
+      let first = read_more profile all 0 (before_lines profile (size_of all)) false (central_size n) start (omega arith) reads in
+      read_rest n all lines 1 (after_line (before_lines profile (size_of all)) (central_size n)) _ is first refl ready
+      ∙ ap (λ (size : ℕ). Ok (deck_after (fold after_line (before_lines profile size) (central_size n ∷ lines)))) is
+      ∙ ap (λ (p : Progress). Ok (deck_after p)) (after_lines_is profile n (central_size n ∷ lines))

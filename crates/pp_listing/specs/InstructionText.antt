@@ -1,0 +1,44 @@
+-- The text of an instruction: its mnemonic, a blank, its operands. d is the lower six bits of the
+-- word, m the next word; after the word at place 7777 that is the one at 0000.
+use Rattle.std.specs.Prelude.{ℕ, ◌/◌, ◌%◌, ◌^◌, ◌==◌, ◌&&◌, ◌||◌, nat_le, Bool, List, [], ◌++◌, codes, if◌then◌else◌}
+use Rattle.pp_word.specs.Address.{relative_to}
+use Rattle.pp_word.specs.OperationCodes.{opcode_at, is_long_of, mnemonic_of}
+use Rattle.pp_listing.specs.OctalDigits.{octal}
+use Rattle.pp_listing.specs.declared.operands.Operands.{Operands}
+use Rattle.pp_listing.specs.declared.operands.Operands.TheVariants.{IndexedPlace, JumpPlace, Constant, PlaceAndNumber, Number}
+
+-- whether a code is one of these, the first and the last included
+abbrev pub is_within : ℕ → ℕ → ℕ → Bool
+is_within first last code = nat_le first code && nat_le code last
+
+-- the kinds of operands, by code (octal)
+abbrev pub operands_of : ℕ → Operands
+operands_of code =
+    if is_within 0o01 0o02 code || is_within 0o50 0o57 code then IndexedPlace
+    else if is_within 0o03 0o07 code then JumpPlace
+    else if is_within 0o20 0o23 code then Constant
+    else if code == 0o61 || code == 0o63 || is_within 0o64 0o67 code then PlaceAndNumber
+    else if code == 0o71 || code == 0o73 || code == 0o77 then PlaceAndNumber
+    else Number
+
+-- the place of an index, which is none where d is 0
+abbrev pub index_text : ℕ → List ℕ
+index_text d = if d == 0 then [] else codes "," ++ octal 2 d
+
+-- operands of each kind, at a place. A jump of 00 or 77 leads to its own place
+abbrev pub operands_text : Operands → ℕ → ℕ → ℕ → List ℕ
+operands_text IndexedPlace place d m = octal 4 m ++ index_text d
+operands_text JumpPlace place d m = octal 4 (relative_to place d)
+operands_text Constant place d m = octal 2 d ++ octal 4 m
+operands_text PlaceAndNumber place d m = octal 4 m ++ codes "," ++ octal 2 d
+operands_text Number place d m = octal 2 d
+
+-- the text of the instruction in a word at a place, before the next word m
+unfoldable pub instruction_text : ℕ → ℕ → ℕ → List ℕ
+instruction_text place word m =
+    mnemonic_of (opcode_at (word / 2 ^ 6)) ++ codes " "
+    ++ operands_text (operands_of (word / 2 ^ 6)) place (word % 2 ^ 6) m
+
+-- whether a second word belongs to the instruction in a word
+abbrev pub is_long : ℕ → Bool
+is_long word = is_long_of (opcode_at (word / 2 ^ 6))

@@ -1,0 +1,4 @@
+pub mod OctalDigits
+pub mod InstructionText
+pub mod ListedLine
+pub mod Listing

@@ -1,0 +1,39 @@
+//! The kinds of operands that instructions have.
+
+ghost use Rattle.std.specs.Prelude.{◌≡◌};
+ghost use Rattle.pp_word.specs.OperationCodes.{code_of};
+
+use pp_word::Opcode;
+
+/// What stands behind the mnemonic of an instruction, of which d is the lower six bits and m the
+/// second word.
+#[derive(Clone, Copy, Debug, PartialEq, Eq)]
+pub(crate) enum Operands {
+    /// `mmmm`, and `,dd` where d is not 00: a place, and the place of its index.
+    IndexedPlace,
+    /// The place that a taken jump leads to.
+    JumpPlace,
+    /// `ddmmmm`: a constant of 18 bits.
+    Constant,
+    /// `mmmm,dd`: a place, and a channel or the place of a count.
+    PlaceAndNumber,
+    /// `dd`.
+    Number,
+}
+
+impl Operands {
+    ghost use Rattle.pp_listing.specs.InstructionText.{operands_of};
+
+    /// The operands of instructions with this operation.
+    pub(crate) fn of(operation: Opcode) -> Operands
+        ensures { result ≡ operands_of (code_of operation) }
+    {
+        match operation.code() {
+            0o01..=0o02 | 0o50..=0o57 => Operands::IndexedPlace,
+            0o03..=0o07 => Operands::JumpPlace,
+            0o20..=0o23 => Operands::Constant,
+            0o61 | 0o63 | 0o64..=0o67 | 0o71 | 0o73 | 0o77 => Operands::PlaceAndNumber,
+            _ => Operands::Number,
+        }
+    }
+}

@@ -1,0 +1,65 @@
+//! Reading a deck and writing its listing.
+
+ghost use Rattle.std.specs.Prelude.{◌≡◌, ◌≢◌, ◌<◌, ℕ, List, length, take, OnOk, IfOk, IfErr, IfSome};
+ghost use Rattle.std.specs.Io.KnownBytes.{Keeps};
+ghost use Rattle.pp_sim.specs.ListText.{IsListText};
+ghost use Rattle.pp_sim.specs.TextAnswer.{AnswersTo, IsAnswer, IsRunFault, IsTextOf, most_bytes};
+
+use crate::loaded_deck::loaded_deck;
+use crate::streams::{read_front, write_whole};
+use crate::text_fault::TextFault;
+use pp_listing::listing;
+use pp_machine::Profile;
+use std::alloc::Allocator;
+use std::io::{Read, Write};
+
+/// Reads a deck for a machine of this profile, and writes its listing. Nothing is run.
+pub fn list_text<A: Allocator + Copy, R: Read, W: Write>(
+    alloc: A,
+    profile: Profile,
+    reader: &mut R,
+    writer: &mut W,
+) -> Result<(), TextFault>
+    // For every reader, whatever it tells.
+    ensures every_reader { (bytes : List ℕ) × AnswersTo profile IsListText result (R.remaining reader.old) (R.remaining reader.new)
+        (W.contents writer.old) (W.contents writer.new) bytes }
+    // For a reader that tells the bytes that it has.
+    ensures telling_reader { IfSome (R.remaining reader.old) (λ bytes. IsAnswer profile IsListText result (take most_bytes bytes)
+        (W.contents writer.old) (W.contents writer.new)) }
+    // Every fault but Write comes before the first byte is written.
+    ensures unwritten { IfErr result (λ fault. fault ≢ TextFault.Write → Keeps (W.contents writer.old) (W.contents writer.new)) }
+{
+    let deck = read_front(alloc, reader)?;
+    write_listing(alloc, profile, deck.as_slice(), writer)
+}
+
+/// Writes the listing of a deck.
+fn write_listing<A: Allocator + Copy, W: Write>(
+    alloc: A,
+    profile: Profile,
+    deck: &[u8],
+    writer: &mut W,
+) -> Result<(), TextFault>
+    ensures answer { IsAnswer profile IsListText result deck.now (W.contents writer.old) (W.contents writer.new) }
+    ensures bounded { OnOk result (length deck.now < most_bytes) }
+{
+    let text = listing_of(alloc, profile, deck)?;
+    write_whole(writer, text.as_slice())
+}
+
+/// The listing of a deck.
+fn listing_of<A: Allocator + Copy>(
+    alloc: A,
+    profile: Profile,
+    deck: &[u8],
+) -> Result<Vec<u8, A>, TextFault>
+    ensures ok { IfOk result (λ text. IsTextOf profile IsListText deck.now text.items) }
+    ensures bounded { OnOk result (length deck.now < most_bytes) }
+    ensures fault { IfErr result (IsRunFault profile deck.now) }
+{
+    let loaded = loaded_deck(alloc, profile, deck)?;
+    match listing(alloc, &loaded) {
+        Ok(text) => Ok(text),
+        Err(_) => Err(TextFault::Memory),
+    }
+}
