@@ -13,7 +13,6 @@ mod sink;
 mod source;
 
 pub use dead_start::waiting;
-pub use decks::{BLOCK, HANDOFF, HANDOFF_TEXT, LONG_PATIENCE, WORDS_OF_A_RUN};
 pub use decks::{
     BLOCK, HANDOFF, HANDOFF_ON_TWENTY, HANDOFF_TEXT, LONG_PATIENCE, WORDS_OF_A_RUN, WORDS_OF_TWENTY,
 };
