@@ -1,6 +1,7 @@
 //! Long runs and decks of odd sizes over an allocator that counts the requests and refuses none: so
 //! none may be out of memory.
 
+use pp_machine::Profile;
 use pp_runner::Limits;
 use pp_sim::{DeckFault, barrel_text, read_deck, threads_text};
 use rationed::Rationed;
@@ -8,17 +9,18 @@ use std::alloc::Global;
 use std::sync::Wait;
 use std::test::Fail;
 use std::thread::Threads;
-use test_bench::{BLOCK, HANDOFF, HANDOFF_TEXT, LONG_PATIENCE};
+use test_bench::{BLOCK, HANDOFF, HANDOFF_ON_TWENTY, HANDOFF_TEXT, LONG_PATIENCE};
 
 /// The text of a run with one thread per processor, as long as may be.
 fn text_by_threads<R: AllocGlobal + Threads + Wait + Sync>(
     rt: &R,
     heap: &Rationed<Global>,
+    profile: Profile,
     deck: &str,
 ) -> Result<Vec<u8>, Fail> {
     let limits = Limits::new(100_000, LONG_PATIENCE).ok_or("no limits")?;
-    let mut writer = Vec::new(rt.alloc());
-    threads_text(rt, heap, &mut deck.as_bytes(), &mut writer, limits)?;
+    let (mut reader, mut writer) = (deck.as_bytes(), Vec::new(rt.alloc()));
+    threads_text(rt, heap, profile, &mut reader, &mut writer, limits)?;
     Ok(writer)
 }
 
@@ -41,11 +43,13 @@ CH05 INACTIVE
 
 #[test]
 fn largest_central_memory_by_threads(rt: HostRuntime) -> Result<(), Fail> {
-    let heap = Rationed::new(rt.alloc());
     let deck = format!(in rt.alloc(); "CENTRAL 400000\n{BLOCK}")?;
-    let text = text_by_threads(&rt, &heap, &deck)?;
-    assert!(rt; text.as_slice() == BLOCK_TEXT.as_bytes());
-    assert!(rt; heap.asked() > 40, "banks, lines, logs and answers grow");
+    for profile in [Profile::Ten, Profile::Twenty] {
+        let heap = Rationed::new(rt.alloc());
+        let text = text_by_threads(&rt, &heap, profile, &deck)?;
+        assert!(rt; text.as_slice() == BLOCK_TEXT.as_bytes());
+        assert!(rt; heap.asked() > 40, "banks, lines, logs and answers grow");
+    }
     Ok(())
 }
 
@@ -75,7 +79,7 @@ CH05 INACTIVE
 fn many_events_by_threads(rt: HostRuntime) -> Result<(), Fail> {
     let heap = Rationed::new(rt.alloc());
     let deck = deck_of_functions(rt.alloc())?;
-    let text = text_by_threads(&rt, &heap, &deck)?;
+    let text = text_by_threads(&rt, &heap, Profile::Ten, &deck)?;
     assert!(rt; text.ends_with(ENDS.as_bytes()));
     // A line of 26 bytes for each event.
     let events = 2 * (1562 * 63 + 32);
@@ -83,24 +87,39 @@ fn many_events_by_threads(rt: HostRuntime) -> Result<(), Fail> {
     Ok(())
 }
 
-/// One turn more than the program takes.
+/// The text of a run of one turn more than the program takes.
+fn text_after_a_million(
+    alloc: Global,
+    heap: &Rationed<Global>,
+    profile: Profile,
+) -> Result<Vec<u8>, Fail> {
+    let (mut reader, mut writer) = (HANDOFF.as_bytes(), Vec::new(alloc));
+    barrel_text(heap, profile, &mut reader, &mut writer, 1_000_001)?;
+    Ok(writer)
+}
+
 #[test]
 fn a_million_and_one_turns(rt: HostRuntime) -> Result<(), Fail> {
     let heap = Rationed::new(rt.alloc());
-    let mut writer = Vec::new(rt.alloc());
-    let mut reader = HANDOFF.as_bytes();
-    barrel_text(&heap, &mut reader, &mut writer, 1_000_001)?;
-    assert!(rt; writer.as_slice() == HANDOFF_TEXT.as_bytes());
+    let text = text_after_a_million(rt.alloc(), &heap, Profile::Ten)?;
+    assert!(rt; text.as_slice() == HANDOFF_TEXT.as_bytes());
     assert!(rt;
         heap.asked() > 5,
         "bytes, fields, processors, events and text grow"
     );
+    let text = text_after_a_million(rt.alloc(), &heap, Profile::Twenty)?;
+    assert!(rt; text.as_slice() == HANDOFF_ON_TWENTY.as_bytes());
     Ok(())
 }
 
 /// The size of the central memory of a deck.
 fn central_size(heap: &Rationed<Global>, text: &[u8]) -> Result<u32, DeckFault> {
-    Ok(read_deck(heap, text)?.machine.central().size())
+    Ok(
+        read_deck(heap, Profile::Ten, text)?
+            .machine
+            .central()
+            .size(),
+    )
 }
 
 /// A comment of each length up to 2,000 bytes is a deck.

@@ -1,10 +1,12 @@
 //! A deck whose growths are refused.
 
 use pp_channel::ChannelNo;
+use pp_machine::{Machine, Profile};
 use pp_sim::{Deck, DeckCode, DeckFault, read_deck};
 use pp_word::{Word12, Word18, Word60};
 use rationed::Rationed;
 use std::alloc::{Allocator, Global};
+use std::process::Abort;
 use std::test::Fail;
 use test_bench::first;
 
@@ -22,13 +24,13 @@ fn is_loaded<A: Allocator>(deck: &Deck<A>) -> bool {
 }
 
 /// Whether the deck is loaded, or why it is refused.
-fn load(heap: &Rationed<Global>) -> Result<bool, DeckFault> {
-    let deck = read_deck(heap, DECK)?;
+fn load(heap: &Rationed<Global>, profile: Profile) -> Result<bool, DeckFault> {
+    let deck = read_deck(heap, profile, DECK)?;
     Ok(is_loaded(&deck))
 }
 
-#[test]
-fn deck_refused(rt: HostRuntime) {
+/// Each request in turn is refused, up to a run without a refusal.
+fn expect_deck_refused(rt: &(impl Abort + AllocGlobal), profile: Profile) {
     let heap = Rationed::new(rt.alloc());
     let no_memory = DeckFault {
         line: 0,
@@ -36,7 +38,7 @@ fn deck_refused(rt: HostRuntime) {
     };
     for number in 1..100u64 {
         heap.refuse(number);
-        let loaded = load(&heap);
+        let loaded = load(&heap, profile);
         if !heap.has_refused() {
             assert_eq!(rt; loaded, Ok(true));
             assert!(rt; number > 1, "a machine grows");
@@ -47,26 +49,38 @@ fn deck_refused(rt: HostRuntime) {
     panic!(rt; "a request is refused in each run")
 }
 
-/// PP 0 has a program, and the nine others wait for theirs.
+#[test]
+fn deck_refused(rt: HostRuntime) {
+    expect_deck_refused(&rt, Profile::Ten);
+    expect_deck_refused(&rt, Profile::Twenty);
+}
+
+/// PP 0 has a program, and the nine others, or nineteen, wait for theirs.
 const DEAD_START: &[u8] =
     b"DEAD\nPP 0\n0100 1403 7301 0200 6601 0103 7501 0300\n0200 0000 1405 0300\nSTART 0100\n";
 
-/// How many channels the deck opens, or why it is refused. PP 0 is named, and alone in no block.
-fn load_at_dead_start(heap: &Rationed<Global>) -> Result<(u8, bool), DeckFault> {
-    let deck = read_deck(heap, DEAD_START)?;
-    let mut opened = 0u8;
-    for number in 0..0o14u8 {
+/// How many channels dead start opened.
+fn opened_in<A: Allocator>(machine: &Machine<A>) -> u64 {
+    let mut opened = 0u64;
+    for number in 0..0o100u8 {
         if let Some(channel) = ChannelNo::new(number) {
-            opened = opened.saturating_add(u8::from(deck.machine.opened(channel)));
+            opened = opened.saturating_add(u64::from(machine.opened(channel)));
         }
     }
-    let zero = deck.machine.pp(first()).block().is_none();
-    let one = deck.machine.pp(first().next()).block().is_some();
-    Ok((opened, deck.named[0] && !deck.named[1] && zero && one))
+    opened
 }
 
-#[test]
-fn dead_start_refused(rt: HostRuntime) {
+/// How many channels the deck opens, or why it is refused. PP 0 is named, and alone in no block.
+fn load_at_dead_start(heap: &Rationed<Global>, profile: Profile) -> Result<(u64, bool), DeckFault> {
+    let deck = read_deck(heap, profile, DEAD_START)?;
+    let zero = deck.machine.pp(first()).block().is_none();
+    let one = deck.machine.pp(first().next()).block().is_some();
+    let is_alone = deck.named[0] && !deck.named[1] && zero && one;
+    Ok((opened_in(&deck.machine), is_alone))
+}
+
+/// Each request in turn is refused, up to a run without a refusal, which opens so many channels.
+fn expect_dead_start_refused(rt: &(impl Abort + AllocGlobal), profile: Profile, opened: u64) {
     let heap = Rationed::new(rt.alloc());
     let no_memory = DeckFault {
         line: 0,
@@ -74,15 +88,21 @@ fn dead_start_refused(rt: HostRuntime) {
     };
     for number in 1..100u64 {
         heap.refuse(number);
-        let loaded = load_at_dead_start(&heap);
+        let loaded = load_at_dead_start(&heap, profile);
         if !heap.has_refused() {
-            assert_eq!(rt; loaded, Ok((9, true)));
-            assert!(rt; number > 9, "nine channels grow");
+            assert_eq!(rt; loaded, Ok((opened, true)));
+            assert!(rt; number > opened, "each of these channels grows");
             return;
         }
         assert_eq!(rt; loaded, Err(no_memory), "request {number}");
     }
     panic!(rt; "a request is refused in each run")
+}
+
+#[test]
+fn dead_start_refused(rt: HostRuntime) {
+    expect_dead_start_refused(&rt, Profile::Ten, 9);
+    expect_dead_start_refused(&rt, Profile::Twenty, 19);
 }
 
 /// Decks with their faults, or none: where a request is refused, Memory at line 0 takes their place.
@@ -105,7 +125,7 @@ fn faulty_decks_refused(rt: HostRuntime) -> Result<(), Fail> {
     for (text, fault) in DECKS {
         for number in 1..10u64 {
             heap.refuse(number);
-            let answer = read_deck(&heap, text.as_bytes()).err();
+            let answer = read_deck(&heap, Profile::Ten, text.as_bytes()).err();
             let expected = if heap.has_refused() {
                 refusals = refusals.saturating_add(1);
                 Some((0, DeckCode::Memory))
@@ -129,13 +149,13 @@ fn texts_that_ask_for_nothing(rt: HostRuntime) -> Result<(), Fail> {
         line: 0,
         code: DeckCode::TooLong,
     };
-    assert_eq!(rt; read_deck(&heap, &long).err(), Some(too_long));
+    assert_eq!(rt; read_deck(&heap, Profile::Ten, &long).err(), Some(too_long));
     let not_ascii = DeckFault {
         line: 2,
         code: DeckCode::NotAscii,
     };
     assert_eq!(rt;
-        read_deck(&heap, b"PP 12\n\x80".as_slice()).err(),
+        read_deck(&heap, Profile::Ten, b"PP 12\n\x80".as_slice()).err(),
         Some(not_ascii)
     );
     assert_eq!(rt; heap.asked(), 0);

@@ -1,12 +1,13 @@
 //! The text of a run, and the program, whose growths are refused.
 
+use pp_machine::Profile;
 use pp_sim::{TextFault, barrel_text, run_program};
 use rationed::Rationed;
 use std::alloc::Global;
 use std::process::Abort;
 use std::sync::Wait;
 use std::thread::Threads;
-use test_bench::{HANDOFF, HANDOFF_TEXT};
+use test_bench::{HANDOFF, HANDOFF_ON_TWENTY, HANDOFF_TEXT, WORDS_OF_A_RUN, WORDS_OF_TWENTY};
 
 /// How a text ends with this request refused, whether the request was made, and whether the whole text
 /// was written, or nothing.
@@ -17,7 +18,7 @@ fn text_at(
 ) -> (Result<(), TextFault>, bool, bool, bool) {
     heap.refuse(number);
     let mut writer = Vec::new(rt.alloc());
-    let done = barrel_text(heap, &mut HANDOFF.as_bytes(), &mut writer, 40);
+    let done = barrel_text(heap, Profile::Ten, &mut HANDOFF.as_bytes(), &mut writer, 40);
     let is_whole = writer.as_slice() == HANDOFF_TEXT.as_bytes();
     (done, heap.has_refused(), is_whole, writer.is_empty())
 }
@@ -46,15 +47,14 @@ fn text_refused(rt: HostRuntime) {
 fn program_at<R: AllocGlobal + Threads + Wait + Sync>(
     rt: &R,
     heap: &Rationed<Global>,
-    run: (&str, &str),
+    (words, deck): (&[&str], &str),
     output: &str,
     error: &str,
 ) -> (u8, bool, bool) {
-    let words = ["ppsim", "barrel", "--turns", run.0];
     let mut written = Vec::new(rt.alloc());
     let mut told = Vec::new(rt.alloc());
-    let mut reader = run.1.as_bytes();
-    let status = run_program(rt, heap, &words, &mut reader, &mut written, &mut told);
+    let mut reader = deck.as_bytes();
+    let status = run_program(rt, heap, words, &mut reader, &mut written, &mut told);
     let refusal = "ppsim: out of memory\n";
     (
         status,
@@ -63,11 +63,11 @@ fn program_at<R: AllocGlobal + Threads + Wait + Sync>(
     )
 }
 
-/// Where no request is refused, these turns and this deck end with this status and these texts. This gives
+/// Where no request is refused, these words and this deck end with this status and these texts. This gives
 /// the number of the first request that is not made.
 fn program_refused<R: AllocGlobal + Threads + Wait + Sync + Abort>(
     rt: &R,
-    run: (&str, &str),
+    run: (&[&str], &str),
     last: u8,
     output: &str,
     error: &str,
@@ -87,12 +87,23 @@ fn program_refused<R: AllocGlobal + Threads + Wait + Sync + Abort>(
 
 #[test]
 fn programs_refused(rt: HostRuntime) {
-    let whole = ("40", HANDOFF);
-    assert!(rt; program_refused(&rt, whole, 0, HANDOFF_TEXT, "") > 5);
+    let words = WORDS_OF_A_RUN.as_slice();
+    assert!(rt; program_refused(&rt, (words, HANDOFF), 0, HANDOFF_TEXT, "") > 5);
     let fault = "ppsim: deck fault 5 at line 1\n";
-    assert!(rt; program_refused(&rt, ("40", "PP 12"), 1, "", fault) > 2);
+    assert!(rt; program_refused(&rt, (words, "PP 12"), 1, "", fault) > 2);
     // No deck is read where a number is out of range.
-    let past = ("1000000", HANDOFF);
+    let past = ["ppsim", "barrel", "--turns", "1000000"];
     let number = "ppsim: number out of range\n";
-    assert_eq!(rt; program_refused(&rt, past, 2, "", number), 1);
+    assert_eq!(rt; program_refused(&rt, (&past, HANDOFF), 2, "", number), 1);
+}
+
+#[test]
+fn programs_of_twenty_refused(rt: HostRuntime) {
+    let words = WORDS_OF_TWENTY.as_slice();
+    assert!(rt; program_refused(&rt, (words, HANDOFF), 0, HANDOFF_ON_TWENTY, "") > 5);
+    let fault = "ppsim: deck fault 5 at line 1\n";
+    assert!(rt; program_refused(&rt, (words, "PP 32"), 1, "", fault) > 2);
+    let eleven = ["ppsim", "barrel", "--turns", "80", "--processors", "11"];
+    let number = "ppsim: number out of range\n";
+    assert_eq!(rt; program_refused(&rt, (&eleven, HANDOFF), 2, "", number), 1);
 }

@@ -3,7 +3,7 @@
 ghost use Rattle.pp_runner.specs.Report.{ReportFitsInMemory};
 
 use pp_channel::{CHANNELS, Channel, ChannelNo};
-use pp_machine::{Central, Machine, Pp};
+use pp_machine::{Central, Machine, Pp, Profile};
 use pp_runner::{End, Gate, Limits, LockedCentral, NoGate, Report, run_threads};
 use pp_sim::{TextFault, read_deck, threads_text};
 use pp_word::{Word18, Word60};
@@ -62,13 +62,14 @@ fn run_deck<R: Threads + Wait + Sync + Abort, G: Gate + Sync, A: Allocator + Cop
     rt: &R,
     gate: &G,
     alloc: A,
+    profile: Profile,
     limits: Limits,
     text: &str,
     channel: ChannelNo,
 ) -> Option<(usize, usize)>
     requires { ReportFitsInMemory A.row A.Allocator }
 {
-    let Ok(deck) = read_deck(alloc, text.as_bytes()) else {
+    let Ok(deck) = read_deck(alloc, profile, text.as_bytes()) else {
         return None;
     };
     if !deck.machine.events().is_empty() {
@@ -100,15 +101,34 @@ PP 10
 PP 11
 ";
 
+/// One of the further processors sends a block of four words to another, over the last channel.
+const FAR: &str = "\
+PP 20
+0100 7433 1404 7333 0200 0300
+0200 0011 0022 0033 0044
+START 0100
+PP 31
+0100 7033 3460 1403 7133 0200 7533 0300
+START 0100
+";
+
 #[test]
 fn runs_refused(rt: HostRuntime) -> Result<(), Fail> {
-    expect_refused(&rt, BLOCK, channel(5)?)?;
-    expect_refused(&rt, DEAD_START, channel(1)?)
+    expect_refused(&rt, Profile::Ten, BLOCK, channel(5)?)?;
+    expect_refused(&rt, Profile::Ten, DEAD_START, channel(1)?)
+}
+
+/// The same of twenty processors.
+#[test]
+fn runs_of_twenty_refused(rt: HostRuntime) -> Result<(), Fail> {
+    expect_refused(&rt, Profile::Twenty, FAR, channel(0o33)?)?;
+    expect_refused(&rt, Profile::Twenty, DEAD_START, channel(1)?)
 }
 
 /// The deck is run with each request refused in turn, up to a run without a refusal.
 fn expect_refused<R: AllocGlobal + Threads + Wait + Sync + Abort>(
     rt: &R,
+    profile: Profile,
     text: &str,
     channel: ChannelNo,
 ) -> Result<(), Fail> {
@@ -116,7 +136,7 @@ fn expect_refused<R: AllocGlobal + Threads + Wait + Sync + Abort>(
     let heap = Rationed::new(rt.alloc());
     for number in 1..1000u64 {
         heap.refuse(number);
-        let done = run_deck(rt, &NoGate, &heap, limits, text, channel);
+        let done = run_deck(rt, &NoGate, &heap, profile, limits, text, channel);
         let refused = heap.has_refused();
         heap.refuse(0);
         let (without, events) = done.unwrap_or((usize::from(refused), 0));
@@ -135,10 +155,11 @@ fn expect_refused<R: AllocGlobal + Threads + Wait + Sync + Abort>(
 fn text_of<R: AllocGlobal + Threads + Wait + Sync>(
     rt: &R,
     heap: &Rationed<Global>,
+    profile: Profile,
     limits: Limits,
 ) -> Result<(Result<(), TextFault>, bool, bool, bool), Fail> {
-    let mut writer = Vec::new(rt.alloc());
-    let done = threads_text(rt, heap, &mut BLOCK.as_bytes(), &mut writer, limits);
+    let (mut reader, mut writer) = (BLOCK.as_bytes(), Vec::new(rt.alloc()));
+    let done = threads_text(rt, heap, profile, &mut reader, &mut writer, limits);
     let text = String::from_utf8(writer)?;
     Ok((
         done,
@@ -150,11 +171,20 @@ fn text_of<R: AllocGlobal + Threads + Wait + Sync>(
 
 #[test]
 fn text_refused(rt: HostRuntime) -> Result<(), Fail> {
+    expect_text_refused(&rt, Profile::Ten)?;
+    expect_text_refused(&rt, Profile::Twenty)
+}
+
+/// The text is made with each request refused in turn, up to a run without a refusal.
+fn expect_text_refused<R: AllocGlobal + Threads + Wait + Sync + Abort>(
+    rt: &R,
+    profile: Profile,
+) -> Result<(), Fail> {
     let limits = limits()?;
     let heap = Rationed::new(rt.alloc());
     for number in 1..1000u64 {
         heap.refuse(number);
-        let (done, without, first, is_empty) = text_of(&rt, &heap, limits)?;
+        let (done, without, first, is_empty) = text_of(rt, &heap, profile, limits)?;
         let refused = heap.has_refused();
         if !refused {
             assert_eq!(rt; (done, without, first), (Ok(()), false, true));
