@@ -1,4 +1,5 @@
-//! Listings of decks: their texts, the text of each instruction, and each growth refused in turn.
+//! Listings of decks: their texts, the text of each instruction, the program's command, and each growth
+//! refused in turn.
 #![tactic(auto)]
 
 #[cfg(test)]
@@ -7,3 +8,5 @@ mod decks;
 mod instructions;
 #[cfg(test)]
 mod memories;
+#[cfg(test)]
+mod program;

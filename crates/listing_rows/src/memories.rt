@@ -1,9 +1,11 @@
-//! A listing whose growths are refused.
+//! Listings whose growths are refused.
 
 use pp_deck::read_deck;
 use pp_listing::listing;
 use pp_machine::Profile;
+use pp_sim::{TextFault, list_text};
 use rationed::Rationed;
+use std::alloc::Global;
 use std::test::Fail;
 
 const DECK: &str = "\
@@ -33,4 +35,37 @@ fn listing_refused(rt: HostRuntime) -> Result<(), Fail> {
         assert!(rt; listed.is_err(), "request {number}");
     }
     Err("a request is refused in each run".into())
+}
+
+/// How the text of a listing ends with this request refused, and whether the whole listing was
+/// written, or nothing.
+fn text_at(
+    rt: &impl AllocGlobal,
+    heap: &Rationed<Global>,
+    number: u64,
+) -> (Result<(), TextFault>, bool, bool) {
+    heap.refuse(number);
+    let mut written = Vec::new(rt.alloc());
+    let done = list_text(heap, Profile::Ten, &mut DECK.as_bytes(), &mut written);
+    let is_whole = written.as_slice() == DECK.as_bytes();
+    (done, is_whole, written.is_empty())
+}
+
+#[test]
+fn list_text_refused(rt: HostRuntime) {
+    let heap = Rationed::new(rt.alloc());
+    for number in 1..100u64 {
+        let ended = text_at(&rt, &heap, number);
+        if !heap.has_refused() {
+            assert_eq!(rt; ended, (Ok(()), true, false));
+            assert!(rt; number > 5, "bytes, fields, the machine and the text grow");
+            return;
+        }
+        assert_eq!(rt;
+            ended,
+            (Err(TextFault::Memory), false, true),
+            "request {number}"
+        );
+    }
+    panic!(rt; "a request is refused in each run")
 }

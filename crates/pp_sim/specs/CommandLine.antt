@@ -14,8 +14,9 @@ use Rattle.pp_sim.specs.declared.line_fault.LineFault.TheVariants.{Memory, Refus
 use Rattle.pp_sim.specs.declared.work.Work.{Work}
 use Rattle.pp_sim.specs.declared.work.Work.TheVariants as works
 
--- THE COMMAND LINE, as clap sees it: `ppsim barrel --turns N`, `ppsim threads --steps N --patience N` or `ppsim list`, the
--- command and these options required, and for each `--processors N`, which may be left out
+-- THE COMMAND LINE, as clap sees it: `ppsim barrel --turns N`, `ppsim threads --steps N --patience N`
+-- or `ppsim list`, the command and these options required, and for each `--processors N`, which may
+-- be left out
 
 -- a required option whose value is a number
 abbrev pub number_option : Text → Rule
@@ -67,7 +68,8 @@ IsWorkOf name text_of (works.Barrel profile turns) = (name ≡ codes "barrel") �
 IsWorkOf name text_of (works.Threads profile limits) = (name ≡ codes "threads") × ReadsProfile (text_of (codes "processors")) profile
     × ReadsNumber (text_of (codes "steps")) limits.steps × ReadsNumber (text_of (codes "patience")) limits.patience
     × AreLimits limits
-IsWorkOf name text_of (works.List profile) = (name ≡ codes "list") × ReadsProfile (text_of (codes "processors")) profile
+IsWorkOf name text_of (works.List profile) =
+    (name ≡ codes "list") × ReadsProfile (text_of (codes "processors")) profile
 
 abbrev pub IsWorkAmong : Option (Text × List Row) → Work → Type 0
 IsWorkAmong None work = ⊥

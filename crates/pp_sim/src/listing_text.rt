@@ -21,13 +21,16 @@ pub fn list_text<A: Allocator + Copy, R: Read, W: Write>(
     writer: &mut W,
 ) -> Result<(), TextFault>
     // For every reader, whatever it tells.
-    ensures every_reader { (bytes : List ℕ) × AnswersTo profile IsListText result (R.remaining reader.old) (R.remaining reader.new)
+    ensures every_reader { (bytes : List ℕ) × AnswersTo profile IsListText result
+        (R.remaining reader.old) (R.remaining reader.new)
         (W.contents writer.old) (W.contents writer.new) bytes }
     // For a reader that tells the bytes that it has.
-    ensures telling_reader { IfSome (R.remaining reader.old) (λ bytes. IsAnswer profile IsListText result (take most_bytes bytes)
+    ensures telling_reader { IfSome (R.remaining reader.old) (λ bytes.
+        IsAnswer profile IsListText result (take most_bytes bytes)
         (W.contents writer.old) (W.contents writer.new)) }
     // Every fault but Write comes before the first byte is written.
-    ensures unwritten { IfErr result (λ fault. fault ≢ TextFault.Write → Keeps (W.contents writer.old) (W.contents writer.new)) }
+    ensures unwritten { IfErr result (λ fault. fault ≢ TextFault.Write
+        → Keeps (W.contents writer.old) (W.contents writer.new)) }
 {
     let deck = read_front(alloc, reader)?;
     write_listing(alloc, profile, deck.as_slice(), writer)
@@ -40,7 +43,8 @@ fn write_listing<A: Allocator + Copy, W: Write>(
     deck: &[u8],
     writer: &mut W,
 ) -> Result<(), TextFault>
-    ensures answer { IsAnswer profile IsListText result deck.now (W.contents writer.old) (W.contents writer.new) }
+    ensures answer { IsAnswer profile IsListText result deck.now
+        (W.contents writer.old) (W.contents writer.new) }
     ensures bounded { OnOk result (length deck.now < most_bytes) }
 {
     let text = listing_of(alloc, profile, deck)?;
