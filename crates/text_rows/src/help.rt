@@ -16,6 +16,7 @@ Usage: ppsim <COMMAND>
 Commands:
   barrel   Runs a deck in the barrel, one step a turn, and prints what happened
   threads  Runs a deck with one thread per processor, and prints what happened
+  list     Prints the listing of a deck, one instruction a line, which is itself a deck
   help     Print this message or the help of the given subcommand(s)
 
 Options:
@@ -129,8 +130,39 @@ Options:
   -h, --help            Print help (see more with '--help')
 ";
 
+const LIST: &str = "\
+Prints the listing of a deck: the words of each processor that are not 0, one instruction a line,
+with its mnemonic and operands behind it as a comment. Nothing is run.
+
+Reads the deck from standard input. Prints to standard output the size of central memory and its
+words; DEAD, where processors wait for their programs; and the section of each processor that the
+deck names. A fault is one line on standard error.
+
+The listing is itself a deck, and loads the same machine, where it is no longer than a deck may be,
+1048576 bytes (decimal).
+
+Usage: ppsim list [OPTIONS]
+
+Options:
+      --processors <N>
+          How many processors the machine has, 10 or 20 (decimal); 10 if not given
+
+  -h, --help
+          Print help (see a summary with '-h')
+";
+
+const LIST_IN_SHORT: &str = "\
+Prints the listing of a deck, one instruction a line, which is itself a deck
+
+Usage: ppsim list [OPTIONS]
+
+Options:
+      --processors <N>  How many processors the machine has, 10 or 20 (decimal); 10 if not given
+  -h, --help            Print help (see more with '--help')
+";
+
 /// Words that ask for help, each with its text.
-const HELP: [(&[&str], &str); 9] = [
+const HELP: [(&[&str], &str); 12] = [
     (&["ppsim", "--help"], PROGRAM),
     (&["ppsim", "-h"], PROGRAM),
     (&["ppsim", "help"], PROGRAM),
@@ -140,6 +172,9 @@ const HELP: [(&[&str], &str); 9] = [
     (&["ppsim", "threads", "--help"], THREADS),
     (&["ppsim", "help", "threads"], THREADS),
     (&["ppsim", "threads", "-h"], THREADS_IN_SHORT),
+    (&["ppsim", "list", "--help"], LIST),
+    (&["ppsim", "help", "list"], LIST),
+    (&["ppsim", "list", "-h"], LIST_IN_SHORT),
 ];
 
 #[test]
