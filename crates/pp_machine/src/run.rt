@@ -195,7 +195,6 @@ impl<A: Allocator> Machine<A> {
     /// The first turns of a round of the barrel, where `next` tells which processors at rest to pass
     /// over. Refused, it says how many steps were done.
     #[tactic(auto, using(crate::proofs::RunLemmas::barrel_more, crate::proofs::RunLemmas::some_event, crate::proofs::RoundLemmas::rest_to, crate::proofs::RoundLemmas::passes_over_stepped))]
-    #[inline(always)]
     fn run_round(&mut self, turns: usize, next: &[usize; PROCESSORS + 1]) -> Result<(), usize>
         requires round { turns ≤ processors_in self.old.profile }
         requires passes { PassesOverRest next.now self.old.processors }
