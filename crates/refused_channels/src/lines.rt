@@ -140,8 +140,8 @@ fn close_at(rt: &impl Abort, heap: &Rationed<Global>, number: u64) -> Result<boo
     heap.refuse(number);
     let refused = match line.close() {
         Ok(channels) => {
-            let lengths = [5, 11, 23].map(|place: usize| channels[place].history().len());
-            assert_eq!(rt; lengths, [2, 1, 1]);
+            let near = (channels[5].history().len(), channels[11].history().len());
+            assert_eq!(rt; (near, channels[23].history().len()), ((2, 1), 1));
             false
         }
         Err((line, _memory)) => {
