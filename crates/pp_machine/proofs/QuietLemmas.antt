@@ -1,9 +1,9 @@
 -- Quiet steps of different processors: whole rounds of them are as many steps of each processor by itself.
-use Rattle.std.proofs.Common.{◌≡◌, ◌≢◌, ℕ, zero, suc, ◌+◌, ◌*◌, ◌-◌, ◌^◌, ◌%◌, ◌<◌, ◌≤◌, List, [], ◌∷◌, length, ◌++◌, append-nil, slice_set, get_or, refl, sym, ap, subst, ◌∙◌, arith, inl, inr, get_or-set_same, get_or-set_other}
+use Rattle.std.proofs.Common.{◌≡◌, ◌≢◌, ℕ, zero, suc, ◌+◌, ◌*◌, ◌-◌, ◌^◌, ◌<◌, ◌≤◌, List, [], length, ◌++◌, append-nil, slice_set, get_or, refl, sym, ap, subst, ◌∙◌, arith, inl, inr, get_or-set_same, get_or-set_other}
 use Rattle.std.specs.Prelude.{min, map, Bool, IsTrue, false, Option, Some, None}
 use Rattle.std.proofs.lemmas.Bool.{false≢true}
 use Rattle.std.proofs.lemmas.Bool.Decides.{eqb_tells, leb_tells}
-use Rattle.std.proofs.lemmas.List.{set-get_or, length-set, length-map, get_or-map, ext_get_or}
+use Rattle.std.proofs.lemmas.List.{set-get_or, length-set, ext_get_or}
 use Rattle.pp_channel.specs.Answer.{event_of, reply_to, flags_of}
 use Rattle.pp_channel.specs.ChannelNumber.{channel_index}
 use Rattle.pp_channel.specs.declared.chan_op.ChanOp.{ChanOp}
@@ -18,7 +18,7 @@ use Rattle.pp_machine.specs.MachineState.{MachineState, processor_of, history_of
 use Rattle.pp_machine.specs.MachineStep.{answer_to, counted, served, taken, stepped}
 use Rattle.pp_machine.specs.NeedAndEffect.{need, processor_after}
 use Rattle.pp_machine.specs.Processor.{Processor, no_processor}
-use Rattle.pp_machine.specs.ProcessorNumber.{processor_count, processor_index, processor_number}
+use Rattle.pp_machine.specs.ProcessorNumber.{processor_index, processor_number}
 use Rattle.pp_machine.specs.Profile.{processors_in, processor_in_turn}
 use Rattle.pp_machine.specs.Quiet.{is_none, is_quiet, step_beside, steps_beside, IsAhead, AreAhead}
 use Rattle.pp_machine.specs.Rounds.{whole_rounds}

@@ -9,11 +9,11 @@ use Rattle.pp_machine.specs.Processor.{Processor, no_processor}
 use Rattle.pp_machine.specs.ProcessorNumber.{processor_count, processor_index}
 use Rattle.pp_machine.specs.Profile.{processors_in, processor_in_turn}
 use Rattle.pp_machine.specs.declared.profile.Profile.{Profile}
-use Rattle.pp_machine.specs.Rounds.{RestBetween, PassesOverRest, whole_rounds}
+use Rattle.pp_machine.specs.Rounds.{RestBetween, PassesOverRest, rounds_and_turns, whole_rounds}
 use Rattle.pp_machine.specs.Run.{run, barrel}
 use Rattle.pp_machine.specs.StepLaws.{IsAtRest}
 use Rattle.pp_machine.proofs.MachineStepLemmas.{stepped_at_rest}
-use Rattle.pp_machine.proofs.ProfileLemmas.{index_in_turn, in_round, more_rounds, fewer_rounds, one_round}
+use Rattle.pp_machine.proofs.ProfileLemmas.{index_in_turn, in_round, more_rounds, fewer_rounds, one_round, no_rounds}
 use Rattle.pp_machine.proofs.RunLemmas.{run-append, run_profile, barrel_more}
 
 -- a step changes no other processor
@@ -144,6 +144,14 @@ barrel_rounds p (suc turns) rounds m =
     ∙ ap (λ n. stepped n (run (barrel p (done + turns)) m)) same
     ∙ ap (stepped (processor_in_turn p turns)) (barrel_rounds p turns rounds m)
     ∙ sym (run-append (barrel p turns) (processor_in_turn p turns) (run (whole_rounds p rounds) m)))
+
+-- whole rounds, and no turns more
+pub no_turns : (p : Profile) (rounds : ℕ) (m : MachineState) → run (rounds_and_turns p rounds 0) m ≡ run (whole_rounds p rounds) m
+no_turns p rounds m = barrel_rounds p 0 rounds m
+
+-- no whole rounds, and then turns
+pub no_rounds_before : (p : Profile) (turns : ℕ) (m : MachineState) → run (rounds_and_turns p 0 turns) m ≡ run (barrel p turns) m
+no_rounds_before p turns m = let none : 0 * processors_in p + turns ≡ turns = omega (arith, no_rounds p) in ap (λ k. run (barrel p k) m) none
 
 -- whole rounds, and then more of them
 pub rounds_more : (p : Profile) (more rounds : ℕ) (m : MachineState) → run (whole_rounds p (rounds + more)) m ≡ run (whole_rounds p more) (run (whole_rounds p rounds) m)

@@ -3,11 +3,11 @@ use Rattle.pp_machine.specs.Profile.{processors_in}
 use Rattle.pp_machine.specs.Rounds.{whole_rounds}
 use Rattle.pp_machine.specs.Run.{run, barrel}
 use Rattle.pp_machine.proofs.ProfileLemmas.{rest_within, rounds_and_rest}
-use Rattle.pp_machine.proofs.RoundLemmas.{profile_after, counted_rounds, turns_after, event_after}
+use Rattle.pp_machine.proofs.RoundLemmas.{no_rounds_before, profile_after, counted_rounds, turns_after, event_after}
 use Rattle.pp_machine.proofs.machine.Machine.run_barrel.Goals as goal
 
-pub run_round-requires-clause-round : goal.run_round-requires-clause-round
-run_round-requires-clause-round g c =
+pub run_passing-requires-clause-round : goal.run_passing-requires-clause-round
+run_passing-requires-clause-round g c =
     let m = c.args.self.now in
     let same = profile_after (whole_rounds m.profile (c.args.turns / c.round-round.result)) m c.run_rounds.new.self c.in_default.ensures.ok in
     let round : c.round-round.result ≡ processors_in m.profile = c.round-round.ensures in
@@ -21,14 +21,14 @@ returns-in-Ok-clause-ok g c =
     let whole = c.args.turns / c.round-round.result in
     let rest = c.args.turns % c.round-round.result in
     let all : whole * processors_in m.profile + rest ≡ c.args.turns = subst (λ k. c.args.turns / k * processors_in m.profile + c.args.turns % k ≡ c.args.turns) (sym c.round-round.ensures) (rounds_and_rest m.profile c.args.turns) in
-    turns_after whole rest (whole * processors_in m.profile) m c.run_rounds.new.self c.run_round.new.self c.in_default.ensures.ok refl c.in-Ok.ensures.ok ∙ ap (λ k. run (barrel m.profile k) m) all
+    turns_after whole rest (whole * processors_in m.profile) m c.run_rounds.new.self c.run_passing.new.self c.in_default.ensures.ok refl (c.in-Ok.ensures.ok ∙ no_rounds_before c.run_rounds.new.self.profile rest c.run_rounds.new.self) ∙ ap (λ k. run (barrel m.profile k) m) all
 
-pub returns-in-Err-run_round-clause-cut : goal.returns-in-Err-run_round-clause-cut
-returns-in-Err-run_round-clause-cut g c =
+pub returns-in-Err-run_passing-clause-cut : goal.returns-in-Err-run_passing-clause-cut
+returns-in-Err-run_passing-clause-cut g c =
     let m = c.args.self.now in
-    turns_after (c.args.turns / c.round-round.result) c.in-Err-run_round.before (c.from.result * c.from-in-Err-run_round.result) m c.run_rounds.new.self c.run_round.new.self c.in_default.ensures.ok (counted_rounds m.profile c.from.result c.from-in-Err-run_round.result (c.args.turns / c.round-round.result) c.round-round.result c.from.ensures c.from-in-Err-run_round.ensures c.round-round.ensures) c.in-Err-run_round.ensures.cut
+    turns_after (c.args.turns / c.round-round.result) c.in-Err-run_passing.before (c.from.result * c.from-in-Err-run_passing.result) m c.run_rounds.new.self c.run_passing.new.self c.in_default.ensures.ok (counted_rounds m.profile c.from.result c.from-in-Err-run_passing.result (c.args.turns / c.round-round.result) c.round-round.result c.from.ensures c.from-in-Err-run_passing.ensures c.round-round.ensures) c.in-Err-run_passing.ensures.cut
 
-pub returns-in-Err-run_round-clause-cut_at_event : goal.returns-in-Err-run_round-clause-cut_at_event
-returns-in-Err-run_round-clause-cut_at_event g c =
+pub returns-in-Err-run_passing-clause-cut_at_event : goal.returns-in-Err-run_passing-clause-cut_at_event
+returns-in-Err-run_passing-clause-cut_at_event g c =
     let m = c.args.self.now in
-    event_after (c.args.turns / c.round-round.result) c.in-Err-run_round.before (c.from.result * c.from-in-Err-run_round.result) m c.run_rounds.new.self c.run_round.new.self c.in_default.ensures.ok (counted_rounds m.profile c.from.result c.from-in-Err-run_round.result (c.args.turns / c.round-round.result) c.round-round.result c.from.ensures c.from-in-Err-run_round.ensures c.round-round.ensures) c.in-Err-run_round.ensures.cut_at_event
+    event_after (c.args.turns / c.round-round.result) c.in-Err-run_passing.before (c.from.result * c.from-in-Err-run_passing.result) m c.run_rounds.new.self c.run_passing.new.self c.in_default.ensures.ok (counted_rounds m.profile c.from.result c.from-in-Err-run_passing.result (c.args.turns / c.round-round.result) c.round-round.result c.from.ensures c.from-in-Err-run_passing.ensures c.round-round.ensures) c.in-Err-run_passing.ensures.cut_at_event

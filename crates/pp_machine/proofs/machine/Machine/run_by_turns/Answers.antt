@@ -1,5 +1,6 @@
-use Rattle.std.proofs.Common.{◌*◌, arith}
-use Rattle.pp_machine.proofs.RoundLemmas.{counted_rounds, rounds_after, turns_after, within_after, event_after}
+use Rattle.std.proofs.Common.{◌*◌, ◌<◌, ◌∙◌, arith}
+use Rattle.pp_machine.specs.Profile.{processors_in}
+use Rattle.pp_machine.proofs.RoundLemmas.{counted_rounds, no_turns, rounds_after, turns_after, within_after, event_after}
 use Rattle.pp_machine.proofs.machine.Machine.run_by_turns.Goals as goal
 
 pub returns-in-Err-clause-cut : goal.returns-in-Err-clause-cut
@@ -10,7 +11,8 @@ returns-in-Err-clause-cut g c =
 pub returns-in-Err-clause-within : goal.returns-in-Err-clause-within
 returns-in-Err-clause-within g c =
     let counted = counted_rounds c.args.self.now.profile c.from.result c.from-in-Err.result c.loop-done.done c.round-round.result c.from.ensures c.from-in-Err.ensures c.round-round.ensures in
-    within_after c.loop-done.done c.min-further.result c.args.rounds c.in-Err.before (c.from.result * c.from-in-Err.result) c.args.self.now c.loop-done.self c.loop-done.invariant.ran counted c.in-Err.ensures.within (omega arith)
+    let within : c.in-Err.before < c.min-further.result * processors_in c.loop-done.self.profile = omega (arith, c.in-Err.ensures.within) in
+    within_after c.loop-done.done c.min-further.result c.args.rounds c.in-Err.before (c.from.result * c.from-in-Err.result) c.args.self.now c.loop-done.self c.loop-done.invariant.ran counted within (omega arith)
 
 pub returns-in-Err-clause-cut_at_event : goal.returns-in-Err-clause-cut_at_event
 returns-in-Err-clause-cut_at_event g c =
@@ -19,7 +21,7 @@ returns-in-Err-clause-cut_at_event g c =
 
 pub loop-done-preserved : goal.loop-done-preserved
 loop-done-preserved g c = record {
-  ran = rounds_after c.loop-done.done c.min-further.result c.args.self.now c.loop-done.self c.run_passing.new.self c.loop-done.invariant.ran c.in_default.ensures.ok;
+  ran = rounds_after c.loop-done.done c.min-further.result c.args.self.now c.loop-done.self c.run_passing.new.self c.loop-done.invariant.ran (c.in_default.ensures.ok ∙ no_turns c.loop-done.self.profile c.min-further.result c.loop-done.self);
   within = omega arith;
   headline = c.run_passing.ensures.headline;
 }
