@@ -2,7 +2,10 @@
 
 ghost use Rattle.std.specs.Prelude.{◌≡◌, ◌<◌, ◌/◌, ◌%◌, ◌^◌, ◌++◌, IfOk, OnOk};
 ghost use Rattle.pp_text.specs.Numeral.{digits, octal, unpadded};
+ghost use Rattle.pp_text.specs.Pairs.{channel_pairs, decimal_pairs, octal_pairs, processor_pairs};
 
+use pp_channel::ChannelNo;
+use pp_machine::PpNo;
 use std::alloc::{AllocError, Allocator};
 
 /// The least count that has more than six decimal digits.
@@ -14,21 +17,43 @@ pub(crate) fn octal1(n: u8) -> [u8; 1]
     [b'0' + n % 8]
 }
 
-// Each event's line has some of these fields, so their characters are put together in one register.
+// Each event's line has some of these fields, so their digits stand in tables.
 
-pub(crate) fn octal2(n: u8) -> [u8; 2]
+#[tactic(auto, using(crate::proofs::PairLemmas::octal_pair))]
+fn octal2(n: u8) -> [u8; 2]
     ensures { result ≡ octal 2 n }
 {
-    let n = u16::from(n);
-    (0x3030 + n / 8 % 8 + n % 8 * 0x100).to_le_bytes()
+    let pairs = octal_pairs();
+    let first = 2 * usize::from(n % 0o100);
+    [pairs[first], pairs[first + 1]]
 }
 
 pub(crate) fn octal4(n: u16) -> [u8; 4]
     ensures { result ≡ octal 4 n }
 {
-    let n = u32::from(n);
-    let first = 0x3030_3030 + n / 8 / 8 / 8 % 8 + n / 8 / 8 % 8 * 0x100;
-    (first + n / 8 % 8 * 0x1_0000 + n % 8 * 0x100_0000).to_le_bytes()
+    let [n0, n1] = octal2((n / 0o100 % 0o100) as u8);
+    let [n2, n3] = octal2((n % 0o100) as u8);
+    [n0, n1, n2, n3]
+}
+
+/// The number of a processor in two octal digits.
+#[tactic(auto, using(crate::proofs::PairLemmas::processor_pair))]
+pub(crate) fn processor_digits(n: PpNo) -> [u8; 2]
+    ensures { result ≡ octal 2 n }
+{
+    let pairs = processor_pairs();
+    let first = 2 * n.index();
+    [pairs[first], pairs[first + 1]]
+}
+
+/// The number of a channel in two octal digits.
+#[tactic(auto, using(crate::proofs::PairLemmas::channel_pair))]
+pub(crate) fn channel_digits(c: ChannelNo) -> [u8; 2]
+    ensures { result ≡ octal 2 c }
+{
+    let pairs = channel_pairs();
+    let first = 2 * c.index();
+    [pairs[first], pairs[first + 1]]
 }
 
 pub(crate) fn octal6(n: u32) -> [u8; 6]
@@ -44,24 +69,25 @@ pub(crate) fn octal6(n: u32) -> [u8; 6]
     ]
 }
 
+/// The last two decimal digits.
+#[tactic(auto, using(crate::proofs::PairLemmas::decimal_pair))]
+fn decimal2(n: u32) -> [u8; 2]
+    ensures { result ≡ digits 10 2 n }
+{
+    let pairs = decimal_pairs();
+    let first = 2 * (n % 100) as usize;
+    [pairs[first], pairs[first + 1]]
+}
+
 /// Six decimal digits.
 pub(crate) fn decimal6(n: u32) -> [u8; 6]
     requires { n < 10 ^ 6 }
     ensures { result ≡ digits 10 6 n }
 {
-    let tens = n / 10;
-    let hundreds = n / 100;
-    let thousands = n / 1000;
-    let ten_thousands = n / 10_000;
-    let hundred_thousands = n / 100_000;
-    [
-        b'0' + hundred_thousands as u8,
-        b'0' + (ten_thousands - 10 * hundred_thousands) as u8,
-        b'0' + (thousands - 10 * ten_thousands) as u8,
-        b'0' + (hundreds - 10 * thousands) as u8,
-        b'0' + (tens - 10 * hundreds) as u8,
-        b'0' + (n - 10 * tens) as u8,
-    ]
+    let [n0, n1] = decimal2(n / 10_000);
+    let [n2, n3] = decimal2(n / 100);
+    let [n4, n5] = decimal2(n);
+    [n0, n1, n2, n3, n4, n5]
 }
 
 /// Adds those decimal digits of a count that stand before its last six, and gives what is left for
@@ -92,4 +118,39 @@ fn push_unpadded<A: Allocator>(text: &mut Vec<u8, A>, n: u64, most: u32) -> Resu
     push_unpadded(text, n / 10, most - 1)?;
     text.push(b'0' + (n % 10) as u8)?;
     Ok(())
+}
+
+/// The two decimal digits of each number below 100 (decimal), one number after another.
+#[tactic(auto, unfolding(crate::specs::Pairs::decimal_pairs))]
+fn decimal_pairs() -> [u8; 200]
+    ensures { result ≡ decimal_pairs }
+{
+    *b"00010203040506070809101112131415161718192021222324252627282930313233343536373839\
+      40414243444546474849505152535455565758596061626364656667686970717273747576777879\
+      8081828384858687888990919293949596979899"
+}
+
+/// The two octal digits of each number below 100 (octal), one number after another.
+#[tactic(auto, unfolding(crate::specs::Pairs::octal_pairs))]
+fn octal_pairs() -> [u8; 128]
+    ensures { result ≡ octal_pairs }
+{
+    *b"0001020304050607101112131415161720212223242526273031323334353637\
+      4041424344454647505152535455565760616263646566677071727374757677"
+}
+
+/// The two octal digits of each processor's number, in order of place.
+#[tactic(auto, unfolding(crate::specs::Pairs::processor_pairs, pp_machine::specs::ProcessorNumber::processor_number))]
+fn processor_pairs() -> [u8; 40]
+    ensures { result ≡ processor_pairs }
+{
+    *b"0001020304050607101120212223242526273031"
+}
+
+/// The two octal digits of each channel's number, in order of place.
+#[tactic(auto, unfolding(crate::specs::Pairs::channel_pairs, pp_channel::specs::ChannelNumber::channel_number))]
+fn channel_pairs() -> [u8; 48]
+    ensures { result ≡ channel_pairs }
+{
+    *b"000102030405060710111213202122232425262730313233"
 }
