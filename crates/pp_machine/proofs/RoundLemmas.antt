@@ -9,11 +9,11 @@ use Rattle.pp_machine.specs.Processor.{Processor, no_processor}
 use Rattle.pp_machine.specs.ProcessorNumber.{processor_count, processor_index}
 use Rattle.pp_machine.specs.Profile.{processors_in, processor_in_turn}
 use Rattle.pp_machine.specs.declared.profile.Profile.{Profile}
-use Rattle.pp_machine.specs.Rounds.{RestBetween, PassesOverRest, rounds_and_turns, whole_rounds}
+use Rattle.pp_machine.specs.Rounds.{RestBetween, PassesOverRest, whole_rounds}
 use Rattle.pp_machine.specs.Run.{run, barrel}
 use Rattle.pp_machine.specs.StepLaws.{IsAtRest}
 use Rattle.pp_machine.proofs.MachineStepLemmas.{stepped_at_rest}
-use Rattle.pp_machine.proofs.ProfileLemmas.{index_in_turn, in_round, more_rounds, fewer_rounds, one_round, no_rounds}
+use Rattle.pp_machine.proofs.ProfileLemmas.{index_in_turn, in_round, more_rounds, fewer_rounds, one_round}
 use Rattle.pp_machine.proofs.RunLemmas.{run-append, run_profile, barrel_more}
 
 -- a step changes no other processor
@@ -145,14 +145,6 @@ barrel_rounds p (suc turns) rounds m =
     ∙ ap (stepped (processor_in_turn p turns)) (barrel_rounds p turns rounds m)
     ∙ sym (run-append (barrel p turns) (processor_in_turn p turns) (run (whole_rounds p rounds) m)))
 
--- whole rounds, and no turns more
-pub no_turns : (p : Profile) (rounds : ℕ) (m : MachineState) → run (rounds_and_turns p rounds 0) m ≡ run (whole_rounds p rounds) m
-no_turns p rounds m = barrel_rounds p 0 rounds m
-
--- no whole rounds, and then turns
-pub no_rounds_before : (p : Profile) (turns : ℕ) (m : MachineState) → run (rounds_and_turns p 0 turns) m ≡ run (barrel p turns) m
-no_rounds_before p turns m = let none : 0 * processors_in p + turns ≡ turns = omega (arith, no_rounds p) in ap (λ k. run (barrel p k) m) none
-
 -- whole rounds, and then more of them
 pub rounds_more : (p : Profile) (more rounds : ℕ) (m : MachineState) → run (whole_rounds p (rounds + more)) m ≡ run (whole_rounds p more) (run (whole_rounds p rounds) m)
 rounds_more p more rounds m = ap (λ turns. run (barrel p turns) m) (more_rounds p rounds more) ∙ barrel_rounds p (more * processors_in p) rounds m
@@ -160,6 +152,10 @@ rounds_more p more rounds m = ap (λ turns. run (barrel p turns) m) (more_rounds
 -- a machine keeps its profile
 pub profile_after : (ns : List ℕ) (m n : MachineState) → n ≡ run ns m → n.profile ≡ m.profile
 profile_after ns m n is = ap (λ (o : MachineState). o.profile) is ∙ run_profile ns m
+
+-- a round of a machine is as long after whole rounds
+pub round_later : (rounds round : ℕ) (m n : MachineState) → n ≡ run (whole_rounds m.profile rounds) m → round ≡ processors_in m.profile → round ≡ processors_in n.profile
+round_later rounds round m n ran is = is ∙ ap (λ p. processors_in p) (sym (profile_after (whole_rounds m.profile rounds) m n ran))
 
 -- rounds counted in turns
 pub counted_rounds : (p : Profile) (a b rounds round : ℕ) → a ≡ rounds → b ≡ round → round ≡ processors_in p → a * b ≡ rounds * processors_in p
@@ -180,6 +176,12 @@ turns_after rounds turns done m n o before counted after =
     after ∙ ap (λ q. run (barrel q turns) n) (profile_after (whole_rounds p rounds) m n before)
     ∙ ap (run (barrel p turns)) before ∙ sym (barrel_rounds p turns rounds m)
     ∙ ap (λ k. run (barrel p (k + turns)) m) (sym counted)
+
+-- rounds that are whole, or one that is not
+pub whole_so_far : (p : Profile) (done rounds turns : ℕ) → done < rounds → (1 < rounds → turns ≡ processors_in p)
+    → done * turns ≡ done * processors_in p
+whole_so_far p zero rounds turns within whole = omega arith
+whole_so_far p (suc done) rounds turns within whole = ap (λ k. suc done * k) (whole (omega (arith, within)))
 
 -- one round more
 pub round_after : (rounds turns : ℕ) (m n o : MachineState) → n ≡ run (whole_rounds m.profile rounds) m → turns ≡ processors_in m.profile → o ≡ run (barrel n.profile turns) n

@@ -1,6 +1,6 @@
 -- Rounds of the barrel in which processors at rest are passed over: a step of theirs counts a turn, and does
 -- nothing else.
-use Rattle.std.specs.Prelude.{ℕ, ◌+◌, ◌*◌, ◌<◌, ◌≤◌, List, slice_index, slice_index_or}
+use Rattle.std.specs.Prelude.{ℕ, ◌*◌, ◌<◌, ◌≤◌, List, slice_index, slice_index_or}
 use Rattle.pp_machine.specs.Processor.{Processor, no_processor}
 use Rattle.pp_machine.specs.ProcessorNumber.{processor_count}
 use Rattle.pp_machine.specs.Profile.{processors_in}
@@ -21,7 +21,3 @@ PassesOverRest next processors = (place : ℕ) → place ≤ processor_count →
 -- the processors of so many whole rounds of the barrel, in order
 abbrev pub whole_rounds : Profile → ℕ → List ℕ
 whole_rounds profile rounds = barrel profile (rounds * processors_in profile)
-
--- the processors of so many whole rounds and of the first turns of one more
-abbrev pub rounds_and_turns : Profile → ℕ → ℕ → List ℕ
-rounds_and_turns profile rounds turns = barrel profile (rounds * processors_in profile + turns)

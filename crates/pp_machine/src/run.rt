@@ -1,6 +1,6 @@
 //! Lists of steps.
 
-ghost use Rattle.std.specs.Prelude.{◌≡◌, ◌+◌, ◌*◌, ◌<◌, ◌≤◌, length, take, slice_index, IfErr, IsSome, OnOk, vec_len};
+ghost use Rattle.std.specs.Prelude.{◌≡◌, ◌*◌, ◌<◌, ◌≤◌, length, take, slice_index, IfErr, IsSome, OnOk, vec_len};
 ghost use Rattle.pp_machine.specs.ProcessorNumber.{processor_count};
 ghost use Rattle.pp_machine.specs.Rounds.{RestBetween, PassesOverRest};
 
@@ -20,7 +20,7 @@ const LONGEST_WINDOW: u32 = 1024;
 
 /// After how many rounds of the barrel it looks again which processors are at rest (decimal): a look
 /// costs as much as some turns.
-const LOOK_AFTER: u32 = 128;
+const LOOK_AFTER: u32 = 512;
 
 /// How many rounds it makes turn by turn where a window failed, before it tries again: twice as many
 /// each time, but few again after so many quiet rounds that it paid (decimal).
@@ -34,7 +34,7 @@ impl<A: Allocator> Machine<A> {
     ghost use Rattle.pp_machine.specs.Headline.{HoldsOnEachChannel};
     ghost use Rattle.pp_machine.specs.MachineStep.{step_event};
     ghost use Rattle.pp_machine.specs.Profile.{processors_in, processor_in_turn};
-    ghost use Rattle.pp_machine.specs.Rounds.{rounds_and_turns, whole_rounds};
+    ghost use Rattle.pp_machine.specs.Rounds.{whole_rounds};
     ghost use Rattle.pp_machine.specs.declared.profile.Profile.{Profile};
     ghost use Rattle.pp_machine.specs.MachineState.{MachineState};
     ghost use Rattle.pp_machine.specs.Run.{run, barrel};
@@ -75,7 +75,7 @@ impl<A: Allocator> Machine<A> {
             return Err(Cut { done });
         }
         let next = next_running(&self.processors);
-        match self.run_passing(0, turns % round, &next) {
+        match self.run_passing(1, turns % round, &next) {
             Ok(()) => Ok(()),
             Err(before) => Err(Cut {
                 done: u64::from(whole) * u64::from(round) + before,
@@ -162,7 +162,7 @@ impl<A: Allocator> Machine<A> {
         while done < rounds {
             let further = (rounds - done).min(LOOK_AFTER);
             let next = next_running(&self.processors);
-            if let Err(before) = self.run_passing(further, 0, &next) {
+            if let Err(before) = self.run_passing(further, round, &next) {
                 return Err(u64::from(done) * u64::from(round) + before);
             }
             done += further;
@@ -170,8 +170,8 @@ impl<A: Allocator> Machine<A> {
         Ok(())
     }
 
-    /// So many whole rounds of the barrel and the first turns of one more, where `next` tells which
-    /// processors at rest to pass over. Refused, it says how many steps were done.
+    /// So many rounds of the barrel, or the first turns of one, where `next` tells which processors at
+    /// rest to pass over. Refused, it says how many steps were done.
     #[inline(never)]
     fn run_passing(
         &mut self,
@@ -180,28 +180,23 @@ impl<A: Allocator> Machine<A> {
         next: &[usize; PROCESSORS + 1],
     ) -> Result<(), u64>
         requires round { turns ≤ processors_in self.old.profile }
+        requires whole { 1 < rounds → turns ≡ processors_in self.old.profile }
         requires passes { PassesOverRest next.now self.old.processors }
         requires sound { HoldsOnEachChannel self.old }
-        ensures ok { OnOk result (self.new ≡ run (rounds_and_turns self.old.profile rounds turns) self.old) }
+        ensures ok { OnOk result (self.new ≡ run (barrel self.old.profile (rounds * turns)) self.old) }
         ensures cut { IfErr result (λ done. self.new ≡ run (barrel self.old.profile done) self.old) }
-        ensures within { IfErr result (λ done. done < rounds * processors_in self.old.profile + turns) }
+        ensures within { IfErr result (λ done. done < rounds * turns) }
         ensures cut_at_event { IfErr result (λ done. IsSome (step_event (processor_in_turn self.old.profile done) self.new)) }
         ensures headline { HoldsOnEachChannel self.new }
     {
-        let round = self.round();
         let mut done = 0;
-        // One call, so that a round is compiled into the loop.
-        loop {
-            let is_whole = done < rounds;
-            let some = if is_whole { round } else { turns };
-            if let Err(before) = self.run_round(some as usize, next) {
-                return Err(u64::from(done) * u64::from(round) + before as u64);
-            }
-            if !is_whole {
-                return Ok(());
+        while done < rounds {
+            if let Err(before) = self.run_round(turns as usize, next) {
+                return Err(u64::from(done) * u64::from(turns) + before as u64);
             }
             done += 1;
         }
+        Ok(())
     }
 
     /// The first turns of a round of the barrel, where `next` tells which processors at rest to pass

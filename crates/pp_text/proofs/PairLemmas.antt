@@ -5,7 +5,7 @@ use Rattle.std.proofs.lemmas.List.FromFn.{get_or-map-range_with_len}
 use Rattle.pp_channel.specs.ChannelNumber.{channel_count, channel_number}
 use Rattle.pp_machine.specs.ProcessorNumber.{processor_count, processor_number}
 use Rattle.pp_text.specs.Numeral.{digits, octal}
-use Rattle.pp_text.specs.Pairs.{decimal_pairs, octal_pairs, processor_pairs, channel_pairs}
+use Rattle.pp_text.specs.Pairs.{decimal_pairs, processor_pairs, channel_pairs}
 
 -- two functions that agree below a bound, as lists
 agree_below : (f g : ℕ → ℕ) (n i : ℕ) → i < n → map f (range_with_len 0 n) ≡ map g (range_with_len 0 n) → f i ≡ g i
@@ -20,14 +20,6 @@ pair_at pairs i = get_or pairs (2 * i) 0 ∷ get_or pairs (2 * i + 1) 0 ∷ []
 
 both : (a b c d : ℕ) → a ≡ b → c ≡ d → ◌≡◌ {A = List ℕ} (a ∷ c ∷ []) (b ∷ d ∷ [])
 both a b c d first second = ap (λ x. x ∷ c ∷ []) first ∙ ap (λ x. b ∷ x ∷ []) second
-
-pub octal_pair : (pairs : List ℕ) (i : ℕ) → pairs ≡ octal_pairs → i < 0o100 → pair_at pairs i ≡ octal 2 i
-unfolding octal_pairs
-octal_pair pairs i is within =
-    ap (λ ps. pair_at ps i) is
-    ∙ both (get_or octal_pairs (2 * i) 0) (48 + i / 8 % 8) (get_or octal_pairs (2 * i + 1) 0) (48 + i % 8)
-    (agree_below (λ k. get_or octal_pairs (2 * k) 0) (λ k. 48 + k / 8 % 8) 0o100 i within refl)
-    (agree_below (λ k. get_or octal_pairs (2 * k + 1) 0) (λ k. 48 + k % 8) 0o100 i within refl)
 
 pub decimal_pair : (pairs : List ℕ) (i : ℕ) → pairs ≡ decimal_pairs → i < 100 → pair_at pairs i ≡ digits 10 2 i
 unfolding decimal_pairs

@@ -9,10 +9,6 @@ use Rattle.pp_text.specs.Numeral.{digits, octal}
 unfoldable pub decimal_pairs : List ℕ
 decimal_pairs = flat_map (digits 10 2) (range_with_len 0 100)
 
--- of the numbers below 100, in octal
-unfoldable pub octal_pairs : List ℕ
-octal_pairs = flat_map (octal 2) (range_with_len 0 0o100)
-
 -- of the processors' numbers, in order of place
 unfoldable pub processor_pairs : List ℕ
 processor_pairs = flat_map (λ place. octal 2 (processor_number place)) (range_with_len 0 processor_count)

@@ -2,7 +2,7 @@
 
 ghost use Rattle.std.specs.Prelude.{◌≡◌, ◌<◌, ◌/◌, ◌%◌, ◌^◌, ◌++◌, IfOk, OnOk};
 ghost use Rattle.pp_text.specs.Numeral.{digits, octal, unpadded};
-ghost use Rattle.pp_text.specs.Pairs.{channel_pairs, decimal_pairs, octal_pairs, processor_pairs};
+ghost use Rattle.pp_text.specs.Pairs.{channel_pairs, decimal_pairs, processor_pairs};
 
 use pp_channel::ChannelNo;
 use pp_machine::PpNo;
@@ -17,23 +17,15 @@ pub(crate) fn octal1(n: u8) -> [u8; 1]
     [b'0' + n % 8]
 }
 
-// Each event's line has some of these fields, so their digits stand in tables.
-
-#[tactic(auto, using(crate::proofs::PairLemmas::octal_pair))]
-fn octal2(n: u8) -> [u8; 2]
-    ensures { result ≡ octal 2 n }
-{
-    let pairs = octal_pairs();
-    let first = 2 * usize::from(n % 0o100);
-    [pairs[first], pairs[first + 1]]
-}
+// Each event's line has some of these fields: the digits of a word are put together in one register, the
+// others stand in tables.
 
 pub(crate) fn octal4(n: u16) -> [u8; 4]
     ensures { result ≡ octal 4 n }
 {
-    let [n0, n1] = octal2((n / 0o100 % 0o100) as u8);
-    let [n2, n3] = octal2((n % 0o100) as u8);
-    [n0, n1, n2, n3]
+    let n = u32::from(n);
+    let first = 0x3030_3030 + n / 8 / 8 / 8 % 8 + n / 8 / 8 % 8 * 0x100;
+    (first + n / 8 % 8 * 0x1_0000 + n % 8 * 0x100_0000).to_le_bytes()
 }
 
 /// The number of a processor in two octal digits.
@@ -128,15 +120,6 @@ fn decimal_pairs() -> [u8; 200]
     *b"00010203040506070809101112131415161718192021222324252627282930313233343536373839\
       40414243444546474849505152535455565758596061626364656667686970717273747576777879\
       8081828384858687888990919293949596979899"
-}
-
-/// The two octal digits of each number below 100 (octal), one number after another.
-#[tactic(auto, unfolding(crate::specs::Pairs::octal_pairs))]
-fn octal_pairs() -> [u8; 128]
-    ensures { result ≡ octal_pairs }
-{
-    *b"0001020304050607101112131415161720212223242526273031323334353637\
-      4041424344454647505152535455565760616263646566677071727374757677"
 }
 
 /// The two octal digits of each processor's number, in order of place.

@@ -65,6 +65,7 @@ fn author_heading(number: u32, author: PpNo) -> [u8; 12]
 }
 
 /// Adds `PUT 0007` and a line feed.
+#[inline(always)]
 fn push_event_end<A: Allocator>(text: &mut Vec<u8, A>, event: Event) -> Result<(), AllocError>
     ensures text { OnOk result (text.new.items ≡ text.old.items ++ (event_text event ++ line_end)) }
     ensures fits { OnOk result (HasTwelveBitWord event) }

@@ -3,7 +3,7 @@ use Rattle.pp_machine.specs.Profile.{processors_in}
 use Rattle.pp_machine.specs.Rounds.{whole_rounds}
 use Rattle.pp_machine.specs.Run.{run, barrel}
 use Rattle.pp_machine.proofs.ProfileLemmas.{rest_within, rounds_and_rest}
-use Rattle.pp_machine.proofs.RoundLemmas.{no_rounds_before, profile_after, counted_rounds, turns_after, event_after}
+use Rattle.pp_machine.proofs.RoundLemmas.{profile_after, counted_rounds, turns_after, event_after}
 use Rattle.pp_machine.proofs.machine.Machine.run_barrel.Goals as goal
 
 pub run_passing-requires-clause-round : goal.run_passing-requires-clause-round
@@ -20,8 +20,9 @@ returns-in-Ok-clause-ok g c =
     let m = c.args.self.now in
     let whole = c.args.turns / c.round-round.result in
     let rest = c.args.turns % c.round-round.result in
+    let one : 1 * rest ≡ rest = omega arith in
     let all : whole * processors_in m.profile + rest ≡ c.args.turns = subst (λ k. c.args.turns / k * processors_in m.profile + c.args.turns % k ≡ c.args.turns) (sym c.round-round.ensures) (rounds_and_rest m.profile c.args.turns) in
-    turns_after whole rest (whole * processors_in m.profile) m c.run_rounds.new.self c.run_passing.new.self c.in_default.ensures.ok refl (c.in-Ok.ensures.ok ∙ no_rounds_before c.run_rounds.new.self.profile rest c.run_rounds.new.self) ∙ ap (λ k. run (barrel m.profile k) m) all
+    turns_after whole rest (whole * processors_in m.profile) m c.run_rounds.new.self c.run_passing.new.self c.in_default.ensures.ok refl (c.in-Ok.ensures.ok ∙ ap (λ k. run (barrel c.run_rounds.new.self.profile k) c.run_rounds.new.self) one) ∙ ap (λ k. run (barrel m.profile k) m) all
 
 pub returns-in-Err-run_passing-clause-cut : goal.returns-in-Err-run_passing-clause-cut
 returns-in-Err-run_passing-clause-cut g c =
