@@ -148,8 +148,25 @@ impl<A: Allocator> Machine<A> {
         }
     }
 
-    /// One operation of a processor on a channel.
+    /// One operation of a processor on a channel. Most of them move a word: what they do is compiled for
+    /// each of these by itself.
+    #[inline(always)]
     fn exchange(&mut self, n: PpNo, channel: ChannelNo, op: ChanOp) -> Result<Reply, Memory>
+        ensures reply { IfOk result (λ r. Answer.Channel r ≡ answer_to (Need.Channel channel op) self.old) }
+        ensures ok { OnOk result (self.new ≡ served n (Need.Channel channel op) self.old) }
+        ensures unchanged_after_memory { OnErr result (self.new ≡ self.old) }
+        ensures no_event { IsNone (event_for (Need.Channel channel op) self.old) → IsOk result }
+    {
+        match op {
+            ChanOp::Take => self.operate(n, channel, ChanOp::Take),
+            ChanOp::Put(word) => self.operate(n, channel, ChanOp::Put(word)),
+            _ => self.operate(n, channel, op),
+        }
+    }
+
+    /// One operation of a processor on a channel, whatever it is.
+    #[inline(always)]
+    fn operate(&mut self, n: PpNo, channel: ChannelNo, op: ChanOp) -> Result<Reply, Memory>
         ensures reply { IfOk result (λ r. Answer.Channel r ≡ answer_to (Need.Channel channel op) self.old) }
         ensures ok { OnOk result (self.new ≡ served n (Need.Channel channel op) self.old) }
         ensures unchanged_after_memory { OnErr result (self.new ≡ self.old) }
@@ -187,6 +204,7 @@ impl<A: Allocator> Machine<A> {
 }
 
 /// One operation on one of the channels, of which the event that it makes now is known.
+#[inline(always)]
 fn make_on<A: Allocator>(
     channels: &mut Vec<Channel<A>, A>,
     channel: ChannelNo,

@@ -14,7 +14,7 @@ use Rattle.pp_machine.specs.declared.need.Need.{Need}
 use Rattle.pp_machine.specs.declared.need.Need.TheVariants.{Channel}
 use Rattle.pp_machine.proofs.TakenLemmas.{own_history, some_is_made}
 use Rattle.pp_machine.proofs.HeadlineLemmas.{headline_after_event}
-use Rattle.pp_machine.proofs.machine.Machine.exchange.Goals as goal
+use Rattle.pp_machine.proofs.machine.Machine.operate.Goals as goal
 
 pub invariant_of-self-in-Ok : goal.invariant_of-self-in-Ok
 invariant_of-self-in-Ok g c =
