@@ -1,6 +1,8 @@
 -- What a processor's next step is made of, told beforehand.
-use Rattle.std.specs.Prelude.{◌≡◌, ℕ, Option, None, Some, IsSome}
+use Rattle.std.specs.Prelude.{◌≡◌, ℕ, ◌&&◌, Bool, true, false, Option, None, Some, IsSome, nat_lt}
+use Rattle.pp_word.specs.OperationCodes.{code_of}
 use Rattle.pp_word.specs.declared.opcode.Opcode.{Opcode}
+use Rattle.pp_word.specs.declared.opcode.Opcode.TheVariants.{UJN, EXN, RPN}
 use Rattle.pp_machine.specs.OperandAndPlace.{operation, lower_six}
 use Rattle.pp_machine.specs.Processor.{Processor}
 use Rattle.pp_machine.specs.declared.pp_state.PpState.TheVariants.{Running}
@@ -16,3 +18,14 @@ pub record IsAtInstruction (op : Opcode) (d : ℕ) (pp : Processor) : Type 0 whe
 abbrev pub IsNext : Option Opcode → ℕ → Processor → Type 0
 IsNext None d pp = (pp.state ≡ Running) × IsSome pp.block
 IsNext (Some op) d pp = IsAtInstruction op d pp
+
+-- whether an operation needs nothing from outside, whatever its operands, and begins no block: codes 00 to 57
+abbrev pub is_inner : Opcode → Bool
+is_inner op = nat_lt (code_of op) 0o60
+
+-- whether an operation may leave its processor at rest: UJN may stop, EXN and RPN are faults
+abbrev pub may_end : Opcode → Bool
+may_end UJN = true
+may_end EXN = true
+may_end RPN = true
+may_end op = false

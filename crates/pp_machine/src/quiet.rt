@@ -12,7 +12,7 @@ ghost use Rattle.pp_machine.specs.Replay.{reply_fits};
 use crate::answer::Answer;
 use crate::need::Need;
 use crate::outcome::Outcome;
-use crate::pp::Pp;
+use crate::pp::{Pp, may_end};
 use crate::pp_state::PpState;
 use pp_channel::{ChanOp, Channel, ChannelNo, Reply};
 use std::alloc::Allocator;
@@ -100,16 +100,15 @@ fn run_free_steps<A: Allocator>(pp: &mut Pp, channels: &Vec<Channel<A>, A>, most
     ensures most { result ≤ most }
     ensures ahead { (m : MachineState) → m.histories ≡ channels.now.items → IsAhead result m pp.old pp.new }
 {
+    if !pp.is_at_instruction() {
+        return 0;
+    }
     for made in 0..most {
-        match pp.state() {
-            PpState::Running => {}
-            PpState::Stopped | PpState::Fault(_) => return made,
-        }
-        let (next, d) = pp.next_instruction();
-        let Some(op) = next else {
-            return made;
-        };
+        let (op, d) = pp.instruction_at_p();
         if pp.run_inner(op, d) {
+            if may_end(op) && !pp.is_running() {
+                return made + 1;
+            }
             continue;
         }
         if !pp.tests_flags(op, d) {

@@ -1,5 +1,4 @@
 pub mod EachPlace
 pub mod LogicLemmas
-pub mod OperationCodeLemmas
 pub mod PlacesLemmas
 pub mod ShiftLemmas

@@ -1,9 +1,9 @@
 //! The parts of a step, for the machine, which makes it without an answer in between: the instruction
 //! is decoded once.
 
-ghost use Rattle.std.specs.Prelude.{◌≡◌, ℕ, None, IsTrue, if◌then◌else◌};
+ghost use Rattle.std.specs.Prelude.{◌≡◌, ℕ, None, IsTrue, false, if◌then◌else◌};
 ghost use Rattle.std.specs.Bool.{OnTrue, OnFalse};
-ghost use Rattle.pp_machine.specs.Direct.{IsAtInstruction, IsNext};
+ghost use Rattle.pp_machine.specs.Direct.{IsAtInstruction, IsNext, is_inner, may_end};
 ghost use Rattle.pp_machine.specs.InstructionTable.{instruction};
 ghost use Rattle.pp_machine.specs.NeedAndEffect.{need, processor_after, outcome};
 ghost use Rattle.pp_machine.specs.Processor.{Processor};
@@ -22,12 +22,46 @@ use pp_word::{Opcode, Word6, Word60};
 
 /// Whether an operation needs nothing from outside, whatever its operands: codes 00 to 57 (octal).
 fn is_inner(op: Opcode) -> bool
-    ensures { (pp : Processor) (d : ℕ) → IsTrue result → need_of (instruction op pp d) ≡ Need.Local }
+    ensures inner { result ≡ is_inner op }
+    ensures local { (pp : Processor) (d : ℕ) → IsTrue result → need_of (instruction op pp d) ≡ Need.Local }
 {
     op.code() < 0o60
 }
 
+/// Whether an operation may leave its processor at rest.
+pub(crate) fn may_end(op: Opcode) -> bool
+    ensures { result ≡ may_end op }
+{
+    matches!(op, Opcode::UJN | Opcode::EXN | Opcode::RPN)
+}
+
 impl Pp {
+    /// Whether it is running and in no block, so that its next step is the instruction at P.
+    pub(crate) fn is_at_instruction(&self) -> bool
+        ensures running { OnTrue result (self.now.state ≡ PpState.Running) }
+        ensures free { OnTrue result (self.now.block ≡ None) }
+    {
+        self.is_running() && self.block.is_none()
+    }
+
+    pub(crate) fn is_running(&self) -> bool
+        ensures { OnTrue result (self.now.state ≡ PpState.Running) }
+    {
+        match self.state {
+            PpState::Running => true,
+            PpState::Stopped | PpState::Fault(_) => false,
+        }
+    }
+
+    /// The operation of the instruction at P, its next step, and the lower six bits of its word.
+    pub(crate) fn instruction_at_p(&self) -> (Opcode, Word6)
+        requires running { self.now.state ≡ PpState.Running }
+        requires free { self.now.block ≡ None }
+        ensures { IsAtInstruction result.0 result.1 self.now }
+    {
+        self.instruction()
+    }
+
     /// The operation of the next instruction of a running processor and the lower six bits of its
     /// word; no operation where it is in a block.
     pub(crate) fn next_instruction(&self) -> (Option<Opcode>, Word6)
@@ -37,7 +71,7 @@ impl Pp {
         if self.block.is_some() {
             return (None, Word6::truncated(0));
         }
-        let (op, d) = self.instruction();
+        let (op, d) = self.instruction_at_p();
         (Some(op), d)
     }
 
@@ -50,6 +84,8 @@ impl Pp {
         ensures local { OnTrue result (need self.old ≡ Need.Local) }
         ensures after { OnTrue result (self.new ≡ processor_after self.old Answer.Local) }
         ensures moved { OnTrue result (outcome self.old Answer.Local ≡ Outcome.Moved) }
+        ensures running { OnTrue result (may_end op ≡ false → self.new.state ≡ PpState.Running) }
+        ensures free { OnTrue result (self.new.block ≡ None) }
         ensures otherwise { OnFalse result (self.new ≡ self.old) }
     {
         if !is_inner(op) {
@@ -76,6 +112,8 @@ impl Pp {
         requires fits { IsTrue (fits (need self.old) (Answer.Channel (Reply.Flags flags))) }
         ensures after { self.new ≡ processor_after self.old (Answer.Channel (Reply.Flags flags)) }
         ensures moved { outcome self.old (Answer.Channel (Reply.Flags flags)) ≡ Outcome.Moved }
+        ensures running { self.new.state ≡ PpState.Running }
+        ensures free { self.new.block ≡ None }
     {
         match op {
             Opcode::AJM => self.branch_where(flags.active),

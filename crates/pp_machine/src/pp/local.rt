@@ -1,6 +1,7 @@
 //! Instructions that need nothing from outside.
 
-ghost use Rattle.std.specs.Prelude.{◌≡◌, None, true};
+ghost use Rattle.std.specs.Prelude.{◌≡◌, IsTrue, None, false, true};
+ghost use Rattle.pp_machine.specs.Direct.{is_inner, may_end};
 ghost use Rattle.pp_machine.specs.InstructionTable.{instruction};
 ghost use Rattle.pp_machine.specs.NeedAndEffect.{answered};
 ghost use Rattle.pp_machine.specs.Replay.{fits};
@@ -43,7 +44,9 @@ impl Pp {
         requires running { self.old.state ≡ PpState.Running }
         requires free { self.old.block ≡ None }
         requires fits { fits (need_of (instruction op self.old d)) Answer.Local ≡ true }
-        ensures { self.new ≡ answered (instruction op self.old d) self.old Answer.Local }
+        ensures answered { self.new ≡ answered (instruction op self.old d) self.old Answer.Local }
+        ensures running { IsTrue (is_inner op) → may_end op ≡ false → self.new.state ≡ PpState.Running }
+        ensures free { IsTrue (is_inner op) → self.new.block ≡ None }
     {
         match op {
             Opcode::PSN => self.go_on(1),

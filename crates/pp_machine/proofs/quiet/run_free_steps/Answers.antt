@@ -11,44 +11,68 @@ use Rattle.pp_machine.specs.Processor.{Processor}
 use Rattle.pp_machine.specs.Profile.{has_channel}
 use Rattle.pp_machine.specs.Quiet.{IsAhead}
 use Rattle.pp_machine.specs.declared.need.Need.TheVariants as needs
+use Rattle.pp_machine.specs.declared.pp_state.PpState.TheVariants.{Running}
 use Rattle.pp_machine.proofs.QuietLemmas.{none_ahead, local_ahead, probe_ahead}
 use Rattle.pp_machine.proofs.quiet.run_free_steps.Goals as goal
+use Rattle.pp_machine.proofs.quiet.run_free_steps.Goals.{else-may_end-via-then-may_end+else-not-is_running, else-may_end-via-else-may_end}
+
+pub returns-then-not-is_at_instruction-clause-ahead : goal.returns-then-not-is_at_instruction-clause-ahead
+returns-then-not-is_at_instruction-clause-ahead g c = λ m same. none_ahead m c.args.pp.now
 
 pub loop-made-init : goal.loop-made-init
-loop-made-init g c = λ m same. none_ahead m c.args.pp.now
+loop-made-init g c = record {
+  ahead = λ m same. none_ahead m c.args.pp.now;
+  running = c.if-not-is_at_instruction.ensures.running;
+  free = c.if-not-is_at_instruction.ensures.free;
+}
+
+pub returns-then-not-is_running-clause-ahead : goal.returns-then-not-is_running-clause-ahead
+returns-then-not-is_running-clause-ahead g c = λ m same.
+    local_ahead c.loop-made.made m c.args.pp.now c.loop-made.pp c.run_inner.new.self (c.loop-made.invariant.ahead m same) c.if-run_inner.ensures.local c.if-run_inner.ensures.after
 
 pub loop-made-preserved-then-run_inner : goal.loop-made-preserved-then-run_inner
-loop-made-preserved-then-run_inner g c = λ m same.
-    local_ahead c.loop-made.made m c.args.pp.now c.loop-made.pp c.run_inner.new.self (c.loop-made.invariant m same) c.if-run_inner.ensures.local c.if-run_inner.ensures.after
+loop-made-preserved-then-run_inner g c = record {
+  ahead = λ m same.
+      local_ahead c.loop-made.made m c.args.pp.now c.loop-made.pp c.run_inner.new.self (c.loop-made.invariant.ahead m same) c.if-run_inner.ensures.local c.if-run_inner.ensures.after;
+  running = elim c.else-may_end.branch as (λ _. c.run_inner.new.self.state ≡ Running) [
+    | else-may_end-via-then-may_end+else-not-is_running w ↦ w.if-not-is_running.ensures
+    | else-may_end-via-else-may_end w ↦ c.if-run_inner.ensures.running (sym c.may_end.ensures ∙ w.if-may_end.false)
+  ];
+  free = c.if-run_inner.ensures.free;
+}
 
 pub returns-then-not-tests_flags-clause-ahead : goal.returns-then-not-tests_flags-clause-ahead
 returns-then-not-tests_flags-clause-ahead g c = λ m same.
-    subst (λ (pp : Processor). IsAhead c.loop-made.made m c.args.pp.now pp) (sym c.if-run_inner.ensures.otherwise) (c.loop-made.invariant m same)
+    subst (λ (pp : Processor). IsAhead c.loop-made.made m c.args.pp.now pp) (sym c.if-run_inner.ensures.otherwise) (c.loop-made.invariant.ahead m same)
 
-pub returns-in_default-channel-clause-ahead : goal.returns-in_default-channel-clause-ahead
-returns-in_default-channel-clause-ahead g c = λ m same.
-    subst (λ (pp : Processor). IsAhead c.loop-made.made m c.args.pp.now pp) (sym c.if-run_inner.ensures.otherwise) (c.loop-made.invariant m same)
+pub returns-in_default-clause-ahead : goal.returns-in_default-clause-ahead
+returns-in_default-clause-ahead g c = λ m same.
+    subst (λ (pp : Processor). IsAhead c.loop-made.made m c.args.pp.now pp) (sym c.if-run_inner.ensures.otherwise) (c.loop-made.invariant.ahead m same)
 
 pub loop-made-preserved : goal.loop-made-preserved
-loop-made-preserved g c = λ m same.
-    let histories = c.args.channels.now.items in
-    let between = c.run_inner.new.self in
-    let channel = c.in-Some-channel.channel in
-    let d = c.next_instruction-next.result.1 in
-    let ahead : IsAhead c.loop-made.made m c.args.pp.now between = subst (λ (pp : Processor). IsAhead c.loop-made.made m c.args.pp.now pp) (sym c.if-run_inner.ensures.otherwise) (c.loop-made.invariant m same) in
-    let number : channel ≡ d = c.in-Some-channel.ensures.value in
-    let named : has_channel between.profile d ≡ true = c.in-Some-channel.ensures.exists.0 refl in
-    let asks : need between ≡ needs.Channel channel Probe =
-    c.if-not-tests_flags.ensures ∙ ap (λ (b : Bool). if b then needs.Channel d Probe else needs.Local) named ∙ ap (λ k. needs.Channel k Probe) (sym number) in
-    let place = c.index.result in
-    let inside : place < length histories = omega (arith, c.index.ensures.below, c.requires.channels, c.args.channels.now.ok.0) in
-    let here : c.index-in-loop-made.result.now ≡ history_of channel m =
-    get_or_read histories place c.index-in-loop-made.result.now inside c.index-in-loop-made.ensures []
-    ∙ ap (λ i. get_or histories i []) c.index.ensures.place
-    ∙ ap (λ (hs : List (List Event)). get_or hs (channel_index channel) []) (sym same) in
-    probe_ahead c.loop-made.made channel c.flags-flags.result m c.args.pp.now between c.test_flags.new.self ahead asks (c.flags-flags.ensures ∙ ap flags_of here) c.test_flags.ensures.after
+loop-made-preserved g c = record {
+  ahead = λ m same.
+      let histories = c.args.channels.now.items in
+      let between = c.run_inner.new.self in
+      let channel = c.in-Some.channel in
+      let d = c.instruction_at_p-op.result.1 in
+      let ahead : IsAhead c.loop-made.made m c.args.pp.now between = subst (λ (pp : Processor). IsAhead c.loop-made.made m c.args.pp.now pp) (sym c.if-run_inner.ensures.otherwise) (c.loop-made.invariant.ahead m same) in
+      let number : channel ≡ d = c.in-Some.ensures.value in
+      let named : has_channel between.profile d ≡ true = c.in-Some.ensures.exists.0 refl in
+      let asks : need between ≡ needs.Channel channel Probe =
+      c.if-not-tests_flags.ensures ∙ ap (λ (b : Bool). if b then needs.Channel d Probe else needs.Local) named ∙ ap (λ k. needs.Channel k Probe) (sym number) in
+      let place = c.index.result in
+      let inside : place < length histories = omega (arith, c.index.ensures.below, c.requires.channels, c.args.channels.now.ok.0) in
+      let here : c.index-in-loop-made.result.now ≡ history_of channel m =
+      get_or_read histories place c.index-in-loop-made.result.now inside c.index-in-loop-made.ensures []
+      ∙ ap (λ i. get_or histories i []) c.index.ensures.place
+      ∙ ap (λ (hs : List (List Event)). get_or hs (channel_index channel) []) (sym same) in
+      probe_ahead c.loop-made.made channel c.flags-flags.result m c.args.pp.now between c.test_flags.new.self ahead asks (c.flags-flags.ensures ∙ ap flags_of here) c.test_flags.ensures.after;
+  running = c.test_flags.ensures.running;
+  free = c.test_flags.ensures.free;
+}
 
 pub returns-clause-ahead : goal.returns-clause-ahead
 returns-clause-ahead g c = λ m same.
     let all : c.loop-made.made ≡ c.args.most = omega arith in
-    subst (λ k. IsAhead k m c.args.pp.now c.loop-made.pp) all (c.loop-made.invariant m same)
+    subst (λ k. IsAhead k m c.args.pp.now c.loop-made.pp) all (c.loop-made.invariant.ahead m same)
