@@ -3,6 +3,7 @@ use Rattle.std.specs.Prelude.{◌≡◌, ℕ, ◌&&◌, Bool, true, false, Optio
 use Rattle.pp_word.specs.OperationCodes.{code_of}
 use Rattle.pp_word.specs.declared.opcode.Opcode.{Opcode}
 use Rattle.pp_word.specs.declared.opcode.Opcode.TheVariants.{UJN, EXN, RPN}
+use Rattle.pp_machine.specs.Effects.{leads_to_itself}
 use Rattle.pp_machine.specs.OperandAndPlace.{operation, lower_six}
 use Rattle.pp_machine.specs.Processor.{Processor}
 use Rattle.pp_machine.specs.declared.pp_state.PpState.TheVariants.{Running}
@@ -23,9 +24,9 @@ IsNext (Some op) d pp = IsAtInstruction op d pp
 abbrev pub is_inner : Opcode → Bool
 is_inner op = nat_lt (code_of op) 0o60
 
--- whether an operation may leave its processor at rest: UJN may stop, EXN and RPN are faults
-abbrev pub may_end : Opcode → Bool
-may_end UJN = true
-may_end EXN = true
-may_end RPN = true
-may_end op = false
+-- whether an instruction leaves its processor at rest: UJN may stop it, EXN and RPN are faults
+abbrev pub ends : Opcode → ℕ → Bool
+ends UJN d = leads_to_itself d
+ends EXN d = true
+ends RPN d = true
+ends op d = false

@@ -19,7 +19,7 @@ use crate::pp_memory::PpMemory;
 use crate::pp_state::PpState;
 use crate::profile::Profile;
 pub(crate) use block_law::block_results;
-pub(crate) use direct::may_end;
+pub(crate) use direct::ends;
 use pp_channel::ChannelNo;
 use pp_word::{Word6, Word12, Word18};
 use std::marker::Model;

@@ -65,9 +65,12 @@ impl Profile {
         ensures exists { IsSome result ↔ IsTrue (has_channel self number) }
         ensures value { IfSome result (λ c. c ≡ number) }
     {
+        if usize::from(number) < TWELVE {
+            return ChannelNo::new(number);
+        }
         match self {
-            Profile::Ten if usize::from(number) >= TWELVE => None,
-            Profile::Ten | Profile::Twenty => ChannelNo::new(number),
+            Profile::Ten => None,
+            Profile::Twenty => ChannelNo::new(number),
         }
     }
 }

@@ -12,7 +12,7 @@ ghost use Rattle.pp_machine.specs.Replay.{reply_fits};
 use crate::answer::Answer;
 use crate::need::Need;
 use crate::outcome::Outcome;
-use crate::pp::{Pp, may_end};
+use crate::pp::{Pp, ends};
 use crate::pp_state::PpState;
 use pp_channel::{ChanOp, Channel, ChannelNo, Reply};
 use std::alloc::Allocator;
@@ -106,7 +106,7 @@ fn run_free_steps<A: Allocator>(pp: &mut Pp, channels: &Vec<Channel<A>, A>, most
     for made in 0..most {
         let (op, d) = pp.instruction_at_p();
         if pp.run_inner(op, d) {
-            if may_end(op) && !pp.is_running() {
+            if ends(op, d) {
                 return made + 1;
             }
             continue;

@@ -16,7 +16,7 @@ use std::alloc::Allocator;
 /// running processor's memory, and one that fails all that the processors ran too far.
 const SHORTEST_WINDOW: u32 = 64;
 
-const LONGEST_WINDOW: u32 = 1024;
+const LONGEST_WINDOW: u32 = 8192;
 
 /// After how many rounds of the barrel it looks again which processors are at rest (decimal): a look
 /// costs as much as some turns.
@@ -246,7 +246,7 @@ impl<A: Allocator> Machine<A> {
 /// The next window after so many quiet rounds since a window failed: half as many.
 fn window_after(held: u32) -> u32
     ensures some { 1 ≤ result }
-    ensures most { result ≤ 1024 }
+    ensures most { result ≤ 8192 }
 {
     (held / 2).max(SHORTEST_WINDOW).min(LONGEST_WINDOW)
 }

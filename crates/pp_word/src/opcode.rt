@@ -197,7 +197,7 @@ pub fn decode(word: Word12) -> (Opcode, Word6)
 {
     let bits = word.get();
     (
-        opcode_at((bits >> 6) as u8),
+        opcode_at((bits / 0o100 % 0o100) as u8),
         Word6::truncated((bits & 0o77) as u8),
     )
 }

@@ -3,7 +3,7 @@
 
 ghost use Rattle.std.specs.Prelude.{◌≡◌, ℕ, None, IsTrue, false, if◌then◌else◌};
 ghost use Rattle.std.specs.Bool.{OnTrue, OnFalse};
-ghost use Rattle.pp_machine.specs.Direct.{IsAtInstruction, IsNext, is_inner, may_end};
+ghost use Rattle.pp_machine.specs.Direct.{IsAtInstruction, IsNext, ends, is_inner};
 ghost use Rattle.pp_machine.specs.InstructionTable.{instruction};
 ghost use Rattle.pp_machine.specs.NeedAndEffect.{need, processor_after, outcome};
 ghost use Rattle.pp_machine.specs.Processor.{Processor};
@@ -15,6 +15,7 @@ use crate::answer::Answer;
 use crate::block::{Block, BlockKind};
 use crate::need::Need;
 use crate::outcome::Outcome;
+use crate::pp::effect::leads_to_itself;
 use crate::pp::Pp;
 use crate::pp_state::PpState;
 use pp_channel::{ChanOp, Flags, Reply};
@@ -28,11 +29,15 @@ fn is_inner(op: Opcode) -> bool
     op.code() < 0o60
 }
 
-/// Whether an operation may leave its processor at rest.
-pub(crate) fn may_end(op: Opcode) -> bool
-    ensures { result ≡ may_end op }
+/// Whether an instruction leaves its processor at rest.
+pub(crate) fn ends(op: Opcode, d: Word6) -> bool
+    ensures { result ≡ ends op d }
 {
-    matches!(op, Opcode::UJN | Opcode::EXN | Opcode::RPN)
+    match op {
+        Opcode::UJN => leads_to_itself(d),
+        Opcode::EXN | Opcode::RPN => true,
+        _ => false,
+    }
 }
 
 impl Pp {
@@ -84,7 +89,7 @@ impl Pp {
         ensures local { OnTrue result (need self.old ≡ Need.Local) }
         ensures after { OnTrue result (self.new ≡ processor_after self.old Answer.Local) }
         ensures moved { OnTrue result (outcome self.old Answer.Local ≡ Outcome.Moved) }
-        ensures running { OnTrue result (may_end op ≡ false → self.new.state ≡ PpState.Running) }
+        ensures running { OnTrue result (ends op d ≡ false → self.new.state ≡ PpState.Running) }
         ensures free { OnTrue result (self.new.block ≡ None) }
         ensures otherwise { OnFalse result (self.new ≡ self.old) }
     {

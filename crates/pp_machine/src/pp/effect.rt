@@ -12,7 +12,7 @@ use pp_word::{Word6, Word12, Word18, add18, next, relative, sub18, xor18};
 const SIGN: u32 = 0o400_000;
 
 /// Whether a jump by d leads to itself.
-fn leads_to_itself(d: Word6) -> bool
+pub(super) fn leads_to_itself(d: Word6) -> bool
     ensures { result ≡ leads_to_itself d }
 {
     let by = d.get();

@@ -14,7 +14,6 @@ use Rattle.pp_machine.specs.declared.need.Need.TheVariants as needs
 use Rattle.pp_machine.specs.declared.pp_state.PpState.TheVariants.{Running}
 use Rattle.pp_machine.proofs.QuietLemmas.{none_ahead, local_ahead, probe_ahead}
 use Rattle.pp_machine.proofs.quiet.run_free_steps.Goals as goal
-use Rattle.pp_machine.proofs.quiet.run_free_steps.Goals.{else-may_end-via-then-may_end+else-not-is_running, else-may_end-via-else-may_end}
 
 pub returns-then-not-is_at_instruction-clause-ahead : goal.returns-then-not-is_at_instruction-clause-ahead
 returns-then-not-is_at_instruction-clause-ahead g c = λ m same. none_ahead m c.args.pp.now
@@ -26,18 +25,15 @@ loop-made-init g c = record {
   free = c.if-not-is_at_instruction.ensures.free;
 }
 
-pub returns-then-not-is_running-clause-ahead : goal.returns-then-not-is_running-clause-ahead
-returns-then-not-is_running-clause-ahead g c = λ m same.
+pub returns-then-ends-clause-ahead : goal.returns-then-ends-clause-ahead
+returns-then-ends-clause-ahead g c = λ m same.
     local_ahead c.loop-made.made m c.args.pp.now c.loop-made.pp c.run_inner.new.self (c.loop-made.invariant.ahead m same) c.if-run_inner.ensures.local c.if-run_inner.ensures.after
 
 pub loop-made-preserved-then-run_inner : goal.loop-made-preserved-then-run_inner
 loop-made-preserved-then-run_inner g c = record {
   ahead = λ m same.
       local_ahead c.loop-made.made m c.args.pp.now c.loop-made.pp c.run_inner.new.self (c.loop-made.invariant.ahead m same) c.if-run_inner.ensures.local c.if-run_inner.ensures.after;
-  running = elim c.else-may_end.branch as (λ _. c.run_inner.new.self.state ≡ Running) [
-    | else-may_end-via-then-may_end+else-not-is_running w ↦ w.if-not-is_running.ensures
-    | else-may_end-via-else-may_end w ↦ c.if-run_inner.ensures.running (sym c.may_end.ensures ∙ w.if-may_end.false)
-  ];
+  running = c.if-run_inner.ensures.running (sym c.ends.ensures ∙ c.if-ends.false);
   free = c.if-run_inner.ensures.free;
 }
 
