@@ -189,12 +189,12 @@ impl<A: Allocator> Machine<A> {
         ensures cut_at_event { IfErr result (λ done. IsSome (step_event (processor_in_turn self.old.profile done) self.new)) }
         ensures headline { HoldsOnEachChannel self.new }
     {
-        let mut done = 0;
-        while done < rounds {
+        let mut left = rounds;
+        while left > 0 {
             if let Err(before) = self.run_round(turns as usize, next) {
-                return Err(u64::from(done) * u64::from(turns) + before as u64);
+                return Err(u64::from(rounds - left) * u64::from(turns) + before as u64);
             }
-            done += 1;
+            left -= 1;
         }
         Ok(())
     }
