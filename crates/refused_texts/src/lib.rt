@@ -7,6 +7,10 @@ mod ample;
 #[cfg(test)]
 mod deck;
 #[cfg(test)]
+mod fronts;
+#[cfg(test)]
+mod long_pair;
+#[cfg(test)]
 mod texts;
 #[cfg(test)]
 mod threads;
