@@ -2,14 +2,14 @@
 use Rattle.std.proofs.Common.{All, ◌≡◌, ◌∙◌, ◌≢◌, ℕ, zero, suc, ◌+◌, ◌*◌, ◌^◌, ◌/◌, ◌%◌, ◌<◌, ◌≤◌, Bool, true, false, List, [], ◌∷◌, ◌++◌, Option, Some, None, length, map, take, drop, refl, sym, ap, subst, add-one, arith, inl, inr, ◌⊎◌, append_assoc, codes}
 use Rattle.std.specs.Prelude.{◌==◌, ◌&&◌, nat_lt, get_or, IfSome, IsTrue, slice_index_or, if◌then◌else◌}
 use Rattle.std.specs.List.{filter, flat_map, last_or}
-use Rattle.std.proofs.lemmas.Bool.{cases_lt, eq-eqb, le-ltb, lt-ltb, ltb-true, ne_eqb}
+use Rattle.std.proofs.lemmas.Bool.{cases_lt, eq-eqb, le-ltb, lt-ltb, ne_eqb}
 use Rattle.std.proofs.Math.Bool.{and-false}
 use Rattle.std.proofs.lemmas.Grind.{flat_map-append}
 use Rattle.std.proofs.lemmas.List.{append-nil, length-append}
 use Rattle.std.proofs.lemmas.List.Elements.{All-append, All-cons, All-head, All-nil, All-tail, filter-append}
 use Rattle.std.proofs.Math.Seq.{take-suc, take-append_seam, drop-append_seam}
 use Rattle.std.proofs.Math.Nat.{div-add-mod}
-use Rattle.pp_channel.specs.ChannelNumber.{channel_count, names_channel}
+use Rattle.pp_channel.specs.ChannelNumber.{names_channel}
 use Rattle.pp_channel.specs.History.{HasTwelveBitWord, active, waiting, last_stretch}
 use Rattle.pp_channel.specs.Session.{puts, takes}
 use Rattle.pp_channel.specs.Merge.{history_on}
@@ -17,7 +17,7 @@ use Rattle.pp_channel.specs.declared.event.Event.{Event}
 use Rattle.pp_channel.specs.declared.event.Event.TheVariants.{Activate, Disconnect, Put, Take, Function}
 use Rattle.pp_machine.specs.MachineState.{MachineState, processor_of}
 use Rattle.pp_machine.specs.Processor.{Processor, HasFaultNumber}
-use Rattle.pp_machine.specs.ProcessorNumber.{names_processor, processor_count, processor_index}
+use Rattle.pp_machine.specs.ProcessorNumber.{names_processor, processor_index}
 use Rattle.pp_machine.specs.declared.pp_state.PpState.{PpState}
 use Rattle.pp_machine.specs.declared.pp_state.PpState.TheVariants.{Running, Stopped, Fault}
 use Rattle.pp_machine.specs.declared.trace.Trace.{Trace}
@@ -692,14 +692,12 @@ told_so_far events i e within at so_far told =
     (All-append IsTold (take i events) (e ∷ []) so_far (All-cons IsTold e [] told (All-nil IsTold)))
 
 -- their text so far, and one more line
-pub events_go_on : (events : List Trace) (i : ℕ) (e : Trace) (first so_far next : List ℕ) → i < length events → e ≡ slice_index_or events i e
-    → so_far ≡ first ++ flat_map event_line (take i events) → next ≡ so_far ++ event_line e → next ≡ first ++ flat_map event_line (take (i + 1) events)
-events_go_on events i e first so_far next within at was now =
+pub events_go_on : (events : List Trace) (i : ℕ) (e : Trace) → i < length events → e ≡ slice_index_or events i e
+    → flat_map event_line (take i events) ++ event_line e ≡ flat_map event_line (take (i + 1) events)
+events_go_on events i e within at =
     let more : take (i + 1) events ≡ take i events ++ e ∷ [] =
     ap (λ n. take n events) (add-one i) ∙ take-suc events i e within ∙ ap (λ x. take i events ++ x ∷ []) (sym at) in
-    let lines : flat_map event_line (take (i + 1) events) ≡ flat_map event_line (take i events) ++ event_line e =
-    ap (flat_map event_line) more ∙ (flat_map-append event_line (take i events) (e ∷ []) ∙ ap (λ l. flat_map event_line (take i events) ++ l) (append-nil (event_line e))) in
-    now ∙ (ap (λ text. text ++ event_line e) was ∙ (append_assoc first (flat_map event_line (take i events)) (event_line e) ∙ ap (λ text. first ++ text) (sym lines)))
+    sym (ap (flat_map event_line) more ∙ (flat_map-append event_line (take i events) (e ∷ []) ∙ ap (λ l. flat_map event_line (take i events) ++ l) (append-nil (event_line e))))
 
 -- what holds below a number, and at it
 pub below_goes_on : (P : ℕ → Type 0) (k : ℕ) → ((n : ℕ) → n < k → P n) → P k → (n : ℕ) → n < k + 1 → P n

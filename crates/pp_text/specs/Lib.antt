@@ -4,3 +4,6 @@ pub mod PrintedReport
 pub mod Authors
 pub mod TextLaw
 pub mod ReportLaw
+pub mod Piece
+pub mod Written
+pub mod TextWriter
