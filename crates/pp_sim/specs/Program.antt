@@ -9,7 +9,8 @@ use Rattle.pp_sim.specs.BarrelText.{IsBarrelText}
 use Rattle.pp_sim.specs.CommandLine.{AskFor, IsOutOfRange, IsRefused, refusals}
 use Rattle.pp_sim.specs.ListText.{IsListText}
 use Rattle.pp_deck.specs.DeckMeaning.{LoadedDeck}
-use Rattle.pp_sim.specs.TextAnswer.{AnswersTo, AppendsFront, IsAnswer, most_bytes}
+use Rattle.pp_sim.specs.TextAnswer.{AnswersTo, IsAnswer, most_bytes}
+use Rattle.pp_text.specs.Written.{AppendsFront}
 use Rattle.pp_sim.specs.ThreadsText.{IsThreadsText}
 use Rattle.pp_sim.specs.declared.line_fault.LineFault.{LineFault}
 use Rattle.pp_sim.specs.declared.line_fault.LineFault.TheVariants as line

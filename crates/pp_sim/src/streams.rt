@@ -2,9 +2,11 @@
 
 ghost use Rattle.std.specs.Prelude.{◌≡◌, ◌≢◌, ◌≤◌, ◌<◌, ℕ, List, length, OnOk, OnErr, IfOk, IfErr};
 ghost use Rattle.std.specs.Io.KnownBytes.{Appends, Consumes, IsAtEnd};
-ghost use Rattle.pp_sim.specs.TextAnswer.{AppendsFront, IsReadFault, most_bytes};
+ghost use Rattle.pp_sim.specs.TextAnswer.{IsReadFault, most_bytes};
+ghost use Rattle.pp_text.specs.Written.{AppendsFront};
 
 use crate::text_fault::TextFault;
+use pp_text::write_bytes;
 use std::alloc::Allocator;
 use std::io::{Read, Write};
 
@@ -37,19 +39,15 @@ pub(crate) fn read_front<A: Allocator, R: Read>(
     Ok(front)
 }
 
-/// Writes all of a text. An error ends it, and so does a write that takes nothing.
+/// Writes all of a text, and flushes the writer. An error ends it, and so does a write that takes
+/// nothing.
 pub(crate) fn write_whole<W: Write>(writer: &mut W, text: &[u8]) -> Result<(), TextFault>
     ensures ok { OnOk result (Appends (W.contents writer.old) (W.contents writer.new) text.now) }
     ensures err { IfErr result (λ fault. fault ≡ TextFault.Write) }
     ensures front { OnErr result (AppendsFront (W.contents writer.old) (W.contents writer.new) text.now) }
 {
-    let mut done = 0;
-    while done < text.len() {
-        match writer.write(&text[done..]) {
-            Ok(0) => return Err(TextFault::Write),
-            Ok(count) => done += count,
-            Err(_) => return Err(TextFault::Write),
-        }
+    if write_bytes(writer, text).is_err() {
+        return Err(TextFault::Write);
     }
     match writer.flush() {
         Ok(()) => Ok(()),

@@ -1,15 +1,15 @@
 //! Reading a deck, running it and writing the text of the run.
 
-ghost use Rattle.std.specs.Prelude.{◌≡◌, ◌≢◌, ◌<◌, ℕ, List, length, take, OnOk, IfOk, IfErr, IfSome};
+ghost use Rattle.std.specs.Prelude.{◌≢◌, ◌<◌, ℕ, List, length, take, OnOk, IfErr, IfSome};
 ghost use Rattle.std.specs.Io.KnownBytes.{Keeps};
 ghost use Rattle.pp_sim.specs.BarrelText.{IsBarrelText};
-ghost use Rattle.pp_sim.specs.TextAnswer.{AnswersTo, IsAnswer, IsRunFault, IsTextOf, most_bytes};
+ghost use Rattle.pp_sim.specs.TextAnswer.{AnswersTo, IsAnswer, most_bytes};
 
 use crate::loaded_deck::loaded_deck;
-use crate::streams::{read_front, write_whole};
+use crate::streams::read_front;
 use crate::text_fault::TextFault;
 use pp_machine::Profile;
-use pp_text::printed_text;
+use pp_text::write_text;
 use std::alloc::Allocator;
 use std::io::{Read, Write};
 
@@ -35,7 +35,7 @@ pub fn barrel_text<A: Allocator + Copy, R: Read, W: Write>(
     write_run(alloc, profile, deck.as_slice(), writer, turns)
 }
 
-/// Writes the text of the run of a deck.
+/// Runs a deck, and then writes the text of its run.
 fn write_run<A: Allocator + Copy, W: Write>(
     alloc: A,
     profile: Profile,
@@ -46,27 +46,12 @@ fn write_run<A: Allocator + Copy, W: Write>(
     ensures answer { IsAnswer profile (IsBarrelText turns) result deck.now (W.contents writer.old) (W.contents writer.new) }
     ensures bounded { OnOk result (length deck.now < most_bytes) }
 {
-    let text = run_text(alloc, profile, deck, turns)?;
-    write_whole(writer, text.as_slice())
-}
-
-/// The text of the run of a deck.
-fn run_text<A: Allocator + Copy>(
-    alloc: A,
-    profile: Profile,
-    deck: &[u8],
-    turns: u32,
-) -> Result<Vec<u8, A>, TextFault>
-    ensures ok { IfOk result (λ text. IsTextOf profile (IsBarrelText turns) deck.now text.items) }
-    ensures bounded { OnOk result (length deck.now < most_bytes) }
-    ensures fault { IfErr result (IsRunFault profile deck.now) }
-{
     let mut loaded = loaded_deck(alloc, profile, deck)?;
     if loaded.machine.run_barrel(turns).is_err() {
         return Err(TextFault::Memory);
     }
-    match printed_text(alloc, &loaded.machine, &loaded.named) {
-        Ok(text) => Ok(text),
-        Err(_) => Err(TextFault::Memory),
+    match write_text(writer, &loaded.machine, &loaded.named) {
+        Ok(()) => Ok(()),
+        Err(_) => Err(TextFault::Write),
     }
 }

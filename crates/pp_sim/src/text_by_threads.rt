@@ -1,17 +1,17 @@
 //! Reading a deck, running it with one thread per processor and writing the text of the run.
 
-ghost use Rattle.std.specs.Prelude.{◌≡◌, ◌≢◌, ◌<◌, ◌≤◌, ℕ, List, length, take, OnOk, IfOk, IfErr, IfSome};
+ghost use Rattle.std.specs.Prelude.{◌≢◌, ◌<◌, ℕ, List, length, take, OnOk, IfErr, IfSome};
 ghost use Rattle.std.specs.Io.KnownBytes.{Keeps};
 ghost use Rattle.pp_runner.specs.Report.{ReportFitsInMemory};
-ghost use Rattle.pp_sim.specs.TextAnswer.{AnswersTo, IsAnswer, IsRunFault, IsTextOf, most_bytes};
+ghost use Rattle.pp_sim.specs.TextAnswer.{AnswersTo, IsAnswer, most_bytes};
 ghost use Rattle.pp_sim.specs.ThreadsText.{IsThreadsText};
 
 use crate::loaded_deck::loaded_deck;
-use crate::streams::{read_front, write_whole};
+use crate::streams::read_front;
 use crate::text_fault::TextFault;
 use pp_machine::Profile;
 use pp_runner::{Gate, Limits, NoGate, run_threads};
-use pp_text::printed_report;
+use pp_text::{ReportFault, write_report};
 use std::alloc::Allocator;
 use std::io::{Read, Write};
 use std::sync::Wait;
@@ -42,12 +42,18 @@ pub fn threads_text<T: Threads + Wait + Sync, R: Read, A: Allocator + Copy + Sen
     ensures unwritten { IfErr result (λ fault. fault ≢ TextFault.Write → Keeps (W.contents writer.old) (W.contents writer.new)) }
 {
     let deck = read_front(alloc, reader)?;
-    write_threads(rt, alloc, profile, deck.as_slice(), writer, limits)
+    write_threads(rt, &NoGate, alloc, profile, deck.as_slice(), writer, limits)
 }
 
-/// Writes the text of the run of a deck.
-fn write_threads<T: Threads + Wait + Sync, W: Write, A: Allocator + Copy + Send + Sync>(
+/// Runs a deck, and then writes the text of its run.
+fn write_threads<
+    T: Threads + Wait + Sync,
+    G: Gate + Sync,
+    A: Allocator + Copy + Send + Sync,
+    W: Write,
+>(
     rt: &T,
+    gate: &G,
     alloc: A,
     profile: Profile,
     deck: &[u8],
@@ -58,30 +64,13 @@ fn write_threads<T: Threads + Wait + Sync, W: Write, A: Allocator + Copy + Send 
     ensures answer { IsAnswer profile (IsThreadsText A limits) result deck.now (W.contents writer.old) (W.contents writer.new) }
     ensures bounded { OnOk result (length deck.now < most_bytes) }
 {
-    let text = run_text(rt, &NoGate, alloc, profile, deck, limits)?;
-    write_whole(writer, text.as_slice())
-}
-
-/// The text of the run of a deck.
-fn run_text<T: Threads + Wait + Sync, G: Gate + Sync, A: Allocator + Copy + Send + Sync>(
-    rt: &T,
-    gate: &G,
-    alloc: A,
-    profile: Profile,
-    deck: &[u8],
-    limits: Limits,
-) -> Result<Vec<u8, A>, TextFault>
-    requires { ReportFitsInMemory A.row A.Allocator }
-    ensures ok { IfOk result (λ text. IsTextOf profile (IsThreadsText A limits) deck.now text.items) }
-    ensures bounded { OnOk result (length deck.now < most_bytes) }
-    ensures fault { IfErr result (IsRunFault profile deck.now) }
-{
     let loaded = loaded_deck(alloc, profile, deck)?;
     let Ok(report) = run_threads(rt, alloc, &loaded.machine, limits, gate) else {
         return Err(TextFault::Memory);
     };
-    match printed_report(alloc, &report, &loaded.named) {
-        Ok(text) => Ok(text),
-        Err(_) => Err(TextFault::Memory),
+    match write_report(alloc, writer, &report, &loaded.named) {
+        Ok(()) => Ok(()),
+        Err(ReportFault::Memory) => Err(TextFault::Memory),
+        Err(ReportFault::Write) => Err(TextFault::Write),
     }
 }

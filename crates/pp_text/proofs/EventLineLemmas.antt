@@ -1,5 +1,5 @@
 -- The lines of a history, one event after another.
-use Rattle.std.proofs.Common.{◌≡◌, ◌∙◌, ℕ, ◌+◌, ◌<◌, List, [], ◌∷◌, ◌++◌, length, take, slice_index_or, sym, ap, arith, add-one, append_assoc}
+use Rattle.std.proofs.Common.{◌≡◌, ◌∙◌, ℕ, ◌+◌, ◌<◌, List, [], ◌∷◌, ◌++◌, length, take, slice_index_or, sym, ap, arith, add-one}
 use Rattle.std.proofs.Math.Seq.{take-suc}
 use Rattle.std.proofs.lemmas.Grind.{flat_map-append}
 use Rattle.std.proofs.lemmas.List.{append-nil, length-take-le}
@@ -20,21 +20,16 @@ unfolding numbered_event_line
 line_of c workers number event = append-nil (line_by c number event (author_place c workers number))
 
 -- the lines of the first events, with one event more
-pub lines_go_on : {Z : Type 0} (c i : ℕ) (workers : List (Worker Z)) (h : List Event) (e : Event) (first so_far next : List ℕ)
+pub lines_go_on : {Z : Type 0} (c i : ℕ) (workers : List (Worker Z)) (h : List Event) (e : Event)
     → i < length h → e ≡ slice_index_or h i e
-    → so_far ≡ first ++ flat_map (numbered_event_line c workers) (enumerate_from 0 (take i h))
-    → next ≡ so_far ++ line_by c i e (author_place c workers i)
-    → next ≡ first ++ flat_map (numbered_event_line c workers) (enumerate_from 0 (take (i + 1) h))
-lines_go_on {Z} c i workers h e first so_far next l at was now =
+    → flat_map (numbered_event_line c workers) (enumerate_from 0 (take i h)) ++ line_by c i e (author_place c workers i)
+    ≡ flat_map (numbered_event_line c workers) (enumerate_from 0 (take (i + 1) h))
+lines_go_on {Z} c i workers h e l at =
     let f : ℕ × Event → List ℕ = numbered_event_line c workers in
     let more : take (i + 1) h ≡ take i h ++ e ∷ [] =
     ap (λ n. take n h) (add-one i) ∙ take-suc h i e l ∙ ap (λ x. take i h ++ x ∷ []) (sym at) in
     let numbered : enumerate_from 0 (take (i + 1) h) ≡ enumerate_from 0 (take i h) ++ (i, e) ∷ [] =
     ap (enumerate_from 0) more ∙ (enumerate_push 0 (take i h) e
     ∙ ap (λ k. enumerate_from 0 (take i h) ++ (k, e) ∷ []) (let n = length-take-le i h (omega arith) in omega arith)) in
-    let lines : flat_map f (enumerate_from 0 (take (i + 1) h)) ≡ flat_map f (enumerate_from 0 (take i h)) ++ line_by c i e (author_place c workers i) =
-    ap (flat_map f) numbered ∙ (flat_map-append f (enumerate_from 0 (take i h)) ((i, e) ∷ [])
-    ∙ ap (λ line. flat_map f (enumerate_from 0 (take i h)) ++ line) (line_of c workers i e)) in
-    now ∙ (ap (λ text. text ++ line_by c i e (author_place c workers i)) was
-    ∙ (append_assoc first (flat_map f (enumerate_from 0 (take i h))) (line_by c i e (author_place c workers i))
-    ∙ ap (λ text. first ++ text) (sym lines)))
+    sym (ap (flat_map f) numbered ∙ (flat_map-append f (enumerate_from 0 (take i h)) ((i, e) ∷ [])
+    ∙ ap (λ line. flat_map f (enumerate_from 0 (take i h)) ++ line) (line_of c workers i e)))

@@ -6,3 +6,5 @@ pub mod ReportLawLemmas
 pub mod TextLawLemmas
 pub mod TextLemmas
 pub mod HistoryLawLemmas
+pub mod WriteLemmas
+pub mod TextWriterLemmas

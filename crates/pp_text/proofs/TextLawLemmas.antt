@@ -692,14 +692,12 @@ told_so_far events i e within at so_far told =
     (All-append IsTold (take i events) (e ∷ []) so_far (All-cons IsTold e [] told (All-nil IsTold)))
 
 -- their text so far, and one more line
-pub events_go_on : (events : List Trace) (i : ℕ) (e : Trace) (first so_far next : List ℕ) → i < length events → e ≡ slice_index_or events i e
-    → so_far ≡ first ++ flat_map event_line (take i events) → next ≡ so_far ++ event_line e → next ≡ first ++ flat_map event_line (take (i + 1) events)
-events_go_on events i e first so_far next within at was now =
+pub events_go_on : (events : List Trace) (i : ℕ) (e : Trace) → i < length events → e ≡ slice_index_or events i e
+    → flat_map event_line (take i events) ++ event_line e ≡ flat_map event_line (take (i + 1) events)
+events_go_on events i e within at =
     let more : take (i + 1) events ≡ take i events ++ e ∷ [] =
     ap (λ n. take n events) (add-one i) ∙ take-suc events i e within ∙ ap (λ x. take i events ++ x ∷ []) (sym at) in
-    let lines : flat_map event_line (take (i + 1) events) ≡ flat_map event_line (take i events) ++ event_line e =
-    ap (flat_map event_line) more ∙ (flat_map-append event_line (take i events) (e ∷ []) ∙ ap (λ l. flat_map event_line (take i events) ++ l) (append-nil (event_line e))) in
-    now ∙ (ap (λ text. text ++ event_line e) was ∙ (append_assoc first (flat_map event_line (take i events)) (event_line e) ∙ ap (λ text. first ++ text) (sym lines)))
+    sym (ap (flat_map event_line) more ∙ (flat_map-append event_line (take i events) (e ∷ []) ∙ ap (λ l. flat_map event_line (take i events) ++ l) (append-nil (event_line e))))
 
 -- what holds below a number, and at it
 pub below_goes_on : (P : ℕ → Type 0) (k : ℕ) → ((n : ℕ) → n < k → P n) → P k → (n : ℕ) → n < k + 1 → P n

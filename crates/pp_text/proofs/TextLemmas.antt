@@ -1,19 +1,19 @@
 -- Steps of what prints.
-use Rattle.std.proofs.Common.{◌≡◌, ◌≢◌, ℕ, ◌+◌, ◌-◌, ◌/◌, ◌%◌, ◌^◌, ◌<◌, zero, suc, List, ◌++◌, sym, add-one, append_assoc, arith, codes}
-use Rattle.std.proofs.lemmas.List.{append-nil}
+use Rattle.std.proofs.Common.{◌≡◌, ◌≢◌, ℕ, ◌+◌, ◌-◌, ◌/◌, ◌%◌, ◌^◌, ◌<◌, zero, suc, List, [], ◌++◌, refl, add-one, append_assoc, arith, codes}
+use Rattle.pp_machine.specs.Processor.{Processor}
 use Rattle.pp_machine.specs.declared.trace.Trace.{Trace}
 use Rattle.pp_text.specs.Numeral.{decimal, digit, digits, octal, unpadded}
-use Rattle.pp_text.specs.PrintedText.{each_below, event_line, event_text, line_end}
+use Rattle.pp_text.specs.PrintedText.{each_below, event_line, event_text, line_end, processor_line}
 
--- a text so far, before anything is said
-pub text_before : (text : List ℕ) (said : ℕ → List ℕ) → text ≡ text ++ each_below 0 said
+-- what is said of no number
+pub nothing_said : (said : ℕ → List ℕ) → each_below 0 said ≡ []
 unfolding each_below
-text_before text said = sym (append-nil text)
+nothing_said said = refl
 
--- a text that goes on by what is said of one number more
-pub text_goes_on : (first so_far next : List ℕ) (k : ℕ) (said : ℕ → List ℕ) → so_far ≡ first ++ each_below k said → next ≡ so_far ++ said k → next ≡ first ++ each_below (k + 1) said
+-- what is said so far, and of one number more
+pub said_goes_on : (k : ℕ) (said : ℕ → List ℕ) → each_below k said ++ said k ≡ each_below (k + 1) said
 unfolding each_below
-text_goes_on first so_far next k said h step = rw (add-one, step, h) (append_assoc first (each_below k said) (said k))
+said_goes_on k said = rw (add-one) refl
 
 -- a number that is not 0 ends with its last digit
 pub unpadded_more : (most n : ℕ) → 0 < most → n ≢ 0 → unpadded most n ≡ unpadded (most - 1) (n / 10) ++ digit (n % 10)
@@ -37,3 +37,10 @@ pub numbered_line_in_pieces : (text upper heading tail : List ℕ) (c number aut
     ≡ text ++ (codes "CH" ++ octal 2 c ++ codes " " ++ decimal number ++ codes " PP" ++ octal 2 author ++ codes " " ++ said ++ line_end)
 unfolding decimal
 numbered_line_in_pieces text upper heading tail c number author said u h t = rw (u, h, t) (simp append_assoc)
+
+-- the line of a processor: its registers, and what is said of it
+pub processor_line_in_pieces : (text heading tail : List ℕ) (n : ℕ) (pp : Processor) (said : List ℕ)
+    → heading ≡ codes "PP" ++ octal 2 n ++ codes " P=" ++ octal 4 pp.p ++ codes " A=" ++ octal 6 pp.a ++ codes " " → tail ≡ said ++ line_end
+    → (text ++ heading) ++ tail ≡ text ++ processor_line n pp said
+unfolding processor_line
+processor_line_in_pieces text heading tail n pp said h t = rw (h, t) (simp append_assoc)

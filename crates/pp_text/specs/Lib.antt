@@ -5,3 +5,6 @@ pub mod Authors
 pub mod Pairs
 pub mod TextLaw
 pub mod ReportLaw
+pub mod Piece
+pub mod Written
+pub mod TextWriter

@@ -1,12 +1,13 @@
 //! Numbers in octal and decimal digits.
 
-ghost use Rattle.std.specs.Prelude.{◌≡◌, ◌<◌, ◌/◌, ◌%◌, ◌^◌, ◌++◌, IfOk, OnOk};
+ghost use Rattle.std.specs.Prelude.{◌≡◌, ◌+◌, ◌<◌, ◌≤◌, ◌/◌, ◌%◌, ◌^◌, ◌++◌, length};
 ghost use Rattle.pp_text.specs.Numeral.{digits, octal, unpadded};
 ghost use Rattle.pp_text.specs.Pairs.{channel_pairs, decimal_pairs, processor_pairs};
+ghost use Rattle.pp_text.specs.Piece.{HasRoom};
 
+use crate::piece::Piece;
 use pp_channel::ChannelNo;
 use pp_machine::PpNo;
-use std::alloc::{AllocError, Allocator};
 
 /// The least count that has more than six decimal digits.
 const SEVEN_DIGITS: u64 = 1_000_000;
@@ -85,31 +86,31 @@ pub(crate) fn decimal6(n: u32) -> [u8; 6]
 /// Adds those decimal digits of a count that stand before its last six, and gives what is left for
 /// these.
 #[inline]
-pub(crate) fn push_upper_digits<A: Allocator>(
-    text: &mut Vec<u8, A>,
-    n: u64,
-) -> Result<u32, AllocError>
-    ensures text { OnOk result (text.new.items ≡ text.old.items ++ unpadded 14 (n / 10 ^ 6)) }
-    ensures rest { IfOk result (λ rest. rest ≡ n % 10 ^ 6) }
+pub(crate) fn push_upper_digits(piece: &mut Piece, n: u64) -> u32
+    requires { HasRoom 14 piece.old }
+    ensures text { piece.new ≡ piece.old ++ unpadded 14 (n / 10 ^ 6) }
+    ensures room { length piece.new ≤ length piece.old + 14 }
+    ensures rest { result ≡ n % 10 ^ 6 }
 {
     if n < SEVEN_DIGITS {
-        return Ok(n as u32);
+        return n as u32;
     }
-    push_unpadded(text, n / SEVEN_DIGITS, 14)?;
-    Ok((n % SEVEN_DIGITS) as u32)
+    push_unpadded(piece, n / SEVEN_DIGITS, 14);
+    (n % SEVEN_DIGITS) as u32
 }
 
 /// Adds a number in decimal digits, without zeros in front, but at most so many digits.
 #[tactic(auto, using(crate::proofs::TextLemmas::unpadded_more))]
-fn push_unpadded<A: Allocator>(text: &mut Vec<u8, A>, n: u64, most: u32) -> Result<(), AllocError>
-    ensures { OnOk result (text.new.items ≡ text.old.items ++ unpadded most n) }
+fn push_unpadded(piece: &mut Piece, n: u64, most: u32)
+    requires { HasRoom most piece.old }
+    ensures text { piece.new ≡ piece.old ++ unpadded most n }
+    ensures room { length piece.new ≤ length piece.old + most }
 {
     if n == 0 || most == 0 {
-        return Ok(());
+        return;
     }
-    push_unpadded(text, n / 10, most - 1)?;
-    text.push(b'0' + (n % 10) as u8)?;
-    Ok(())
+    push_unpadded(piece, n / 10, most - 1);
+    piece.push(&[b'0' + (n % 10) as u8]);
 }
 
 /// The two decimal digits of each number below 100 (decimal), one number after another.

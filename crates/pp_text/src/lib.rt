@@ -5,9 +5,15 @@ mod authors;
 mod digits;
 mod laws;
 mod machine_text;
+mod piece;
 mod printed_line;
+mod report_fault;
 mod report_text;
+mod text_writer;
+mod write_fault;
 
 pub use laws::{author_law, report_law, text_law};
-pub use machine_text::printed_text;
-pub use report_text::printed_report;
+pub use machine_text::write_text;
+pub use report_fault::ReportFault;
+pub use report_text::write_report;
+pub use write_fault::{WriteFault, write_bytes};

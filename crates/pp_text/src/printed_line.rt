@@ -1,10 +1,11 @@
 //! The lines of a printed text.
 
-ghost use Rattle.std.specs.Prelude.{◌≡◌, ◌<◌, ◌^◌, ◌++◌, IsTrue, Some, codes, OnOk};
+ghost use Rattle.std.specs.Prelude.{◌≡◌, ◌<◌, ◌^◌, ◌++◌, IsTrue, Some, codes};
 ghost use Rattle.pp_channel.specs.ChannelNumber.{names_channel};
 ghost use Rattle.pp_channel.specs.History.{HasTwelveBitWord};
 ghost use Rattle.pp_machine.specs.ProcessorNumber.{names_processor};
 ghost use Rattle.pp_text.specs.Numeral.{decimal, digits, octal};
+ghost use Rattle.pp_text.specs.Piece.{HasRoom, longest_line};
 ghost use Rattle.pp_text.specs.PrintedText.{channel_line, event_line, event_text, line_end, processor_line, state_text};
 ghost use Rattle.pp_text.specs.PrintedReport.{end_text, worker_line};
 ghost use Rattle.pp_text.specs.ReportLaw.{FitsItsEnd, FitsItsLine, shown_end};
@@ -13,44 +14,43 @@ ghost use Rattle.pp_text.specs.TextLaw.{IsListed, IsShown, IsTold};
 use crate::digits::{
     channel_digits, decimal6, octal1, octal4, octal6, processor_digits, push_upper_digits,
 };
+use crate::piece::Piece;
 use pp_channel::{Channel, ChannelNo, Event};
 use pp_machine::{Pp, PpNo, PpState, Trace};
 use pp_runner::{End, Worker};
 use pp_word::Word12;
-use std::alloc::{AllocError, Allocator};
+use std::alloc::Allocator;
 
 /// Adds `000020 PP00 CH05 PUT 0007` and a line feed.
 #[tactic(auto, using(crate::proofs::TextLemmas::event_line_in_pieces))]
-pub(crate) fn push_event<A: Allocator>(
-    text: &mut Vec<u8, A>,
-    entry: &Trace,
-) -> Result<(), AllocError>
-    ensures text { OnOk result (text.new.items ≡ text.old.items ++ event_line entry.now) }
-    ensures fits { OnOk result (IsTold entry.now) }
+pub(crate) fn push_event(piece: &mut Piece, entry: &Trace)
+    requires { HasRoom longest_line piece.old }
+    ensures text { piece.new ≡ piece.old ++ event_line entry.now }
+    ensures fits { IsTold entry.now }
 {
-    let turn = push_upper_digits(text, entry.turn)?;
-    text.extend_from_slice(&event_heading(turn, entry.pp, entry.channel))?;
-    push_event_end(text, entry.event)?;
-    Ok(())
+    let turn = push_upper_digits(piece, entry.turn);
+    piece.push(&event_heading(turn, entry.pp, entry.channel));
+    push_event_end(piece, entry.event);
 }
 
 /// Adds `CH05 000001 PP00 PUT 0007` and a line feed.
 #[tactic(auto, using(crate::proofs::TextLemmas::numbered_line_in_pieces))]
-pub(crate) fn push_numbered_event<A: Allocator>(
-    text: &mut Vec<u8, A>,
+pub(crate) fn push_numbered_event(
+    piece: &mut Piece,
     c: ChannelNo,
     number: u64,
     author: PpNo,
     event: Event,
-) -> Result<(), AllocError>
-    ensures text { OnOk result (text.new.items ≡ text.old.items ++ (codes "CH" ++ octal 2 c ++ codes " " ++ decimal number ++ codes " PP" ++ octal 2 author ++ codes " " ++ event_text event ++ line_end)) }
-    ensures fits { OnOk result (FitsItsLine (record { number = number; author = author; event = event })) }
+)
+    requires { HasRoom longest_line piece.old }
+    ensures text { piece.new ≡ piece.old ++ (codes "CH" ++ octal 2 c ++ codes " " ++ decimal number ++ codes " PP" ++ octal 2 author ++ codes " " ++ event_text event ++ line_end) }
+    ensures fits { FitsItsLine (record { number = number; author = author; event = event }) }
 {
     let [c0, c1] = channel_digits(c);
-    text.extend_from_slice(&[b'C', b'H', c0, c1, b' '])?;
-    let lower = push_upper_digits(text, number)?;
-    text.extend_from_slice(&author_heading(lower, author))?;
-    push_event_end(text, event)
+    piece.push(&[b'C', b'H', c0, c1, b' ']);
+    let lower = push_upper_digits(piece, number);
+    piece.push(&author_heading(lower, author));
+    push_event_end(piece, event);
 }
 
 /// `000001 PP00 `
@@ -66,16 +66,17 @@ fn author_heading(number: u32, author: PpNo) -> [u8; 12]
 
 /// Adds `PUT 0007` and a line feed.
 #[inline(always)]
-fn push_event_end<A: Allocator>(text: &mut Vec<u8, A>, event: Event) -> Result<(), AllocError>
-    ensures text { OnOk result (text.new.items ≡ text.old.items ++ (event_text event ++ line_end)) }
-    ensures fits { OnOk result (HasTwelveBitWord event) }
+fn push_event_end(piece: &mut Piece, event: Event)
+    requires { HasRoom 9 piece.old }
+    ensures text { piece.new ≡ piece.old ++ (event_text event ++ line_end) }
+    ensures fits { HasTwelveBitWord event }
 {
     match event {
-        Event::Activate => text.extend_from_slice(b"ACN\n"),
-        Event::Disconnect => text.extend_from_slice(b"DCN\n"),
-        Event::Put(word) => text.extend_from_slice(&line_with_word(*b"PUT", word)),
-        Event::Take(word) => text.extend_from_slice(&line_with_word(*b"TAK", word)),
-        Event::Function(word) => text.extend_from_slice(&line_with_word(*b"FNC", word)),
+        Event::Activate => piece.push(b"ACN\n"),
+        Event::Disconnect => piece.push(b"DCN\n"),
+        Event::Put(word) => piece.push(&line_with_word(*b"PUT", word)),
+        Event::Take(word) => piece.push(&line_with_word(*b"TAK", word)),
+        Event::Function(word) => piece.push(&line_with_word(*b"FNC", word)),
     }
 }
 
@@ -105,64 +106,61 @@ fn line_with_word(name: [u8; 3], word: Word12) -> [u8; 9]
 }
 
 /// Adds `PP00 P=0103 A=000007 STOPPED` and a line feed.
-#[tactic(auto, unfolding(crate::specs::PrintedText::processor_line))]
-pub(crate) fn push_processor<A: Allocator>(
-    text: &mut Vec<u8, A>,
-    n: PpNo,
-    pp: &Pp,
-) -> Result<(), AllocError>
-    ensures text { OnOk result (text.new.items ≡ text.old.items ++ processor_line n pp.now (state_text pp.now.state)) }
-    ensures fits { OnOk result (IsShown pp.now) }
+#[tactic(auto, using(crate::proofs::TextLemmas::processor_line_in_pieces))]
+pub(crate) fn push_processor(piece: &mut Piece, n: PpNo, pp: &Pp)
+    requires { HasRoom longest_line piece.old }
+    ensures text { piece.new ≡ piece.old ++ processor_line n pp.now (state_text pp.now.state) }
+    ensures fits { IsShown pp.now }
 {
-    text.extend_from_slice(&processor_heading(n, pp))?;
-    push_state(text, pp.state())
+    piece.push(&processor_heading(n, pp));
+    push_state(piece, pp.state());
 }
 
 /// Adds `STOPPED` and a line feed.
-fn push_state<A: Allocator>(text: &mut Vec<u8, A>, state: PpState) -> Result<(), AllocError>
-    ensures { OnOk result (text.new.items ≡ text.old.items ++ (state_text state ++ line_end)) }
+fn push_state(piece: &mut Piece, state: PpState)
+    requires { HasRoom 8 piece.old }
+    ensures { piece.new ≡ piece.old ++ (state_text state ++ line_end) }
 {
     match state {
-        PpState::Running => text.extend_from_slice(b"RUNNING\n"),
-        PpState::Stopped => text.extend_from_slice(b"STOPPED\n"),
-        PpState::Fault(number) => push_fault(text, number),
+        PpState::Running => piece.push(b"RUNNING\n"),
+        PpState::Stopped => piece.push(b"STOPPED\n"),
+        PpState::Fault(number) => push_fault(piece, number),
     }
 }
 
 /// Adds `PP00 P=0103 A=000007 PATIENCE` and a line feed.
-#[tactic(auto, unfolding(crate::specs::PrintedText::processor_line))]
-pub(crate) fn push_worker<A: Allocator, B: Allocator>(
-    text: &mut Vec<u8, A>,
-    n: PpNo,
-    worker: &Worker<B>,
-) -> Result<(), AllocError>
-    ensures text { OnOk result (text.new.items ≡ text.old.items ++ worker_line n (Some worker.now)) }
-    ensures fits { OnOk result (FitsItsEnd (shown_end worker.now)) }
+#[tactic(auto, using(crate::proofs::TextLemmas::processor_line_in_pieces))]
+pub(crate) fn push_worker<A: Allocator>(piece: &mut Piece, n: PpNo, worker: &Worker<A>)
+    requires { HasRoom longest_line piece.old }
+    ensures text { piece.new ≡ piece.old ++ worker_line n (Some worker.now) }
+    ensures fits { FitsItsEnd (shown_end worker.now) }
 {
-    text.extend_from_slice(&processor_heading(n, &worker.pp))?;
-    push_end(text, worker.finish)
+    piece.push(&processor_heading(n, &worker.pp));
+    push_end(piece, worker.finish);
 }
 
 /// Adds `PATIENCE` and a line feed.
-fn push_end<A: Allocator>(text: &mut Vec<u8, A>, finish: End) -> Result<(), AllocError>
-    ensures { OnOk result (text.new.items ≡ text.old.items ++ (end_text finish ++ line_end)) }
+fn push_end(piece: &mut Piece, finish: End)
+    requires { HasRoom 9 piece.old }
+    ensures { piece.new ≡ piece.old ++ (end_text finish ++ line_end) }
 {
     match finish {
-        End::Stopped => text.extend_from_slice(b"STOPPED\n"),
-        End::Fault(number) => push_fault(text, number),
-        End::Steps => text.extend_from_slice(b"STEPS\n"),
-        End::Patience => text.extend_from_slice(b"PATIENCE\n"),
-        End::Memory => text.extend_from_slice(b"MEMORY\n"),
-        End::Worn => text.extend_from_slice(b"WORN\n"),
+        End::Stopped => piece.push(b"STOPPED\n"),
+        End::Fault(number) => push_fault(piece, number),
+        End::Steps => piece.push(b"STEPS\n"),
+        End::Patience => piece.push(b"PATIENCE\n"),
+        End::Memory => piece.push(b"MEMORY\n"),
+        End::Worn => piece.push(b"WORN\n"),
     }
 }
 
 /// Adds `FAULT 4` and a line feed.
-fn push_fault<A: Allocator>(text: &mut Vec<u8, A>, number: u8) -> Result<(), AllocError>
-    ensures { OnOk result (text.new.items ≡ text.old.items ++ (codes "FAULT " ++ octal 1 number ++ line_end)) }
+fn push_fault(piece: &mut Piece, number: u8)
+    requires { HasRoom 8 piece.old }
+    ensures { piece.new ≡ piece.old ++ (codes "FAULT " ++ octal 1 number ++ line_end) }
 {
     let [f0] = octal1(number);
-    text.extend_from_slice(&[b'F', b'A', b'U', b'L', b'T', b' ', f0, b'\n'])
+    piece.push(&[b'F', b'A', b'U', b'L', b'T', b' ', f0, b'\n']);
 }
 
 /// `PP00 P=0103 A=000007 `
@@ -190,25 +188,22 @@ fn word_end(word: Word12) -> [u8; 5]
 }
 
 /// Adds `CH05 ACTIVE FULL 0007` and a line feed, where the channel has a history.
-pub(crate) fn push_channel<A: Allocator>(
-    text: &mut Vec<u8, A>,
-    c: ChannelNo,
-    channel: &Channel<A>,
-) -> Result<(), AllocError>
-    ensures text { OnOk result (text.new.items ≡ text.old.items ++ channel_line c channel.now) }
-    ensures fits { OnOk result (IsListed channel.now) }
+pub(crate) fn push_channel<A: Allocator>(piece: &mut Piece, c: ChannelNo, channel: &Channel<A>)
+    requires { HasRoom longest_line piece.old }
+    ensures text { piece.new ≡ piece.old ++ channel_line c channel.now }
+    ensures fits { IsListed channel.now }
 {
     if channel.history().is_empty() {
-        return Ok(());
+        return;
     }
     let [c0, c1] = channel_digits(c);
-    text.extend_from_slice(&[b'C', b'H', c0, c1, b' '])?;
+    piece.push(&[b'C', b'H', c0, c1, b' ']);
     match channel.waiting() {
         Some(word) => {
-            text.extend_from_slice(b"ACTIVE FULL ")?;
-            text.extend_from_slice(&word_end(word))
+            piece.push(b"ACTIVE FULL ");
+            piece.push(&word_end(word));
         }
-        None if channel.flags().active => text.extend_from_slice(b"ACTIVE EMPTY\n"),
-        None => text.extend_from_slice(b"INACTIVE\n"),
+        None if channel.flags().active => piece.push(b"ACTIVE EMPTY\n"),
+        None => piece.push(b"INACTIVE\n"),
     }
 }

@@ -1,0 +1,14 @@
+-- Pieces of a text, which have a fixed size.
+use Rattle.std.specs.Prelude.{ℕ, ◌+◌, ◌≤◌, List, length}
+
+-- how many bytes a piece holds at most (decimal)
+abbrev pub piece_length : ℕ
+piece_length = 8192
+
+-- there is room for so many more bytes in a piece
+abbrev pub HasRoom : ℕ → List ℕ → Type 0
+HasRoom count piece = length piece + count ≤ piece_length
+
+-- the length of the longest line (decimal): that of an event whose turn, or number, has twenty digits
+abbrev pub longest_line : ℕ
+longest_line = 40

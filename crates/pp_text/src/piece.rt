@@ -1,0 +1,73 @@
+//! A piece of a text.
+
+ghost use Rattle.std.specs.Prelude.{◌≡◌, ◌-◌, [], ◌++◌, length};
+ghost use Rattle.pp_text.specs.Piece.{HasRoom, piece_length};
+
+use std::marker::Model;
+
+/// How many bytes a piece holds at most (decimal).
+const PIECE_LENGTH: usize = 8192;
+
+/// The bytes of a text that are held back, to be written at once. It takes no memory. Contracts see
+/// the list of its bytes.
+#[derive(Drop)]
+pub(crate) struct Piece {
+    bytes: [u8; PIECE_LENGTH],
+    filled: usize,
+}
+
+impl Model for Piece {
+    ghost use Rattle.std.specs.Prelude.{ℕ, ◌≤◌, List, take};
+    ghost use Rattle.pp_text.specs.Piece.{piece_length};
+
+    ghost Value = { List ℕ };
+
+    ghost view = { λ p. take p.filled p.bytes };
+
+    ghost invariant = { λ p. p.filled ≤ piece_length };
+}
+
+impl Piece {
+    /// No bytes.
+    pub(crate) fn new() -> Piece
+        ensures { result ≡ [] }
+    {
+        Piece {
+            bytes: [0; PIECE_LENGTH],
+            filled: 0,
+        }
+    }
+
+    /// The bytes.
+    pub(crate) fn as_slice(&self) -> &[u8]
+        ensures { result.now ≡ self.now }
+    {
+        &self.bytes[..self.filled]
+    }
+
+    /// How many more bytes it can hold.
+    #[inline]
+    pub(crate) fn room(&self) -> usize
+        ensures { result ≡ piece_length - length self.now }
+    {
+        PIECE_LENGTH - self.filled
+    }
+
+    /// Adds these bytes.
+    #[inline]
+    pub(crate) fn push(&mut self, bytes: &[u8])
+        requires { HasRoom (length bytes.now) self.old }
+        ensures { self.new ≡ self.old ++ bytes.now }
+    {
+        let end = self.filled + bytes.len();
+        self.bytes[self.filled..end].copy_from_slice(bytes);
+        self.filled = end;
+    }
+
+    /// Lets all bytes go.
+    pub(crate) fn clear(&mut self)
+        ensures { self.new ≡ [] }
+    {
+        self.filled = 0;
+    }
+}

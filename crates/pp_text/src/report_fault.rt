@@ -1,0 +1,14 @@
+//! Why a report was not written.
+
+use thiserror::Error;
+
+/// Why the text of a report was not written. `Memory` comes before the first byte is written.
+#[derive(Clone, Copy, Debug, PartialEq, Eq, Error)]
+pub enum ReportFault {
+    /// A growth was refused.
+    #[error("out of memory")]
+    Memory,
+    /// The writer failed, or took nothing.
+    #[error("write fault")]
+    Write,
+}

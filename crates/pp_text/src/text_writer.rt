@@ -1,0 +1,76 @@
+//! A writer that gets a text in pieces.
+
+ghost use Rattle.std.specs.Prelude.{◌≡◌, ℕ, List, [], Option};
+
+use crate::piece::Piece;
+use crate::write_fault::{WriteFault, write_bytes};
+use std::io::Write;
+
+/// The length of the longest line (decimal).
+const LONGEST_LINE: usize = 40;
+
+/// Holds back what is printed until a piece is full, and then writes it. A writer that has failed is
+/// written to no more, and what is printed then is lost.
+#[derive(Drop)]
+pub(crate) struct TextWriter<'a, W> {
+    writer: &'a mut W,
+    pub(crate) piece: Piece,
+    failed: bool,
+}
+
+impl<'a, W: Write> TextWriter<'a, W> {
+    ghost use Rattle.pp_text.specs.TextWriter.{HasPrinted, Prints};
+    ghost use Rattle.pp_text.specs.Piece.{HasRoom, longest_line};
+    ghost use Rattle.pp_text.specs.Written.{IsWritten};
+
+    /// Prints to this writer. Nothing is printed yet.
+    pub(crate) fn new(writer: &'a mut W) -> TextWriter<'a, W>
+        ensures same_writer { result.writer.ghost_name ≡ writer.entry.ghost_name }
+        ensures nothing { HasPrinted W.contents (W.contents writer.old) [] result }
+    {
+        TextWriter {
+            writer,
+            piece: Piece::new(),
+            failed: false,
+        }
+    }
+
+    /// Makes room for a line, whichever it is.
+    #[inline]
+    pub(crate) fn make_room(&mut self)
+        ensures nothing_more { Prints W.contents self.old self.new [] }
+        ensures room { HasRoom longest_line self.new.piece }
+    {
+        if self.piece.room() < LONGEST_LINE {
+            self.write_piece();
+        }
+    }
+
+    /// Writes what is held back.
+    fn write_piece(&mut self)
+        ensures nothing_more { Prints W.contents self.old self.new [] }
+        ensures empty { self.new.piece ≡ [] }
+    {
+        if !self.failed {
+            self.failed = write_bytes(self.writer, self.piece.as_slice()).is_err();
+        }
+        self.piece.clear();
+    }
+
+    /// Ends the text: writes what is held back, and flushes the writer.
+    pub(crate) fn finish(&mut self) -> Result<(), WriteFault>
+        ensures same_writer { self.new.writer.ghost_name ≡ self.old.writer.ghost_name }
+        ensures written { (start : Option (List ℕ)) (text : List ℕ)
+            → HasPrinted W.contents start text self.old
+            → IsWritten text result start (W.contents self.new.writer.now) }
+    {
+        self.write_piece();
+        if self.failed {
+            return Err(WriteFault);
+        }
+        match self.writer.flush() {
+            Ok(()) => Ok(()),
+            Err(_) => Err(WriteFault),
+        }
+    }
+}

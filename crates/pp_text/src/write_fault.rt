@@ -1,0 +1,28 @@
+//! Writing all of some bytes.
+
+ghost use Rattle.std.specs.Prelude.{◌≡◌, length};
+ghost use Rattle.pp_text.specs.Written.{IsWritten};
+
+use std::io::Write;
+use thiserror::Error;
+
+/// The writer failed, or took nothing.
+#[derive(Clone, Copy, Debug, PartialEq, Eq, Error)]
+#[error("write fault")]
+pub struct WriteFault;
+
+/// Writes all of these bytes, in as many calls as it takes. An error ends it, and so does a call that
+/// takes nothing; no error is tried again.
+pub fn write_bytes<W: Write>(writer: &mut W, bytes: &[u8]) -> Result<(), WriteFault>
+    ensures { IsWritten bytes.now result (W.contents writer.old) (W.contents writer.new) }
+{
+    let mut done = 0;
+    while done < bytes.len() {
+        match writer.write(&bytes[done..]) {
+            Ok(0) => return Err(WriteFault),
+            Ok(count) => done += count,
+            Err(_) => return Err(WriteFault),
+        }
+    }
+    Ok(())
+}
