@@ -15,9 +15,9 @@ pub fn add18(a: Word18, b: Word18) -> Word18
 {
     let total = a.get() + b.get();
     if total < ALL_ONES {
-        Word18::truncated(total)
+        Word18::fitting(total)
     } else {
-        Word18::truncated(total - ALL_ONES)
+        Word18::fitting(total - ALL_ONES)
     }
 }
 
@@ -29,8 +29,8 @@ pub fn sub18(a: Word18, b: Word18) -> Word18
     let minuend = a.get();
     let subtrahend = b.get();
     if subtrahend <= minuend {
-        Word18::truncated(minuend - subtrahend)
+        Word18::fitting(minuend - subtrahend)
     } else {
-        Word18::truncated(minuend + ALL_ONES - subtrahend)
+        Word18::fitting(minuend + ALL_ONES - subtrahend)
     }
 }

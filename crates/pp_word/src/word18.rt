@@ -49,6 +49,14 @@ impl Word18 {
         self.value
     }
 
+    /// The word of a number that is known to fit.
+    pub(crate) fn fitting(number: u32) -> Self
+        requires { number < 2 ^ 18 }
+        ensures { result ≡ number }
+    {
+        Word18 { value: number }
+    }
+
     /// The low 18 bits of a number.
     pub fn truncated(number: u32) -> Self
         ensures { result ≡ number % 2 ^ 18 }
