@@ -1,6 +1,6 @@
 //! Rounds of the barrel in which each step is quiet: it makes no event and writes no central word.
 
-ghost use Rattle.std.specs.Prelude.{◌≡◌, ◌<◌, ◌≤◌, [], None, IfSome, IsNone, IsSome, IsTrue, false, slice_index_or, vec_len};
+ghost use Rattle.std.specs.Prelude.{◌≡◌, ◌-◌, ◌<◌, ◌≤◌, [], None, IfSome, IsNone, IsSome, IsTrue, false, slice_index_or, vec_len};
 ghost use Rattle.pp_channel.specs.Answer.{event_of, reply_to};
 ghost use Rattle.pp_channel.specs.ChannelNumber.{channel_count, channel_index};
 ghost use Rattle.pp_machine.specs.MachineState.{MachineState};
@@ -65,7 +65,8 @@ fn run_quiet_steps<A: Allocator>(pp: &mut Pp, channels: &Vec<Channel<A>, A>, mos
 {
     let mut made = 0;
     while made < most {
-        made += run_free_steps(pp, channels, most - made);
+        let left = run_free_steps(pp, channels, most - made);
+        made += most - made - left;
         if made == most {
             return made;
         }
@@ -93,34 +94,37 @@ fn run_quiet_steps<A: Allocator>(pp: &mut Pp, channels: &Vec<Channel<A>, A>, mos
 }
 
 /// Makes up to so many steps of a processor, as long as each is an instruction of the codes 00 to 57
-/// (octal) or a test of flags, and says how many it made.
+/// (octal) or a test of flags, and says how many of them are left.
 #[inline(never)]
 fn run_free_steps<A: Allocator>(pp: &mut Pp, channels: &Vec<Channel<A>, A>, most: u32) -> u32
     requires channels { vec_len channels.now ≡ channel_count }
     ensures most { result ≤ most }
-    ensures ahead { (m : MachineState) → m.histories ≡ channels.now.items → IsAhead result m pp.old pp.new }
+    ensures ahead { (m : MachineState) → m.histories ≡ channels.now.items → IsAhead (most - result) m pp.old pp.new }
 {
+    let mut left = most;
     if !pp.is_at_instruction() {
-        return 0;
+        return left;
     }
-    for made in 0..most {
+    while left > 0 {
         let (op, d) = pp.instruction_at_p();
         if pp.run_inner(op, d) {
+            left -= 1;
             if ends(op, d) {
-                return made + 1;
+                return left;
             }
             continue;
         }
         if !pp.tests_flags(op, d) {
-            return made;
+            return left;
         }
         let Some(channel) = pp.channel(d) else {
-            return made;
+            return left;
         };
         let flags = channels[channel.index()].flags();
         pp.test_flags(op, d, flags);
+        left -= 1;
     }
-    most
+    left
 }
 
 /// What a channel answers to an operation where that makes no event.
