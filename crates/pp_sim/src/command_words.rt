@@ -83,6 +83,13 @@ fn work_of(name: &str, matches: &ArgMatches<'_>) -> Option<Work>
     } else if name == "list" {
         let profile = profile_of(matches)?;
         Some(Work::List { profile })
+    } else if name == "dump" {
+        let profile = profile_of(matches)?;
+        let turns = number_of(matches, "turns")?;
+        if !TURNS.contains(turns) {
+            return None;
+        }
+        Some(Work::Dump { profile, turns })
     } else {
         None
     }
