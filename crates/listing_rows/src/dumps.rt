@@ -9,7 +9,19 @@ use std::test::Fail;
 /// A profile, a deck, the turns that it runs (decimal), and its dump.
 type Row = (Profile, &'static str, u32, &'static str);
 
-const DUMPS: [Row; 5] = [
+/// A program of docs/VIEWS.md.
+const SUM: &str = "\
+PP 0
+0050 0003               * so many words
+0100 5050 0200          * LDM 0200,50
+0102 3560               * RAD 60
+0103 3750 0573          * SOD 50, NJN 0100
+0105 0300
+0200 0001 0002 0003
+START 0100
+";
+
+const DUMPS: [Row; 7] = [
     // Both have stopped: their A and P are gone, and the words that came stay.
     (
         Profile::Ten,
@@ -122,6 +134,44 @@ PP 31
 0100 1407           * LDN 07
 0101 0376           * UJN 0100
 START 0101 000007
+",
+    ),
+    // A sum that misses the first of its words: after its end, and on the way.
+    (
+        Profile::Ten,
+        SUM,
+        200,
+        "\
+CENTRAL 10000
+PP 0
+0060 0005           * PSN 05
+0100 5050 0200      * LDM 0200,50
+0102 3560           * RAD 60
+0103 3750           * SOD 50
+0104 0573           * NJN 0100
+0105 0300           * UJN 0105
+0200 0001           * PSN 01
+0201 0002           * PSN 02
+0202 0003           * PSN 03
+",
+    ),
+    (
+        Profile::Ten,
+        SUM,
+        45,
+        "\
+CENTRAL 10000
+PP 0
+0050 0002           * PSN 02
+0100 5050 0200      * LDM 0200,50
+0102 3560           * RAD 60
+0103 3750           * SOD 50
+0104 0573           * NJN 0100
+0105 0300           * UJN 0105
+0200 0001           * PSN 01
+0201 0002           * PSN 02
+0202 0003           * PSN 03
+START 0102 000003
 ",
     ),
     // A machine in which nothing is.

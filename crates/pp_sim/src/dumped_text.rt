@@ -73,9 +73,7 @@ fn dump_of<A: Allocator + Copy>(
     }
     match dump(alloc, &loaded) {
         Ok(text) => Ok(text),
-        Err(DumpFault::NotBetweenPrograms(going_on)) => Err(TextFault::NotBetweenPrograms(
-            going_on,
-        )),
+        Err(DumpFault::NotBetweenPrograms(first)) => Err(TextFault::NotBetweenPrograms(first)),
         Err(DumpFault::Memory) => Err(TextFault::Memory),
     }
 }

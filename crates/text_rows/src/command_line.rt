@@ -87,7 +87,7 @@ fn asked_limits(alloc: Global, steps: &str, patience: &str) -> Option<(u32, u32)
 fn limits_in(asked: Result<Work, Refused>) -> Option<(u32, u32)> {
     match asked.ok()? {
         Work::Threads { limits, .. } => Some((limits.steps(), limits.patience())),
-        Work::Barrel { .. } | Work::List { .. } => None,
+        Work::Barrel { .. } | Work::List { .. } | Work::Dump { .. } => None,
     }
 }
 
