@@ -7,7 +7,6 @@ use Rattle.std.proofs.lemmas.List.{get_or-replicate, length-map}
 use Rattle.std.proofs.Math.ListN.{get_or-map}
 use Rattle.pp_channel.specs.ChannelNumber.{channel_count, channel_index, names_channel}
 use Rattle.pp_channel.proofs.ChannelPlaces as channel_places
-use Rattle.pp_machine.specs.Central.{IsCentral}
 use Rattle.pp_machine.specs.MachineState.{MachineState, processor_of, is_opened}
 use Rattle.pp_machine.specs.Processor.{Processor, IsProcessor, new_processor, no_processor}
 use Rattle.pp_machine.specs.ProcessorNumber.{names_processor, processor_count, processor_index, processor_number}
@@ -21,7 +20,7 @@ use Rattle.pp_deck.specs.DeckLoad.{processor_with}
 use Rattle.pp_deck.specs.DeckMeaning.{LoadedDeck, deck_meaning}
 use Rattle.pp_deck.proofs.ListLemmas.{length-tabulate, get_or-tabulate}
 use Rattle.pp_deck.proofs.LoadedRangeLemmas.{IsSmall}
-use Rattle.pp_listing.specs.Dump.{HasWidths, in_processor, processor_going_on, channel_going_on, all_going_on, first_going_on, left_of, is_in_use, deck_to_go_on, dump, after, GoesOnFrom}
+use Rattle.pp_listing.specs.Dump.{in_processor, processor_going_on, channel_going_on, all_going_on, first_going_on, left_of, is_in_use, deck_to_go_on, dump, after, GoesOnFrom}
 use Rattle.pp_listing.specs.Listing.{is_opened_channel, listing, numbers}
 use Rattle.pp_listing.proofs.FreshDeckLemmas.{IsFresh, fresh_listing}
 use Rattle.pp_listing.proofs.GoingOnLemmas.{none_given}
@@ -29,6 +28,7 @@ use Rattle.pp_listing.proofs.ListingLemmas.{dead_of, names_of, none_opened, numb
 use Rattle.pp_listing.proofs.LoadedDeckLemmas.{deck_for}
 use Rattle.pp_listing.proofs.NumberLemmas.{processor_fits}
 use Rattle.pp_listing.proofs.RunDeckLemmas.{IsDeckFor, run_stays}
+use Rattle.pp_listing.proofs.RunWidthLemmas.{HasWidths, widths_of_run}
 
 -- ---- the processors of a deck to go on from
 
@@ -102,16 +102,16 @@ pub none_open : (deck : LoadedDeck) → list_any (is_opened_channel (deck_to_go_
 unfolding dead_of
 none_open deck = none_opened (deck_to_go_on deck) (unopened deck)
 
-fresh : (deck : LoadedDeck) → IsDeckFor deck.machine.profile deck → IsCentral deck.machine.central → ((n : ℕ) → names_of (deck_to_go_on deck) n ≡ true → IsProcessor (processor_of n deck.machine)) → first_going_on deck.machine ≡ None → IsFresh deck.machine.profile (deck_to_go_on deck)
+fresh : (deck : LoadedDeck) → IsDeckFor deck.machine.profile deck → HasWidths deck.machine → first_going_on deck.machine ≡ None → IsFresh deck.machine.profile (deck_to_go_on deck)
 unfolding processors_of
-fresh deck h central widths between = record {
+fresh deck h widths between = record {
   machine = refl;
-  central = central;
+  central = widths.central;
   each_processor = length-map deck.machine.processors (λ (pp : Processor). left_of pp.state pp) ∙ h.each_processor;
   each_name = length-tabulate processor_count (λ place. is_in_use deck (processor_number place));
   unopened = unopened deck;
   within = λ n is. h.within n (number n is) (sym (named_there deck n (number n is)) ∙ is);
-  small = λ n is. subst IsSmall (sym (left_there deck n)) (left_small deck.machine.profile (processor_of n deck.machine).state (processor_of n deck.machine) (widths n is));
+  small = λ n is. subst IsSmall (sym (left_there deck n)) (left_small deck.machine.profile (processor_of n deck.machine).state (processor_of n deck.machine) (widths.processors (processor_index n)));
   set = λ n is.
       let pp = processor_of n deck.machine in (
         start_left deck.machine.profile pp.state pp,
@@ -130,26 +130,27 @@ unfolding dump
 dump_is deck = refl
 
 -- where a text means a deck that has come to this one by steps
-pub dump_is_deck : (deck loaded : LoadedDeck) (source : List ℕ) (steps : List ℕ) → deck_meaning deck.machine.profile source ≡ Ok loaded → deck ≡ after steps loaded
-    → IsCentral deck.machine.central → ((n : ℕ) → names_of (deck_to_go_on deck) n ≡ true → IsProcessor (processor_of n deck.machine)) → first_going_on deck.machine ≡ None
+dump_is_deck : (deck loaded : LoadedDeck) (source : List ℕ) (steps : List ℕ) → deck_meaning deck.machine.profile source ≡ Ok loaded → deck ≡ after steps loaded → first_going_on deck.machine ≡ None
     → length (dump deck) ≤ 1048576 → deck_meaning deck.machine.profile (dump deck) ≡ Ok (deck_to_go_on deck)
-dump_is_deck deck loaded source steps meant ran central widths between short =
+dump_is_deck deck loaded source steps meant ran between short =
     let its = dump_is deck in
-    let sound : IsDeckFor deck.machine.profile deck = subst (IsDeckFor deck.machine.profile) (sym ran) (run_stays deck.machine.profile steps loaded (deck_for deck.machine.profile source loaded meant)) in
-    ap (deck_meaning deck.machine.profile) its
-    ∙ fresh_listing deck.machine.profile (deck_to_go_on deck) (fresh deck sound central widths between) (omega (arith, short, ap length its))
+    let profile = deck.machine.profile in
+    let sound : IsDeckFor profile deck = subst (IsDeckFor profile) (sym ran) (run_stays profile steps loaded (deck_for profile source loaded meant)) in
+    let HaveWidths : LoadedDeck → Type 0 = λ d. HasWidths d.machine in
+    let widths : HasWidths deck.machine = subst HaveWidths (sym ran) (widths_of_run profile source loaded steps meant) in
+    ap (deck_meaning profile) its
+    ∙ fresh_listing profile (deck_to_go_on deck) (fresh deck sound widths between) (omega (arith, short, ap length its))
 
-pub goes_on : (text : List ℕ) (deck : LoadedDeck) → text ≡ dump deck → IsCentral deck.machine.central → ((n : ℕ) → names_of (deck_to_go_on deck) n ≡ true → IsProcessor (processor_of n deck.machine)) → first_going_on deck.machine ≡ None → GoesOnFrom text deck
-goes_on text deck is central widths between =
-    λ source loaded steps meant ran short. ap (deck_meaning deck.machine.profile) is ∙ dump_is_deck deck loaded source steps meant ran central widths between (omega (arith, short, ap length is))
+pub goes_on : (text : List ℕ) (deck : LoadedDeck) → text ≡ dump deck → first_going_on deck.machine ≡ None → GoesOnFrom text deck
+goes_on text deck is between =
+    λ source loaded steps meant ran short. ap (deck_meaning deck.machine.profile) is ∙ dump_is_deck deck loaded source steps meant ran between (omega (arith, short, ap length is))
 
 -- the same of each run of each deck that a text means
-pub dump_law_of : (profile : Profile) (text : List ℕ) (deck : LoadedDeck) (steps : List ℕ) → deck_meaning profile text ≡ Ok deck → HasWidths (run steps deck.machine) → first_going_on (run steps deck.machine) ≡ None
+pub dump_law_of : (profile : Profile) (text : List ℕ) (deck : LoadedDeck) (steps : List ℕ) → deck_meaning profile text ≡ Ok deck → first_going_on (run steps deck.machine) ≡ None
     → length (dump (after steps deck)) ≤ 1048576 → deck_meaning profile (dump (after steps deck)) ≡ Ok (deck_to_go_on (after steps deck))
-dump_law_of profile text deck steps meant widths between short =
+dump_law_of profile text deck steps meant between short =
     let ran = after steps deck in
     let same : ran.machine.profile ≡ profile = (run_stays profile steps deck (deck_for profile text deck meant)).its_profile in
     let P : Profile → Type 0 = λ p. deck_meaning p text ≡ Ok deck in
     let Q : Profile → Type 0 = λ p. deck_meaning p (dump ran) ≡ Ok (deck_to_go_on ran) in
-    subst Q same
-    (dump_is_deck ran deck text steps (subst P (sym same) meant) refl widths.central (λ n is. widths.processors n (numbered (deck_to_go_on ran) n is)) between short)
+    subst Q same (dump_is_deck ran deck text steps (subst P (sym same) meant) refl between short)

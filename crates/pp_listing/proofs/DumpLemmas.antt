@@ -1,12 +1,10 @@
 -- Steps of what dumps a deck.
-use Rattle.std.proofs.Common.{◌≡◌, ℕ, ◌+◌, ◌<◌, Bool, true, false, cond, List, [], ◌∷◌, ◌++◌, length, slice_set, get_or, get_or-set_same, get_or-set_other, refl, sym, ap, subst, ◌∙◌, arith, inl, inr}
+use Rattle.std.proofs.Common.{◌≡◌, ℕ, ◌+◌, ◌<◌, Bool, false, cond, List, [], ◌∷◌, ◌++◌, length, slice_set, get_or, get_or-set_same, get_or-set_other, refl, sym, ap, ◌∙◌, arith, inl, inr}
 use Rattle.std.proofs.lemmas.Bool.Decides.{eqb_tells}
-use Rattle.std.specs.Prelude.{None}
 use Rattle.std.specs.List.{flat_map, range_with_len}
 use Rattle.std.proofs.lemmas.List.{append-nil, length-set}
-use Rattle.pp_machine.specs.Central.{IsCentral}
 use Rattle.pp_machine.specs.MachineState.{processor_of}
-use Rattle.pp_machine.specs.Processor.{Processor, IsProcessor, word_at}
+use Rattle.pp_machine.specs.Processor.{Processor, word_at}
 use Rattle.pp_machine.specs.ProcessorNumber.{processor_count, processor_number}
 use Rattle.pp_machine.specs.declared.pp_state.PpState.{PpState}
 use Rattle.pp_machine.specs.declared.pp_state.PpState.TheVariants.{Running, Stopped, Fault}
@@ -14,12 +12,11 @@ use Rattle.pp_deck.specs.DeckLine.{central_size, section, dead_start}
 use Rattle.pp_deck.specs.DeckLoad.{each_processor}
 use Rattle.pp_deck.specs.DeckMeaning.{LoadedDeck}
 use Rattle.pp_deck.proofs.ListLemmas.{tabulate_is}
-use Rattle.pp_listing.specs.Dump.{GoesOnFrom, deck_to_go_on, dump, first_going_on, is_in_use, left_of}
+use Rattle.pp_listing.specs.Dump.{deck_to_go_on, dump, is_in_use, left_of}
 use Rattle.pp_listing.specs.ListedLine.{ListedLine, bare, text_line}
 use Rattle.pp_listing.specs.Listing.{central_word_line, dead_start_line, instruction_lines, is_named, listing, named_section, numbers, section_lines, start_line}
-use Rattle.pp_listing.proofs.ListingLemmas.{names_of}
 use Rattle.pp_listing.proofs.TextLemmas.{listing_from_pieces}
-use Rattle.pp_listing.proofs.DumpLawLemmas.{goes_on, left_there, none_open}
+use Rattle.pp_listing.proofs.DumpLawLemmas.{left_there, none_open}
 
 -- ---- which processors are in use
 
@@ -88,11 +85,3 @@ dump_from_pieces deck t t1 t2 t3 first second named is_first is_second is_named 
     (e3 ∙ ap (λ (names : List Bool). t2 ++ flat_map text_line (flat_map (named_section names deck.machine) numbers)) is_named
     ∙ ap (λ (lines : List ListedLine). t2 ++ flat_map text_line lines) (flat_same (named_section to_go_on.named deck.machine) (named_section to_go_on.named to_go_on.machine) numbers (section_left deck)))
     ∙ sym (dump_is deck)
-
--- and what they mean
-pub goes_on_from_pieces : (deck : LoadedDeck) (text : List ℕ) (named : List Bool) (central : List ℕ) → text ≡ dump deck → central ≡ deck.machine.central → IsCentral central → named ≡ each_processor (is_in_use deck)
-    → ((n : ℕ) → is_named named n ≡ true → IsProcessor (processor_of n deck.machine)) → first_going_on deck.machine ≡ None → GoesOnFrom text deck
-unfolding names_of
-goes_on_from_pieces deck text named central is is_central sound is_list widths between =
-    goes_on text deck is (subst IsCentral is_central sound)
-    (λ n used. widths n (ap (λ (names : List Bool). is_named names n) is_list ∙ used)) between

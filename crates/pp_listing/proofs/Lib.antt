@@ -11,8 +11,10 @@ pub mod LoadedDeckLemmas
 pub mod NumberLemmas
 pub mod OctalDigitLemmas
 pub mod PrintedLineLemmas
+pub mod PrintedTextLemmas
 pub mod ProfileLemmas
 pub mod RunDeckLemmas
-pub mod PrintedTextLemmas
+pub mod RunWidthLemmas
+pub mod StepWidthLemmas
 pub mod TextLemmas
-pub mod WidthLemmas
+pub mod WordWidthLemmas

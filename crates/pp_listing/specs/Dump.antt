@@ -1,10 +1,9 @@
 -- The dump of a deck that has run: the listing of a deck to go on from.
-use Rattle.std.specs.Prelude.{◌≡◌, ◌≤◌, IsTrue, Ok, ℕ, Bool, ◌&&◌, ◌||◌, List, ◌++◌, length, map, Option, Some, None, slice_get, filter_map, if◌then◌else◌}
+use Rattle.std.specs.Prelude.{◌≡◌, ◌≤◌, Ok, ℕ, Bool, ◌&&◌, ◌||◌, List, ◌++◌, length, map, Option, Some, None, slice_get, filter_map, if◌then◌else◌}
 use Rattle.pp_channel.specs.ChannelNumber.{names_channel}
 use Rattle.pp_channel.specs.History.{active}
-use Rattle.pp_machine.specs.Central.{IsCentral}
 use Rattle.pp_machine.specs.MachineState.{MachineState, new_machine, processor_of, history_of, is_opened}
-use Rattle.pp_machine.specs.Processor.{Processor, IsProcessor, new_processor}
+use Rattle.pp_machine.specs.Processor.{Processor, new_processor}
 use Rattle.pp_machine.specs.ProcessorNumber.{names_processor}
 use Rattle.pp_machine.specs.Run.{run}
 use Rattle.pp_machine.specs.declared.block.Block.{Block}
@@ -80,11 +79,6 @@ dump deck = listing (deck_to_go_on deck)
 -- a deck after some steps
 abbrev pub after : List ℕ → LoadedDeck → LoadedDeck
 after steps deck = record deck { machine = run steps deck.machine }
-
--- central memory is one, and the words and registers of each processor have their widths
-pub record HasWidths (m : MachineState) : Type 0 where
-  pub central : IsCentral m.central
-  pub processors : (n : ℕ) → IsTrue (names_processor n) → IsProcessor (processor_of n m)
 
 -- a text means the deck to go on from, where a deck that some text means has come to this one by
 -- steps, and this text is no longer than a deck may be

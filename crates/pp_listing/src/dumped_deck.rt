@@ -53,10 +53,8 @@ fn dump_between<A: Allocator + Copy, B: Allocator>(
     alloc: A,
     deck: &Deck<B>,
 ) -> Result<Vec<u8, A>, AllocError>
-    ensures text { IfOk result (λ text.
+    ensures { IfOk result (λ text.
         text.items ≡ dump (record { machine = deck.now.machine; named = deck.now.named })) }
-    ensures goes_on { IfOk result (λ text. first_going_on deck.now.machine ≡ None
-        → GoesOnFrom text.items (record { machine = deck.now.machine; named = deck.now.named })) }
 {
     let named = in_use(deck);
     let mut text = Vec::new(alloc);

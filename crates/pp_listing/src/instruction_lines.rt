@@ -1,7 +1,7 @@
 //! The lines of a processor's words, one for each instruction.
 
 ghost use Rattle.std.specs.Prelude.{◌≡◌, ◌++◌, OnOk};
-ghost use Rattle.pp_machine.specs.Processor.{IsProcessor, word_at};
+ghost use Rattle.pp_machine.specs.Processor.{word_at};
 ghost use Rattle.pp_listing.specs.InstructionText.{is_long};
 ghost use Rattle.pp_listing.specs.ListedLine.{one_word, text_line, text_of, two_words};
 ghost use Rattle.pp_listing.specs.Listing.{instruction_lines};
@@ -20,9 +20,8 @@ pub(crate) fn push_instructions<A: Allocator>(
     text: &mut Vec<u8, A>,
     pp: &Pp,
 ) -> Result<(), AllocError>
-    ensures text { OnOk result (text.new.items ≡ text.old.items
+    ensures { OnOk result (text.new.items ≡ text.old.items
         ++ text_of (instruction_lines (word_at pp.now 0) 0 pp.now.memory)) }
-    ensures widths { OnOk result (IsProcessor pp.now) }
 {
     let mut place = 0;
     while place < PLACES {

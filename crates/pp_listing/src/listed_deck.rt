@@ -2,7 +2,6 @@
 
 ghost use Rattle.std.specs.Prelude.{◌≡◌, ◌++◌, ◌<◌, ◌^◌, length, IfOk, OnOk};
 ghost use Rattle.std.specs.List.{list_any};
-ghost use Rattle.pp_machine.specs.Central.{IsCentral};
 ghost use Rattle.pp_deck.specs.DeckLine.{central_size};
 ghost use Rattle.pp_listing.specs.ListedLine.{bare, text_line, text_of};
 ghost use Rattle.pp_listing.specs.Listing.{ReadsBackAs, central_word_line, central_word_lines, dead_start_line, is_opened_channel, listing, numbers};
@@ -56,8 +55,7 @@ pub(crate) fn push_central<A: Allocator, B: Allocator>(
     text: &mut Vec<u8, A>,
     central: &Central<B>,
 ) -> Result<(), AllocError>
-    ensures text { OnOk result (text.new.items ≡ text.old.items ++ text_of (central_word_lines central.now)) }
-    ensures sound { IsCentral central.now }
+    ensures { OnOk result (text.new.items ≡ text.old.items ++ text_of (central_word_lines central.now)) }
 {
     for address in 0..central.size() {
         push_central_word(text, central, address)?;

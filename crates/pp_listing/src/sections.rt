@@ -1,10 +1,8 @@
 //! The sections of processors.
 
-ghost use Rattle.std.specs.Prelude.{ℕ, ◌≡◌, ◌++◌, true, OnOk};
-ghost use Rattle.pp_machine.specs.MachineState.{processor_of};
-ghost use Rattle.pp_machine.specs.Processor.{IsProcessor};
+ghost use Rattle.std.specs.Prelude.{◌≡◌, ◌++◌, OnOk};
 ghost use Rattle.pp_listing.specs.ListedLine.{text_of};
-ghost use Rattle.pp_listing.specs.Listing.{is_named, named_section, section_lines, sections, start_line};
+ghost use Rattle.pp_listing.specs.Listing.{named_section, section_lines, sections, start_line};
 
 use crate::instruction_lines::push_instructions;
 use crate::octal_digits::{push_octal, push_short_octal};
@@ -20,9 +18,7 @@ pub(crate) fn push_sections<A: Allocator, B: Allocator>(
     machine: &Machine<B>,
     named: &[bool; PROCESSORS],
 ) -> Result<(), AllocError>
-    ensures text { OnOk result (text.new.items ≡ text.old.items ++ text_of (sections named.now machine.now)) }
-    ensures widths { OnOk result ((n : ℕ) → is_named named.now n ≡ true
-        → IsProcessor (processor_of n machine.now)) }
+    ensures { OnOk result (text.new.items ≡ text.old.items ++ text_of (sections named.now machine.now)) }
 {
     for number in 0..NUMBERS {
         push_named_section(text, machine, named, number)?;
@@ -36,10 +32,8 @@ fn push_named_section<A: Allocator, B: Allocator>(
     named: &[bool; PROCESSORS],
     number: u8,
 ) -> Result<(), AllocError>
-    ensures text { OnOk result (text.new.items ≡ text.old.items
+    ensures { OnOk result (text.new.items ≡ text.old.items
         ++ text_of (named_section named.now machine.now number)) }
-    ensures widths { OnOk result (is_named named.now number ≡ true
-        → IsProcessor (processor_of number machine.now)) }
 {
     match PpNo::new(number) {
         Some(n) if named[n.index()] => push_section(text, n, machine.pp(n)),
@@ -49,8 +43,7 @@ fn push_named_section<A: Allocator, B: Allocator>(
 
 /// Adds the lines of a processor.
 fn push_section<A: Allocator>(text: &mut Vec<u8, A>, n: PpNo, pp: &Pp) -> Result<(), AllocError>
-    ensures text { OnOk result (text.new.items ≡ text.old.items ++ text_of (section_lines n pp.now)) }
-    ensures widths { OnOk result (IsProcessor pp.now) }
+    ensures { OnOk result (text.new.items ≡ text.old.items ++ text_of (section_lines n pp.now)) }
 {
     text.extend_from_slice(b"PP ")?;
     push_short_octal(text, 2, u64::from(n.get()))?;

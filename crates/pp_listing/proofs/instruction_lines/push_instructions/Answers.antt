@@ -6,7 +6,7 @@ use Rattle.pp_listing.proofs.instruction_lines.push_instructions.Goals.{else-is_
 pub loop-place-init : goal.loop-place-init
 loop-place-init g c = record {
   within = omega arith;
-  widths = λ h. absurd (omega (arith, h));
+  long = λ h. absurd (omega (arith, h));
   so_far = before_first c.args.text.now.items c.args.pp.now.memory;
 }
 
@@ -15,7 +15,7 @@ loop-place-preserved-then-place-lt-PLACES g c =
     let long = c.get-word.ensures.widths.memory.each_place in
     record {
       within = omega (arith, c.if-place-lt-PLACES.true);
-      widths = λ h. c.get-word.ensures.widths;
+      long = λ h. long;
       so_far = two_step _ _ _ _ _ _ _ _ _ _ long c.if-place-lt-PLACES.true c.truncated-at.ensures c.next.ensures c.get-word.ensures.value c.get-m.ensures.value c.get.ensures.value c.if-get-ne0.true
           (sym c.is_long.ensures ∙ c.if-is_long.true) c.in_ok-push_two_words.ensures c.loop-place.invariant.so_far;
     }
@@ -25,7 +25,7 @@ loop-place-preserved-in-Continue-branch-2 g c =
     let long = c.get-word.ensures.widths.memory.each_place in
     record {
       within = omega (arith, c.loop-place-test.true);
-      widths = λ h. c.get-word.ensures.widths;
+      long = λ h. long;
       so_far = one_step _ _ _ _ _ _ _ _ _ _ long c.loop-place-test.true c.truncated-at.ensures c.next.ensures c.get-word.ensures.value c.get-m.ensures.value c.get.ensures.value c.if-get-ne0.true
           (λ more. elim c.else-is_long.branch [
             | else-is_long-via-then-is_long+else-place-lt-PLACES w ↦ absurd (omega (arith, more, w.if-place-lt-PLACES.false))
@@ -38,14 +38,9 @@ loop-place-preserved g c =
     let long = c.get-word.ensures.widths.memory.each_place in
     record {
       within = omega (arith, c.loop-place-test.true);
-      widths = λ h. c.get-word.ensures.widths;
+      long = λ h. long;
       so_far = zero_step _ _ _ _ _ _ _ long c.loop-place-test.true c.truncated-at.ensures c.get-word.ensures.value c.get.ensures.value c.if-get-ne0.false c.loop-place.invariant.so_far;
     }
 
-pub returns-clause-text : goal.returns-clause-text
-returns-clause-text g c =
-    let widths = c.loop-place.invariant.widths (omega (arith, c.loop-place-test.false)) in
-    all_passed _ _ c.args.pp.now.memory c.loop-place.place (omega (arith, widths.memory.each_place, c.loop-place.invariant.within, c.loop-place-test.false)) c.loop-place.invariant.so_far
-
-pub returns-clause-widths : goal.returns-clause-widths
-returns-clause-widths g c = c.loop-place.invariant.widths (omega (arith, c.loop-place-test.false))
+pub returns : goal.returns
+returns g c = all_passed _ _ c.args.pp.now.memory c.loop-place.place (omega (arith, c.loop-place.invariant.long, c.loop-place.invariant.within, c.loop-place-test.false)) c.loop-place.invariant.so_far
