@@ -28,7 +28,8 @@ in_processor n None state = None
 -- in processor n, where there is one
 abbrev pub processor_going_on : MachineState → ℕ → Option GoingOn
 processor_going_on m n =
-    if names_processor n then in_processor n (processor_of n m).block (processor_of n m).state else None
+    if names_processor n then in_processor n (processor_of n m).block (processor_of n m).state
+    else None
 
 -- on channel c, where there is one and it is active
 abbrev pub channel_going_on : MachineState → ℕ → Option GoingOn
@@ -36,7 +37,8 @@ channel_going_on m c = if names_channel c && active (history_of c m) then Some (
 
 -- all of it, by number of processor, and then by number of channel
 unfoldable pub all_going_on : MachineState → List GoingOn
-all_going_on m = filter_map (processor_going_on m) numbers ++ filter_map (channel_going_on m) numbers
+all_going_on m =
+    filter_map (processor_going_on m) numbers ++ filter_map (channel_going_on m) numbers
 
 -- the first of it: a machine is between programs where there is none
 abbrev pub first_going_on : MachineState → Option GoingOn

@@ -13,9 +13,9 @@ use pp_machine::Profile;
 use std::alloc::Allocator;
 use std::io::{Read, Write};
 
-/// Reads a deck for a machine of this profile, runs it in the barrel for so many turns (decimal), and
-/// writes its dump: a deck to go on from. Where a processor is within a block or at fault, or a channel
-/// is active, nothing is written, and the answer is `NotBetweenPrograms`.
+/// Reads a deck for a machine of this profile, runs it in the barrel for so many turns (decimal),
+/// and writes its dump: a deck to go on from. Where a processor is within a block or at fault, or a
+/// channel is active, nothing is written, and the answer is `NotBetweenPrograms`.
 pub fn dump_text<A: Allocator + Copy, R: Read, W: Write>(
     alloc: A,
     profile: Profile,
