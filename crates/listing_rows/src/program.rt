@@ -7,7 +7,7 @@ use std::thread::Threads;
 use test_bench::{Failure, HANDOFF, HANDOFF_TEXT, Sink, Source, WORDS_OF_A_RUN};
 
 /// The listing of `HANDOFF`.
-const HANDOFF_LISTED: &str = "\
+pub(crate) const HANDOFF_LISTED: &str = "\
 CENTRAL 10000
 PP 0
 0100 7405           * ACN 05
@@ -74,7 +74,7 @@ const DECKS: [Row; 8] = [
 
 /// The status of a run, whether its output and its standard error are these, and how often it asked
 /// the reader.
-fn ending<R: AllocGlobal + Threads + Wait + Sync>(
+pub(crate) fn ending<R: AllocGlobal + Threads + Wait + Sync>(
     rt: &R,
     words: &[&str],
     mut input: Source,
@@ -147,24 +147,27 @@ fn an_input_that_fails(rt: HostRuntime) {
 }
 
 /// How many bytes an output takes, and how it then fails.
-const FAILURES: [(usize, Failure); 3] = [
+pub(crate) const FAILURES: [(usize, Failure); 3] = [
     (0, Failure::TakesNothing),
     (100, Failure::Error(ErrorKind::Interrupted)),
     (10_000, Failure::Flush),
 ];
 
-/// The status of a listing whose output fails, whether its standard error tells so, whether the
-/// output took a front of the listing and nothing else, and how often it failed.
-fn onto<R: AllocGlobal + Threads + Wait + Sync>(
+/// The status of a command whose output fails, whether its standard error tells so, whether the
+/// output took a front of this text and nothing else, and how often it failed.
+pub(crate) fn onto<R: AllocGlobal + Threads + Wait + Sync>(
     rt: &R,
+    words: &[&str],
+    deck: &str,
+    text: &str,
     room: usize,
     failure: Failure,
 ) -> (u8, bool, bool, u32) {
     let mut output = Sink::new(rt.alloc(), room, 7, failure);
     let mut error = Vec::new(rt.alloc());
-    let mut input = HANDOFF.as_bytes();
-    let status = run_program(rt, rt.alloc(), &LIST, &mut input, &mut output, &mut error);
-    let front = HANDOFF_LISTED.as_bytes();
+    let mut input = deck.as_bytes();
+    let status = run_program(rt, rt.alloc(), words, &mut input, &mut output, &mut error);
+    let front = text.as_bytes();
     (
         status,
         error.as_slice() == b"ppsim: write fault\n".as_slice(),
@@ -176,7 +179,7 @@ fn onto<R: AllocGlobal + Threads + Wait + Sync>(
 #[test]
 fn outputs_that_fail(rt: HostRuntime) {
     for (room, failure) in FAILURES {
-        let ended = onto(&rt, room, failure);
+        let ended = onto(&rt, &LIST, HANDOFF, HANDOFF_LISTED, room, failure);
         assert_eq!(rt; ended, (3, true, true, 1), "{failure:?}");
     }
 }

@@ -146,7 +146,7 @@ own_held : {A : Type 0} (f : Line → Option A) (central : List ℕ) (dead : Boo
 own_held f central dead named pp n none lt =
     held_by_sections f named (λ m. body_of (pp m)) n number_count (head_of central dead) none (λ m. all_keep (body_of (pp m)) (body_own (pp m))) (head_keeps central dead) lt
 
-memory_is : (lines : List Line) → memory_of lines ≡ tabulate place_count (λ place. unwrap_or (last_of (filter_map (word_for place) lines)) 0)
+pub memory_is : (lines : List Line) → memory_of lines ≡ tabulate place_count (λ place. unwrap_or (last_of (filter_map (word_for place) lines)) 0)
 unfolding memory_of
 memory_is lines = refl
 
@@ -159,7 +159,7 @@ body_words pp place =
     ∙ append-nil (filter_map (word_for place) (word_lines 0 pp.memory)))
     ∙ instructions_hold 0 place place pp.memory (omega arith)
 
-memory_held : (central : List ℕ) (dead : Bool) (named : ℕ → Bool) (pp : ℕ → Processor) (n : ℕ) → n < number_count → named n ≡ true → length (pp n).memory ≡ place_count → memory_of (lines_for n (lines_of_parts central dead named pp)) ≡ (pp n).memory
+pub memory_held : (central : List ℕ) (dead : Bool) (named : ℕ → Bool) (pp : ℕ → Processor) (n : ℕ) → n < number_count → named n ≡ true → length (pp n).memory ≡ place_count → memory_of (lines_for n (lines_of_parts central dead named pp)) ≡ (pp n).memory
 memory_held central dead named pp n lt here long =
     memory_is (lines_for n (lines_of_parts central dead named pp))
     ∙ sym (tabulate_is 0 (pp n).memory place_count (λ place. unwrap_or (last_of (filter_map (word_for place) (lines_for n (lines_of_parts central dead named pp)))) 0) long
@@ -177,7 +177,7 @@ module _ (profile : Profile) where
   starts_of memory None = refl
   starts_of memory (Some s) = refl
 
-  start_held : (central : List ℕ) (dead : Bool) (named : ℕ → Bool) (pp : ℕ → Processor) (n : ℕ) → n < number_count → named n ≡ true → (memory : List ℕ) (o : Option (ℕ × ℕ)) → pp n ≡ processor_with profile memory o → last_of (filter_map start_in (lines_for n (lines_of_parts central dead named pp))) ≡ o
+  pub start_held : (central : List ℕ) (dead : Bool) (named : ℕ → Bool) (pp : ℕ → Processor) (n : ℕ) → n < number_count → named n ≡ true → (memory : List ℕ) (o : Option (ℕ × ℕ)) → pp n ≡ processor_with profile memory o → last_of (filter_map start_in (lines_for n (lines_of_parts central dead named pp))) ≡ o
   start_held central dead named pp n lt here memory o is =
       ap last_of (own_held start_in central dead named pp n (λ m. refl) lt ∙ ap (λ (b : Bool). cond b (filter_map start_in (body_of (pp n))) []) here ∙ body_start (pp n))
       ∙ ap (λ (q : Processor). last_of (filter_map start_in (start_by q.state q.p q.a))) is
@@ -185,11 +185,11 @@ module _ (profile : Profile) where
 
   -- ---- the whole
 
-  processor_is : (lines : List Line) (n : ℕ) → processor_loaded profile lines n ≡ processor_with profile (memory_of (lines_for n lines)) (last_of (filter_map start_in (lines_for n lines)))
+  pub processor_is : (lines : List Line) (n : ℕ) → processor_loaded profile lines n ≡ processor_with profile (memory_of (lines_for n lines)) (last_of (filter_map start_in (lines_for n lines)))
   unfolding processor_loaded
   processor_is lines n = refl
 
-  memory_with : (memory : List ℕ) (o : Option (ℕ × ℕ)) → (processor_with profile memory o).memory ≡ memory
+  pub memory_with : (memory : List ℕ) (o : Option (ℕ × ℕ)) → (processor_with profile memory o).memory ≡ memory
   memory_with memory None = refl
   memory_with memory (Some s) = refl
 
@@ -217,10 +217,10 @@ module _ (profile : Profile) where
   processor_held central dead named pp lines n lt same is false e = processor_unnamed central dead named pp lines n lt e (sym same ∙ e)
 
   -- what a deck is made of
-  abbrev deck_of : ℕ → List Processor → List ℕ → List Bool → LoadedDeck
+  abbrev pub deck_of : ℕ → List Processor → List ℕ → List Bool → LoadedDeck
   deck_of size pps central named = record { machine = record (new_machine profile size) { processors = pps; central = central }; named = named }
 
-  central_is : (size : ℕ) (lines : List Line) → central_loaded size lines ≡ tabulate size (λ address. unwrap_or (last_of (filter_map (central_word_for address) lines)) 0)
+  pub central_is : (size : ℕ) (lines : List Line) → central_loaded size lines ≡ tabulate size (λ address. unwrap_or (last_of (filter_map (central_word_for address) lines)) 0)
   unfolding central_loaded
   central_is size lines = refl
 

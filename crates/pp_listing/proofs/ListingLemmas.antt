@@ -79,7 +79,7 @@ module _ (profile : Profile) where
   ready_dead size true c = (λ b. dead_start_read profile size b (is_some c), tt)
   ready_dead size false c = tt
 
-  parts_ready : (central : List ℕ) (dead : Bool) (named : ℕ → Bool) (pp : ℕ → Processor) → length central ≤ 0o400000 → All (λ w. w < 8 ^ 20) central → ((n : ℕ) → named n ≡ true → IsTrue (has_processor profile n)) → ((n : ℕ) → named n ≡ true → IsSmall (pp n))
+  pub parts_ready : (central : List ℕ) (dead : Bool) (named : ℕ → Bool) (pp : ℕ → Processor) → length central ≤ 0o400000 → All (λ w. w < 8 ^ 20) central → ((n : ℕ) → named n ≡ true → IsTrue (has_processor profile n)) → ((n : ℕ) → named n ≡ true → IsSmall (pp n))
       → IsReady profile (length central) None ((central_lines central ++ dead_line dead) ++ flat_map (section_if named (λ n. body_of (pp n))) (range_with_len 0 number_count))
   parts_ready central dead named pp most small has h =
       let size = length central in
@@ -117,16 +117,16 @@ says_section : (n : ℕ) (pp : Processor) (b : Bool) → map says (cond b (secti
 says_section n pp true = ap (λ (ls : List Line). section n ∷ ls) (says_body pp)
 says_section n pp false = refl
 
-dead_of : LoadedDeck → Bool
+unfoldable pub dead_of : LoadedDeck → Bool
 dead_of deck = list_any (is_opened_channel deck.machine) numbers
 
-names_of : LoadedDeck → ℕ → Bool
+unfoldable pub names_of : LoadedDeck → ℕ → Bool
 names_of deck n = is_named deck.named n
 
-processors_of : LoadedDeck → ℕ → Processor
+unfoldable pub processors_of : LoadedDeck → ℕ → Processor
 processors_of deck n = processor_of n deck.machine
 
-said : (deck : LoadedDeck) → map says (listed deck) ≡ lines_of_parts deck.machine.central (dead_of deck) (names_of deck) (processors_of deck)
+pub said : (deck : LoadedDeck) → map says (listed deck) ≡ lines_of_parts deck.machine.central (dead_of deck) (names_of deck) (processors_of deck)
 unfolding listed dead_of names_of processors_of
 said deck =
     let central = deck.machine.central in
@@ -143,7 +143,7 @@ said deck =
     (says_each (named_section deck.named deck.machine) (section_if (λ n. is_named deck.named n) (λ n. body_of (processor_of n deck.machine))) numbers (λ n. says_section n (processor_of n deck.machine) (is_named deck.named n))
     ∙ ap (flat_map (section_if (λ n. is_named deck.named n) (λ n. body_of (processor_of n deck.machine)))) numbers_are)
 
-listing_is : (deck : LoadedDeck) → listing deck ≡ flat_map text_line (listed deck)
+pub listing_is : (deck : LoadedDeck) → listing deck ≡ flat_map text_line (listed deck)
 unfolding listing
 listing_is deck = refl
 
@@ -153,7 +153,7 @@ and_left : (a b : Bool) → (a && b) ≡ true → a ≡ true
 and_left true b e = refl
 and_left false b e = absurd (cc)
 
-numbered : (deck : LoadedDeck) (n : ℕ) → names_of deck n ≡ true → IsTrue (names_processor n)
+pub numbered : (deck : LoadedDeck) (n : ℕ) → names_of deck n ≡ true → IsTrue (names_processor n)
 unfolding names_of
 numbered deck n e = and_left (names_processor n) (get_or deck.named (processor_index n) false) e
 
@@ -166,7 +166,7 @@ unopened : (b is_open : Bool) → (b ≡ true → is_open ≡ false) → (b && i
 unopened true is_open h = h refl
 unopened false is_open h = refl
 
-none_opened : (deck : LoadedDeck) → ((c : ℕ) → IsTrue (names_channel c) → is_opened c deck.machine ≡ false) → dead_of deck ≡ false
+pub none_opened : (deck : LoadedDeck) → ((c : ℕ) → IsTrue (names_channel c) → is_opened c deck.machine ≡ false) → dead_of deck ≡ false
 unfolding dead_of
 none_opened deck none =
     ap (list_any (is_opened_channel deck.machine)) numbers_are
@@ -181,7 +181,7 @@ not_opened deck e c named =
 -- ---- the listing of what lines load
 
 module _ (profile : Profile) where
-  name_here : (size : ℕ) (lines : List Line) (n : ℕ) → IsTrue (names_processor n) → names_of (loaded profile size lines) n ≡ load.is_named lines n
+  pub name_here : (size : ℕ) (lines : List Line) (n : ℕ) → IsTrue (names_processor n) → names_of (loaded profile size lines) n ≡ load.is_named lines n
   unfolding names_of
   name_here size lines n named =
       ap (λ (list : List Bool). names_processor n && get_or list (processor_index n) false) (dead.names_stay (asks_dead_start lines) (set_by profile size lines))
@@ -246,25 +246,34 @@ module _ (profile : Profile) where
   deck_is size lines [] deck e = cc
   deck_is size lines (fault ∷ faults) deck e = absurd (cc)
 
-  of_lines : (lines : List (List (List ℕ))) (deck : LoadedDeck) → meaning_of_lines profile lines ≡ Ok deck → ReadsBack deck
-  unfolding meaning_of_lines ReadsBack
-  of_lines lines deck e =
+  -- what holds of all that lines load whose numbers are in range
+  abbrev pub HoldsOfLoaded : (LoadedDeck → Type 0) → Type 0
+  HoldsOfLoaded Q = (size : ℕ) (lines : List Line) → 1 ≤ size → size ≤ 0o400000 → AllLines InRange lines → ((n : ℕ) → load.is_named lines n ≡ true → IsTrue (has_processor profile n)) → Q (loaded profile size lines)
+
+  of_lines : (Q : LoadedDeck → Type 0) → HoldsOfLoaded Q → (lines : List (List (List ℕ))) (deck : LoadedDeck) → meaning_of_lines profile lines ≡ Ok deck → Q deck
+  unfolding meaning_of_lines
+  of_lines Q holds lines deck e =
       let size = size_in_range lines in
       let said_lines = lines_said profile lines in
-      subst ReadsBack (deck_is (size_of lines) said_lines (faults_in profile lines) deck e)
-      (loaded_listing (size_of lines) said_lines size.0 size.1 (said_in_range profile lines) (λ n is. named_within profile lines n (law.some_name n said_lines is)))
+      subst Q (deck_is (size_of lines) said_lines (faults_in profile lines) deck e)
+      (holds (size_of lines) said_lines size.0 size.1 (said_in_range profile lines) (λ n is. named_within profile lines n (law.some_name n said_lines is)))
 
-  of_ascii : (text : List ℕ) (o : Option ℕ) (deck : LoadedDeck) → unless_foreign profile text o ≡ Ok deck → ReadsBack deck
-  of_ascii text None deck e = of_lines (lines_of text) deck e
-  of_ascii text (Some i) deck e = absurd (cc)
+  of_ascii : (Q : LoadedDeck → Type 0) → HoldsOfLoaded Q → (text : List ℕ) (o : Option ℕ) (deck : LoadedDeck) → unless_foreign profile text o ≡ Ok deck → Q deck
+  of_ascii Q holds text None deck e = of_lines Q holds (lines_of text) deck e
+  of_ascii Q holds text (Some i) deck e = absurd (cc)
 
-  of_short : (text : List ℕ) (b : Bool) (fault : _) (deck : LoadedDeck) → cond b (Err fault) (unless_foreign profile text (position is_foreign text)) ≡ Ok deck → ReadsBack deck
-  of_short text true fault deck e = absurd (cc)
-  of_short text false fault deck e = of_ascii text (position is_foreign text) deck e
+  of_short : (Q : LoadedDeck → Type 0) → HoldsOfLoaded Q → (text : List ℕ) (b : Bool) (fault : _) (deck : LoadedDeck) → cond b (Err fault) (unless_foreign profile text (position is_foreign text)) ≡ Ok deck → Q deck
+  of_short Q holds text true fault deck e = absurd (cc)
+  of_short Q holds text false fault deck e = of_ascii Q holds text (position is_foreign text) deck e
+
+  -- holds of each deck that a text means
+  pub each_deck : (Q : LoadedDeck → Type 0) → HoldsOfLoaded Q → (text : List ℕ) (deck : LoadedDeck) → deck_meaning profile text ≡ Ok deck → Q deck
+  unfolding deck_meaning
+  each_deck Q holds text deck e = of_short Q holds text (nat_lt 1048576 (length text)) _ deck e
 
   pub listing_is_deck : (text : List ℕ) (deck : LoadedDeck) → deck_meaning profile text ≡ Ok deck → length (listing deck) ≤ 1048576 → deck_meaning profile (listing deck) ≡ Ok deck
-  unfolding deck_meaning ReadsBack
-  listing_is_deck text deck e short = of_short text (nat_lt 1048576 (length text)) _ deck e short
+  unfolding ReadsBack
+  listing_is_deck text deck e = each_deck ReadsBack loaded_listing text deck e
 
 pub reads_back : (text : List ℕ) (deck : LoadedDeck) → text ≡ listing deck → ReadsBackAs text deck
 reads_back text deck is =

@@ -2,3 +2,4 @@ pub mod OctalDigits
 pub mod InstructionText
 pub mod ListedLine
 pub mod Listing
+pub mod Dump

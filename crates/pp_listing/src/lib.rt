@@ -1,6 +1,8 @@
-//! The listing of a deck: a text for people to read, which is a deck.
+//! The listing of a deck and the dump of one that has run: texts for people to read, which are decks.
 #![tactic(auto)]
 
+mod dumped_deck;
+mod going_on;
 mod instruction_lines;
 mod instruction_text;
 mod laws;
@@ -9,5 +11,7 @@ mod octal_digits;
 mod operands;
 mod sections;
 
-pub use laws::listing_law;
+pub use dumped_deck::{DumpFault, dump};
+pub use going_on::GoingOn;
+pub use laws::{dump_law, listing_law};
 pub use listed_deck::listing;

@@ -37,7 +37,7 @@ pub fn listing<A: Allocator + Copy, B: Allocator>(
 }
 
 /// Adds `CENTRAL 10000` and a line feed.
-fn push_size<A: Allocator, B: Allocator>(
+pub(crate) fn push_size<A: Allocator, B: Allocator>(
     text: &mut Vec<u8, A>,
     central: &Central<B>,
 ) -> Result<(), AllocError>
@@ -51,7 +51,7 @@ fn push_size<A: Allocator, B: Allocator>(
 }
 
 /// Adds the lines of all central words that are not 0.
-fn push_central<A: Allocator, B: Allocator>(
+pub(crate) fn push_central<A: Allocator, B: Allocator>(
     text: &mut Vec<u8, A>,
     central: &Central<B>,
 ) -> Result<(), AllocError>

@@ -1,5 +1,6 @@
 pub mod AnswerLemmas
 pub mod ByteLemmas
 pub mod CommandLemmas
+pub mod DumpTextLemmas
 pub mod NumeralLemmas
 pub mod ReportLemmas

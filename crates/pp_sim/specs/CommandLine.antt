@@ -14,8 +14,8 @@ use Rattle.pp_sim.specs.declared.line_fault.LineFault.TheVariants.{Memory, Refus
 use Rattle.pp_sim.specs.declared.work.Work.{Work}
 use Rattle.pp_sim.specs.declared.work.Work.TheVariants as works
 
--- THE COMMAND LINE, as clap sees it: `ppsim barrel --turns N`, `ppsim threads --steps N --patience N`
--- or `ppsim list`, the command and these options required, and for each `--processors N`, which may
+-- THE COMMAND LINE, as clap sees it: `ppsim barrel --turns N`, `ppsim threads --steps N --patience N`,
+-- `ppsim list` or `ppsim dump --turns N`, the command and these options required, and for each `--processors N`, which may
 -- be left out
 
 -- a required option whose value is a number
@@ -37,11 +37,15 @@ threads =
 abbrev pub list : App
 list = with_rule (new_app (codes "list")) processors_option
 
+abbrev pub dump : App
+dump = with_rule (with_rule (new_app (codes "dump")) (number_option (codes "turns"))) processors_option
+
 abbrev pub bare : App
 bare = record (new_app (codes "ppsim")) { top = record (new_app (codes "ppsim")).top { subcommand_required = true } }
 
 unfoldable pub ppsim : App
-ppsim = with_subcommand (with_subcommand (with_subcommand bare barrel.top) threads.top) list.top
+ppsim =
+    with_subcommand (with_subcommand (with_subcommand (with_subcommand bare barrel.top) threads.top) list.top) dump.top
 
 -- the kinds of refusal that clap's parse may give to the words: none where they are a command line
 unfoldable pub refusals : List Text → Kinds
@@ -70,6 +74,8 @@ IsWorkOf name text_of (works.Threads profile limits) = (name ≡ codes "threads"
     × AreLimits limits
 IsWorkOf name text_of (works.List profile) =
     (name ≡ codes "list") × ReadsProfile (text_of (codes "processors")) profile
+IsWorkOf name text_of (works.Dump profile turns) = (name ≡ codes "dump") × ReadsProfile (text_of (codes "processors")) profile
+    × ReadsNumber (text_of (codes "turns")) turns × (turns ≤ 999999)
 
 abbrev pub IsWorkAmong : Option (Text × List Row) → Work → Type 0
 IsWorkAmong None work = ⊥

@@ -7,9 +7,11 @@ use Rattle.clap.specs.declared.error.kind.ErrorKind.TheVariants.{DisplayHelp, Di
 use Rattle.pp_machine.specs.declared.profile.Profile.{Profile}
 use Rattle.pp_sim.specs.BarrelText.{IsBarrelText}
 use Rattle.pp_sim.specs.CommandLine.{AskFor, IsOutOfRange, IsRefused, refusals}
+use Rattle.pp_sim.specs.DumpText.{HindersDump, IsDumpText}
 use Rattle.pp_sim.specs.ListText.{IsListText}
 use Rattle.pp_deck.specs.DeckMeaning.{LoadedDeck}
-use Rattle.pp_sim.specs.TextAnswer.{AnswersTo, IsAnswer, most_bytes}
+use Rattle.pp_listing.specs.declared.going_on.GoingOn.{GoingOn}
+use Rattle.pp_sim.specs.TextAnswer.{AnswersUnless, IsAnswerUnless, Never, most_bytes}
 use Rattle.pp_text.specs.Written.{AppendsFront}
 use Rattle.pp_sim.specs.ThreadsText.{IsThreadsText}
 use Rattle.pp_sim.specs.declared.line_fault.LineFault.{LineFault}
@@ -26,22 +28,32 @@ abbrev pub IsTextBy : Type 0 → Work → LoadedDeck → List ℕ → Type 0
 IsTextBy Z (works.Barrel profile turns) = IsBarrelText turns
 IsTextBy Z (works.Threads profile limits) = IsThreadsText Z limits
 IsTextBy Z (works.List profile) = IsListText
+IsTextBy Z (works.Dump profile turns) = IsDumpText turns
+
+-- what may stand in the way of one
+abbrev pub HindersWork : Work → LoadedDeck → GoingOn → Type 0
+HindersWork (works.Barrel profile turns) = Never
+HindersWork (works.Threads profile limits) = Never
+HindersWork (works.List profile) = Never
+HindersWork (works.Dump profile turns) = HindersDump turns
 
 -- the profile of its machine
 abbrev pub profile_of : Work → Profile
 profile_of (works.Barrel profile turns) = profile
 profile_of (works.Threads profile limits) = profile
 profile_of (works.List profile) = profile
+profile_of (works.Dump profile turns) = profile
 
 -- the answer of a work, to the bytes that were read, and to the first bytes of a reader that tells what it has
 pub record IsDone (Z : Type 0) (work : Work) (answer : Result (Unit {0}) TextFault) (before after old new : Option (List ℕ)) : Type 0 where
-  pub every_reader : (bytes : List ℕ) × AnswersTo (profile_of work) (IsTextBy Z work) answer before after old new bytes
-  pub telling_reader : IfSome before (λ bytes. IsAnswer (profile_of work) (IsTextBy Z work) answer (take most_bytes bytes) old new)
+  pub every_reader : (bytes : List ℕ) × AnswersUnless (profile_of work) (HindersWork work) (IsTextBy Z work) answer before after old new bytes
+  pub telling_reader : IfSome before (λ bytes. IsAnswerUnless (profile_of work) (HindersWork work) (IsTextBy Z work) answer (take most_bytes bytes) old new)
 
 -- the status of a work that was done, or failed
 abbrev pub status_of : Result (Unit {0}) TextFault → ℕ
 status_of (Ok done) = 0
 status_of (Err (fault.Deck f)) = 1
+status_of (Err (fault.NotBetweenPrograms going_on)) = 1
 status_of (Err fault.Read) = 3
 status_of (Err fault.Write) = 3
 status_of (Err fault.Memory) = 4
@@ -68,6 +80,7 @@ IsWritten (Err fault.Write) text old new = AppendsFront old new text
 IsWritten (Err fault.Memory) text old new = Keeps old new
 IsWritten (Err fault.Read) text old new = ⊥
 IsWritten (Err (fault.Deck f)) text old new = ⊥
+IsWritten (Err (fault.NotBetweenPrograms going_on)) text old new = ⊥
 
 -- a text was printed, or could not be, and the status is that of the answer
 abbrev pub IsPrinted : List ℕ → ℕ → Option (List ℕ) → Option (List ℕ) → Type 0

@@ -6,6 +6,7 @@ use Rattle.pp_deck.specs.DeckMeaning.{LoadedDeck, deck_meaning}
 use Rattle.pp_deck.specs.declared.deck_fault.DeckCode.TheVariants as code
 use Rattle.pp_deck.specs.declared.deck_fault.DeckFault.{DeckFault}
 use Rattle.pp_text.specs.Written.{AppendsFront}
+use Rattle.pp_listing.specs.declared.going_on.GoingOn.{GoingOn}
 use Rattle.pp_sim.specs.declared.text_fault.TextFault.{TextFault}
 use Rattle.pp_sim.specs.declared.text_fault.TextFault.TheVariants as fault
 
@@ -24,21 +25,38 @@ pub record IsTextOf (profile : Profile) (IsDeckText : LoadedDeck → List ℕ �
   pub meant : deck_meaning profile bytes ≡ Ok deck
   pub run : IsDeckText deck text
 
+-- the bytes are a deck for such a machine, and this stands in the way of a text of it
+pub record IsHindered (profile : Profile) (Hinders : LoadedDeck → GoingOn → Type 0) (bytes : List ℕ) (going_on : GoingOn) : Type 0 where
+  pub deck : LoadedDeck
+  pub meant : deck_meaning profile bytes ≡ Ok deck
+  pub hinders : Hinders deck going_on
+
 -- THE ANSWER to a deck of these bytes, for a machine of this profile, and what was written: a whole text of the deck, a front of one, or nothing
-abbrev pub IsAnswer : Profile → (LoadedDeck → List ℕ → Type 0) → Result (Unit {0}) TextFault → List ℕ → Option (List ℕ) → Option (List ℕ) → Type 0
-IsAnswer profile IsDeckText (Ok done) bytes old new = (text : List ℕ) × IsTextOf profile IsDeckText bytes text × Appends old new text
-IsAnswer profile IsDeckText (Err fault.Write) bytes old new = (text : List ℕ) × IsTextOf profile IsDeckText bytes text × AppendsFront old new text
-IsAnswer profile IsDeckText (Err (fault.Deck f)) bytes old new = IsFaultOf profile bytes f × Keeps old new
-IsAnswer profile IsDeckText (Err fault.Read) bytes old new = Keeps old new
-IsAnswer profile IsDeckText (Err fault.Memory) bytes old new = Keeps old new
+abbrev pub IsAnswerUnless : Profile → (LoadedDeck → GoingOn → Type 0) → (LoadedDeck → List ℕ → Type 0) → Result (Unit {0}) TextFault → List ℕ → Option (List ℕ) → Option (List ℕ) → Type 0
+IsAnswerUnless profile Hinders IsDeckText (Ok done) bytes old new = (text : List ℕ) × IsTextOf profile IsDeckText bytes text × Appends old new text
+IsAnswerUnless profile Hinders IsDeckText (Err fault.Write) bytes old new = (text : List ℕ) × IsTextOf profile IsDeckText bytes text × AppendsFront old new text
+IsAnswerUnless profile Hinders IsDeckText (Err (fault.NotBetweenPrograms going_on)) bytes old new = IsHindered profile Hinders bytes going_on × Keeps old new
+IsAnswerUnless profile Hinders IsDeckText (Err (fault.Deck f)) bytes old new = IsFaultOf profile bytes f × Keeps old new
+IsAnswerUnless profile Hinders IsDeckText (Err fault.Read) bytes old new = Keeps old new
+IsAnswerUnless profile Hinders IsDeckText (Err fault.Memory) bytes old new = Keeps old new
 
 -- One call, whatever its reader is: these bytes were consumed, no more than a deck may have and one; the answer is
 -- that to the deck that they spell; and where it is Ok, they were all that the reader had.
-pub record AnswersTo (profile : Profile) (IsDeckText : LoadedDeck → List ℕ → Type 0) (answer : Result (Unit {0}) TextFault) (before after old new : Option (List ℕ)) (bytes : List ℕ) : Type 0 where
+pub record AnswersUnless (profile : Profile) (Hinders : LoadedDeck → GoingOn → Type 0) (IsDeckText : LoadedDeck → List ℕ → Type 0) (answer : Result (Unit {0}) TextFault) (before after old new : Option (List ℕ)) (bytes : List ℕ) : Type 0 where
   pub consumed : Consumes before after bytes
   pub bounded : length bytes ≤ most_bytes
-  pub answered : IsAnswer profile IsDeckText answer bytes old new
+  pub answered : IsAnswerUnless profile Hinders IsDeckText answer bytes old new
   pub whole : OnOk answer (IsAtEnd after)
+
+-- most works have a text of every deck: nothing stands in their way
+abbrev pub Never : LoadedDeck → GoingOn → Type 0
+Never deck going_on = ⊥
+
+abbrev pub IsAnswer : Profile → (LoadedDeck → List ℕ → Type 0) → Result (Unit {0}) TextFault → List ℕ → Option (List ℕ) → Option (List ℕ) → Type 0
+IsAnswer profile IsDeckText = IsAnswerUnless profile Never IsDeckText
+
+abbrev pub AnswersTo : Profile → (LoadedDeck → List ℕ → Type 0) → Result (Unit {0}) TextFault → (before after old new : Option (List ℕ)) → List ℕ → Type 0
+AnswersTo profile IsDeckText = AnswersUnless profile Never IsDeckText
 
 -- ---- parts of a call
 
@@ -48,10 +66,15 @@ IsReadFault fault.Read = Unit {0}
 IsReadFault fault.Memory = Unit {0}
 IsReadFault fault.Write = ⊥
 IsReadFault (fault.Deck f) = ⊥
+IsReadFault (fault.NotBetweenPrograms going_on) = ⊥
 
--- a run, or a listing, fails by the deck or for want of memory
+-- making a text fails by the deck, by what stands in its way, or for want of memory
+abbrev pub IsRunFaultUnless : Profile → (LoadedDeck → GoingOn → Type 0) → List ℕ → TextFault → Type 0
+IsRunFaultUnless profile Hinders bytes (fault.Deck f) = IsFaultOf profile bytes f
+IsRunFaultUnless profile Hinders bytes (fault.NotBetweenPrograms going_on) = IsHindered profile Hinders bytes going_on
+IsRunFaultUnless profile Hinders bytes fault.Memory = Unit {0}
+IsRunFaultUnless profile Hinders bytes fault.Read = ⊥
+IsRunFaultUnless profile Hinders bytes fault.Write = ⊥
+
 abbrev pub IsRunFault : Profile → List ℕ → TextFault → Type 0
-IsRunFault profile bytes (fault.Deck f) = IsFaultOf profile bytes f
-IsRunFault profile bytes fault.Memory = Unit {0}
-IsRunFault profile bytes fault.Read = ⊥
-IsRunFault profile bytes fault.Write = ⊥
+IsRunFault profile = IsRunFaultUnless profile Never

@@ -3,7 +3,7 @@
 ghost use Rattle.std.specs.Prelude.{◌≡◌, false, IfOk};
 ghost use Rattle.clap.specs.Words.{app_of, rule_of, with_rule};
 ghost use Rattle.clap.specs.declared.builder.command.Command.TheViews.{out-Command as fields_of};
-ghost use Rattle.pp_sim.specs.CommandLine.{barrel, list, number_option, processors_option, ppsim, threads};
+ghost use Rattle.pp_sim.specs.CommandLine.{barrel, dump, list, number_option, processors_option, ppsim, threads};
 
 use crate::number_range::{NumberRange, PATIENCE, STEPS, TURNS};
 use clap::{Arg, ArgAction, Command};
@@ -67,6 +67,18 @@ deck names. A fault is one line on standard error.
 
 The listing is itself a deck, and loads the same machine, where it is no longer than a deck may be,
 1048576 bytes (decimal).";
+
+const DUMP_ABOUT: &str = "Runs a deck in the barrel, and prints a deck to go on from";
+
+const DUMP_LONG_ABOUT: &str = "\
+Runs a deck in the barrel, and prints what is in the machine then, in the form of a listing: central
+memory, and the words of each processor that the deck names or that was loaded at dead start. Those
+that are running start where they are; the others keep their memory alone.
+
+Reads the deck from standard input. What is printed to standard output is a deck to go on from,
+where it is no longer than a deck may be, 1048576 bytes (decimal): histories and turns are gone.
+Where a processor is within a block or at fault, or a channel is active, nothing is printed, and the
+first of these is told on standard error. A fault is one line there too.";
 
 /// A required option whose value is a number.
 fn number_option<'a>(alloc: Global, id: &'a str, help: &'a str) -> Arg<'a>
@@ -144,6 +156,18 @@ fn list_command<'a>(alloc: Global) -> Result<Command<'a>, AllocError>
     command.arg(processors_option(alloc))
 }
 
+/// `dump --turns N [--processors N]`
+fn dump_command<'a>(alloc: Global) -> Result<Command<'a>, AllocError>
+    ensures app { IfOk result (λ c. app_of c ≡ dump) }
+    ensures local { IfOk result (λ c. (fields_of c).has_globals ≡ false) }
+{
+    let command = Command::new(alloc, "dump")
+        .about(DUMP_ABOUT)
+        .long_about(DUMP_LONG_ABOUT);
+    let command = with_number(alloc, command, "turns", TURNS)?;
+    command.arg(processors_option(alloc))
+}
+
 /// The whole command line.
 #[tactic(auto, unfolding(crate::specs::CommandLine::ppsim))]
 pub(crate) fn command<'a>(alloc: Global) -> Result<Command<'a>, AllocError>
@@ -152,11 +176,13 @@ pub(crate) fn command<'a>(alloc: Global) -> Result<Command<'a>, AllocError>
     let barrel = barrel_command(alloc)?;
     let threads = threads_command(alloc)?;
     let list = list_command(alloc)?;
+    let dump = dump_command(alloc)?;
     let bare = Command::new(alloc, "ppsim")
         .about(ABOUT)
         .after_help(EXAMPLE)
         .subcommand_required(true);
     let runs = bare.subcommand(barrel)?.subcommand(threads)?;
-    let whole = runs.subcommand(list)?;
+    let texts = runs.subcommand(list)?;
+    let whole = texts.subcommand(dump)?;
     Ok(whole)
 }

@@ -1,6 +1,6 @@
 //! Reading the words of a command line.
 
-ghost use Rattle.std.specs.Prelude.{◌≡◌, ◌↔◌, ℕ, [], codes, map, IfOk, IfErr, IfSome, IsSome, OnOk, MatchOption};
+ghost use Rattle.std.specs.Prelude.{◌≡◌, ◌≤◌, ◌↔◌, ℕ, [], codes, map, IfOk, IfErr, IfSome, IsSome, OnOk, MatchOption};
 ghost use Rattle.clap.specs.Words.{first_value, found_of};
 ghost use Rattle.pp_machine.specs.declared.profile.Profile.{Profile};
 ghost use Rattle.pp_runner.specs.RunLimits.{AreLimits};
@@ -62,6 +62,19 @@ fn limits_of(steps: u32, patience: u32) -> Option<Limits>
     }
 }
 
+/// The number of turns that the options say, if it is in range.
+fn turns_of(matches: &ArgMatches<'_>) -> Option<u32>
+    ensures { MatchOption result
+        ((n : ℕ) → ¬ (ReadsNumber (first_value (found_of matches.now) (codes "turns")) n × (n ≤ 999999)))
+        (λ n. ReadsNumber (first_value (found_of matches.now) (codes "turns")) n × (n ≤ 999999)) }
+{
+    let turns = number_of(matches, "turns")?;
+    if !TURNS.contains(turns) {
+        return None;
+    }
+    Some(turns)
+}
+
 /// The work that a command asks for, if its numbers are in range.
 fn work_of(name: &str, matches: &ArgMatches<'_>) -> Option<Work>
     ensures { MatchOption result ((work : Work) → ¬ IsWorkOf name.now (first_value (found_of matches.now)) work)
@@ -69,10 +82,7 @@ fn work_of(name: &str, matches: &ArgMatches<'_>) -> Option<Work>
 {
     if name == "barrel" {
         let profile = profile_of(matches)?;
-        let turns = number_of(matches, "turns")?;
-        if !TURNS.contains(turns) {
-            return None;
-        }
+        let turns = turns_of(matches)?;
         Some(Work::Barrel { profile, turns })
     } else if name == "threads" {
         let profile = profile_of(matches)?;
@@ -83,6 +93,10 @@ fn work_of(name: &str, matches: &ArgMatches<'_>) -> Option<Work>
     } else if name == "list" {
         let profile = profile_of(matches)?;
         Some(Work::List { profile })
+    } else if name == "dump" {
+        let profile = profile_of(matches)?;
+        let turns = turns_of(matches)?;
+        Some(Work::Dump { profile, turns })
     } else {
         None
     }

@@ -1,8 +1,9 @@
-//! Runs of decks, the texts of these runs, listings, and the program that writes them.
+//! Runs of decks, the texts of these runs, listings and dumps, and the program that writes them.
 #![tactic(auto)]
 
 mod command;
 mod command_words;
+mod dumped_text;
 mod entry;
 mod laws;
 mod line_fault;
@@ -18,13 +19,14 @@ mod text_fault;
 mod work;
 
 pub use command_words::read_words;
+pub use dumped_text::dump_text;
 pub use entry::run_main;
 pub use laws::{barrel_text_law, threads_text_law};
 pub use line_fault::LineFault;
 pub use listing_text::list_text;
 pub use numeral::numeral_law;
 pub use pp_deck::{Deck, DeckCode, DeckFault, deck_law, headline_law, read_deck, reading_law};
-pub use pp_listing::{listing, listing_law};
+pub use pp_listing::{DumpFault, GoingOn, dump, dump_law, listing, listing_law};
 pub use program::run_program;
 pub use text::barrel_text;
 pub use text_by_threads::threads_text;

@@ -5,6 +5,7 @@ ghost use Rattle.pp_runner.specs.Report.{ReportFitsInMemory};
 ghost use Rattle.pp_sim.specs.Program.{IsDone, IsPrinted, IsRun, IsTold, status_of};
 
 use crate::command_words::read_words;
+use crate::dumped_text::dump_text;
 use crate::line_fault::LineFault;
 use crate::listing_text::list_text;
 use crate::streams::write_whole;
@@ -20,7 +21,7 @@ use std::thread::Threads;
 
 /// It is done, or help was asked for.
 const DONE: u8 = 0;
-/// The deck was refused.
+/// The deck was refused, or can't be dumped as it stands.
 const DECK_REFUSED: u8 = 1;
 /// The command line was refused.
 const LINE_REFUSED: u8 = 2;
@@ -68,6 +69,7 @@ fn do_work<T: Threads + Wait + Sync, I: Read, A: Allocator + Copy + Send + Sync,
             threads_text(rt, alloc, profile, input, output, limits)
         }
         Work::List { profile } => list_text(alloc, profile, input, output),
+        Work::Dump { profile, turns } => dump_text(alloc, profile, input, output, turns),
     }
 }
 
@@ -127,7 +129,7 @@ fn tell_answer<E: Write>(answer: Result<(), TextFault>, error: &mut E) -> u8
     };
     let _ = writeln!(error, "ppsim: {fault}");
     match fault {
-        TextFault::Deck(_) => DECK_REFUSED,
+        TextFault::Deck(_) | TextFault::NotBetweenPrograms(_) => DECK_REFUSED,
         TextFault::Read | TextFault::Write => DEVICE_FAILED,
         TextFault::Memory => NO_MEMORY,
     }

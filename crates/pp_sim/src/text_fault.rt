@@ -1,9 +1,10 @@
 //! Why a text was not written.
 
 use pp_deck::DeckFault;
+use pp_listing::GoingOn;
 use thiserror::Error;
 
-/// Why the text of a deck's run was not written. Every fault but `Write` comes before the first
+/// Why the text of a deck was not written. Every fault but `Write` comes before the first
 /// byte is written.
 #[derive(Clone, Copy, Debug, PartialEq, Eq, Error)]
 pub enum TextFault {
@@ -13,6 +14,9 @@ pub enum TextFault {
     /// The deck was refused, for another cause than memory.
     #[error(transparent)]
     Deck(DeckFault),
+    /// The run left a machine that a dump can't tell, since this goes on in it.
+    #[error("not between programs: {0}")]
+    NotBetweenPrograms(GoingOn),
     /// A growth was refused.
     #[error("out of memory")]
     Memory,

@@ -13,4 +13,7 @@ pub enum Work {
     Threads { profile: Profile, limits: Limits },
     /// The listing of a deck for a machine of this profile.
     List { profile: Profile },
+    /// The dump of a deck that has run in the barrel of a machine of this profile, for so many turns
+    /// (decimal), 0 to 999,999.
+    Dump { profile: Profile, turns: u32 },
 }

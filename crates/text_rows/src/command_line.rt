@@ -23,7 +23,7 @@ fn asked(alloc: Global, words: &[&str]) -> Result<Work, Refused> {
 }
 
 /// Words after the program's name, and what they ask for.
-const RUNS: [(&[&str], Result<Work, Refused>); 4] = [
+const RUNS: [(&[&str], Result<Work, Refused>); 7] = [
     (
         &["ppsim", "barrel", "--turns", "40"],
         Ok(Work::Barrel {
@@ -43,6 +43,18 @@ const RUNS: [(&[&str], Result<Work, Refused>); 4] = [
         Err(Refused::Number),
     ),
     (&["ppsim", "barrel"], Err(Refused::Words)),
+    (
+        &["ppsim", "dump", "--turns", "999999", "--processors", "20"],
+        Ok(Work::Dump {
+            profile: Profile::Twenty,
+            turns: 999_999,
+        }),
+    ),
+    (
+        &["ppsim", "dump", "--turns", "1000000"],
+        Err(Refused::Number),
+    ),
+    (&["ppsim", "dump"], Err(Refused::Words)),
 ];
 
 #[test]
@@ -75,7 +87,7 @@ fn asked_limits(alloc: Global, steps: &str, patience: &str) -> Option<(u32, u32)
 fn limits_in(asked: Result<Work, Refused>) -> Option<(u32, u32)> {
     match asked.ok()? {
         Work::Threads { limits, .. } => Some((limits.steps(), limits.patience())),
-        Work::Barrel { .. } | Work::List { .. } => None,
+        Work::Barrel { .. } | Work::List { .. } | Work::Dump { .. } => None,
     }
 }
 

@@ -17,6 +17,7 @@ Commands:
   barrel   Runs a deck in the barrel, one step a turn, and prints what happened
   threads  Runs a deck with one thread per processor, and prints what happened
   list     Prints the listing of a deck, one instruction a line, which is itself a deck
+  dump     Runs a deck in the barrel, and prints a deck to go on from
   help     Print this message or the help of the given subcommand(s)
 
 Options:
@@ -161,8 +162,42 @@ Options:
   -h, --help            Print help (see more with '--help')
 ";
 
+const DUMP: &str = "\
+Runs a deck in the barrel, and prints what is in the machine then, in the form of a listing: central
+memory, and the words of each processor that the deck names or that was loaded at dead start. Those
+that are running start where they are; the others keep their memory alone.
+
+Reads the deck from standard input. What is printed to standard output is a deck to go on from,
+where it is no longer than a deck may be, 1048576 bytes (decimal): histories and turns are gone.
+Where a processor is within a block or at fault, or a channel is active, nothing is printed, and the
+first of these is told on standard error. A fault is one line there too.
+
+Usage: ppsim dump [OPTIONS] --turns <N>
+
+Options:
+      --turns <N>
+          How many turns to run, 0 to 999999 (decimal)
+
+      --processors <N>
+          How many processors the machine has, 10 or 20 (decimal); 10 if not given
+
+  -h, --help
+          Print help (see a summary with '-h')
+";
+
+const DUMP_IN_SHORT: &str = "\
+Runs a deck in the barrel, and prints a deck to go on from
+
+Usage: ppsim dump [OPTIONS] --turns <N>
+
+Options:
+      --turns <N>       How many turns to run, 0 to 999999 (decimal)
+      --processors <N>  How many processors the machine has, 10 or 20 (decimal); 10 if not given
+  -h, --help            Print help (see more with '--help')
+";
+
 /// Words that ask for help, each with its text.
-const HELP: [(&[&str], &str); 12] = [
+const HELP: [(&[&str], &str); 15] = [
     (&["ppsim", "--help"], PROGRAM),
     (&["ppsim", "-h"], PROGRAM),
     (&["ppsim", "help"], PROGRAM),
@@ -175,6 +210,9 @@ const HELP: [(&[&str], &str); 12] = [
     (&["ppsim", "list", "--help"], LIST),
     (&["ppsim", "help", "list"], LIST),
     (&["ppsim", "list", "-h"], LIST_IN_SHORT),
+    (&["ppsim", "dump", "--help"], DUMP),
+    (&["ppsim", "help", "dump"], DUMP),
+    (&["ppsim", "dump", "-h"], DUMP_IN_SHORT),
 ];
 
 #[test]

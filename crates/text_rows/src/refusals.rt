@@ -9,7 +9,7 @@ const REFUSED: [(&[&str], &str); 19] = [
         &["ppsim"],
         "\
 error: 'ppsim' requires a subcommand but one was not provided
-  [subcommands: barrel, threads, list, help]
+  [subcommands: barrel, threads, list, dump, help]
 
 Usage: ppsim <COMMAND>
 

@@ -11,4 +11,6 @@ returns c =
     c.in_ok-subcommand.ensures.shape c.in_ok-barrel.ensures.local ∙ ap₂ with_subcommand bare_is (ap (λ (a : App). a.top) c.in_ok-barrel.ensures.app) in
     let runs_are : app_of c.in_ok-runs.runs ≡ with_subcommand (with_subcommand bare _) _ =
     c.in_ok-runs.ensures.shape c.in_ok-threads.ensures.local ∙ ap₂ with_subcommand behind (ap (λ (a : App). a.top) c.in_ok-threads.ensures.app) in
-    c.in_ok-whole.ensures.shape c.in_ok-list.ensures.local ∙ ap₂ with_subcommand runs_are (ap (λ (a : App). a.top) c.in_ok-list.ensures.app)
+    let texts_are : app_of c.in_ok-texts.texts ≡ with_subcommand (with_subcommand (with_subcommand bare _) _) _ =
+    c.in_ok-texts.ensures.shape c.in_ok-list.ensures.local ∙ ap₂ with_subcommand runs_are (ap (λ (a : App). a.top) c.in_ok-list.ensures.app) in
+    c.in_ok-whole.ensures.shape c.in_ok-dump.ensures.local ∙ ap₂ with_subcommand texts_are (ap (λ (a : App). a.top) c.in_ok-dump.ensures.app)

@@ -1,0 +1,156 @@
+-- The dump of a deck that has run, read as a deck, is the deck to go on from.
+use Rattle.std.proofs.Common.{◌≡◌, ℕ, ◌^◌, ◌<◌, ◌≤◌, Bool, true, false, cond, List, length, get_or, Option, Some, None, Ok, refl, sym, ap, subst, ◌∙◌, arith}
+use Rattle.std.specs.Prelude.{IsTrue, ◌&&◌, All, filter_map}
+use Rattle.std.specs.List.{list_any}
+use Rattle.std.proofs.lemmas.Grind.{get_or_default_zero}
+use Rattle.std.proofs.lemmas.List.{get_or-replicate, length-map}
+use Rattle.std.proofs.Math.ListN.{get_or-map}
+use Rattle.pp_channel.specs.ChannelNumber.{channel_count, channel_index, names_channel}
+use Rattle.pp_channel.proofs.ChannelPlaces as channel_places
+use Rattle.pp_machine.specs.MachineState.{MachineState, processor_of, is_opened}
+use Rattle.pp_machine.specs.Processor.{Processor, IsProcessor, new_processor, no_processor}
+use Rattle.pp_machine.specs.ProcessorNumber.{names_processor, processor_count, processor_index, processor_number}
+use Rattle.pp_machine.specs.Run.{run}
+use Rattle.pp_machine.specs.declared.block.Block.{Block}
+use Rattle.pp_machine.specs.declared.pp_state.PpState.{PpState}
+use Rattle.pp_machine.specs.declared.pp_state.PpState.TheVariants.{Running, Stopped, Fault}
+use Rattle.pp_machine.specs.declared.profile.Profile.{Profile}
+use Rattle.pp_machine.proofs.ProcessorPlaces.{number_of_place, place_below}
+use Rattle.pp_deck.specs.DeckLoad.{processor_with}
+use Rattle.pp_deck.specs.DeckMeaning.{LoadedDeck, deck_meaning}
+use Rattle.pp_deck.proofs.ListLemmas.{length-tabulate, get_or-tabulate}
+use Rattle.pp_deck.proofs.LoadedRangeLemmas.{IsSmall}
+use Rattle.pp_listing.specs.Dump.{in_processor, processor_going_on, channel_going_on, all_going_on, first_going_on, left_of, is_in_use, deck_to_go_on, dump, after, GoesOnFrom}
+use Rattle.pp_listing.specs.Listing.{is_opened_channel, listing, numbers}
+use Rattle.pp_listing.proofs.FreshDeckLemmas.{IsFresh, fresh_listing}
+use Rattle.pp_listing.proofs.GoingOnLemmas.{none_given}
+use Rattle.pp_listing.proofs.ListingLemmas.{dead_of, names_of, none_opened, numbered, processors_of}
+use Rattle.pp_listing.proofs.LoadedDeckLemmas.{deck_for}
+use Rattle.pp_listing.proofs.NumberLemmas.{processor_fits}
+use Rattle.pp_listing.proofs.RunDeckLemmas.{IsDeckFor, run_stays}
+use Rattle.pp_listing.proofs.RunWidthLemmas.{HasWidths, widths_of_run}
+
+-- ---- the processors of a deck to go on from
+
+pub left_there : (deck : LoadedDeck) (n : ℕ) → processor_of n (deck_to_go_on deck).machine ≡ left_of (processor_of n deck.machine).state (processor_of n deck.machine)
+left_there deck n = get_or-map (λ (pp : Processor). left_of pp.state pp) deck.machine.processors (processor_index n) no_processor
+
+pub used_there : (deck : LoadedDeck) (n : ℕ) → IsTrue (names_processor n) → get_or (deck_to_go_on deck).named (processor_index n) false ≡ is_in_use deck n
+used_there deck n named =
+    get_or-tabulate processor_count (λ place. is_in_use deck (processor_number place)) (processor_index n) false (place_below n named)
+    ∙ ap (is_in_use deck) (number_of_place n named)
+
+named_there : (deck : LoadedDeck) (n : ℕ) → IsTrue (names_processor n) → names_of (deck_to_go_on deck) n ≡ is_in_use deck n
+unfolding names_of
+named_there deck n named = ap (λ (b : Bool). b && get_or (deck_to_go_on deck).named (processor_index n) false) named ∙ used_there deck n named
+
+-- ---- between programs no processor is in a block
+
+in_no_block : (n : ℕ) (block : Option Block) (state : PpState) → in_processor n block state ≡ None → block ≡ None
+in_no_block n (Some block) state e = absurd (cc)
+in_no_block n None state e = refl
+
+if_none : {A : Type 0} (b : Bool) (o : Option A) → b ≡ true → cond b o None ≡ None → o ≡ None
+if_none true o is e = e
+if_none false o is e = absurd (cc)
+
+no_block : (m : MachineState) (n : ℕ) → IsTrue (names_processor n) → first_going_on m ≡ None → (processor_of n m).block ≡ None
+unfolding all_going_on
+no_block m n named e =
+    let pp = processor_of n m in
+    in_no_block n pp.block pp.state
+    (if_none (names_processor n) (in_processor n pp.block pp.state) named
+    (none_given (processor_going_on m) n (filter_map (channel_going_on m) numbers) (omega (arith, processor_fits n named)) e))
+
+-- ---- a processor that is left
+
+module _ (profile : Profile) where
+  words_small : (pp : Processor) → IsProcessor pp → All (λ w. w < 8 ^ 4) pp.memory
+  words_small pp h = λ k d lt. omega (arith, h.memory.each_word k, get_or_default_zero pp.memory k d lt)
+
+  rest_small : (pp : Processor) → IsProcessor pp → IsSmall (record (new_processor pp.profile) { memory = pp.memory })
+  rest_small pp h = record { memory = words_small pp h; long = h.memory.each_place; p = omega arith; a = omega arith }
+
+  left_small : (state : PpState) (pp : Processor) → IsProcessor pp → IsSmall (left_of state pp)
+  left_small Running pp h = record { memory = words_small pp h; long = h.memory.each_place; p = omega (arith, h.p); a = omega (arith, h.a) }
+  left_small Stopped pp h = rest_small pp h
+  left_small (Fault number) pp h = rest_small pp h
+
+  -- from its start, where it is running
+  start_left : PpState → Processor → Option (ℕ × ℕ)
+  start_left Running pp = Some (pp.p, pp.a)
+  start_left state pp = None
+
+  left_set : (state : PpState) (pp : Processor) → pp.state ≡ state → pp.profile ≡ profile → pp.block ≡ None → left_of state pp ≡ processor_with profile (left_of state pp).memory (start_left state pp)
+  unfolding start_left
+  left_set Running pp e its none =
+      ap (λ p. record { profile = p; memory = pp.memory; a = pp.a; p = pp.p; state = pp.state; block = pp.block }) its
+      ∙ ap (λ s. record { profile = profile; memory = pp.memory; a = pp.a; p = pp.p; state = s; block = pp.block }) e
+      ∙ ap (λ b. record { profile = profile; memory = pp.memory; a = pp.a; p = pp.p; state = Running; block = b }) none
+  left_set Stopped pp e its none = ap (λ p. record (new_processor p) { memory = pp.memory }) its
+  left_set (Fault number) pp e its none = ap (λ p. record (new_processor p) { memory = pp.memory }) its
+
+  left_new : (pp : Processor) → pp ≡ new_processor profile → left_of pp.state pp ≡ new_processor profile
+  left_new pp e = ap (λ (q : Processor). left_of q.state q) e
+
+-- ---- the deck to go on from
+
+unopened : (deck : LoadedDeck) (c : ℕ) → IsTrue (names_channel c) → is_opened c (deck_to_go_on deck).machine ≡ false
+unopened deck c named = get_or-replicate channel_count (channel_index c) false false (channel_places.place_below c named)
+
+pub none_open : (deck : LoadedDeck) → list_any (is_opened_channel (deck_to_go_on deck).machine) numbers ≡ false
+unfolding dead_of
+none_open deck = none_opened (deck_to_go_on deck) (unopened deck)
+
+fresh : (deck : LoadedDeck) → IsDeckFor deck.machine.profile deck → HasWidths deck.machine → first_going_on deck.machine ≡ None → IsFresh deck.machine.profile (deck_to_go_on deck)
+unfolding processors_of
+fresh deck h widths between = record {
+  machine = refl;
+  central = widths.central;
+  each_processor = length-map deck.machine.processors (λ (pp : Processor). left_of pp.state pp) ∙ h.each_processor;
+  each_name = length-tabulate processor_count (λ place. is_in_use deck (processor_number place));
+  unopened = unopened deck;
+  within = λ n is. h.within n (number n is) (sym (named_there deck n (number n is)) ∙ is);
+  small = λ n is. subst IsSmall (sym (left_there deck n)) (left_small deck.machine.profile (processor_of n deck.machine).state (processor_of n deck.machine) (widths.processors (processor_index n)));
+  set = λ n is.
+      let pp = processor_of n deck.machine in (
+        start_left deck.machine.profile pp.state pp,
+        left_there deck n
+            ∙ left_set deck.machine.profile pp.state pp refl (h.own_profile n (number n is)) (no_block deck.machine n (number n is) between)
+            ∙ ap (λ (q : Processor). processor_with deck.machine.profile q.memory (start_left deck.machine.profile pp.state pp)) (sym (left_there deck n)),
+      );
+  free = λ n named none. left_there deck n ∙ left_new deck.machine.profile (processor_of n deck.machine) (h.unused n named (sym (named_there deck n named) ∙ none));
+}
+  where
+    number : (n : ℕ) → names_of (deck_to_go_on deck) n ≡ true → IsTrue (names_processor n)
+    number n is = numbered (deck_to_go_on deck) n is
+
+dump_is : (deck : LoadedDeck) → dump deck ≡ listing (deck_to_go_on deck)
+unfolding dump
+dump_is deck = refl
+
+-- where a text means a deck that has come to this one by steps
+dump_is_deck : (deck loaded : LoadedDeck) (source : List ℕ) (steps : List ℕ) → deck_meaning deck.machine.profile source ≡ Ok loaded → deck ≡ after steps loaded → first_going_on deck.machine ≡ None
+    → length (dump deck) ≤ 1048576 → deck_meaning deck.machine.profile (dump deck) ≡ Ok (deck_to_go_on deck)
+dump_is_deck deck loaded source steps meant ran between short =
+    let its = dump_is deck in
+    let profile = deck.machine.profile in
+    let sound : IsDeckFor profile deck = subst (IsDeckFor profile) (sym ran) (run_stays profile steps loaded (deck_for profile source loaded meant)) in
+    let HaveWidths : LoadedDeck → Type 0 = λ d. HasWidths d.machine in
+    let widths : HasWidths deck.machine = subst HaveWidths (sym ran) (widths_of_run profile source loaded steps meant) in
+    ap (deck_meaning profile) its
+    ∙ fresh_listing profile (deck_to_go_on deck) (fresh deck sound widths between) (omega (arith, short, ap length its))
+
+pub goes_on : (text : List ℕ) (deck : LoadedDeck) → text ≡ dump deck → first_going_on deck.machine ≡ None → GoesOnFrom text deck
+goes_on text deck is between =
+    λ source loaded steps meant ran short. ap (deck_meaning deck.machine.profile) is ∙ dump_is_deck deck loaded source steps meant ran between (omega (arith, short, ap length is))
+
+-- the same of each run of each deck that a text means
+pub dump_law_of : (profile : Profile) (text : List ℕ) (deck : LoadedDeck) (steps : List ℕ) → deck_meaning profile text ≡ Ok deck → first_going_on (run steps deck.machine) ≡ None
+    → length (dump (after steps deck)) ≤ 1048576 → deck_meaning profile (dump (after steps deck)) ≡ Ok (deck_to_go_on (after steps deck))
+dump_law_of profile text deck steps meant between short =
+    let ran = after steps deck in
+    let same : ran.machine.profile ≡ profile = (run_stays profile steps deck (deck_for profile text deck meant)).its_profile in
+    let P : Profile → Type 0 = λ p. deck_meaning p text ≡ Ok deck in
+    let Q : Profile → Type 0 = λ p. deck_meaning p (dump ran) ≡ Ok (deck_to_go_on ran) in
+    subst Q same (dump_is_deck ran deck text steps (subst P (sym same) meant) refl between short)

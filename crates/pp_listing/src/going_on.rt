@@ -1,0 +1,87 @@
+//! What goes on in a machine that is not between programs.
+
+ghost use Rattle.std.specs.Prelude.{◌≡◌, slice_get, filter_map};
+ghost use Rattle.pp_listing.specs.Dump.{first_going_on, processor_going_on, channel_going_on, in_processor};
+ghost use Rattle.pp_listing.specs.Listing.{numbers};
+
+use crate::sections::NUMBERS;
+use pp_channel::ChannelNo;
+use pp_machine::{Machine, Pp, PpNo, PpState};
+use std::alloc::Allocator;
+use thiserror::Error;
+
+/// What goes on in a machine that is not between programs. Numbers are printed in two octal digits.
+#[derive(Clone, Copy, Debug, PartialEq, Eq, Error)]
+pub enum GoingOn {
+    /// A block transfer is in progress.
+    #[error("PP{:02o} within a block", .0.get())]
+    WithinBlock(PpNo),
+    /// A numbered fault ended the processor.
+    #[error("PP{:02o} at fault", .0.get())]
+    AtFault(PpNo),
+    /// The channel is active.
+    #[error("CH{:02o} active", .0.get())]
+    Active(ChannelNo),
+}
+
+/// The first of it: in a processor, by number, or else on a channel, by number.
+pub(crate) fn first_going_on<A: Allocator>(machine: &Machine<A>) -> Option<GoingOn>
+    ensures { result ≡ first_going_on machine.now }
+{
+    match first_processor(machine) {
+        Some(going_on) => Some(going_on),
+        None => first_channel(machine),
+    }
+}
+
+fn first_processor<A: Allocator>(machine: &Machine<A>) -> Option<GoingOn>
+    ensures { result ≡ slice_get (filter_map (processor_going_on machine.now) numbers) 0 }
+{
+    for number in 0..NUMBERS {
+        if let Some(going_on) = processor_going_on(machine, number) {
+            return Some(going_on);
+        }
+    }
+    None
+}
+
+fn first_channel<A: Allocator>(machine: &Machine<A>) -> Option<GoingOn>
+    ensures { result ≡ slice_get (filter_map (channel_going_on machine.now) numbers) 0 }
+{
+    for number in 0..NUMBERS {
+        if let Some(going_on) = channel_going_on(machine, number) {
+            return Some(going_on);
+        }
+    }
+    None
+}
+
+fn processor_going_on<A: Allocator>(machine: &Machine<A>, number: u8) -> Option<GoingOn>
+    ensures { result ≡ processor_going_on machine.now number }
+{
+    let n = PpNo::new(number)?;
+    in_processor(n, machine.pp(n))
+}
+
+fn in_processor(n: PpNo, pp: &Pp) -> Option<GoingOn>
+    ensures { result ≡ in_processor n pp.now.block pp.now.state }
+{
+    if pp.block().is_some() {
+        return Some(GoingOn::WithinBlock(n));
+    }
+    match pp.state() {
+        PpState::Fault(_) => Some(GoingOn::AtFault(n)),
+        PpState::Running | PpState::Stopped => None,
+    }
+}
+
+fn channel_going_on<A: Allocator>(machine: &Machine<A>, number: u8) -> Option<GoingOn>
+    ensures { result ≡ channel_going_on machine.now number }
+{
+    let c = ChannelNo::new(number)?;
+    if machine.channel(c).flags().active {
+        Some(GoingOn::Active(c))
+    } else {
+        None
+    }
+}
