@@ -20,13 +20,15 @@ pub unpadded_more : (most n : ℕ) → 0 < most → n ≢ 0 → unpadded most n 
 unpadded_more zero n h k = absurd (omega arith)
 unpadded_more (suc most) n h k = grind arith
 
--- the line of an event: what stands before the last six digits of its turn, those digits and the numbers, the event
-pub event_line_in_pieces : (text upper heading tail : List ℕ) (e : Trace) → upper ≡ unpadded 14 (e.turn / 10 ^ 6)
-    → heading ≡ digits 10 6 (e.turn % 10 ^ 6) ++ codes " PP" ++ octal 2 e.pp ++ codes " CH" ++ octal 2 e.channel ++ codes " "
+-- the line of an event: what stands before the last six digits of its turn, those digits and the processor, the channel, the
+-- event
+pub event_line_in_pieces : (text upper maker channel tail : List ℕ) (e : Trace) → upper ≡ unpadded 14 (e.turn / 10 ^ 6)
+    → maker ≡ digits 10 6 (e.turn % 10 ^ 6) ++ codes " PP" ++ octal 2 e.pp ++ codes " "
+    → channel ≡ codes "CH" ++ octal 2 e.channel ++ codes " "
     → tail ≡ event_text e.event ++ line_end
-    → ((text ++ upper) ++ heading) ++ tail ≡ text ++ event_line e
+    → (((text ++ upper) ++ maker) ++ channel) ++ tail ≡ text ++ event_line e
 unfolding event_line decimal
-event_line_in_pieces text upper heading tail e u h t = rw (u, h, t) (simp append_assoc)
+event_line_in_pieces text upper maker channel tail e u m c t = rw (u, m, c, t) (simp append_assoc)
 
 -- the line of a numbered event: its channel, what stands before the last six digits of its number, those digits and the
 -- author, the event

@@ -1,6 +1,6 @@
 //! Numbers in octal and decimal digits.
 
-ghost use Rattle.std.specs.Prelude.{◌≡◌, ◌+◌, ◌<◌, ◌≤◌, ◌/◌, ◌%◌, ◌^◌, ◌++◌, length};
+ghost use Rattle.std.specs.Prelude.{◌≡◌, ◌+◌, ◌<◌, ◌≤◌, ◌/◌, ◌%◌, ◌^◌, ◌++◌, codes, length};
 ghost use Rattle.pp_text.specs.Numeral.{digits, octal, unpadded};
 ghost use Rattle.pp_text.specs.Piece.{HasRoom};
 
@@ -45,24 +45,18 @@ pub(crate) fn octal6(n: u32) -> [u8; 6]
     ]
 }
 
-/// Six decimal digits.
-pub(crate) fn decimal6(n: u32) -> [u8; 6]
+/// Six decimal digits, a space and a P.
+pub(crate) fn decimal6_space_p(n: u32) -> [u8; 8]
     requires { n < 10 ^ 6 }
-    ensures { result ≡ digits 10 6 n }
+    ensures { result ≡ digits 10 6 n ++ codes " P" }
 {
-    let tens = n / 10;
-    let hundreds = n / 100;
-    let thousands = n / 1000;
-    let ten_thousands = n / 10_000;
-    let hundred_thousands = n / 100_000;
-    [
-        b'0' + hundred_thousands as u8,
-        b'0' + (ten_thousands - 10 * hundred_thousands) as u8,
-        b'0' + (thousands - 10 * ten_thousands) as u8,
-        b'0' + (hundreds - 10 * thousands) as u8,
-        b'0' + (tens - 10 * hundreds) as u8,
-        b'0' + (n - 10 * tens) as u8,
-    ]
+    let n = u64::from(n);
+    let (first, hundreds) = (n / 10_000, n / 100);
+    let (second, third) = (hundreds - 100 * first, n - 100 * hundreds);
+    let pairs = first + second * 0x1_0000 + third * 0x1_0000_0000;
+    let tens = first / 10 + second / 10 * 0x1_0000 + third / 10 * 0x1_0000_0000;
+    // In the place of each pair its tens, and above them its ones, which are less by ten times the tens.
+    (0x5020_3030_3030_3030 + 0x100 * pairs - (10 * 0x100 - 1) * tens).to_le_bytes()
 }
 
 /// Adds those decimal digits of a count that stand before its last six, and gives what is left for

@@ -11,7 +11,7 @@ ghost use Rattle.pp_text.specs.PrintedReport.{end_text, worker_line};
 ghost use Rattle.pp_text.specs.ReportLaw.{FitsItsEnd, FitsItsLine, shown_end};
 ghost use Rattle.pp_text.specs.TextLaw.{IsListed, IsShown, IsTold};
 
-use crate::digits::{decimal6, octal1, octal2, octal4, octal6, push_upper_digits};
+use crate::digits::{decimal6_space_p, octal1, octal2, octal4, octal6, push_upper_digits};
 use crate::piece::Piece;
 use pp_channel::{Channel, ChannelNo, Event};
 use pp_machine::{Pp, PpNo, PpState, Trace};
@@ -27,7 +27,8 @@ pub(crate) fn push_event(piece: &mut Piece, entry: &Trace)
     ensures fits { IsTold entry.now }
 {
     let turn = push_upper_digits(piece, entry.turn);
-    piece.push(&event_heading(turn, entry.pp, entry.channel));
+    push_count_and_processor(piece, turn, entry.pp);
+    piece.push(&channel_heading(entry.channel));
     push_event_end(piece, entry.event);
 }
 
@@ -44,22 +45,32 @@ pub(crate) fn push_numbered_event(
     ensures text { piece.new ≡ piece.old ++ (codes "CH" ++ octal 2 c ++ codes " " ++ decimal number ++ codes " PP" ++ octal 2 author ++ codes " " ++ event_text event ++ line_end) }
     ensures fits { FitsItsLine (record { number = number; author = author; event = event }) }
 {
-    let [c0, c1] = octal2(c.get());
-    piece.push(&[b'C', b'H', c0, c1, b' ']);
+    piece.push(&channel_heading(c));
     let lower = push_upper_digits(piece, number);
-    piece.push(&author_heading(lower, author));
+    push_count_and_processor(piece, lower, author);
     push_event_end(piece, event);
 }
 
-/// `000001 PP00 `
-fn author_heading(number: u32, author: PpNo) -> [u8; 12]
-    requires { number < 10 ^ 6 }
-    ensures text { result ≡ digits 10 6 number ++ codes " PP" ++ octal 2 author ++ codes " " }
-    ensures processor { IsTrue (names_processor author) }
+/// Adds `000020 PP00 `.
+#[inline]
+fn push_count_and_processor(piece: &mut Piece, count: u32, n: PpNo)
+    requires room { HasRoom 12 piece.old }
+    requires count { count < 10 ^ 6 }
+    ensures text { piece.new ≡ piece.old ++ (digits 10 6 count ++ codes " PP" ++ octal 2 n ++ codes " ") }
+    ensures processor { IsTrue (names_processor n) }
 {
-    let [n0, n1, n2, n3, n4, n5] = decimal6(number);
-    let [p0, p1] = octal2(author.get());
-    [n0, n1, n2, n3, n4, n5, b' ', b'P', b'P', p0, p1, b' ']
+    let [n0, n1] = octal2(n.get());
+    piece.push(&decimal6_space_p(count));
+    piece.push(&[b'P', n0, n1, b' ']);
+}
+
+/// `CH05 `
+fn channel_heading(c: ChannelNo) -> [u8; 5]
+    ensures text { result ≡ codes "CH" ++ octal 2 c ++ codes " " }
+    ensures channel { IsTrue (names_channel c) }
+{
+    let [c0, c1] = octal2(c.get());
+    [b'C', b'H', c0, c1, b' ']
 }
 
 /// Adds `PUT 0007` and a line feed.
@@ -75,21 +86,6 @@ fn push_event_end(piece: &mut Piece, event: Event)
         Event::Take(word) => piece.push(&line_with_word(*b"TAK", word)),
         Event::Function(word) => piece.push(&line_with_word(*b"FNC", word)),
     }
-}
-
-/// `000020 PP00 CH05 `
-fn event_heading(turn: u32, n: PpNo, c: ChannelNo) -> [u8; 17]
-    requires { turn < 10 ^ 6 }
-    ensures text { result ≡ digits 10 6 turn ++ codes " PP" ++ octal 2 n ++ codes " CH" ++ octal 2 c ++ codes " " }
-    ensures processor { IsTrue (names_processor n) }
-    ensures channel { IsTrue (names_channel c) }
-{
-    let [t0, t1, t2, t3, t4, t5] = decimal6(turn);
-    let [p0, p1] = octal2(n.get());
-    let [c0, c1] = octal2(c.get());
-    [
-        t0, t1, t2, t3, t4, t5, b' ', b'P', b'P', p0, p1, b' ', b'C', b'H', c0, c1, b' ',
-    ]
 }
 
 /// `PUT 0007` and a line feed.
