@@ -55,7 +55,7 @@ pub(crate) fn decimal6_space_p(n: u32) -> [u8; 8]
     let (second, third) = (hundreds - 100 * first, n - 100 * hundreds);
     let pairs = first + second * 0x1_0000 + third * 0x1_0000_0000;
     let tens = first / 10 + second / 10 * 0x1_0000 + third / 10 * 0x1_0000_0000;
-    // In the place of each pair its tens, and above them its ones, which are less by ten times the tens.
+    // The lower byte of a pair gets its tens, the upper one its ones: the pair less ten times the tens.
     (0x5020_3030_3030_3030 + 0x100 * pairs - (10 * 0x100 - 1) * tens).to_le_bytes()
 }
 
