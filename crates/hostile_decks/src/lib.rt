@@ -16,3 +16,5 @@ mod limits;
 mod loaded;
 #[cfg(test)]
 mod loads;
+#[cfg(test)]
+mod pieces;

@@ -29,7 +29,7 @@ pub fn author_law<A: Allocator>()
 /// The text of a run is the run: two machines with one text have the same processors named, and
 /// agree on the trace, event by event, on what is shown of each processor named and on what is
 /// shown of each channel. A machine that is printed fits its text, by the clause `fits` of
-/// `printed_text`. Where the headline holds of both, each channel has the same history in both,
+/// `write_text`. Where the headline holds of both, each channel has the same history in both,
 /// opening events and all.
 pub fn text_law()
     ensures text { (named others : List Bool) (one other : MachineState)

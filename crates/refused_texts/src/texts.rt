@@ -6,8 +6,12 @@ use rationed::Rationed;
 use std::alloc::Global;
 use std::process::Abort;
 use std::sync::Wait;
+use std::test::Fail;
 use std::thread::Threads;
-use test_bench::{HANDOFF, HANDOFF_ON_TWENTY, HANDOFF_TEXT, WORDS_OF_A_RUN, WORDS_OF_TWENTY};
+use test_bench::{
+    HANDOFF, HANDOFF_ON_TWENTY, HANDOFF_TEXT, SESSIONS, WORDS_OF_A_RUN, WORDS_OF_TWENTY,
+    text_of_sessions,
+};
 
 /// How a text ends with this request refused, whether the request was made, and whether the whole text
 /// was written, or nothing.
@@ -95,6 +99,16 @@ fn programs_refused(rt: HostRuntime) {
     let past = ["ppsim", "barrel", "--turns", "1000000"];
     let number = "ppsim: number out of range\n";
     assert_eq!(rt; program_refused(&rt, (&past, HANDOFF), 2, "", number), 1);
+}
+
+/// A text that is longer than a piece in which it goes out: nothing of it is written where a request
+/// is refused.
+#[test]
+fn long_texts_refused(rt: HostRuntime) -> Result<(), Fail> {
+    let words = ["ppsim", "barrel", "--turns", "30000"];
+    let text = text_of_sessions(rt.alloc(), 1000)?;
+    assert!(rt; program_refused(&rt, (&words, SESSIONS), 0, text.as_str(), "") > 10);
+    Ok(())
 }
 
 #[test]

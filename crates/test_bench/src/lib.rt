@@ -6,6 +6,7 @@ mod dead_start;
 mod decks;
 mod flags;
 mod histories;
+mod long_texts;
 mod numbers;
 mod programs;
 mod rounds;
@@ -18,6 +19,7 @@ pub use decks::{
 };
 pub use flags::{EMPTY, FULL, INACTIVE};
 pub use histories::is_lawful;
+pub use long_texts::{SESSIONS, report_of_sessions, text_of_sessions};
 pub use numbers::{channel, first, numbered, processor, word};
 pub use programs::{HANDOFF_PAIR, Pair, put_program, put_words};
 pub use rounds::text_of_twenty;
