@@ -9,5 +9,7 @@ mod octal_digits;
 mod operands;
 mod sections;
 
+pub use instruction_text::push_instruction;
 pub use laws::listing_law;
 pub use listed_deck::listing;
+pub use octal_digits::{push_octal, push_short_octal};
