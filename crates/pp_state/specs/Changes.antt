@@ -1,4 +1,5 @@
--- What differs from the load, as lines of a deck that set it: words of processors and central words.
+-- What differs from the load, as lines of a deck that set it: words of processors and central
+-- words.
 use Rattle.std.specs.Prelude.{ℕ, zero, suc, ◌+◌, ◌%◌, ◌==◌, ◌&&◌, Bool, not, List, [], ◌∷◌, length, slice_index, if◌then◌else◌}
 use Rattle.std.specs.List.{flat_map, list_any, range_with_len}
 use Rattle.pp_word.specs.Address.{place_count}
@@ -67,4 +68,5 @@ central_line before after a =
 
 -- these lines, in order of address
 abbrev pub changed_central : List ℕ → List ℕ → List Line
-changed_central before after = flat_map (central_line before after) (range_with_len 0 (length after))
+changed_central before after =
+    flat_map (central_line before after) (range_with_len 0 (length after))

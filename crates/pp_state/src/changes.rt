@@ -57,8 +57,8 @@ fn push_changed_lines<A: Allocator>(
     Ok(())
 }
 
-/// Adds the line that begins at a place, if one does, where so many words stand in front of this place
-/// on its line. Says how many stand in front of the next place.
+/// Adds the line that begins at a place, if one does, where so many words stand in front of this
+/// place on its line. Says how many stand in front of the next place.
 fn push_line_from<A: Allocator>(
     text: &mut Vec<u8, A>,
     before: &Pp,
