@@ -10,7 +10,7 @@ use std::alloc::{AllocError, Allocator};
 
 /// Adds the text of the instruction in a word at a place, before the next word m: `LDM 0200,50`.
 #[tactic(auto, unfolding(crate::specs::InstructionText::instruction_text))]
-pub(crate) fn push_instruction<A: Allocator>(
+pub fn push_instruction<A: Allocator>(
     text: &mut Vec<u8, A>,
     place: Word12,
     word: Word12,

@@ -6,7 +6,7 @@ ghost use Rattle.pp_listing.specs.OctalDigits.{octal, short_octal};
 use std::alloc::{AllocError, Allocator};
 
 /// Adds a number in just so many octal digits.
-pub(crate) fn push_octal<A: Allocator>(
+pub fn push_octal<A: Allocator>(
     text: &mut Vec<u8, A>,
     width: u32,
     n: u64,
@@ -23,7 +23,7 @@ pub(crate) fn push_octal<A: Allocator>(
 
 /// Adds a number in octal digits without zeros in front, but at most so many digits.
 #[tactic(auto, using(crate::proofs::OctalDigitLemmas::short_one_digit, crate::proofs::OctalDigitLemmas::short_digit_more, crate::proofs::OctalDigitLemmas::short_rest))]
-pub(crate) fn push_short_octal<A: Allocator>(
+pub fn push_short_octal<A: Allocator>(
     text: &mut Vec<u8, A>,
     most: u32,
     n: u64,

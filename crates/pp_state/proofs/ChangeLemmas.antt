@@ -1,0 +1,366 @@
+-- The words on the lines are the words that differ, in order; and what they make of the load.
+use Rattle.std.proofs.Common.{◌≡◌, ◌≢◌, ℕ, ◌+◌, ◌-◌, ◌%◌, ◌<◌, ◌≤◌, ◌⊎◌, inl, inr, zero, suc, Bool, true, false, not, cond, eqb, eqb-true, ◌&&◌, ◌||◌, List, [], ◌∷◌, ◌++◌, All, length, get_or, set, take, drop, refl, sym, ap, subst, ◌∙◌, append_assoc, arith}
+use Rattle.std.specs.List.{flat_map, list_any, range_with_len}
+use Rattle.std.proofs.lemmas.Bool.{cases_eq, cases_lt, cond-true, cond-false, eq-eqb, ne_eqb}
+use Rattle.std.proofs.lemmas.List.{append-nil, drop_all, drop_more, take_all, take_more, get_or_past, length-take}
+use Rattle.std.proofs.lemmas.List.Elements.{All-append}
+use Rattle.std.proofs.lemmas.List.Concat.{flat_map-append}
+use Rattle.std.proofs.Math.Seq.{set-append_seam}
+use Rattle.pp_word.specs.Address.{place_count}
+use Rattle.pp_machine.specs.MachineState.{MachineState, processor_of}
+use Rattle.pp_deck.specs.DeckLine.{Line, central_words, section}
+use Rattle.pp_state.specs.Changes.{begins_line, central_line, changed_lines, changed_section, differs, has_changes, line_from, neighbours, places, words_in_front}
+use Rattle.pp_state.specs.StateLaw.{AreMemories, IsNew, overwritten, placed, words_set}
+use Rattle.pp_state.proofs.NeighbourLemmas.{in_front_of_same, in_front_of_next, no_neighbour, no_more, none_at_first, one_neighbour}
+use Rattle.pp_state.proofs.TextLemmas.{range_flat}
+
+-- ---- the words that differ, each with its place
+
+abbrev pub change : List ℕ → List ℕ → ℕ → List (ℕ × ℕ)
+change before after place = cond (differs before after place) ((place, get_or after place 0) ∷ []) []
+
+abbrev pub changes : List ℕ → List ℕ → ℕ → List (ℕ × ℕ)
+changes before after count = flat_map (change before after) (range_with_len 0 count)
+
+cases : (b : Bool) → (b ≡ true) ⊎ (b ≡ false)
+cases true = inl refl
+cases false = inr refl
+
+change_of : (before after : List ℕ) (place : ℕ) → differs before after place ≡ true → change before after place ≡ (place, get_or after place 0) ∷ []
+change_of before after place e = cond-true (differs before after place) _ _ e
+
+no_change : (before after : List ℕ) (place : ℕ) → differs before after place ≡ false → change before after place ≡ []
+no_change before after place e = cond-false (differs before after place) _ _ e
+
+changes_more : (before after : List ℕ) (place : ℕ) → differs before after place ≡ true → changes before after (place + 1) ≡ changes before after place ++ (place, get_or after place 0) ∷ []
+changes_more before after place e = range_flat (change before after) place ∙ ap (λ (xs : List (ℕ × ℕ)). changes before after place ++ xs) (change_of before after place e)
+
+changes_same : (before after : List ℕ) (place : ℕ) → differs before after place ≡ false → changes before after (place + 1) ≡ changes before after place
+changes_same before after place e =
+    range_flat (change before after) place ∙ ap (λ (xs : List (ℕ × ℕ)). changes before after place ++ xs) (no_change before after place e)
+    ∙ append-nil (changes before after place)
+
+-- neighbours are the next changes
+neighbours_are : (before after : List ℕ) (most place : ℕ) → changes before after place ++ placed place (neighbours before after most place) ≡ changes before after (place + length (neighbours before after most place))
+neighbours_are before after zero place =
+    ap (λ (ws : List ℕ). changes before after place ++ placed place ws) (no_more before after zero place refl) ∙ append-nil (changes before after place)
+    ∙ ap (changes before after) (at_end place (length (neighbours before after zero place)) (ap length (no_more before after zero place refl)))
+  where
+    at_end : (place count : ℕ) → count ≡ 0 → place ≡ place + count
+    at_end place count e = omega (arith, e)
+neighbours_are before after (suc most) place = by (neighbours_are before after most (place + 1)) (cases (differs before after place))
+  where
+    at_end : (place count : ℕ) → count ≡ 0 → place ≡ place + count
+    at_end place count e = omega (arith, e)
+
+    further : (place count : ℕ) → place + 1 + count ≡ place + suc count
+    further place count = omega arith
+
+    by : (changes before after (place + 1) ++ placed (place + 1) (neighbours before after most (place + 1)) ≡ changes before after (place + 1 + length (neighbours before after most (place + 1)))) → (differs before after place ≡ true) ⊎ (differs before after place ≡ false) → changes before after place ++ placed place (neighbours before after (suc most) place) ≡ changes before after (place + length (neighbours before after (suc most) place))
+    by rest (inr same) =
+        let none : neighbours before after (suc most) place ≡ [] = no_neighbour before after (suc most) place same in
+        ap (λ (ws : List ℕ). changes before after place ++ placed place ws) none ∙ append-nil (changes before after place)
+        ∙ ap (changes before after) (at_end place (length (neighbours before after (suc most) place)) (ap length none))
+    by rest (inl other) =
+        let some : neighbours before after (suc most) place ≡ get_or after place 0 ∷ neighbours before after most (place + 1) = one_neighbour before after most place other in
+        ap (λ (ws : List ℕ). changes before after place ++ placed place ws) some
+        ∙ sym (append_assoc (changes before after place) ((place, get_or after place 0) ∷ []) (placed (place + 1) (neighbours before after most (place + 1))))
+        ∙ ap (λ (xs : List (ℕ × ℕ)). xs ++ placed (place + 1) (neighbours before after most (place + 1))) (sym (changes_more before after place other))
+        ∙ rest
+        ∙ ap (changes before after) (further place (length (neighbours before after most (place + 1))))
+        ∙ ap (λ (ws : List ℕ). changes before after (place + length ws)) (sym some)
+
+-- ---- the words on the lines that begin before a place
+
+abbrev pub words_before : List ℕ → List ℕ → ℕ → List (ℕ × ℕ)
+words_before before after count = flat_map words_set (flat_map (line_from before after) (range_with_len 0 count))
+
+-- so many words of the line before stand from a place on
+pub words_behind : List ℕ → List ℕ → ℕ → ℕ
+words_behind before after place = cond (eqb (words_in_front before after place) 0) 0 (length (neighbours before after (8 - words_in_front before after place) place))
+
+words_before_more : (before after : List ℕ) (place : ℕ) → words_before before after (place + 1) ≡ words_before before after place ++ flat_map words_set (line_from before after place)
+words_before_more before after place =
+    ap (flat_map words_set) (range_flat (line_from before after) place)
+    ∙ flat_map-append words_set (flat_map (line_from before after) (range_with_len 0 place)) (line_from before after place)
+
+few_in_front : (before after : List ℕ) (place : ℕ) → words_in_front before after place < 8
+few_in_front before after zero = omega (arith, none_at_first before after)
+few_in_front before after (suc place) = by (cases (differs before after place))
+  where
+    by : (differs before after place ≡ true) ⊎ (differs before after place ≡ false) → words_in_front before after (suc place) < 8
+    by (inl other) = omega (arith, in_front_of_next before after place other)
+    by (inr same) = omega (arith, in_front_of_same before after place same)
+
+-- no line begins
+no_line : (before after : List ℕ) (place : ℕ) → begins_line before after place ≡ false → words_before before after (place + 1) ≡ words_before before after place
+no_line before after place e =
+    words_before_more before after place
+    ∙ ap (λ (ls : List Line). words_before before after place ++ flat_map words_set ls) (cond-false (begins_line before after place) _ _ e)
+    ∙ append-nil (words_before before after place)
+
+-- a line begins
+one_line : (before after : List ℕ) (place : ℕ) → begins_line before after place ≡ true → words_before before after (place + 1) ≡ words_before before after place ++ placed place (neighbours before after 8 place)
+one_line before after place e =
+    words_before_more before after place
+    ∙ ap (λ (ls : List Line). words_before before after place ++ flat_map words_set ls) (cond-true (begins_line before after place) _ _ e)
+    ∙ ap (λ (xs : List (ℕ × ℕ)). words_before before after place ++ xs) (append-nil (placed place (neighbours before after 8 place)))
+
+behind_first : (before after : List ℕ) (place : ℕ) → words_in_front before after place ≡ 0 → words_behind before after place ≡ 0
+unfolding words_behind
+behind_first before after place e = cond-true (eqb (words_in_front before after place) 0) _ _ (eq-eqb (words_in_front before after place) 0 e)
+
+behind_more : (before after : List ℕ) (place : ℕ) → words_in_front before after place ≢ 0 → words_behind before after place ≡ length (neighbours before after (8 - words_in_front before after place) place)
+unfolding words_behind
+behind_more before after place e = cond-false (eqb (words_in_front before after place) 0) _ _ (ne_eqb (words_in_front before after place) 0 e)
+
+no_words : (before after : List ℕ) (most place : ℕ) → differs before after place ≡ false → length (neighbours before after most place) ≡ 0
+no_words before after most place e = ap length (no_neighbour before after most place e)
+
+behind_same : (before after : List ℕ) (place : ℕ) → differs before after place ≡ false → words_behind before after place ≡ 0
+behind_same before after place e = by (cases_eq (words_in_front before after place) 0)
+  where
+    by : (words_in_front before after place ≡ 0) ⊎ (words_in_front before after place ≢ 0) → words_behind before after place ≡ 0
+    by (inl first) = behind_first before after place first
+    by (inr later) = behind_more before after place later ∙ no_words before after (8 - words_in_front before after place) place e
+
+more_words : (before after : List ℕ) (most place : ℕ) → differs before after place ≡ true → length (neighbours before after (suc most) place) ≡ suc (length (neighbours before after most (place + 1)))
+more_words before after most place e = ap length (one_neighbour before after most place e)
+
+-- behind a word that differs there are as many as may still come
+behind_next : (before after : List ℕ) (place : ℕ) → differs before after place ≡ true → words_behind before after (suc place) ≡ length (neighbours before after (7 - words_in_front before after place) (place + 1))
+behind_next before after place e = by (cases_lt (words_in_front before after place) 7)
+  where
+    front : ℕ
+    front = words_in_front before after place
+
+    next : words_in_front before after (suc place) ≡ (words_in_front before after place + 1) % 8
+    next = in_front_of_next before after place e
+
+    one_more : suc place ≡ place + 1
+    one_more = omega arith
+
+    by : (words_in_front before after place < 7) ⊎ (7 ≤ words_in_front before after place) → words_behind before after (suc place) ≡ length (neighbours before after (7 - words_in_front before after place) (place + 1))
+    by (inl few) =
+        let later : words_in_front before after (suc place) ≢ 0 = λ (none : words_in_front before after (suc place) ≡ 0). absurd (omega (arith, next, none, few)) in
+        let left : 8 - words_in_front before after (suc place) ≡ 7 - words_in_front before after place = omega (arith, next, few) in
+        behind_more before after (suc place) later
+        ∙ ap (λ (most : ℕ). length (neighbours before after most (suc place))) left
+        ∙ ap (λ (p : ℕ). length (neighbours before after (7 - words_in_front before after place) p)) one_more
+    by (inr many) =
+        let low : words_in_front before after place < 8 = few_in_front before after place in
+        let first : words_in_front before after (suc place) ≡ 0 = omega (arith, next, low, many) in
+        let none : 7 - words_in_front before after place ≡ 0 = omega (arith, low, many) in
+        behind_first before after (suc place) first ∙ sym (ap length (no_more before after (7 - words_in_front before after place) (place + 1) none))
+
+-- over one place more
+words_step : (before after : List ℕ) (place : ℕ) → words_before before after place ≡ changes before after (place + words_behind before after place) → words_before before after (place + 1) ≡ changes before after (suc place + words_behind before after (suc place))
+words_step before after place so_far = by (cases (differs before after place))
+  where
+    ended : (behind : ℕ) → behind ≡ 0 → place + behind ≡ place
+    ended behind e = omega (arith, e)
+
+    on : (behind : ℕ) → behind ≡ 0 → place + 1 ≡ suc place + behind
+    on behind e = omega (arith, e)
+
+    along : (old new : ℕ) → old ≡ suc new → place + old ≡ suc place + new
+    along old new e = omega (arith, e)
+
+    left : 8 - words_in_front before after place ≡ suc (7 - words_in_front before after place)
+    left = let low : words_in_front before after place < 8 = few_in_front before after place in omega (arith, low)
+
+    by : (differs before after place ≡ true) ⊎ (differs before after place ≡ false) → words_before before after (place + 1) ≡ changes before after (suc place + words_behind before after (suc place))
+    by (inr same) =
+        no_line before after place (ap (λ (b : Bool). b && eqb (words_in_front before after place) 0) same)
+        ∙ so_far ∙ ap (changes before after) (ended (words_behind before after place) (behind_same before after place same))
+        ∙ sym (changes_same before after place same)
+        ∙ ap (changes before after) (on (words_behind before after (suc place)) (behind_first before after (suc place) (in_front_of_same before after place same)))
+    by (inl other) = by_front (cases_eq (words_in_front before after place) 0)
+      where
+        counted : length (neighbours before after (8 - words_in_front before after place) place) ≡ suc (words_behind before after (suc place))
+        counted =
+            ap (λ (most : ℕ). length (neighbours before after most place)) left
+            ∙ more_words before after (7 - words_in_front before after place) place other
+            ∙ ap (λ (k : ℕ). suc k) (sym (behind_next before after place other))
+
+        by_front : (words_in_front before after place ≡ 0) ⊎ (words_in_front before after place ≢ 0) → words_before before after (place + 1) ≡ changes before after (suc place + words_behind before after (suc place))
+        by_front (inl first) =
+            let begins : begins_line before after place ≡ true = ap (λ (b : Bool). b && eqb (words_in_front before after place) 0) other ∙ eq-eqb (words_in_front before after place) 0 first in
+            one_line before after place begins
+            ∙ ap (λ (xs : List (ℕ × ℕ)). xs ++ placed place (neighbours before after 8 place)) (so_far ∙ ap (changes before after) (ended (words_behind before after place) (behind_first before after place first)))
+            ∙ neighbours_are before after 8 place
+            ∙ ap (changes before after) (along (length (neighbours before after 8 place)) (words_behind before after (suc place)) (ap (λ (k : ℕ). length (neighbours before after (8 - k) place)) (sym first) ∙ counted))
+        by_front (inr later) =
+            no_line before after place (ap (λ (b : Bool). b && eqb (words_in_front before after place) 0) other ∙ ne_eqb (words_in_front before after place) 0 later)
+            ∙ so_far ∙ ap (λ (k : ℕ). changes before after (place + k)) (behind_more before after place later)
+            ∙ ap (changes before after) (along (length (neighbours before after (8 - words_in_front before after place) place)) (words_behind before after (suc place)) counted)
+
+-- the words on the lines so far are the changes, some of them ahead
+words_are : (before after : List ℕ) (place : ℕ) → words_before before after place ≡ changes before after (place + words_behind before after place)
+words_are before after zero = ap (changes before after) (start (words_behind before after 0) (behind_first before after 0 (none_at_first before after)))
+  where
+    start : (behind : ℕ) → behind ≡ 0 → 0 ≡ 0 + behind
+    start behind e = omega (arith, e)
+words_are before after (suc place) = ap (words_before before after) one_more ∙ words_step before after place (words_are before after place)
+  where
+    one_more : suc place ≡ place + 1
+    one_more = omega arith
+
+-- ---- all lines
+
+past : (before after : List ℕ) (place : ℕ) → length before ≤ place → length after ≤ place → differs before after place ≡ false
+past before after place short as_short = ap not (eq-eqb (get_or before place 0) (get_or after place 0) (get_or_past before place 0 short ∙ sym (get_or_past after place 0 as_short)))
+
+pub words_on_lines : (before after : List ℕ) → length before ≡ place_count → length after ≡ place_count → flat_map words_set (changed_lines before after) ≡ changes before after place_count
+unfolding places
+words_on_lines before after long as_long =
+    words_are before after place_count
+    ∙ ap (changes before after) (ended (words_behind before after place_count) (behind_same before after place_count (past before after place_count (omega (arith, long)) (omega (arith, as_long)))))
+  where
+    ended : (behind : ℕ) → behind ≡ 0 → place_count + behind ≡ place_count
+    ended behind e = omega (arith, e)
+
+central_set : (before after : List ℕ) (a : ℕ) → flat_map words_set (central_line before after a) ≡ change before after a
+central_set before after a = by (cases (differs before after a))
+  where
+    by : (differs before after a ≡ true) ⊎ (differs before after a ≡ false) → flat_map words_set (central_line before after a) ≡ change before after a
+    by (inl other) = ap (flat_map words_set) (cond-true (differs before after a) (central_words a (get_or after a 0 ∷ []) ∷ []) [] other) ∙ sym (change_of before after a other)
+    by (inr same) = ap (flat_map words_set) (cond-false (differs before after a) (central_words a (get_or after a 0 ∷ []) ∷ []) [] same) ∙ sym (no_change before after a same)
+
+pub words_of_central : (before after ks : List ℕ) → flat_map words_set (flat_map (central_line before after) ks) ≡ flat_map (change before after) ks
+words_of_central before after [] = refl
+words_of_central before after (k ∷ ks) =
+    flat_map-append words_set (central_line before after k) (flat_map (central_line before after) ks)
+    ∙ ap (λ (xs : List (ℕ × ℕ)). xs ++ flat_map words_set (flat_map (central_line before after) ks)) (central_set before after k)
+    ∙ ap (λ (xs : List (ℕ × ℕ)). change before after k ++ xs) (words_of_central before after ks)
+
+-- ---- what they make of the load
+
+overwritten-append : (memory : List ℕ) (xs ys : List (ℕ × ℕ)) → overwritten memory (xs ++ ys) ≡ overwritten (overwritten memory xs) ys
+overwritten-append memory [] ys = refl
+overwritten-append memory ((place, w) ∷ xs) ys = overwritten-append (set memory place w) xs ys
+
+same_word : (b : Bool) → not b ≡ false → b ≡ true
+same_word true e = refl
+same_word false e = cc
+
+pub is_same : (before after : List ℕ) (place : ℕ) → differs before after place ≡ false → get_or before place 0 ≡ get_or after place 0
+is_same before after place e = eqb-true (get_or before place 0) (get_or after place 0) (same_word (eqb (get_or before place 0) (get_or after place 0)) e)
+
+-- the load before a place is overwritten
+half : List ℕ → List ℕ → ℕ → List ℕ
+half before after place = take place after ++ drop place before
+
+half_more : (before after : List ℕ) (place : ℕ) → place < length after → take place after ++ get_or after place 0 ∷ drop (place + 1) before ≡ half before after (place + 1)
+unfolding half
+half_more before after place lt =
+    sym (append_assoc (take place after) (get_or after place 0 ∷ []) (drop (place + 1) before))
+    ∙ ap (λ (xs : List ℕ). xs ++ drop (place + 1) before) (sym (take_more after place 0 lt))
+
+set_half : (before after : List ℕ) (place : ℕ) → place < length after → place < length before → set (half before after place) place (get_or after place 0) ≡ half before after (place + 1)
+unfolding half
+set_half before after place lt as_lt =
+    let long : length (take place after) ≡ place = length-take place after ∙ omega (arith, lt) in
+    ap (λ (xs : List ℕ). set (take place after ++ xs) place (get_or after place 0)) (drop_more before place 0 as_lt)
+    ∙ ap (λ (i : ℕ). set (take place after ++ get_or before place 0 ∷ drop (place + 1) before) i (get_or after place 0)) (sym long)
+    ∙ set-append_seam (take place after) (get_or before place 0) (drop (place + 1) before) (get_or after place 0)
+    ∙ half_more before after place lt
+
+same_half : (before after : List ℕ) (place : ℕ) → place < length after → place < length before → get_or before place 0 ≡ get_or after place 0 → half before after place ≡ half before after (place + 1)
+unfolding half
+same_half before after place lt as_lt e =
+    ap (λ (xs : List ℕ). take place after ++ xs) (drop_more before place 0 as_lt)
+    ∙ ap (λ (w : ℕ). take place after ++ w ∷ drop (place + 1) before) e
+    ∙ half_more before after place lt
+
+half_step : (before after : List ℕ) (count : ℕ) → count < length after → count < length before → overwritten before (changes before after count) ≡ half before after count → overwritten before (changes before after (count + 1)) ≡ half before after (count + 1)
+half_step before after count lt as_lt so_far = by (cases (differs before after count))
+  where
+    by : (differs before after count ≡ true) ⊎ (differs before after count ≡ false) → overwritten before (changes before after (count + 1)) ≡ half before after (count + 1)
+    by (inl other) =
+        ap (overwritten before) (changes_more before after count other)
+        ∙ overwritten-append before (changes before after count) ((count, get_or after count 0) ∷ [])
+        ∙ ap (λ (memory : List ℕ). set memory count (get_or after count 0)) so_far
+        ∙ set_half before after count lt as_lt
+    by (inr alike) =
+        ap (overwritten before) (changes_same before after count alike) ∙ so_far
+        ∙ same_half before after count lt as_lt (is_same before after count alike)
+
+overwritten_half : (before after : List ℕ) (count : ℕ) → count ≤ length after → length before ≡ length after → overwritten before (changes before after count) ≡ half before after count
+unfolding half
+overwritten_half before after zero le same = refl
+overwritten_half before after (suc count) le same =
+    ap (λ (k : ℕ). overwritten before (changes before after k)) (one_more count)
+    ∙ half_step before after count (omega (arith, le)) (omega (arith, le, same)) (overwritten_half before after count (omega (arith, le)) same)
+    ∙ ap (half before after) (sym (one_more count))
+  where
+    one_more : (k : ℕ) → suc k ≡ k + 1
+    one_more k = omega arith
+
+pub overwritten_whole : (before after : List ℕ) (count : ℕ) → count ≡ length after → length before ≡ length after → overwritten before (changes before after count) ≡ after
+unfolding half
+overwritten_whole before after count all same =
+    overwritten_half before after count (omega (arith, all)) same
+    ∙ ap (λ (xs : List ℕ). xs ++ drop count before) (take_all count after (omega (arith, all)))
+    ∙ ap (λ (xs : List ℕ). after ++ xs) (drop_all count before (omega (arith, all, same)))
+    ∙ append-nil after
+
+-- ---- no word stands there already
+
+other_word : (b : Bool) → not b ≡ true → b ≡ false
+other_word true e = cc
+other_word false e = refl
+
+apart : (x y : ℕ) → eqb x y ≡ false → x ≡ y → ⊥
+apart x y different same = let yes : eqb x y ≡ true = eq-eqb x y same in cc
+
+is_other : (before after : List ℕ) (place : ℕ) → differs before after place ≡ true → get_or before place 0 ≢ get_or after place 0
+is_other before after place e = apart (get_or before place 0) (get_or after place 0) (other_word (eqb (get_or before place 0) (get_or after place 0)) e)
+
+new_one : (before after : List ℕ) (place : ℕ) → differs before after place ≡ true → All (IsNew before) ((place, get_or after place 0) ∷ [])
+new_one before after place e = All-one (IsNew before) (place, get_or after place 0) (is_other before after place e)
+  where
+    All-one : (P : ℕ × ℕ → Type 0) (x : ℕ × ℕ) → P x → All P (x ∷ [])
+    All-one P x holds zero d lt = holds
+    All-one P x holds (suc k) d lt = absurd (omega (arith, lt))
+
+new_step : (before after : List ℕ) (count : ℕ) → All (IsNew before) (changes before after count) → All (IsNew before) (changes before after (count + 1))
+new_step before after count so_far = by (cases (differs before after count))
+  where
+    by : (differs before after count ≡ true) ⊎ (differs before after count ≡ false) → All (IsNew before) (changes before after (count + 1))
+    by (inl other) = subst (All (IsNew before)) (sym (changes_more before after count other)) (All-append (IsNew before) (changes before after count) ((count, get_or after count 0) ∷ []) so_far (new_one before after count other))
+    by (inr same) = subst (All (IsNew before)) (sym (changes_same before after count same)) so_far
+
+pub all_new : (before after : List ℕ) (count : ℕ) → All (IsNew before) (changes before after count)
+all_new before after zero = λ k d lt. absurd (omega (arith, lt))
+all_new before after (suc count) = subst (λ (k : ℕ). All (IsNew before) (changes before after k)) (one_more count) (new_step before after count (all_new before after count))
+  where
+    one_more : (k : ℕ) → k + 1 ≡ suc k
+    one_more k = omega arith
+
+-- ---- a section
+
+none_changed : (before after ks : List ℕ) → list_any (differs before after) ks ≡ false → flat_map (change before after) ks ≡ []
+none_changed before after [] e = refl
+none_changed before after (k ∷ ks) e = by (cases (differs before after k)) e (none_changed before after ks)
+  where
+    by : (differs before after k ≡ true) ⊎ (differs before after k ≡ false) → list_any (differs before after) (k ∷ ks) ≡ false → (list_any (differs before after) ks ≡ false → flat_map (change before after) ks ≡ []) → flat_map (change before after) (k ∷ ks) ≡ []
+    by (inl other) e rest = let yes : list_any (differs before after) (k ∷ ks) ≡ true = ap (λ (b : Bool). b || list_any (differs before after) ks) other in absurd (cc)
+    by (inr same) e rest =
+        ap (λ (xs : List (ℕ × ℕ)). xs ++ flat_map (change before after) ks) (no_change before after k same)
+        ∙ rest (sym (ap (λ (b : Bool). b || list_any (differs before after) ks) same) ∙ e)
+
+pub section_words : (n : ℕ) (before after : MachineState) → AreMemories n before after → flat_map words_set (changed_section before after n) ≡ changes (processor_of n before).memory (processor_of n after).memory place_count
+unfolding places
+section_words n before after m = by (cases (has_changes (processor_of n before).memory (processor_of n after).memory))
+  where
+    here : changed_section before after n ≡ cond (true && has_changes (processor_of n before).memory (processor_of n after).memory) (section n ∷ changed_lines (processor_of n before).memory (processor_of n after).memory) []
+    here = ap (λ (b : Bool). cond (b && has_changes (processor_of n before).memory (processor_of n after).memory) (section n ∷ changed_lines (processor_of n before).memory (processor_of n after).memory) []) m.named
+
+    by : (has_changes (processor_of n before).memory (processor_of n after).memory ≡ true) ⊎ (has_changes (processor_of n before).memory (processor_of n after).memory ≡ false) → flat_map words_set (changed_section before after n) ≡ changes (processor_of n before).memory (processor_of n after).memory place_count
+    by (inl some) =
+        ap (flat_map words_set) (here ∙ cond-true (has_changes (processor_of n before).memory (processor_of n after).memory) _ _ some)
+        ∙ words_on_lines (processor_of n before).memory (processor_of n after).memory m.old m.new
+    by (inr none) =
+        ap (flat_map words_set) (here ∙ cond-false (has_changes (processor_of n before).memory (processor_of n after).memory) _ _ none)
+        ∙ sym (none_changed (processor_of n before).memory (processor_of n after).memory (range_with_len 0 place_count) none)

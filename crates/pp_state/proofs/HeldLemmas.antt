@@ -1,0 +1,143 @@
+-- Where a step is held.
+use Rattle.std.proofs.Common.{◌≡◌, ◌≢◌, ℕ, Bool, true, false, cond, List, Option, Some, None, refl, sym, ap, ◌∙◌}
+use Rattle.std.specs.Prelude.{IsTrue, is_some}
+use Rattle.pp_channel.specs.Answer.{event_of, reply_by, reply_made, reply_shown}
+use Rattle.pp_channel.specs.History.{active}
+use Rattle.pp_channel.specs.declared.chan_op.ChanOp.{ChanOp}
+use Rattle.pp_channel.specs.declared.chan_op.ChanOp.TheVariants as operations
+use Rattle.pp_channel.specs.declared.event.Event.{Event}
+use Rattle.pp_channel.specs.declared.event.Event.TheVariants as events
+use Rattle.pp_machine.specs.MachineState.{MachineState, history_of, processor_of}
+use Rattle.pp_machine.specs.MachineStep.{answer_to, step_outcome}
+use Rattle.pp_machine.specs.NeedAndEffect.{is_held, need, need_in, outcome, outcome_in}
+use Rattle.pp_machine.specs.Processor.{Processor}
+use Rattle.pp_machine.specs.declared.answer.Answer.{Answer}
+use Rattle.pp_machine.specs.declared.answer.Answer.TheVariants as answers
+use Rattle.pp_machine.specs.declared.block.Block.{Block}
+use Rattle.pp_machine.specs.declared.need.Need.TheVariants as needs
+use Rattle.pp_machine.specs.declared.outcome.Outcome.{Outcome}
+use Rattle.pp_machine.specs.declared.outcome.Outcome.TheVariants.{Held, Moved}
+use Rattle.pp_machine.specs.declared.pp_state.PpState.{PpState}
+use Rattle.pp_machine.specs.declared.pp_state.PpState.TheVariants.{Running, Stopped, Fault}
+
+-- a processor that needs a channel is running
+running : (state : PpState) (pp : Processor) (c : ℕ) (op : ChanOp) → need_in state pp ≡ needs.Channel c op → state ≡ Running
+running Running pp c op e = refl
+running Stopped pp c op e = cc
+running (Fault number) pp c op e = cc
+
+outcome_running : (pp : Processor) (c : ℕ) (op : ChanOp) (answer : Answer) → need pp ≡ needs.Channel c op → outcome pp answer ≡ cond (is_held pp.block answer) Held Moved
+unfolding need outcome
+outcome_running pp c op answer e = ap (λ s. outcome_in s pp answer) (running pp.state pp c op e)
+
+-- what the step does, by the answer of the channel
+by_answer : (n c : ℕ) (op : ChanOp) (m : MachineState) → need (processor_of n m) ≡ needs.Channel c op
+    → step_outcome n m ≡ cond (is_held (processor_of n m).block (answers.Channel (reply_by op (history_of c m) (event_of op (history_of c m))))) Held Moved
+unfolding step_outcome
+by_answer n c op m e =
+    ap (λ x. outcome (processor_of n m) (answer_to x m)) e
+    ∙ outcome_running (processor_of n m) c op (answer_to (needs.Channel c op) m) e
+
+-- whether a block goes on, by whether its channel is active
+unfoldable pub goes_on : Option Block → Bool → Bool
+goes_on None is_active = true
+goes_on (Some block) is_active = is_active
+
+not_where_made : (block : Option Block) (e : Event) → is_held block (answers.Channel (reply_made e)) ≡ false
+not_where_made None events.Activate = refl
+not_where_made None events.Disconnect = refl
+not_where_made None (events.Put w) = refl
+not_where_made None (events.Take w) = refl
+not_where_made None (events.Function w) = refl
+not_where_made (Some block) events.Activate = refl
+not_where_made (Some block) events.Disconnect = refl
+not_where_made (Some block) (events.Put w) = refl
+not_where_made (Some block) (events.Take w) = refl
+not_where_made (Some block) (events.Function w) = refl
+
+not_where_probed : (block : Option Block) (h : List Event) → is_held block (answers.Channel (reply_shown operations.Probe h)) ≡ false
+not_where_probed None h = refl
+not_where_probed (Some block) h = refl
+
+held_where_shown : (block : Option Block) (op : ChanOp) (h : List Event) → op ≢ operations.Probe → is_held block (answers.Channel (reply_shown op h)) ≡ goes_on block (active h)
+unfolding goes_on
+held_where_shown None operations.Probe h other = absurd (other refl)
+held_where_shown None operations.Activate h other = refl
+held_where_shown None operations.Disconnect h other = refl
+held_where_shown None (operations.Put w) h other = refl
+held_where_shown None operations.Take h other = refl
+held_where_shown None (operations.Function w) h other = refl
+held_where_shown (Some block) operations.Probe h other = absurd (other refl)
+held_where_shown (Some block) operations.Activate h other = refl
+held_where_shown (Some block) operations.Disconnect h other = refl
+held_where_shown (Some block) (operations.Put w) h other = refl
+held_where_shown (Some block) operations.Take h other = refl
+held_where_shown (Some block) (operations.Function w) h other = refl
+
+-- an operation that makes an event is not held
+pub moves_where_made : (n c : ℕ) (op : ChanOp) (m : MachineState) (e : Event) → need (processor_of n m) ≡ needs.Channel c op → event_of op (history_of c m) ≡ Some e → step_outcome n m ≡ Moved
+moves_where_made n c op m e need_is made =
+    by_answer n c op m need_is
+    ∙ ap (λ (o : Option Event). cond (is_held (processor_of n m).block (answers.Channel (reply_by op (history_of c m) o))) Held Moved) made
+    ∙ ap (λ (b : Bool). cond b Held Moved) (not_where_made (processor_of n m).block e)
+
+-- nor is a probe
+pub moves_where_probed : (n c : ℕ) (m : MachineState) → need (processor_of n m) ≡ needs.Channel c operations.Probe → step_outcome n m ≡ Moved
+moves_where_probed n c m need_is =
+    by_answer n c operations.Probe m need_is
+    ∙ ap (λ (b : Bool). cond b Held Moved) (not_where_probed (processor_of n m).block (history_of c m))
+
+-- another is held where it makes none, unless it ends a block
+pub held_where_none : (n c : ℕ) (op : ChanOp) (m : MachineState) → need (processor_of n m) ≡ needs.Channel c op → op ≢ operations.Probe → event_of op (history_of c m) ≡ None → step_outcome n m ≡ cond (goes_on (processor_of n m).block (active (history_of c m))) Held Moved
+held_where_none n c op m need_is other none =
+    by_answer n c op m need_is
+    ∙ ap (λ (o : Option Event). cond (is_held (processor_of n m).block (answers.Channel (reply_by op (history_of c m) o))) Held Moved) none
+    ∙ ap (λ (b : Bool). cond b Held Moved) (held_where_shown (processor_of n m).block op (history_of c m) other)
+
+-- ---- the test that the code makes
+
+not_held : (o : Outcome) → o ≡ Moved → (IsTrue false → o ≡ Held) × (o ≡ Held → IsTrue false)
+not_held o moved = (λ (f : IsTrue false). absurd (false_is_not f), λ (held : o ≡ Held). absurd (apart o moved held))
+  where
+    false_is_not : IsTrue false → ⊥
+    false_is_not f = cc
+
+    apart : (o : Outcome) → o ≡ Moved → o ≡ Held → ⊥
+    apart o moved held = cc
+
+held_by : (b : Bool) (o : Outcome) → o ≡ cond b Held Moved → (IsTrue b → o ≡ Held) × (o ≡ Held → IsTrue b)
+held_by true o is = (λ (f : IsTrue true). is, λ (held : o ≡ Held). refl)
+held_by false o is = not_held o is
+
+pub test_probed : (n c : ℕ) (op : ChanOp) (m : MachineState) → need (processor_of n m) ≡ needs.Channel c op → op ≡ operations.Probe → (IsTrue false → step_outcome n m ≡ Held) × (step_outcome n m ≡ Held → IsTrue false)
+test_probed n c op m need_is probes = not_held (step_outcome n m) (moves_where_probed n c m (need_is ∙ ap (needs.Channel c) probes))
+
+some_event : (o : Option Event) → is_some o ≡ true → (e : Event) × (o ≡ Some e)
+some_event None is = cc
+some_event (Some e) is = (e, refl)
+
+no_event : (o : Option Event) → is_some o ≡ false → o ≡ None
+no_event None is = refl
+no_event (Some e) is = cc
+
+pub test_made : (n c : ℕ) (op : ChanOp) (m : MachineState) (o : Option Event) (h : List Event) → need (processor_of n m) ≡ needs.Channel c op → h ≡ history_of c m → o ≡ event_of op h → is_some o ≡ true → (IsTrue false → step_outcome n m ≡ Held) × (step_outcome n m ≡ Held → IsTrue false)
+test_made n c op m o h need_is here is some =
+    let made = some_event o some in
+    not_held (step_outcome n m) (moves_where_made n c op m made.0 need_is (ap (event_of op) (sym here) ∙ sym is ∙ made.1))
+
+pub test_none : (n c : ℕ) (op : ChanOp) (m : MachineState) (o : Option Event) (h : List Event) (block : Option Block) (b : Bool) → need (processor_of n m) ≡ needs.Channel c op → op ≢ operations.Probe → h ≡ history_of c m → o ≡ event_of op h → is_some o ≡ false
+    → block ≡ (processor_of n m).block → goes_on block (active h) ≡ b → (IsTrue b → step_outcome n m ≡ Held) × (step_outcome n m ≡ Held → IsTrue b)
+test_none n c op m o h block b need_is other here is none block_is on =
+    held_by b (step_outcome n m)
+    (held_where_none n c op m need_is other (ap (event_of op) (sym here) ∙ sym is ∙ no_event o none)
+    ∙ ap (λ (k : Option Block). cond (goes_on k (active (history_of c m))) Held Moved) (sym block_is)
+    ∙ ap (λ (g : List Event). cond (goes_on block (active g)) Held Moved) (sym here)
+    ∙ ap (λ (x : Bool). cond x Held Moved) on)
+
+pub alone_goes_on : (is_active : Bool) → goes_on None is_active ≡ true
+unfolding goes_on
+alone_goes_on is_active = refl
+
+pub block_goes_on : (block : Block) (is_active : Bool) → goes_on (Some block) is_active ≡ is_active
+unfolding goes_on
+block_goes_on block is_active = refl

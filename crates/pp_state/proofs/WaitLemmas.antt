@@ -1,0 +1,153 @@
+-- A step is held exactly where its processor waits for a channel.
+use Rattle.std.proofs.Common.{◌≡◌, ◌≢◌, ℕ, ◌≤◌, ◌⊎◌, inl, inr, Bool, true, false, cond, List, [], ◌∷◌, Option, Some, None, length, refl, sym, ap, subst, ◌∙◌, arith}
+use Rattle.std.specs.Prelude.{IsTrue}
+use Rattle.std.proofs.lemmas.List.{get_or_past}
+use Rattle.pp_channel.specs.Answer.{IsReady, event_of}
+use Rattle.pp_channel.specs.ChannelNumber.{channel_count, channel_index, names_channel}
+use Rattle.pp_channel.specs.History.{IsLawful, active}
+use Rattle.pp_channel.specs.declared.chan_op.ChanOp.{ChanOp}
+use Rattle.pp_channel.specs.declared.chan_op.ChanOp.TheVariants as operations
+use Rattle.pp_channel.specs.declared.event.Event.{Event}
+use Rattle.pp_channel.proofs.AnswerLemmas.{none_without_ready, table_of_ready}
+use Rattle.pp_channel.proofs.ChannelPlaces.{place_past}
+use Rattle.pp_channel.proofs.HistoryLemmas.{lawful_empty}
+use Rattle.pp_machine.specs.Headline.{HoldsOnEachChannel}
+use Rattle.pp_machine.specs.MachineState.{MachineState, history_of, processor_of}
+use Rattle.pp_machine.specs.MachineStep.{answer_to, step_outcome}
+use Rattle.pp_machine.specs.NeedAndEffect.{need}
+use Rattle.pp_machine.specs.StepLaws.{IsHeldAnswer}
+use Rattle.pp_machine.specs.declared.answer.Answer.{Answer}
+use Rattle.pp_machine.specs.declared.answer.Answer.TheVariants as answers
+use Rattle.pp_machine.specs.declared.block.Block.{Block}
+use Rattle.pp_machine.specs.declared.need.Need.{Need}
+use Rattle.pp_machine.specs.declared.need.Need.TheVariants as needs
+use Rattle.pp_machine.specs.declared.outcome.Outcome.{Outcome}
+use Rattle.pp_machine.specs.declared.outcome.Outcome.TheVariants.{AtRest, Held, Moved}
+use Rattle.pp_machine.proofs.StepLemmas.{held_by_answer}
+use Rattle.pp_state.specs.StateLaw.{Waits, WaitsFor}
+use Rattle.pp_state.specs.StateText.{held_text}
+use Rattle.pp_state.proofs.HeldLemmas.{goes_on, held_where_none, moves_where_made, moves_where_probed}
+
+-- ---- histories of all channels, also of numbers that name none
+
+named_or_not : (b : Bool) → IsTrue b ⊎ (IsTrue b → ⊥)
+named_or_not true = inl refl
+named_or_not false = inr (λ (is : IsTrue false). absurd (not_true is))
+  where
+    not_true : IsTrue false → ⊥
+    not_true is = cc
+
+lawful : (c : ℕ) (m : MachineState) → length m.histories ≡ channel_count → HoldsOnEachChannel m → IsLawful (history_of c m)
+lawful c m all holds = by (named_or_not (names_channel c))
+  where
+    by : IsTrue (names_channel c) ⊎ (IsTrue (names_channel c) → ⊥) → IsLawful (history_of c m)
+    by (inl named) = (holds c named).lawful
+    by (inr none) =
+        let past : channel_count ≤ channel_index c = place_past c none in
+        subst IsLawful (sym (get_or_past m.histories (channel_index c) [] (omega (arith, all, past)))) lawful_empty
+
+-- ---- a processor that waits is held
+
+on_goes : (block : Option Block) (is_active : Bool) → (block ≡ None) ⊎ (is_active ≡ true) → goes_on block is_active ≡ true
+unfolding goes_on
+on_goes None is_active (inl alone) = refl
+on_goes None is_active (inr is) = refl
+on_goes (Some block) is_active (inl alone) = cc
+on_goes (Some block) is_active (inr is) = is
+
+goes_is_on : (block : Option Block) (is_active : Bool) → goes_on block is_active ≡ true → (block ≡ None) ⊎ (is_active ≡ true)
+unfolding goes_on
+goes_is_on None is_active e = inl refl
+goes_is_on (Some block) is_active e = inr e
+
+pub held_where_waits : (n : ℕ) (m : MachineState) → length m.histories ≡ channel_count → HoldsOnEachChannel m → Waits n m → step_outcome n m ≡ Held
+held_where_waits n m all holds (c, op, waits) =
+    held_where_none n c op m waits.needs waits.no_probe (none_without_ready (history_of c m) (lawful c m all holds) op waits.not_ready (event_of op (history_of c m)) refl)
+    ∙ ap (λ (b : Bool). cond b Held Moved) (on_goes (processor_of n m).block (active (history_of c m)) waits.no_end)
+
+-- ---- a processor that is held waits
+
+moved_not_held : (o : Outcome) → o ≡ Moved → o ≡ Held → ⊥
+moved_not_held o moved held = cc
+
+probe_or_not : (op : ChanOp) → (op ≡ operations.Probe) ⊎ (op ≢ operations.Probe)
+probe_or_not operations.Probe = inl refl
+probe_or_not operations.Activate = inr (λ (e : operations.Activate ≡ operations.Probe). absurd (cc))
+probe_or_not operations.Disconnect = inr (λ (e : operations.Disconnect ≡ operations.Probe). absurd (cc))
+probe_or_not (operations.Put w) = inr (λ (e : operations.Put w ≡ operations.Probe). absurd (cc))
+probe_or_not operations.Take = inr (λ (e : operations.Take ≡ operations.Probe). absurd (cc))
+probe_or_not (operations.Function w) = inr (λ (e : operations.Function w ≡ operations.Probe). absurd (cc))
+
+event_or_not : (o : Option Event) → (o ≡ None) ⊎ ((e : Event) × (o ≡ Some e))
+event_or_not None = inl refl
+event_or_not (Some e) = inr (e, refl)
+
+held_is_true : (b : Bool) (o : Outcome) → o ≡ cond b Held Moved → o ≡ Held → b ≡ true
+held_is_true true o is held = refl
+held_is_true false o is held = absurd (moved_not_held o is held)
+
+never_ready : (h : List Event) (op : ChanOp) → IsLawful h → event_of op h ≡ None → (e : Event) → IsReady h op e → ⊥
+never_ready h op law none e ready = let made : event_of op h ≡ Some e = table_of_ready h law op e ready in cc
+
+waits_on : (n c : ℕ) (op : ChanOp) (m : MachineState) → IsLawful (history_of c m) → need (processor_of n m) ≡ needs.Channel c op → step_outcome n m ≡ Held → Waits n m
+waits_on n c op m law needed held = (c, op, by (probe_or_not op) (event_or_not (event_of op (history_of c m))))
+  where
+    by : (op ≡ operations.Probe) ⊎ (op ≢ operations.Probe) → (event_of op (history_of c m) ≡ None) ⊎ ((e : Event) × (event_of op (history_of c m) ≡ Some e)) → WaitsFor n m c op
+    by (inl probes) event = absurd (moved_not_held (step_outcome n m) (moves_where_probed n c m (needed ∙ ap (needs.Channel c) probes)) held)
+    by (inr other) (inr made) = absurd (moved_not_held (step_outcome n m) (moves_where_made n c op m made.0 needed made.1) held)
+    by (inr other) (inl none) = record {
+      needs = needed;
+      no_probe = other;
+      not_ready = never_ready (history_of c m) op law none;
+      no_end = goes_is_on (processor_of n m).block (active (history_of c m)) (held_is_true (goes_on (processor_of n m).block (active (history_of c m))) (step_outcome n m) (held_where_none n c op m needed other none) held);
+    }
+
+-- what is held has asked a channel
+held_answer : (n : ℕ) (m : MachineState) → step_outcome n m ≡ Held → IsHeldAnswer (answer_to (need (processor_of n m)) m)
+unfolding step_outcome
+held_answer n m held = held_by_answer (processor_of n m) (answer_to (need (processor_of n m)) m) held
+
+pub waits_where_held : (n : ℕ) (m : MachineState) → length m.histories ≡ channel_count → HoldsOnEachChannel m → step_outcome n m ≡ Held → Waits n m
+waits_where_held n m all holds held = by (need (processor_of n m)) refl (held_answer n m held)
+  where
+    by : (x : Need) → need (processor_of n m) ≡ x → IsHeldAnswer (answer_to (need (processor_of n m)) m) → Waits n m
+    by needs.Nothing e h = absurd (local (answer_to (need (processor_of n m)) m) (ap (λ (x : Need). answer_to x m) e) h)
+      where
+        local : (answer : Answer) → answer ≡ answers.Local → IsHeldAnswer answer → ⊥
+        local answer is (flags, shown) = cc
+    by needs.Local e h = absurd (local (answer_to (need (processor_of n m)) m) (ap (λ (x : Need). answer_to x m) e) h)
+      where
+        local : (answer : Answer) → answer ≡ answers.Local → IsHeldAnswer answer → ⊥
+        local answer is (flags, shown) = cc
+    by (needs.Read a) e h = absurd (read (answer_to (need (processor_of n m)) m) (answer_to (needs.Read a) m) (ap (λ (x : Need). answer_to x m) e) h)
+      where
+        read : (answer other : Answer) → answer ≡ answer_to (needs.Read a) m → IsHeldAnswer answer → ⊥
+        read answer other is (flags, shown) = cc
+    by (needs.Write a w) e h = absurd (wrote (answer_to (need (processor_of n m)) m) (ap (λ (x : Need). answer_to x m) e) h)
+      where
+        wrote : (answer : Answer) → answer ≡ answer_to (needs.Write a w) m → IsHeldAnswer answer → ⊥
+        wrote answer is (flags, shown) = cc
+    by (needs.Channel c op) e h = waits_on n c op m (lawful c m all holds) e held
+
+-- ---- the text says so
+
+said : (x : Need) (o : Outcome) (m : MachineState) (count : ℕ) → held_text x o m count ≢ [] → o ≡ Held
+said (needs.Channel c op) Held m count some = refl
+said (needs.Channel c op) Moved m count some = absurd (some refl)
+said (needs.Channel c op) AtRest m count some = absurd (some refl)
+said needs.Nothing o m count some = absurd (some refl)
+said needs.Local o m count some = absurd (some refl)
+said (needs.Read a) o m count some = absurd (some refl)
+said (needs.Write a w) o m count some = absurd (some refl)
+
+not_nothing : (x : ℕ) (xs ys : List ℕ) → ys ≡ x ∷ xs → ys ≡ [] → ⊥
+not_nothing x xs ys some none = cc
+
+pub says_where_waits : (n : ℕ) (m : MachineState) (count : ℕ) → step_outcome n m ≡ Held → Waits n m → held_text (need (processor_of n m)) (step_outcome n m) m count ≢ []
+says_where_waits n m count held (c, op, waits) =
+    let text : held_text (need (processor_of n m)) (step_outcome n m) m count ≡ held_text (needs.Channel c op) Held m count =
+    ap (λ (x : Need). held_text x (step_outcome n m) m count) waits.needs ∙ ap (λ (o : Outcome). held_text (needs.Channel c op) o m count) held in
+    not_nothing _ _ (held_text (need (processor_of n m)) (step_outcome n m) m count) text
+
+pub held_where_said : (n : ℕ) (m : MachineState) (count : ℕ) → held_text (need (processor_of n m)) (step_outcome n m) m count ≢ [] → step_outcome n m ≡ Held
+held_where_said n m count some = said (need (processor_of n m)) (step_outcome n m) m count some

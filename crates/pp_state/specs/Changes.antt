@@ -1,0 +1,72 @@
+-- What differs from the load, as lines of a deck that set it: words of processors and central
+-- words.
+use Rattle.std.specs.Prelude.{ℕ, zero, suc, ◌+◌, ◌%◌, ◌==◌, ◌&&◌, Bool, not, List, [], ◌∷◌, length, slice_index, if◌then◌else◌}
+use Rattle.std.specs.List.{flat_map, list_any, range_with_len}
+use Rattle.pp_word.specs.Address.{place_count}
+use Rattle.pp_machine.specs.MachineState.{MachineState, processor_of}
+use Rattle.pp_machine.specs.ProcessorNumber.{names_processor}
+use Rattle.pp_deck.specs.DeckLine.{Line, central_words, section, words}
+use Rattle.pp_listing.specs.Listing.{numbers}
+
+-- whether the word at a place differs
+abbrev pub differs : List ℕ → List ℕ → ℕ → Bool
+differs before after place = not (slice_index before place == slice_index after place)
+
+-- how many words stand on a line in front of the one at a place: none behind a word that does not
+-- differ, and none behind eight
+unfoldable pub words_in_front : List ℕ → List ℕ → ℕ → ℕ
+words_in_front before after zero = 0
+words_in_front before after (suc place) =
+    if differs before after place then (words_in_front before after place + 1) % 8 else 0
+
+-- the words from a place on, as long as they differ, but at most so many
+unfoldable pub neighbours : List ℕ → List ℕ → ℕ → ℕ → List ℕ
+neighbours before after zero place = []
+neighbours before after (suc most) place =
+    if differs before after place
+    then slice_index after place ∷ neighbours before after most (place + 1)
+    else []
+
+-- whether a line begins at a place
+abbrev pub begins_line : List ℕ → List ℕ → ℕ → Bool
+begins_line before after place =
+    differs before after place && words_in_front before after place == 0
+
+-- the line that begins at a place, if one does
+abbrev pub line_from : List ℕ → List ℕ → ℕ → List Line
+line_from before after place =
+    if begins_line before after place
+    then words place (neighbours before after 8 place) ∷ [] else []
+
+-- all places of a memory
+unfoldable pub places : List ℕ
+places = range_with_len 0 place_count
+
+-- the lines of a memory, in order of place
+abbrev pub changed_lines : List ℕ → List ℕ → List Line
+changed_lines before after = flat_map (line_from before after) places
+
+-- whether the word at some place differs
+abbrev pub has_changes : List ℕ → List ℕ → Bool
+has_changes before after = list_any (differs before after) places
+
+-- `PP n` and the lines of its memory, where there is such a processor and a word of it differs
+abbrev pub changed_section : MachineState → MachineState → ℕ → List Line
+changed_section before after n =
+    let old = (processor_of n before).memory in
+    let new = (processor_of n after).memory in
+    if names_processor n && has_changes old new then section n ∷ changed_lines old new else []
+
+-- the lines of all processors, in order of number
+abbrev pub changed_sections : MachineState → MachineState → List Line
+changed_sections before after = flat_map (changed_section before after) numbers
+
+-- the line of a central word, where it differs
+abbrev pub central_line : List ℕ → List ℕ → ℕ → List Line
+central_line before after a =
+    if differs before after a then central_words a (slice_index after a ∷ []) ∷ [] else []
+
+-- these lines, in order of address
+abbrev pub changed_central : List ℕ → List ℕ → List Line
+changed_central before after =
+    flat_map (central_line before after) (range_with_len 0 (length after))

@@ -1,0 +1,4 @@
+pub mod HeldSteps
+pub mod Changes
+pub mod StateText
+pub mod StateLaw

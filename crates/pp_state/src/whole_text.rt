@@ -1,0 +1,171 @@
+//! The whole text of how things stand.
+
+ghost use Rattle.std.specs.Prelude.{◌≡◌, ◌++◌, IfOk, OnOk, map};
+ghost use Rattle.std.specs.List.{flat_map};
+ghost use Rattle.pp_channel.specs.History.{active, waiting};
+ghost use Rattle.pp_text.specs.PrintedText.{channel_line, channel_text, each_below, used_channel_line};
+ghost use Rattle.pp_state.specs.Changes.{changed_section, changed_sections};
+ghost use Rattle.pp_state.specs.StateText.{deck_line, standing_line, state_text};
+
+use crate::changes::{has_changes, push_changed_central, push_section};
+use crate::standing::push_standing;
+use pp_channel::{Channel, ChannelNo};
+use pp_listing::push_octal;
+use pp_machine::{Machine, PROCESSORS, PpNo};
+use std::alloc::{AllocError, Allocator};
+
+/// How many numbers two octal digits can show.
+const NUMBERS: u8 = 0o100;
+
+/// How things stand after a run: the processors named, each with the instruction at P, the block
+/// that it is in and the channel that holds it; the words that differ from the machine as it was
+/// loaded, `before`; and the channels that have a history. `held` has for each processor, in the
+/// order of the barrel, the count of its last steps in a row that were held. Numbers are octal, but
+/// this count.
+#[tactic(auto, unfolding(crate::specs::StateText::state_text))]
+pub fn state_text<A: Allocator + Copy, B: Allocator>(
+    alloc: A,
+    named: &[bool; PROCESSORS],
+    before: &Machine<B>,
+    after: &Machine<B>,
+    held: &[u32; PROCESSORS],
+) -> Result<Vec<u8, A>, AllocError>
+    ensures text { IfOk result (λ text.
+        text.items ≡ state_text named.now before.now after.now held.now) }
+{
+    let mut text = Vec::new(alloc);
+    push_processors(&mut text, named, after, held)?;
+    push_memories(&mut text, before, after)?;
+    push_changed_central(&mut text, before.central(), after.central())?;
+    push_channels(&mut text, after)?;
+    Ok(text)
+}
+
+/// Adds the lines of all processors named, in order of number.
+fn push_processors<A: Allocator, B: Allocator>(
+    text: &mut Vec<u8, A>,
+    named: &[bool; PROCESSORS],
+    machine: &Machine<B>,
+    held: &[u32; PROCESSORS],
+) -> Result<(), AllocError>
+    ensures { OnOk result (text.new.items ≡ text.old.items
+        ++ each_below NUMBERS (standing_line named.now machine.now held.now)) }
+{
+    for number in 0..NUMBERS {
+        push_named_processor(text, named, machine, held, number)?;
+    }
+    Ok(())
+}
+
+fn push_named_processor<A: Allocator, B: Allocator>(
+    text: &mut Vec<u8, A>,
+    named: &[bool; PROCESSORS],
+    machine: &Machine<B>,
+    held: &[u32; PROCESSORS],
+    number: u8,
+) -> Result<(), AllocError>
+    ensures { OnOk result (text.new.items ≡ text.old.items
+        ++ standing_line named.now machine.now held.now number) }
+{
+    match PpNo::new(number) {
+        Some(n) if named[n.index()] => push_standing(text, machine, n, held[n.index()]),
+        _ => Ok(()),
+    }
+}
+
+/// Adds the lines of all words of processors that differ from the load.
+fn push_memories<A: Allocator, B: Allocator>(
+    text: &mut Vec<u8, A>,
+    before: &Machine<B>,
+    after: &Machine<B>,
+) -> Result<(), AllocError>
+    ensures { OnOk result (text.new.items ≡ text.old.items
+        ++ flat_map deck_line (changed_sections before.now after.now)) }
+{
+    for number in 0..NUMBERS {
+        push_memory(text, before, after, number)?;
+    }
+    Ok(())
+}
+
+fn push_memory<A: Allocator, B: Allocator>(
+    text: &mut Vec<u8, A>,
+    before: &Machine<B>,
+    after: &Machine<B>,
+    number: u8,
+) -> Result<(), AllocError>
+    ensures { OnOk result (text.new.items ≡ text.old.items
+        ++ flat_map deck_line (changed_section before.now after.now number)) }
+{
+    match PpNo::new(number) {
+        Some(n) if has_changes(before.pp(n), after.pp(n)) => {
+            push_section(text, n, before.pp(n), after.pp(n))
+        }
+        _ => Ok(()),
+    }
+}
+
+/// Adds the lines of all channels that have a history, in order of number.
+fn push_channels<A: Allocator, B: Allocator>(
+    text: &mut Vec<u8, A>,
+    machine: &Machine<B>,
+) -> Result<(), AllocError>
+    ensures { OnOk result (text.new.items ≡ text.old.items
+        ++ each_below NUMBERS (used_channel_line machine.now.histories)) }
+{
+    for number in 0..NUMBERS {
+        push_used_channel(text, machine, number)?;
+    }
+    Ok(())
+}
+
+fn push_used_channel<A: Allocator, B: Allocator>(
+    text: &mut Vec<u8, A>,
+    machine: &Machine<B>,
+    number: u8,
+) -> Result<(), AllocError>
+    ensures { OnOk result (text.new.items ≡ text.old.items
+        ++ used_channel_line machine.now.histories number) }
+{
+    match ChannelNo::new(number) {
+        Some(c) => push_channel(text, c, machine.channel(c)),
+        None => Ok(()),
+    }
+}
+
+/// Adds `CH05 ACTIVE FULL 0007` and a line feed, where the channel has a history.
+fn push_channel<A: Allocator, B: Allocator>(
+    text: &mut Vec<u8, A>,
+    c: ChannelNo,
+    channel: &Channel<B>,
+) -> Result<(), AllocError>
+    ensures { OnOk result (text.new.items ≡ text.old.items ++ channel_line c channel.now) }
+{
+    if channel.history().is_empty() {
+        return Ok(());
+    }
+    text.extend_from_slice(b"CH")?;
+    push_octal(text, 2, u64::from(c.get()))?;
+    text.push(b' ')?;
+    push_activity(text, channel)?;
+    text.push(b'\n')?;
+    Ok(())
+}
+
+/// Adds `ACTIVE FULL 0007`.
+fn push_activity<A: Allocator, B: Allocator>(
+    text: &mut Vec<u8, A>,
+    channel: &Channel<B>,
+) -> Result<(), AllocError>
+    ensures { OnOk result (text.new.items ≡ text.old.items
+        ++ channel_text (active channel.now) (waiting channel.now)) }
+{
+    match channel.waiting() {
+        Some(word) => {
+            text.extend_from_slice(b"ACTIVE FULL ")?;
+            push_octal(text, 4, u64::from(word.get()))
+        }
+        None if channel.flags().active => text.extend_from_slice(b"ACTIVE EMPTY"),
+        None => text.extend_from_slice(b"INACTIVE"),
+    }
+}
