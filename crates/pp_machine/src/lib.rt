@@ -19,6 +19,8 @@ mod quiet;
 mod replay;
 mod run;
 mod step;
+#[cfg(test)]
+mod tests;
 mod trace;
 
 pub use answer::Answer;
