@@ -13,37 +13,46 @@ use test_bench::{
     text_of_sessions,
 };
 
-/// How a text ends with this request refused, whether the request was made, and whether the whole text
-/// was written, or nothing.
+/// How the text of a run under a profile ends with this request refused, whether the request was made,
+/// and whether the whole text was written, or nothing.
 fn text_at(
     rt: &impl AllocGlobal,
     heap: &Rationed<Global>,
+    (profile, turns, text): (Profile, u32, &str),
     number: u64,
 ) -> (Result<(), TextFault>, bool, bool, bool) {
     heap.refuse(number);
     let mut writer = Vec::new(rt.alloc());
-    let done = barrel_text(heap, Profile::Ten, &mut HANDOFF.as_bytes(), &mut writer, 40);
-    let is_whole = writer.as_slice() == HANDOFF_TEXT.as_bytes();
+    let done = barrel_text(heap, profile, &mut HANDOFF.as_bytes(), &mut writer, turns);
+    let is_whole = writer.as_slice() == text.as_bytes();
     (done, heap.has_refused(), is_whole, writer.is_empty())
 }
 
-#[test]
-fn text_refused(rt: HostRuntime) {
+/// Where no request is refused, this run has its text. This gives the number of the first request that
+/// is not made.
+fn run_refused<R: AllocGlobal + Abort>(rt: &R, run: (Profile, u32, &str)) -> u64 {
     let heap = Rationed::new(rt.alloc());
     for number in 1..1000u64 {
-        let ended = text_at(&rt, &heap, number);
+        let ended = text_at(rt, &heap, run, number);
         if !heap.has_refused() {
             assert_eq!(rt; ended, (Ok(()), false, true, false));
-            assert!(rt;
-                number > 5,
-                "bytes, fields, processors, events and text grow"
-            );
-            return;
+            return number;
         }
         let expected = (Err(TextFault::Memory), true, false, true);
         assert_eq!(rt; ended, expected, "request {number}");
     }
     panic!(rt; "a request is refused in each run")
+}
+
+#[test]
+fn text_refused(rt: HostRuntime) {
+    for run in [
+        (Profile::Ten, 40, HANDOFF_TEXT),
+        (Profile::Twenty, 80, HANDOFF_ON_TWENTY),
+    ] {
+        let number = run_refused(&rt, run);
+        assert!(rt; number > 5, "bytes, fields, processors and events grow");
+    }
 }
 
 /// The status of the program, whether it wrote these texts, and whether it wrote that it was out of memory

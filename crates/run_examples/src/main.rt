@@ -112,6 +112,10 @@ fn main(rt: HostRuntime) -> anyhow::Result<()> {
         println!(rt; "{name} by threads: {}", verdict(is_one || is_other))?;
         let is_foreign = output == read(&rt, "handoff", "text")?;
         println!(rt; "{name} by threads as handoff: {}", verdict(is_foreign))?;
+        let output = run(&rt, name, THREADS_OF_TWENTY.as_slice())?;
+        let is_one = output == read(&rt, name, one)?;
+        let is_other = output == read(&rt, name, other)?;
+        println!(rt; "{name} by twenty threads: {}", verdict(is_one || is_other))?;
     }
     for (name, turns, behind) in ON_TWENTY {
         compare_on_twenty(&rt, name, turns, behind)?;

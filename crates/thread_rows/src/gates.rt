@@ -117,10 +117,12 @@ impl Gate for Uneven {
 #[test]
 fn uneven_gates(rt: HostRuntime) -> Result<(), Fail> {
     let gate = Uneven { flag: zero() };
-    let machine = loaded(rt.alloc(), Profile::Ten, BLOCK)?;
-    for _ in 0..200 {
-        let report = run_threads(&rt, rt.alloc(), &machine, limits(LONG_PATIENCE)?, &gate)?;
-        assert_eq!(rt; history(&report, 5)?, block_history().as_slice());
+    for profile in [Profile::Ten, Profile::Twenty] {
+        let machine = loaded(rt.alloc(), profile, BLOCK)?;
+        for _ in 0..200 {
+            let report = run_threads(&rt, rt.alloc(), &machine, limits(LONG_PATIENCE)?, &gate)?;
+            assert_eq!(rt; history(&report, 5)?, block_history().as_slice());
+        }
     }
     Ok(())
 }

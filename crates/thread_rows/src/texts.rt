@@ -166,35 +166,32 @@ fn a_dead_start_gives_one_of_its_texts(rt: HostRuntime) -> Result<(), Fail> {
 
 #[test]
 fn reader_that_fails(rt: HostRuntime) -> Result<(), Fail> {
-    let mut reader = Source::new(b"".as_slice(), 1, Some(ErrorKind::Interrupted));
-    let mut writer = Vec::new(rt.alloc());
-    let limits = limits(LONG_PATIENCE)?;
-    let done = threads_text(
-        &rt,
-        rt.alloc(),
-        Profile::Ten,
-        &mut reader,
-        &mut writer,
-        limits,
-    );
-    assert!(rt; done == Err(TextFault::Read));
-    assert_eq!(rt; reader.calls(), 1);
-    assert!(rt; writer.is_empty());
+    for profile in [Profile::Ten, Profile::Twenty] {
+        let mut reader = Source::new(b"".as_slice(), 1, Some(ErrorKind::Interrupted));
+        let mut writer = Vec::new(rt.alloc());
+        let limits = limits(LONG_PATIENCE)?;
+        let done = threads_text(&rt, rt.alloc(), profile, &mut reader, &mut writer, limits);
+        assert!(rt; done == Err(TextFault::Read));
+        assert_eq!(rt; reader.calls(), 1);
+        assert!(rt; writer.is_empty());
+    }
     Ok(())
 }
 
 #[test]
 fn writer_that_fails(rt: HostRuntime) -> Result<(), Fail> {
-    for failure in [
-        Failure::Error(ErrorKind::Interrupted),
-        Failure::TakesNothing,
+    for (profile, failure) in [
+        (Profile::Ten, Failure::Error(ErrorKind::Interrupted)),
+        (Profile::Ten, Failure::TakesNothing),
+        (Profile::Twenty, Failure::Error(ErrorKind::Interrupted)),
+        (Profile::Twenty, Failure::TakesNothing),
     ] {
         let mut writer = Sink::new(rt.alloc(), 0, 1, failure);
         let limits = limits(LONG_PATIENCE)?;
         let done = threads_text(
             &rt,
             rt.alloc(),
-            Profile::Ten,
+            profile,
             &mut BLOCK.as_bytes(),
             &mut writer,
             limits,
