@@ -54,7 +54,6 @@ fn open_family<A: Allocator + Copy>(
 /// A worker goes on until its processor is at rest, until it has made the steps of the limit, or
 /// until it is held at one step as often in a row as its patience allows. `Memory` is answered where
 /// a growth outside the workers' steps was refused, or the system could not start a worker.
-#[tactic(auto, unfolding(pp_machine::specs::ProcessorNumber::names_processor, pp_machine::specs::ProcessorNumber::processor_number))]
 pub fn run_threads<R: Threads + Wait + Sync, G: Gate + Sync, A: Allocator + Copy + Send + Sync>(
     rt: &R,
     alloc: A,

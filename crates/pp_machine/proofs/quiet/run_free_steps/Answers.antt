@@ -36,7 +36,7 @@ loop-left-init g c = record {
 pub returns-then-ends-clause-ahead : goal.returns-then-ends-clause-ahead
 returns-then-ends-clause-ahead g c = λ m same.
     subst (λ made. IsAhead made m c.args.pp.now c.run_inner.new.self) (one_more c.args.most c.loop-left.left c.loop-left-test.true c.loop-left.invariant.within)
-      (local_ahead (c.args.most - c.loop-left.left) m c.args.pp.now c.loop-left.pp c.run_inner.new.self (c.loop-left.invariant.ahead m same) c.if-run_inner.ensures.local c.if-run_inner.ensures.after)
+    (local_ahead (c.args.most - c.loop-left.left) m c.args.pp.now c.loop-left.pp c.run_inner.new.self (c.loop-left.invariant.ahead m same) c.if-run_inner.ensures.local c.if-run_inner.ensures.after)
 
 pub loop-left-preserved-then-run_inner : goal.loop-left-preserved-then-run_inner
 loop-left-preserved-then-run_inner g c = record {

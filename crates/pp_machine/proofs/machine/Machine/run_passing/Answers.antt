@@ -40,7 +40,7 @@ loop-left-preserved g c =
     let ran = c.loop-left.invariant.ran ∙ ap (λ k. run (barrel m.profile k) m) whole in
     let further : done + 1 ≡ c.args.rounds - (c.loop-left.left - 1) = omega arith in
     let next : done * processors_in m.profile + c.args.turns ≡ (c.args.rounds - (c.loop-left.left - 1)) * c.args.turns =
-      ap (λ k. k + c.args.turns) (sym whole) ∙ one_round_more done c.args.turns ∙ ap (λ k. k * c.args.turns) further in
+    ap (λ k. k + c.args.turns) (sym whole) ∙ one_round_more done c.args.turns ∙ ap (λ k. k * c.args.turns) further in
     record {
       ran = turns_after done c.args.turns (done * processors_in m.profile) m c.loop-left.self c.run_round.new.self ran refl c.in_default.ensures.ok
           ∙ ap (λ k. run (barrel m.profile k) m) next;
