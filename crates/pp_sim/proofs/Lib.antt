@@ -3,3 +3,4 @@ pub mod ByteLemmas
 pub mod CommandLemmas
 pub mod NumeralLemmas
 pub mod ReportLemmas
+pub mod StateLemmas

@@ -2,5 +2,6 @@ pub mod TextAnswer
 pub mod BarrelText
 pub mod ThreadsText
 pub mod ListText
+pub mod StateOfRun
 pub mod CommandLine
 pub mod Program
