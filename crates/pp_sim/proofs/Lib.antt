@@ -4,3 +4,4 @@ pub mod CommandLemmas
 pub mod DumpTextLemmas
 pub mod NumeralLemmas
 pub mod ReportLemmas
+pub mod StateLemmas

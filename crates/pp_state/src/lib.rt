@@ -11,4 +11,4 @@ mod whole_text;
 
 pub use held_steps::run_counting_held;
 pub use laws::state_law;
-pub use whole_text::state_text;
+pub use whole_text::printed_state;

@@ -23,7 +23,7 @@ const NUMBERS: u8 = 0o100;
 /// order of the barrel, the count of its last steps in a row that were held. Numbers are octal, but
 /// this count.
 #[tactic(auto, unfolding(crate::specs::StateText::state_text))]
-pub fn state_text<A: Allocator + Copy, B: Allocator>(
+pub fn printed_state<A: Allocator + Copy, B: Allocator>(
     alloc: A,
     named: &[bool; PROCESSORS],
     before: &Machine<B>,

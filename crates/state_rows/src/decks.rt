@@ -2,7 +2,7 @@
 
 use pp_deck::{Deck, read_deck};
 use pp_machine::Profile;
-use pp_state::{run_counting_held, state_text};
+use pp_state::{printed_state, run_counting_held};
 use std::alloc::Global;
 use std::test::Fail;
 
@@ -255,7 +255,7 @@ fn text_of(
     let loaded = deck_of(alloc, profile, text)?;
     let mut deck = deck_of(alloc, profile, text)?;
     let held = run_counting_held(&mut deck.machine, turns)?;
-    Ok(state_text(alloc, &deck.named, &loaded.machine, &deck.machine, &held)?)
+    Ok(printed_state(alloc, &deck.named, &loaded.machine, &deck.machine, &held)?)
 }
 
 #[test]

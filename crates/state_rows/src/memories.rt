@@ -2,7 +2,8 @@
 
 use pp_deck::{Deck, read_deck};
 use pp_machine::Profile;
-use pp_state::{run_counting_held, state_text};
+use pp_sim::{TextFault, state_text};
+use pp_state::{printed_state, run_counting_held};
 use rationed::Rationed;
 use std::alloc::Global;
 use std::test::Fail;
@@ -35,7 +36,7 @@ fn state_refused(rt: HostRuntime) -> Result<(), Fail> {
     let held = run_counting_held(&mut deck.machine, TURNS)?;
     for number in 1..100u64 {
         heap.refuse(number);
-        let text = state_text(&heap, &deck.named, &loaded.machine, &deck.machine, &held);
+        let text = printed_state(&heap, &deck.named, &loaded.machine, &deck.machine, &held);
         let was_refused = heap.has_refused();
         heap.refuse(0);
         if !was_refused {
@@ -65,4 +66,43 @@ fn run_refused(rt: HostRuntime) -> Result<(), Fail> {
         assert!(rt; held.is_err(), "request {number}");
     }
     Err("a request is refused in each run".into())
+}
+
+/// How the text of a run ends with this request refused, and whether the whole text was written, or
+/// nothing.
+fn text_at(
+    rt: &impl AllocGlobal,
+    heap: &Rationed<Global>,
+    number: u64,
+) -> (Result<(), TextFault>, bool, bool) {
+    heap.refuse(number);
+    let mut written = Vec::new(rt.alloc());
+    let done = state_text(
+        heap,
+        Profile::Ten,
+        &mut DECK.as_bytes(),
+        &mut written,
+        TURNS,
+    );
+    let is_whole = written.as_slice() == STATE.as_bytes();
+    (done, is_whole, written.is_empty())
+}
+
+#[test]
+fn state_text_refused(rt: HostRuntime) {
+    let heap = Rationed::new(rt.alloc());
+    for number in 1..200u64 {
+        let ended = text_at(&rt, &heap, number);
+        if !heap.has_refused() {
+            assert_eq!(rt; ended, (Ok(()), true, false));
+            assert!(rt; number > 5, "bytes, two machines, events and the text grow");
+            return;
+        }
+        assert_eq!(rt;
+            ended,
+            (Err(TextFault::Memory), false, true),
+            "request {number}"
+        );
+    }
+    panic!(rt; "a request is refused in each run")
 }
