@@ -148,14 +148,9 @@ fn a_dead_start_gives_one_of_its_texts(rt: HostRuntime) -> Result<(), Fail> {
         let deck = format!(in rt.alloc(); "{DEAD_START}{sections}")?;
         let mut writer = Vec::new(rt.alloc());
         let limits = limits(LONG_PATIENCE)?;
-        threads_text(
-            &rt,
-            rt.alloc(),
-            profile,
-            &mut deck.as_bytes(),
-            &mut writer,
-            limits,
-        )?;
+        let mut reader = deck.as_bytes();
+        let done = threads_text(&rt, rt.alloc(), profile, &mut reader, &mut writer, limits);
+        assert!(rt; done.is_ok());
         let lost = format!(in rt.alloc(); "{LOADED}{LOST}{NAMED}{named}{CHANNEL}")?;
         let taken = format!(in rt.alloc(); "{LOADED}{TAKEN}{NAMED}{named}{CHANNEL}")?;
         let text = writer.as_slice();
