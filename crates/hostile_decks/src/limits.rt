@@ -75,7 +75,8 @@ fn everything_at_its_limit(rt: HostRuntime) -> Result<(), Fail> {
     assert_eq!(rt; deck.len(), LONGEST);
     let mut reader = deck.as_slice();
     let mut text = Vec::new(rt.alloc());
-    barrel_text(rt.alloc(), Profile::Ten, &mut reader, &mut text, 999_999)?;
+    let done = barrel_text(rt.alloc(), Profile::Ten, &mut reader, &mut text, 999_999);
+    assert!(rt; done.is_ok());
     assert!(rt; text.ends_with(END.as_bytes()));
     // Each pair makes one Activate and passes its words.
     let events = 5 * PLAIN + 5 * 2 * 99_968 * WITH_WORD;

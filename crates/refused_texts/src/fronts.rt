@@ -58,8 +58,12 @@ fn fault_of(front: &str) -> Option<DeckFault> {
 
 /// Why the text of a deck's run was not written.
 fn refused_text(alloc: Global, heap: &Rationed<Global>, deck: &str) -> Option<TextFault> {
-    let (mut reader, mut writer) = (deck.as_bytes(), Vec::new(alloc));
-    barrel_text(heap, Profile::Twenty, &mut reader, &mut writer, 0).err()
+    let mut reader = deck.as_bytes();
+    let mut writer = Vec::new(alloc);
+    match barrel_text(heap, Profile::Twenty, &mut reader, &mut writer, 0) {
+        Ok(()) => None,
+        Err(fault) => Some(fault),
+    }
 }
 
 #[test]
