@@ -6,11 +6,7 @@ ghost use Rattle.pp_listing.specs.OctalDigits.{octal, short_octal};
 use std::alloc::{AllocError, Allocator};
 
 /// Adds a number in just so many octal digits.
-pub fn push_octal<A: Allocator>(
-    text: &mut Vec<u8, A>,
-    width: u32,
-    n: u64,
-) -> Result<(), AllocError>
+pub fn push_octal<A: Allocator>(text: &mut Vec<u8, A>, width: u32, n: u64) -> Result<(), AllocError>
     ensures { OnOk result (text.new.items ≡ text.old.items ++ octal width n) }
 {
     if width == 0 {
