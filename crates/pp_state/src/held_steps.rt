@@ -1,12 +1,13 @@
 //! Runs that count held steps.
 
-ghost use Rattle.std.specs.Prelude.{◌≡◌, ◌+◌, ◌<◌, ◌≤◌, ◌^◌, true, IfOk, OnOk};
+ghost use Rattle.std.specs.Prelude.{◌≡◌, ◌+◌, ◌<◌, ◌≤◌, ◌^◌, true, IfErr, IfOk, IsSome, OnOk};
 ghost use Rattle.pp_machine.specs.Headline.{HoldsOnEachChannel};
+ghost use Rattle.pp_machine.specs.MachineStep.{step_event};
+ghost use Rattle.pp_machine.specs.Profile.{processor_in_turn};
 ghost use Rattle.pp_machine.specs.Run.{barrel, run};
 ghost use Rattle.pp_state.specs.HeldSteps.{each_held_steps, is_not_held};
 
-use pp_channel::Memory;
-use pp_machine::{Machine, Outcome, PROCESSORS, PpNo};
+use pp_machine::{Cut, Machine, Outcome, PROCESSORS, PpNo};
 use std::alloc::Allocator;
 
 /// Runs so many turns of the barrel (decimal), as `Machine::run_barrel` does, and says of each
@@ -14,10 +15,16 @@ use std::alloc::Allocator;
 pub fn run_counting_held<A: Allocator>(
     machine: &mut Machine<A>,
     turns: u32,
-) -> Result<[u32; PROCESSORS], Memory>
+) -> Result<[u32; PROCESSORS], Cut>
     ensures ran { OnOk result (machine.new ≡ run (barrel machine.old.profile turns) machine.old) }
     ensures held { IfOk result (λ held.
         held ≡ each_held_steps (barrel machine.old.profile turns) machine.old) }
+    ensures cut { IfErr result (λ c.
+        machine.new ≡ run (barrel machine.old.profile c.done) machine.old) }
+    ensures within { IfErr result (λ c. c.done < turns) }
+    // A run is cut only at a step that makes an event.
+    ensures cut_at_event { IfErr result (λ c.
+        IsSome (step_event (processor_in_turn machine.old.profile c.done) machine.new)) }
     ensures headline { HoldsOnEachChannel machine.new }
 {
     let _sound = machine.turns();
@@ -25,7 +32,11 @@ pub fn run_counting_held<A: Allocator>(
     let mut held = [0; PROCESSORS];
     for turn in 0..turns {
         let n = PpNo::at((turn % round) as usize);
-        let outcome = machine.step(n)?;
+        let Ok(outcome) = machine.step(n) else {
+            return Err(Cut {
+                done: u64::from(turn),
+            });
+        };
         held[n.index()] = held_after(outcome, held[n.index()]);
     }
     Ok(held)

@@ -32,10 +32,10 @@ loop-turn-preserved g c =
     let was : old ≡ held_steps n (barrel p t) m = ap (λ (i : ℕ). get_or c.loop-turn.held i 0) c.index.ensures.place ∙ c.loop-turn.invariant.counted.counts n named in
     let low : old ≤ t = omega (arith, ap (λ (i : ℕ). get_or c.loop-turn.held i 0) c.index.ensures.place, c.loop-turn.invariant.counted.below n named) in
     let right : c.held_after.result ≡ held_steps n (barrel p t ++ n ∷ []) m =
-    count_right n (barrel p t) m c.in_ok-outcome.outcome old c.held_after.result
-    (c.in_ok-outcome.ensures.outcome ∙ ap (step_outcome n) c.loop-turn.invariant.ran) was c.held_after.ensures.held c.held_after.ensures.other in
+    count_right n (barrel p t) m c.in-Ok.outcome old c.held_after.result
+    (c.in-Ok.ensures.outcome ∙ ap (step_outcome n) c.loop-turn.invariant.ran) was c.held_after.ensures.held c.held_after.ensures.other in
     record {
-      ran = c.in_ok-outcome.ensures.ok ∙ ap (stepped n) c.loop-turn.invariant.ran ∙ ap (λ (k : ℕ). stepped k (run (barrel p t) m)) is ∙ sym (barrel_more p t m);
+      ran = c.in-Ok.ensures.ok ∙ ap (stepped n) c.loop-turn.invariant.ran ∙ ap (λ (k : ℕ). stepped k (run (barrel p t) m)) is ∙ sym (barrel_more p t m);
       counted = counted_more t p m c.loop-turn.held _ n c.held_after.result named is c.loop-turn.invariant.counted
           (ap (λ (i : ℕ). set c.loop-turn.held i c.held_after.result) c.index-in-loop-turn.ensures.place) (omega (arith, low, c.held_after.ensures.most)) right;
       headline = c.step.ensures.headline;
