@@ -90,6 +90,8 @@ work_by_rows name f (works.Threads profile limits) k = (
 work_by_rows name f (works.List profile) k = (k.0, rw (← first_value-rows f (codes "processors")) k.1)
 work_by_rows name f (works.Dump profile turns) k =
     (k.0, rw (← first_value-rows f (codes "processors")) k.1, rw (← first_value-rows f (codes "turns")) k.2, k.3)
+work_by_rows name f (works.State profile turns) k =
+    (k.0, rw (← first_value-rows f (codes "processors")) k.1, rw (← first_value-rows f (codes "turns")) k.2, k.3)
 
 pub work_by_values : (name : Text) (f : Found) (work : Work) → IsWorkAmong (Some (name, rows_of f)) work → IsWorkOf name (first_value f) work
 work_by_values name f (works.Barrel profile turns) k =
@@ -103,6 +105,8 @@ work_by_values name f (works.Threads profile limits) k = (
 )
 work_by_values name f (works.List profile) k = (k.0, rw (first_value-rows f (codes "processors")) k.1)
 work_by_values name f (works.Dump profile turns) k =
+    (k.0, rw (first_value-rows f (codes "processors")) k.1, rw (first_value-rows f (codes "turns")) k.2, k.3)
+work_by_values name f (works.State profile turns) k =
     (k.0, rw (first_value-rows f (codes "processors")) k.1, rw (first_value-rows f (codes "turns")) k.2, k.3)
 
 -- where the text of an option is there, and is no number, it says no profile

@@ -15,8 +15,8 @@ use Rattle.pp_sim.specs.declared.work.Work.{Work}
 use Rattle.pp_sim.specs.declared.work.Work.TheVariants as works
 
 -- THE COMMAND LINE, as clap sees it: `ppsim barrel --turns N`, `ppsim threads --steps N --patience N`,
--- `ppsim list` or `ppsim dump --turns N`, the command and these options required, and for each `--processors N`, which may
--- be left out
+-- `ppsim list`, `ppsim dump --turns N` or `ppsim state --turns N`, the command and these options
+-- required, and for each `--processors N`, which may be left out
 
 -- a required option whose value is a number
 abbrev pub number_option : Text → Rule
@@ -40,12 +40,17 @@ list = with_rule (new_app (codes "list")) processors_option
 abbrev pub dump : App
 dump = with_rule (with_rule (new_app (codes "dump")) (number_option (codes "turns"))) processors_option
 
+abbrev pub state : App
+state = with_rule (with_rule (new_app (codes "state")) (number_option (codes "turns"))) processors_option
+
 abbrev pub bare : App
 bare = record (new_app (codes "ppsim")) { top = record (new_app (codes "ppsim")).top { subcommand_required = true } }
 
 unfoldable pub ppsim : App
 ppsim =
-    with_subcommand (with_subcommand (with_subcommand (with_subcommand bare barrel.top) threads.top) list.top) dump.top
+    with_subcommand
+    (with_subcommand (with_subcommand (with_subcommand (with_subcommand bare barrel.top) threads.top) list.top) dump.top)
+    state.top
 
 -- the kinds of refusal that clap's parse may give to the words: none where they are a command line
 unfoldable pub refusals : List Text → Kinds
@@ -75,6 +80,8 @@ IsWorkOf name text_of (works.Threads profile limits) = (name ≡ codes "threads"
 IsWorkOf name text_of (works.List profile) =
     (name ≡ codes "list") × ReadsProfile (text_of (codes "processors")) profile
 IsWorkOf name text_of (works.Dump profile turns) = (name ≡ codes "dump") × ReadsProfile (text_of (codes "processors")) profile
+    × ReadsNumber (text_of (codes "turns")) turns × (turns ≤ 999999)
+IsWorkOf name text_of (works.State profile turns) = (name ≡ codes "state") × ReadsProfile (text_of (codes "processors")) profile
     × ReadsNumber (text_of (codes "turns")) turns × (turns ≤ 999999)
 
 abbrev pub IsWorkAmong : Option (Text × List Row) → Work → Type 0

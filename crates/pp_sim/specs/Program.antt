@@ -9,6 +9,7 @@ use Rattle.pp_sim.specs.BarrelText.{IsBarrelText}
 use Rattle.pp_sim.specs.CommandLine.{AskFor, IsOutOfRange, IsRefused, refusals}
 use Rattle.pp_sim.specs.DumpText.{HindersDump, IsDumpText}
 use Rattle.pp_sim.specs.ListText.{IsListText}
+use Rattle.pp_sim.specs.StateOfRun.{IsStateText}
 use Rattle.pp_deck.specs.DeckMeaning.{LoadedDeck}
 use Rattle.pp_listing.specs.declared.going_on.GoingOn.{GoingOn}
 use Rattle.pp_sim.specs.TextAnswer.{AnswersUnless, IsAnswerUnless, Never, most_bytes}
@@ -29,6 +30,7 @@ IsTextBy Z (works.Barrel profile turns) = IsBarrelText turns
 IsTextBy Z (works.Threads profile limits) = IsThreadsText Z limits
 IsTextBy Z (works.List profile) = IsListText
 IsTextBy Z (works.Dump profile turns) = IsDumpText turns
+IsTextBy Z (works.State profile turns) = IsStateText turns
 
 -- what may stand in the way of one
 abbrev pub HindersWork : Work → LoadedDeck → GoingOn → Type 0
@@ -36,6 +38,7 @@ HindersWork (works.Barrel profile turns) = Never
 HindersWork (works.Threads profile limits) = Never
 HindersWork (works.List profile) = Never
 HindersWork (works.Dump profile turns) = HindersDump turns
+HindersWork (works.State profile turns) = Never
 
 -- the profile of its machine
 abbrev pub profile_of : Work → Profile
@@ -43,6 +46,7 @@ profile_of (works.Barrel profile turns) = profile
 profile_of (works.Threads profile limits) = profile
 profile_of (works.List profile) = profile
 profile_of (works.Dump profile turns) = profile
+profile_of (works.State profile turns) = profile
 
 -- the answer of a work, to the bytes that were read, and to the first bytes of a reader that tells what it has
 pub record IsDone (Z : Type 0) (work : Work) (answer : Result (Unit {0}) TextFault) (before after old new : Option (List ℕ)) : Type 0 where

@@ -3,7 +3,7 @@
 ghost use Rattle.std.specs.Prelude.{◌≡◌, false, IfOk};
 ghost use Rattle.clap.specs.Words.{app_of, rule_of, with_rule};
 ghost use Rattle.clap.specs.declared.builder.command.Command.TheViews.{out-Command as fields_of};
-ghost use Rattle.pp_sim.specs.CommandLine.{barrel, dump, list, number_option, processors_option, ppsim, threads};
+ghost use Rattle.pp_sim.specs.CommandLine.{barrel, dump, list, number_option, processors_option, ppsim, state, threads};
 
 use crate::number_range::{NumberRange, PATIENCE, STEPS, TURNS};
 use clap::{Arg, ArgAction, Command};
@@ -79,6 +79,18 @@ Reads the deck from standard input. What is printed to standard output is a deck
 where it is no longer than a deck may be, 1048576 bytes (decimal): histories and turns are gone.
 Where a processor is within a block or at fault, or a channel is active, nothing is printed, and the
 first of these is told on standard error. A fault is one line there too.";
+
+const STATE_ABOUT: &str = "Runs a deck in the barrel, and prints how things stand then";
+
+const STATE_LONG_ABOUT: &str = "\
+Runs a deck in the barrel, and prints how things stand then: where each processor is and what holds
+it, what the run has changed in the memories, and the state of the channels.
+
+Reads the deck from standard input. Prints to standard output, for each processor that the deck
+names, its P, its A and its state, the instruction at P, the next place of a block in progress, and,
+where its next step is held, by which channel and how many of its last steps in a row were; then the
+words of processors and of central memory that are no longer as they were loaded, as lines of a deck;
+and the state of each channel that has a history. A fault is one line on standard error.";
 
 /// A required option whose value is a number.
 fn number_option<'a>(alloc: Global, id: &'a str, help: &'a str) -> Arg<'a>
@@ -168,6 +180,18 @@ fn dump_command<'a>(alloc: Global) -> Result<Command<'a>, AllocError>
     command.arg(processors_option(alloc))
 }
 
+/// `state --turns N [--processors N]`
+fn state_command<'a>(alloc: Global) -> Result<Command<'a>, AllocError>
+    ensures app { IfOk result (λ c. app_of c ≡ state) }
+    ensures local { IfOk result (λ c. (fields_of c).has_globals ≡ false) }
+{
+    let command = Command::new(alloc, "state")
+        .about(STATE_ABOUT)
+        .long_about(STATE_LONG_ABOUT);
+    let command = with_number(alloc, command, "turns", TURNS)?;
+    command.arg(processors_option(alloc))
+}
+
 /// The whole command line.
 #[tactic(auto, unfolding(crate::specs::CommandLine::ppsim))]
 pub(crate) fn command<'a>(alloc: Global) -> Result<Command<'a>, AllocError>
@@ -177,12 +201,14 @@ pub(crate) fn command<'a>(alloc: Global) -> Result<Command<'a>, AllocError>
     let threads = threads_command(alloc)?;
     let list = list_command(alloc)?;
     let dump = dump_command(alloc)?;
+    let state = state_command(alloc)?;
     let bare = Command::new(alloc, "ppsim")
         .about(ABOUT)
         .after_help(EXAMPLE)
         .subcommand_required(true);
     let runs = bare.subcommand(barrel)?.subcommand(threads)?;
     let texts = runs.subcommand(list)?;
-    let whole = texts.subcommand(dump)?;
+    let decks = texts.subcommand(dump)?;
+    let whole = decks.subcommand(state)?;
     Ok(whole)
 }

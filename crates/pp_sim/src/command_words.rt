@@ -97,6 +97,10 @@ fn work_of(name: &str, matches: &ArgMatches<'_>) -> Option<Work>
         let profile = profile_of(matches)?;
         let turns = turns_of(matches)?;
         Some(Work::Dump { profile, turns })
+    } else if name == "state" {
+        let profile = profile_of(matches)?;
+        let turns = turns_of(matches)?;
+        Some(Work::State { profile, turns })
     } else {
         None
     }

@@ -16,4 +16,7 @@ pub enum Work {
     /// The dump of a deck that has run in the barrel of a machine of this profile, for so many turns
     /// (decimal), 0 to 999,999.
     Dump { profile: Profile, turns: u32 },
+    /// How things stand after a deck has run in the barrel of a machine of this profile, for so many
+    /// turns (decimal), 0 to 999,999.
+    State { profile: Profile, turns: u32 },
 }

@@ -241,6 +241,35 @@ CH06 INACTIVE
 ",
 );
 
+/// The program of docs/VIEWS.md in which two processors wait for one another, worked out by hand.
+const WAITING: (u32, &str, &str) = (
+    200,
+    "\
+PP 0
+0100 7405 7406 1402     * ACN 05, ACN 06, LDN 02
+0103 7305 0200          * OAM 0200,05
+0105 7006 3461 0300     * IAN 06, STD 61
+0200 0011 0022 0033
+START 0100
+PP 1
+0100 1403 7105 0300     * LDN 03, IAM 0300,05
+0103 5000 0302          * LDM 0302
+0105 7206 0300          * OAN 06
+START 0100
+",
+    "\
+PP00 P=0105 A=000000 RUNNING IAN 06 HELD CH06 ACTIVE EMPTY x14
+PP01 P=0101 A=000001 RUNNING IAM 0300,05 BLOCK 0302 HELD CH05 ACTIVE EMPTY x14
+PP 0
+0000 0104
+PP 1
+0000 0102
+0300 0011 0022
+CH05 ACTIVE EMPTY
+CH06 ACTIVE EMPTY
+",
+);
+
 fn deck_of(alloc: Global, profile: Profile, text: &str) -> Result<Deck<Global>, Fail> {
     read_deck(alloc, profile, text.as_bytes()).map_err(|_| "a deck without faults".into())
 }
@@ -264,6 +293,14 @@ fn states_of_decks(rt: HostRuntime) -> Result<(), Fail> {
         let text = text_of(rt.alloc(), Profile::Ten, *turns, deck)?;
         assert_eq!(rt; text.as_slice(), state.as_bytes(), "{deck}");
     }
+    Ok(())
+}
+
+#[test]
+fn state_of_processors_that_wait(rt: HostRuntime) -> Result<(), Fail> {
+    let (turns, deck, state) = WAITING;
+    let text = text_of(rt.alloc(), Profile::Ten, turns, deck)?;
+    assert_eq!(rt; text.as_slice(), state.as_bytes());
     Ok(())
 }
 

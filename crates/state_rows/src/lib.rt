@@ -1,8 +1,10 @@
-//! How things stand after runs: rows worked out by an independent program, and each growth refused in
-//! turn.
+//! How things stand after runs: rows worked out by an independent program, decks that are refused,
+//! devices that fail, and each growth refused in turn.
 #![tactic(auto)]
 
 #[cfg(test)]
 mod decks;
+#[cfg(test)]
+mod devices;
 #[cfg(test)]
 mod memories;

@@ -9,20 +9,20 @@ use std::alloc::Global;
 use std::test::Fail;
 
 /// Channel 5 is activated and a word put, which stays there.
-const DECK: &str = "\
+pub(crate) const DECK: &str = "\
 PP 0
 0100 7405 1407 7205 3420 0300
 START 0100
 ";
 
-const STATE: &str = "\
+pub(crate) const STATE: &str = "\
 PP00 P=0104 A=000007 STOPPED UJN 0104
 PP 0
 0020 0007
 CH05 ACTIVE FULL 0007
 ";
 
-const TURNS: u32 = 60;
+pub(crate) const TURNS: u32 = 60;
 
 fn deck_over(heap: &Rationed<Global>) -> Result<Deck<&Rationed<Global>>, Fail> {
     read_deck(heap, Profile::Ten, DECK.as_bytes()).map_err(|_| "a deck without faults".into())

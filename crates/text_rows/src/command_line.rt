@@ -23,7 +23,7 @@ fn asked(alloc: Global, words: &[&str]) -> Result<Work, Refused> {
 }
 
 /// Words after the program's name, and what they ask for.
-const RUNS: [(&[&str], Result<Work, Refused>); 7] = [
+const RUNS: [(&[&str], Result<Work, Refused>); 10] = [
     (
         &["ppsim", "barrel", "--turns", "40"],
         Ok(Work::Barrel {
@@ -55,6 +55,18 @@ const RUNS: [(&[&str], Result<Work, Refused>); 7] = [
         Err(Refused::Number),
     ),
     (&["ppsim", "dump"], Err(Refused::Words)),
+    (
+        &["ppsim", "state", "--turns", "999999", "--processors", "20"],
+        Ok(Work::State {
+            profile: Profile::Twenty,
+            turns: 999_999,
+        }),
+    ),
+    (
+        &["ppsim", "state", "--turns", "1000000"],
+        Err(Refused::Number),
+    ),
+    (&["ppsim", "state"], Err(Refused::Words)),
 ];
 
 #[test]
@@ -87,7 +99,7 @@ fn asked_limits(alloc: Global, steps: &str, patience: &str) -> Option<(u32, u32)
 fn limits_in(asked: Result<Work, Refused>) -> Option<(u32, u32)> {
     match asked.ok()? {
         Work::Threads { limits, .. } => Some((limits.steps(), limits.patience())),
-        Work::Barrel { .. } | Work::List { .. } | Work::Dump { .. } => None,
+        Work::Barrel { .. } | Work::List { .. } | Work::Dump { .. } | Work::State { .. } => None,
     }
 }
 

@@ -18,6 +18,7 @@ Commands:
   threads  Runs a deck with one thread per processor, and prints what happened
   list     Prints the listing of a deck, one instruction a line, which is itself a deck
   dump     Runs a deck in the barrel, and prints a deck to go on from
+  state    Runs a deck in the barrel, and prints how things stand then
   help     Print this message or the help of the given subcommand(s)
 
 Options:
@@ -196,8 +197,42 @@ Options:
   -h, --help            Print help (see more with '--help')
 ";
 
+const STATE: &str = "\
+Runs a deck in the barrel, and prints how things stand then: where each processor is and what holds
+it, what the run has changed in the memories, and the state of the channels.
+
+Reads the deck from standard input. Prints to standard output, for each processor that the deck
+names, its P, its A and its state, the instruction at P, the next place of a block in progress, and,
+where its next step is held, by which channel and how many of its last steps in a row were; then the
+words of processors and of central memory that are no longer as they were loaded, as lines of a deck;
+and the state of each channel that has a history. A fault is one line on standard error.
+
+Usage: ppsim state [OPTIONS] --turns <N>
+
+Options:
+      --turns <N>
+          How many turns to run, 0 to 999999 (decimal)
+
+      --processors <N>
+          How many processors the machine has, 10 or 20 (decimal); 10 if not given
+
+  -h, --help
+          Print help (see a summary with '-h')
+";
+
+const STATE_IN_SHORT: &str = "\
+Runs a deck in the barrel, and prints how things stand then
+
+Usage: ppsim state [OPTIONS] --turns <N>
+
+Options:
+      --turns <N>       How many turns to run, 0 to 999999 (decimal)
+      --processors <N>  How many processors the machine has, 10 or 20 (decimal); 10 if not given
+  -h, --help            Print help (see more with '--help')
+";
+
 /// Words that ask for help, each with its text.
-const HELP: [(&[&str], &str); 15] = [
+const HELP: [(&[&str], &str); 18] = [
     (&["ppsim", "--help"], PROGRAM),
     (&["ppsim", "-h"], PROGRAM),
     (&["ppsim", "help"], PROGRAM),
@@ -213,6 +248,9 @@ const HELP: [(&[&str], &str); 15] = [
     (&["ppsim", "dump", "--help"], DUMP),
     (&["ppsim", "help", "dump"], DUMP),
     (&["ppsim", "dump", "-h"], DUMP_IN_SHORT),
+    (&["ppsim", "state", "--help"], STATE),
+    (&["ppsim", "help", "state"], STATE),
+    (&["ppsim", "state", "-h"], STATE_IN_SHORT),
 ];
 
 #[test]

@@ -50,11 +50,43 @@ fn whole_run_of_twenty(rt: HostRuntime) {
     assert_eq!(rt; ended, (0, true, true, HANDOFF.len() as u32 + 1));
 }
 
+/// A command line that asks how things stand, a deck, and the answer.
+const STATES: [(&[&str], &str, &str); 2] = [
+    (
+        &["ppsim", "state", "--turns", "40"],
+        HANDOFF,
+        "\
+PP00 P=0103 A=000007 STOPPED UJN 0103
+PP01 P=0201 A=000007 STOPPED UJN 0201
+CH05 ACTIVE EMPTY
+",
+    ),
+    // The last processor has the last turn of a round.
+    (
+        &["ppsim", "state", "--turns", "20", "--processors", "20"],
+        "PP 31\n0100 7433 0300\nSTART 0100\n",
+        "\
+PP31 P=0101 A=000000 RUNNING UJN 0101
+CH33 ACTIVE EMPTY
+",
+    ),
+];
+
+#[test]
+fn how_things_stand(rt: HostRuntime) {
+    for (words, deck, text) in STATES {
+        let input = Source::new(deck.as_bytes(), 1, None);
+        let ended = ending(&rt, words, input, text, "");
+        assert_eq!(rt; ended, (0, true, true, deck.len() as u32 + 1), "{text}");
+    }
+}
+
 /// A command line, and a processor that its machine has not.
-const BEHIND_THE_LAST: [(&[&str], &str); 3] = [
+const BEHIND_THE_LAST: [(&[&str], &str); 4] = [
     (&WORDS_OF_A_RUN, "PP 20"),
     (&WORDS_OF_TWENTY, "PP 12"),
     (&WORDS_OF_TWENTY, "PP 32"),
+    (&["ppsim", "state", "--turns", "40"], "PP 12"),
 ];
 
 #[test]

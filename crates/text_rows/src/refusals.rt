@@ -4,12 +4,12 @@ use crate::program::{ending, handoff};
 
 const OUT_OF_RANGE: &str = "ppsim: number out of range\n";
 
-const REFUSED: [(&[&str], &str); 19] = [
+const REFUSED: [(&[&str], &str); 21] = [
     (
         &["ppsim"],
         "\
 error: 'ppsim' requires a subcommand but one was not provided
-  [subcommands: barrel, threads, list, dump, help]
+  [subcommands: barrel, threads, list, dump, state, help]
 
 Usage: ppsim <COMMAND>
 
@@ -131,6 +131,18 @@ Usage: ppsim threads [OPTIONS] --steps <N> --patience <N>
 For more information, try '--help'.
 ",
     ),
+    (
+        &["ppsim", "state"],
+        "\
+error: the following required arguments were not provided:
+  --turns <N>
+
+Usage: ppsim state --turns <N>
+
+For more information, try '--help'.
+",
+    ),
+    (&["ppsim", "state", "--turns", "1000000"], OUT_OF_RANGE),
     (&["ppsim", "barrel", "--turns", "1000000"], OUT_OF_RANGE),
     (&["ppsim", "barrel", "--turns", "forty"], OUT_OF_RANGE),
     (&["ppsim", "barrel", "--turns", ""], OUT_OF_RANGE),
