@@ -18,7 +18,6 @@ pub(crate) fn push_count<A: Allocator>(text: &mut Vec<u8, A>, count: u32) -> Res
 }
 
 /// Adds a number in decimal digits, without zeros in front, but at most so many digits.
-#[tactic(auto, using(pp_text::proofs::TextLemmas::unpadded_more))]
 fn push_unpadded<A: Allocator>(text: &mut Vec<u8, A>, n: u32, most: u32) -> Result<(), AllocError>
     ensures { OnOk result (text.new.items ≡ text.old.items ++ unpadded most n) }
 {

@@ -204,8 +204,8 @@ it, what the run has changed in the memories, and the state of the channels.
 Reads the deck from standard input. Prints to standard output, for each processor that the deck
 names, its P, its A and its state, the instruction at P, the next place of a block in progress, and,
 where its next step is held, by which channel and how many of its last steps in a row were; then the
-words of processors and of central memory that are no longer as they were loaded, as lines of a deck;
-and the state of each channel that has a history. A fault is one line on standard error.
+words of processors and of central memory that differ from those loaded, as lines of a deck; and the
+state of each channel that has a history. A fault is one line on standard error.
 
 Usage: ppsim state [OPTIONS] --turns <N>
 
