@@ -40,3 +40,17 @@ number_named place below = let at = place_of_number place below in named_below (
 
 pub number_of_place : (c : ℕ) → IsTrue (names_channel c) → channel_number (channel_index c) ≡ c
 number_of_place c names = one_place c (channel_number (channel_index c)) names (place_of_number (channel_index c) (place_below c names))
+
+-- a channel's number has two octal digits
+pub number_fits : (c : ℕ) → IsTrue (names_channel c) → c < 0o100
+unfolding names_channel
+number_fits c names = grind (arith)
+
+-- which numbers name channels
+pub named_low : (c : ℕ) → c < 0o14 → IsTrue (names_channel c)
+unfolding names_channel
+named_low c low = grind (arith, low)
+
+pub named_high : (c : ℕ) → 0o17 < c → c < 0o34 → IsTrue (names_channel c)
+unfolding names_channel
+named_high c past below = grind (arith, past, below)

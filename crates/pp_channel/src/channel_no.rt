@@ -32,9 +32,6 @@ impl Model for ChannelNo {
 }
 
 impl ChannelNo {
-    /// The first channel.
-    pub(crate) const FIRST: ChannelNo = ChannelNo { place: 0 };
-
     /// The channel of this number, or nothing from 14 to 17 (octal) and from 34 on.
     #[tactic(auto, unfolding(crate::specs::ChannelNumber::names_channel, crate::specs::ChannelNumber::channel_number))]
     pub fn new(number: u8) -> Option<Self>

@@ -260,7 +260,6 @@ impl<A: Allocator + Copy> Line<A> {
     /// This line and another of its family, that is, from the same `open_lines`, as one: the log is this
     /// line's entries and then the other's, the room is this line's, shares add up, and `seen` is the
     /// greater for each channel. It makes one load. After `Memory` both come back unchanged.
-    #[tactic(auto, unfolding(crate::specs::ChannelNumber::names_channel, crate::specs::ChannelNumber::channel_number))]
     pub fn join(mut self, other: Line<A>) -> Result<Line<A>, (Line<A>, Line<A>, Memory)>
         requires { other.table ≡ self.table }
         ensures ok { IfOk result (λ line. line ≡ joined self other) }
@@ -279,7 +278,7 @@ impl<A: Allocator + Copy> Line<A> {
             whole: _,
         } = other;
         self.words.join(words);
-        self.words.weigh(ChannelNo::FIRST);
+        self.words.weigh(ChannelNo::at(0));
         self.shares += shares;
         self.seen = greater_of_each(&self.seen, &seen);
         Ok(self)
@@ -288,13 +287,12 @@ impl<A: Allocator + Copy> Line<A> {
     /// The channels, of the line that holds every share of its family: their histories are the events of
     /// its log, each at its number. It makes one load, and that alone is new of the line where it comes
     /// back after `Memory`.
-    #[tactic(auto, unfolding(crate::specs::ChannelNumber::names_channel, crate::specs::ChannelNumber::channel_number))]
     pub fn close(mut self) -> Result<[Channel<A>; CHANNELS], (Line<A>, Memory)>
         requires { self.shares ≡ self.whole }
         ensures ok { IfOk result (λ channels. AreClosed self channels) }
         ensures unchanged_after_memory { IfErr result (λ refused. refused.0 ≡ record self { weighed = self.weighed + 1 }) }
     {
-        self.words.weigh(ChannelNo::FIRST);
+        self.words.weigh(ChannelNo::at(0));
         let line = &self;
         match told_channels(line.alloc, line.log.entries(), &line.seen) {
             Ok(channels) => Ok(channels),

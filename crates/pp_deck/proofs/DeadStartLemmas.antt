@@ -15,7 +15,7 @@ use Rattle.pp_machine.specs.MachineState.{MachineState, processor_of, history_of
 use Rattle.pp_machine.specs.Processor.{no_processor}
 use Rattle.pp_machine.specs.ProcessorNumber.{names_processor, processor_count, processor_index, processor_number}
 use Rattle.pp_machine.specs.Profile.{processors_in, has_processor}
-use Rattle.pp_machine.proofs.DeadStartLemmas.{channel_of_processor}
+use Rattle.pp_machine.proofs.ProcessorPlaces.{channel_of_processor}
 use Rattle.pp_machine.proofs.ProcessorPlaces as processor_places
 use Rattle.pp_machine.proofs.ProfileLemmas.{unnamed_lacks, has_at}
 use Rattle.pp_deck.specs.DeckLaw.{AsksForDeadStart, IsNamed, Waits}

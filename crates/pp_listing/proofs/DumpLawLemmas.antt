@@ -26,7 +26,7 @@ use Rattle.pp_listing.proofs.FreshDeckLemmas.{IsFresh, fresh_listing}
 use Rattle.pp_listing.proofs.GoingOnLemmas.{none_given}
 use Rattle.pp_listing.proofs.ListingLemmas.{dead_of, names_of, none_opened, numbered, processors_of}
 use Rattle.pp_listing.proofs.LoadedDeckLemmas.{deck_for}
-use Rattle.pp_listing.proofs.NumberLemmas.{processor_fits}
+use Rattle.pp_machine.proofs.ProcessorPlaces.{number_fits}
 use Rattle.pp_listing.proofs.RunDeckLemmas.{IsDeckFor, run_stays}
 use Rattle.pp_listing.proofs.RunWidthLemmas.{HasWidths, widths_of_run}
 
@@ -60,7 +60,7 @@ no_block m n named e =
     let pp = processor_of n m in
     in_no_block n pp.block pp.state
     (if_none (names_processor n) (in_processor n pp.block pp.state) named
-    (none_given (processor_going_on m) n (filter_map (channel_going_on m) numbers) (omega (arith, processor_fits n named)) e))
+    (none_given (processor_going_on m) n (filter_map (channel_going_on m) numbers) (omega (arith, number_fits n named)) e))
 
 -- ---- a processor that is left
 

@@ -7,7 +7,7 @@ use Rattle.pp_machine.specs.Processor.{Processor, new_processor}
 use Rattle.pp_machine.specs.ProcessorNumber.{names_processor, processor_count, processor_number}
 use Rattle.pp_machine.specs.Profile.{has_processor}
 use Rattle.pp_machine.specs.declared.profile.Profile.{Profile}
-use Rattle.pp_machine.proofs.DeadStartLemmas.{channel_of_processor}
+use Rattle.pp_machine.proofs.ProcessorPlaces.{channel_of_processor}
 use Rattle.pp_deck.specs.DeckLine.{Line}
 use Rattle.pp_deck.specs.DeckLoad.{last_of, start_in, lines_for, memory_of, processor_with, processor_loaded, asks_dead_start}
 use Rattle.pp_deck.specs.DeckLoad as load

@@ -1,18 +1,12 @@
--- Numbers of processors and channels have at most two octal digits.
-use Rattle.std.proofs.Common.{◌≡◌, ℕ, ◌<◌, ◌^◌, refl, arith}
+-- The numbers that a listing goes through: those of processors and channels are among them.
+use Rattle.std.proofs.Common.{◌≡◌, ℕ, ◌<◌, refl, arith}
 use Rattle.std.specs.Prelude.{IsTrue}
 use Rattle.std.specs.List.{range_with_len}
 use Rattle.pp_channel.specs.ChannelNumber.{names_channel}
+use Rattle.pp_channel.proofs.ChannelPlaces as channel_places
 use Rattle.pp_machine.specs.ProcessorNumber.{names_processor}
+use Rattle.pp_machine.proofs.ProcessorPlaces as processor_places
 use Rattle.pp_listing.specs.Listing.{numbers}
-
-pub processor_fits : (n : ℕ) → IsTrue (names_processor n) → n < 8 ^ 2
-unfolding names_processor
-processor_fits n names = grind (arith)
-
-pub channel_fits : (c : ℕ) → IsTrue (names_channel c) → c < 8 ^ 2
-unfolding names_channel
-channel_fits c names = grind (arith)
 
 -- how many numbers there are
 pub number_count : ℕ
@@ -24,8 +18,8 @@ numbers_are = refl
 
 pub processor_counts : (n : ℕ) → IsTrue (names_processor n) → n < number_count
 unfolding number_count
-processor_counts n names = omega (arith, processor_fits n names)
+processor_counts n names = omega (arith, processor_places.number_fits n names)
 
 pub channel_counts : (c : ℕ) → IsTrue (names_channel c) → c < number_count
 unfolding number_count
-channel_counts c names = omega (arith, channel_fits c names)
+channel_counts c names = omega (arith, channel_places.number_fits c names)

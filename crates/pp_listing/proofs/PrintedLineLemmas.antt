@@ -11,7 +11,7 @@ use Rattle.pp_deck.specs.DeckLine.{central_size, central_words, section, start, 
 use Rattle.pp_deck.specs.DeckMeaning.{size_of, size_said}
 use Rattle.pp_listing.specs.OctalDigits.{octal, short_octal}
 use Rattle.pp_listing.proofs.ListedLineLemmas.{fields_said}
-use Rattle.pp_listing.proofs.NumberLemmas.{processor_fits}
+use Rattle.pp_machine.proofs.ProcessorPlaces.{number_fits}
 use Rattle.pp_listing.proofs.OctalDigitLemmas.{octal_field, short_field}
 
 -- ---- numbers
@@ -54,7 +54,7 @@ central_words_read profile size a ws b s below small le =
 pub section_read : (profile : Profile) (size n : ℕ) (b s : Bool) → IsTrue (has_processor profile n) → line_behind profile size b s (fields_said (section n)) ≡ Ok (section n)
 unfolding line_behind keyword_of section_line
 section_read profile size n b s has =
-    let it = short_field 2 n (omega arith) (processor_fits n (processor_named profile n has)) in
+    let it = short_field 2 n (omega arith) (number_fits n (processor_named profile n has)) in
     let yes : has_processor profile n ≡ true = has in
     rw (it, yes) refl
 

@@ -21,11 +21,6 @@ use Rattle.pp_machine.specs.Processor.{Processor, no_processor}
 use Rattle.pp_machine.proofs.ProcessorPlaces as processor_places
 use Rattle.pp_machine.specs.ProcessorNumber.{names_processor, processor_count, processor_index, processor_number}
 
--- a processor's number is that of a channel
-pub channel_of_processor : (n : ℕ) → IsTrue (names_processor n) → IsTrue (names_channel n)
-unfolding names_processor names_channel
-channel_of_processor n named = grind (arith, named)
-
 -- a front of a list, at any place but the next
 same_in_front : (place i : ℕ) (bs : List Bool) → i ≢ place → get_or (take (place + 1) bs) i false ≡ get_or (take place bs) i false
 same_in_front place i bs other =
@@ -107,7 +102,7 @@ unfolding processors_started histories_started opened_where
 started_more p q m n named not_yet now same =
     let i = processor_index n in
     let j = channel_index n in
-    let channel = channel_of_processor n named in
+    let channel = processor_places.channel_of_processor n named in
     let f : ℕ → Processor = λ place. processor_started p m (processor_number place) in
     let f' : ℕ → Processor = λ place. processor_started q m (processor_number place) in
     let old : processor_of n (started p m) ≡ processor_of n m =
@@ -144,7 +139,7 @@ pub still_unused : (place : ℕ) (bs : List Bool) (m : MachineState) → place <
 unfolding processors_started histories_started opened_where
 still_unused place bs m below before =
     let n = processor_number place in
-    let channel = channel_of_processor n (processor_places.number_named place below) in
+    let channel = processor_places.channel_of_processor n (processor_places.number_named place below) in
     let g : ℕ → List Event = λ k. history_started (waits (take place bs)) m (channel_number k) in
     get_or-map-range_with_len g 0 channel_count (channel_index n) (channel_index n) [] (channel_places.place_below n channel) (omega arith)
     ∙ (ap (history_started (waits (take place bs)) m) (channel_places.number_of_place n channel)
@@ -160,7 +155,7 @@ none_behind xs ys none =
 pub headline_after_opening : (m : MachineState) (n : ℕ) (own : List Event) → IsTrue (names_processor n) → history_of n m ≡ [] → own ≡ Activate ∷ [] → IsLawful own → KeepsLaw own → IsMachine m → HoldsOnEachChannel (with_waiting n m)
 headline_after_opening m n own named unused is lawful law machine c names =
     let j = channel_index n in
-    let channel = channel_of_processor n named in
+    let channel = processor_places.channel_of_processor n named in
     let within : j < length m.histories = omega (arith, channel_places.place_below n channel, machine.channels) in
     let within_opened : j < length m.opened = omega (arith, channel_places.place_below n channel, machine.opened) in
     let after = with_waiting n m in

@@ -4,6 +4,8 @@ use mathlib.Core.Logic.{dite}
 use native.Mathlib.Decide.{dec_lt}
 use Rattle.std.specs.Prelude.{IsTrue}
 use Rattle.std.proofs.lemmas.Bool.{cases_eq, eq-eqb, ne_eqb}
+use Rattle.pp_channel.specs.ChannelNumber.{names_channel}
+use Rattle.pp_channel.proofs.ChannelPlaces as channel_places
 use Rattle.pp_machine.specs.ProcessorNumber.{processor_count, names_processor, processor_index, processor_number}
 
 -- a processor's place is one of the list
@@ -63,3 +65,16 @@ pub place_after : (n next : ℕ) → next ≡ processor_number ((processor_index
 place_after n next is below =
     let within : (processor_index n + 1) % processor_count ≡ processor_index n + 1 = omega arith in
     ap processor_index (is ∙ ap processor_number within) ∙ place_of_number (processor_index n + 1) (omega arith)
+
+-- a processor's number has two octal digits
+pub number_fits : (n : ℕ) → IsTrue (names_processor n) → n < 0o100
+unfolding names_processor
+number_fits n names = grind (arith)
+
+-- a processor's number is that of a channel
+pub channel_of_processor : (n : ℕ) → IsTrue (names_processor n) → IsTrue (names_channel n)
+unfolding names_processor
+channel_of_processor n names =
+    dite (dec_lt n 0o14)
+    (λ low. channel_places.named_low n low)
+    (λ no. channel_places.named_high n (grind (arith, no, names)) (grind (arith, names)))

@@ -1,5 +1,5 @@
 -- What a processor's next step is made of, told beforehand.
-use Rattle.std.specs.Prelude.{◌≡◌, ℕ, ◌&&◌, Bool, true, false, Option, None, Some, IsSome, nat_lt}
+use Rattle.std.specs.Prelude.{◌≡◌, ℕ, Bool, true, false, Option, None, Some, IsSome, nat_lt}
 use Rattle.pp_word.specs.OperationCodes.{code_of}
 use Rattle.pp_word.specs.declared.opcode.Opcode.{Opcode}
 use Rattle.pp_word.specs.declared.opcode.Opcode.TheVariants.{UJN, EXN, RPN}

@@ -32,9 +32,6 @@ impl Model for PpNo {
 }
 
 impl PpNo {
-    /// The processor with which the barrel begins.
-    pub const FIRST: PpNo = PpNo { place: 0 };
-
     /// The processor of this number, or nothing from 12 to 17 (octal) and from 32 on.
     #[tactic(auto, unfolding(crate::specs::ProcessorNumber::names_processor, crate::specs::ProcessorNumber::processor_number))]
     pub fn new(number: u8) -> Option<Self>
@@ -84,7 +81,7 @@ impl PpNo {
     }
 
     /// The processor at the next place of twenty; after the last comes the first.
-    #[tactic(auto, using(crate::proofs::ProcessorPlaces::place_below), unfolding(crate::specs::ProcessorNumber::names_processor, crate::specs::ProcessorNumber::processor_index, crate::specs::ProcessorNumber::processor_number))]
+    #[tactic(auto, using(crate::proofs::ProcessorPlaces::place_below))]
     pub fn next(self) -> Self
         ensures { result ≡ processor_number ((processor_index self + 1) % processor_count) }
     {
@@ -92,7 +89,7 @@ impl PpNo {
         if place < PROCESSORS {
             PpNo::at(place)
         } else {
-            PpNo::FIRST
+            PpNo::at(0)
         }
     }
 }

@@ -1,11 +1,9 @@
--- What stands in the tables of two digits. Each table is looked through by the checker.
+-- What stands in the table of two digits, which is looked through by the checker.
 use Rattle.std.proofs.Common.{◌≡◌, ℕ, ◌+◌, ◌*◌, ◌/◌, ◌%◌, ◌<◌, List, [], ◌∷◌, get_or, map, refl, sym, ap, ◌∙◌, arith}
 use Rattle.std.specs.List.{range_with_len}
 use Rattle.std.proofs.lemmas.List.FromFn.{get_or-map-range_with_len}
-use Rattle.pp_channel.specs.ChannelNumber.{channel_count, channel_number}
-use Rattle.pp_machine.specs.ProcessorNumber.{processor_count, processor_number}
-use Rattle.pp_text.specs.Numeral.{digits, octal}
-use Rattle.pp_text.specs.Pairs.{decimal_pairs, processor_pairs, channel_pairs}
+use Rattle.pp_text.specs.Numeral.{digits}
+use Rattle.pp_text.specs.Pairs.{decimal_pairs}
 
 -- two functions that agree below a bound, as lists
 agree_below : (f g : ℕ → ℕ) (n i : ℕ) → i < n → map f (range_with_len 0 n) ≡ map g (range_with_len 0 n) → f i ≡ g i
@@ -28,19 +26,3 @@ decimal_pair pairs i is within =
     ∙ both (get_or decimal_pairs (2 * i) 0) (48 + i / 10 % 10) (get_or decimal_pairs (2 * i + 1) 0) (48 + i % 10)
     (agree_below (λ k. get_or decimal_pairs (2 * k) 0) (λ k. 48 + k / 10 % 10) 100 i within refl)
     (agree_below (λ k. get_or decimal_pairs (2 * k + 1) 0) (λ k. 48 + k % 10) 100 i within refl)
-
-pub processor_pair : (pairs : List ℕ) (place : ℕ) → pairs ≡ processor_pairs → place < processor_count → pair_at pairs place ≡ octal 2 (processor_number place)
-unfolding processor_pairs processor_number
-processor_pair pairs i is within =
-    ap (λ ps. pair_at ps i) is
-    ∙ both (get_or processor_pairs (2 * i) 0) (48 + processor_number i / 8 % 8) (get_or processor_pairs (2 * i + 1) 0) (48 + processor_number i % 8)
-    (agree_below (λ k. get_or processor_pairs (2 * k) 0) (λ k. 48 + processor_number k / 8 % 8) processor_count i within refl)
-    (agree_below (λ k. get_or processor_pairs (2 * k + 1) 0) (λ k. 48 + processor_number k % 8) processor_count i within refl)
-
-pub channel_pair : (pairs : List ℕ) (place : ℕ) → pairs ≡ channel_pairs → place < channel_count → pair_at pairs place ≡ octal 2 (channel_number place)
-unfolding channel_pairs channel_number
-channel_pair pairs i is within =
-    ap (λ ps. pair_at ps i) is
-    ∙ both (get_or channel_pairs (2 * i) 0) (48 + channel_number i / 8 % 8) (get_or channel_pairs (2 * i + 1) 0) (48 + channel_number i % 8)
-    (agree_below (λ k. get_or channel_pairs (2 * k) 0) (λ k. 48 + channel_number k / 8 % 8) channel_count i within refl)
-    (agree_below (λ k. get_or channel_pairs (2 * k + 1) 0) (λ k. 48 + channel_number k % 8) channel_count i within refl)

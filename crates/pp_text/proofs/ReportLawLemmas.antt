@@ -9,6 +9,7 @@ use Rattle.std.proofs.lemmas.Option.{slice_get_cases}
 use Rattle.std.proofs.Math.Bool.{and-false}
 use Rattle.std.proofs.Math.Seq.{drop-append_seam, drop-nil, take-suc}
 use Rattle.pp_channel.specs.ChannelNumber.{names_channel}
+use Rattle.pp_channel.proofs.ChannelPlaces as channel_places
 use Rattle.pp_channel.specs.History.{IsLawful, active, waiting}
 use Rattle.pp_channel.specs.Merge.{Merges, history_on}
 use Rattle.pp_channel.specs.declared.event.Event.{Event}
@@ -16,6 +17,7 @@ use Rattle.pp_channel.proofs.LineKnowledge.{lawful_on}
 use Rattle.pp_machine.specs.Headline.{opening_history}
 use Rattle.pp_machine.specs.MachineState.{MachineState, is_opened}
 use Rattle.pp_machine.specs.ProcessorNumber.{processor_index, processor_number}
+use Rattle.pp_machine.proofs.ProcessorPlaces as processor_places
 use Rattle.pp_runner.specs.WorkerEnd.{HasEndNumber}
 use Rattle.pp_runner.specs.declared.end.End.{End}
 use Rattle.pp_runner.specs.declared.end.End.TheVariants.{Stopped, Fault, Steps, Patience, Memory, Worn}
@@ -30,7 +32,7 @@ use Rattle.pp_text.specs.TextLaw.{IsListed, IsToldAlike, is_used}
 use Rattle.pp_text.proofs.AuthorLawLemmas.{only_openings}
 use Rattle.pp_text.proofs.EventLineLemmas.{enumerate_push}
 use Rattle.pp_text.proofs.HistoryLawLemmas.{one_history}
-use Rattle.pp_text.proofs.TextLawLemmas.{Above, above-append, above_less, above_decimal, above_event, above_octal, cut, octal_tells, decimal_tells, unlines, unlines-append, AreLines, are_lines-append, lines_told, lines_below, said_in_lines, are_lines_below, heading, is_of, none_below, one_among, kept, left_out, one_is, same_event, processor_digits, channel_digits, named_digits, first_digit, channels, channel_body, channel_in_lines, plain_channels, unnamed, used_alike}
+use Rattle.pp_text.proofs.TextLawLemmas.{Above, above-append, above_less, above_decimal, above_event, above_octal, cut, octal_tells, decimal_tells, unlines, unlines-append, AreLines, are_lines-append, lines_told, lines_below, said_in_lines, are_lines_below, heading, is_of, none_below, one_among, kept, left_out, one_is, same_event, named_digits, first_digit, channels, channel_body, channel_in_lines, plain_channels, unnamed, used_alike}
 
 -- ---- the line of an event
 
@@ -50,7 +52,7 @@ told_alike t u number author event =
 same_told_tail : (t u : ToldEvent) → FitsItsLine t → FitsItsLine u → told_tail t ≡ told_tail u → (t.author ≡ u.author) × (t.event ≡ u.event)
 unfolding told_tail
 same_told_tail t u fits also e = (
-  octal_tells 2 t.author u.author (processor_digits t.author fits.author) (processor_digits u.author also.author) (ap (λ l. take 2 (drop 2 l)) e),
+  octal_tells 2 t.author u.author (processor_places.number_fits t.author fits.author) (processor_places.number_fits u.author also.author) (ap (λ l. take 2 (drop 2 l)) e),
   same_event t.event u.event fits.word also.word (ap (drop 5) e),
 )
 
@@ -538,7 +540,7 @@ tells_events : {Y Z : Type 0} (named others : List Bool) (one : Report Y) (other
     → printed_report named one ≡ printed_report others other → told_of c one ≡ told_of c other
 unfolding events_lines
 tells_events {Y} {Z} named others one other c is fits also e =
-    let within = channel_digits c is in
+    let within = channel_places.number_fits c is in
     let lines = sym (among_events named one c within) ∙ ap (filter (is_told c)) (same_lines named others one other e) ∙ among_events others other c within in
     same_tellings c (told_of c one) (told_of c other) fits also (where_true (names_channel c) (map (told_body c) (told_of c one)) (map (told_body c) (told_of c other)) is lines)
 
@@ -560,7 +562,7 @@ tells_state : {Y Z : Type 0} (named others : List Bool) (one : Report Y) (other 
     → printed_report named one ≡ printed_report others other → IsToldAlike (history_on c one.channels) (history_on c other.channels)
 unfolding channels
 tells_state {Y} {Z} named others one other c is small also e =
-    let within = channel_digits c is in
+    let within = channel_places.number_fits c is in
     used_alike (names_channel c) c (history_on c one.channels) (history_on c other.channels) is
     (sym (among_states named one c within) ∙ ap (filter (is_state c)) (same_lines named others one other e) ∙ among_states others other c within) small also
 

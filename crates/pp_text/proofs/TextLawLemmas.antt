@@ -10,6 +10,7 @@ use Rattle.std.proofs.lemmas.List.Elements.{All-append, All-cons, All-head, All-
 use Rattle.std.proofs.Math.Seq.{take-suc, take-append_seam, drop-append_seam}
 use Rattle.std.proofs.Math.Nat.{div-add-mod}
 use Rattle.pp_channel.specs.ChannelNumber.{names_channel}
+use Rattle.pp_channel.proofs.ChannelPlaces as channel_places
 use Rattle.pp_channel.specs.History.{HasTwelveBitWord, active, waiting, last_stretch}
 use Rattle.pp_channel.specs.Session.{puts, takes}
 use Rattle.pp_channel.specs.Merge.{history_on}
@@ -18,6 +19,7 @@ use Rattle.pp_channel.specs.declared.event.Event.TheVariants.{Activate, Disconne
 use Rattle.pp_machine.specs.MachineState.{MachineState, processor_of}
 use Rattle.pp_machine.specs.Processor.{Processor, HasFaultNumber}
 use Rattle.pp_machine.specs.ProcessorNumber.{names_processor, processor_index}
+use Rattle.pp_machine.proofs.ProcessorPlaces as processor_places
 use Rattle.pp_machine.specs.declared.pp_state.PpState.{PpState}
 use Rattle.pp_machine.specs.declared.pp_state.PpState.TheVariants.{Running, Stopped, Fault}
 use Rattle.pp_machine.specs.declared.trace.Trace.{Trace}
@@ -254,23 +256,14 @@ same_event e k _ _ same =
     let first : get_or (event_text e) 0 0 ≡ get_or (event_text k) 0 0 = ap (λ text. get_or text 0 0) same in
     absurd (omega (arith, first))
 
--- numbers of processors and channels have two octal digits
-pub processor_digits : (n : ℕ) → IsTrue (names_processor n) → n < 0o100
-unfolding names_processor
-processor_digits n is = grind (arith)
-
-pub channel_digits : (c : ℕ) → IsTrue (names_channel c) → c < 0o100
-unfolding names_channel
-channel_digits c is = grind (arith)
-
 same_tail : (e k : Trace) → IsTold e → IsTold k → event_tail e ≡ event_tail k → (e.pp ≡ k.pp) × (e.channel ≡ k.channel) × (e.event ≡ k.event)
 unfolding event_tail
 same_tail e k told other same =
     let pp : octal 2 e.pp ≡ octal 2 k.pp = ap (λ t. take 2 (drop 2 t)) same in
     let channel : octal 2 e.channel ≡ octal 2 k.channel = ap (λ t. take 2 (drop 7 t)) same in
     let event : event_text e.event ≡ event_text k.event = ap (drop 10) same in (
-      octal_tells 2 e.pp k.pp (processor_digits e.pp told.pp) (processor_digits k.pp other.pp) pp,
-      octal_tells 2 e.channel k.channel (channel_digits e.channel told.channel) (channel_digits k.channel other.channel) channel,
+      octal_tells 2 e.pp k.pp (processor_places.number_fits e.pp told.pp) (processor_places.number_fits k.pp other.pp) pp,
+      octal_tells 2 e.channel k.channel (channel_places.number_fits e.channel told.channel) (channel_places.number_fits k.channel other.channel) channel,
       same_event e.event k.event told.word other.word event,
     )
 
@@ -649,7 +642,7 @@ left_true true b is = refl
 left_true false b is = is
 
 pub named_digits : (named : List Bool) (n : ℕ) → IsTrue (is_named named n) → n < 0o100
-named_digits named n is = processor_digits n (left_true (names_processor n) (slice_index_or named (processor_index n) false) is)
+named_digits named n is = processor_places.number_fits n (left_true (names_processor n) (slice_index_or named (processor_index n) false) is)
 
 -- which processors are named: those with a line
 same_name : (a b : Bool) (l k : List ℕ) → (if a then l ∷ [] else []) ≡ (if b then k ∷ [] else []) → a ≡ b
@@ -680,7 +673,7 @@ text_tells named others one other fits also e =
       processors = λ n is.
           let too : IsTrue (is_named others n) = sym (names n) ∙ is in
           tells_processor named others one other n (named_digits named n is) is too (fits.processors n is) (also.processors n too) e;
-      channels = λ c is. tells_channel named others one other c (channel_digits c is) is (fits.channels c is) (also.channels c is) e;
+      channels = λ c is. tells_channel named others one other c (channel_places.number_fits c is) is (fits.channels c is) (also.channels c is) e;
     }
 
 -- ---- what is printed fits

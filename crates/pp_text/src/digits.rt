@@ -2,12 +2,10 @@
 
 ghost use Rattle.std.specs.Prelude.{◌≡◌, ◌+◌, ◌<◌, ◌≤◌, ◌/◌, ◌%◌, ◌^◌, ◌++◌, length};
 ghost use Rattle.pp_text.specs.Numeral.{digits, octal, unpadded};
-ghost use Rattle.pp_text.specs.Pairs.{channel_pairs, decimal_pairs, processor_pairs};
+ghost use Rattle.pp_text.specs.Pairs.{decimal_pairs};
 ghost use Rattle.pp_text.specs.Piece.{HasRoom};
 
 use crate::piece::Piece;
-use pp_channel::ChannelNo;
-use pp_machine::PpNo;
 
 /// The least count that has more than six decimal digits.
 const SEVEN_DIGITS: u64 = 1_000_000;
@@ -18,8 +16,15 @@ pub(crate) fn octal1(n: u8) -> [u8; 1]
     [b'0' + n % 8]
 }
 
-// Each event's line has some of these fields: the digits of a word are put together in one register, the
-// others stand in tables.
+// Each event's line has some of these fields: octal digits are put together in one register, decimal
+// ones stand in a table.
+
+pub(crate) fn octal2(n: u8) -> [u8; 2]
+    ensures { result ≡ octal 2 n }
+{
+    let n = u16::from(n);
+    (0x3030 + n / 8 % 8 + n % 8 * 0x100).to_le_bytes()
+}
 
 pub(crate) fn octal4(n: u16) -> [u8; 4]
     ensures { result ≡ octal 4 n }
@@ -27,26 +32,6 @@ pub(crate) fn octal4(n: u16) -> [u8; 4]
     let n = u32::from(n);
     let first = 0x3030_3030 + n / 8 / 8 / 8 % 8 + n / 8 / 8 % 8 * 0x100;
     (first + n / 8 % 8 * 0x1_0000 + n % 8 * 0x100_0000).to_le_bytes()
-}
-
-/// The number of a processor in two octal digits.
-#[tactic(auto, using(crate::proofs::PairLemmas::processor_pair))]
-pub(crate) fn processor_digits(n: PpNo) -> [u8; 2]
-    ensures { result ≡ octal 2 n }
-{
-    let pairs = processor_pairs();
-    let first = 2 * n.index();
-    [pairs[first], pairs[first + 1]]
-}
-
-/// The number of a channel in two octal digits.
-#[tactic(auto, using(crate::proofs::PairLemmas::channel_pair))]
-pub(crate) fn channel_digits(c: ChannelNo) -> [u8; 2]
-    ensures { result ≡ octal 2 c }
-{
-    let pairs = channel_pairs();
-    let first = 2 * c.index();
-    [pairs[first], pairs[first + 1]]
 }
 
 pub(crate) fn octal6(n: u32) -> [u8; 6]
@@ -121,20 +106,4 @@ fn decimal_pairs() -> [u8; 200]
     *b"00010203040506070809101112131415161718192021222324252627282930313233343536373839\
       40414243444546474849505152535455565758596061626364656667686970717273747576777879\
       8081828384858687888990919293949596979899"
-}
-
-/// The two octal digits of each processor's number, in order of place.
-#[tactic(auto, unfolding(crate::specs::Pairs::processor_pairs, pp_machine::specs::ProcessorNumber::processor_number))]
-fn processor_pairs() -> [u8; 40]
-    ensures { result ≡ processor_pairs }
-{
-    *b"0001020304050607101120212223242526273031"
-}
-
-/// The two octal digits of each channel's number, in order of place.
-#[tactic(auto, unfolding(crate::specs::Pairs::channel_pairs, pp_channel::specs::ChannelNumber::channel_number))]
-fn channel_pairs() -> [u8; 48]
-    ensures { result ≡ channel_pairs }
-{
-    *b"000102030405060710111213202122232425262730313233"
 }

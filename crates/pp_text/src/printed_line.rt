@@ -11,9 +11,7 @@ ghost use Rattle.pp_text.specs.PrintedReport.{end_text, worker_line};
 ghost use Rattle.pp_text.specs.ReportLaw.{FitsItsEnd, FitsItsLine, shown_end};
 ghost use Rattle.pp_text.specs.TextLaw.{IsListed, IsShown, IsTold};
 
-use crate::digits::{
-    channel_digits, decimal6, octal1, octal4, octal6, processor_digits, push_upper_digits,
-};
+use crate::digits::{decimal6, octal1, octal2, octal4, octal6, push_upper_digits};
 use crate::piece::Piece;
 use pp_channel::{Channel, ChannelNo, Event};
 use pp_machine::{Pp, PpNo, PpState, Trace};
@@ -46,7 +44,7 @@ pub(crate) fn push_numbered_event(
     ensures text { piece.new ≡ piece.old ++ (codes "CH" ++ octal 2 c ++ codes " " ++ decimal number ++ codes " PP" ++ octal 2 author ++ codes " " ++ event_text event ++ line_end) }
     ensures fits { FitsItsLine (record { number = number; author = author; event = event }) }
 {
-    let [c0, c1] = channel_digits(c);
+    let [c0, c1] = octal2(c.get());
     piece.push(&[b'C', b'H', c0, c1, b' ']);
     let lower = push_upper_digits(piece, number);
     piece.push(&author_heading(lower, author));
@@ -60,7 +58,7 @@ fn author_heading(number: u32, author: PpNo) -> [u8; 12]
     ensures processor { IsTrue (names_processor author) }
 {
     let [n0, n1, n2, n3, n4, n5] = decimal6(number);
-    let [p0, p1] = processor_digits(author);
+    let [p0, p1] = octal2(author.get());
     [n0, n1, n2, n3, n4, n5, b' ', b'P', b'P', p0, p1, b' ']
 }
 
@@ -88,8 +86,8 @@ fn event_heading(turn: u32, n: PpNo, c: ChannelNo) -> [u8; 17]
     ensures channel { IsTrue (names_channel c) }
 {
     let [t0, t1, t2, t3, t4, t5] = decimal6(turn);
-    let [p0, p1] = processor_digits(n);
-    let [c0, c1] = channel_digits(c);
+    let [p0, p1] = octal2(n.get());
+    let [c0, c1] = octal2(c.get());
     [
         t0, t1, t2, t3, t4, t5, b' ', b'P', b'P', p0, p1, b' ', b'C', b'H', c0, c1, b' ',
     ]
@@ -169,7 +167,7 @@ fn processor_heading(n: PpNo, pp: &Pp) -> [u8; 21]
     ensures p { pp.now.p < 2 ^ 12 }
     ensures a { pp.now.a < 2 ^ 18 }
 {
-    let [n0, n1] = processor_digits(n);
+    let [n0, n1] = octal2(n.get());
     let [p0, p1, p2, p3] = octal4(pp.p().get());
     let [a0, a1, a2, a3, a4, a5] = octal6(pp.a().get());
     [
@@ -196,7 +194,7 @@ pub(crate) fn push_channel<A: Allocator>(piece: &mut Piece, c: ChannelNo, channe
     if channel.history().is_empty() {
         return;
     }
-    let [c0, c1] = channel_digits(c);
+    let [c0, c1] = octal2(c.get());
     piece.push(&[b'C', b'H', c0, c1, b' ']);
     match channel.waiting() {
         Some(word) => {

@@ -15,9 +15,8 @@ pub fn channel(number: u8) -> Result<ChannelNo, &'static str> {
 }
 
 /// Processor 0.
-#[tactic(auto, unfolding(pp_machine::specs::ProcessorNumber::names_processor, pp_machine::specs::ProcessorNumber::processor_number))]
 pub fn first() -> PpNo {
-    PpNo::FIRST
+    PpNo::at(0)
 }
 
 /// The processor of this number.

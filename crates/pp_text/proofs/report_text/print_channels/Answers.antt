@@ -6,7 +6,8 @@ use Rattle.pp_text.specs.TextLaw.{IsListed}
 use Rattle.pp_text.specs.PrintedText.{used_channel_line}
 use Rattle.pp_text.proofs.TextWriterLemmas.{prints_nothing, prints_on}
 use Rattle.pp_text.proofs.TextLemmas.{nothing_said, said_goes_on}
-use Rattle.pp_text.proofs.TextLawLemmas.{below_goes_on, channel_digits}
+use Rattle.pp_channel.proofs.ChannelPlaces.{number_fits}
+use Rattle.pp_text.proofs.TextLawLemmas.{below_goes_on}
 use Rattle.pp_text.proofs.report_text.print_channels.Goals as goal
 
 pub loop-number-init : goal.loop-number-init
@@ -19,4 +20,4 @@ loop-number-preserved g c = (
 )
 
 pub returns-clause-fits : goal.returns-clause-fits
-returns-clause-fits g c = λ n is. let low = channel_digits n is in c.loop-number.invariant.1 n (omega (arith, low)) is
+returns-clause-fits g c = λ n is. let low = number_fits n is in c.loop-number.invariant.1 n (omega (arith, low)) is

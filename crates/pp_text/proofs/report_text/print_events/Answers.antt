@@ -8,7 +8,8 @@ use Rattle.pp_text.specs.PrintedReport.{channel_events}
 use Rattle.pp_text.specs.ReportLaw.{FitsItsLine, told_events}
 use Rattle.pp_text.proofs.TextWriterLemmas.{prints_nothing, prints_on}
 use Rattle.pp_text.proofs.TextLemmas.{nothing_said, said_goes_on}
-use Rattle.pp_text.proofs.TextLawLemmas.{below_goes_on, channel_digits}
+use Rattle.pp_channel.proofs.ChannelPlaces.{number_fits}
+use Rattle.pp_text.proofs.TextLawLemmas.{below_goes_on}
 use Rattle.pp_text.proofs.report_text.print_events.Goals as goal
 
 pub loop-number-init : goal.loop-number-init
@@ -27,4 +28,4 @@ returns-clause-text g c workers are =
     subst (λ (k : ℕ). Prints g.W.Write.contents c.args.text.now c.loop-number.text (each_below k (channel_events workers c.args.channels.now))) (omega (arith, c.loop-number-test.false, c.loop-number.auto.number-end)) (c.loop-number.invariant workers are).0
 
 pub returns-clause-fits : goal.returns-clause-fits
-returns-clause-fits g c workers are = λ n is. let low = channel_digits n is in (c.loop-number.invariant workers are).1 n (omega (arith, low)) is
+returns-clause-fits g c workers are = λ n is. let low = number_fits n is in (c.loop-number.invariant workers are).1 n (omega (arith, low)) is
