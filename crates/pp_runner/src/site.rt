@@ -10,4 +10,6 @@ pub struct Site<A: Allocator> {
     pub alloc: A,
     pub central: LockedCentral<A>,
     pub limits: Limits,
+    /// Whether all workers share one core, so that a held one waits in vain as long as it keeps it.
+    pub one_core: bool,
 }
