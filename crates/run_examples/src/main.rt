@@ -74,15 +74,15 @@ const BY_CHANCE: [(&str, &str, &str); 2] = [
     ("disconnect_race", "text", "other"),
 ];
 
-/// The words that run a deck by threads, with the most patience there is: a thread that loses its core
-/// for a while costs the others tries, and no text may depend on that.
+/// The words that run a deck by threads. A processor that waits gives its core away again and again,
+/// so a million tries last until the others have done their work.
 const THREADS: [&str; 6] = [
     "ppsim",
     "threads",
     "--steps",
     "100",
     "--patience",
-    "4294967295",
+    "1000000",
 ];
 
 /// The same of twenty processors.
@@ -94,7 +94,7 @@ const THREADS_OF_TWENTY: [&str; 8] = [
     "--steps",
     "100",
     "--patience",
-    "4294967295",
+    "1000000",
 ];
 
 fn main(rt: HostRuntime) -> anyhow::Result<()> {
