@@ -2,7 +2,7 @@
 
 use std::alloc::Global;
 
-/// A command, and the lines that the page has behind it.
+/// A command, and the lines that the page has after it.
 #[derive(Debug, Drop)]
 pub struct Shown {
     pub command: String,

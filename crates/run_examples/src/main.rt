@@ -28,7 +28,7 @@ const IN_THE_BARREL: [(&str, &str); 14] = [
     ("dead_start", "1600"),
 ];
 
-/// The same on twenty processors, in twice the turns, and the lines that stand behind their texts then:
+/// The same on twenty processors, in twice the turns, and the lines that follow their texts then:
 /// the channels on which the further processors wait.
 const ON_TWENTY: [(&str, &str, &str); 14] = [
     ("handoff", "80", ""),
@@ -133,7 +133,7 @@ fn main(rt: HostRuntime) -> anyhow::Result<()> {
 }
 
 /// Says whether twenty processors give the text of ten with the turns of its events changed, and these
-/// lines behind it.
+/// lines after it.
 fn compare_on_twenty<R: Files + Print + Alloc<A = Global> + Threads + Wait + Sync>(
     rt: &R,
     name: &str,
