@@ -45,7 +45,7 @@ fn run_on<R: AllocGlobal + Threads + Wait + Sync>(
     )
 }
 
-/// A fault of the reader comes before every fault of the deck that it gave the front of, and no error is
+/// A fault of the reader comes before every fault of the deck that it gave the first part of, and no error is
 /// tried again.
 #[test]
 fn readers_that_give_up(rt: HostRuntime) {
@@ -146,7 +146,7 @@ fn flushes(rt: HostRuntime) {
 }
 
 /// An output that fills up at the end of the text is not noticed, and one that fails is not touched
-/// where the deck is refused; where nothing can be told, the status is the same.
+/// where the deck is refused; where nothing can be reported, the status is the same.
 const UNTOLD: [(&str, &str, usize, u8); 5] = [
     ("40", HANDOFF, 149, 0),
     ("40", "PP 12", 149, 1),
@@ -187,7 +187,7 @@ fn errors_that_are_not_told(rt: HostRuntime) {
     }
 }
 
-/// The status of a run on so many spaces, behind which the reader gives up, and how often it did.
+/// The status of a run on this many spaces, after which the reader gives up, and how often it did.
 fn run_on_spaces<R: AllocGlobal + Threads + Wait + Sync>(
     rt: &R,
     count: usize,
@@ -198,7 +198,7 @@ fn run_on_spaces<R: AllocGlobal + Threads + Wait + Sync>(
     Ok((status, errors))
 }
 
-/// The byte past the longest deck is the last that is read: an error behind it is not met.
+/// The byte past the longest deck is the last that is read: an error after it is not met.
 #[test]
 fn reader_that_gives_up_late(rt: HostRuntime) -> Result<(), Fail> {
     assert_eq!(rt; run_on_spaces(&rt, 1_048_577)?, (1, 0));

@@ -93,7 +93,7 @@ const UNKNOWN_LINES: &[(u32, &str)] = &[
     (1, "words\nCENTRAL 10"),
 ];
 
-/// Fields that are not of as many octal digits as may be.
+/// Fields that are not of as many octal digits as allowed.
 const BAD_DIGITS: &[(u32, &str)] = &[
     (2, "PP 0\n0100 0109"),
     (2, "PP 0\nSTART 0109 0 0"),
@@ -140,7 +140,7 @@ const BAD_DIGITS: &[(u32, &str)] = &[
     (2, "PP 0\n0 /"),
     (2, "PP 0\n0 :"),
     (3, "PP 0\r\n\r\n8"),
-    // Digits come before a range, and a field before the fields behind it.
+    // Digits come before a range, and a field before the fields after it.
     (1, "CM 10000 8"),
     (1, "CM 7777 1 8"),
     (1, "CM 9 9"),
@@ -209,7 +209,7 @@ const NO_PROCESSORS: &[(u32, &str)] = &[
     (2, "DEAD\nSTART 0"),
 ];
 
-/// Words behind place 7777: nothing turns round.
+/// Words past place 7777: nothing wraps.
 const PAST_ENDS: &[(u32, &str)] = &[
     (2, "PP 0\n7776 0001 0002 0003"),
     (2, "PP 0\n7777 0001 0002"),

@@ -1,4 +1,4 @@
-//! Decks as long as may be, and longer: lines, fields and comments of a million characters, and lines
+//! Decks as long as allowed, and longer: lines, fields and comments of a million characters, and lines
 //! by the hundred thousand.
 
 use crate::loaded::Loaded::{self, Named, Started, Word};
@@ -10,7 +10,7 @@ use std::alloc::Global;
 use std::test::Fail;
 use test_bench::first;
 
-/// A long deck: its front, a piece that follows so many times, and its end.
+/// A long deck: its beginning, a piece that follows this many times, and its end.
 #[derive(Clone, Copy)]
 struct Long(&'static [u8], &'static [u8], u32, &'static [u8]);
 

@@ -1,4 +1,4 @@
-//! What comes of decks that are odd, malformed or as long as may be, and of devices that fail: tests
+//! What comes of decks that are odd, malformed or as long as allowed, and of devices that fail: tests
 //! whose answers are worked by hand from the rules of decks.
 #![tactic(auto)]
 

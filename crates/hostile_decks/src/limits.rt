@@ -43,7 +43,7 @@ START 0100
 /// How long a deck may be.
 const LONGEST: usize = 1_048_576;
 
-/// What stands behind the events. Each taker's memory has become a copy of its partner's, so both stop
+/// What comes after the events. Each taker's memory has become a copy of its partner's, so both stop
 /// at the same place.
 const END: &str = "\
 PP00 P=0105 A=000000 STOPPED

@@ -1,4 +1,4 @@
-//! What a deck loads, told fact by fact.
+//! What a deck loads, fact by fact.
 
 use pp_channel::{ChannelNo, Event};
 use pp_machine::{Block, BlockKind, Central, PpNo, PpState, Profile};

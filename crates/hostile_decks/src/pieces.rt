@@ -79,7 +79,7 @@ const ROOMS: [usize; 11] = [
     0, 1, 8151, 8168, 8169, 8170, 8192, 8193, 16_338, 40_000, 42_040,
 ];
 
-/// A writer that fails in this way is not called again, and has the front of the text that it took.
+/// A writer that fails in this way is not called again, and has what it took of the text.
 fn expect_front<R: AllocGlobal + Threads + Wait + Sync + Abort>(
     rt: &R,
     words: &[&str],

@@ -347,7 +347,7 @@ PP 3
 7777 2001           * LDC 011234
 ",
     ),
-    // Twenty processors: those past 11 (octal) come behind the others, and jump on channels past 13.
+    // Twenty processors: those past 11 (octal) come after the others, and jump on channels past 13.
     (
         Profile::Twenty,
         "\

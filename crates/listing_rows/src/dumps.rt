@@ -178,7 +178,7 @@ START 0102 000003
     (Profile::Ten, "", 0, "CENTRAL 10000\n"),
 ];
 
-/// The deck of a text after so many turns.
+/// The deck of a text after this many turns.
 fn after(alloc: Global, profile: Profile, text: &[u8], turns: u32) -> Result<Deck<Global>, Fail> {
     let mut deck = read_deck(alloc, profile, text).map_err(|_| "a deck without faults")?;
     deck.machine.run_barrel(turns).map_err(|_| "ample memory")?;
@@ -197,7 +197,7 @@ fn dumps(rt: HostRuntime) -> Result<(), Fail> {
     Ok(())
 }
 
-/// Decks whose machine is not between programs after so many turns, and what is told of it.
+/// Decks whose machine is not between programs after this many turns, and what is reported of it.
 const GOING_ON: [Row; 9] = [
     (Profile::Ten, "DEAD\nPP 0\n", 0, "PP01 within a block"),
     (

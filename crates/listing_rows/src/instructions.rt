@@ -7,7 +7,7 @@ use pp_machine::Profile;
 use std::alloc::Global;
 use std::test::Fail;
 
-/// Words with d = 05, and the listing of their lines behind the heading.
+/// Words with d = 05, and the listing of their lines after the heading.
 const EACH_CODE: &str = "\
 0100 0005           * PSN 05
 0101 0105 4321      * LJM 4321,05

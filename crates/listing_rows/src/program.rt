@@ -153,8 +153,8 @@ pub(crate) const FAILURES: [(usize, Failure); 3] = [
     (10_000, Failure::Flush),
 ];
 
-/// The status of a command whose output fails, whether its standard error tells so, whether the
-/// output took a front of this text and nothing else, and how often it failed.
+/// The status of a command whose output fails, whether its standard error says so, whether the
+/// output took a first part of this text and nothing else, and how often it failed.
 pub(crate) fn onto<R: AllocGlobal + Threads + Wait + Sync>(
     rt: &R,
     words: &[&str],

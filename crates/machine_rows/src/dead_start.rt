@@ -81,7 +81,7 @@ fn a_waiting_processor(rt: HostRuntime) -> Result<(), Fail> {
     Ok(())
 }
 
-/// A processor that the machine of ten lacks is not told to wait.
+/// A processor that the machine of ten lacks is not made to wait.
 #[test]
 fn none_waits_behind_the_barrel(rt: HostRuntime) -> Result<(), Fail> {
     let machine = dead(rt.alloc(), Profile::Ten, &[0o0300], &[])?;

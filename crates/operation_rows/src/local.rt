@@ -61,7 +61,7 @@ const ROWS: [Row; 66] = [
     ([0o1601, 0o0000], 0o777776, 0o1001, 0o000000, Running, None),
     ([0o1755, 0o0000], 0o000054, 0o1001, 0o777776, Running, None),
     ([0o1700, 0o0000], 0o777777, 0o1001, 0o777777, Running, None),
-    // Operations with d in front of m.
+    // Operations with d before m.
     ([0o2065, 0o4321], 0o123477, 0o1002, 0o654321, Running, None),
     ([0o2165, 0o4321], 0o123477, 0o1002, 0o000021, Running, None),
     ([0o2177, 0o7777], 0o777777, 0o1002, 0o777777, Running, None),

@@ -24,7 +24,7 @@ channel_index number = if nat_lt number 0o14 then number else if nat_lt number 0
 unfoldable pub channel_number : ℕ → ℕ
 channel_number place = if nat_lt place 0o14 then place else place + 4
 
--- the number of a channel tells its place
+-- the number of a channel gives its place
 pub place_again : (place : ℕ) → IsTrue (names_channel (channel_number place)) → channel_index (channel_number place) ≡ place
 unfolding names_channel channel_number channel_index
 place_again place names = grind (arith)

@@ -20,8 +20,8 @@ pub record AreHistories (histories : List (List Event)) : Type 0 where
   pub lawful : All IsLawful histories
   pub twelve_bits : All HasTwelveBitWords histories
 
--- An event in a log is the one at its number of the history h; a look shows the flags after so many
--- events of h.
+-- An event in a log is the one at its number of the history h; a look shows the flags after that
+-- many events of h.
 abbrev pub IsTrueAt : List Event → ℕ → Seen → Type 0
 IsTrueAt h number (Did e) = slice_get h number ≡ Some e
 IsTrueAt h number (Saw f) = (number ≤ length h) × (flags_of (take number h) ≡ f)
@@ -29,16 +29,16 @@ IsTrueAt h number (Saw f) = (number ≤ length h) × (flags_of (take number h) �
 abbrev pub IsTrueOf : List (List Event) → Entry → Type 0
 IsTrueOf histories entry = IsTrueAt (history_on entry.channel histories) entry.number entry.what
 
--- whether an entry tells the event of channel c with this number
+-- whether an entry records the event of channel c with this number
 abbrev pub tells_event : ℕ → ℕ → Entry → Bool
 tells_event c number entry = is_event entry.what && (entry.channel == c) && (entry.number == number)
 
--- how often a log tells that event
+-- how often a log records that event
 abbrev pub times_told : ℕ → ℕ → List Entry → ℕ
 times_told c number log = count_by (tells_event c number) log
 
 -- A log, or several end to end, merges to the histories over the opening histories where, for each
--- channel, it tells each event after the opening ones once, at its number, and no other; the
+-- channel, it records each event after the opening ones once, at its number, and no other; the
 -- history begins with the opening one; and every entry is true of the histories.
 pub record Merges (opening : ℕ → List Event) (histories : List (List Event)) (log : List Entry) : Type 0 where
   pub once : (c number : ℕ) → length (opening c) ≤ number → number < length (history_on c histories)
@@ -48,7 +48,7 @@ pub record Merges (opening : ℕ → List Event) (histories : List (List Event))
   pub begins : (c : ℕ) → IsPrefix (opening c) (history_on c histories)
   pub entries_true : All (IsTrueOf histories) log
 
--- A log of opening histories: it tells each of their events once, at its number, and no other, and every
+-- A log of opening histories: it records each of their events once, at its number, and no other, and every
 -- entry is true of them.
 pub record IsOpeningLog (opening : ℕ → List Event) (log : List Entry) : Type 0 where
   pub once : (c number : ℕ) → number < length (opening c) → times_told c number log ≡ 1

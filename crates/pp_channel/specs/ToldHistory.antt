@@ -1,4 +1,4 @@
--- How the histories of the channels are taken from a log that tells them whole.
+-- How the histories of the channels are taken from a log that records them whole.
 use Rattle.std.specs.Prelude.{◌≡◌, ℕ, List, [], length, slice_index_or, slice_set}
 use Rattle.pp_channel.specs.declared.event.Event.{Event}
 use Rattle.pp_channel.specs.declared.entry.Entry.{Entry}
@@ -8,7 +8,7 @@ use Rattle.pp_channel.specs.ChannelNumber.{channel_index}
 use Rattle.pp_channel.specs.Merge.{AreHistories, Merges, no_opening, history_on}
 use Rattle.pp_channel.specs.RisingLog.{seen_on}
 
--- the log tells these histories whole, and their lengths are the numbers seen
+-- the log records these histories whole, and their lengths are the numbers seen
 pub record IsToldBy (log : List Entry) (seen : List ℕ) (histories : List (List Event)) : Type 0 where
   pub sound : AreHistories histories
   pub merged : Merges no_opening histories log

@@ -1,4 +1,4 @@
-//! A log with room for so many entries.
+//! A log with room for this many entries.
 
 ghost use Rattle.std.specs.Prelude.{◌≡◌, ◌<◌, ◌++◌, [], ◌∷◌, true, IfOk, OnOk, OnErr};
 ghost use Rattle.pp_channel.specs.declared.entry.Seen.TheVariants.{Did, Saw};

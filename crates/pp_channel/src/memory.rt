@@ -1,9 +1,9 @@
-//! The refusal for want of memory.
+//! The refusal for lack of memory.
 
 use std::alloc::{AllocError, AllocFailed};
 use thiserror::Error;
 
-/// A growth was refused: refusal 1 of a channel.
+/// A growth was refused.
 #[derive(Clone, Copy, Debug, PartialEq, Eq, Error)]
 #[error("out of memory")]
 pub struct Memory;

@@ -1,4 +1,4 @@
-//! The channels, of a log that tells their histories whole.
+//! The channels, of a log that records their histories whole.
 
 ghost use Rattle.std.specs.Prelude.{◌≡◌, ℕ, ◌<◌, List, [], length, IfOk, slice_index_or, slice_set};
 ghost use Rattle.pp_channel.specs.ChannelNumber.{channel_count};
@@ -14,7 +14,7 @@ use std::alloc::Allocator;
 use std::marker::Model;
 use std::{array, mem};
 
-/// The events of a channel, each put at its number as a log tells it. Contracts see their list.
+/// The events of a channel, each put at its number as a log records it. Contracts see their list.
 #[derive(Drop)]
 struct EventsByNumber<A: Allocator> {
     events: Vec<Event, A>,
@@ -30,7 +30,7 @@ impl<A: Allocator> Model for EventsByNumber<A> {
 }
 
 impl<A: Allocator> EventsByNumber<A> {
-    /// As many events, of which none is told yet.
+    /// As many events, of which none is placed yet.
     fn untold(alloc: A, count: u64) -> Result<Self, Memory>
         ensures { IfOk result (λ untold. length untold ≡ count) }
     {
@@ -50,7 +50,7 @@ impl<A: Allocator> EventsByNumber<A> {
     }
 }
 
-/// All channels in order, with the histories that the log tells. Their lengths are the numbers seen.
+/// All channels in order, with the histories that the log records. Their lengths are the numbers seen.
 pub fn told_channels<A: Allocator + Copy>(
     alloc: A,
     log: &[Entry],
@@ -105,7 +105,7 @@ fn told_histories<A: Allocator + Copy>(
     Ok(told)
 }
 
-/// As many events of each channel as were seen, of which none is told yet.
+/// As many events of each channel as were seen, of which none is placed yet.
 fn untold_histories<A: Allocator + Copy>(
     alloc: A,
     seen: &[u64; CHANNELS],

@@ -1,4 +1,4 @@
--- What holds of each loaded deck, told by its lines one beside another: what the last line sets, holds.
+-- What holds of each loaded deck, stated by its lines one beside another: what the last line sets, holds.
 use Rattle.std.specs.Prelude.{◌≡◌, ℕ, ◌+◌, ◌<◌, ◌↔◌, IsTrue, Bool, true, false, List, [], length, None, Some, slice_get, slice_index, slice_index_or}
 use Rattle.pp_word.specs.Address.{place_count}
 use Rattle.pp_channel.specs.ChannelNumber.{channel_count, names_channel}

@@ -39,7 +39,7 @@ keyword_of field =
     else if is_digit (slice_index field 0) then Words
     else Unknown
 
--- ---- the fields behind it
+-- ---- the fields after it
 
 infixl 10 ◌>>=◌
 -- one thing after another, from left to right: the first flaw is the flaw of all
@@ -47,7 +47,7 @@ abbrev pub ◌>>=◌ : {A B : Type 0} → Result A Flaw → (A → Result B Flaw
 (Ok x) >>= next = next x
 (Err flaw) >>= next = Err flaw
 
--- a number of at most so many digits, which must be there, and what the fields behind it say
+-- a number of at most this many digits, which must be there, and what the fields after it say
 abbrev pub number_then : ℕ → Fields → (ℕ → Fields → Result Line Flaw) → Result Line Flaw
 number_then most [] next = Err UnknownLine
 number_then most (field ∷ fields) next = number most field >>= λ n. next n fields
@@ -57,7 +57,7 @@ abbrev pub ends_with : Line → Fields → Result Line Flaw
 ends_with line [] = Ok line
 ends_with line (field ∷ fields) = Err UnknownLine
 
--- words of at most so many digits, in places from the first on; a word whose place is not below the end is past it
+-- words of at most this many digits, in places from the first on; a word whose place is not below the end is past it
 unfoldable pub words_in : ℕ → ℕ → ℕ → Flaw → Fields → Result (List ℕ) Flaw
 words_in most place end past [] = Ok []
 words_in most place end past (field ∷ fields) = do
@@ -103,7 +103,7 @@ line_by profile size Unknown field fields = Err UnknownLine
 
 -- ---- where a line stands
 
--- why a line with this keyword may not stand behind others, of which some have fields or one begins with `PP`:
+-- why a line with this keyword may not come after others, of which some have fields or one begins with `PP`:
 -- `CENTRAL` comes before every line with fields, and starts and words belong to the section of a processor
 abbrev pub misplaced : Bool → Bool → Keyword → Option Flaw
 misplaced is_behind_fields is_in_section Central = if is_behind_fields then Some UnknownLine else None
@@ -116,7 +116,7 @@ abbrev pub unless_misplaced : Option Flaw → Result Line Flaw → Result Line F
 unless_misplaced (Some flaw) line = Err flaw
 unless_misplaced None line = line
 
--- what a line says behind such lines, for a machine of this profile with a central memory of this size
+-- what a line says after such lines, for a machine of this profile with a central memory of this size
 unfoldable pub line_behind : Profile → ℕ → Bool → Bool → Fields → Result Line Flaw
 line_behind profile size is_behind_fields is_in_section [] = Ok nothing
 line_behind profile size is_behind_fields is_in_section (field ∷ fields) =

@@ -22,7 +22,7 @@ unfoldable pub before_lines : Profile → ℕ → Progress
 before_lines profile size =
     record { machine = new_machine profile size; named = replicate processor_count false; current = None; asks_dead_start = false }
 
--- a memory in which words come to a place and those behind it
+-- a memory in which words come to a place and those after it
 abbrev pub with_words : ℕ → List ℕ → List ℕ → List ℕ
 with_words place [] memory = memory
 with_words place (w ∷ ws) memory = with_words (place + 1) ws (slice_set memory place w)
@@ -79,7 +79,7 @@ after_line progress line = record {
 unfoldable pub after_lines : Profile → ℕ → List Line → Progress
 after_lines profile size lines = fold after_line (before_lines profile size) lines
 
--- what lines set and name, the section that they end in, and whether they ask for dead start, told without an order of reading
+-- what lines set and name, the section that they end in, and whether they ask for dead start, without an order of reading
 unfoldable pub progress_of : Profile → ℕ → List Line → Progress
 progress_of profile size lines = record {
   machine = (set_by profile size lines).machine;

@@ -38,7 +38,7 @@ fields_in text = take_while (λ field. not (is_comment field)) (filter is_nonemp
 abbrev pub fields_of : List ℕ → Fields
 fields_of line = fields_in (without_return line)
 
--- the lines of a text, each as its fields. What stands behind the last LF is a line too
+-- the lines of a text, each as its fields. What comes after the last LF is a line too
 unfoldable pub lines_of : List ℕ → List Fields
 lines_of text = map fields_of (slice_split is_line_feed text)
 

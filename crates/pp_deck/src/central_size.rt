@@ -28,7 +28,7 @@ pub(crate) fn central_size(text: &[u8]) -> u32
     DEFAULT_SIZE
 }
 
-/// The size that the first line with fields asks for: its first field, and those behind it.
+/// The size that the first line with fields asks for: its first field, and those after it.
 fn size_by_line(first: &[u8], fields: &mut Fields) -> u32
     ensures value { result ≡ size_by (keyword_of first.now) fields.old }
     ensures range { IsCentralSize result }

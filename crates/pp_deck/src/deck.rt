@@ -25,7 +25,7 @@ pub struct Deck<A: Allocator> {
 }
 
 /// The deck of a text, for a machine of this profile: ASCII of at most 1,048,576 bytes (decimal), whose numbers are octal. What a
-/// text means is told in `specs/DeckMeaning`; only `Memory` takes the place of that.
+/// text means is stated in `specs/DeckMeaning`; only `Memory` takes the place of that.
 #[tactic(auto, unfolding(crate::specs::DeckMeaning::deck_meaning))]
 pub fn read_deck<A: Allocator + Copy>(
     alloc: A,

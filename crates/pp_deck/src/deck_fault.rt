@@ -11,7 +11,7 @@ pub enum DeckCode {
     NotAscii = 2,
     /// A line of no known kind, in a place that is not its own, or with a field too few or too many.
     UnknownLine = 3,
-    /// A field that is not a number of so many octal digits.
+    /// A field that is not a number of this many octal digits.
     BadDigits = 4,
     /// No processor has this number.
     BadProcessor = 5,

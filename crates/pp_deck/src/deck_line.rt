@@ -66,7 +66,7 @@ pub(crate) fn end_line(fields: &mut Fields) -> Result<(), Flaw>
     }
 }
 
-/// The A of a `START` line, behind its P; 0 where it gives none.
+/// The A of a `START` line, after its P; 0 where it gives none.
 pub(crate) fn start_a(fields: &mut Fields) -> Result<Word18, Flaw>
     ensures { (p : ℕ) → start_from p fields.old ≡ on_read (start p) result }
 {
@@ -78,7 +78,7 @@ pub(crate) fn start_a(fields: &mut Fields) -> Result<Word18, Flaw>
     Ok(a)
 }
 
-/// The size of central memory that a `CENTRAL` line sets, behind its keyword.
+/// The size of central memory that a `CENTRAL` line sets, after its keyword.
 #[tactic(auto, unfolding(crate::specs::DeckLine::central_line))]
 pub(crate) fn central_size_in(fields: &mut Fields) -> Result<u32, Flaw>
     ensures line { central_line fields.old ≡ on_read central_size result }

@@ -1,4 +1,4 @@
-//! The first field of a line, which tells what the line is.
+//! The first field of a line, which says what the line is.
 
 ghost use Rattle.std.specs.Prelude.{◌≡◌, slice_index};
 ghost use Rattle.pp_deck.specs.DeckLine.{is_digit};

@@ -10,7 +10,7 @@ use std::marker::Model;
 /// each as its fields.
 #[derive(Drop)]
 pub(crate) struct Lines<'a> {
-    /// What is left of the text; nothing behind the last line.
+    /// What is left of the text; nothing after the last line.
     text: Option<&'a [u8]>,
 }
 

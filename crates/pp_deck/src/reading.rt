@@ -74,7 +74,7 @@ impl<A: Allocator> Reading<A> {
         Ok(Deck { machine, named })
     }
 
-    /// Reads a line with this first field and these behind it. `is_behind_fields` says whether a line
+    /// Reads a line with this first field and these after it. `is_behind_fields` says whether a line
     /// with fields stands before it.
     #[tactic(auto, unfolding(crate::specs::DeckLine::line_behind, crate::specs::DeckProgress::after_line))]
     pub(crate) fn read_line(
@@ -107,7 +107,7 @@ impl<A: Allocator> Reading<A> {
         }
     }
 
-    /// `CM a w w ..`, behind its keyword.
+    /// `CM a w w ..`, after its keyword.
     #[tactic(auto, unfolding(crate::specs::DeckLine::central_words_line, crate::specs::DeckProgress::after_line))]
     fn read_central_words(&mut self, fields: &mut Fields) -> Result<(), Flaw>
         requires { length self.old.machine.central ≤ 2 ^ 17 }
@@ -117,7 +117,7 @@ impl<A: Allocator> Reading<A> {
         set_central_words(&mut self.machine, address, fields)
     }
 
-    /// `PP n`, behind its keyword.
+    /// `PP n`, after its keyword.
     #[tactic(auto, unfolding(crate::specs::DeckLine::section_line, crate::specs::DeckProgress::after_line))]
     fn read_section(&mut self, fields: &mut Fields) -> Result<(), Flaw>
         ensures { Leaves self.new result (on_read (after_line self.old) (section_line self.old.machine.profile fields.old)) }
@@ -131,7 +131,7 @@ impl<A: Allocator> Reading<A> {
         Ok(())
     }
 
-    /// `START p` or `START p a`, behind its keyword.
+    /// `START p` or `START p a`, after its keyword.
     #[tactic(auto, unfolding(crate::specs::DeckLine::start_line, crate::specs::DeckProgress::after_line))]
     fn read_start(&mut self, fields: &mut Fields) -> Result<(), Flaw>
         ensures { Leaves self.new result (on_read (after_line self.old) (unless_misplaced (if is_some self.old.current then None else Some Flaw.NoProcessor) (start_line fields.old))) }
@@ -143,7 +143,7 @@ impl<A: Allocator> Reading<A> {
         Ok(())
     }
 
-    /// `x w w ..`: its first field, and the words behind it.
+    /// `x w w ..`: its first field, and the words after it.
     #[tactic(auto, unfolding(crate::specs::DeckLine::words_line, crate::specs::DeckProgress::after_line))]
     fn read_words(&mut self, first: &[u8], fields: &mut Fields) -> Result<(), Flaw>
         ensures { Leaves self.new result (on_read (after_line self.old) (unless_misplaced (if is_some self.old.current then None else Some Flaw.NoProcessor) (words_line first.now fields.old))) }

@@ -6,12 +6,12 @@ use Rattle.pp_deck.specs.DeckLine.{Line, nothing, central_size, central_words, s
 use Rattle.pp_listing.specs.InstructionText.{instruction_text}
 use Rattle.pp_listing.specs.OctalDigits.{octal, short_octal}
 
--- a number in just so many digits, behind a blank
+-- a number in exactly this many digits, after a blank
 abbrev pub behind_blank : ℕ → ℕ → List ℕ
 behind_blank width n = 32 ∷ octal width n
 
 -- what a line of a deck says, printed: places, words and starts in all their digits, other numbers
--- without zeros in front
+-- without leading zeros
 abbrev pub line_text : Line → List ℕ
 line_text nothing = []
 line_text (central_size n) = codes "CENTRAL " ++ short_octal 6 n
@@ -21,7 +21,7 @@ line_text (start p a) = codes "START" ++ behind_blank 4 p ++ behind_blank 6 a
 line_text (words x ws) = octal 4 x ++ flat_map (behind_blank 4) ws
 line_text dead_start = codes "DEAD"
 
--- a text, padded with spaces to so many columns
+-- a text, padded with spaces to this many columns
 abbrev pub padded : ℕ → List ℕ → List ℕ
 padded columns text = text ++ replicate (columns - length text) 32
 
@@ -38,7 +38,7 @@ says (bare line) = line
 says (one_word place word m) = words place (word ∷ [])
 says (two_words place word m) = words place (word ∷ m ∷ [])
 
--- an instruction stands behind the words that it is
+-- an instruction stands after the words that it is
 abbrev pub commented : Line → List ℕ → List ℕ
 commented line instruction = padded 20 (line_text line) ++ codes "* " ++ instruction
 

@@ -16,7 +16,7 @@ use Rattle.pp_listing.specs.ListedLine.{ListedLine, bare, one_word, two_words, t
 unfoldable pub numbers : List ℕ
 numbers = range_with_len 0 0o100
 
--- the instructions in the words from a place on, where the word behind the last is `first`, that at
+-- the instructions in the words from a place on, where the word after the last is `first`, that at
 -- place 0000. A word that is 0 begins no line
 abbrev pub instruction_lines : ℕ → ℕ → List ℕ → List ListedLine
 instruction_lines first place [] = []

@@ -1,4 +1,4 @@
--- Whole block transfers, told without their single steps: which place holds which word, and A, P and the state after.
+-- Whole block transfers, stated without their single steps: which place holds which word, and A, P and the state after.
 -- Codes are octal; d is the lower six bits of the instruction, m its second word.
 -- (Manual 60100000, peripheral processors: CRM, CWM, IAM, OAM.)
 use Rattle.std.specs.Prelude.{ℕ, ◌≡◌, ◌≢◌, ◌+◌, ◌-◌, ◌*◌, ◌/◌, ◌%◌, ◌<◌, ◌≤◌, ◌==◌, Bool, true, false, List, [], ◌∷◌, ◌++◌, None, Some, if◌then◌else◌, length, map, replicate, take, slice_index, slice_set}
@@ -28,7 +28,7 @@ place_from m i = (m + i) % place_count
 abbrev pub kept_memory : Processor → List ℕ
 kept_memory pp = slice_set pp.memory 0 (next_place pp.p)
 
--- word i of so many comes to place i from m on, and all other places are as before
+-- word i of this many comes to place i from m on, and all other places are as before
 pub record BringsWords (old new : List ℕ) (m count : ℕ) (word : ℕ → ℕ) : Type 0 where
   pub words : (i : ℕ) → i < count → slice_index new (place_from m i) ≡ word i
   pub others : (place : ℕ) → place < place_count → ((i : ℕ) → i < count → place ≢ place_from m i) →
@@ -41,7 +41,7 @@ pub record BeginsAt (op : Opcode) (pp : Processor) : Type 0 where
   pub free : pp.block ≡ None
   pub code : operation pp ≡ op
 
--- each answer is given; then A is this, P is behind the place that stands in place 0000, and the block is over
+-- each answer is given; then A is this, P is after the place that is in place 0000, and the block is over
 pub record EndsBlock (pp : Processor) (answers : List Answer) (accumulator : ℕ) : Type 0 where
   pub given : given_count pp answers ≡ length answers
   pub a : (replayed pp answers).a ≡ accumulator
@@ -61,7 +61,7 @@ inactive full = Channel (Held (record { active = false; full = full }))
 abbrev pub words_given : List ℕ → List Answer
 words_given words = Local ∷ map (λ word. Channel (Word word)) words
 
--- OAM: the start, and so many words put
+-- OAM: the start, and this many words put
 abbrev pub words_taken : ℕ → List Answer
 words_taken count = Local ∷ replicate count (Channel Done)
 
@@ -69,7 +69,7 @@ words_taken count = Local ∷ replicate count (Channel Done)
 abbrev pub centrals_given : List ℕ → List Answer
 centrals_given centrals = Local ∷ map (λ central. Read (Some central)) centrals
 
--- CWM: the start, and so many central words written
+-- CWM: the start, and this many central words written
 abbrev pub centrals_taken : ℕ → List Answer
 centrals_taken count = Local ∷ replicate count (Wrote true)
 

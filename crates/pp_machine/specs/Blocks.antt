@@ -18,11 +18,11 @@ abbrev pub stored_from : List ℕ → ℕ → List ℕ → List ℕ
 stored_from memory place [] = memory
 stored_from memory place (word ∷ words) = stored_from (slice_set memory place word) (next_place place) words
 
--- the five parts of a central word come to a place and the four behind it
+-- the five parts of a central word come to a place and the four after it
 abbrev pub receives : Processor → ℕ → ℕ → Processor
 receives pp place central = record pp { memory = stored_from pp.memory place (parts_of central) }
 
--- the central word of the five words at a place and the four behind it
+-- the central word of the five words at a place and the four after it
 abbrev pub central_from : Processor → ℕ → ℕ
 central_from pp place =
     joined (word_at pp place ∷ word_at pp ((place + 1) % place_count) ∷ word_at pp ((place + 2) % place_count) ∷
@@ -32,7 +32,7 @@ central_from pp place =
 abbrev pub stores_at : Processor → ℕ → ℕ → Processor
 stores_at pp place word = record pp { memory = slice_set pp.memory place word }
 
--- the end: P goes behind the place whose number stands in place 0000, and no block is in progress
+-- the end: P goes past the place whose number is in place 0000, and no block is in progress
 abbrev pub ends : Processor → Processor
 ends pp = record pp { p = next_place (word_at pp 0); block = None }
 

@@ -18,7 +18,7 @@ use Rattle.pp_machine.specs.declared.profile.Profile.{Profile}
 abbrev pub waiting_on : ℕ → Processor → Processor
 waiting_on c pp = record pp { a = 0o10000; p = 0; state = Running; block = Some (record { kind = Input c; place = 0 }) }
 
--- only processors that a machine of this profile has are told to wait
+-- only processors that a machine of this profile has wait
 abbrev pub WaitsWithin : Profile → List Bool → Type 0
 WaitsWithin profile waiting = (place : ℕ) → processors_in profile ≤ place → slice_index_or waiting place false ≡ false
 
@@ -58,7 +58,7 @@ started waits m = record m {
   opened = opened_where waits;
 }
 
--- a machine after dead start, told of each processor in the barrel's order whether it waits
+-- a machine after dead start, given of each processor in the barrel's order whether it waits
 abbrev pub dead_started : List Bool → MachineState → MachineState
 dead_started waiting m = started (waits waiting) m
 

@@ -8,7 +8,7 @@ use Rattle.pp_machine.specs.OperandAndPlace.{Operand, behind_p, second_word}
 use Rattle.pp_machine.specs.Processor.{Processor, word_at}
 use Rattle.pp_machine.specs.declared.pp_state.PpState.TheVariants.{Stopped, Fault}
 
--- P goes on behind an instruction of so many words
+-- P goes on after an instruction of this many words
 abbrev pub goes_on : Processor → ℕ → Processor
 goes_on pp words = record pp { p = behind_p pp words }
 
@@ -41,7 +41,7 @@ jumps_where test pp d =
 abbrev pub branches_where : Bool → Processor → Processor
 branches_where test pp = if test then goes_to pp (second_word pp) else goes_on pp 2
 
--- RJM: the place behind the instruction is stored at the target, and the program goes on behind that
+-- RJM: the place after the instruction is stored at the target, and the program goes on after that
 abbrev pub calls : Processor → ℕ → Processor
 calls pp target = record pp { memory = slice_set pp.memory target (behind_p pp 2); p = next_place target }
 
@@ -53,7 +53,7 @@ is_negative pp = place pp.a 17
 abbrev pub low_of : ℕ → ℕ
 low_of a = a % 2 ^ 12
 
--- A becomes a value, in an instruction of so many words
+-- A becomes a value, in an instruction of this many words
 abbrev pub loads : Processor → ℕ → ℕ → Processor
 loads pp value words = record pp { a = value; p = behind_p pp words }
 

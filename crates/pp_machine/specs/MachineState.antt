@@ -1,4 +1,4 @@
--- A machine at one moment, told by what has happened on its channels.
+-- A machine at one moment, described by what has happened on its channels.
 -- (Manual 60100000, part on peripheral and control processors: the processors have memories of their own
 -- and share central memory and the data channels.)
 use Rattle.std.specs.Prelude.{ℕ, Bool, false, List, [], slice_index_or, replicate}

@@ -7,7 +7,7 @@ use Rattle.pp_word.specs.OperationCodes.{opcode_at}
 use Rattle.pp_word.specs.declared.opcode.Opcode.{Opcode}
 use Rattle.pp_machine.specs.Processor.{Processor, word_at}
 
--- the place n places behind P
+-- the place n places after P
 abbrev pub behind_p : Processor → ℕ → ℕ
 behind_p pp n = (pp.p + n) % place_count
 

@@ -24,7 +24,7 @@ processor_index number = if nat_lt number 0o12 then number else if nat_lt number
 unfoldable pub processor_number : ℕ → ℕ
 processor_number place = if nat_lt place 0o12 then place else place + 6
 
--- the number of a processor tells its place
+-- the number of a processor gives its place
 pub place_again : (place : ℕ) → IsTrue (names_processor (processor_number place)) → processor_index (processor_number place) ≡ place
 unfolding names_processor processor_number processor_index
 place_again place names = grind (arith)

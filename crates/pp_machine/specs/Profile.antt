@@ -3,7 +3,7 @@
 --
 -- Control Data 6400/6500/6600 Computer Systems Reference Manual, publication 60100000, part on peripheral and
 -- control processors: ten processors and twelve channels. A machine of twenty has twice as many of both: this project's
--- own profile, with a gap in the numbers behind the first ten and the first twelve.
+-- own profile, with a gap in the numbers after the first ten and the first twelve.
 use Rattle.std.specs.Prelude.{ℕ, ◌%◌, Bool, nat_lt}
 use Rattle.pp_channel.specs.ChannelNumber.{channel_count, channel_index}
 use Rattle.pp_machine.specs.ProcessorNumber.{processor_count, processor_index, processor_number}
@@ -28,6 +28,6 @@ has_processor profile number = nat_lt (processor_index number) (processors_in pr
 unfoldable pub has_channel : Profile → ℕ → Bool
 has_channel profile number = nat_lt (channel_index number) (channels_in profile)
 
--- the processor whose turn it is after so many turns of the barrel
+-- the processor whose turn it is after this many turns of the barrel
 abbrev pub processor_in_turn : Profile → ℕ → ℕ
 processor_in_turn profile turn = processor_number (turn % processors_in profile)

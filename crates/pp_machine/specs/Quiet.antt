@@ -28,17 +28,17 @@ is_quiet (Write a w) m = false
 abbrev pub step_beside : MachineState → Processor → Processor
 step_beside m pp = processor_after pp (answer_to (need pp) m)
 
--- and after so many
+-- and after this many
 unfoldable pub steps_beside : ℕ → MachineState → Processor → Processor
 steps_beside zero m pp = pp
 steps_beside (suc steps) m pp = step_beside m (steps_beside steps m pp)
 
--- a processor went so many steps ahead, each of them quiet
+-- a processor went this many steps ahead, each of them quiet
 pub record IsAhead (steps : ℕ) (m : MachineState) (old new : Processor) : Type 0 where
   pub quiet : (j : ℕ) → j < steps → IsTrue (is_quiet (need (steps_beside j m old)) m)
   pub after : new ≡ steps_beside steps m old
 
--- the processors of a round from a place of the barrel on went so many quiet steps ahead, and all others stand where they
+-- the processors of a round from a place of the barrel on went this many quiet steps ahead, and all others stand where they
 -- stood
 pub record AreAhead (steps round place : ℕ) (m : MachineState) (old new : List Processor) : Type 0 where
   pub as_many : length new ≡ length old

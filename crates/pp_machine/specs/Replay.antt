@@ -59,25 +59,25 @@ pub record ChannelSight : Type 0 where
   pub channel : ℕ
   pub what : Seen
 
--- what an operation that was answered so did or saw: Done and Word tell its event, Flags and Held are looks
+-- what an operation that was answered so did or saw: Done and Word give its event, Flags and Held are looks
 abbrev pub seen_by : ChanOp → Reply → Option Seen
 seen_by operation (replies.Flags flags) = Some (Saw flags)
 seen_by operation (replies.Held flags) = Some (Saw flags)
 seen_by operation reply = option_map (λ e. Did e) (event_answered operation reply)
 
--- the event of an answer to a need, if it tells one
+-- the event of an answer to a need, if it gives one
 abbrev pub events_of : Need → Answer → List ChannelEvent
 events_of (needs.Channel channel operation) (answers.Channel reply) =
     map (λ e. record { channel = channel; event = e }) (option_to_list (event_answered operation reply))
 events_of need answer = []
 
--- the event or the look of an answer to a need, if it tells one
+-- the event or the look of an answer to a need, if it gives one
 abbrev pub sights_of : Need → Answer → List ChannelSight
 sights_of (needs.Channel channel operation) (answers.Channel reply) =
     map (λ what. record { channel = channel; what = what }) (option_to_list (seen_by operation reply))
 sights_of need answer = []
 
--- what each answer tells, along a replay, end to end
+-- what each answer gives, along a replay, end to end
 unfoldable pub told_along : {X : Type 0} → (Need → Answer → List X) → Processor → List Answer → List X
 told_along tells pp [] = []
 told_along tells pp (answer ∷ more) =

@@ -18,6 +18,6 @@ pub record RestBetween (place running : ℕ) (processors : List Processor) : Typ
 abbrev pub PassesOverRest : List ℕ → List Processor → Type 0
 PassesOverRest next processors = (place : ℕ) → place ≤ processor_count → RestBetween place (slice_index next place) processors
 
--- the processors of so many whole rounds of the barrel, in order
+-- the processors of this many whole rounds of the barrel, in order
 abbrev pub whole_rounds : Profile → ℕ → List ℕ
 whole_rounds profile rounds = barrel profile (rounds * processors_in profile)

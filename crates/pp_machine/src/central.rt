@@ -17,7 +17,7 @@ pub enum CentralFault {
     /// A growth was refused.
     #[error("out of memory")]
     Memory = 1,
-    /// The size is 0 or past 400000 (octal). It comes before `Memory`.
+    /// The size is 0 or past 400000 (octal). Reported before `Memory`.
     #[error("central size out of range")]
     BadSize = 2,
 }

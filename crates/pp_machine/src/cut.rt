@@ -1,4 +1,4 @@
-//! The refusal of a run for want of memory.
+//! The refusal of a run for lack of memory.
 
 use thiserror::Error;
 

@@ -50,7 +50,7 @@ impl<A: Allocator> Machine<A> {
 
     /// A machine of this profile, with central memory of this many words, all 0: its processors as
     /// `Pp::new(profile)`, its channels without history, no turn counted. Processors and channels that the
-    /// profile lacks stand behind the others, and no turn of the barrel is theirs.
+    /// profile lacks come after the others, and no turn of the barrel is theirs.
     #[tactic(auto, using(pp_channel::proofs::ChannelPlaces::place_below))]
     pub fn new(alloc: A, profile: Profile, size: u32) -> Result<Self, CentralFault>
     where

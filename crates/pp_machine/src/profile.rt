@@ -23,7 +23,7 @@ const TEN: usize = 10;
 const TWELVE: usize = 12;
 
 impl Profile {
-    /// How many processors it has, 10 or 20 (decimal): so many turns are a round of the barrel.
+    /// How many processors it has, 10 or 20 (decimal): this many turns are a round of the barrel.
     pub fn processors(self) -> usize
         ensures { result ≡ processors_in self }
     {

@@ -17,7 +17,7 @@ use crate::pp_state::PpState;
 use pp_channel::{ChanOp, Channel, ChannelNo, Reply};
 use std::alloc::Allocator;
 
-/// Runs the processors of a round from a place of the barrel on, each as many steps, up to so many, as all
+/// Runs the processors of a round from a place of the barrel on, each as many steps, up to this many, as all
 /// of them can make quietly, and says how many that are.
 pub(crate) fn run_ahead<A: Allocator>(
     processors: &mut Vec<Pp, A>,
@@ -56,7 +56,7 @@ pub(crate) fn run_ahead<A: Allocator>(
     all
 }
 
-/// Makes up to so many steps of a processor, as long as each is quiet, and says how many it made.
+/// Makes up to this many steps of a processor, as long as each is quiet, and says how many it made.
 fn run_quiet_steps<A: Allocator>(pp: &mut Pp, channels: &Vec<Channel<A>, A>, most: u32) -> u32
     requires channels { vec_len channels.now ≡ channel_count }
     ensures most { result ≤ most }
@@ -93,7 +93,7 @@ fn run_quiet_steps<A: Allocator>(pp: &mut Pp, channels: &Vec<Channel<A>, A>, mos
     made
 }
 
-/// Makes up to so many steps of a processor, as long as each is an instruction of the codes 00 to 57
+/// Makes up to this many steps of a processor, as long as each is an instruction of the codes 00 to 57
 /// (octal) or a test of flags, and says how many of them are left.
 #[inline(never)]
 fn run_free_steps<A: Allocator>(pp: &mut Pp, channels: &Vec<Channel<A>, A>, most: u32) -> u32

@@ -23,7 +23,7 @@ const LONGEST_WINDOW: u32 = 8192;
 const LOOK_AFTER: u32 = 512;
 
 /// How many rounds it makes turn by turn where a window failed, before it tries again: twice as many
-/// each time, but few again after so many quiet rounds that it paid (decimal).
+/// each time, but few again after this many quiet rounds that it paid (decimal).
 const SHORTEST_PAUSE: u32 = 64;
 
 const LONGEST_PAUSE: u32 = 8192;
@@ -58,8 +58,8 @@ impl<A: Allocator> Machine<A> {
         Ok(())
     }
 
-    /// So many turns of the barrel, from its first processor on: rounds of ten or of twenty, by its
-    /// profile. Processors at rest are passed over.
+    /// Runs this many turns of the barrel from its first processor on, in rounds of ten or of twenty
+    /// by its profile. Processors at rest are passed over.
     pub fn run_barrel(&mut self, turns: u32) -> Result<(), Cut>
         ensures ok { OnOk result (self.new ≡ run (barrel self.old.profile turns) self.old) }
         ensures cut { IfErr result (λ c. self.new ≡ run (barrel self.old.profile c.done) self.old) }
@@ -90,7 +90,7 @@ impl<A: Allocator> Machine<A> {
         self.profile.processors() as u32
     }
 
-    /// So many whole rounds of the barrel, as many as can be made quietly, and the others turn by turn.
+    /// This many whole rounds of the barrel, as many as can be made quietly, and the others turn by turn.
     /// Refused, it says how many steps were done.
     fn run_rounds(&mut self, rounds: u32) -> Result<(), u64>
         requires { HoldsOnEachChannel self.old }
@@ -125,7 +125,7 @@ impl<A: Allocator> Machine<A> {
         Ok(())
     }
 
-    /// Up to so many whole rounds of the barrel, as many as are made quietly, and says how
+    /// Up to this many whole rounds of the barrel, as many as are made quietly, and says how
     /// many that are.
     #[inline(never)]
     fn run_quiet_rounds(&mut self, most: u32) -> u32
@@ -146,7 +146,7 @@ impl<A: Allocator> Machine<A> {
         rounds
     }
 
-    /// So many whole rounds of the barrel, turn by turn; processors at rest are passed over. Refused, it
+    /// This many whole rounds of the barrel, turn by turn; processors at rest are passed over. Refused, it
     /// says how many steps were done.
     #[inline(never)]
     fn run_by_turns(&mut self, rounds: u32) -> Result<(), u64>
@@ -170,7 +170,7 @@ impl<A: Allocator> Machine<A> {
         Ok(())
     }
 
-    /// So many rounds of the barrel, or the first turns of one, where `next` tells which processors at
+    /// This many rounds of the barrel, or the first turns of one, where `next` says which processors at
     /// rest to pass over. Refused, it says how many steps were done.
     #[inline(never)]
     fn run_passing(
@@ -199,7 +199,7 @@ impl<A: Allocator> Machine<A> {
         Ok(())
     }
 
-    /// The first turns of a round of the barrel, where `next` tells which processors at rest to pass
+    /// The first turns of a round of the barrel, where `next` says which processors at rest to pass
     /// over. Refused, it says how many steps were done.
     #[tactic(auto, using(crate::proofs::RunLemmas::barrel_more, crate::proofs::RunLemmas::some_event, crate::proofs::RoundLemmas::rest_to, crate::proofs::RoundLemmas::passes_over_stepped))]
     fn run_round(&mut self, turns: usize, next: &[usize; PROCESSORS + 1]) -> Result<(), usize>
@@ -243,7 +243,7 @@ impl<A: Allocator> Machine<A> {
     }
 }
 
-/// The next window after so many quiet rounds since a window failed: half as many.
+/// The next window after this many quiet rounds since a window failed: half as many.
 fn window_after(held: u32) -> u32
     ensures some { 1 ≤ result }
     ensures most { result ≤ 8192 }

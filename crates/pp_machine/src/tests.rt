@@ -24,7 +24,7 @@ fn start(machine: &mut Machine<Global>, n: PpNo, words: &[u32]) {
     pp.start(word(0o100), Word18::ZERO);
 }
 
-/// Processor 0 activates channel 5, puts 0007 and stops; processor 1 takes it and stops. So many turns
+/// Processor 0 activates channel 5, puts 0007 and stops; processor 1 takes it and stops. This many turns
 /// were counted before.
 fn pair(alloc: Global, turns: u64) -> Result<Machine<Global>, CentralFault> {
     let mut machine = Machine::new(alloc, Profile::Ten, 1)?;

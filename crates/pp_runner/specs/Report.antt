@@ -19,7 +19,7 @@ use Rattle.pp_runner.specs.declared.report.Report.{Report}
 -- whose histories are lawful, keep the law of sessions, and are what the workers' logs merge to. The workers began when
 -- dead start's channels were open: nothing that one did or saw is older than the opening history of its channel. A worker
 -- ended as worn only at a channel whose history has as many events as its word can count. No report shows how often a
--- worker was held, so the patience is not told.
+-- worker was held, so the patience is not stated.
 pub record IsReportOf {A : Type 0} (limits : RunLimits) (machine : MachineState) (report : Report A) : Type 0 where
   pub each_processor : length report.ends.items ≡ processors_in machine.profile
   pub workers : AreWorkers (take (processors_in machine.profile) machine.processors) (length machine.central) limits.steps report.ends.items

@@ -1,4 +1,4 @@
--- What a worker's log tells of its processor's replay.
+-- What a worker's log records of its processor's replay.
 use Rattle.std.specs.Prelude.{◌≡◌, ◌⊎◌, ℕ, List, [], ◌∷◌, map, Option, None, Some}
 use Rattle.std.specs.List.{filter_map}
 use Rattle.pp_channel.specs.declared.entry.Entry.{Entry}

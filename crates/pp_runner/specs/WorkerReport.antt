@@ -10,8 +10,8 @@ use Rattle.pp_runner.specs.WorkerEnd.{IsEnd}
 use Rattle.pp_runner.specs.WorkerLog.{events_in, sights_in, StandsIn}
 use Rattle.pp_runner.specs.declared.worker.Worker.{Worker}
 
--- A worker that began with this processor, beside central memory of this size, and was to make so many steps at most:
--- what it leaves is the replay of its answers, and its log tells what that replay did and saw.
+-- A worker that began with this processor, beside central memory of this size, and was to make this many steps at most:
+-- what it leaves is the replay of its answers, and its log records what that replay did and saw.
 pub record IsWorker {A : Type 0} (load : Processor) (size steps : ℕ) (w : Worker A) : Type 0 where
   pub pp : w.pp ≡ replayed load w.answers.items
   pub all_given : given_count load w.answers.items ≡ length w.answers.items

@@ -1,4 +1,4 @@
-//! Workers that run at once, each in a thread of its own.
+//! Runs the workers concurrently, one thread each.
 
 ghost use Rattle.std.specs.Prelude.{◌≡◌, ◌+◌, ◌*◌, ◌<◌, [], ◌∷◌, ◌++◌, take, vec_len, IfOk};
 ghost use denote.Param.Send.{IsSync, IsSend, Frees};
@@ -42,7 +42,7 @@ impl<A: Allocator> Promise<Result<Ended<A>, Memory>> for EndOf<A> {
     ghost kept_by = { λ p r. IfOk r (λ ended. IsEnded p.load.value p.size p.steps p.line.value ended.worker ended.line) };
 }
 
-/// A worker behind the others, and their lines as one. The last line's log alone is copied.
+/// A worker after the others, and their lines as one. The last line's log alone is copied.
 fn combined<A: Allocator + Copy>(others: Crew<A>, last: Ended<A>) -> Result<Crew<A>, RunFault>
     requires { last.line.table ≡ others.line.table }
     ensures workers { IfOk result (λ crew. crew.workers.items ≡ others.workers.items ++ last.worker ∷ []) }

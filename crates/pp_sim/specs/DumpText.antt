@@ -5,7 +5,7 @@ use Rattle.pp_deck.specs.DeckMeaning.{LoadedDeck, deck_meaning}
 use Rattle.pp_listing.specs.Dump.{after, deck_to_go_on, dump, first_going_on}
 use Rattle.pp_listing.specs.declared.going_on.GoingOn.{GoingOn}
 
--- a loaded deck that has run in the barrel for so many turns
+-- a loaded deck that has run in the barrel for this many turns
 abbrev pub after_turns : ℕ → LoadedDeck → LoadedDeck
 after_turns turns deck = after (barrel deck.machine.profile turns) deck
 

@@ -14,7 +14,7 @@ use Rattle.pp_sim.specs.declared.text_fault.TextFault.TheVariants as fault
 abbrev pub most_bytes : ℕ
 most_bytes = 1048577
 
--- the bytes are refused as a deck for a machine of this profile by this fault, which is no want of memory
+-- the bytes are refused as a deck for a machine of this profile by this fault, which is no lack of memory
 pub record IsFaultOf (profile : Profile) (bytes : List ℕ) (f : DeckFault) : Type 0 where
   pub told : deck_meaning profile bytes ≡ Err f
   pub no_memory : f.code ≢ code.Memory
@@ -31,7 +31,7 @@ pub record IsHindered (profile : Profile) (Hinders : LoadedDeck → GoingOn → 
   pub meant : deck_meaning profile bytes ≡ Ok deck
   pub hinders : Hinders deck going_on
 
--- THE ANSWER to a deck of these bytes, for a machine of this profile, and what was written: a whole text of the deck, a front of one, or nothing
+-- THE ANSWER to a deck of these bytes, for a machine of this profile, and what was written: a whole text of the deck, a first part of one, or nothing
 abbrev pub IsAnswerUnless : Profile → (LoadedDeck → GoingOn → Type 0) → (LoadedDeck → List ℕ → Type 0) → Result (Unit {0}) TextFault → List ℕ → Option (List ℕ) → Option (List ℕ) → Type 0
 IsAnswerUnless profile Hinders IsDeckText (Ok done) bytes old new = (text : List ℕ) × IsTextOf profile IsDeckText bytes text × Appends old new text
 IsAnswerUnless profile Hinders IsDeckText (Err fault.Write) bytes old new = (text : List ℕ) × IsTextOf profile IsDeckText bytes text × AppendsFront old new text
@@ -60,7 +60,7 @@ AnswersTo profile IsDeckText = AnswersUnless profile Never IsDeckText
 
 -- ---- parts of a call
 
--- reading fails by the reader or for want of memory
+-- reading fails by the reader or for lack of memory
 abbrev pub IsReadFault : TextFault → Type 0
 IsReadFault fault.Read = Unit {0}
 IsReadFault fault.Memory = Unit {0}
@@ -68,7 +68,7 @@ IsReadFault fault.Write = ⊥
 IsReadFault (fault.Deck f) = ⊥
 IsReadFault (fault.NotBetweenPrograms going_on) = ⊥
 
--- making a text fails by the deck, by what stands in its way, or for want of memory
+-- making a text fails by the deck, by what stands in its way, or for lack of memory
 abbrev pub IsRunFaultUnless : Profile → (LoadedDeck → GoingOn → Type 0) → List ℕ → TextFault → Type 0
 IsRunFaultUnless profile Hinders bytes (fault.Deck f) = IsFaultOf profile bytes f
 IsRunFaultUnless profile Hinders bytes (fault.NotBetweenPrograms going_on) = IsHindered profile Hinders bytes going_on

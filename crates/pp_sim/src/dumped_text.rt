@@ -13,7 +13,7 @@ use pp_machine::Profile;
 use std::alloc::Allocator;
 use std::io::{Read, Write};
 
-/// Reads a deck for a machine of this profile, runs it in the barrel for so many turns (decimal),
+/// Reads a deck for a machine of this profile, runs it in the barrel for this many turns (decimal),
 /// and writes its dump: a deck to go on from. Where a processor is within a block or at fault, or a
 /// channel is active, nothing is written, and the answer is `NotBetweenPrograms`.
 pub fn dump_text<A: Allocator + Copy, R: Read, W: Write>(
@@ -23,12 +23,12 @@ pub fn dump_text<A: Allocator + Copy, R: Read, W: Write>(
     writer: &mut W,
     turns: u32,
 ) -> Result<(), TextFault>
-    // For every reader, whatever it tells.
+    // For every reader, whatever it knows.
     ensures every_reader { (bytes : List ℕ)
         × AnswersUnless profile (HindersDump turns) (IsDumpText turns) result
         (R.remaining reader.old) (R.remaining reader.new)
         (W.contents writer.old) (W.contents writer.new) bytes }
-    // For a reader that tells the bytes that it has.
+    // For a reader that knows the bytes that it has.
     ensures telling_reader { IfSome (R.remaining reader.old) (λ bytes.
         IsAnswerUnless profile (HindersDump turns) (IsDumpText turns) result (take most_bytes bytes)
         (W.contents writer.old) (W.contents writer.new)) }

@@ -20,11 +20,11 @@ pub fn list_text<A: Allocator + Copy, R: Read, W: Write>(
     reader: &mut R,
     writer: &mut W,
 ) -> Result<(), TextFault>
-    // For every reader, whatever it tells.
+    // For every reader, whatever it knows.
     ensures every_reader { (bytes : List ℕ) × AnswersTo profile IsListText result
         (R.remaining reader.old) (R.remaining reader.new)
         (W.contents writer.old) (W.contents writer.new) bytes }
-    // For a reader that tells the bytes that it has.
+    // For a reader that knows the bytes that it has.
     ensures telling_reader { IfSome (R.remaining reader.old) (λ bytes.
         IsAnswer profile IsListText result (take most_bytes bytes)
         (W.contents writer.old) (W.contents writer.new)) }

@@ -2,7 +2,7 @@
 
 ghost use Rattle.std.specs.Prelude.{◌≤◌, ◌↔◌, IsTrue};
 
-/// The numbers that an option takes, and the help that tells them (decimal).
+/// The numbers that an option takes, and the help that states them (decimal).
 #[derive(Clone, Copy)]
 pub(crate) struct NumberRange {
     pub(crate) least: u32,

@@ -13,7 +13,7 @@ use pp_state::{printed_state, run_counting_held};
 use std::alloc::Allocator;
 use std::io::{Read, Write};
 
-/// Reads a deck for a machine of this profile, runs it in the barrel for so many turns (decimal), and
+/// Reads a deck for a machine of this profile, runs it in the barrel for this many turns (decimal), and
 /// writes how things stand then: the processors that the deck names, what differs from the load, and
 /// the channels.
 pub fn state_text<A: Allocator + Copy, R: Read, W: Write>(
@@ -23,11 +23,11 @@ pub fn state_text<A: Allocator + Copy, R: Read, W: Write>(
     writer: &mut W,
     turns: u32,
 ) -> Result<(), TextFault>
-    // For every reader, whatever it tells.
+    // For every reader, whatever it knows.
     ensures every_reader { (bytes : List ℕ) × AnswersTo profile (IsStateText turns) result
         (R.remaining reader.old) (R.remaining reader.new)
         (W.contents writer.old) (W.contents writer.new) bytes }
-    // For a reader that tells the bytes that it has.
+    // For a reader that knows the bytes that it has.
     ensures telling_reader { IfSome (R.remaining reader.old) (λ bytes.
         IsAnswer profile (IsStateText turns) result (take most_bytes bytes)
         (W.contents writer.old) (W.contents writer.new)) }

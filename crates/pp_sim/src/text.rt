@@ -13,7 +13,7 @@ use pp_text::write_text;
 use std::alloc::Allocator;
 use std::io::{Read, Write};
 
-/// Reads a deck for a machine of this profile, runs it in the barrel for so many turns (decimal), and
+/// Reads a deck for a machine of this profile, runs it in the barrel for this many turns (decimal), and
 /// writes the text of the run.
 pub fn barrel_text<A: Allocator + Copy, R: Read, W: Write>(
     alloc: A,
@@ -22,10 +22,10 @@ pub fn barrel_text<A: Allocator + Copy, R: Read, W: Write>(
     writer: &mut W,
     turns: u32,
 ) -> Result<(), TextFault>
-    // For every reader, whatever it tells.
+    // For every reader, whatever it knows.
     ensures every_reader { (bytes : List ℕ) × AnswersTo profile (IsBarrelText turns) result (R.remaining reader.old) (R.remaining reader.new)
         (W.contents writer.old) (W.contents writer.new) bytes }
-    // For a reader that tells the bytes that it has.
+    // For a reader that knows the bytes that it has.
     ensures telling_reader { IfSome (R.remaining reader.old) (λ bytes. IsAnswer profile (IsBarrelText turns) result (take most_bytes bytes)
         (W.contents writer.old) (W.contents writer.new)) }
     // Every fault but Write comes before the first byte is written.

@@ -32,10 +32,10 @@ pub fn threads_text<T: Threads + Wait + Sync, R: Read, A: Allocator + Copy + Sen
 ) -> Result<(), TextFault>
     // A report takes less than all of memory, as it does with every allocator that there is.
     requires { ReportFitsInMemory A.row A.Allocator }
-    // For every reader, whatever it tells.
+    // For every reader, whatever it knows.
     ensures every_reader { (bytes : List ℕ) × AnswersTo profile (IsThreadsText A limits) result (R.remaining reader.old) (R.remaining reader.new)
         (W.contents writer.old) (W.contents writer.new) bytes }
-    // For a reader that tells the bytes that it has.
+    // For a reader that knows the bytes that it has.
     ensures telling_reader { IfSome (R.remaining reader.old) (λ bytes. IsAnswer profile (IsThreadsText A limits) result (take most_bytes bytes)
         (W.contents writer.old) (W.contents writer.new)) }
     // Every fault but Write comes before the first byte is written.

@@ -14,7 +14,7 @@ pub enum TextFault {
     /// The deck was refused, for another cause than memory.
     #[error(transparent)]
     Deck(DeckFault),
-    /// The run left a machine that a dump can't tell, since this goes on in it.
+    /// The run left a machine that a dump can't show, since this goes on in it.
     #[error("not between programs: {0}")]
     NotBetweenPrograms(GoingOn),
     /// A growth was refused.

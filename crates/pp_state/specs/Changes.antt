@@ -12,14 +12,14 @@ use Rattle.pp_listing.specs.Listing.{numbers}
 abbrev pub differs : List ℕ → List ℕ → ℕ → Bool
 differs before after place = not (slice_index before place == slice_index after place)
 
--- how many words stand on a line in front of the one at a place: none behind a word that does not
--- differ, and none behind eight
+-- how many words are on a line before the one at a place: none after a word that does not
+-- differ, and none after eight
 unfoldable pub words_in_front : List ℕ → List ℕ → ℕ → ℕ
 words_in_front before after zero = 0
 words_in_front before after (suc place) =
     if differs before after place then (words_in_front before after place + 1) % 8 else 0
 
--- the words from a place on, as long as they differ, but at most so many
+-- the words from a place on, as long as they differ, but at most this many
 unfoldable pub neighbours : List ℕ → List ℕ → ℕ → ℕ → List ℕ
 neighbours before after zero place = []
 neighbours before after (suc most) place =

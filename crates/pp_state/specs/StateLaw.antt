@@ -1,4 +1,4 @@
--- What the text of a machine tells: which processors wait, and which words differ from the load.
+-- What the text of a machine says: which processors wait, and which words differ from the load.
 use Rattle.std.specs.Prelude.{◌≡◌, ◌≢◌, ℕ, ◌+◌, true, ◌⊎◌, List, [], ◌∷◌, None, IsTrue, length, slice_index, slice_set}
 use Rattle.pp_word.specs.Address.{place_count}
 use Rattle.pp_channel.specs.Answer.{IsReady}

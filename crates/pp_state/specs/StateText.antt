@@ -47,7 +47,7 @@ flags_text flags =
 abbrev pub count_text : ℕ → List ℕ
 count_text count = if count == 0 then [] else codes " x" ++ unpadded 10 count
 
--- ` HELD CH01 ACTIVE EMPTY x376`, where the next step has this need and is held; so many of the
+-- ` HELD CH01 ACTIVE EMPTY x376`, where the next step has this need and is held; this many of the
 -- last steps in a row were held
 abbrev pub held_text : Need → Outcome → MachineState → ℕ → List ℕ
 held_text (Channel c operation) Held m count =

@@ -57,8 +57,8 @@ fn push_changed_lines<A: Allocator>(
     Ok(())
 }
 
-/// Adds the line that begins at a place, if one does, where so many words stand in front of this
-/// place on its line. Says how many stand in front of the next place.
+/// Adds the line that begins at a place, if one does, where this many words come before this
+/// place on its line. Says how many come before the next place.
 fn push_line_from<A: Allocator>(
     text: &mut Vec<u8, A>,
     before: &Pp,
@@ -122,7 +122,7 @@ fn push_words<A: Allocator>(
     Ok(())
 }
 
-/// Adds the words from a place on, as long as they differ, but at most so many.
+/// Adds the words from a place on, as long as they differ, but at most this many.
 fn push_neighbours<A: Allocator>(
     text: &mut Vec<u8, A>,
     before: &Pp,

@@ -13,7 +13,7 @@ ghost use Rattle.pp_state.specs.Changes.{changed_central, changed_section};
 ghost use Rattle.pp_state.specs.StateLaw.{AreMemories, IsNew, Waits, overwritten, words_set};
 ghost use Rattle.pp_state.specs.StateText.{held_text};
 
-/// What the text of a machine tells: it says ` HELD ` of a processor exactly where its next step
+/// What the text of a machine says: it says ` HELD ` of a processor exactly where its next step
 /// needs an operation for which its channel is not ready, which is where that step is held; the load
 /// overwritten by the words on the lines is the memory after the run, and no word on them stands at
 /// its place already; and the same of central memory.

@@ -8,7 +8,7 @@ use Rattle.pp_machine.specs.ProcessorNumber.{processor_number}
 use Rattle.pp_runner.specs.declared.worker.Worker.{Worker}
 use Rattle.pp_text.specs.PrintedReport.{author_place}
 
--- the author known so far, or else this one where its log tells the event
+-- the author known so far, or else this one where its log records the event
 abbrev pub or_told : Option ℕ → Bool → ℕ → Option ℕ
 or_told (Some known) told author = Some known
 or_told None told author = if told then Some author else None

@@ -10,16 +10,16 @@ abbrev pub digits : ℕ → ℕ → ℕ → List ℕ
 digits base zero n = []
 digits base (suc width) n = digits base width (n / base) ++ digit (n % base)
 
--- a number in just so many octal digits
+-- a number in exactly this many octal digits
 abbrev pub octal : ℕ → ℕ → List ℕ
 octal width n = digits 8 width n
 
--- a number in decimal digits, without zeros in front, but at most so many digits
+-- a number in decimal digits, without leading zeros, but at most this many digits
 abbrev pub unpadded : ℕ → ℕ → List ℕ
 unpadded zero n = []
 unpadded (suc most) n = if n == 0 then [] else unpadded most (n / 10) ++ digit (n % 10)
 
--- a count in decimal: six digits, zeros in front, and more digits only where it needs more.
+-- a count in decimal: six digits, with leading zeros, and more digits only where it needs more.
 -- Twenty digits are enough for every count of 64 bits.
 unfoldable pub decimal : ℕ → List ℕ
 decimal n = unpadded 14 (n / 10 ^ 6) ++ digits 10 6 (n % 10 ^ 6)

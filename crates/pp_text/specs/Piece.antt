@@ -5,7 +5,7 @@ use Rattle.std.specs.Prelude.{ℕ, ◌+◌, ◌≤◌, List, length}
 abbrev pub piece_length : ℕ
 piece_length = 8192
 
--- there is room for so many more bytes in a piece
+-- there is room for this many more bytes in a piece
 abbrev pub HasRoom : ℕ → List ℕ → Type 0
 HasRoom count piece = length piece + count ≤ piece_length
 

@@ -16,7 +16,7 @@ use Rattle.pp_text.specs.PrintedText.{each_below, event_text, is_named, line_end
 
 -- ---- events, each with its number in the history of its channel
 
--- whether a log tells the event of channel c with this number
+-- whether a log records the event of channel c with this number
 abbrev pub log_tells : ℕ → ℕ → List Entry → Bool
 log_tells c number log = nat_lt 0 (times_told c number log)
 

@@ -1,4 +1,4 @@
--- What the text of a report tells of it: two reports with one text agree on all that it shows.
+-- What the text of a report says of it: two reports with one text agree on all that it shows.
 use Rattle.std.specs.Prelude.{◌≡◌, ℕ, ◌<◌, ◌^◌, List, Bool, All, Option, Some, None, IfSome, IsTrue, slice_get, option_map, if◌then◌else◌}
 use Rattle.std.specs.List.{enumerate_from, filter_map}
 use Rattle.pp_channel.specs.ChannelNumber.{names_channel}
@@ -14,20 +14,20 @@ use Rattle.pp_text.specs.PrintedReport.{author_place}
 use Rattle.pp_text.specs.PrintedText.{is_named}
 use Rattle.pp_text.specs.TextLaw.{AreSameHistories, IsListed, IsToldAlike}
 
--- an event as a report's text tells it: its number in the history, the processor that made it, and
+-- an event as a report's text shows it: its number in the history, the processor that made it, and
 -- what happened
 pub record ToldEvent : Type 0 where
   pub number : ℕ
   pub author : ℕ
   pub event : Event
 
--- by the place of its author; an opening event has none, and is not told
+-- by the place of its author; an opening event has none, and is not shown
 abbrev pub told_by : ℕ → Event → Option ℕ → Option ToldEvent
 told_by number event None = None
 told_by number event (Some place) =
     Some (record { number = number; author = processor_number place; event = event })
 
--- the events of channel c that the text tells, in order
+-- the events of channel c that the text shows, in order
 abbrev pub told_events : {Z : Type 0} → ℕ → List (Worker Z) → List Event → List ToldEvent
 told_events {Z} c workers history =
     filter_map
@@ -58,7 +58,7 @@ pub record FitsItsEnd (shown : ShownEnd) : Type 0 where
 abbrev pub end_of : {Z : Type 0} → ℕ → Report Z → Option ShownEnd
 end_of n report = option_map shown_end (slice_get report.ends.items (processor_index n))
 
--- the events that the report tells of channel c
+-- the events that the report has of channel c
 abbrev pub told_of : {Z : Type 0} → ℕ → Report Z → List ToldEvent
 told_of c report = told_events c report.ends.items (history_on c report.channels)
 

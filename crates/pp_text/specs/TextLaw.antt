@@ -1,4 +1,4 @@
--- What the text of a machine tells of it: two machines with one text agree on all that it shows.
+-- What the text of a machine says of it: two machines with one text agree on all that it shows.
 use Rattle.std.specs.Prelude.{◌≡◌, ℕ, ◌<◌, ◌^◌, List, [], ◌∷◌, Bool, true, false, All, IfSome, IsTrue}
 use Rattle.pp_channel.specs.ChannelNumber.{names_channel}
 use Rattle.pp_channel.specs.History.{HasTwelveBitWord, active, waiting}

@@ -5,7 +5,7 @@ use Rattle.pp_text.specs.Written.{AppendsFront}
 use Rattle.pp_text.specs.declared.text_writer.TextWriter.{TextWriter}
 
 -- So far this text has been printed, on a writer that began with these bytes: the writer has all of
--- the text but the piece that is held back, or else it has failed, and has a front of the text.
+-- the text but the piece that is held back, or else it has failed, and has a part of the text.
 pub record HasPrinted {W : Type 0} (contents : W → Option (List ℕ)) (start : Option (List ℕ))
     (text : List ℕ) (out : TextWriter W) : Type 0 where
   pub whole : out.failed ≡ false → (written : List ℕ) × (text ≡ written ++ out.piece)

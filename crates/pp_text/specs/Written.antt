@@ -4,17 +4,17 @@ use Rattle.std.specs.Io.KnownBytes.{Appends, Keeps}
 use Rattle.pp_text.specs.declared.report_fault.ReportFault.{ReportFault}
 use Rattle.pp_text.specs.declared.report_fault.ReportFault.TheVariants.{Memory, Write}
 
--- known bytes stay at the front and grow by a front of the text
+-- known bytes stay and grow by a first part of the text
 abbrev pub AppendsFront : Option (List ℕ) → Option (List ℕ) → List ℕ → Type 0
 AppendsFront old new text = (count : ℕ) × (count ≤ length text) × Appends old new (take count text)
 
--- what writing a text comes to: all of it is written, or a front of it
+-- what writing a text comes to: all of it is written, or a first part of it
 abbrev pub IsWritten : {E : Type 0} → List ℕ → Result (Unit {0}) E
     → Option (List ℕ) → Option (List ℕ) → Type 0
 IsWritten text (Ok done) old new = Appends old new text
 IsWritten text (Err fault) old new = AppendsFront old new text
 
--- the same of the text of a report: for want of memory nothing is written
+-- the same of the text of a report: for lack of memory nothing is written
 abbrev pub IsReportWritten : List ℕ → Result (Unit {0}) ReportFault
     → Option (List ℕ) → Option (List ℕ) → Type 0
 IsReportWritten text (Ok done) old new = Appends old new text

@@ -29,7 +29,7 @@ impl<A: Allocator> Model for ChannelAuthors<A> {
 }
 
 impl<A: Allocator> ChannelAuthors<A> {
-    /// Those of so many events, when none is known.
+    /// Those of this many events, when none is known.
     fn unknown(alloc: A, count: usize) -> Result<Self, AllocError>
         ensures length { IfOk result (λ authors. length authors ≡ count) }
         ensures none { IfOk result (λ authors. (number : ℕ)
@@ -97,7 +97,7 @@ fn unknown_authors<A: Allocator + Copy>(
     Ok(authors)
 }
 
-/// Marks the events that a log tells, on all channels, where they have no author yet.
+/// Marks the events that a log records, on all channels, where they have no author yet.
 fn mark<A: Allocator>(authors: &mut Vec<ChannelAuthors<A>, A>, log: &[Entry], author: PpNo)
     requires { length authors.old.items ≡ channel_count }
     ensures each_channel { length authors.new.items ≡ channel_count }

@@ -45,7 +45,7 @@ pub fn text_law()
 /// its author, on which processors are shown and on P, A and the end of each, and on what is shown
 /// of each channel. Where the logs of both merge over the same opening histories, the histories are
 /// the same too; and where they merge over those that dead start left of two machines, the text
-/// tells that these openings are the same.
+/// says that these openings are the same.
 pub fn report_law<A: Allocator>()
     ensures text { (named others : List Bool) (one other : Report A)
         → FitsItsReport named one → FitsItsReport others other

@@ -21,7 +21,7 @@ places_of word = lowest_places 18 word
 abbrev pub place : ℕ → ℕ → Bool
 place word i = slice_index_or (places_of word) i false
 
--- a rotation to the left by d: the d uppermost places come round to the low end
+-- a rotation to the left by d: the d uppermost places come back in at the low end
 abbrev pub rotated : ℕ → List Bool → List Bool
 rotated d bs = drop (18 - d % 18) bs ++ take (18 - d % 18) bs
 

@@ -1,5 +1,5 @@
 -- Sum and difference of the 18-bit accumulator in ones' complement, where all ones is a second zero.
--- (Manual 60100000, peripheral processors: the accumulator A. Which zero comes out is this project's choice.)
+-- (Manual 60100000, peripheral processors: the accumulator A. Which zero results is this project's choice.)
 use Rattle.std.specs.Prelude.{ℕ, ◌≡◌, ◌+◌, ◌-◌, ◌%◌, ◌^◌, ◌<◌, ◌↔◌, ◌==◌, if◌then◌else◌, ◌&&◌}
 
 -- 777777, the negative zero; the words count modulo this number

@@ -8,7 +8,7 @@ use crate::word18::Word18;
 /// 777777: the other zero.
 const ALL_ONES: u32 = 0o777_777;
 
-/// The ones' complement sum; 777777 comes out only of two words 777777.
+/// The ones' complement sum; 777777 results only from 777777 + 777777.
 pub fn add18(a: Word18, b: Word18) -> Word18
     ensures congruence { IsSum a b result }
     ensures value { result ≡ sum a b }
@@ -21,7 +21,7 @@ pub fn add18(a: Word18, b: Word18) -> Word18
     }
 }
 
-/// The ones' complement difference a - b; 777777 comes out only of 777777 less 000000.
+/// The ones' complement difference a - b; 777777 results only from 777777 - 000000.
 pub fn sub18(a: Word18, b: Word18) -> Word18
     ensures congruence { IsDifference a b result }
     ensures value { result ≡ difference a b }

@@ -37,7 +37,7 @@ impl Ration {
         is_among(self.number.load(Ordering::SeqCst), self.asked())
     }
 
-    /// Counts a request, and tells whether it is the one to refuse.
+    /// Counts a request, and says whether it is the one to refuse.
     pub fn refuses(&self) -> bool {
         let turn = self.asked.fetch_add(1, Ordering::SeqCst).wrapping_add(1);
         is_refused(turn, self.number.load(Ordering::SeqCst))

@@ -8,7 +8,7 @@ use std::alloc::{Allocator, Global};
 use std::test::Fail;
 use test_bench::{Pair, first};
 
-/// Whether the last word of a central memory holds what is put there, and none stands behind it.
+/// Whether the last word of a central memory holds what is put there, and none comes after it.
 fn holds_its_last_word<A: Allocator>(central: &mut Central<A>, size: u32) -> bool {
     let (last, behind) = (
         Word18::truncated(size.wrapping_sub(1)),

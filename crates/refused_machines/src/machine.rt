@@ -17,7 +17,7 @@ const FLAPPING: Pair = Pair {
     one: &[0o7405, 0o7505, 0o0375],
 };
 
-/// PP 0 loads PP 1 at dead start, with the three words behind its program.
+/// PP 0 loads PP 1 at dead start, with the three words after its program.
 const LOADER: Pair = Pair {
     zero: &[
         0o1403, 0o7301, 0o0107, 0o6601, 0o0103, 0o7501, 0o0300, 0o0000, 0o1405, 0o0300,
@@ -161,7 +161,7 @@ fn step_refused(rt: HostRuntime) -> Result<(), Fail> {
     Ok(())
 }
 
-/// A run that is cut is as after the steps that it did, and goes on from there. This tells whether the
+/// A run that is cut is as after the steps that it did, and goes on from there. This says whether the
 /// request of this number was made.
 fn run_refused(
     rt: &(impl Abort + AllocGlobal),
@@ -223,7 +223,7 @@ fn turns_refused(rt: HostRuntime) -> Result<(), Fail> {
     Ok(())
 }
 
-/// So many turns of the barrel, each by a call of `step`.
+/// This many turns of the barrel, each by a call of `step`.
 fn step_in_turn<A: Allocator>(machine: &mut Machine<A>, turns: u64) -> Result<(), Memory> {
     let profile = machine.profile();
     for turn in 0..turns {

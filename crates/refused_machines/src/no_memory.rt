@@ -64,7 +64,7 @@ fn shown<A: Allocator>(machine: &Machine<A>, n: PpNo) -> (u16, u32, PpState) {
     (pp.p().get(), pp.a().get(), pp.state())
 }
 
-/// Such a machine makes so many turns of the barrel, and four more steps.
+/// Such a machine makes this many turns of the barrel, and four more steps.
 fn expect_no_request<R: Abort + AllocGlobal>(
     rt: &R,
     profile: Profile,

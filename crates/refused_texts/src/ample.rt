@@ -11,7 +11,7 @@ use std::test::Fail;
 use std::thread::Threads;
 use test_bench::{BLOCK, HANDOFF, HANDOFF_ON_TWENTY, HANDOFF_TEXT, LONG_PATIENCE};
 
-/// The text of a run with one thread per processor, as long as may be.
+/// The text of a run with one thread per processor, as long as allowed.
 pub fn text_by_threads<R: AllocGlobal + Threads + Wait + Sync>(
     rt: &R,
     heap: &Rationed<Global>,

@@ -79,7 +79,7 @@ fn load_at_dead_start(heap: &Rationed<Global>, profile: Profile) -> Result<(u64,
     Ok((opened_in(&deck.machine), is_alone))
 }
 
-/// Each request in turn is refused, up to a run without a refusal, which opens so many channels.
+/// Each request in turn is refused, up to a run without a refusal, which opens this many channels.
 fn expect_dead_start_refused(rt: &(impl Abort + AllocGlobal), profile: Profile, opened: u64) {
     let heap = Rationed::new(rt.alloc());
     let no_memory = DeckFault {

@@ -1,5 +1,5 @@
-//! Each front of a deck, up to 2,000 bytes (decimal), over an allocator that counts the requests
-//! and refuses none: so none may be out of memory.
+//! Each part of a deck from its beginning, up to 2,000 bytes (decimal), over an allocator that counts
+//! the requests and refuses none: so none may be out of memory.
 
 use pp_machine::Profile;
 use pp_sim::{DeckCode, DeckFault, TextFault, barrel_text, read_deck};
@@ -35,8 +35,8 @@ fn deck(alloc: Global) -> Result<String, AllocError> {
     Ok(deck)
 }
 
-/// Why a front of the deck is refused: its last line is a keyword that is cut off, or one that has
-/// nothing behind it and should. Words may be cut anywhere.
+/// Why a part of the deck is refused: its last line is a keyword that is cut off, or one that has
+/// nothing after it and should. Words may be cut anywhere.
 fn fault_of(front: &str) -> Option<DeckFault> {
     let mut number = 1u32;
     for byte in front.bytes() {

@@ -27,7 +27,7 @@ const SENT: u32 = 24 * 4096;
 /// From this place on each place of PP 0 holds its own number.
 const NUMBERED: u16 = 0o200;
 
-/// The deck: its front, and the numbered places.
+/// The deck: its beginning, and the numbered places.
 fn deck(alloc: Global) -> Result<String, AllocError> {
     let mut deck = String::new(alloc);
     deck.push_str(FRONT)?;

@@ -34,7 +34,7 @@ fn is_same(one: &Pp, other: &Pp) -> bool {
         && one.block() == other.block()
 }
 
-/// How many workers of a report ended for want of memory. The processor of each is that of its load
+/// How many workers of a report ended for lack of memory. The processor of each is that of its load
 /// after its answers.
 fn out_of_memory<A: Allocator, B: Allocator>(
     rt: &impl Abort,
@@ -56,7 +56,7 @@ fn out_of_memory<A: Allocator, B: Allocator>(
     count
 }
 
-/// Loads a deck and runs it: how many workers ended for want of memory, and how many events a channel
+/// Loads a deck and runs it: how many workers ended for lack of memory, and how many events a channel
 /// had; or nothing where it was refused memory.
 fn run_deck<R: Threads + Wait + Sync + Abort, G: Gate + Sync, A: Allocator + Copy + Send + Sync>(
     rt: &R,
@@ -150,7 +150,7 @@ fn expect_refused<R: AllocGlobal + Threads + Wait + Sync + Abort>(
     panic!(rt; "a request is refused in each run")
 }
 
-/// How the text of a run ends, whether a worker ended for want of memory, whether the first event is told, and
+/// How the text of a run ends, whether a worker ended for lack of memory, whether the first event is shown, and
 /// whether nothing was written.
 fn text_of<R: AllocGlobal + Threads + Wait + Sync>(
     rt: &R,

@@ -28,7 +28,7 @@ const IN_THE_BARREL: [(&str, &str); 14] = [
     ("dead_start", "1600"),
 ];
 
-/// The same on twenty processors, in twice the turns, and the lines that stand behind their texts then:
+/// The same on twenty processors, in twice the turns, and the lines that follow their texts then:
 /// the channels on which the further processors wait.
 const ON_TWENTY: [(&str, &str, &str); 14] = [
     ("handoff", "80", ""),
@@ -74,15 +74,15 @@ const BY_CHANCE: [(&str, &str, &str); 2] = [
     ("disconnect_race", "text", "other"),
 ];
 
-/// The words that run a deck by threads, with the most patience there is: a thread that loses its core
-/// for a while costs the others tries, and no text may depend on that.
+/// The words that run a deck by threads. A processor that waits gives its core away again and again,
+/// so a million tries last until the others have done their work.
 const THREADS: [&str; 6] = [
     "ppsim",
     "threads",
     "--steps",
     "100",
     "--patience",
-    "4294967295",
+    "1000000",
 ];
 
 /// The same of twenty processors.
@@ -94,7 +94,7 @@ const THREADS_OF_TWENTY: [&str; 8] = [
     "--steps",
     "100",
     "--patience",
-    "4294967295",
+    "1000000",
 ];
 
 fn main(rt: HostRuntime) -> anyhow::Result<()> {
@@ -133,7 +133,7 @@ fn main(rt: HostRuntime) -> anyhow::Result<()> {
 }
 
 /// Says whether twenty processors give the text of ten with the turns of its events changed, and these
-/// lines behind it.
+/// lines after it.
 fn compare_on_twenty<R: Files + Print + Alloc<A = Global> + Threads + Wait + Sync>(
     rt: &R,
     name: &str,

@@ -3,7 +3,7 @@
 use std::alloc::{AllocError, Global};
 
 /// The text of a run in the barrel of ten processors as it is of twenty, in twice the turns: the
-/// lines of events have other turns in front.
+/// lines of events begin with other turns.
 pub fn text_of_twenty(alloc: Global, text: &str) -> Result<String, AllocError> {
     let mut changed = String::new(alloc);
     for line in text.lines() {
@@ -16,7 +16,7 @@ pub fn text_of_twenty(alloc: Global, text: &str) -> Result<String, AllocError> {
     Ok(changed)
 }
 
-/// The turn of an event and what stands behind it, or nothing for a line of a processor or a channel.
+/// The turn of an event and what follows it, or nothing for a line of a processor or a channel.
 fn turn_and_event(line: &str) -> Option<(u32, &str)> {
     let (front, event) = line.split_once(' ')?;
     let turn = front.parse::<u32>().ok()?;

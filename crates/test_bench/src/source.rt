@@ -14,7 +14,7 @@ pub struct Source<'a> {
 }
 
 impl<'a> Source<'a> {
-    /// Gives this text in pieces of so many bytes, and then errors of this kind.
+    /// Gives this text in pieces of this many bytes, and then errors of this kind.
     pub fn new(text: &'a [u8], piece: usize, error: Option<ErrorKind>) -> Source<'a> {
         Source {
             left: text,

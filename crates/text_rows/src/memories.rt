@@ -60,7 +60,7 @@ const MEMORIES: [(&str, u32, u8, u16, &[u16]); 9] = [
     (CENTRAL_BLOCK, 50, 0, 0o60, &[0, 0, 0, 0, 0]),
 ];
 
-/// The machine of a deck after so many turns of ten processors, or of twenty in twice as many.
+/// The machine of a deck after this many turns of ten processors, or of twenty in twice as many.
 fn machine_after(
     alloc: Global,
     profile: Profile,
@@ -76,7 +76,7 @@ fn machine_after(
     Ok(machine)
 }
 
-/// Whether these words stand in a processor from a place on, after so many turns of a deck.
+/// Whether these words stand in a processor from a place on, after this many turns of a deck.
 fn has_words(
     alloc: Global,
     profile: Profile,

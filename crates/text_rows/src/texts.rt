@@ -77,7 +77,7 @@ PP11 P=0000 A=000000 STOPPED
     ),
 ];
 
-/// Whether a deck gives this text after so many turns.
+/// Whether a deck gives this text after this many turns.
 fn gives(
     rt: &impl AllocGlobal,
     profile: Profile,
@@ -102,7 +102,7 @@ fn decks_give_their_texts(rt: HostRuntime) -> Result<(), Fail> {
 }
 
 /// Whether a deck gives on twenty processors, in twice the turns, the text that it has on ten with
-/// the turns of its events changed, and these lines behind it.
+/// the turns of its events changed, and these lines after it.
 fn gives_on_twenty(
     rt: &impl AllocGlobal,
     deck: &str,

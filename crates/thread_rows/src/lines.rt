@@ -27,7 +27,7 @@ fn act_in_turn<A: Allocator + Copy>(
     line
 }
 
-/// How many events a log tells.
+/// How many events a log records.
 fn events_told(log: &[Entry]) -> usize {
     log.iter()
         .filter(|entry| matches!(entry.what, Seen::Did(_)))

@@ -11,7 +11,7 @@ use test_bench::{BLOCK, Failure, LONG_PATIENCE, Sink, Source};
 
 /// Decks, the patience of their processors, and their texts in every schedule, worked by hand.
 const TEXTS: [(&str, u32, &str); 4] = [
-    // Words pass through central memory, before the channel word that tells that they are there.
+    // Words pass through central memory, before the channel word that says that they are there.
     (
         "CM 4 00060007001000110012\nPP 0\n0050 0001 0002 0003 0004 0005\n0100 1403 6250 7405 7205 0300\nSTART 0100\nPP 1\n0200 7005 6060 1601 6070 3064 3174 0300\nSTART 0200\n",
         LONG_PATIENCE,

@@ -32,11 +32,11 @@ fn one_more(a: Word18) -> Word18
     }
 }
 
-/// The last place (octal) with the four places behind it before the end of memory: five words from
-/// there on need no turn round to place 0000.
+/// The last place (octal) from which five words fit before the end of memory: five words from
+/// there on do not wrap to place 0000.
 const LAST_OF_FIVE: u16 = 0o7773;
 
-/// The place behind one that is not the last.
+/// The place after one that is not the last.
 fn place_behind(place: Word12) -> Word12
     requires { place < 0o7777 }
     ensures { result ≡ next_place place }
@@ -48,7 +48,7 @@ fn place_behind(place: Word12) -> Word12
 }
 
 impl Pp {
-    /// The five parts of a central word come to a place and the four behind it.
+    /// The five parts of a central word come to a place and the four after it.
     pub(super) fn receive(&mut self, place: Word12, central: Word60)
         ensures { self.new ≡ receives self.old place central }
     {
@@ -83,7 +83,7 @@ impl Pp {
         self.set(place, five);
     }
 
-    /// The central word of the five words at a place and the four behind it.
+    /// The central word of the five words at a place and the four after it.
     pub(super) fn central_from(&self, place: Word12) -> Word60
         ensures { result ≡ central_from self.now place }
     {
@@ -118,7 +118,7 @@ impl Pp {
         ])
     }
 
-    /// The end of a block: P goes behind the place whose number stands in place 0000.
+    /// The end of a block: P goes to the place after the place whose number stands in place 0000.
     fn end(&mut self)
         ensures { self.new ≡ ends self.old }
     {
@@ -156,7 +156,7 @@ impl Pp {
         }
     }
 
-    /// A central word of CRM or CWM has gone, and so many are left.
+    /// A central word of CRM or CWM has gone, and this many are left.
     fn count_up(&mut self, left: Word12, kind: BlockKind, place: Word12)
         requires running { self.old.state ≡ PpState.Running }
         requires left { 0 < left → HasWordsLeft kind }
@@ -171,7 +171,7 @@ impl Pp {
         }
     }
 
-    /// CRM: the start of a block of so many central words.
+    /// CRM: the start of a block of this many central words.
     pub(super) fn start_central_in(&mut self, left: Word12)
         requires { self.old.state ≡ PpState.Running }
         ensures { self.new ≡ starts self.old left (BlockKind.CentralIn left) }
@@ -179,7 +179,7 @@ impl Pp {
         self.start_block(u32::from(left.get()), BlockKind::CentralIn { left });
     }
 
-    /// CWM: the start of a block of so many central words.
+    /// CWM: the start of a block of this many central words.
     pub(super) fn start_central_out(&mut self, left: Word12)
         requires { self.old.state ≡ PpState.Running }
         ensures { self.new ≡ starts self.old left (BlockKind.CentralOut left) }

@@ -20,7 +20,7 @@ pub(super) fn leads_to_itself(d: Word6) -> bool
 }
 
 impl Pp {
-    /// P goes on behind an instruction of so many words.
+    /// P goes on after an instruction of this many words.
     pub(super) fn go_on(&mut self, words: u8)
         ensures { self.new ≡ goes_on self.old words }
     {

@@ -29,7 +29,7 @@ impl Pp {
 
     /// Lets it wait for a program that comes on a channel: a block input of 10000 words to its memory
     /// from place 0000 on (octal), with P = 0000, on the memory as it is. Once the channel is inactive
-    /// it goes on behind the place whose number stands in place 0000.
+    /// it goes on after the place whose number stands in place 0000.
     pub fn wait_load(&mut self, ch: ChannelNo)
         ensures { self.new ≡ waiting_on ch self.old }
     {

@@ -8,7 +8,7 @@ use crate::pp::Pp;
 use pp_word::{Opcode, Word6, Word12, Word18, decode, index_address};
 
 impl Pp {
-    /// The place so many places behind P.
+    /// The place this many places after P.
     pub(super) fn behind_p(&self, words: u8) -> Word12
         ensures { result ≡ behind_p self.now words }
     {
