@@ -1,39 +1,40 @@
 -- What a call of a line answers, from what its steps told.
-use Rattle.std.proofs.Common.{◌≡◌, ◌≢◌, ℕ, ◌+◌, ◌<◌, ◌≤◌, List, [], ◌∷◌, ◌++◌, length, take, Some, refl, sym, ap, ◌∙◌, subst, arith, append_assoc}
-use Rattle.std.specs.Prelude.{IsTrue, Contains, slice_set}
-use Rattle.std.proofs.lemmas.List.{length-set, length_push, length-take-le, take_all, take_at, get_or-set_same, set-set, set-get_or}
+use Rattle.std.proofs.Common.{◌≡◌, ◌≢◌, ℕ, ◌+◌, ◌<◌, ◌≤◌, List, [], ◌∷◌, ◌++◌, length, take, Some, None, refl, sym, ap, ◌∙◌, subst, arith, append_assoc}
+use Rattle.std.specs.Prelude.{Contains, slice_set}
+use Rattle.std.proofs.lemmas.List.{length_push, length-take-le, take_all, take_at, get_or-set_same, set-set, set-get_or}
 use Rattle.std.proofs.lemmas.List.Elements.{All-weaker, All-contains, Contains-push}
 use Rattle.pp_channel.specs.declared.chan_op.ChanOp.{ChanOp}
+use Rattle.pp_channel.specs.declared.chan_op.ChanOp.TheVariants as operations
 use Rattle.pp_channel.specs.declared.event.Event.{Event}
 use Rattle.pp_channel.specs.declared.event.Event.TheVariants.{Activate, Disconnect, Put, Take, Function}
 use Rattle.pp_channel.specs.declared.reply.Reply.{Reply}
 use Rattle.pp_channel.specs.declared.reply.Reply.TheVariants.{Flags, Held}
 use Rattle.pp_channel.specs.declared.flags.Flags.{Flags as FlagPair}
+use Rattle.pp_channel.specs.declared.entry.Entry.{Entry}
 use Rattle.pp_channel.specs.declared.entry.Seen.TheVariants.{Did, Saw}
 use Rattle.pp_channel.specs.declared.rule.LineView.{LineView}
 use Rattle.pp_channel.specs.declared.word_step.WordStep.{WordStep}
 use Rattle.pp_channel.specs.Answer.{IsAnswer, IsReady, operation_of, reply_made}
-use Rattle.pp_channel.specs.ChannelNumber.{channel_count, channel_index, names_channel}
+use Rattle.pp_channel.specs.ChannelNumber.{channel_count, channel_index}
 use Rattle.pp_channel.specs.ChannelWord.{number_in, flags_in, greatest_number}
 use Rattle.pp_channel.specs.History.{IsLawful, HasTwelveBitWord, HasTwelveBitWords}
 use Rattle.pp_channel.specs.Law.{KeepsLaw}
-use Rattle.pp_channel.specs.LineCalls.{with_word, with_look, TellsLine, HasMade, HasLost}
-use Rattle.pp_channel.specs.LineKept.{IsLineKept}
-use Rattle.pp_channel.specs.LineLog.{LogState, appended, looked, with_answer}
-use Rattle.pp_channel.specs.LineState.{LineState, Knows, number_after, IsActed, IsWornOut, AreClosed}
-use Rattle.pp_channel.specs.LineSteps.{Tells}
+use Rattle.pp_channel.specs.LineLog.{LogState, appended, looked, event_answered, with_answer, with_made}
+use Rattle.pp_channel.specs.LineState.{LineState, number_after, IsActed, IsWornOut, AreClosed}
+use Rattle.pp_channel.specs.LineSteps.{IsLogOf, Tells, IsLoad, IsWonExchange, IsLostExchange}
+use Rattle.pp_channel.specs.LineView.{finds, makes, Knows}
 use Rattle.pp_channel.specs.Merge.{history_on, Merges, no_opening}
 use Rattle.pp_channel.specs.RisingLog.{seen_on}
 use Rattle.pp_channel.specs.SharedWords.{IsFound}
 use Rattle.pp_channel.specs.ToldHistory.{IsToldBy}
 use Rattle.pp_channel.specs.WordStep.{event_in, step_from}
 use Rattle.pp_channel.proofs.ChannelPlaces.{place_below}
-use Rattle.pp_channel.proofs.ChannelWordLemmas.{looks_by_table, worn_by_table, held_by_table, next_by_event, next_word, ready_at_word, answer_made, answer_held, answer_looked, number_of_word}
+use Rattle.pp_channel.proofs.ChannelWordLemmas.{looks_by_table, worn_by_table, held_by_table, next_by_event, ready_at_word, answer_made, answer_held, answer_looked, number_of_word}
 use Rattle.pp_channel.proofs.FrontLemmas.{lawful_take, twelve_bits_take}
-use Rattle.pp_channel.proofs.MergeLemmas.{with_more, more_here, put_before}
-use Rattle.pp_channel.proofs.LineKeeping.{same_line, knows_by_view}
+use Rattle.pp_channel.proofs.MergeLemmas.{with_more, more_is, more_here, put_before, made_entry}
 use Rattle.pp_channel.proofs.LawLemmas.{law_of_lawful}
-use Rattle.pp_channel.proofs.LineKnowledge.{lawful_on, bits_on, number_told, flags_told, not_older_told, knows_word, knows_look, look_told, knows_deed}
+use Rattle.pp_channel.proofs.LineKeeping.{log_of_load}
+use Rattle.pp_channel.proofs.LineKnowledge.{lawful_on, bits_on, number_told, flags_told, not_older_told, knows_by_log}
 
 -- the histories with that of channel c put in its own place, or in place of a longer one
 put_back : (histories : List (List Event)) (c : ℕ) (h : List Event) → h ≡ history_on c histories → slice_set histories (channel_index c) h ≡ histories
@@ -47,6 +48,13 @@ written_by log c n (Put w) = refl
 written_by log c n (Take w) = refl
 written_by log c n (Function w) = refl
 
+made_by : (events : List Entry) (c n : ℕ) (e : Event) → with_made events c n (event_answered (operation_of e) (reply_made e)) ≡ events ++ made_entry c n e ∷ []
+made_by events c n Activate = refl
+made_by events c n Disconnect = refl
+made_by events c n (Put w) = refl
+made_by events c n (Take w) = refl
+made_by events c n (Function w) = refl
+
 counted_by : (n : ℕ) (e : Event) → number_after n (reply_made e) ≡ n + 1
 counted_by n Activate = refl
 counted_by n Disconnect = refl
@@ -54,82 +62,106 @@ counted_by n (Put w) = refl
 counted_by n (Take w) = refl
 counted_by n (Function w) = refl
 
--- what a line found last, and has seen then
-pub found_last : (line after : LineState) (c word : ℕ) → after ≡ with_word line c word → Contains after.found (record { channel = c; word = word })
-found_last line after c word is =
-    let P : LineState → Type 0 = λ x. Contains x.found (record { channel = c; word = word }) in
-    subst P (sym is) (Contains-push line.found (record { channel = c; word = word }))
+-- no event is answered by Held
+held_makes_none : (op : ChanOp) (f : FlagPair) → event_answered op (Held f) ≡ None
+held_makes_none operations.Probe f = refl
+held_makes_none operations.Activate f = refl
+held_makes_none operations.Disconnect f = refl
+held_makes_none (operations.Put w) f = refl
+held_makes_none operations.Take f = refl
+held_makes_none (operations.Function w) f = refl
 
-pub seen_last : (line after : LineState) (c word : ℕ) → IsTrue (names_channel c) → length line.seen ≡ channel_count → after ≡ with_word line c word → number_in word ≤ seen_on c after.seen
-seen_last line after c word named each is =
-    let low = place_below c named in
-    let P : LineState → Type 0 = λ x. number_in word ≤ seen_on c x.seen in
-    let there = get_or-set_same line.seen (channel_index c) (number_in word) 0 (omega arith) in
-    subst P (sym is) (omega arith)
+-- what a load found last, and the line has seen then
+pub found_last : (v w : LineView) (c word : ℕ) → IsLoad c v word w → Contains w.found (record { channel = c; word = word })
+found_last v w c word load =
+    let P : LineView → Type 0 = λ x. Contains x.found (record { channel = c; word = word }) in
+    subst P (sym load.after_is) (Contains-push v.found (record { channel = c; word = word }))
+
+pub seen_last : (v w : LineView) (c word : ℕ) → length v.seen ≡ channel_count → IsLoad c v word w → seen_on c w.seen ≡ number_in word
+seen_last v w c word each load =
+    let low = place_below c load.tells.named in
+    ap (λ x. seen_on c x.seen) load.after_is ∙ get_or-set_same v.seen (channel_index c) (number_in word) 0 (omega arith)
+
+-- a line whose view and log are these knows what they tell
+line_knows : (line : LineState) {v : LineView} {histories : List (List Event)} → line.view ≡ v → IsLogOf line.view line.log.entries → Knows v v.events histories → Knows line.view line.log.entries histories
+line_knows line {v} {histories} is log known =
+    let P : LineView → Type 0 = λ x. Knows x x.events histories in
+    knows_by_log log (subst P (sym is) known)
 
 -- a line that looked at what its load found
-module _ {line : LineState} {c word : ℕ} (t : TellsLine line c word) (op : ChanOp) where
-  abbrev now : List Event
-  now = history_on c t.histories
+module _ (line : LineState) {now : LineView} {c word : ℕ} (load : IsLoad c line.view word now) (before : IsLogOf line.view line.log.entries) (op : ChanOp) where
+  abbrev histories : List (List Event)
+  histories = load.tells.histories
 
-  now_lawful : IsLawful now
-  now_lawful = lawful_on t.histories c t.known.sound.lawful
+  abbrev history : List Event
+  history = history_on c histories
 
-  now_bits : HasTwelveBitWords now
-  now_bits = bits_on t.histories c t.known.sound.twelve_bits
+  now_lawful : IsLawful history
+  now_lawful = lawful_on histories c load.tells.known.sound.lawful
 
-  whole_now : take (number_in word) now ≡ now
-  whole_now = take_all (number_in word) now (let n = number_told t in omega arith)
+  now_bits : HasTwelveBitWords history
+  now_bits = bits_on histories c load.tells.known.sound.twelve_bits
 
-  knows_looked : Knows (with_look (with_word line c word) c word) t.histories
-  knows_looked = knows_look (knows_word t) c word (look_told t)
+  whole_now : take (number_in word) history ≡ history
+  whole_now = take_all (number_in word) history (let n = number_told load.tells in omega arith)
 
-  looked_at_once : (reply : Reply) (after : LineState) → after ≡ with_look (with_word line c word) c word
+  abbrev Looked : LineState → Type 0
+  Looked after = after ≡ record line { log = looked line.log (record { channel = c; number = number_in word; what = Saw (flags_in word) }); view = now }
+
+  looked_at_once : (reply : Reply) (after : LineState) → Looked after → IsLogOf after.view after.log.entries
       → with_answer line.log c op (number_in word) reply ≡ looked line.log (record { channel = c; number = number_in word; what = Saw (flags_in word) })
+      → event_answered op reply ≡ None
       → number_after (number_in word) reply ≡ number_in word
-      → IsAnswer now op reply now
+      → IsAnswer history op reply history
       → (op ≢ ChanOp.Probe → number_in word < greatest_number)
       → IsActed line c op (record { reply = reply; loaded = number_in word; number = number_in word }) after
-  looked_at_once reply after is written counted answer not_worn = record {
+  looked_at_once reply after is log written none counted answer not_worn = record {
     words = word ∷ [];
     words_found = (refl, refl);
-    after_is = is ∙ same_line (sym written) (ap (λ n. slice_set line.seen (channel_index c) n) (sym counted)) refl refl refl refl refl;
-    histories = t.histories;
-    known = let P : LineState → Type 0 = λ x. Knows x t.histories in subst P (sym is) knows_looked;
+    after_is = is ∙ (λ j. record line {
+      log = sym written j;
+      view = (load.after_is ∙ (λ i. record line.view {
+        events = with_made line.view.events c (number_in word) (sym none i);
+        seen = slice_set line.view.seen (channel_index c) (sym counted i);
+        found = line.view.found ++ record { channel = c; word = word } ∷ [];
+      })) j;
+    });
+    histories = histories;
+    known = line_knows after (ap (λ x. x.view) is) log load.known_after;
     answer = record {
-      now = sym (number_told t) ∙ sym counted;
-      at_once = λ _. let P : List Event → Type 0 = λ h. IsAnswer h op reply now in subst P (sym whole_now) answer;
+      now = sym (number_told load.tells) ∙ sym counted;
+      at_once = λ _. let P : List Event → Type 0 = λ h. IsAnswer h op reply history in subst P (sym whole_now) answer;
       lost = λ no. absurd (no refl);
     };
-    not_older = not_older_told t;
+    not_older = not_older_told load.tells;
     not_worn = not_worn;
-    alone = λ all. (refl, let P : List (List Event) → Type 0 = λ hs. Merges no_opening hs line.log.entries in subst P (sym (put_back t.histories c (take (number_in word) now) whole_now)) (t.known.all_known all).merged);
+    alone = λ all. (refl, let P : List (List Event) → Type 0 = λ hs. Merges no_opening hs line.log.entries in subst P (sym (put_back histories c (take (number_in word) history) whole_now)) ((knows_by_log before load.tells.known).all_known all).merged);
   }
 
-  pub acted_look : (f : FlagPair) (after : LineState) → WordStep.Look f ≡ step_from op word → after ≡ with_look (with_word line c word) c word
+  pub acted_look : (f : FlagPair) (after : LineState) → WordStep.Look f ≡ step_from op word → Looked after → IsLogOf after.view after.log.entries
       → IsActed line c op (record { reply = Flags f; loaded = number_in word; number = number_in word }) after
-  acted_look f after stepped is =
+  acted_look f after stepped is log =
       let k = looks_by_table word op f stepped in
-      looked_at_once (Flags f) after is (ap (λ g. looked line.log (record { channel = c; number = number_in word; what = Saw g })) k.1) refl (answer_looked word op f stepped now now_bits t.word_is) (λ no. absurd (no k.0))
+      looked_at_once (Flags f) after is log (ap (λ g. looked line.log (record { channel = c; number = number_in word; what = Saw g })) k.1) (ap (λ o. event_answered o (Flags f)) k.0) refl (answer_looked word op f stepped history now_bits load.tells.word_is) (λ no. absurd (no k.0))
 
-  pub acted_held : (f : FlagPair) (after : LineState) → WordStep.Held f ≡ step_from op word → number_in word ≤ greatest_number → after ≡ with_look (with_word line c word) c word
+  pub acted_held : (f : FlagPair) (after : LineState) → WordStep.Held f ≡ step_from op word → number_in word ≤ greatest_number → Looked after → IsLogOf after.view after.log.entries
       → IsActed line c op (record { reply = Held f; loaded = number_in word; number = number_in word }) after
-  acted_held f after stepped most is =
+  acted_held f after stepped most is log =
       let k = held_by_table word op f stepped in
-      looked_at_once (Held f) after is (ap (λ g. looked line.log (record { channel = c; number = number_in word; what = Saw g })) k.3) refl (answer_held word op f stepped now now_lawful now_bits t.word_is) (λ no. let n = k.1 in omega arith)
+      looked_at_once (Held f) after is log (ap (λ g. looked line.log (record { channel = c; number = number_in word; what = Saw g })) k.3) (held_makes_none op f) refl (answer_held word op f stepped history now_lawful now_bits load.tells.word_is) (λ no. let n = k.1 in omega arith)
 
-  pub worn_by_load : (after : LineState) → length line.seen ≡ channel_count → WordStep.Worn ≡ step_from op word → after ≡ with_word line c word → IsWornOut line c op after
-  worn_by_load after each stepped is =
+  pub worn_by_load : (after : LineState) → WordStep.Worn ≡ step_from op word → after ≡ record line { view = now } → IsLogOf after.view after.log.entries → IsWornOut line c op after
+  worn_by_load after stepped is log =
       let k = worn_by_table word op stepped in
       record {
         no_probe = k.0;
         word = word;
         word_found = k.1;
-        after_is = is ∙ ap (λ n. record line { seen = slice_set line.seen (channel_index c) n; found = line.found ++ record { channel = c; word = word } ∷ [] }) k.1;
-        histories = t.histories;
-        known = let P : LineState → Type 0 = λ x. Knows x t.histories in subst P (sym is) (knows_word t);
-        worn = sym (number_told t) ∙ k.1;
-        all_seen = ap (λ x. seen_on c x.seen) is ∙ (get_or-set_same line.seen (channel_index c) (number_in word) 0 (omega (arith, place_below c t.named, each)) ∙ k.1);
+        after_is = is ∙ ap (λ v. record line { view = v }) load.after_is;
+        histories = histories;
+        known = line_knows after (ap (λ x. x.view) is) log load.known_after;
+        worn = sym (number_told load.tells) ∙ k.1;
+        all_seen = ap (λ x. seen_on c x.view.seen) is ∙ (seen_last line.view now c word before.each_channel load ∙ k.1);
       }
 
   -- a line that tried an event after its load
@@ -141,75 +173,91 @@ module _ {line : LineState} {c word : ℕ} (t : TellsLine line c word) (op : Cha
     reply_is = (next_by_event word op e next reply stepped event).3
 
     operation_is : operation_of e ≡ op
-    operation_is = (ready_at_word word op e event now now_lawful now_bits t.word_is).operation
+    operation_is = (ready_at_word word op e event history now_lawful now_bits load.tells.word_is).operation
 
     -- the event was made
-    module _ (made : HasMade (with_word line c word) c word e after) (bits : HasTwelveBitWord e) (each : length line.seen ≡ channel_count) where
-      abbrev histories : List (List Event)
-      histories = made.tells.histories
+    module _ (won : IsWonExchange c now word e after.view) (bits : HasTwelveBitWord e) (is : after ≡ record line { log = appended line.log (made_entry c (number_in word) e); view = after.view }) (log : IsLogOf after.view after.log.entries) where
+      abbrev made_on : List (List Event)
+      made_on = won.tells.histories
 
-      abbrev before : List Event
-      before = history_on c histories
+      abbrev old : List Event
+      old = history_on c made_on
 
       abbrev longer : List Event
-      longer = history_on c (with_more histories c (e ∷ []))
+      longer = history_on c (with_more made_on c (e ∷ []))
 
-      before_lawful : IsLawful before
-      before_lawful = lawful_on histories c made.tells.known.sound.lawful
+      old_lawful : IsLawful old
+      old_lawful = lawful_on made_on c won.tells.known.sound.lawful
 
-      before_bits : HasTwelveBitWords before
-      before_bits = bits_on histories c made.tells.known.sound.twelve_bits
+      old_bits : HasTwelveBitWords old
+      old_bits = bits_on made_on c won.tells.known.sound.twelve_bits
 
-      more : IsLawful (before ++ e ∷ [])
-      more = (next_word word op e next reply stepped event bits before before_lawful before_bits made.tells.word_is).0
+      longer_is : longer ≡ old ++ e ∷ []
+      longer_is = more_here made_on c c (e ∷ []) (let n = place_below c won.tells.named in let l = won.tells.known.sound.each_channel in omega arith) refl
 
-      longer_is : longer ≡ before ++ e ∷ []
-      longer_is = more_here histories c c (e ∷ []) (let n = place_below c made.tells.named in let l = made.tells.known.sound.each_channel in omega arith) refl
-
-      front : take (number_in word) longer ≡ before
-      front = ap (take (number_in word)) longer_is ∙ take_at before (e ∷ []) (number_in word) (sym (number_told made.tells))
+      front : take (number_in word) longer ≡ old
+      front = ap (take (number_in word)) longer_is ∙ take_at old (e ∷ []) (number_in word) (sym (number_told won.tells))
 
       counted : number_after (number_in word) reply ≡ number_in word + 1
       counted = ap (λ r. number_after (number_in word) r) reply_is ∙ counted_by (number_in word) e
 
-      written : with_answer line.log c op (number_in word) reply ≡ appended line.log (record { channel = c; number = number_in word; what = Did e })
+      written : with_answer line.log c op (number_in word) reply ≡ appended line.log (made_entry c (number_in word) e)
       written = ap (λ r. with_answer line.log c op (number_in word) r) reply_is ∙ (ap (λ o. with_answer line.log c o (number_in word) (reply_made e)) (sym operation_is) ∙ written_by line.log c (number_in word) e)
 
-      opening : slice_set (with_more histories c (e ∷ [])) (channel_index c) (take (number_in word) longer) ≡ histories
-      opening = ap (λ h. slice_set (with_more histories c (e ∷ [])) (channel_index c) h) front ∙ put_before histories c (e ∷ [])
+      made : with_made line.view.events c (number_in word) (event_answered op reply) ≡ line.view.events ++ made_entry c (number_in word) e ∷ []
+      made = ap (λ r. with_made line.view.events c (number_in word) (event_answered op r)) reply_is ∙ (ap (λ o. with_made line.view.events c (number_in word) (event_answered o (reply_made e))) (sym operation_is) ∙ made_by line.view.events c (number_in word) e)
+
+      opening : slice_set (with_more made_on c (e ∷ [])) (channel_index c) (take (number_in word) longer) ≡ made_on
+      opening = ap (λ h. slice_set (with_more made_on c (e ∷ [])) (channel_index c) h) front ∙ put_before made_on c (e ∷ [])
+
+      view_is : after.view ≡ record line.view {
+        events = with_made line.view.events c (number_in word) (event_answered op reply);
+        seen = slice_set line.view.seen (channel_index c) (number_after (number_in word) reply);
+        found = line.view.found ++ record { channel = c; word = word } ∷ [];
+      }
+      view_is = won.after_is ∙ (ap (λ v. makes v c (number_in word) e) load.after_is ∙ (λ j. record line.view {
+        events = sym made j;
+        seen = (set-set line.view.seen (channel_index c) (number_in word) (number_in word + 1) ∙ ap (λ n. slice_set line.view.seen (channel_index c) n) (sym counted)) j;
+        found = line.view.found ++ record { channel = c; word = word } ∷ [];
+      }))
 
       pub acted_made : IsActed line c op (record { reply = reply; loaded = number_in word; number = number_in word }) after
       acted_made = record {
         words = word ∷ [];
         words_found = (refl, refl);
-        after_is = made.after_is ∙ same_line (sym written) (set-set line.seen (channel_index c) (number_in word) (number_in word + 1) ∙ ap (λ n. slice_set line.seen (channel_index c) n) (sym counted)) refl refl refl refl refl;
-        histories = with_more histories c (e ∷ []);
-        known =
-            let P : LineState → Type 0 = λ x. Knows x (with_more histories c (e ∷ [])) in
-            subst P (sym made.after_is) (knows_deed made.tells e (length-set line.seen (channel_index c) (number_in word) ∙ each) more bits);
+        after_is = is ∙ (λ j. record line { log = sym written j; view = view_is j });
+        histories = with_more made_on c (e ∷ []);
+        known = line_knows after refl log (subst (Knows after.view after.view.events) (sym (more_is made_on c (e ∷ []))) won.known_after);
         answer = record {
-          now = ap length longer_is ∙ (length_push before e ∙ (ap (λ n. n + 1) (sym (number_told made.tells)) ∙ sym counted));
+          now = ap length longer_is ∙ (length_push old e ∙ (ap (λ n. n + 1) (sym (number_told won.tells)) ∙ sym counted));
           at_once = λ _.
               let P : List Event → Type 0 = λ h. IsAnswer h op reply longer in
-              let Q : List Event → Type 0 = λ h. IsAnswer before op reply h in
-              subst P (sym front) (subst Q (sym longer_is) (answer_made word op e next reply stepped event before before_lawful before_bits made.tells.word_is));
+              let Q : List Event → Type 0 = λ h. IsAnswer old op reply h in
+              subst P (sym front) (subst Q (sym longer_is) (answer_made word op e next reply stepped event old old_lawful old_bits won.tells.word_is));
           lost = λ no. absurd (no refl);
         };
-        not_older = not_older_told t;
+        not_older = not_older_told load.tells;
         not_worn = not_worn_yet;
-        alone = λ all. (refl, let P : List (List Event) → Type 0 = λ hs. Merges no_opening hs line.log.entries in subst P (sym opening) (made.tells.known.all_known all).merged);
+        alone = λ all. (
+          refl,
+          let P : List (List Event) → Type 0 = λ hs. Merges no_opening hs line.log.entries in subst P (sym opening)
+              ((knows_by_log (log_of_load load before) won.tells.known).all_known (ap (λ v. v.shares) load.after_is ∙ (all ∙ ap (λ v. v.whole) (sym load.after_is)))).merged,
+        );
       }
 
     -- another event came first
-    module _ (found : ℕ) (lost : HasLost (with_word line c word) c word found after) where
-      abbrev later : List Event
-      later = history_on c lost.tells.histories
+    module _ (found : ℕ) (lost : IsLostExchange c word now found after.view) (is : after ≡ record line { log = looked line.log (record { channel = c; number = number_in found; what = Saw (flags_in found) }); view = after.view }) (log : IsLogOf after.view after.log.entries) where
+      abbrev found_in : List (List Event)
+      found_in = lost.load.tells.histories
 
-      first : IsFound lost.tells.histories (record { channel = c; word = word })
-      first = All-contains (IsFound lost.tells.histories) (with_word line c word).found (record { channel = c; word = word }) lost.tells.known.words_found (Contains-push line.found (record { channel = c; word = word }))
+      abbrev later : List Event
+      later = history_on c found_in
+
+      first : IsFound found_in (record { channel = c; word = word })
+      first = All-contains (IsFound found_in) now.found (record { channel = c; word = word }) lost.load.tells.known.words_found (found_last line.view now c word load)
 
       later_bits : HasTwelveBitWords later
-      later_bits = bits_on lost.tells.histories c lost.tells.known.sound.twelve_bits
+      later_bits = bits_on found_in c lost.load.tells.known.sound.twelve_bits
 
       first_number : number_in word ≡ first.0
       first_number = ap number_in (sym first.2) ∙ (number_of_word (take first.0 later) (twelve_bits_take first.0 later later_bits) ∙ length-take-le first.0 later first.1)
@@ -217,7 +265,18 @@ module _ {line : LineState} {c word : ℕ} (t : TellsLine line c word) (op : Cha
       was_ready : IsReady (take (number_in word) later) op e
       was_ready =
           let P : ℕ → Type 0 = λ n. IsReady (take n later) op e in
-          subst P (sym first_number) (ready_at_word word op e event (take first.0 later) (lawful_take first.0 later (lawful_on lost.tells.histories c lost.tells.known.sound.lawful)) (twelve_bits_take first.0 later later_bits) first.2)
+          subst P (sym first_number) (ready_at_word word op e event (take first.0 later) (lawful_take first.0 later (lawful_on found_in c lost.load.tells.known.sound.lawful)) (twelve_bits_take first.0 later later_bits) first.2)
+
+      view_lost : after.view ≡ record line.view {
+        events = with_made line.view.events c (number_in found) (event_answered op (Held (flags_in found)));
+        seen = slice_set line.view.seen (channel_index c) (number_in found);
+        found = line.view.found ++ record { channel = c; word = word } ∷ record { channel = c; word = found } ∷ [];
+      }
+      view_lost = lost.load.after_is ∙ (ap (λ v. finds v c found) load.after_is ∙ (λ j. record line.view {
+        events = with_made line.view.events c (number_in found) (sym (held_makes_none op (flags_in found)) j);
+        seen = set-set line.view.seen (channel_index c) (number_in word) (number_in found) j;
+        found = append_assoc line.view.found (record { channel = c; word = word } ∷ []) (record { channel = c; word = found } ∷ []) j;
+      }))
 
       pub acted_lost : IsActed line c op (record { reply = Held (flags_in found); loaded = number_in word; number = number_in found }) after
       acted_lost =
@@ -225,28 +284,26 @@ module _ {line : LineState} {c word : ℕ} (t : TellsLine line c word) (op : Cha
           record {
             words = word ∷ found ∷ [];
             words_found = (refl, refl, λ same. omega arith);
-            after_is = lost.after_is ∙ same_line refl (set-set line.seen (channel_index c) (number_in word) (number_in found)) (append_assoc line.found (record { channel = c; word = word } ∷ []) (record { channel = c; word = found } ∷ [])) refl refl refl refl;
-            histories = lost.tells.histories;
-            known =
-                let P : LineState → Type 0 = λ x. Knows x lost.tells.histories in
-                subst P (sym lost.after_is) (knows_look (knows_word lost.tells) c found (look_told lost.tells));
+            after_is = is ∙ ap (λ v. record line { log = looked line.log (record { channel = c; number = number_in found; what = Saw (flags_in found) }); view = v }) view_lost;
+            histories = found_in;
+            known = line_knows after refl log lost.load.known_after;
             answer = record {
-              now = sym (number_told lost.tells);
+              now = sym (number_told lost.load.tells);
               at_once = λ same. absurd (omega arith);
-              lost = λ _. record { later = above; was_ready = (e, was_ready); held = ap (λ f. Held f) (flags_told lost.tells) };
+              lost = λ _. record { later = above; was_ready = (e, was_ready); held = ap (λ f. Held f) (flags_told lost.load.tells) };
             };
-            not_older = not_older_told t;
+            not_older = not_older_told load.tells;
             not_worn = not_worn_yet;
-            alone = λ all. absurd (lost.others all);
+            alone = λ all. absurd (lost.others (ap (λ v. v.shares) load.after_is ∙ (all ∙ ap (λ v. v.whole) (sym load.after_is))));
           }
 
 -- a line that holds every share tells the histories whole
-pub told_whole : {v : LineView} {line : LineState} {c word : ℕ} → IsLineKept v line → (t : Tells v c word) → (all : line.shares ≡ line.whole) → IsToldBy line.log.entries line.seen t.histories
-told_whole kept tells all =
-    let known = knows_by_view kept tells.histories tells.says in
+pub told_whole : {v : LineView} {log : List Entry} {c word : ℕ} → IsLogOf v log → (t : Tells v c word) → v.shares ≡ v.whole → IsToldBy log v.seen t.histories
+told_whole is tells all =
+    let known = knows_by_log is tells.known in
     record { sound = known.sound; merged = (known.all_known all).merged; counted = (known.all_known all).seen }
 
-pub closed_by : (line : LineState) (histories : List (List Event)) → Knows line histories → line.shares ≡ line.whole → AreClosed line histories
+pub closed_by : (line : LineState) (histories : List (List Event)) → Knows line.view line.log.entries histories → line.view.shares ≡ line.view.whole → AreClosed line histories
 closed_by line histories known all = record {
   known = known;
   law = All-weaker IsLawful KeepsLaw law_of_lawful histories known.sound.lawful;

@@ -16,6 +16,11 @@ module _ {A : Type 0} where
   pub All-read : (P : A → Type 0) (xs : List A) (i : ℕ) (x : A) → All P xs → get_elem? xs i ≡ some x → P x
   All-read P xs i x p e = let r = read_at xs i x e in subst P r.1 (p i x r.0)
 
+  pub read_written : (xs : List A) (i : ℕ) (x y : A) → get_elem? xs i ≡ some x → get_elem? (set xs i y) i ≡ some y
+  read_written [] i x y e = absurd (some-ne-none x (sym e))
+  read_written (z ∷ zs) zero x y e = refl
+  read_written (z ∷ zs) (suc i) x y e = read_written zs i x y e
+
   All-front : (P : A → Type 0) (xs ys : List A) → All P (xs ++ ys) → All P xs
   All-front P xs ys p = subst (All P) (take_at xs ys (length xs) refl) (All-take P (length xs) (xs ++ ys) p)
 

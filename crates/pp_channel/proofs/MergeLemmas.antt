@@ -128,6 +128,10 @@ true_later before after grow entry p =
 pub with_more : List (List Event) → ℕ → List Event → List (List Event)
 with_more histories c more = set histories (channel_index c) (history_on c histories ++ more)
 
+pub more_is : (histories : List (List Event)) (c : ℕ) (more : List Event) → with_more histories c more ≡ set histories (channel_index c) (history_on c histories ++ more)
+unfolding with_more
+more_is histories c more = refl
+
 pub more_here : (histories : List (List Event)) (c d : ℕ) (more : List Event) → channel_index c < length histories → d ≡ c → history_on d (with_more histories c more) ≡ history_on c histories ++ more
 unfolding with_more
 more_here histories c d more l is = ap (λ x. history_on x (set histories (channel_index c) (history_on c histories ++ more))) is ∙ get_or-set_same histories (channel_index c) (history_on c histories ++ more) [] l

@@ -170,7 +170,7 @@ untold_is_empty c histories log m none =
     nil_from_length (history_on c histories)
     (⊎_elim (λ (l : 0 < length (history_on c histories)). let one = m.once c 0 (omega arith) l in absurd (omega (arith, one, none))) (λ (l : length (history_on c histories) ≤ 0). omega arith) (cases_lt 0 (length (history_on c histories))))
 
-pub activated : (line after : LineState) (c : ℕ) (r : Numbered) → channel_index c < channel_count → line.shares ≡ line.whole → times_told c 0 line.log.entries ≡ 0 → IsActed line c ChanOp.Activate r after → HasActivated line c r after
+pub activated : (line after : LineState) (c : ℕ) (r : Numbered) → channel_index c < channel_count → line.view.shares ≡ line.view.whole → times_told c 0 line.log.entries ≡ 0 → IsActed line c ChanOp.Activate r after → HasActivated line c r after
 activated line after c r named all none acted =
     let h : List Event = history_on c acted.histories in
     let alone = acted.alone all in
@@ -192,12 +192,10 @@ activated line after c r named all none acted =
     }
 
 -- it is never worn
-pub never_worn : (line after : LineState) (c : ℕ) (op : ChanOp) → line.shares ≡ line.whole → times_told c 0 line.log.entries ≡ 0 → IsWornOut line c op after → ⊥
+pub never_worn : (line after : LineState) (c : ℕ) (op : ChanOp) → line.view.shares ≡ line.view.whole → times_told c 0 line.log.entries ≡ 0 → IsWornOut line c op after → ⊥
 never_worn line after c op all none worn =
-    let shares : after.shares ≡ line.shares = ap (λ l. l.shares) worn.after_is in
-    let whole : after.whole ≡ line.whole = ap (λ l. l.whole) worn.after_is in
     let log : after.log.entries ≡ line.log.entries = ap (λ l. l.log.entries) worn.after_is in
-    let merged = (worn.known.all_known (shares ∙ (all ∙ sym whole))).merged in
+    let merged = (worn.known.all_known (ap (λ l. l.view.shares) worn.after_is ∙ (all ∙ ap (λ l. l.view.whole) (sym worn.after_is)))).merged in
     let told : times_told c 0 after.log.entries ≡ 0 = ap (λ l. times_told c 0 l) log ∙ none in
     let empty : length (history_on c worn.histories) ≡ 0 = ap length (untold_is_empty c worn.histories after.log.entries merged told) in
     omega (arith, empty, worn.worn)

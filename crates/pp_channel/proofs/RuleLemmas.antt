@@ -13,9 +13,9 @@ use Rattle.pp_channel.specs.declared.rule.LineView.{LineView}
 use Rattle.pp_channel.specs.ChannelNumber.{channel_index, names_channel}
 use Rattle.pp_channel.specs.ChannelWord.{number_in}
 use Rattle.pp_channel.specs.History.{IsLawful, HasTwelveBitWords}
-use Rattle.pp_channel.specs.LineSteps.{finds, weighs_once, SaysOf, Tells}
+use Rattle.pp_channel.specs.LineSteps.{Tells}
+use Rattle.pp_channel.specs.LineView.{finds, weighs_once, KnowsAll, Knows}
 use Rattle.pp_channel.specs.Merge.{IsTrueOf, Merges, no_opening, history_on, tells_event, times_told}
-use Rattle.pp_channel.specs.RisingLog.{seen_on}
 use Rattle.pp_channel.specs.SharedWords.{word_place, IsViewOf, KeepsRule}
 use Rattle.pp_channel.proofs.ChannelPlaces.{place_below}
 use Rattle.pp_channel.proofs.ListFacts.{All-read, All-part, flat_map-set_same, count_by-parts, sum_by-write, sum_by-sole}
@@ -75,35 +75,36 @@ module _ (whole : ℕ) (words : List ℕ) (views : List LineView) (histories : L
   }
 
   -- a view with every share has every event
-  pub alone : (id : ℕ) (v : LineView) → get_elem? views id ≡ some v → v.shares ≡ whole → Merges no_opening histories v.events × ((c : ℕ) → seen_on c v.seen ≡ length (history_on c histories))
+  pub alone : (id : ℕ) (v : LineView) → get_elem? views id ≡ some v → v.shares ≡ whole → KnowsAll v v.events histories
   alone id v at has =
       let f = view_at id v at in
       let once : TellsOnce histories v.events = λ c number.
       sym (sum_by-sole (times_in c number) shares_in views id v at (k.shares ∙ sym has)
       (All-weaker (IsViewOf histories whole) (λ w. w.shares ≡ 0 → times_in c number w ≡ 0) (λ w g z. ap (times_told c number) (g.spent z)) views k.views_are))
-      ∙ (sym (times-parts c number views) ∙ tells_once histories (all_events views) k.merged c number) in (
-        merges_by histories v.events once (events_at id v at),
-        λ c. let top = f.seen_happened c in dite (ℕ_discrete (length (history_on c histories)) 0) (λ z. omega arith)
+      ∙ (sym (times-parts c number views) ∙ tells_once histories (all_events views) k.merged c number) in
+      record {
+        merged = merges_by histories v.events once (events_at id v at);
+        seen = λ c. let top = f.seen_happened c in dite (ℕ_discrete (length (history_on c histories)) 0) (λ z. omega arith)
             (λ n. let last : ℕ = length (history_on c histories) - 1 in
             let o = once c last in
             let i = once_inside last (length (history_on c histories)) (omega arith) in
             let l = times_within c last v.seen v.events f.events_seen (omega arith) in
-            omega arith),
-      )
-
-  says_of : (id : ℕ) (v : LineView) → get_elem? views id ≡ some v → 0 < v.shares → SaysOf v histories
-  says_of id v at live =
-      let f = view_at id v at in
-      let same : v.whole ≡ whole = f.whole_is live in
-      record {
-        sound = k.sound;
-        events_true = events_at id v at;
-        view_is = subst (λ n. IsViewOf histories n v) (sym same) f;
-        all_shares = λ all. alone id v at (all ∙ same);
+            omega arith);
       }
 
-  pub tells : (id : ℕ) (v : LineView) (c : ℕ) → IsTrue (names_channel c) → get_elem? views id ≡ some v → 0 < v.shares → Tells v c (get_or words (word_place c) 0)
-  tells id v c names at live = record { histories = histories; says = says_of id v at live; word_is = sym (k.words_are c names) }
+  pub knows : (id : ℕ) (v : LineView) → get_elem? views id ≡ some v → 0 < v.shares → Knows v v.events histories
+  knows id v at live =
+      let f = view_at id v at in
+      record {
+        sound = k.sound;
+        log_true = events_at id v at;
+        seen_happened = f.seen_happened;
+        words_found = f.words_found;
+        all_known = λ all. alone id v at (all ∙ f.whole_is live);
+      }
+
+  abbrev pub tells : (id : ℕ) (v : LineView) (c : ℕ) → IsTrue (names_channel c) → get_elem? views id ≡ some v → 0 < v.shares → Tells v c (get_or words (word_place c) 0)
+  tells id v c names at live = record { named = names; histories = histories; known = knows id v at live; word_is = sym (k.words_are c names) }
 
   -- the view of a line that found the word of a channel
   pub found_kept : (id : ℕ) (v : LineView) (c : ℕ) → IsTrue (names_channel c) → get_elem? views id ≡ some v → KeepsRule whole words (set views id (finds v c (get_or words (word_place c) 0))) histories

@@ -5,7 +5,7 @@ use Rattle.std.proofs.lemmas.List.{get_or-set_same, get_or-set_other, ext_get_or
 use Rattle.std.proofs.lemmas.List.Elements.{All-weaker}
 use Rattle.pp_channel.specs.declared.entry.Entry.{Entry}
 use Rattle.pp_channel.specs.ChannelNumber.{channel_index}
-use Rattle.pp_channel.specs.LineState.{greater_of_each}
+use Rattle.pp_channel.specs.LineView.{greater_of_each}
 use Rattle.pp_channel.specs.RisingLog.{known_after, seen_on, IsWithin}
 
 -- one of the numbers is written

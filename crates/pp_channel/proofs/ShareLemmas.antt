@@ -14,7 +14,7 @@ use Rattle.pp_channel.specs.declared.rule.LineView.{LineView}
 use Rattle.pp_channel.specs.ChannelNumber.{channel_count, channel_index}
 use Rattle.pp_channel.specs.ChannelWord.{history_word}
 use Rattle.pp_channel.specs.History.{IsLawful, HasTwelveBitWord, HasTwelveBitWords}
-use Rattle.pp_channel.specs.LineSteps.{first_view, parent_view, child_view, joined_view, spent_view}
+use Rattle.pp_channel.specs.LineView.{first_view, parent_view, child_view, joined_view, spent_view}
 use Rattle.pp_channel.specs.Merge.{IsTrueOf, Merges, no_opening, history_on}
 use Rattle.pp_channel.specs.RisingLog.{seen_on}
 use Rattle.pp_channel.specs.SharedWords.{word_place, place_count, IsFound, IsViewOf, Rule}

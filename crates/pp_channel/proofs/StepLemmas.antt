@@ -15,15 +15,16 @@ use Rattle.pp_channel.specs.declared.rule.LineView.{LineView}
 use Rattle.pp_channel.specs.ChannelNumber.{channel_count, channel_index, names_channel}
 use Rattle.pp_channel.specs.ChannelWord.{history_word, number_in}
 use Rattle.pp_channel.specs.History.{IsLawful, HasTwelveBitWord, HasTwelveBitWords}
-use Rattle.pp_channel.specs.LineSteps.{finds, makes, weighs_once, Tells, IsLoad, IsLostExchange, IsWeighing, loads, exchanges, weighs}
+use Rattle.pp_channel.specs.LineSteps.{IsLoad, IsWonExchange, IsLostExchange, IsWeighing, loads, exchanges, weighs}
+use Rattle.pp_channel.specs.LineView.{finds, makes, weighs_once, Knows}
 use Rattle.pp_channel.specs.Merge.{IsTrueOf, history_on}
 use Rattle.pp_channel.specs.RisingLog.{seen_on}
 use Rattle.pp_channel.specs.SharedWords.{word_place, place_count, IsFound, IsViewOf, KeepsRule, Rule}
 use Rattle.pp_channel.proofs.ChannelPlaces.{place_below, named_below, one_place}
-use Rattle.pp_channel.proofs.ListFacts.{All-parts_set, sum_by-write, read-le-sum_by}
-use Rattle.pp_channel.proofs.MergeLemmas.{once_below, TellsOnce, tells_once, merges_by, times_told_push, made_entry, told_elsewhere, told_next, Grow, slice_get_last, true_later, with_more, more_here, same_elsewhere, more_grow, length-with_more, All-with_more}
+use Rattle.pp_channel.proofs.ListFacts.{read_written, All-parts_set, sum_by-write, read-le-sum_by}
+use Rattle.pp_channel.proofs.MergeLemmas.{once_below, TellsOnce, tells_once, merges_by, times_told_push, made_entry, told_elsewhere, told_next, Grow, slice_get_last, true_later, with_more, more_is, more_here, same_elsewhere, more_grow, length-with_more, All-with_more}
 use Rattle.pp_channel.proofs.ViewLemmas.{view_later, view_makes, later_found}
-use Rattle.pp_channel.proofs.RuleLemmas.{events_in, all_events, shares_in, times-write, lawful_on, low_on, word_on, view_at, events_at, found_kept, weighed_kept, alone, tells}
+use Rattle.pp_channel.proofs.RuleLemmas.{events_in, all_events, shares_in, times-write, lawful_on, low_on, word_on, view_at, events_at, found_kept, weighed_kept, alone, knows, tells}
 
 abbrev M : Type 0
 M = Me Event LineView
@@ -36,6 +37,17 @@ one_channel c d names e = sym (one_place c d names (omega arith))
 named_word : (c i : ℕ) → i ≡ word_place c → i < place_count → IsTrue (names_channel c)
 named_word c i place low = named_below c (omega arith)
 
+-- what a load tells, in a table that keeps the rule
+loaded : (whole : ℕ) (words : List ℕ) (views : List LineView) (histories : List (List Event)) (k : KeepsRule whole words views histories) (id : ℕ) (v : LineView) (c : ℕ) → IsTrue (names_channel c) → get_elem? views id ≡ some v → 0 < v.shares
+    → IsLoad c v (get_or words (word_place c) 0) (finds v c (get_or words (word_place c) 0))
+loaded whole words views histories k id v c names at live =
+    let w : LineView = finds v c (get_or words (word_place c) 0) in
+    record {
+      after_is = refl;
+      tells = tells whole words views histories k id v c names at live;
+      known_after = knows whole words (set views id w) histories (found_kept whole words views histories k id v c names at) id w (read_written views id v w at) live;
+    }
+
 -- a load
 load_at : (whole slots id : ℕ) (me : M) (c : ℕ) → IsTrue (names_channel c) → Allows (Rule whole) slots id me (word_place c) (λ n. n) (loads (step slots (word_place c) 0 0 none) me)
 load_at whole slots id me c names s r _ at _ =
@@ -46,7 +58,7 @@ load_at whole slots id me c names s r _ at _ =
       keeps,
       tt,
       (r.0, subst (λ ws. KeepsRule whole ws (set s.views id w) r.0) (sym (set-get_or s.words (word_place c) 0)) (found_kept whole s.words s.views r.0 k id me.0 c names at)),
-      (refl, λ d on live. subst (λ t. IsLoad t me.0 n w) (one_channel c d names on.place) (record { after_is = refl; tells = tells whole s.words s.views r.0 k id me.0 c names at live })),
+      (refl, λ d on live. subst (λ t. IsLoad t me.0 n w) (one_channel c d names on.place) (loaded whole s.words s.views r.0 k id me.0 c names at live)),
     )
 
 pub load_allowed : (whole slots id : ℕ) (me : M) (c i : ℕ) → i ≡ word_place c → i < place_count → Allows (Rule whole) slots id me i (λ n. n) (loads (step slots i 0 0 none) me)
@@ -151,8 +163,22 @@ module _ (whole : ℕ) (words : List ℕ) (views : List LineView) (histories : L
             (All-weaker (IsViewOf histories whole) (IsViewOf after whole) (λ x f. view_later histories after whole x grown f) views k.views_are);
       }
 
-  made_at : (id : ℕ) (v : LineView) (n : ℕ) → n ≡ length (history_on c histories) → get_elem? views id ≡ some v → 0 < v.shares → (histories : List (List Event)) × KeepsRule whole (set words (word_place c) new) (set views id (makes v c n e)) histories
-  made_at id v n is at live = (after, subst (λ (t : ℕ). KeepsRule whole (set words (word_place c) new) (set views id (makes v c t e)) after) (sym is) (made id v at live))
+  made_at : (id : ℕ) (v : LineView) (n : ℕ) → n ≡ length (history_on c histories) → get_elem? views id ≡ some v → 0 < v.shares → KeepsRule whole (set words (word_place c) new) (set views id (makes v c n e)) after
+  made_at id v n is at live = subst (λ (t : ℕ). KeepsRule whole (set words (word_place c) new) (set views id (makes v c t e)) after) (sym is) (made id v at live)
+
+  -- what the exchange that makes it tells
+  won : (id : ℕ) (v : LineView) → get_elem? views id ≡ some v → 0 < v.shares → IsWonExchange c v (get_or words (word_place c) 0) e (makes v c (number_in (get_or words (word_place c) 0)) e)
+  unfolding after
+  won id v at live =
+      let n : ℕ = get_or words (word_place c) 0 in
+      let w : LineView = makes v c (number_in n) e in
+      let kept = made_at id v (number_in n) (word_on whole words views histories k c names) at live in
+      record {
+        after_is = refl;
+        tells = tells whole words views histories k id v c names at live;
+        known_after = subst (Knows w w.events) (more_is histories c (e ∷ []))
+            (knows whole (set words (word_place c) new) (set views id w) after kept id w (read_written views id v w at) live);
+      }
 
 -- The line with the view v loaded the word `before` of channel c last; where the word is another now, other lines made events.
 lost : (whole : ℕ) (words : List ℕ) (views : List LineView) (histories : List (List Event)) (k : KeepsRule whole words views histories) (id : ℕ) (v was : LineView) (c before : ℕ) → IsTrue (names_channel c)
@@ -168,9 +194,9 @@ lost whole words views histories k id v was c before names at live from other =
     let wide : length was.seen ≡ channel_count = sym (length-set was.seen (channel_index c) (number_in before)) ∙ (ap (λ (t : LineView). length t.seen) (sym from) ∙ f.each_channel live) in
     let now : seen_on c v.seen ≡ number_in before = ap (λ (t : LineView). seen_on c t.seen) from ∙ get_or-set_same was.seen (channel_index c) (number_in before) 0 (omega arith) in
     record {
-      after_is = refl;
+      load = loaded whole words views histories k id v c names at live;
       later = later;
-      others = λ all. let known = (alone whole words views histories k id v at (all ∙ f.whole_is live)).1 c in omega arith;
+      others = λ all. let known = (alone whole words views histories k id v at (all ∙ f.whole_is live)).seen c in omega arith;
     }
 
 -- an exchange for any event that the history takes
@@ -181,16 +207,16 @@ exchange_at whole slots id me c expected new e was names live from next s r _ at
     let n : ℕ = get_or s.words (word_place c) 0 in
     let h = r.0 in
     let k = r.1 in
-    let told : Tells me.0 c n = tells whole s.words s.views h k id me.0 c names at live in
-    let Told : LineView → Bool → ℕ → Type 0 = λ w b d. MatchBool b (w ≡ makes me.0 d (number_in n) e) (IsLostExchange d expected me.0 n w) × Tells me.0 d n in
+    let Told : LineView → Bool → ℕ → Type 0 = λ w b d. MatchBool b (IsWonExchange d me.0 n e w) (IsLostExchange d expected me.0 n w) in
     dite (ℕ_discrete n expected)
     (λ (hit : n ≡ expected). let w : LineView = makes me.0 c (number_in n) e in
-    let kept = made_at whole s.words s.views h k c names e new (next (history_on c h) (lawful_on whole s.words s.views h k c names) (low_on whole s.words s.views h k c names) (sym (k.words_are c names) ∙ hit)) id me.0 (number_in n) (word_on whole s.words s.views h k c names) at live in (
+    let takes = next (history_on c h) (lawful_on whole s.words s.views h k c names) (low_on whole s.words s.views h k c names) (sym (k.words_are c names) ∙ hit) in
+    let kept = made_at whole s.words s.views h k c names e new takes id me.0 (number_in n) (word_on whole s.words s.views h k c names) at live in (
       w,
       keeps,
       tt,
-      subst (λ b. Rule whole (stepped s (word_place c) (either b new n) id me.1 w keeps)) (sym (eq-eqb n expected hit)) kept,
-      (refl, λ d on _. subst (Told w (eqb n expected)) (one_channel c d names on.place) (subst (λ b. Told w b c) (sym (eq-eqb n expected hit)) (refl, told))),
+      subst (λ b. Rule whole (stepped s (word_place c) (either b new n) id me.1 w keeps)) (sym (eq-eqb n expected hit)) (after whole s.words s.views h k c names e new takes, kept),
+      (refl, λ d on _. subst (Told w (eqb n expected)) (one_channel c d names on.place) (subst (λ b. Told w b c) (sym (eq-eqb n expected hit)) (won whole s.words s.views h k c names e new takes id me.0 at live))),
     ))
     (λ (miss : n ≢ expected). let w : LineView = finds me.0 c n in (
       w,
@@ -198,7 +224,7 @@ exchange_at whole slots id me c expected new e was names live from next s r _ at
       tt,
       subst (λ b. Rule whole (stepped s (word_place c) (either b new n) id me.1 w keeps)) (sym (ne_eqb n expected miss))
           (h, subst (λ ws. KeepsRule whole ws (set s.views id w) h) (sym (set-get_or s.words (word_place c) 0)) (found_kept whole s.words s.views h k id me.0 c names at)),
-      (refl, λ d on _. subst (Told w (eqb n expected)) (one_channel c d names on.place) (subst (λ b. Told w b c) (sym (ne_eqb n expected miss)) (lost whole s.words s.views h k id me.0 was c expected names at live from miss, told))),
+      (refl, λ d on _. subst (Told w (eqb n expected)) (one_channel c d names on.place) (subst (λ b. Told w b c) (sym (ne_eqb n expected miss)) (lost whole s.words s.views h k id me.0 was c expected names at live from miss))),
     ))
 
 pub exchange_allowed : (whole slots id : ℕ) (me : M) (c i expected new : ℕ) (e : Event) (was : LineView) → i ≡ word_place c → i < place_count → 0 < me.0.shares → me.0 ≡ finds was c expected

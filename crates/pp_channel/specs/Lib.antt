@@ -11,8 +11,7 @@ pub mod LineLog
 pub mod Merge
 pub mod RisingLog
 pub mod SharedWords
-pub mod LineState
+pub mod LineView
 pub mod LineSteps
-pub mod LineKept
-pub mod LineCalls
+pub mod LineState
 pub mod ToldHistory

@@ -63,3 +63,11 @@ with_answer log c op number reply = with_event log c number (event_answered op r
 -- The log after an answer to an operation on channel c.
 abbrev pub log_after : LogState → ℕ → ChanOp → Numbered → LogState
 log_after log c op r = with_answer log c op r.number r.reply
+
+-- the events that a line made, after that answer
+abbrev pub with_made : List Entry → ℕ → ℕ → Option Event → List Entry
+with_made events c number None = events
+with_made events c number (Some e) = events ++ record { channel = c; number = number; what = Seen.Did e } ∷ []
+
+abbrev pub events_after : List Entry → ℕ → ChanOp → Numbered → List Entry
+events_after events c op r = with_made events c r.number (event_answered op r.reply)

@@ -1,89 +1,55 @@
 -- A line as contracts see it: what it holds, what it knows of the channels' histories, and what its
 -- calls make of it.
-use Rattle.std.specs.Prelude.{◌≡◌, ◌≢◌, ℕ, ◌+◌, ◌<◌, ◌≤◌, max, List, [], ◌∷◌, ◌++◌, length, map, zip, replicate, take, All, slice_set, true}
+use Rattle.std.specs.Prelude.{◌≡◌, ◌≢◌, ℕ, ◌+◌, ◌<◌, ◌≤◌, List, [], ◌∷◌, ◌++◌, length, map, take, All, slice_set, true}
 use Rattle.atomic_table.specs.Seated.{TableId}
 use Rattle.pp_channel.specs.declared.chan_op.ChanOp.{ChanOp}
 use Rattle.pp_channel.specs.declared.event.Event.{Event}
 use Rattle.pp_channel.specs.declared.numbered.Numbered.{Numbered}
 use Rattle.pp_channel.specs.declared.reply.Reply.{Reply}
 use Rattle.pp_channel.specs.declared.rule.FoundWord.{FoundWord}
+use Rattle.pp_channel.specs.declared.rule.LineView.{LineView}
 use Rattle.pp_channel.specs.Answer.{IsAnswer, IsReady, flags_of}
-use Rattle.pp_channel.specs.ChannelNumber.{channel_count, channel_index}
+use Rattle.pp_channel.specs.ChannelNumber.{channel_index}
 use Rattle.pp_channel.specs.ChannelWord.{number_in, greatest_number}
 use Rattle.pp_channel.specs.Law.{KeepsLaw}
-use Rattle.pp_channel.specs.LineLog.{LogState, empty_log, log_after}
-use Rattle.pp_channel.specs.Merge.{AreHistories, IsTrueOf, Merges, no_opening, history_on}
+use Rattle.pp_channel.specs.LineLog.{LogState, empty_log, log_after, events_after}
+use Rattle.pp_channel.specs.LineView.{first_view, child_view, joined_view, weighs_once, finds, Knows}
+use Rattle.pp_channel.specs.Merge.{Merges, no_opening, history_on}
 use Rattle.pp_channel.specs.RisingLog.{seen_on}
-use Rattle.pp_channel.specs.SharedWords.{IsFound}
 
 -- Lines that were split from one another are a family, and share one table of words. A line has its
--- log; how many events of each channel it has seen; the words that it found, in order; how often it
--- weighed its shares by a load that took no note of the word; its shares, of how many in its family;
--- and the table of the words that it shares.
+-- log; its view, which is what it knows: its shares, of how many in its family, the events that it made,
+-- the words that it found, in order, how often it weighed its shares by a load that took no note of the
+-- word, and how many events of each channel it has seen; and the table of the words that it shares.
 pub record LineState : Type 0 where
   pub log : LogState
-  pub seen : List ℕ
-  pub found : List FoundWord
-  pub weighed : ℕ
-  pub shares : ℕ
-  pub whole : ℕ
+  pub view : LineView
   pub table : TableId
 
 -- The first line of its family: it holds every share, and has seen nothing.
 pub record IsOpened (room lines : ℕ) (line : LineState) : Type 0 where
   pub log : line.log ≡ empty_log room
-  pub seen : line.seen ≡ replicate channel_count 0
-  pub found : line.found ≡ []
-  pub weighed : line.weighed ≡ 0
-  pub shares : line.shares ≡ lines
-  pub whole : line.whole ≡ lines
+  pub view : line.view ≡ first_view lines
 
 -- A line of one share that was split from another: it has seen what the other has seen, and has an
 -- empty log of its own.
 pub record IsSplitFrom (parent : LineState) (room : ℕ) (line : LineState) : Type 0 where
   pub log : line.log ≡ empty_log room
-  pub seen : line.seen ≡ parent.seen
-  pub found : line.found ≡ []
-  pub weighed : line.weighed ≡ 0
-  pub shares : line.shares ≡ 1
-  pub whole : line.whole ≡ parent.whole
+  pub view : line.view ≡ child_view parent.view
   pub table : line.table ≡ parent.table
 
--- the greater number for each channel
-abbrev pub greater_of_each : List ℕ → List ℕ → List ℕ
-greater_of_each seen other = map (λ pair. max pair.0 pair.1) (zip seen other)
-
--- Two lines as one: the entries of the one and then those of the other, the room of the one, and the
--- shares of both, which it has weighed once more.
+-- Two lines as one: the entries of the one and then those of the other, the room of the one, and what
+-- both know, with the shares of both, which it has weighed once more.
 abbrev pub joined : LineState → LineState → LineState
 joined line other = record {
   log = record { entries = line.log.entries ++ other.log.entries; room = line.log.room; kept = true };
-  seen = greater_of_each line.seen other.seen;
-  found = line.found ++ other.found;
-  weighed = line.weighed + other.weighed + 1;
-  shares = line.shares + other.shares;
-  whole = line.whole;
+  view = weighs_once (joined_view line.view other.view);
   table = line.table;
 }
 
 -- Of each channel the line afterwards has seen at least as many events as this one.
 abbrev pub ForgetsNothing : LineState → LineState → Type 0
-ForgetsNothing line after = (c : ℕ) → seen_on c line.seen ≤ seen_on c after.seen
-
--- A line that holds every share knows all that happened.
-pub record KnowsAll (line : LineState) (histories : List (List Event)) : Type 0 where
-  pub merged : Merges no_opening histories line.log.entries
-  pub seen : (c : ℕ) → seen_on c line.seen ≡ length (history_on c histories)
-
--- A line knows of the histories of the channels: they are lawful, with words of 12 bits; its log is
--- true of them; it has seen no more events than they have, and each word that it found is that of a
--- front of one.
-pub record Knows (line : LineState) (histories : List (List Event)) : Type 0 where
-  pub sound : AreHistories histories
-  pub log_true : All (IsTrueOf histories) line.log.entries
-  pub seen_happened : (c : ℕ) → seen_on c line.seen ≤ length (history_on c histories)
-  pub words_found : All (IsFound histories) line.found
-  pub all_known : line.shares ≡ line.whole → KnowsAll line histories
+ForgetsNothing line after = (c : ℕ) → seen_on c line.view.seen ≤ seen_on c after.view.seen
 
 -- how many events of the channel are known after an answer: one more where it was an event
 abbrev pub number_after : ℕ → Reply → ℕ
@@ -120,8 +86,11 @@ found_on c words = map (λ word. record { channel = c; word = word }) words
 abbrev pub answered : LineState → ℕ → ChanOp → Numbered → List ℕ → LineState
 answered line c op r words = record line {
   log = log_after line.log c op r;
-  seen = slice_set line.seen (channel_index c) (number_after r.number r.reply);
-  found = line.found ++ found_on c words;
+  view = record line.view {
+    events = events_after line.view.events c op r;
+    seen = slice_set line.view.seen (channel_index c) (number_after r.number r.reply);
+    found = line.view.found ++ found_on c words;
+  };
 }
 
 -- What a call answers: the line afterwards knows histories of which the history of channel c gave
@@ -131,36 +100,29 @@ pub record IsActed (line : LineState) (c : ℕ) (op : ChanOp) (r : Numbered) (af
   pub words_found : AreFoundBy r words
   pub after_is : after ≡ answered line c op r words
   pub histories : List (List Event)
-  pub known : Knows after histories
+  pub known : Knows after.view after.log.entries histories
   pub answer : IsAnsweredBy (history_on c histories) op r
   -- no look is older than what the line had seen
-  pub not_older : seen_on c line.seen ≤ r.loaded
+  pub not_older : seen_on c line.view.seen ≤ r.loaded
   -- on a worn channel only a probe is answered
   pub not_worn : op ≢ ChanOp.Probe → r.loaded < greatest_number
   -- a line that holds every share knew the whole histories before this answer
-  pub alone : line.shares ≡ line.whole
+  pub alone : line.view.shares ≡ line.view.whole
       → (r.number ≡ r.loaded) × Merges no_opening (slice_set histories (channel_index c) (take r.loaded (history_on c histories))) line.log.entries
-
--- The line after a call that found channel c worn.
-abbrev pub worn_out : LineState → ℕ → ℕ → LineState
-worn_out line c word = record line {
-  seen = slice_set line.seen (channel_index c) greatest_number;
-  found = line.found ++ record { channel = c; word = word } ∷ [];
-}
 
 -- The channel has had as many events as its word can count, the line has now seen them all, and the operation is no probe.
 pub record IsWornOut (line : LineState) (c : ℕ) (op : ChanOp) (after : LineState) : Type 0 where
   pub no_probe : op ≢ ChanOp.Probe
   pub word : ℕ
   pub word_found : number_in word ≡ greatest_number
-  pub after_is : after ≡ worn_out line c word
+  pub after_is : after ≡ record line { view = finds line.view c word }
   pub histories : List (List Event)
-  pub known : Knows after histories
+  pub known : Knows after.view after.log.entries histories
   pub worn : length (history_on c histories) ≡ greatest_number
-  pub all_seen : seen_on c after.seen ≡ greatest_number
+  pub all_seen : seen_on c after.view.seen ≡ greatest_number
 
 -- The channels of a line that holds every share: their histories are those that its log tells.
 pub record AreClosed (line : LineState) (histories : List (List Event)) : Type 0 where
-  pub known : Knows line histories
+  pub known : Knows line.view line.log.entries histories
   pub law : All KeepsLaw histories
   pub merged : Merges no_opening histories line.log.entries

@@ -4,9 +4,13 @@ ghost use Rattle.std.specs.Prelude.{◌≡◌, ◌≤◌, ◌+◌, ◌-◌, List
 ghost use Rattle.pp_channel.specs.declared.event.Event.{Event};
 ghost use Rattle.pp_channel.specs.ChannelNumber.{channel_count};
 ghost use Rattle.pp_channel.specs.RisingLog.{IsRising, IsWithin, seen_on};
-ghost use Rattle.pp_channel.specs.LineState.{LineState, IsOpened, IsSplitFrom, greater_of_each, joined, ForgetsNothing, IsActed, IsWornOut, AreClosed};
-ghost use Rattle.pp_channel.specs.LineCalls.{with_word, with_look, TellsLine, HasMade, HasLost};
-ghost use Rattle.pp_channel.specs.ChannelWord.{history_word, number_in};
+ghost use Rattle.pp_channel.specs.declared.entry.Seen.TheVariants.{Did, Saw};
+ghost use Rattle.pp_channel.specs.declared.rule.LineView.{LineView};
+ghost use Rattle.pp_channel.specs.LineLog.{appended, looked};
+ghost use Rattle.pp_channel.specs.LineState.{LineState, IsOpened, IsSplitFrom, joined, ForgetsNothing, IsActed, IsWornOut, AreClosed};
+ghost use Rattle.pp_channel.specs.LineSteps.{IsLoad, IsWonExchange, IsLostExchange, IsLogOf};
+ghost use Rattle.pp_channel.specs.LineView.{finds, parent_view, weighs_once, greater_of_each};
+ghost use Rattle.pp_channel.specs.ChannelWord.{history_word, number_in, flags_in};
 ghost use Rattle.pp_channel.specs.History.{IsLawful, HasTwelveBitWord, HasTwelveBitWords};
 
 use crate::chan_op::ChanOp;
@@ -26,7 +30,7 @@ use std::alloc::Allocator;
 use std::marker::Model;
 
 /// One thread's access to all channels, which it shares with other lines without a lock.
-/// Contracts see its log, what it has seen and found, how often it weighed, and its shares.
+/// Contracts see its log, and its view: what it knows of the channels, and its shares.
 #[derive(Drop)]
 pub struct Line<A: Allocator> {
     alloc: A,
@@ -38,14 +42,18 @@ pub struct Line<A: Allocator> {
 }
 
 impl<A: Allocator> Model for Line<A> {
+    ghost use Rattle.std.specs.Prelude.{◌≡◌};
     ghost use Rattle.pp_channel.specs.LineState.{LineState};
-    ghost use Rattle.pp_channel.specs.LineKept.{IsLineKept};
+    ghost use Rattle.pp_channel.specs.LineSteps.{IsLogOf};
 
     ghost Value = { LineState };
 
-    ghost view = { λ line. record { log = line.log; seen = line.seen; found = line.words.seat.me.0.found; weighed = line.words.seat.me.0.weighed; shares = line.shares; whole = line.whole; table = line.words.seat.table_id } };
+    ghost view = { λ line. record { log = line.log; view = line.words.seat.me.0; table = line.words.seat.table_id } };
 
-    ghost invariant = { λ line. IsLineKept line.words.seat.me.0 (record { log = line.log; seen = line.seen; found = line.words.seat.me.0.found; weighed = line.words.seat.me.0.weighed; shares = line.shares; whole = line.whole; table = line.words.seat.table_id }) };
+    ghost invariant = { λ line. (line.seen ≡ line.words.seat.me.0.seen)
+        × (line.shares ≡ line.words.seat.me.0.shares)
+        × (line.whole ≡ line.words.seat.me.0.whole)
+        × IsLogOf line.words.seat.me.0 line.log.entries };
 }
 
 /// All channels, without history, and the first line of their family, which holds all of `lines`
@@ -71,8 +79,8 @@ impl<A: Allocator + Copy> Line<A> {
     /// `seen` of its channel, a look at most there.
     pub fn log(&self) -> &[Entry]
         ensures value { result.now ≡ self.now.log.entries }
-        ensures within { IsWithin self.now.seen self.now.log.entries }
-        ensures each_channel { length self.now.seen ≡ channel_count }
+        ensures within { IsWithin self.now.view.seen self.now.log.entries }
+        ensures each_channel { length self.now.view.seen ≡ channel_count }
     {
         self.log.entries()
     }
@@ -86,14 +94,14 @@ impl<A: Allocator + Copy> Line<A> {
 
     /// How many events of the channel it has seen.
     pub fn seen(&self, channel: ChannelNo) -> u64
-        ensures { result ≡ seen_on channel self.now.seen }
+        ensures { result ≡ seen_on channel self.now.view.seen }
     {
         self.seen[channel.index()]
     }
 
     /// Its shares.
     pub fn shares(&self) -> u32
-        ensures value { result ≡ self.now.shares }
+        ensures value { result ≡ self.now.view.shares }
         ensures at_least_one { 1 ≤ result }
     {
         self.shares
@@ -101,7 +109,7 @@ impl<A: Allocator + Copy> Line<A> {
 
     /// How many shares there are in all.
     pub fn whole(&self) -> u32
-        ensures { result ≡ self.now.whole }
+        ensures { result ≡ self.now.view.whole }
     {
         self.whole
     }
@@ -125,10 +133,10 @@ impl<A: Allocator + Copy> Line<A> {
     /// seen what this line has seen. This line needs at least 2 shares, and has one less afterwards; after
     /// `Memory` nothing has changed.
     pub fn split(&mut self, room: u32) -> Result<Line<A>, Memory>
-        requires { 2 ≤ self.old.shares }
-        ensures parent { IfOk result (λ line. self.new ≡ record self.old { shares = self.old.shares - 1 }) }
+        requires { 2 ≤ self.old.view.shares }
+        ensures parent { IfOk result (λ line. self.new ≡ record self.old { view = parent_view self.old.view }) }
         ensures line { IfOk result (λ line. IsSplitFrom self.old room line) }
-        ensures whole { self.new.whole ≡ self.old.whole }
+        ensures whole { self.new.view.whole ≡ self.old.view.whole }
         ensures table { self.new.table ≡ self.old.table }
         ensures unchanged_after_memory { OnErr result (self.new ≡ self.old) }
     {
@@ -160,10 +168,10 @@ impl<A: Allocator + Copy> Line<A> {
         ensures ok { IfOk result (λ r. IsActed self.old channel op r self.new) }
         ensures worn { OnErr result (IsWornOut self.old channel op self.new) }
         ensures rising { IsRising self.old.log.entries → IsRising self.new.log.entries }
-        ensures shares { self.new.shares ≡ self.old.shares }
-        ensures whole { self.new.whole ≡ self.old.whole }
+        ensures shares { self.new.view.shares ≡ self.old.view.shares }
+        ensures whole { self.new.view.whole ≡ self.old.view.whole }
         ensures table { self.new.table ≡ self.old.table }
-        ensures within { IsWithin self.new.seen self.new.log.entries }
+        ensures within { IsWithin self.new.view.seen self.new.log.entries }
     {
         let word = self.load(channel);
         let loaded = number_in(word);
@@ -207,10 +215,10 @@ impl<A: Allocator + Copy> Line<A> {
 
     /// The word of the channel, whose events the line has then seen.
     fn load(&mut self, channel: ChannelNo) -> u64
-        ensures after { self.new ≡ with_word self.old channel result }
-        ensures tells { TellsLine self.old channel result }
-        ensures within { IsWithin self.old.seen self.old.log.entries }
-        ensures each_channel { length self.old.seen ≡ channel_count }
+        ensures load { IsLoad channel self.old.view result self.new.view }
+        ensures view_alone { self.new ≡ record self.old { view = self.new.view } }
+        ensures log_before { IsLogOf self.old.view self.old.log.entries }
+        ensures log_after { IsLogOf self.new.view self.new.log.entries }
     {
         let word = self.words.load(channel);
         self.seen[channel.index()] = number_in(word);
@@ -220,10 +228,10 @@ impl<A: Allocator + Copy> Line<A> {
     /// Writes a look by a word that the line found on the channel.
     fn look(&mut self, channel: ChannelNo, word: u64)
         requires room { 1 ≤ self.old.log.room }
-        requires found { Contains self.old.found (record { channel = channel; word = word }) }
-        requires seen { number_in word ≤ seen_on channel self.old.seen }
-        ensures after { self.new ≡ with_look self.old channel word }
-        ensures within { IsWithin self.new.seen self.new.log.entries }
+        requires found { Contains self.old.view.found (record { channel = channel; word = word }) }
+        requires seen { number_in word ≤ seen_on channel self.old.view.seen }
+        ensures written { self.new ≡ record self.old { log = looked self.old.log (record { channel = channel; number = number_in word; what = Saw (flags_in word) }) } }
+        ensures log_after { IsLogOf self.new.view self.new.log.entries }
     {
         self.log.saw(channel, number_in(word), flags_in(word));
     }
@@ -238,12 +246,14 @@ impl<A: Allocator + Copy> Line<A> {
         event: Event,
     ) -> Result<(), u64>
         requires room { 1 ≤ self.old.log.room }
-        requires loaded { (line : LineState) × (self.old ≡ with_word line channel word) }
+        requires loaded { (v : LineView) × (self.old.view ≡ finds v channel word) }
         requires next { (h : List Event) → IsLawful h → HasTwelveBitWords h → history_word h ≡ word
             → IsLawful (h ++ event ∷ []) × HasTwelveBitWord event × (history_word (h ++ event ∷ []) ≡ next) }
-        ensures made { OnOk result (HasMade self.old channel word event self.new) }
-        ensures lost { IfErr result (λ found. HasLost self.old channel word found self.new) }
-        ensures within { IsWithin self.new.seen self.new.log.entries }
+        ensures won { OnOk result (IsWonExchange channel self.old.view word event self.new.view) }
+        ensures event_written { OnOk result (self.new ≡ record self.old { log = appended self.old.log (record { channel = channel; number = number_in word; what = Did event }); view = self.new.view }) }
+        ensures lost { IfErr result (λ found. IsLostExchange channel word self.old.view found self.new.view) }
+        ensures look_written { IfErr result (λ found. self.new ≡ record self.old { log = looked self.old.log (record { channel = channel; number = number_in found; what = Saw (flags_in found) }); view = self.new.view }) }
+        ensures log_after { IsLogOf self.new.view self.new.log.entries }
     {
         let found = self.words.exchange(channel, word, next, &event);
         let number = number_in(found);
@@ -288,9 +298,9 @@ impl<A: Allocator + Copy> Line<A> {
     /// its log, each at its number. It makes one load, and that alone is new of the line where it comes
     /// back after `Memory`.
     pub fn close(mut self) -> Result<[Channel<A>; CHANNELS], (Line<A>, Memory)>
-        requires { self.shares ≡ self.whole }
+        requires { self.view.shares ≡ self.view.whole }
         ensures ok { IfOk result (λ channels. AreClosed self channels) }
-        ensures unchanged_after_memory { IfErr result (λ refused. refused.0 ≡ record self { weighed = self.weighed + 1 }) }
+        ensures unchanged_after_memory { IfErr result (λ refused. refused.0 ≡ record self { view = weighs_once self.view }) }
     {
         self.words.weigh(ChannelNo::at(0));
         let line = &self;

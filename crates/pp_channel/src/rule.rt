@@ -31,7 +31,7 @@ pub struct ChannelRule;
 
 impl TableRule<Event, LineView, u64> for ChannelRule {
     ghost use Rattle.pp_channel.specs.SharedWords.{Rule};
-    ghost use Rattle.pp_channel.specs.LineSteps.{first_view};
+    ghost use Rattle.pp_channel.specs.LineView.{first_view};
 
     ghost holds = { Rule };
 
@@ -69,7 +69,7 @@ impl Play<Event, LineView> for Weigh {
 pub struct Share;
 
 impl Split<LineView> for Share {
-    ghost use Rattle.pp_channel.specs.LineSteps.{parent_view, child_view};
+    ghost use Rattle.pp_channel.specs.LineView.{parent_view, child_view};
 
     ghost left = { parent_view };
 
@@ -77,7 +77,7 @@ impl Split<LineView> for Share {
 }
 
 impl Join<LineView> for Share {
-    ghost use Rattle.pp_channel.specs.LineSteps.{joined_view, spent_view};
+    ghost use Rattle.pp_channel.specs.LineView.{joined_view, spent_view};
 
     ghost both = { joined_view };
 

@@ -8,7 +8,8 @@ ghost use Rattle.pp_channel.specs.ChannelNumber.{names_channel};
 ghost use Rattle.pp_channel.specs.ChannelWord.{history_word, number_in};
 ghost use Rattle.pp_channel.specs.History.{IsLawful, HasTwelveBitWords, HasTwelveBitWord};
 ghost use Rattle.pp_channel.specs.SharedWords.{place_count, word_place};
-ghost use Rattle.pp_channel.specs.LineSteps.{first_view, parent_view, child_view, joined_view, finds, weighs_once, IsLoad, IsExchange, IsWeighing, Tells};
+ghost use Rattle.pp_channel.specs.LineSteps.{IsLoad, IsExchange, IsWeighing, Tells};
+ghost use Rattle.pp_channel.specs.LineView.{first_view, parent_view, child_view, joined_view, finds, weighs_once};
 
 use crate::channel_no::{CHANNELS, ChannelNo};
 use crate::event::Event;

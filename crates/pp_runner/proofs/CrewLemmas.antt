@@ -1,10 +1,11 @@
 -- A worker and its line more.
-use Rattle.std.proofs.Common.{◌≡◌, ℕ, suc, ◌+◌, ◌-◌, ◌%◌, ◌<◌, ◌≤◌, List, [], ◌∷◌, ◌++◌, length, take, refl, sym, ap, ◌∙◌, subst, arith}
+use Rattle.std.proofs.Common.{◌≡◌, ℕ, suc, ◌+◌, ◌<◌, ◌≤◌, List, [], ◌∷◌, ◌++◌, length, take, refl, sym, ap, ◌∙◌, subst, arith}
 use Rattle.std.specs.Prelude.{Some, Result, Ok, Err, IfOk, All, slice_index_or}
 use Rattle.std.proofs.lemmas.List.{take_more, append-nil, length-append}
 use Rattle.std.proofs.lemmas.List.Concat.{flat_map-append}
 use Rattle.std.proofs.lemmas.List.Elements.{All-append, All-cons, All-nil, All-pop, All-push, All-weaker}
 use Rattle.pp_channel.specs.LineState.{LineState, IsSplitFrom, joined, ForgetsNothing}
+use Rattle.pp_channel.specs.LineView.{parent_view}
 use Rattle.pp_channel.specs.RisingLog.{IsRising, seen_on}
 use Rattle.pp_channel.specs.declared.entry.Entry.{Entry}
 use Rattle.pp_machine.specs.MachineState.{MachineState, processor_of}
@@ -15,7 +16,7 @@ use Rattle.pp_machine.proofs.ProcessorPlaces.{place_of_number}
 use Rattle.pp_runner.proofs.LogLemmas.{settles, stands_settled}
 use Rattle.pp_runner.proofs.EndLemmas.{worn_later}
 use Rattle.pp_runner.proofs.LineLemmas.{operated_least, same_line_still, same_line_twice}
-use Rattle.pp_runner.specs.Crew.{IsFresh, AreReady, IsEnded, IsAlone, AreEnded}
+use Rattle.pp_runner.specs.Crew.{AreReady, IsEnded, IsAlone, AreEnded}
 use Rattle.pp_runner.specs.Labour.{IsAtWork, HasSeen, NoneOlder, IsSameLine, HasOperated, GaveUpWithCause}
 use Rattle.pp_runner.specs.WorkerEnd.{IsEnd, WornWithCause}
 use Rattle.pp_runner.specs.WorkerLog.{events_in, sights_in, StandsIn}
@@ -27,17 +28,17 @@ use Rattle.pp_runner.specs.declared.labour.Ended.{Ended}
 use Rattle.pp_runner.specs.declared.worker.Worker.{Worker}
 
 -- a line that has seen what another has
-pub same_seen : (happened : ℕ → ℕ) (line after : LineState) → after.seen ≡ line.seen → HasSeen happened line → HasSeen happened after
+pub same_seen : (happened : ℕ → ℕ) (line after : LineState) → after.view.seen ≡ line.view.seen → HasSeen happened line → HasSeen happened after
 same_seen happened line after is has = record {
   countable = has.countable;
   seen = λ c. subst (λ (seen : List ℕ). happened c ≤ seen_on c seen) (sym is) (has.seen c);
 }
 
 -- nothing that a worker did or saw is older than what its line's family had seen
-begun_after : {A : Type 0} (size steps room : ℕ) (load : Processor) (family line mine : LineState) (w : Worker A) → IsEnded load size steps line w mine → IsFresh room family line
+begun_after : {A : Type 0} (size steps room : ℕ) (load : Processor) (family line mine : LineState) (w : Worker A) → IsEnded load size steps line w mine → IsSplitFrom family room line
     → (happened : ℕ → ℕ) → HasSeen happened family → NoneOlder happened w.log.items
 begun_after size steps room load family line mine w one fresh happened has =
-    let seen = same_seen happened family line fresh.seen has in
+    let seen = same_seen happened family line (ap (λ v. v.seen) fresh.view) has in
     let none : NoneOlder happened line.log.entries =
     subst (λ (l : List Entry). NoneOlder happened l) (sym (ap (λ l. l.entries) fresh.log)) (All-nil (λ (entry : Entry). happened entry.channel ≤ entry.number)) in
     subst (λ (l : List Entry). NoneOlder happened l) one.log (one.same_line.none_older happened seen none)
@@ -55,40 +56,40 @@ logs_push ws w = flat_map-append (λ v. v.log.items) ws (w ∷ []) ∙ ap (λ l.
 
 -- workers that have ended, and one more behind them
 ended_push : {A : Type 0} (loads : List Processor) (size steps count room : ℕ) (load : Processor) (family line mine others after : LineState) (w : Worker A) (ws : List (Worker A))
-    → IsEnded load size steps line w mine → AreEnded loads size steps count family ws others → IsFresh room family line → after ≡ joined others mine
+    → IsEnded load size steps line w mine → AreEnded loads size steps count family ws others → IsSplitFrom family room line → after ≡ joined others mine
     → ForgetsNothing others after × ForgetsNothing mine after → AreEnded (loads ++ load ∷ []) size steps (count + 1) family (ws ++ w ∷ []) after
 ended_push {A} loads size steps count room load family line mine others after w ws one all fresh is more =
-    let P : LineState → Worker A → Type 0 = λ l v. WornWithCause (λ c. seen_on c l.seen) v.finish v.pp in
-    let last : P after w = worn_later (λ c. seen_on c mine.seen) (λ c. seen_on c after.seen) w.finish w.pp more.1 one.worn in
-    let before : All (P after) ws = All-weaker (P others) (P after) (λ v. worn_later (λ c. seen_on c others.seen) (λ c. seen_on c after.seen) v.finish v.pp more.0) ws all.worn in record {
+    let P : LineState → Worker A → Type 0 = λ l v. WornWithCause (λ c. seen_on c l.view.seen) v.finish v.pp in
+    let last : P after w = worn_later (λ c. seen_on c mine.view.seen) (λ c. seen_on c after.view.seen) w.finish w.pp more.1 one.worn in
+    let before : All (P after) ws = All-weaker (P others) (P after) (λ v. worn_later (λ c. seen_on c others.view.seen) (λ c. seen_on c after.view.seen) v.finish v.pp more.0) ws all.worn in record {
       workers = workers_push loads size steps ws load w all.workers one.worker;
       log = ap (λ l. l.log.entries) is ∙ ((λ i. all.log i ++ one.log i) ∙ sym (logs_push ws w));
       begun = λ happened has. subst (λ (l : List Entry). NoneOlder happened l) (sym (logs_push ws w))
           (All-append (λ (entry : Entry). happened entry.channel ≤ entry.number) (logs_of ws) w.log.items
           (all.begun happened has) (begun_after size steps room load family line mine w one fresh happened has));
       worn = All-push (P after) ws w before last;
-      shares = omega (arith, ap (λ l. l.shares) is, one.same_line.shares, all.shares, fresh.shares);
+      shares = omega (arith, ap (λ l. l.view.shares) is, one.same_line.shares, all.shares, ap (λ v. v.shares) fresh.view);
       kin = record {
-        whole = ap (λ l. l.whole) is ∙ all.kin.whole;
+        whole = ap (λ l. l.view.whole) is ∙ all.kin.whole;
         table = ap (λ l. l.table) is ∙ all.kin.table;
       };
     }
 
 -- the worker before which there is none
-ended_last : {A : Type 0} (size steps room : ℕ) (load : Processor) (family line mine : LineState) (w : Worker A) → IsEnded load size steps line w mine → IsFresh room family line
+ended_last : {A : Type 0} (size steps room : ℕ) (load : Processor) (family line mine : LineState) (w : Worker A) → IsEnded load size steps line w mine → IsSplitFrom family room line
     → AreEnded (load ∷ []) size steps 1 family (w ∷ []) mine
 ended_last {A} size steps room load family line mine w one fresh =
-    let P : Worker A → Type 0 = λ v. WornWithCause (λ c. seen_on c mine.seen) v.finish v.pp in record {
+    let P : Worker A → Type 0 = λ v. WornWithCause (λ c. seen_on c mine.view.seen) v.finish v.pp in record {
       workers = (one.worker, tt);
       log = one.log ∙ sym (append-nil w.log.items);
       begun = λ happened has. All-append (λ (entry : Entry). happened entry.channel ≤ entry.number) w.log.items []
           (begun_after size steps room load family line mine w one fresh happened has) (All-nil (λ (entry : Entry). happened entry.channel ≤ entry.number));
       worn = All-cons P w [] one.worn (All-nil P);
-      shares = one.same_line.shares ∙ fresh.shares;
-      kin = record { whole = one.same_line.whole ∙ fresh.kin.whole; table = one.same_line.table ∙ fresh.kin.table };
+      shares = one.same_line.shares ∙ ap (λ v. v.shares) fresh.view;
+      kin = record { whole = one.same_line.whole ∙ ap (λ v. v.whole) fresh.view; table = one.same_line.table ∙ fresh.table };
     }
 
-alone_ended : {A : Type 0} (size steps room : ℕ) (load : Processor) (family line mine : LineState) (ws : List (Worker A)) → IsAlone load size steps line ws mine → IsFresh room family line
+alone_ended : {A : Type 0} (size steps room : ℕ) (load : Processor) (family line mine : LineState) (ws : List (Worker A)) → IsAlone load size steps line ws mine → IsSplitFrom family room line
     → AreEnded (load ∷ []) size steps 1 family ws mine
 alone_ended size steps room load family line mine [] one fresh = absurd one
 alone_ended size steps room load family line mine (w ∷ []) one fresh = ended_last size steps room load family line mine w one fresh
@@ -96,7 +97,7 @@ alone_ended size steps room load family line mine (w ∷ v ∷ ws) one fresh = a
 
 -- a worker that makes no further step, with a copy of its log
 pub work_ended : {A : Type 0} (load : Processor) (size steps : ℕ) (line : LineState) (w : Worker A) → IsAtWork load size steps w.pp w.answers.items line.log → length w.answers.items ≤ steps
-    → IsEnd steps w.finish w.pp w.answers.items line.log.entries → WornWithCause (λ c. seen_on c line.seen) w.finish w.pp → w.log.items ≡ line.log.entries → IsEnded load size steps line w line
+    → IsEnd steps w.finish w.pp w.answers.items line.log.entries → WornWithCause (λ c. seen_on c line.view.seen) w.finish w.pp → w.log.items ≡ line.log.entries → IsEnded load size steps line w line
 work_ended load size steps line w work few finish worn copied =
     let s = settles line.log (λ k. ((work.held k).channel, (work.held k).looked)) in record {
       worker = record {
@@ -124,12 +125,12 @@ ended_since load size steps line mid (Ok ended) same one =
     record { worker = one.worker; log = one.log; worn = one.worn; same_line = same_line_twice line mid ended.line same one.same_line }
 
 -- a worker that has given up, with the line that it had at first, at the beginning of its last step, and at its end
-pub gave_up : {A E : Type 0} (patience : ℕ) (line mid after : LineState) (finish : End) (r : Result (Ended A) E) → length line.found ≤ length mid.found → (finish ≡ Patience → HasOperated patience mid after)
+pub gave_up : {A E : Type 0} (patience : ℕ) (line mid after : LineState) (finish : End) (r : Result (Ended A) E) → length line.view.found ≤ length mid.view.found → (finish ≡ Patience → HasOperated patience mid after)
     → IfOk r (λ ended. ended.line ≡ after) → IfOk r (λ ended. ended.worker.finish ≡ finish) → IfOk r (λ ended. GaveUpWithCause patience line ended.worker.finish ended.line)
 gave_up patience line mid after finish (Err e) more operated same was = tt
 gave_up patience line mid after finish (Ok ended) more operated same was = λ is.
     let last = operated (sym was ∙ is) in
-    omega (arith, more, operated_least patience mid after last, ap (λ l. length l.found) same)
+    omega (arith, more, operated_least patience mid after last, ap (λ l. length l.view.found) same)
 
 -- one that has not
 pub not_given_up : {A E : Type 0} (patience : ℕ) (line : LineState) (finish : End) (r : Result (Ended A) E) → (finish ≡ Patience → ⊥)
@@ -150,12 +151,12 @@ processors_push m n place at below =
 pub record IsTaken (m : MachineState) (room : ℕ) (family line : LineState) (others : List LineState) : Type 0 where
   pub each : length m.processors ≡ processor_count
   pub count : length others < processor_count
-  pub fresh : IsFresh room family line
-  pub fresh_others : All (IsFresh room family) others
+  pub fresh : IsSplitFrom family room line
+  pub fresh_others : All (IsSplitFrom family room) others
 
 pub taken_of : (m : MachineState) (room : ℕ) (family line : LineState) (lines others : List LineState) → lines ≡ others ++ line ∷ [] → AreReady m room family lines → IsTaken m room family line others
 taken_of m room family line lines others is ready =
-    let parts = All-pop (IsFresh room family) lines others (Some line) is ready.fresh in record {
+    let parts = All-pop (IsSplitFrom family room) lines others (Some line) is ready.fresh in record {
       each = ready.each;
       count = omega (arith, ready.count, ap length is, length-append others (line ∷ []));
       fresh = parts.1;
@@ -219,15 +220,11 @@ pub promise_kept : {A E : Type 0} (load was : Processor) (size size_was steps st
 promise_kept load was size size_was steps steps_was line line_was r a b c d h = rw (a, b, c, d) h
 
 -- a line that gives a share to another is of the same family as before
-pub split_kin : (room : ℕ) (first after line : LineState) (lines : List LineState) → after ≡ record first { shares = first.shares - 1 } → IsSplitFrom first room line →
-    All (IsFresh room first) lines → All (IsFresh room after) (lines ++ line ∷ [])
-split_kin room first after line lines is split all =
-    let whole : after.whole ≡ first.whole = ap (λ l. l.whole) is in
-    let table : after.table ≡ first.table = ap (λ l. l.table) is in
-    let seen : after.seen ≡ first.seen = ap (λ l. l.seen) is in
-    All-push (IsFresh room after) lines line
-    (All-weaker (IsFresh room first) (IsFresh room after) (λ other b. record { log = b.log; seen = b.seen ∙ sym seen; shares = b.shares; kin = record { whole = b.kin.whole ∙ sym whole; table = b.kin.table ∙ sym table } }) lines all)
-    (record { log = split.log; seen = split.seen ∙ sym seen; shares = split.shares; kin = record { whole = split.whole ∙ sym whole; table = split.table ∙ sym table } })
+pub split_more : (room : ℕ) (first after line : LineState) (lines : List LineState) → after ≡ record first { view = parent_view first.view } → IsSplitFrom first room line →
+    All (IsSplitFrom first room) lines → All (IsSplitFrom after room) (lines ++ line ∷ [])
+split_more room first after line lines is split all =
+    let same : (other : LineState) → IsSplitFrom first room other → IsSplitFrom after room other = λ other b. subst (λ (parent : LineState). IsSplitFrom parent room other) (sym is) (record { log = b.log; view = b.view; table = b.table }) in
+    All-push (IsSplitFrom after room) lines line (All-weaker (IsSplitFrom first room) (IsSplitFrom after room) same lines all) (same line split)
 
 -- there are as many workers as processors
 pub workers_count : {A : Type 0} (loads : List Processor) (size steps : ℕ) (ws : List (Worker A)) → AreWorkers loads size steps ws → length ws ≡ length loads

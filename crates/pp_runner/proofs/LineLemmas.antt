@@ -56,7 +56,7 @@ none_older_noted happened log c number (Saw f) later none =
     all_looked (λ (entry : Entry). happened entry.channel ≤ entry.number) log (record { channel = c; number = number; what = Saw f }) later none
 
 -- the number of an answer is not below what the line had seen
-number_later : (line after : LineState) (c : ℕ) (op : ChanOp) (r : Numbered) → IsActed line c op r after → seen_on c line.seen ≤ r.number
+number_later : (line after : LineState) (c : ℕ) (op : ChanOp) (r : Numbered) → IsActed line c op r after → seen_on c line.view.seen ≤ r.number
 number_later line after c op r acted =
     let loaded = acted.not_older in
     elim (cases_eq r.number r.loaded) [
@@ -69,13 +69,13 @@ pub same_line_acted : (line after : LineState) (c : ℕ) (op : ChanOp) (r : Numb
 same_line_acted line after c op r acted =
     let number : ℕ = number_after r.number r.reply in
     let later = number_later line after c op r acted in
-    let seen : after.seen ≡ slice_set line.seen (channel_index c) number = ap (λ l. l.seen) acted.after_is in
+    let seen : after.view.seen ≡ slice_set line.view.seen (channel_index c) number = ap (λ l. l.view.seen) acted.after_is in
     let s = sight_of c op r.reply (line_reply_fits (history_on c acted.histories) op r acted.answer) in
     let log : after.log ≡ noted_as line.log c r.number s.what = ap (λ l. l.log) acted.after_is ∙ s.noted line.log r.number in
-    let raised : (d : ℕ) → seen_on d line.seen ≤ seen_on d (slice_set line.seen (channel_index c) number) =
-    λ d. set_raises line.seen (channel_index c) number (channel_index d) (let more = after_number r.number r.reply in omega (arith, later, more)) in record {
-      shares = ap (λ l. l.shares) acted.after_is;
-      whole = ap (λ l. l.whole) acted.after_is;
+    let raised : (d : ℕ) → seen_on d line.view.seen ≤ seen_on d (slice_set line.view.seen (channel_index c) number) =
+    λ d. set_raises line.view.seen (channel_index c) number (channel_index d) (let more = after_number r.number r.reply in omega (arith, later, more)) in record {
+      shares = ap (λ l. l.view.shares) acted.after_is;
+      whole = ap (λ l. l.view.whole) acted.after_is;
       table = ap (λ l. l.table) acted.after_is;
       seen = λ happened has. record {
         countable = has.countable;
@@ -86,12 +86,12 @@ same_line_acted line after c op r acted =
     }
 
 -- what one operation found
-operated_once : (words : List FoundWord) (line after : LineState) → AreFoundByOne words → after.found ≡ line.found ++ words → HasOperated 1 line after
+operated_once : (words : List FoundWord) (line after : LineState) → AreFoundByOne words → after.view.found ≡ line.view.found ++ words → HasOperated 1 line after
 operated_once words line after are found = record {
   finds = words ∷ [];
   each = All-cons AreFoundByOne words [] are (All-nil AreFoundByOne);
   number = refl;
-  found = found ∙ ap (λ ws. line.found ++ ws) (sym (append-nil words));
+  found = found ∙ ap (λ ws. line.view.found ++ ws) (sym (append-nil words));
 }
 
 found_by_answer : (history : List Event) (c : ℕ) (op : ChanOp) (r : Numbered) (words : List ℕ) → AreFoundBy r words → IsAnsweredBy history op r → AreFoundByOne (found_on c words)
@@ -105,16 +105,16 @@ found_by_answer history c op r (word ∷ other ∷ more ∷ rest) none _ = none
 pub operated_acted : (line after : LineState) (c : ℕ) (op : ChanOp) (r : Numbered) → IsActed line c op r after → HasOperated 1 line after
 operated_acted line after c op r acted =
     operated_once (found_on c acted.words) line after (found_by_answer (history_on c acted.histories) c op r acted.words acted.words_found acted.answer)
-    (ap (λ l. l.found) acted.after_is)
+    (ap (λ l. l.view.found) acted.after_is)
 
 -- the channel was found worn
 pub operated_worn : (line after : LineState) (c : ℕ) (op : ChanOp) → IsWornOut line c op after → HasOperated 1 line after
 operated_worn line after c op worn =
-    operated_once (record { channel = c; word = worn.word } ∷ []) line after tt (ap (λ l. l.found) worn.after_is)
+    operated_once (record { channel = c; word = worn.word } ∷ []) line after tt (ap (λ l. l.view.found) worn.after_is)
 
 -- no operation
 pub operated_not : (line : LineState) → HasOperated 0 line line
-operated_not line = record { finds = []; each = All-nil AreFoundByOne; number = refl; found = sym (append-nil line.found) }
+operated_not line = record { finds = []; each = All-nil AreFoundByOne; number = refl; found = sym (append-nil line.view.found) }
 
 -- no try yet
 pub operated_none : (each : ℕ) (line : LineState) → HasOperated (0 * each) line line
@@ -128,8 +128,8 @@ operated_twice n m line mid after a b = record {
   number = length-append a.finds b.finds ∙ (ap (λ k. k + length b.finds) a.number ∙ ap (λ k. n + k) b.number);
   found = b.found
       ∙ (ap (λ ws. ws ++ flat_map (λ words. words) b.finds) a.found
-      ∙ (append_assoc line.found (flat_map (λ words. words) a.finds) (flat_map (λ words. words) b.finds)
-      ∙ ap (λ ws. line.found ++ ws) (sym (flat_map-append (λ words. words) a.finds b.finds))));
+      ∙ (append_assoc line.view.found (flat_map (λ words. words) a.finds) (flat_map (λ words. words) b.finds)
+      ∙ ap (λ ws. line.view.found ++ ws) (sym (flat_map-append (λ words. words) a.finds b.finds))));
 }
 
 -- each operation found a word at least
@@ -144,9 +144,9 @@ found_each (words ∷ finds) each =
     found_some [] none = absurd none
     found_some (word ∷ more) are = omega arith
 
-pub operated_least : (count : ℕ) (line after : LineState) → HasOperated count line after → length line.found + count ≤ length after.found
+pub operated_least : (count : ℕ) (line after : LineState) → HasOperated count line after → length line.view.found + count ≤ length after.view.found
 operated_least count line after a =
-    omega (arith, found_each a.finds a.each, a.number, ap length a.found, length-append line.found (flat_map (λ words. words) a.finds))
+    omega (arith, found_each a.finds a.each, a.number, ap length a.found, length-append line.view.found (flat_map (λ words. words) a.finds))
 
 -- one more try of a step
 pub operated_again : (tries each : ℕ) (line mid after : LineState) → HasOperated (tries * each) line mid → HasOperated each mid after → HasOperated ((tries + 1) * each) line after

@@ -84,14 +84,14 @@ few_opened true = omega arith
 few_opened false = omega arith
 
 -- a line has seen the opening histories of which its log tells
-pub opened_seen : (m : MachineState) (line : LineState) → IsWithin line.seen line.log.entries → IsOpeningLog (λ c. opening_history c m) line.log.entries → HasSeen (λ c. length (opening_history c m)) line
+pub opened_seen : (m : MachineState) (line : LineState) → IsWithin line.view.seen line.log.entries → IsOpeningLog (λ c. opening_history c m) line.log.entries → HasSeen (λ c. length (opening_history c m)) line
 opened_seen m line within is = record {
   countable = λ c. let few : length (opening_history c m) ≤ 1 = few_opened (is_opened c m) in omega (arith, few);
   seen = λ c.
       let few : length (opening_history c m) ≤ 1 = few_opened (is_opened c m) in
       ⊎_elim (λ (some : 0 < length (opening_history c m)).
       let told = is.once c 0 some in
-      let seen = times_within c 0 line.seen line.log.entries within (omega (arith, told)) in
+      let seen = times_within c 0 line.view.seen line.log.entries within (omega (arith, told)) in
       omega (arith, few, seen))
       (λ (none : length (opening_history c m) ≤ 0). omega (arith, none)) (cases_lt 0 (length (opening_history c m)));
 }

@@ -88,16 +88,16 @@ pub record HasOperated (count : ℕ) (before after : LineState) : Type 0 where
   pub finds : List (List FoundWord)
   pub each : All AreFoundByOne finds
   pub number : length finds ≡ count
-  pub found : after.found ≡ before.found ++ flat_map (λ words. words) finds
+  pub found : after.view.found ≡ before.view.found ++ flat_map (λ words. words) finds
 
 -- Only a worker that made at least as many operations as its patience has given up.
 abbrev pub GaveUpWithCause : ℕ → LineState → End → LineState → Type 0
-GaveUpWithCause patience before finish after = finish ≡ Patience → length before.found + patience ≤ length after.found
+GaveUpWithCause patience before finish after = finish ≡ Patience → length before.view.found + patience ≤ length after.view.found
 
 -- Of each channel the line has seen so many events, no more than its word can count.
 pub record HasSeen (happened : ℕ → ℕ) (line : LineState) : Type 0 where
   pub countable : (c : ℕ) → happened c ≤ greatest_number
-  pub seen : (c : ℕ) → happened c ≤ seen_on c line.seen
+  pub seen : (c : ℕ) → happened c ≤ seen_on c line.view.seen
 
 -- No entry of a log is older than so many events of its channel.
 abbrev pub NoneOlder : (ℕ → ℕ) → List Entry → Type 0
@@ -106,8 +106,8 @@ NoneOlder happened log = All (λ entry. happened entry.channel ≤ entry.number)
 -- The same line, later: it stands at the same channels, with as many shares. It has forgotten nothing, and no entry that
 -- came is older than what it had seen.
 pub record IsSameLine (before after : LineState) : Type 0 where
-  pub shares : after.shares ≡ before.shares
-  pub whole : after.whole ≡ before.whole
+  pub shares : after.view.shares ≡ before.view.shares
+  pub whole : after.view.whole ≡ before.view.whole
   pub table : after.table ≡ before.table
   pub seen : (happened : ℕ → ℕ) → HasSeen happened before → HasSeen happened after
   pub none_older : (happened : ℕ → ℕ) → HasSeen happened before → NoneOlder happened before.log.entries → NoneOlder happened after.log.entries

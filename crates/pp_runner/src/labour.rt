@@ -56,7 +56,7 @@ fn ask<R: Wait, A: Allocator + Copy>(
     requires { 1 ≤ line.old.log.room }
     ensures answered { IfOk result (λ x. IsAnswered central.now needed x line.old.log line.new.log) }
     ensures acted { IfOk result (λ x. HasActed needed line.old x line.new) }
-    ensures worn { OnErr result (NeedsWornChannel (λ c. seen_on c line.new.seen) needed) }
+    ensures worn { OnErr result (NeedsWornChannel (λ c. seen_on c line.new.view.seen) needed) }
     ensures unchanged_when_worn { OnErr result (line.new.log ≡ line.old.log) }
     ensures same_line { IsSameLine line.old line.new }
     ensures operated { HasOperated (operations needed) line.old line.new }
@@ -98,7 +98,7 @@ impl<A: Allocator + Copy> Labour<A> {
         ensures tries { self.new.tries ≡ self.old.tries }
         ensures moved { result ≡ Try.Moved → vec_len self.new.answers ≡ vec_len self.old.answers + 1 }
         ensures held { result ≡ Try.Held → (self.new.pp ≡ self.old.pp) × (self.new.answers ≡ self.old.answers) × WasHeld self.new.pp self.new.line.log.entries }
-        ensures worn { result ≡ Try.Worn → (self.new.pp ≡ self.old.pp) × (self.new.answers ≡ self.old.answers) × NeedsWornChannel (λ c. seen_on c self.new.line.seen) (need self.new.pp) }
+        ensures worn { result ≡ Try.Worn → (self.new.pp ≡ self.old.pp) × (self.new.answers ≡ self.old.answers) × NeedsWornChannel (λ c. seen_on c self.new.line.view.seen) (need self.new.pp) }
     {
         let told = ask(rt, &site.central, &mut self.line, self.pp.wants());
         match &told {
@@ -138,7 +138,7 @@ impl<A: Allocator + Copy> Labour<A> {
         ensures moved { IfNone result (vec_len self.new.answers ≡ vec_len self.old.answers + 1) }
         ensures few { IfSome result (λ _. vec_len self.new.answers ≤ site.now.limits.steps) }
         ensures ended { IfSome result (λ finish. IsEnd site.now.limits.steps finish self.new.pp self.new.answers.items self.new.line.log.entries) }
-        ensures worn { IfSome result (λ finish. WornWithCause (λ c. seen_on c self.new.line.seen) finish self.new.pp) }
+        ensures worn { IfSome result (λ finish. WornWithCause (λ c. seen_on c self.new.line.view.seen) finish self.new.pp) }
     {
         if self.answers.reserve(1).is_err() {
             return Some(End::Memory);
@@ -161,7 +161,7 @@ impl<A: Allocator + Copy> Labour<A> {
         requires work { IsAtWork load.now site.now.central site.now.limits.steps self.pp self.answers.items self.line.log }
         requires few { vec_len self.answers ≤ site.now.limits.steps }
         requires finish { IsEnd site.now.limits.steps finish self.pp self.answers.items self.line.log.entries }
-        requires worn { WornWithCause (λ c. seen_on c self.line.seen) finish self.pp }
+        requires worn { WornWithCause (λ c. seen_on c self.line.view.seen) finish self.pp }
         ensures ended { IfOk result (λ ended. IsEnded load.now site.now.central site.now.limits.steps self.line ended.worker ended.line) }
         ensures line { IfOk result (λ ended. ended.line ≡ self.line) }
         ensures finish { IfOk result (λ ended. ended.worker.finish ≡ finish) }

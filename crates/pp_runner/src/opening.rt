@@ -23,8 +23,8 @@ pub fn opening_line<A: Allocator + Copy>(
     requires { 1 ≤ shares }
     ensures log { IfOk result (λ line. IsOpeningLog (λ c. opening_history c machine.now) line.log.entries) }
     ensures seen { IfOk result (λ line. HasSeen (λ c. length (opening_history c machine.now)) line) }
-    ensures shares { IfOk result (λ line. line.shares ≡ shares) }
-    ensures whole { IfOk result (λ line. line.whole ≡ shares) }
+    ensures shares { IfOk result (λ line. line.view.shares ≡ shares) }
+    ensures whole { IfOk result (λ line. line.view.whole ≡ shares) }
 {
     // This call tells the proof what holds of every machine.
     let _turns = machine.turns();
@@ -42,12 +42,12 @@ pub fn opening_line<A: Allocator + Copy>(
 /// so it is made at once.
 fn activate<A: Allocator + Copy>(line: &mut Line<A>, channel: ChannelNo)
     requires room { 1 ≤ line.old.log.room }
-    requires alone { line.old.shares ≡ line.old.whole }
+    requires alone { line.old.view.shares ≡ line.old.view.whole }
     requires untold { times_told channel 0 line.old.log.entries ≡ 0 }
     ensures written { line.new.log ≡ appended line.old.log (record { channel = channel; number = 0; what = Did Activate }) }
-    ensures within { IsWithin line.new.seen line.new.log.entries }
-    ensures shares { line.new.shares ≡ line.old.shares }
-    ensures whole { line.new.whole ≡ line.old.whole }
+    ensures within { IsWithin line.new.view.seen line.new.log.entries }
+    ensures shares { line.new.view.shares ≡ line.old.view.shares }
+    ensures whole { line.new.view.whole ≡ line.old.view.whole }
 {
     let _index = channel.index();
     let Ok(_done) = line.act(channel, ChanOp::Activate) else {

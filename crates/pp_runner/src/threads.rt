@@ -1,11 +1,10 @@
 //! A run of a machine's processors, each in a thread of its own.
 
 ghost use Rattle.std.specs.Prelude.{◌≡◌, ◌+◌, [], All, length, vec_len, IfOk};
-ghost use Rattle.pp_channel.specs.LineState.{AreClosed, ForgetsNothing, joined};
+ghost use Rattle.pp_channel.specs.LineState.{IsSplitFrom, AreClosed, ForgetsNothing, joined};
 ghost use Rattle.pp_channel.specs.Merge.{IsOpeningLog};
 ghost use Rattle.pp_machine.specs.Headline.{opening_history};
 ghost use Rattle.pp_machine.specs.Profile.{processors_in};
-ghost use Rattle.pp_runner.specs.Crew.{IsFresh};
 ghost use Rattle.pp_runner.specs.Labour.{HasSeen};
 ghost use Rattle.pp_runner.specs.Report.{IsReportOf};
 
@@ -33,11 +32,11 @@ fn open_family<A: Allocator + Copy>(
     room: u32,
 ) -> Result<(Line<A>, Vec<Line<A>, A>), Memory>
     ensures each_processor { IfOk result (λ opened. vec_len opened.1 ≡ processors_in machine.now.profile) }
-    ensures fresh { IfOk result (λ opened. All (IsFresh room opened.0) opened.1.items) }
+    ensures fresh { IfOk result (λ opened. All (IsSplitFrom opened.0 room) opened.1.items) }
     ensures opening { IfOk result (λ opened. IsOpeningLog (λ c. opening_history c machine.now) opened.0.log.entries) }
     ensures seen { IfOk result (λ opened. HasSeen (λ c. length (opening_history c machine.now)) opened.0) }
-    ensures share { IfOk result (λ opened. opened.0.shares ≡ 1) }
-    ensures whole { IfOk result (λ opened. opened.0.whole ≡ processors_in machine.now.profile + 1) }
+    ensures share { IfOk result (λ opened. opened.0.view.shares ≡ 1) }
+    ensures whole { IfOk result (λ opened. opened.0.view.whole ≡ processors_in machine.now.profile + 1) }
 {
     let processors = machine.profile().processors();
     let mut first = opening_line(alloc, machine, processors as u32 + 1)?;
@@ -99,7 +98,7 @@ fn close_with<A: Allocator + Copy>(
     opening: Line<A>,
 ) -> Result<[Channel<A>; CHANNELS], Memory>
     requires kin { opening.table ≡ line.table }
-    requires all { line.shares + opening.shares ≡ line.whole }
+    requires all { line.view.shares + opening.view.shares ≡ line.view.whole }
     ensures closed { IfOk result (λ channels. AreClosed (joined line opening) channels) }
     ensures nothing_forgotten { IfOk result (λ channels. ForgetsNothing line (joined line opening)) }
 {

@@ -18,7 +18,7 @@ beside-scope-combined-requires g t c =
     let one : IsEnded c.of.result.value c.size.result c.steps.result c.of-2.result.value last.worker last.line =
     subst (λ (p : EndOf g.row.A.Denot). IsEnded p.load.value p.size p.steps p.line.value last.worker last.line) c.in_ok-child.ensures.ok c.in_ok-last.ensures in
     let taken = taken_of c.captures.machine.now (2 * c.captures.site.now.limits.steps + 1) c.captures.family.value c.in-Some.line c.captures.lines.items c.pop.new.self.items c.in-Some.ensures.items c.requires.6 in
-    one.same_line.table ∙ (ap (λ l. l.table) c.of-2.ensures ∙ (taken.fresh.kin.table ∙ sym c.in_ok-others.ensures.kin.table))
+    one.same_line.table ∙ (ap (λ l. l.table) c.of-2.ensures ∙ (taken.fresh.table ∙ sym c.in_ok-others.ensures.kin.table))
 
 pub beside-scope-returns : goal.beside-scope-returns
 beside-scope-returns g t c =

@@ -29,12 +29,12 @@ ended-requires-2-clause-finish g c =
 
 pub ended-requires-clause-worn : goal.ended-requires-clause-worn
 ended-requires-clause-worn g c =
-    worn_at_rest (λ k. seen_on k c.loop-done.labour.line.seen) c.in-Some.finish c.loop-done.labour.pp c.in-Some.ensures.ended
+    worn_at_rest (λ k. seen_on k c.loop-done.labour.line.view.seen) c.in-Some.finish c.loop-done.labour.pp c.in-Some.ensures.ended
 
 pub ended-requires-2-clause-worn : goal.ended-requires-2-clause-worn
 ended-requires-2-clause-worn g c =
-    subst (λ (finish : End). WornWithCause (λ k. seen_on k c.loop-done.labour.line.seen) finish c.loop-done.labour.pp) (sym c.unwrap_or-finish.ensures)
-    (worn_at_last (λ k. seen_on k c.loop-done.labour.line.seen) c.loop-done.labour.pp c.at_rest-2.result c.at_rest-2.ensures.ended)
+    subst (λ (finish : End). WornWithCause (λ k. seen_on k c.loop-done.labour.line.view.seen) finish c.loop-done.labour.pp) (sym c.unwrap_or-finish.ensures)
+    (worn_at_last (λ k. seen_on k c.loop-done.labour.line.view.seen) c.loop-done.labour.pp c.at_rest-2.result c.at_rest-2.ensures.ended)
 
 pub returns-in-Some-take_step-clause-ended : goal.returns-in-Some-take_step-clause-ended
 returns-in-Some-take_step-clause-ended g c =

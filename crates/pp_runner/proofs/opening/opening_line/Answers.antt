@@ -32,10 +32,10 @@ loop-place-preserved g c =
           let room : c.if-opened.line.log.room ≡ before.log.room - 1 = ap (λ l. l.room) log in
           record {
             opened = subst (λ (es : List Entry). IsOpeningLog (opened_before (place + 1) m) es) (sym entries) (one_opened place m before.log.entries below opened c.loop-place.invariant.opened);
-            within = subst (λ (l : LineState). IsWithin l.seen l.log.entries) (sym w.line-is) w.activate.ensures.within;
+            within = subst (λ (l : LineState). IsWithin l.view.seen l.log.entries) (sym w.line-is) w.activate.ensures.within;
             room = omega (arith, room, c.loop-place.invariant.room);
-            shares = ap (λ l. l.shares) w.line-is ∙ (w.activate.ensures.shares ∙ c.loop-place.invariant.shares);
-            whole = ap (λ l. l.whole) w.line-is ∙ (w.activate.ensures.whole ∙ c.loop-place.invariant.whole);
+            shares = ap (λ l. l.view.shares) w.line-is ∙ (w.activate.ensures.shares ∙ c.loop-place.invariant.shares);
+            whole = ap (λ l. l.view.whole) w.line-is ∙ (w.activate.ensures.whole ∙ c.loop-place.invariant.whole);
           }
       | else-opened w ↦
           let not_opened : is_opened (channel_number place) m ≡ false = sym (ap (λ n. is_opened n m) c.at-channel.ensures.number) ∙ (sym c.opened.ensures ∙ w.if-opened.false) in
@@ -43,10 +43,10 @@ loop-place-preserved g c =
           let room : c.if-opened.line.log.room ≡ before.log.room = ap (λ l. l.log.room) w.line-is in
           record {
             opened = subst (λ (es : List Entry). IsOpeningLog (opened_before (place + 1) m) es) (sym entries) (one_not_opened place m before.log.entries below not_opened c.loop-place.invariant.opened);
-            within = subst (λ (l : LineState). IsWithin l.seen l.log.entries) (sym w.line-is) c.loop-place.invariant.within;
+            within = subst (λ (l : LineState). IsWithin l.view.seen l.log.entries) (sym w.line-is) c.loop-place.invariant.within;
             room = omega (arith, room, c.loop-place.invariant.room);
-            shares = ap (λ l. l.shares) w.line-is ∙ c.loop-place.invariant.shares;
-            whole = ap (λ l. l.whole) w.line-is ∙ c.loop-place.invariant.whole;
+            shares = ap (λ l. l.view.shares) w.line-is ∙ c.loop-place.invariant.shares;
+            whole = ap (λ l. l.view.whole) w.line-is ∙ c.loop-place.invariant.whole;
           }
     ]
 

@@ -8,8 +8,8 @@ use Rattle.pp_runner.proofs.opening.opening_line.Given as goal
 abbrev pub invariant-loop-place : goal.invariant-loop-place
 invariant-loop-place g l = record {
   opened : IsOpeningLog (opened_before l.place l.machine) l.line.log.entries;
-  within : IsWithin l.line.seen l.line.log.entries;
+  within : IsWithin l.line.view.seen l.line.log.entries;
   room : channel_count ≤ l.line.log.room + l.place;
-  shares : l.line.shares ≡ l.shares;
-  whole : l.line.whole ≡ l.shares;
+  shares : l.line.view.shares ≡ l.shares;
+  whole : l.line.view.whole ≡ l.shares;
 }

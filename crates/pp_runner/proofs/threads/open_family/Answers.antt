@@ -1,13 +1,12 @@
 use Rattle.std.proofs.Common.{List, length, ap, sym, ◌∙◌, subst, arith}
 use Rattle.std.specs.Prelude.{All}
 use Rattle.std.proofs.lemmas.List.Elements.{All-nil}
-use Rattle.pp_channel.specs.LineState.{LineState}
+use Rattle.pp_channel.specs.LineState.{LineState, IsSplitFrom}
 use Rattle.pp_channel.specs.Merge.{IsOpeningLog}
 use Rattle.pp_channel.specs.declared.entry.Entry.{Entry}
 use Rattle.pp_machine.specs.Headline.{opening_history}
 use Rattle.pp_machine.specs.Profile.{processors_in}
-use Rattle.pp_runner.proofs.CrewLemmas.{split_kin, same_seen}
-use Rattle.pp_runner.specs.Crew.{IsFresh}
+use Rattle.pp_runner.proofs.CrewLemmas.{split_more, same_seen}
 use Rattle.pp_runner.proofs.threads.open_family.Goals as goal
 
 pub loop-count-init : goal.loop-count-init
@@ -16,7 +15,7 @@ loop-count-init g c = record {
   seen = c.in_ok-first.ensures.seen;
   whole = let many = (c.processors-processors.ensures ∙ ap (λ p. processors_in p) c.profile.ensures) in omega (arith, c.in_ok-first.ensures.whole, many);
   shares = let many = (c.processors-processors.ensures ∙ ap (λ p. processors_in p) c.profile.ensures) in omega (arith, c.in_ok-first.ensures.shares, many);
-  fresh = subst (λ (ls : List LineState). All (IsFresh c.args.room c.in_ok-first.first) ls) (sym c.in_ok-lines.ensures.items) (All-nil (IsFresh c.args.room c.in_ok-first.first));
+  fresh = subst (λ (ls : List LineState). All (IsSplitFrom c.in_ok-first.first c.args.room) ls) (sym c.in_ok-lines.ensures.items) (All-nil (IsSplitFrom c.in_ok-first.first c.args.room));
   made = omega (arith, c.in_ok-lines.ensures.len);
 }
 
@@ -27,11 +26,11 @@ pub loop-count-preserved : goal.loop-count-preserved
 loop-count-preserved g c =
     let parent = c.in_ok-split.ensures.parent in record {
       opening = subst (λ (log : List Entry). IsOpeningLog (λ k. opening_history k c.args.machine.now) log) (sym (ap (λ l. l.log.entries) parent)) c.loop-count.invariant.opening;
-      seen = same_seen (λ k. length (opening_history k c.args.machine.now)) c.loop-count.first c.split.new.self (ap (λ l. l.seen) parent) c.loop-count.invariant.seen;
-      whole = ap (λ l. l.whole) parent ∙ c.loop-count.invariant.whole;
-      shares = let many = (c.processors-processors.ensures ∙ ap (λ p. processors_in p) c.profile.ensures) in omega (arith, many, ap (λ l. l.shares) parent, c.loop-count.invariant.shares, c.loop-count-test.true);
-      fresh = subst (λ (ls : List LineState). All (IsFresh c.args.room c.split.new.self) ls) (sym c.in_ok-push.ensures.items)
-          (split_kin c.args.room c.loop-count.first c.split.new.self c.in_ok-split.field-0 c.loop-count.lines.items parent c.in_ok-split.ensures.line c.loop-count.invariant.fresh);
+      seen = same_seen (λ k. length (opening_history k c.args.machine.now)) c.loop-count.first c.split.new.self (ap (λ l. l.view.seen) parent) c.loop-count.invariant.seen;
+      whole = ap (λ l. l.view.whole) parent ∙ c.loop-count.invariant.whole;
+      shares = let many = (c.processors-processors.ensures ∙ ap (λ p. processors_in p) c.profile.ensures) in omega (arith, many, ap (λ l. l.view.shares) parent, c.loop-count.invariant.shares, c.loop-count-test.true);
+      fresh = subst (λ (ls : List LineState). All (IsSplitFrom c.split.new.self c.args.room) ls) (sym c.in_ok-push.ensures.items)
+          (split_more c.args.room c.loop-count.first c.split.new.self c.in_ok-split.field-0 c.loop-count.lines.items parent c.in_ok-split.ensures.line c.loop-count.invariant.fresh);
       made = omega (arith, c.in_ok-push.ensures.len, c.loop-count.invariant.made);
     }
 

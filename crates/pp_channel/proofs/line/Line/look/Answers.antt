@@ -1,13 +1,20 @@
-use Rattle.std.proofs.Common.{◌≤◌, refl, sym, subst}
+use Rattle.std.proofs.Common.{◌≡◌, ◌≤◌, sym, subst}
 use Rattle.std.specs.Prelude.{Contains}
-use Rattle.pp_channel.specs.ChannelWord.{number_in}
+use Rattle.pp_channel.specs.declared.entry.Seen.TheVariants.{Saw}
+use Rattle.pp_channel.specs.ChannelWord.{number_in, flags_in}
+use Rattle.pp_channel.specs.LineLog.{LogState, looked}
 use Rattle.pp_channel.specs.LineState.{LineState}
+use Rattle.pp_channel.specs.LineSteps.{IsLogOf}
 use Rattle.pp_channel.specs.RisingLog.{seen_on}
-use Rattle.pp_channel.proofs.LineKeeping.{kept_at, kept_look}
+use Rattle.pp_channel.proofs.LineKeeping.{log_of_look}
 use Rattle.pp_channel.proofs.line.Line.look.Goals as goal
 
+pub returns-clause-log_after : goal.returns-clause-log_after
+returns-clause-log_after g c =
+    let found = subst (λ (line : LineState). Contains line.view.found (record { channel = c.args.channel; word = c.args.word })) (sym c.self.view_is) c.requires.found in
+    let seen = subst (λ (line : LineState). number_in c.args.word ≤ seen_on c.args.channel line.view.seen) (sym c.self.view_is) c.requires.seen in
+    let written : c.saw.new.self ≡ looked c.self.inside.log (record { channel = c.args.channel; number = number_in c.args.word; what = Saw (flags_in c.args.word) }) = rw (← c.number_in.ensures.value, ← c.flags_in.ensures) c.saw.ensures in
+    subst (λ (log : LogState). IsLogOf c.self.inside.words.seat.me.0 log.entries) (sym written) (log_of_look c.self.inside.log c.args.channel c.args.word c.self.invariant.3 found seen)
+
 pub invariant_of-self : goal.invariant_of-self
-invariant_of-self g c =
-    let found = subst (λ (line : LineState). Contains line.found (record { channel = c.args.channel; word = c.args.word })) (sym c.self.view_is) c.requires.found in
-    let seen = subst (λ (line : LineState). number_in c.args.word ≤ seen_on c.args.channel line.seen) (sym c.self.view_is) c.requires.seen in
-    kept_at (record { log = c.saw.new.self; seen = c.self.inside.seen; found = c.self.inside.words.seat.me.0.found; weighed = c.self.inside.words.seat.me.0.weighed; shares = c.self.inside.shares; whole = c.self.inside.whole; table = c.self.inside.words.seat.table_id }) (kept_look c.args.channel c.args.word c.self.invariant found seen) (rw (← c.number_in.ensures.value, ← c.flags_in.ensures) c.saw.ensures) refl refl refl refl
+invariant_of-self g c = (c.self.invariant.0, c.self.invariant.1, c.self.invariant.2, returns-clause-log_after g c)

@@ -94,7 +94,7 @@ returns-in-Worn-clause-few g c =
 pub returns-in-Worn-clause-ended : goal.returns-in-Worn-clause-ended
 returns-in-Worn-clause-ended g c =
     let worn = c.try_step.ensures.worn c.in-Worn.is in
-    end_worn c.args.site.now.limits.steps c.try_step.new.self.pp c.try_step.new.self.answers.items c.try_step.new.self.line.log.entries (λ k. seen_on k c.try_step.new.self.line.seen)
+    end_worn c.args.site.now.limits.steps c.try_step.new.self.pp c.try_step.new.self.answers.items c.try_step.new.self.line.log.entries (λ k. seen_on k c.try_step.new.self.line.view.seen)
     (ap (λ p. p.state) (worn.0 ∙ c.loop-held.invariant.same_pp) ∙ c.requires.running)
     (omega (arith, c.args.self.now.answers.ok.0, ap (λ v. length v.items) worn.1, ap (λ (xs : List Answer). length xs) c.loop-held.invariant.same_answers, c.requires.steps_left))
     worn.2
