@@ -184,18 +184,9 @@ only_answer h l op reply after (inr shown) =
 pub answer_by_table : (h : List Event) (op : ChanOp) (reply : Reply) (after : List Event) → IsLawful h → IsAnswer h op reply after ↔ ((reply ≡ reply_to op h) × (after ≡ history_after op h))
 answer_by_table h op reply after l = (only_answer h l op reply after, λ p. answered_by_table h op reply after l p.0 p.1)
 
--- a lawful history stays lawful; callers that keep histories of their own use these too
+-- a lawful history stays lawful; callers that keep histories of their own use this too
 pub lawful_with_event : (h : List Event) (op : ChanOp) (e : Event) → IsLawful h → event_of op h ≡ Some e → IsLawful (h ++ e ∷ [])
 lawful_with_event h op e l is = (ready_of_table h op e l is).lawful
-
-lawful_with : (h : List Event) → IsLawful h → (op : ChanOp) (o : Option Event) → event_of op h ≡ o → IsLawful (h ++ option_to_list o)
-lawful_with h l op None is = let P : List Event → Type 0 = λ x. IsLawful x in subst P (sym (append-nil h)) l
-lawful_with h l op (Some e) is = lawful_with_event h op e l is
-
-pub stays_lawful : (h : List Event) (op : ChanOp) (after : List Event) → IsLawful h → after ≡ history_after op h → IsLawful after
-stays_lawful h op after l a =
-    let P : List Event → Type 0 = λ x. IsLawful x in
-    subst P (sym a) (lawful_with h l op (event_of op h) refl)
 
 -- what a channel keeps, with one more event
 pub kept_with_event : {flags flags' : Flags} {register register' : Option ℕ} {value h h' : List Event} → (e : Event) → IsKept flags register h → h ≡ value → IsLawful (value ++ e ∷ []) → HasTwelveBitWord e → flags' ≡ flags_after e → register' ≡ word_after e → h' ≡ h ++ e ∷ [] → IsKept flags' register' h'

@@ -10,7 +10,7 @@ use Rattle.pp_channel.specs.declared.event.Event.TheVariants.{Activate, Disconne
 use Rattle.pp_channel.specs.Session.{Session, puts, takes}
 use Rattle.pp_channel.specs.History.{Course, events_of, IsLawful, switches_to, active, last_stretch, full, waiting}
 use Rattle.pp_channel.proofs.LastElements.{last_or-push, after_last-found, after_last-push}
-use Rattle.pp_channel.proofs.HistoryWalk.{State, Inactive, Empty, Holding, step, walk, along, walk_course, walk-append, state_of, state_in}
+use Rattle.pp_channel.proofs.HistoryWalk.{State, Inactive, Empty, Holding, step, walk, along, walk_course, state_of, state_in}
 use Rattle.pp_channel.proofs.CourseLemmas.{after_function, after_activate, after_disconnect, after_put, after_take}
 
 -- an Activate or a Disconnect begins a new stretch, any other event goes on with it
@@ -125,13 +125,6 @@ pub lawful_more : (h : List Event) (l : IsLawful h) (e : Event) (t : State) → 
 lawful_more h l e t on =
     let P : List Event → Type 0 = λ g. IsLawful (g ++ e ∷ []) in
     subst P l.1 (may_after l.0 l.0.open_session e t refl on)
-
--- one that it does not allow does not
-pub unlawful : (h : List Event) (s : State) (e : Event) → walk (Some Inactive) h ≡ Some s → step s e ≡ None → ¬ IsLawful (h ++ e ∷ [])
-unlawful h s e at none = λ l.
-    let all : walk (Some Inactive) (h ++ e ∷ []) ≡ Some (state_of l.0.open_session) = ap (λ g. walk (Some Inactive) g) (sym l.1) ∙ walk_course l.0 in
-    let last : walk (Some Inactive) (h ++ e ∷ []) ≡ None = walk-append (Some Inactive) h (e ∷ []) ∙ (ap (λ o. walk o (e ∷ [])) at ∙ none) in
-    cc
 
 pub lawful_next : (h : List Event) (l : IsLawful h) (e : Event) (t : State) → step (state_at h l).0 e ≡ Some t → IsLawful (h ++ e ∷ [])
 unfolding state_at

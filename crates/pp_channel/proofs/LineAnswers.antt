@@ -1,25 +1,26 @@
 -- What a call of a line answers, from what its steps told.
-use Rattle.std.proofs.Common.{◌≡◌, ◌≢◌, ℕ, ◌+◌, ◌<◌, ◌≤◌, List, [], ◌∷◌, ◌++◌, length, take, Some, None, refl, sym, ap, ◌∙◌, subst, arith, append_assoc}
+use Rattle.std.proofs.Common.{◌≡◌, ◌≢◌, ℕ, ◌+◌, ◌<◌, ◌≤◌, List, [], ◌∷◌, ◌++◌, length, take, Some, None, refl, sym, ap, ◌∙◌, subst, arith, append_assoc, inl, inr}
 use Rattle.std.specs.Prelude.{Contains, slice_set}
 use Rattle.std.proofs.lemmas.List.{length_push, length-take-le, take_all, take_at, get_or-set_same, set-set, set-get_or}
 use Rattle.std.proofs.lemmas.List.Elements.{All-weaker, All-contains, Contains-push}
+use Rattle.std.proofs.lemmas.Bool.{cases_eq}
 use Rattle.pp_channel.specs.declared.chan_op.ChanOp.{ChanOp}
 use Rattle.pp_channel.specs.declared.chan_op.ChanOp.TheVariants as operations
 use Rattle.pp_channel.specs.declared.event.Event.{Event}
 use Rattle.pp_channel.specs.declared.event.Event.TheVariants.{Activate, Disconnect, Put, Take, Function}
+use Rattle.pp_channel.specs.declared.numbered.Numbered.{Numbered}
 use Rattle.pp_channel.specs.declared.reply.Reply.{Reply}
 use Rattle.pp_channel.specs.declared.reply.Reply.TheVariants.{Flags, Held}
 use Rattle.pp_channel.specs.declared.flags.Flags.{Flags as FlagPair}
 use Rattle.pp_channel.specs.declared.entry.Entry.{Entry}
-use Rattle.pp_channel.specs.declared.entry.Seen.TheVariants.{Did, Saw}
 use Rattle.pp_channel.specs.declared.rule.LineView.{LineView}
 use Rattle.pp_channel.specs.declared.word_step.WordStep.{WordStep}
 use Rattle.pp_channel.specs.Answer.{IsAnswer, IsReady, operation_of, reply_made}
 use Rattle.pp_channel.specs.ChannelNumber.{channel_count, channel_index}
 use Rattle.pp_channel.specs.ChannelWord.{number_in, flags_in, greatest_number}
-use Rattle.pp_channel.specs.History.{IsLawful, HasTwelveBitWord, HasTwelveBitWords}
+use Rattle.pp_channel.specs.History.{IsLawful, HasTwelveBitWords}
 use Rattle.pp_channel.specs.Law.{KeepsLaw}
-use Rattle.pp_channel.specs.LineLog.{LogState, appended, looked, event_answered, with_answer, with_made}
+use Rattle.pp_channel.specs.LineLog.{LogState, appended, looked, event_answered, with_answer, with_made, event_entry, look_entry}
 use Rattle.pp_channel.specs.LineState.{LineState, number_after, IsActed, IsWornOut, AreClosed}
 use Rattle.pp_channel.specs.LineSteps.{IsLogOf, Tells, IsLoad, IsWonExchange, IsLostExchange}
 use Rattle.pp_channel.specs.LineView.{finds, makes, Knows}
@@ -31,7 +32,7 @@ use Rattle.pp_channel.specs.WordStep.{event_in, step_from}
 use Rattle.pp_channel.proofs.ChannelPlaces.{place_below}
 use Rattle.pp_channel.proofs.ChannelWordLemmas.{looks_by_table, worn_by_table, held_by_table, next_by_event, ready_at_word, answer_made, answer_held, answer_looked, number_of_word}
 use Rattle.pp_channel.proofs.FrontLemmas.{lawful_take, twelve_bits_take}
-use Rattle.pp_channel.proofs.MergeLemmas.{with_more, more_is, more_here, put_before, made_entry}
+use Rattle.pp_channel.proofs.MergeLemmas.{with_more, more_is, more_here, put_before}
 use Rattle.pp_channel.proofs.LawLemmas.{law_of_lawful}
 use Rattle.pp_channel.proofs.LineKeeping.{log_of_load}
 use Rattle.pp_channel.proofs.LineKnowledge.{lawful_on, bits_on, number_told, flags_told, not_older_told, knows_by_log}
@@ -41,14 +42,14 @@ put_back : (histories : List (List Event)) (c : ℕ) (h : List Event) → h ≡ 
 put_back histories c h is = ap (λ x. slice_set histories (channel_index c) x) is ∙ set-get_or histories (channel_index c) []
 
 -- an event is written as the answer to its operation
-written_by : (log : LogState) (c n : ℕ) (e : Event) → with_answer log c (operation_of e) n (reply_made e) ≡ appended log (record { channel = c; number = n; what = Did e })
+written_by : (log : LogState) (c n : ℕ) (e : Event) → with_answer log c (operation_of e) n (reply_made e) ≡ appended log (event_entry c n e)
 written_by log c n Activate = refl
 written_by log c n Disconnect = refl
 written_by log c n (Put w) = refl
 written_by log c n (Take w) = refl
 written_by log c n (Function w) = refl
 
-made_by : (events : List Entry) (c n : ℕ) (e : Event) → with_made events c n (event_answered (operation_of e) (reply_made e)) ≡ events ++ made_entry c n e ∷ []
+made_by : (events : List Entry) (c n : ℕ) (e : Event) → with_made events c n (event_answered (operation_of e) (reply_made e)) ≡ events ++ event_entry c n e ∷ []
 made_by events c n Activate = refl
 made_by events c n Disconnect = refl
 made_by events c n (Put w) = refl
@@ -82,11 +83,18 @@ seen_last v w c word each load =
     let low = place_below c load.tells.named in
     ap (λ x. seen_on c x.seen) load.after_is ∙ get_or-set_same v.seen (channel_index c) (number_in word) 0 (omega arith)
 
--- a line whose view and log are these knows what they tell
-line_knows : (line : LineState) {v : LineView} {histories : List (List Event)} → line.view ≡ v → IsLogOf line.view line.log.entries → Knows v v.events histories → Knows line.view line.log.entries histories
-line_knows line {v} {histories} is log known =
+-- the line has this log and this view now, and stands at the same table
+pub record IsNow (line : LineState) (log : LogState) (v : LineView) (after : LineState) : Type 0 where
+  pub log_is : after.log ≡ log
+  pub view_is : after.view ≡ v
+  pub table_is : after.table ≡ line.table
+  pub log_of : IsLogOf after.view after.log.entries
+
+-- it knows what the view knows
+line_knows : {line after : LineState} {log : LogState} {v : LineView} {histories : List (List Event)} → IsNow line log v after → Knows v v.events histories → Knows after.view after.log.entries histories
+line_knows {histories = histories} is known =
     let P : LineView → Type 0 = λ x. Knows x x.events histories in
-    knows_by_log log (subst P (sym is) known)
+    knows_by_log is.log_of (subst P (sym is.view_is) known)
 
 -- a line that looked at what its load found
 module _ (line : LineState) {now : LineView} {c word : ℕ} (load : IsLoad c line.view word now) (before : IsLogOf line.view line.log.entries) (op : ChanOp) where
@@ -106,28 +114,29 @@ module _ (line : LineState) {now : LineView} {c word : ℕ} (load : IsLoad c lin
   whole_now = take_all (number_in word) history (let n = number_told load.tells in omega arith)
 
   abbrev Looked : LineState → Type 0
-  Looked after = after ≡ record line { log = looked line.log (record { channel = c; number = number_in word; what = Saw (flags_in word) }); view = now }
+  Looked after = IsNow line (looked line.log (look_entry c (number_in word) (flags_in word))) now after
 
-  looked_at_once : (reply : Reply) (after : LineState) → Looked after → IsLogOf after.view after.log.entries
-      → with_answer line.log c op (number_in word) reply ≡ looked line.log (record { channel = c; number = number_in word; what = Saw (flags_in word) })
+  looked_at_once : (reply : Reply) (after : LineState) → Looked after
+      → with_answer line.log c op (number_in word) reply ≡ looked line.log (look_entry c (number_in word) (flags_in word))
       → event_answered op reply ≡ None
       → number_after (number_in word) reply ≡ number_in word
       → IsAnswer history op reply history
       → (op ≢ ChanOp.Probe → number_in word < greatest_number)
       → IsActed line c op (record { reply = reply; loaded = number_in word; number = number_in word }) after
-  looked_at_once reply after is log written none counted answer not_worn = record {
+  looked_at_once reply after is written none counted answer not_worn = record {
     words = word ∷ [];
     words_found = (refl, refl);
-    after_is = is ∙ (λ j. record line {
-      log = sym written j;
-      view = (load.after_is ∙ (λ i. record line.view {
+    after_is = λ j. record {
+      log = (is.log_is ∙ sym written) j;
+      view = (is.view_is ∙ (load.after_is ∙ (λ i. record line.view {
         events = with_made line.view.events c (number_in word) (sym none i);
         seen = slice_set line.view.seen (channel_index c) (sym counted i);
         found = line.view.found ++ record { channel = c; word = word } ∷ [];
-      })) j;
-    });
+      }))) j;
+      table = is.table_is j;
+    };
     histories = histories;
-    known = line_knows after (ap (λ x. x.view) is) log load.known_after;
+    known = line_knows is load.known_after;
     answer = record {
       now = sym (number_told load.tells) ∙ sym counted;
       at_once = λ _. let P : List Event → Type 0 = λ h. IsAnswer h op reply history in subst P (sym whole_now) answer;
@@ -138,30 +147,30 @@ module _ (line : LineState) {now : LineView} {c word : ℕ} (load : IsLoad c lin
     alone = λ all. (refl, let P : List (List Event) → Type 0 = λ hs. Merges no_opening hs line.log.entries in subst P (sym (put_back histories c (take (number_in word) history) whole_now)) ((knows_by_log before load.tells.known).all_known all).merged);
   }
 
-  pub acted_look : (f : FlagPair) (after : LineState) → WordStep.Look f ≡ step_from op word → Looked after → IsLogOf after.view after.log.entries
+  pub acted_look : (f : FlagPair) (after : LineState) → WordStep.Look f ≡ step_from op word → Looked after
       → IsActed line c op (record { reply = Flags f; loaded = number_in word; number = number_in word }) after
-  acted_look f after stepped is log =
+  acted_look f after stepped is =
       let k = looks_by_table word op f stepped in
-      looked_at_once (Flags f) after is log (ap (λ g. looked line.log (record { channel = c; number = number_in word; what = Saw g })) k.1) (ap (λ o. event_answered o (Flags f)) k.0) refl (answer_looked word op f stepped history now_bits load.tells.word_is) (λ no. absurd (no k.0))
+      looked_at_once (Flags f) after is (ap (λ g. looked line.log (look_entry c (number_in word) g)) k.1) (ap (λ o. event_answered o (Flags f)) k.0) refl (answer_looked word op f stepped history now_bits load.tells.word_is) (λ no. absurd (no k.0))
 
-  pub acted_held : (f : FlagPair) (after : LineState) → WordStep.Held f ≡ step_from op word → number_in word ≤ greatest_number → Looked after → IsLogOf after.view after.log.entries
+  pub acted_held : (f : FlagPair) (after : LineState) → WordStep.Held f ≡ step_from op word → number_in word ≤ greatest_number → Looked after
       → IsActed line c op (record { reply = Held f; loaded = number_in word; number = number_in word }) after
-  acted_held f after stepped most is log =
+  acted_held f after stepped most is =
       let k = held_by_table word op f stepped in
-      looked_at_once (Held f) after is log (ap (λ g. looked line.log (record { channel = c; number = number_in word; what = Saw g })) k.3) (held_makes_none op f) refl (answer_held word op f stepped history now_lawful now_bits load.tells.word_is) (λ no. let n = k.1 in omega arith)
+      looked_at_once (Held f) after is (ap (λ g. looked line.log (look_entry c (number_in word) g)) k.3) (held_makes_none op f) refl (answer_held word op f stepped history now_lawful now_bits load.tells.word_is) (λ no. let n = k.1 in omega arith)
 
-  pub worn_by_load : (after : LineState) → WordStep.Worn ≡ step_from op word → after ≡ record line { view = now } → IsLogOf after.view after.log.entries → IsWornOut line c op after
-  worn_by_load after stepped is log =
+  pub worn_by_load : (after : LineState) → WordStep.Worn ≡ step_from op word → IsNow line line.log now after → IsWornOut line c op after
+  worn_by_load after stepped is =
       let k = worn_by_table word op stepped in
       record {
         no_probe = k.0;
         word = word;
         word_found = k.1;
-        after_is = is ∙ ap (λ v. record line { view = v }) load.after_is;
+        after_is = λ j. record { log = is.log_is j; view = (is.view_is ∙ load.after_is) j; table = is.table_is j };
         histories = histories;
-        known = line_knows after (ap (λ x. x.view) is) log load.known_after;
+        known = line_knows is load.known_after;
         worn = sym (number_told load.tells) ∙ k.1;
-        all_seen = ap (λ x. seen_on c x.view.seen) is ∙ (seen_last line.view now c word before.each_channel load ∙ k.1);
+        all_seen = ap (λ v. seen_on c v.seen) is.view_is ∙ (seen_last line.view now c word before.each_channel load ∙ k.1);
       }
 
   -- a line that tried an event after its load
@@ -176,7 +185,7 @@ module _ (line : LineState) {now : LineView} {c word : ℕ} (load : IsLoad c lin
     operation_is = (ready_at_word word op e event history now_lawful now_bits load.tells.word_is).operation
 
     -- the event was made
-    module _ (won : IsWonExchange c now word e after.view) (bits : HasTwelveBitWord e) (is : after ≡ record line { log = appended line.log (made_entry c (number_in word) e); view = after.view }) (log : IsLogOf after.view after.log.entries) where
+    module _ (won : IsWonExchange c now word e after.view) (is : IsNow line (appended line.log (event_entry c (number_in word) e)) after.view after) where
       abbrev made_on : List (List Event)
       made_on = won.tells.histories
 
@@ -201,21 +210,21 @@ module _ (line : LineState) {now : LineView} {c word : ℕ} (load : IsLoad c lin
       counted : number_after (number_in word) reply ≡ number_in word + 1
       counted = ap (λ r. number_after (number_in word) r) reply_is ∙ counted_by (number_in word) e
 
-      written : with_answer line.log c op (number_in word) reply ≡ appended line.log (made_entry c (number_in word) e)
+      written : with_answer line.log c op (number_in word) reply ≡ appended line.log (event_entry c (number_in word) e)
       written = ap (λ r. with_answer line.log c op (number_in word) r) reply_is ∙ (ap (λ o. with_answer line.log c o (number_in word) (reply_made e)) (sym operation_is) ∙ written_by line.log c (number_in word) e)
 
-      made : with_made line.view.events c (number_in word) (event_answered op reply) ≡ line.view.events ++ made_entry c (number_in word) e ∷ []
+      made : with_made line.view.events c (number_in word) (event_answered op reply) ≡ line.view.events ++ event_entry c (number_in word) e ∷ []
       made = ap (λ r. with_made line.view.events c (number_in word) (event_answered op r)) reply_is ∙ (ap (λ o. with_made line.view.events c (number_in word) (event_answered o (reply_made e))) (sym operation_is) ∙ made_by line.view.events c (number_in word) e)
 
       opening : slice_set (with_more made_on c (e ∷ [])) (channel_index c) (take (number_in word) longer) ≡ made_on
       opening = ap (λ h. slice_set (with_more made_on c (e ∷ [])) (channel_index c) h) front ∙ put_before made_on c (e ∷ [])
 
-      view_is : after.view ≡ record line.view {
+      view_made : after.view ≡ record line.view {
         events = with_made line.view.events c (number_in word) (event_answered op reply);
         seen = slice_set line.view.seen (channel_index c) (number_after (number_in word) reply);
         found = line.view.found ++ record { channel = c; word = word } ∷ [];
       }
-      view_is = won.after_is ∙ (ap (λ v. makes v c (number_in word) e) load.after_is ∙ (λ j. record line.view {
+      view_made = won.after_is ∙ (ap (λ v. makes v c (number_in word) e) load.after_is ∙ (λ j. record line.view {
         events = sym made j;
         seen = (set-set line.view.seen (channel_index c) (number_in word) (number_in word + 1) ∙ ap (λ n. slice_set line.view.seen (channel_index c) n) (sym counted)) j;
         found = line.view.found ++ record { channel = c; word = word } ∷ [];
@@ -225,9 +234,9 @@ module _ (line : LineState) {now : LineView} {c word : ℕ} (load : IsLoad c lin
       acted_made = record {
         words = word ∷ [];
         words_found = (refl, refl);
-        after_is = is ∙ (λ j. record line { log = sym written j; view = view_is j });
+        after_is = λ j. record { log = (is.log_is ∙ sym written) j; view = view_made j; table = is.table_is j };
         histories = with_more made_on c (e ∷ []);
-        known = line_knows after refl log (subst (Knows after.view after.view.events) (sym (more_is made_on c (e ∷ []))) won.known_after);
+        known = line_knows is (subst (Knows after.view after.view.events) (sym (more_is made_on c (e ∷ []))) won.known_after);
         answer = record {
           now = ap length longer_is ∙ (length_push old e ∙ (ap (λ n. n + 1) (sym (number_told won.tells)) ∙ sym counted));
           at_once = λ _.
@@ -246,7 +255,7 @@ module _ (line : LineState) {now : LineView} {c word : ℕ} (load : IsLoad c lin
       }
 
     -- another event came first
-    module _ (found : ℕ) (lost : IsLostExchange c word now found after.view) (is : after ≡ record line { log = looked line.log (record { channel = c; number = number_in found; what = Saw (flags_in found) }); view = after.view }) (log : IsLogOf after.view after.log.entries) where
+    module _ (found : ℕ) (lost : IsLostExchange c word now found after.view) (is : IsNow line (looked line.log (look_entry c (number_in found) (flags_in found))) after.view after) where
       abbrev found_in : List (List Event)
       found_in = lost.load.tells.histories
 
@@ -284,9 +293,9 @@ module _ (line : LineState) {now : LineView} {c word : ℕ} (load : IsLoad c lin
           record {
             words = word ∷ found ∷ [];
             words_found = (refl, refl, λ same. omega arith);
-            after_is = is ∙ ap (λ v. record line { log = looked line.log (record { channel = c; number = number_in found; what = Saw (flags_in found) }); view = v }) view_lost;
+            after_is = λ j. record { log = is.log_is j; view = view_lost j; table = is.table_is j };
             histories = found_in;
-            known = line_knows after refl log lost.load.known_after;
+            known = line_knows is lost.load.known_after;
             answer = record {
               now = sym (number_told lost.load.tells);
               at_once = λ same. absurd (omega arith);
@@ -296,6 +305,15 @@ module _ (line : LineState) {now : LineView} {c word : ℕ} (load : IsLoad c lin
             not_worn = not_worn_yet;
             alone = λ all. absurd (lost.others (ap (λ v. v.shares) load.after_is ∙ (all ∙ ap (λ v. v.whole) (sym load.after_is))));
           }
+
+-- the number of an answer is not below what the line had seen
+pub number_later : (line after : LineState) (c : ℕ) (op : ChanOp) (r : Numbered) → IsActed line c op r after → seen_on c line.view.seen ≤ r.number
+number_later line after c op r acted =
+    let loaded = acted.not_older in
+    elim (cases_eq r.number r.loaded) [
+      | inl same ↦ omega (arith, loaded, same)
+      | inr other ↦ let later = (acted.answer.lost other).later in omega (arith, loaded, later)
+    ]
 
 -- a line that holds every share tells the histories whole
 pub told_whole : {v : LineView} {log : List Entry} {c word : ℕ} → IsLogOf v log → (t : Tells v c word) → v.shares ≡ v.whole → IsToldBy log v.seen t.histories

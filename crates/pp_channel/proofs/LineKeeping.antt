@@ -12,19 +12,19 @@ use Rattle.pp_channel.specs.declared.rule.FoundWord.{FoundWord}
 use Rattle.pp_channel.specs.declared.rule.LineView.{LineView}
 use Rattle.pp_channel.specs.ChannelNumber.{channel_count, channel_index}
 use Rattle.pp_channel.specs.ChannelWord.{number_in, flags_in}
-use Rattle.pp_channel.specs.LineLog.{LogState, looked}
+use Rattle.pp_channel.specs.LineLog.{LogState, looked, event_entry, look_entry}
 use Rattle.pp_channel.specs.LineSteps.{IsBackedBy, IsBacked, IsLogOf, IsLoad, IsWonExchange, IsLostExchange, IsExchange}
 use Rattle.pp_channel.specs.LineView.{greater_of_each, joined_view, finds, makes}
 use Rattle.pp_channel.specs.Merge.{times_told}
 use Rattle.pp_channel.specs.RisingLog.{known_after, seen_on}
 use Rattle.pp_channel.proofs.ChannelPlaces.{place_below}
 use Rattle.pp_channel.proofs.LineKnowledge.{not_older_told, told_looked, all_looked}
-use Rattle.pp_channel.proofs.MergeLemmas.{told_by, made_entry, times_told-append, times_told_push}
+use Rattle.pp_channel.proofs.MergeLemmas.{told_by, times_told-append, times_told_push}
 use Rattle.pp_channel.proofs.SeenLemmas.{set_raises, within_more, greater_left, greater_right, length-greater}
 
 -- what backs an entry backs it where the view has more
 backed_more : (v w : LineView) → ((x : Entry) → Contains v.events x → Contains w.events x) → ((x : FoundWord) → Contains v.found x → Contains w.found x) → (c number : ℕ) (what : Seen) → IsBackedBy v c number what → IsBackedBy w c number what
-backed_more v w events found c number (Did e) b = events (record { channel = c; number = number; what = Did e }) b
+backed_more v w events found c number (Did e) b = events (event_entry c number e) b
 backed_more v w events found c number (Saw f) b = (b.0, found (record { channel = c; word = b.0 }) b.1, b.2, b.3)
 
 all_backed_more : (v w : LineView) → ((x : Entry) → Contains v.events x → Contains w.events x) → ((x : FoundWord) → Contains v.found x → Contains w.found x) → (log : List Entry) → All (IsBacked v) log → All (IsBacked w) log
@@ -52,9 +52,9 @@ log_of_load {v} {w} {c} {word} {log} load is =
 
 -- a look was written
 pub log_of_look : {v : LineView} (log : LogState) (c word : ℕ) → IsLogOf v log.entries → Contains v.found (record { channel = c; word = word }) → number_in word ≤ seen_on c v.seen
-    → IsLogOf v (looked log (record { channel = c; number = number_in word; what = Saw (flags_in word) })).entries
+    → IsLogOf v (looked log (look_entry c (number_in word) (flags_in word))).entries
 log_of_look {v} log c word is found seen =
-    let look : Entry = record { channel = c; number = number_in word; what = Saw (flags_in word) } in
+    let look : Entry = look_entry c (number_in word) (flags_in word) in
     record {
       each_channel = is.each_channel;
       told = λ d n. told_looked log look refl d n ∙ is.told d n;
@@ -63,10 +63,10 @@ log_of_look {v} log c word is found seen =
     }
 
 -- an event was made, and written
-pub log_of_event : {v w : LineView} {c word : ℕ} {e : Event} {log : List Entry} → IsWonExchange c v word e w → IsLogOf v log → IsLogOf w (log ++ made_entry c (number_in word) e ∷ [])
+pub log_of_event : {v w : LineView} {c word : ℕ} {e : Event} {log : List Entry} → IsWonExchange c v word e w → IsLogOf v log → IsLogOf w (log ++ event_entry c (number_in word) e ∷ [])
 log_of_event {v} {w} {c} {word} {e} {log} won is =
     let number : ℕ = number_in word in
-    let deed = made_entry c number e in
+    let deed = event_entry c number e in
     let i : ℕ = channel_index c in
     let low : i < channel_count = place_below c won.tells.named in
     let each = is.each_channel in

@@ -21,10 +21,10 @@ module _ {A : Type 0} where
   read_written (z ∷ zs) zero x y e = refl
   read_written (z ∷ zs) (suc i) x y e = read_written zs i x y e
 
-  All-front : (P : A → Type 0) (xs ys : List A) → All P (xs ++ ys) → All P xs
+  pub All-front : (P : A → Type 0) (xs ys : List A) → All P (xs ++ ys) → All P xs
   All-front P xs ys p = subst (All P) (take_at xs ys (length xs) refl) (All-take P (length xs) (xs ++ ys) p)
 
-  All-back : (P : A → Type 0) (xs ys : List A) → All P (xs ++ ys) → All P ys
+  pub All-back : (P : A → Type 0) (xs ys : List A) → All P (xs ++ ys) → All P ys
   All-back P xs ys p = subst (All P) (drop_at xs ys (length xs) refl) (All-drop P (length xs) (xs ++ ys) p)
 
 module _ {X A : Type 0} (f : X → List A) where

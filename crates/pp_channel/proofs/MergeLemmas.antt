@@ -16,7 +16,7 @@ use Rattle.pp_channel.specs.declared.entry.Seen.TheVariants.{Did, Saw}
 use Rattle.pp_channel.specs.Answer.{flags_of}
 use Rattle.pp_channel.specs.ChannelNumber.{channel_index, names_channel}
 use Rattle.pp_channel.specs.Law.{IsPrefix}
-use Rattle.pp_channel.specs.LineLog.{is_event}
+use Rattle.pp_channel.specs.LineLog.{event_entry, is_event}
 use Rattle.pp_channel.specs.Merge.{history_on, IsTrueAt, IsTrueOf, tells_event, times_told, Merges, no_opening}
 use Rattle.pp_channel.specs.RisingLog.{known_after, seen_on, IsWithin}
 use Rattle.pp_channel.proofs.ChannelPlaces.{one_place}
@@ -58,22 +58,19 @@ times_told-append c number log more = sum_by-append (told_by c number) log more
 pub times_told_push : (c number : ℕ) (log : List Entry) (entry : Entry) → times_told c number (log ++ entry ∷ []) ≡ times_told c number log + told_by c number entry
 times_told_push c number log entry = sum_by_push (told_by c number) log entry
 
-abbrev pub made_entry : ℕ → ℕ → Event → Entry
-made_entry c number e = record { channel = c; number = number; what = Did e }
-
-pub told_not : (c number d n : ℕ) (e : Event) → (d ≢ c) ⊎ (n ≢ number) → told_by c number (made_entry d n e) ≡ 0
+pub told_not : (c number d n : ℕ) (e : Event) → (d ≢ c) ⊎ (n ≢ number) → told_by c number (event_entry d n e) ≡ 0
 told_not c number d n e (inl other) = ap (λ b. cond b 1 0) (and_left (eqb d c) (eqb n number) (ne_eqb d c other))
 told_not c number d n e (inr other) = ap (λ b. cond b 1 0) (and_right (eqb d c) (eqb n number) (ne_eqb n number other))
 
-pub told_here : (c number d n : ℕ) (e : Event) → d ≡ c → n ≡ number → told_by c number (made_entry d n e) ≡ 1
+pub told_here : (c number d n : ℕ) (e : Event) → d ≡ c → n ≡ number → told_by c number (event_entry d n e) ≡ 1
 told_here c number d n e p q = ap (λ b. cond b 1 0) (and_from (eqb d c) (eqb n number) (eq-eqb d c p) (eq-eqb n number q))
 
 -- an event of another channel is not told
-pub told_elsewhere : (c number d n : ℕ) (e : Event) → d ≢ c → told_by c number (made_entry d n e) ≡ 0
+pub told_elsewhere : (c number d n : ℕ) (e : Event) → d ≢ c → told_by c number (event_entry d n e) ≡ 0
 told_elsewhere c number d n e other = told_not c number d n e (inl other)
 
 -- the next event of the channel is told once more
-pub told_next : (c number d n : ℕ) (e : Event) → d ≡ c → once_below number (n + 1) ≡ once_below number n + told_by c number (made_entry d n e)
+pub told_next : (c number d n : ℕ) (e : Event) → d ≡ c → once_below number (n + 1) ≡ once_below number n + told_by c number (event_entry d n e)
 told_next c number d n e is = dite (ℕ_discrete n number)
     (λ (h : n ≡ number). let a = once_inside number (n + 1) (omega arith) in let b = once_past number n (omega arith) in let t = told_here c number d n e is h in omega arith)
     (λ (h : n ≢ number). let t = told_not c number d n e (inr h) in dite (dec_lt number n)

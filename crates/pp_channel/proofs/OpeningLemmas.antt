@@ -6,7 +6,7 @@ use Rattle.std.specs.Prelude.{Some, ◌&&◌, slice_get, slice_set}
 use Rattle.std.specs.List.{All}
 use Rattle.std.proofs.lemmas.Bool.{cases_lt, cases_Bool, eqb-true, and_parts, false≢true}
 use Rattle.std.proofs.lemmas.List.{append-nil, nil_from_length, get_or-set_same}
-use Rattle.std.proofs.lemmas.List.Elements.{All-head, All-tail, All-cons, All-nil, All-push, All-weaker}
+use Rattle.std.proofs.lemmas.List.Elements.{All-head, All-tail, All-nil, All-push, All-weaker}
 use Rattle.std.proofs.lemmas.List.Sums.{sum_by-cons}
 use Rattle.std.proofs.lemmas.Option.{slice_get_within}
 use Rattle.pp_channel.specs.declared.chan_op.ChanOp.{ChanOp}
@@ -20,12 +20,13 @@ use Rattle.pp_channel.specs.declared.reply.Reply.{Reply}
 use Rattle.pp_channel.specs.Answer.{IsAnswer}
 use Rattle.pp_channel.specs.ChannelNumber.{channel_count, channel_index}
 use Rattle.pp_channel.specs.Law.{IsPrefix}
-use Rattle.pp_channel.specs.LineLog.{is_event, appended, with_answer}
+use Rattle.pp_channel.specs.LineLog.{is_event, appended, with_answer, event_entry}
 use Rattle.pp_channel.specs.LineState.{LineState, IsActed, IsWornOut, number_after}
 use Rattle.pp_channel.specs.Merge.{history_on, IsTrueAt, IsTrueOf, tells_event, times_told, Merges, IsOpeningLog, no_opening}
 use Rattle.pp_channel.proofs.AnswerLemmas.{answer_by_table}
 use Rattle.pp_channel.proofs.HistoryLemmas.{lawful_empty}
-use Rattle.pp_channel.proofs.MergeLemmas.{once_inside, once_past, told_by, told_here, told_not, told_elsewhere, true_front, tells_once, times_told-append, times_told_push, made_entry}
+use Rattle.pp_channel.proofs.ListFacts.{All-front, All-back}
+use Rattle.pp_channel.proofs.MergeLemmas.{once_inside, once_past, told_by, told_here, told_not, told_elsewhere, true_front, tells_once, times_told-append, times_told_push}
 
 -- an entry is true of histories, one for each number of a channel
 abbrev IsTrueIn : (ℕ → List Event) → Entry → Type 0
@@ -61,14 +62,6 @@ prefix_by_places (x ∷ some) (y ∷ all) same =
     let rest = prefix_by_places some all (λ n l. same (suc n) (omega arith)) in
     (rest.0, ap (λ l. x ∷ l) rest.1 ∙ ap (λ z. z ∷ all) is)
 
-all_before : {X : Type 0} (P : X → Type 0) (xs ys : List X) → All P (xs ++ ys) → All P xs
-all_before P [] ys all = All-nil P
-all_before P (x ∷ xs) ys all = All-cons P x xs (All-head P x (xs ++ ys) all) (all_before P xs ys (All-tail P x (xs ++ ys) all))
-
-all_behind : {X : Type 0} (P : X → Type 0) (xs ys : List X) → All P (xs ++ ys) → All P ys
-all_behind P [] ys all = all
-all_behind P (x ∷ xs) ys all = all_behind P xs ys (All-tail P x (xs ++ ys) all)
-
 -- one log beside another that is taken out
 merges_by_counts : (opening : ℕ → List Event) (histories : List (List Event)) (first log whole : List Entry)
     → IsOpeningLog opening first → Merges no_opening histories whole
@@ -97,24 +90,17 @@ merges_by_counts opening histories first log whole is m sum first_true log_true 
       entries_true = log_true;
     }
 
--- Where a log of opening histories and then other logs merge over none, the others merge over the opening histories.
-pub merges_after : (opening : ℕ → List Event) (histories : List (List Event)) (first log : List Entry)
-    → IsOpeningLog opening first → Merges no_opening histories (first ++ log) → Merges opening histories log
-merges_after opening histories first log is m =
-    merges_by_counts opening histories first log (first ++ log) is m (λ c number. times_told-append c number first log)
-    (all_before (IsTrueOf histories) first log m.entries_true) (all_behind (IsTrueOf histories) first log m.entries_true)
-
--- So too where it comes last.
+-- Where other logs and then a log of opening histories merge over none, the others merge over the opening histories.
 pub merges_before : (opening : ℕ → List Event) (histories : List (List Event)) (log last : List Entry)
     → IsOpeningLog opening last → Merges no_opening histories (log ++ last) → Merges opening histories log
 merges_before opening histories log last is m =
     merges_by_counts opening histories last log (log ++ last) is m (λ c number. let s = times_told-append c number log last in omega (arith, s))
-    (all_behind (IsTrueOf histories) log last m.entries_true) (all_before (IsTrueOf histories) log last m.entries_true)
+    (All-back (IsTrueOf histories) log last m.entries_true) (All-front (IsTrueOf histories) log last m.entries_true)
 
 -- one channel more has an opening history, an Activate
-pub opening_more : (before after : ℕ → List Event) (c : ℕ) (log : List Entry) → before c ≡ [] → after c ≡ Activate ∷ [] → ((d : ℕ) → d ≢ c → after d ≡ before d) → IsOpeningLog before log → IsOpeningLog after (log ++ made_entry c 0 Activate ∷ [])
+pub opening_more : (before after : ℕ → List Event) (c : ℕ) (log : List Entry) → before c ≡ [] → after c ≡ Activate ∷ [] → ((d : ℕ) → d ≢ c → after d ≡ before d) → IsOpeningLog before log → IsOpeningLog after (log ++ event_entry c 0 Activate ∷ [])
 opening_more before after c log none one same is =
-    let entry : Entry = made_entry c 0 Activate in
+    let entry : Entry = event_entry c 0 Activate in
     let empty : length (before c) ≡ 0 = ap length none in
     let single : length (after c) ≡ 1 = ap length one in
     let at_c : (d : ℕ) → d ≡ c → length (after d) ≡ 1 = λ d e. ap (λ x. length (after x)) e ∙ single in
@@ -163,7 +149,7 @@ opening_none opening log none is =
 -- the first Activate on channel c, by a line that holds every share: it is made, and written at number 0
 pub record HasActivated (line : LineState) (c : ℕ) (r : Numbered) (after : LineState) : Type 0 where
   pub done : r.reply ≡ Reply.Done
-  pub written : after.log ≡ appended line.log (made_entry c 0 Activate)
+  pub written : after.log ≡ appended line.log (event_entry c 0 Activate)
 
 untold_is_empty : (c : ℕ) (histories : List (List Event)) (log : List Entry) → Merges no_opening histories log → times_told c 0 log ≡ 0 → history_on c histories ≡ []
 untold_is_empty c histories log m none =
@@ -188,7 +174,7 @@ activated line after c r named all none acted =
       written =
           ap (λ l. l.log) acted.after_is
           ∙ ap (λ x. with_answer line.log c ChanOp.Activate r.number x) done
-          ∙ ap (λ n. appended line.log (made_entry c n Activate)) first;
+          ∙ ap (λ n. appended line.log (event_entry c n Activate)) first;
     }
 
 -- it is never worn

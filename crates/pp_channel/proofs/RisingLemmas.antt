@@ -1,11 +1,15 @@
 -- A log goes on rising where the next entry is not older than what was seen.
 use Rattle.std.proofs.Common.{◌≡◌, ◌≢◌, ℕ, ◌-◌, ◌<◌, ◌≤◌, List, length, get_or, set, ⊎_elim, ap, ◌∙◌, arith}
-use Rattle.std.specs.Prelude.{AllPairs}
+use Rattle.std.specs.Prelude.{AllPairs, Option, Some, None}
 use Rattle.std.proofs.lemmas.Bool.{cases_eq}
 use Rattle.std.proofs.lemmas.List.{length-set, get_or-set_same, get_or-set_other}
 use Rattle.std.proofs.lemmas.List.Quantifiers.{all_pairs_push}
+use Rattle.pp_channel.specs.declared.chan_op.ChanOp.{ChanOp}
 use Rattle.pp_channel.specs.declared.entry.Entry.{Entry}
-use Rattle.pp_channel.specs.LineLog.{LogState, appended, looked}
+use Rattle.pp_channel.specs.declared.event.Event.{Event}
+use Rattle.pp_channel.specs.declared.reply.Reply.{Reply}
+use Rattle.pp_channel.specs.declared.reply.Reply.TheVariants.{Flags, Held, Done, Word}
+use Rattle.pp_channel.specs.LineLog.{LogState, event_entry, look_entry, appended, looked, event_answered, with_event, with_answer}
 use Rattle.pp_channel.specs.RisingLog.{IsFollowedBy, IsRising, seen_on, IsWithin}
 use Rattle.pp_channel.proofs.LineKnowledge.{looked_either, last_replaced}
 
@@ -36,3 +40,15 @@ module _ (seen : List ℕ) (log : LogState) (entry : Entry) (within : IsWithin s
   rising_looked = looked_either IsRising log entry
       (λ ends. pairs_set_last IsFollowedBy log.entries entry (last_replaced log entry.channel ends).1 rising followed)
       rising_appended
+
+-- so does the log after an answer
+module _ (seen : List ℕ) (log : LogState) (c number : ℕ) (within : IsWithin seen log.entries) (later : seen_on c seen ≤ number) (rising : IsRising log.entries) where
+  rising_event : (made : Option Event) → IsRising (with_event log c number made).entries
+  rising_event None = rising
+  rising_event (Some e) = rising_appended seen log (event_entry c number e) within later rising
+
+  pub rising_answer : (op : ChanOp) (reply : Reply) → IsRising (with_answer log c op number reply).entries
+  rising_answer op (Flags f) = rising_looked seen log (look_entry c number f) within later rising
+  rising_answer op (Held f) = rising_looked seen log (look_entry c number f) within later rising
+  rising_answer op Done = rising_event (event_answered op Done)
+  rising_answer op (Word w) = rising_event (event_answered op (Word w))

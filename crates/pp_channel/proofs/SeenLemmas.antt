@@ -1,7 +1,6 @@
 -- The numbers seen, by channel, and the greater ones of two lines.
-use Rattle.std.proofs.Common.{◌≡◌, ◌≢◌, ℕ, zero, suc, ◌<◌, ◌≤◌, max, List, [], ◌∷◌, length, get_or, set, ⊎_elim, refl, sym, ap, ◌∙◌, subst, arith}
-use Rattle.std.proofs.lemmas.Bool.{cases_eq}
-use Rattle.std.proofs.lemmas.List.{get_or-set_same, get_or-set_other, ext_get_or}
+use Rattle.std.proofs.Common.{◌≡◌, ℕ, zero, suc, ◌<◌, ◌≤◌, max, List, [], ◌∷◌, length, get_or, set, refl, sym, ap, ◌∙◌, arith}
+use Rattle.std.proofs.lemmas.List.{ext_get_or}
 use Rattle.std.proofs.lemmas.List.Elements.{All-weaker}
 use Rattle.pp_channel.specs.declared.entry.Entry.{Entry}
 use Rattle.pp_channel.specs.ChannelNumber.{channel_index}
@@ -15,14 +14,6 @@ set_at_each P (x ∷ xs) zero n zero old new = new refl
 set_at_each P (x ∷ xs) zero n (suc d) old new = old
 set_at_each P (x ∷ xs) (suc c) n zero old new = old
 set_at_each P (x ∷ xs) (suc c) n (suc d) old new = set_at_each P xs c n d old (λ e. new (ap suc e))
-
-pub set_at_other : (P : ℕ → Type 0) (xs : List ℕ) (c n d : ℕ) → c < length xs → (d ≢ c → P (get_or xs d 0)) → (d ≡ c → P n) → P (get_or (set xs c n) d 0)
-set_at_other P xs c n d within old new = ⊎_elim
-    (λ (same : d ≡ c).
-    let there : get_or (set xs c n) d 0 ≡ n = ap (λ k. get_or (set xs c n) k 0) same ∙ get_or-set_same xs c n 0 within in
-    subst P (sym there) (new same))
-    (λ (other : d ≢ c). subst P (sym (get_or-set_other xs c d n 0 other)) (old other))
-    (cases_eq d c)
 
 pub set_raises : (xs : List ℕ) (c n d : ℕ) → get_or xs c 0 ≤ n → get_or xs d 0 ≤ get_or (set xs c n) d 0
 set_raises [] c n d l = omega arith

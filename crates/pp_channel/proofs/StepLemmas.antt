@@ -19,10 +19,11 @@ use Rattle.pp_channel.specs.LineSteps.{IsLoad, IsWonExchange, IsLostExchange, Is
 use Rattle.pp_channel.specs.LineView.{finds, makes, weighs_once, Knows}
 use Rattle.pp_channel.specs.Merge.{IsTrueOf, history_on}
 use Rattle.pp_channel.specs.RisingLog.{seen_on}
+use Rattle.pp_channel.specs.LineLog.{event_entry}
 use Rattle.pp_channel.specs.SharedWords.{word_place, place_count, IsFound, IsViewOf, KeepsRule, Rule}
 use Rattle.pp_channel.proofs.ChannelPlaces.{place_below, named_below, one_place}
 use Rattle.pp_channel.proofs.ListFacts.{read_written, All-parts_set, sum_by-write, read-le-sum_by}
-use Rattle.pp_channel.proofs.MergeLemmas.{once_below, TellsOnce, tells_once, merges_by, times_told_push, made_entry, told_elsewhere, told_next, Grow, slice_get_last, true_later, with_more, more_is, more_here, same_elsewhere, more_grow, length-with_more, All-with_more}
+use Rattle.pp_channel.proofs.MergeLemmas.{once_below, TellsOnce, tells_once, merges_by, times_told_push, told_elsewhere, told_next, Grow, slice_get_last, true_later, with_more, more_is, more_here, same_elsewhere, more_grow, length-with_more, All-with_more}
 use Rattle.pp_channel.proofs.ViewLemmas.{view_later, view_makes, later_found}
 use Rattle.pp_channel.proofs.RuleLemmas.{events_in, all_events, shares_in, times-write, lawful_on, low_on, word_on, view_at, events_at, found_kept, weighed_kept, alone, knows, tells}
 
@@ -133,7 +134,7 @@ module _ (whole : ℕ) (words : List ℕ) (views : List LineView) (histories : L
       let n : ℕ = length (history_on c histories) in
       let t = times-write d number views id v (makes v c n e) at in
       let o = tells_once histories (all_events views) k.merged d number in
-      let more = times_told_push d number v.events (made_entry c n e) in
+      let more = times_told_push d number v.events (event_entry c n e) in
       dite (ℕ_discrete d c)
       (λ (is : d ≡ c). let nx = told_next d number c n e (sym is) in
       let old : once_below number (length (history_on d histories)) ≡ once_below number n = ap (λ z. once_below number (length (history_on z histories))) is in
@@ -145,7 +146,7 @@ module _ (whole : ℕ) (words : List ℕ) (views : List LineView) (histories : L
   made id v at live =
       let n : ℕ = length (history_on c histories) in
       let w : LineView = makes v c n e in
-      let made_true : IsTrueOf after (made_entry c n e) = ap (λ h. slice_get h n) (here c refl) ∙ slice_get_last (history_on c histories) e in
+      let made_true : IsTrueOf after (event_entry c n e) = ap (λ h. slice_get h n) (here c refl) ∙ slice_get_last (history_on c histories) e in
       record {
         sound = record {
           each_channel = channels_after;
@@ -154,7 +155,7 @@ module _ (whole : ℕ) (words : List ℕ) (views : List LineView) (histories : L
         };
         merged = merges_by after (all_events (set views id w)) (once_after id v at)
             (All-parts_set events_in (IsTrueOf after) views id w (All-weaker (IsTrueOf histories) (IsTrueOf after) (true_later histories after grown) (all_events views) k.merged.entries_true)
-            (All-push (IsTrueOf after) v.events (made_entry c n e) (All-weaker (IsTrueOf histories) (IsTrueOf after) (true_later histories after grown) v.events (events_at whole words views histories k id v at)) made_true));
+            (All-push (IsTrueOf after) v.events (event_entry c n e) (All-weaker (IsTrueOf histories) (IsTrueOf after) (true_later histories after grown) v.events (events_at whole words views histories k id v at)) made_true));
         places = length-set words (word_place c) new ∙ k.places;
         words_are = word_after;
         shares = let t = sum_by-write shares_in views id v w at in let o = k.shares in omega arith;

@@ -16,11 +16,12 @@ use Rattle.pp_channel.specs.History.{HasTwelveBitWords}
 use Rattle.pp_channel.specs.LineView.{parent_view, child_view, greater_of_each, joined_view, spent_view, finds, makes, weighs_once}
 use Rattle.pp_channel.specs.Merge.{history_on}
 use Rattle.pp_channel.specs.RisingLog.{known_after, seen_on}
+use Rattle.pp_channel.specs.LineLog.{event_entry}
 use Rattle.pp_channel.specs.SharedWords.{IsFound, IsViewOf}
 use Rattle.pp_channel.proofs.ChannelPlaces.{place_below}
 use Rattle.pp_channel.proofs.FrontLemmas.{twelve_bits_take}
 use Rattle.pp_channel.proofs.ChannelWordLemmas.{number_at_word}
-use Rattle.pp_channel.proofs.MergeLemmas.{Grow, made_entry}
+use Rattle.pp_channel.proofs.MergeLemmas.{Grow}
 use Rattle.pp_channel.proofs.SeenLemmas.{set_at_each, set_raises, within_more, greater_left, greater_right, greater_at_most, length-greater}
 
 -- the histories grow
@@ -88,7 +89,7 @@ view_makes before after whole v c n e grow names now next live f =
     let here : seen_on c (set v.seen i (n + 1)) ≡ n + 1 = get_or-set_same v.seen i (n + 1) 0 (omega arith) in
     let Q : Entry → Type 0 = λ entry. known_after entry.what entry.number ≤ seen_on entry.channel (set v.seen i (n + 1)) in
     record {
-      events_seen = All-push Q v.events (made_entry c n e) (within_more v.seen (set v.seen i (n + 1)) (λ d. set_raises v.seen i (n + 1) d (omega arith)) v.events f.events_seen) (omega arith);
+      events_seen = All-push Q v.events (event_entry c n e) (within_more v.seen (set v.seen i (n + 1)) (λ d. set_raises v.seen i (n + 1) d (omega arith)) v.events f.events_seen) (omega arith);
       seen_happened = λ d. set_at_each (λ m. m ≤ length (history_on d after)) v.seen i (n + 1) (channel_index d) (g.seen_happened d) (λ e. let same : length (history_on d after) ≡ length (history_on c after) = ap (λ k. length (slice_index_or after k [])) e in omega arith);
       words_found = g.words_found;
       whole_is = f.whole_is;

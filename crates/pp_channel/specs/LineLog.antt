@@ -3,6 +3,7 @@ use Rattle.std.specs.Prelude.{ℕ, ◌-◌, ◌==◌, ◌&&◌, Bool, true, fals
 use Rattle.std.specs.List.{last_or}
 use Rattle.pp_channel.specs.declared.chan_op.ChanOp.{ChanOp}
 use Rattle.pp_channel.specs.declared.event.Event.{Event}
+use Rattle.pp_channel.specs.declared.flags.Flags.{Flags}
 use Rattle.pp_channel.specs.declared.reply.Reply.{Reply}
 use Rattle.pp_channel.specs.declared.entry.Entry.{Entry}
 use Rattle.pp_channel.specs.declared.entry.Seen.{Seen}
@@ -18,6 +19,13 @@ pub record LogState : Type 0 where
 -- a log without entries
 abbrev pub empty_log : ℕ → LogState
 empty_log room = record { entries = []; room = room; kept = true }
+
+-- the entries of an event and of a look
+abbrev pub event_entry : ℕ → ℕ → Event → Entry
+event_entry c number e = record { channel = c; number = number; what = Seen.Did e }
+
+abbrev pub look_entry : ℕ → ℕ → Flags → Entry
+look_entry c number f = record { channel = c; number = number; what = Seen.Saw f }
 
 -- an entry comes to the end
 abbrev pub appended : LogState → Entry → LogState
@@ -53,11 +61,11 @@ event_answered op reply = None
 -- an event is an entry of its own; Flags and Held are looks
 abbrev pub with_event : LogState → ℕ → ℕ → Option Event → LogState
 with_event log c number None = log
-with_event log c number (Some e) = appended log (record { channel = c; number = number; what = Seen.Did e })
+with_event log c number (Some e) = appended log (event_entry c number e)
 
 abbrev pub with_answer : LogState → ℕ → ChanOp → ℕ → Reply → LogState
-with_answer log c op number (Reply.Flags f) = looked log (record { channel = c; number = number; what = Seen.Saw f })
-with_answer log c op number (Reply.Held f) = looked log (record { channel = c; number = number; what = Seen.Saw f })
+with_answer log c op number (Reply.Flags f) = looked log (look_entry c number f)
+with_answer log c op number (Reply.Held f) = looked log (look_entry c number f)
 with_answer log c op number reply = with_event log c number (event_answered op reply)
 
 -- The log after an answer to an operation on channel c.
@@ -67,7 +75,7 @@ log_after log c op r = with_answer log c op r.number r.reply
 -- the events that a line made, after that answer
 abbrev pub with_made : List Entry → ℕ → ℕ → Option Event → List Entry
 with_made events c number None = events
-with_made events c number (Some e) = events ++ record { channel = c; number = number; what = Seen.Did e } ∷ []
+with_made events c number (Some e) = events ++ event_entry c number e ∷ []
 
 abbrev pub events_after : List Entry → ℕ → ChanOp → Numbered → List Entry
 events_after events c op r = with_made events c r.number (event_answered op r.reply)

@@ -10,6 +10,7 @@ use Rattle.pp_channel.specs.declared.event.Event.{Event}
 use Rattle.pp_channel.specs.declared.rule.LineView.{LineView}
 use Rattle.pp_channel.specs.ChannelNumber.{channel_count, channel_index, names_channel}
 use Rattle.pp_channel.specs.ChannelWord.{history_word, number_in, flags_in}
+use Rattle.pp_channel.specs.LineLog.{event_entry}
 use Rattle.pp_channel.specs.LineView.{finds, makes, weighs_once, Knows}
 use Rattle.pp_channel.specs.Merge.{times_told, history_on}
 use Rattle.pp_channel.specs.RisingLog.{IsWithin}
@@ -17,7 +18,7 @@ use Rattle.pp_channel.specs.SharedWords.{word_place}
 
 -- An event in a log is one that the view has; a look was read off a word that the view found.
 abbrev pub IsBackedBy : LineView → ℕ → ℕ → Seen → Type 0
-IsBackedBy v c number (Did e) = Contains v.events (record { channel = c; number = number; what = Did e })
+IsBackedBy v c number (Did e) = Contains v.events (event_entry c number e)
 IsBackedBy v c number (Saw f) = (word : ℕ) × Contains v.found (record { channel = c; word = word })
     × (number_in word ≡ number) × (flags_in word ≡ f)
 

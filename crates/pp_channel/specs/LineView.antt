@@ -1,11 +1,11 @@
 -- What a line knows of the channels, and what its steps and calls make of that.
 use Rattle.std.specs.Prelude.{◌≡◌, ℕ, ◌+◌, ◌-◌, ◌≤◌, max, List, [], ◌∷◌, ◌++◌, length, map, zip, replicate, All, slice_set}
 use Rattle.pp_channel.specs.declared.entry.Entry.{Entry}
-use Rattle.pp_channel.specs.declared.entry.Seen.TheVariants.{Did}
 use Rattle.pp_channel.specs.declared.event.Event.{Event}
 use Rattle.pp_channel.specs.declared.rule.LineView.{LineView}
 use Rattle.pp_channel.specs.ChannelNumber.{channel_count, channel_index}
 use Rattle.pp_channel.specs.ChannelWord.{number_in}
+use Rattle.pp_channel.specs.LineLog.{event_entry}
 use Rattle.pp_channel.specs.Merge.{AreHistories, IsTrueOf, Merges, no_opening, history_on}
 use Rattle.pp_channel.specs.RisingLog.{seen_on}
 use Rattle.pp_channel.specs.SharedWords.{IsFound}
@@ -49,7 +49,7 @@ finds v c word = record v {
 -- the view after an event was made on channel c
 abbrev pub makes : LineView → ℕ → ℕ → Event → LineView
 makes v c number e = record v {
-  events = v.events ++ record { channel = c; number = number; what = Did e } ∷ [];
+  events = v.events ++ event_entry c number e ∷ [];
   seen = slice_set v.seen (channel_index c) (number + 1);
 }
 

@@ -4,9 +4,8 @@ ghost use Rattle.std.specs.Prelude.{◌≡◌, ◌≤◌, ◌+◌, ◌-◌, List
 ghost use Rattle.pp_channel.specs.declared.event.Event.{Event};
 ghost use Rattle.pp_channel.specs.ChannelNumber.{channel_count};
 ghost use Rattle.pp_channel.specs.RisingLog.{IsRising, IsWithin, seen_on};
-ghost use Rattle.pp_channel.specs.declared.entry.Seen.TheVariants.{Did, Saw};
 ghost use Rattle.pp_channel.specs.declared.rule.LineView.{LineView};
-ghost use Rattle.pp_channel.specs.LineLog.{appended, looked};
+ghost use Rattle.pp_channel.specs.LineLog.{event_entry, look_entry, appended, looked};
 ghost use Rattle.pp_channel.specs.LineState.{LineState, IsOpened, IsSplitFrom, joined, ForgetsNothing, IsActed, IsWornOut, AreClosed};
 ghost use Rattle.pp_channel.specs.LineSteps.{IsLoad, IsWonExchange, IsLostExchange, IsLogOf};
 ghost use Rattle.pp_channel.specs.LineView.{finds, parent_view, weighs_once, greater_of_each};
@@ -216,7 +215,8 @@ impl<A: Allocator + Copy> Line<A> {
     /// The word of the channel, whose events the line has then seen.
     fn load(&mut self, channel: ChannelNo) -> u64
         ensures load { IsLoad channel self.old.view result self.new.view }
-        ensures view_alone { self.new ≡ record self.old { view = self.new.view } }
+        ensures log { self.new.log ≡ self.old.log }
+        ensures table { self.new.table ≡ self.old.table }
         ensures log_before { IsLogOf self.old.view self.old.log.entries }
         ensures log_after { IsLogOf self.new.view self.new.log.entries }
     {
@@ -230,7 +230,9 @@ impl<A: Allocator + Copy> Line<A> {
         requires room { 1 ≤ self.old.log.room }
         requires found { Contains self.old.view.found (record { channel = channel; word = word }) }
         requires seen { number_in word ≤ seen_on channel self.old.view.seen }
-        ensures written { self.new ≡ record self.old { log = looked self.old.log (record { channel = channel; number = number_in word; what = Saw (flags_in word) }) } }
+        ensures written { self.new.log ≡ looked self.old.log (look_entry channel (number_in word) (flags_in word)) }
+        ensures view { self.new.view ≡ self.old.view }
+        ensures table { self.new.table ≡ self.old.table }
         ensures log_after { IsLogOf self.new.view self.new.log.entries }
     {
         self.log.saw(channel, number_in(word), flags_in(word));
@@ -250,9 +252,10 @@ impl<A: Allocator + Copy> Line<A> {
         requires next { (h : List Event) → IsLawful h → HasTwelveBitWords h → history_word h ≡ word
             → IsLawful (h ++ event ∷ []) × HasTwelveBitWord event × (history_word (h ++ event ∷ []) ≡ next) }
         ensures won { OnOk result (IsWonExchange channel self.old.view word event self.new.view) }
-        ensures event_written { OnOk result (self.new ≡ record self.old { log = appended self.old.log (record { channel = channel; number = number_in word; what = Did event }); view = self.new.view }) }
+        ensures event_written { OnOk result (self.new.log ≡ appended self.old.log (event_entry channel (number_in word) event)) }
         ensures lost { IfErr result (λ found. IsLostExchange channel word self.old.view found self.new.view) }
-        ensures look_written { IfErr result (λ found. self.new ≡ record self.old { log = looked self.old.log (record { channel = channel; number = number_in found; what = Saw (flags_in found) }); view = self.new.view }) }
+        ensures look_written { IfErr result (λ found. self.new.log ≡ looked self.old.log (look_entry channel (number_in found) (flags_in found))) }
+        ensures table { self.new.table ≡ self.old.table }
         ensures log_after { IsLogOf self.new.view self.new.log.entries }
     {
         let found = self.words.exchange(channel, word, next, &event);

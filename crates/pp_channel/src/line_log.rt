@@ -1,8 +1,7 @@
 //! A log with room for this many entries.
 
 ghost use Rattle.std.specs.Prelude.{◌≡◌, ◌<◌, ◌++◌, [], ◌∷◌, true, IfOk, OnOk, OnErr};
-ghost use Rattle.pp_channel.specs.declared.entry.Seen.TheVariants.{Did, Saw};
-ghost use Rattle.pp_channel.specs.LineLog.{LogState, empty_log, appended, looked, ends_in_look_at};
+ghost use Rattle.pp_channel.specs.LineLog.{LogState, empty_log, event_entry, look_entry, appended, looked, ends_in_look_at};
 
 use crate::channel_no::ChannelNo;
 use crate::entry::{Entry, Seen};
@@ -75,7 +74,7 @@ impl<A: Allocator> LineLog<A> {
     /// An event that was made.
     pub fn did(&mut self, channel: ChannelNo, number: u64, event: Event)
         requires { 0 < self.old.room }
-        ensures { self.new ≡ appended self.old (record { channel = channel; number = number; what = Did event }) }
+        ensures { self.new ≡ appended self.old (event_entry channel number event) }
     {
         self.entries.push_reserved(Entry {
             channel,
@@ -89,7 +88,7 @@ impl<A: Allocator> LineLog<A> {
     /// A look at the flags.
     pub fn saw(&mut self, channel: ChannelNo, number: u64, flags: Flags)
         requires { 0 < self.old.room }
-        ensures { self.new ≡ looked self.old (record { channel = channel; number = number; what = Saw flags }) }
+        ensures { self.new ≡ looked self.old (look_entry channel number flags) }
     {
         if self.ends_in_look_at(channel) {
             let last = self.entries.len() - 1;

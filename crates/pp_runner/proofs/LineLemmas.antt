@@ -1,12 +1,12 @@
 -- A line after a call: it is the same line, later.
-use Rattle.std.proofs.Common.{◌≡◌, ℕ, suc, ◌≤◌, ◌+◌, ◌-◌, ◌*◌, List, [], ◌∷◌, ◌++◌, All, length, refl, sym, ap, ◌∙◌, subst, append_assoc, inl, inr, arith}
+use Rattle.std.proofs.Common.{◌≡◌, ℕ, suc, ◌≤◌, ◌+◌, ◌-◌, ◌*◌, List, [], ◌∷◌, ◌++◌, All, length, refl, sym, ap, ◌∙◌, subst, append_assoc, arith}
 use Rattle.std.specs.Prelude.{slice_set}
 use Rattle.std.specs.List.{flat_map}
-use Rattle.std.proofs.lemmas.Bool.{cases_eq}
 use Rattle.std.proofs.lemmas.Grind.{flat_map-append}
 use Rattle.std.proofs.lemmas.List.{append-nil, length-append}
 use Rattle.std.proofs.lemmas.List.Elements.{All-append, All-cons, All-head, All-nil, All-push, All-tail}
 use Rattle.std.proofs.Math.Nat.{suc-mul, mul-one, zero-mul}
+use Rattle.pp_channel.proofs.LineAnswers.{number_later}
 use Rattle.pp_channel.proofs.LineKnowledge.{all_looked}
 use Rattle.pp_channel.proofs.SeenLemmas.{set_raises}
 use Rattle.pp_channel.specs.ChannelNumber.{channel_index}
@@ -54,15 +54,6 @@ none_older_noted happened log c number (Did e) later none =
     All-push (λ (entry : Entry). happened entry.channel ≤ entry.number) log.entries (record { channel = c; number = number; what = Did e }) none later
 none_older_noted happened log c number (Saw f) later none =
     all_looked (λ (entry : Entry). happened entry.channel ≤ entry.number) log (record { channel = c; number = number; what = Saw f }) later none
-
--- the number of an answer is not below what the line had seen
-number_later : (line after : LineState) (c : ℕ) (op : ChanOp) (r : Numbered) → IsActed line c op r after → seen_on c line.view.seen ≤ r.number
-number_later line after c op r acted =
-    let loaded = acted.not_older in
-    elim (cases_eq r.number r.loaded) [
-      | inl same ↦ omega (arith, loaded, same)
-      | inr other ↦ let later = (acted.answer.lost other).later in omega (arith, loaded, later)
-    ]
 
 -- an answer came
 pub same_line_acted : (line after : LineState) (c : ℕ) (op : ChanOp) (r : Numbered) → IsActed line c op r after → IsSameLine line after

@@ -12,8 +12,9 @@ use Rattle.pp_channel.specs.Merge.{IsOpeningLog, times_told}
 use Rattle.pp_channel.specs.RisingLog.{IsWithin}
 use Rattle.pp_channel.specs.declared.entry.Entry.{Entry}
 use Rattle.pp_channel.specs.declared.event.Event.{Event}
+use Rattle.pp_channel.specs.LineLog.{event_entry}
 use Rattle.pp_channel.specs.declared.event.Event.TheVariants.{Activate}
-use Rattle.pp_channel.proofs.MergeLemmas.{made_entry, times_within}
+use Rattle.pp_channel.proofs.MergeLemmas.{times_within}
 use Rattle.pp_channel.proofs.OpeningLemmas.{opening_more, opening_same, opening_none}
 use Rattle.pp_machine.specs.Headline.{opening_history}
 use Rattle.pp_machine.specs.MachineState.{MachineState, is_opened}
@@ -52,7 +53,7 @@ untold place m log below is =
     is.no_other (channel_number place) 0 (omega (arith, none))
 
 -- one that dead start opened
-pub one_opened : (place : ℕ) (m : MachineState) (log : List Entry) → place < channel_count → is_opened (channel_number place) m ≡ true → IsOpeningLog (opened_before place m) log → IsOpeningLog (opened_before (place + 1) m) (log ++ made_entry (channel_number place) 0 Activate ∷ [])
+pub one_opened : (place : ℕ) (m : MachineState) (log : List Entry) → place < channel_count → is_opened (channel_number place) m ≡ true → IsOpeningLog (opened_before place m) log → IsOpeningLog (opened_before (place + 1) m) (log ++ event_entry (channel_number place) 0 Activate ∷ [])
 one_opened place m log below opened is =
     let here = place_of_number place below in
     opening_more (opened_before place m) (opened_before (place + 1) m) (channel_number place) log

@@ -4,8 +4,8 @@ use Rattle.pp_channel.specs.LineState.{LineState}
 use Rattle.pp_channel.specs.Merge.{IsOpeningLog, times_told}
 use Rattle.pp_channel.specs.RisingLog.{IsWithin}
 use Rattle.pp_channel.specs.declared.entry.Entry.{Entry}
+use Rattle.pp_channel.specs.LineLog.{event_entry}
 use Rattle.pp_channel.specs.declared.event.Event.TheVariants.{Activate}
-use Rattle.pp_channel.proofs.MergeLemmas.{made_entry}
 use Rattle.pp_machine.specs.MachineState.{is_opened}
 use Rattle.pp_runner.proofs.OpeningLemmas.{opened_before, untold, one_opened, one_not_opened, all_opened, opened_seen}
 use Rattle.pp_runner.proofs.opening.opening_line.Goals.{then-opened, else-opened}
@@ -27,8 +27,8 @@ loop-place-preserved g c =
       | then-opened w ↦
           let opened : is_opened (channel_number place) m ≡ true = sym (ap (λ n. is_opened n m) c.at-channel.ensures.number) ∙ (sym c.opened.ensures ∙ w.if-opened.true) in
           let log = ap (λ l. l.log) w.line-is ∙ w.activate.ensures.written in
-          let entries : c.if-opened.line.log.entries ≡ before.log.entries ++ made_entry (channel_number place) 0 Activate ∷ [] =
-          ap (λ l. l.entries) log ∙ ap (λ n. before.log.entries ++ made_entry n 0 Activate ∷ []) c.at-channel.ensures.number in
+          let entries : c.if-opened.line.log.entries ≡ before.log.entries ++ event_entry (channel_number place) 0 Activate ∷ [] =
+          ap (λ l. l.entries) log ∙ ap (λ n. before.log.entries ++ event_entry n 0 Activate ∷ []) c.at-channel.ensures.number in
           let room : c.if-opened.line.log.room ≡ before.log.room - 1 = ap (λ l. l.room) log in
           record {
             opened = subst (λ (es : List Entry). IsOpeningLog (opened_before (place + 1) m) es) (sym entries) (one_opened place m before.log.entries below opened c.loop-place.invariant.opened);

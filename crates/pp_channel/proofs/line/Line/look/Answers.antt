@@ -1,8 +1,7 @@
 use Rattle.std.proofs.Common.{◌≡◌, ◌≤◌, sym, subst}
 use Rattle.std.specs.Prelude.{Contains}
-use Rattle.pp_channel.specs.declared.entry.Seen.TheVariants.{Saw}
 use Rattle.pp_channel.specs.ChannelWord.{number_in, flags_in}
-use Rattle.pp_channel.specs.LineLog.{LogState, looked}
+use Rattle.pp_channel.specs.LineLog.{LogState, looked, look_entry}
 use Rattle.pp_channel.specs.LineState.{LineState}
 use Rattle.pp_channel.specs.LineSteps.{IsLogOf}
 use Rattle.pp_channel.specs.RisingLog.{seen_on}
@@ -13,7 +12,7 @@ pub returns-clause-log_after : goal.returns-clause-log_after
 returns-clause-log_after g c =
     let found = subst (λ (line : LineState). Contains line.view.found (record { channel = c.args.channel; word = c.args.word })) (sym c.self.view_is) c.requires.found in
     let seen = subst (λ (line : LineState). number_in c.args.word ≤ seen_on c.args.channel line.view.seen) (sym c.self.view_is) c.requires.seen in
-    let written : c.saw.new.self ≡ looked c.self.inside.log (record { channel = c.args.channel; number = number_in c.args.word; what = Saw (flags_in c.args.word) }) = rw (← c.number_in.ensures.value, ← c.flags_in.ensures) c.saw.ensures in
+    let written : c.saw.new.self ≡ looked c.self.inside.log (look_entry c.args.channel (number_in c.args.word) (flags_in c.args.word)) = rw (← c.number_in.ensures.value, ← c.flags_in.ensures) c.saw.ensures in
     subst (λ (log : LogState). IsLogOf c.self.inside.words.seat.me.0 log.entries) (sym written) (log_of_look c.self.inside.log c.args.channel c.args.word c.self.invariant.3 found seen)
 
 pub invariant_of-self : goal.invariant_of-self

@@ -2,12 +2,11 @@ use Rattle.std.proofs.Common.{◌≡◌, ℕ, ◌+◌, sym, ap, ◌∙◌, subst
 use Rattle.std.specs.Prelude.{slice_set}
 use Rattle.pp_channel.specs.declared.rule.LineView.{LineView}
 use Rattle.pp_channel.specs.ChannelWord.{number_in}
-use Rattle.pp_channel.specs.LineLog.{LogState, appended}
+use Rattle.pp_channel.specs.LineLog.{LogState, appended, event_entry}
 use Rattle.pp_channel.specs.LineState.{LineState}
 use Rattle.pp_channel.specs.LineSteps.{IsLogOf, IsWonExchange}
 use Rattle.pp_channel.proofs.LineAnswers.{found_last}
 use Rattle.pp_channel.proofs.LineKeeping.{exchange_won, exchange_lost, fields_of_load, log_of_event}
-use Rattle.pp_channel.proofs.MergeLemmas.{made_entry}
 use Rattle.pp_channel.proofs.line.Line.try_event.Goals as goal
 
 pub exchange-found-requires-clause-loaded : goal.exchange-found-requires-clause-loaded
@@ -24,7 +23,7 @@ returns-then-found-word-clause-won g c =
 pub returns-then-found-word-clause-log_after : goal.returns-then-found-word-clause-log_after
 returns-then-found-word-clause-log_after g c =
     let won = exchange_won c.args.event c.exchange-found.ensures.exchange c.if-found-word.true in
-    let written : c.did.new.self ≡ appended c.self.inside.log (made_entry c.args.channel (number_in c.exchange-found.result) c.args.event) = rw (← c.number_in-number.ensures.value) c.did.ensures in
+    let written : c.did.new.self ≡ appended c.self.inside.log (event_entry c.args.channel (number_in c.exchange-found.result) c.args.event) = rw (← c.number_in-number.ensures.value) c.did.ensures in
     subst (λ (log : LogState). IsLogOf c.exchange-found.new.self.seat.me.0 log.entries) (sym written) (log_of_event won c.self.invariant.3)
 
 pub invariant_of-self : goal.invariant_of-self
