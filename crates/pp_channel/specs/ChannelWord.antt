@@ -1,4 +1,5 @@
--- A channel as one number of 64 bits, the channel word: how many events it has had, its flags and its register.
+-- A channel as one number of 64 bits, the channel word: how many events it has had, its flags and
+-- its register.
 --
 -- Control Data 6400/6500/6600 Computer Systems Reference Manual, publication 60100000, part on
 -- peripheral and control processors: a channel has a 12-bit register, an active flag and a full
@@ -9,10 +10,12 @@ use Rattle.pp_channel.specs.declared.flags.Flags.{Flags}
 use Rattle.pp_channel.specs.History.{waiting}
 use Rattle.pp_channel.specs.Answer.{flags_of}
 
--- bits 0 to 11 are the register, bit 12 is full, bit 13 is active, and from bit 14 on stands the number of events
+-- bits 0 to 11 are the register, bit 12 is full, bit 13 is active, and from bit 14 on stands the
+-- number of events
 abbrev pub packed : ℕ → Flags → ℕ → ℕ
 packed number flags register =
-    number * 2 ^ 14 + (if flags.active then 2 ^ 13 else 0) + (if flags.full then 2 ^ 12 else 0) + register
+    number * 2 ^ 14 + (if flags.active then 2 ^ 13 else 0) + (if flags.full then 2 ^ 12 else 0)
+    + register
 
 -- The word of a channel with the history h; a register without a waiting word is 0.
 abbrev pub history_word : List Event → ℕ

@@ -10,7 +10,8 @@ use Rattle.pp_channel.specs.declared.entry.Seen.{Seen}
 use Rattle.pp_channel.specs.declared.numbered.Numbered.{Numbered}
 use Rattle.pp_channel.specs.Answer.{event_with}
 
--- A log: its entries in order, for how many more it has room, and whether its last entry is to stay.
+-- A log: its entries in order, for how many more it has room, and whether its last entry is to
+-- stay.
 pub record LogState : Type 0 where
   pub entries : List Entry
   pub room : ℕ
@@ -29,7 +30,8 @@ look_entry c number f = record { channel = c; number = number; what = Seen.Saw f
 
 -- an entry comes to the end
 abbrev pub appended : LogState → Entry → LogState
-appended log entry = record { entries = log.entries ++ entry ∷ []; room = log.room - 1; kept = false }
+appended log entry =
+    record { entries = log.entries ++ entry ∷ []; room = log.room - 1; kept = false }
 
 -- whether an entry is an event; if not, it is a look
 abbrev pub is_event : Seen → Bool
@@ -49,7 +51,11 @@ ends_in_look_at c log = not log.kept && is_look_at c (last_or None log.entries)
 abbrev pub looked : LogState → Entry → LogState
 looked log entry =
     if ends_in_look_at entry.channel log
-    then record { entries = slice_set log.entries (length log.entries - 1) entry; room = log.room; kept = false }
+    then record {
+      entries = slice_set log.entries (length log.entries - 1) entry;
+      room = log.room;
+      kept = false;
+    }
     else appended log entry
 
 -- the event of an operation that was answered so

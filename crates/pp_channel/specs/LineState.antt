@@ -18,9 +18,10 @@ use Rattle.pp_channel.specs.Merge.{Merges, no_opening, history_on}
 use Rattle.pp_channel.specs.RisingLog.{seen_on}
 
 -- Lines that were split from one another are a family, and share one table of words. A line has its
--- log; its view, which is what it knows: its shares, of how many in its family, the events that it made,
--- the words that it found, in order, how often it weighed its shares by a load that took no note of the
--- word, and how many events of each channel it has seen; and the table of the words that it shares.
+-- log; its view, which is what it knows: its shares, of how many in its family, the events that it
+-- made, the words that it found, in order, how often it weighed its shares by a load that took no
+-- note of the word, and how many events of each channel it has seen; and the table of the words
+-- that it shares.
 pub record LineState : Type 0 where
   pub log : LogState
   pub view : LineView
@@ -38,11 +39,15 @@ pub record IsSplitFrom (parent : LineState) (room : ℕ) (line : LineState) : Ty
   pub view : line.view ≡ child_view parent.view
   pub table : line.table ≡ parent.table
 
--- Two lines as one: the entries of the one and then those of the other, the room of the one, and what
--- both know, with the shares of both, which it has weighed once more.
+-- Two lines as one: the entries of the one and then those of the other, the room of the one, and
+-- what both know, with the shares of both, which it has weighed once more.
 abbrev pub joined : LineState → LineState → LineState
 joined line other = record {
-  log = record { entries = line.log.entries ++ other.log.entries; room = line.log.room; kept = true };
+  log = record {
+    entries = line.log.entries ++ other.log.entries;
+    room = line.log.room;
+    kept = true;
+  };
   view = weighs_once (joined_view line.view other.view);
   table = line.table;
 }
@@ -57,8 +62,8 @@ number_after number (Reply.Flags f) = number
 number_after number (Reply.Held f) = number
 number_after number reply = number + 1
 
--- Events of other lines came between the load and the exchange: the operation was ready at the load,
--- and is held with the flags that the exchange found.
+-- Events of other lines came between the load and the exchange: the operation was ready at the
+-- load, and is held with the flags that the exchange found.
 pub record IsLost (history : List Event) (op : ChanOp) (r : Numbered) : Type 0 where
   pub later : r.loaded < r.number
   pub was_ready : (e : Event) × IsReady (take r.loaded history) op e
@@ -76,7 +81,8 @@ pub record IsAnsweredBy (history : List Event) (op : ChanOp) (r : Numbered) : Ty
 abbrev pub AreFoundBy : Numbered → List ℕ → Type 0
 AreFoundBy r [] = ⊥
 AreFoundBy r (word ∷ []) = (number_in word ≡ r.loaded) × (r.number ≡ r.loaded)
-AreFoundBy r (word ∷ other ∷ []) = (number_in word ≡ r.loaded) × (number_in other ≡ r.number) × (r.number ≢ r.loaded)
+AreFoundBy r (word ∷ other ∷ []) =
+    (number_in word ≡ r.loaded) × (number_in other ≡ r.number) × (r.number ≢ r.loaded)
 AreFoundBy r (word ∷ other ∷ more ∷ rest) = ⊥
 
 abbrev pub found_on : ℕ → List ℕ → List FoundWord
@@ -108,9 +114,12 @@ pub record IsActed (line : LineState) (c : ℕ) (op : ChanOp) (r : Numbered) (af
   pub not_worn : op ≢ ChanOp.Probe → r.loaded < greatest_number
   -- a line that holds every share knew the whole histories before this answer
   pub alone : line.view.shares ≡ line.view.whole
-      → (r.number ≡ r.loaded) × Merges no_opening (slice_set histories (channel_index c) (take r.loaded (history_on c histories))) line.log.entries
+      → (r.number ≡ r.loaded) × Merges no_opening
+      (slice_set histories (channel_index c)
+      (take r.loaded (history_on c histories))) line.log.entries
 
--- The channel has had as many events as its word can count, the line has now seen them all, and the operation is no probe.
+-- The channel has had as many events as its word can count, the line has now seen them all, and the
+-- operation is no probe.
 pub record IsWornOut (line : LineState) (c : ℕ) (op : ChanOp) (after : LineState) : Type 0 where
   pub no_probe : op ≢ ChanOp.Probe
   pub word : ℕ

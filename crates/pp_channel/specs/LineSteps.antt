@@ -25,8 +25,8 @@ IsBackedBy v c number (Saw f) = (word : ℕ) × Contains v.found (record { chann
 abbrev pub IsBacked : LineView → Entry → Type 0
 IsBacked v entry = IsBackedBy v entry.channel entry.number entry.what
 
--- The log of a line with this view: it has each event of the view, as often as the view has it, and no
--- other, and lies within what the line has seen.
+-- The log of a line with this view: it has each event of the view, as often as the view has it, and
+-- no other, and lies within what the line has seen.
 pub record IsLogOf (v : LineView) (log : List Entry) : Type 0 where
   pub each_channel : length v.seen ≡ channel_count
   pub told : (c number : ℕ) → times_told c number log ≡ times_told c number v.events
@@ -62,7 +62,8 @@ pub record IsWonExchange (c : ℕ) (before : LineView) (word : ℕ) (e : Event) 
   pub known_after : Knows after after.events
       (slice_set tells.histories (channel_index c) (history_on c tells.histories ++ e ∷ []))
 
--- An exchange that was lost is a load: more events had come than were known, so there are other lines.
+-- An exchange that was lost is a load: more events had come than were known, so there are other
+-- lines.
 pub record IsLostExchange (c expected : ℕ) (before : LineView) (word : ℕ) (after : LineView) : Type 0 where
   pub load : IsLoad c before word after
   pub later : number_in expected < number_in word
@@ -71,7 +72,8 @@ pub record IsLostExchange (c expected : ℕ) (before : LineView) (word : ℕ) (a
 -- An exchange: it is won where it found the word that it expected.
 abbrev pub IsExchange : ℕ → ℕ → Event → LineView → ℕ → LineView → Type 0
 IsExchange c expected e before word after =
-    MatchBool (word == expected) (IsWonExchange c before word e after) (IsLostExchange c expected before word after)
+    MatchBool (word == expected) (IsWonExchange c before word e after)
+    (IsLostExchange c expected before word after)
 
 abbrev pub announced : ℕ → ℕ → Option Event → LineView → ℕ → LineView → Type 0
 announced c expected none before word after = ⊥
@@ -79,7 +81,8 @@ announced c expected (some e) before word after = IsExchange c expected e before
 
 abbrev pub exchanges : Step Event → Me Event LineView → ℕ → Me Event LineView → Type 0
 exchanges step before word after = (after.1 ≡ before.1)
-    × ((c : ℕ) → IsOn c step → 0 < before.0.shares → announced c step.first step.said before.0 word after.0)
+    × ((c : ℕ) → IsOn c step → 0 < before.0.shares
+    → announced c step.first step.said before.0 word after.0)
 
 -- A load that is counted alone, and tells that a line has no more shares than there are.
 pub record IsWeighing (c : ℕ) (before : LineView) (word : ℕ) (after : LineView) : Type 0 where

@@ -12,14 +12,23 @@ use Rattle.pp_channel.specs.SharedWords.{IsFound}
 
 -- the view of the first line, which has all shares
 abbrev pub first_view : ℕ → LineView
-first_view whole = record { shares = whole; whole = whole; events = []; found = []; weighed = 0; seen = replicate channel_count 0 }
+first_view whole =
+    record {
+      shares = whole;
+      whole = whole;
+      events = [];
+      found = [];
+      weighed = 0;
+      seen = replicate channel_count 0;
+    }
 
 -- the views of a line that gives a share away, and of the new line that has it
 abbrev pub parent_view : LineView → LineView
 parent_view v = record v { shares = v.shares - 1 }
 
 abbrev pub child_view : LineView → LineView
-child_view v = record { shares = 1; whole = v.whole; events = []; found = []; weighed = 0; seen = v.seen }
+child_view v =
+    record { shares = 1; whole = v.whole; events = []; found = []; weighed = 0; seen = v.seen }
 
 -- the greater number for each channel
 abbrev pub greater_of_each : List ℕ → List ℕ → List ℕ

@@ -43,13 +43,14 @@ times_told c number log = count_by (tells_event c number) log
 pub record Merges (opening : ℕ → List Event) (histories : List (List Event)) (log : List Entry) : Type 0 where
   pub once : (c number : ℕ) → length (opening c) ≤ number → number < length (history_on c histories)
       → times_told c number log ≡ 1
-  pub no_other : (c number : ℕ) → (number < length (opening c)) ⊎ (length (history_on c histories) ≤ number)
+  pub no_other : (c number : ℕ) → (number < length (opening c))
+      ⊎ (length (history_on c histories) ≤ number)
       → times_told c number log ≡ 0
   pub begins : (c : ℕ) → IsPrefix (opening c) (history_on c histories)
   pub entries_true : All (IsTrueOf histories) log
 
--- A log of opening histories: it records each of their events once, at its number, and no other, and every
--- entry is true of them.
+-- A log of opening histories: it records each of their events once, at its number, and no other,
+-- and every entry is true of them.
 pub record IsOpeningLog (opening : ℕ → List Event) (log : List Entry) : Type 0 where
   pub once : (c number : ℕ) → number < length (opening c) → times_told c number log ≡ 1
   pub no_other : (c number : ℕ) → length (opening c) ≤ number → times_told c number log ≡ 0

@@ -12,7 +12,8 @@ known_after (Saw f) number = number
 
 -- a later entry on the same channel has at least the number, and a greater one after an event
 abbrev pub IsFollowedBy : Entry → Entry → Type 0
-IsFollowedBy earlier later = earlier.channel ≡ later.channel → known_after earlier.what earlier.number ≤ later.number
+IsFollowedBy earlier later =
+    earlier.channel ≡ later.channel → known_after earlier.what earlier.number ≤ later.number
 
 -- A log rises where that holds of each entry and each later one.
 abbrev pub IsRising : List Entry → Type 0
@@ -24,4 +25,5 @@ seen_on c seen = slice_index seen (channel_index c)
 
 -- every entry lies within the numbers seen: an event below, a look at most
 abbrev pub IsWithin : List ℕ → List Entry → Type 0
-IsWithin seen log = All (λ entry. known_after entry.what entry.number ≤ seen_on entry.channel seen) log
+IsWithin seen log =
+    All (λ entry. known_after entry.what entry.number ≤ seen_on entry.channel seen) log

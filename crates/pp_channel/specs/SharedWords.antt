@@ -34,15 +34,17 @@ pub record IsViewOf (histories : List (List Event)) (whole : ℕ) (v : LineView)
   pub each_channel : 0 < v.shares → length v.seen ≡ channel_count
   pub spent : v.shares ≡ 0 → v.events ≡ []
 
--- The rule: the events of all lines merge to lawful histories, the word of each channel is that of its
--- history, and the shares of all lines add up to the whole.
+-- The rule: the events of all lines merge to lawful histories, the word of each channel is that of
+-- its history, and the shares of all lines add up to the whole.
 pub record KeepsRule (whole : ℕ) (words : List ℕ) (views : List LineView) (histories : List (List Event)) : Type 0 where
   pub sound : AreHistories histories
   pub merged : Merges no_opening histories (flat_map (λ v. v.events) views)
   pub places : length words ≡ place_count
-  pub words_are : (c : ℕ) → IsTrue (names_channel c) → slice_index words (word_place c) ≡ history_word (history_on c histories)
+  pub words_are : (c : ℕ) → IsTrue (names_channel c)
+      → slice_index words (word_place c) ≡ history_word (history_on c histories)
   pub shares : sum_by (λ v. v.shares) views ≡ whole
   pub views_are : All (IsViewOf histories whole) views
 
 abbrev pub Rule : ℕ → State Event LineView → Type 0
-Rule whole table = (histories : List (List Event)) × KeepsRule whole table.words table.views histories
+Rule whole table =
+    (histories : List (List Event)) × KeepsRule whole table.words table.views histories

@@ -9,7 +9,8 @@ use Rattle.pp_channel.specs.ChannelWord.{packed, history_word, number_in, flags_
 
 -- First the table. The word that waits in the register of a channel word:
 abbrev pub waiting_in : ℕ → Option ℕ
-waiting_in word = if (flags_in word).active && (flags_in word).full then Some (register_in word) else None
+waiting_in word =
+    if (flags_in word).active && (flags_in word).full then Some (register_in word) else None
 
 -- the event that an operation makes, by the flags and the register of a word
 abbrev pub event_in : ChanOp → ℕ → Option Event
@@ -26,7 +27,8 @@ step_by word (Some e) = WordStep.Next (word_with word e) (reply_made e)
 -- The step of an operation from any word.
 abbrev pub step_from : ChanOp → ℕ → WordStep
 step_from ChanOp.Probe word = WordStep.Look (flags_in word)
-step_from op word = if number_in word == greatest_number then WordStep.Worn else step_by word (event_in op word)
+step_from op word =
+    if number_in word == greatest_number then WordStep.Worn else step_by word (event_in op word)
 
 -- Then the history. What the step of an operation has to be where the word is that of a channel
 -- with the history h; whether the operation is ready is said by the lawful histories.

@@ -1,4 +1,5 @@
-//! What a channel answers: the table of operations, and the law that it is the answer by the history.
+//! What a channel answers: the table of operations, and the law that it is the answer by the
+//! history.
 
 ghost use Rattle.std.specs.Prelude.{◌≡◌, ◌↔◌, List, [], ◌∷◌, ◌++◌, Some, IfSome};
 ghost use Rattle.pp_channel.specs.declared.chan_op.ChanOp.{ChanOp};
@@ -18,14 +19,15 @@ use pp_word::Word12;
 pub fn answer_law()
     ensures event { (h : List Event) (op : ChanOp) (e : Event) → IsLawful h
         → IsReady h op e ↔ (event_of op h ≡ Some e) }
-    ensures answer { (h : List Event) (op : ChanOp) (reply : Reply) (after : List Event) → IsLawful h
+    ensures answer { (h : List Event) (op : ChanOp) (reply : Reply) (after : List Event)
+        → IsLawful h
         → IsAnswer h op reply after ↔ ((reply ≡ reply_to op h) × (after ≡ history_after op h)) }
     ensures flags { (h : List Event) (e : Event) → IsLawful h → IsLawful (h ++ e ∷ [])
         → flags_of (h ++ e ∷ []) ≡ flags_after e }
 {}
 
-/// The event that an operation makes, by the flags and the word in the register; nothing where it is a
-/// probe or not ready.
+/// The event that an operation makes, by the flags and the word in the register; nothing where it
+/// is a probe or not ready.
 #[inline(always)]
 pub(crate) fn event_by(op: &ChanOp, flags: Flags, register: Option<Word12>) -> Option<Event>
     ensures event { result ≡ event_by op.now flags register }

@@ -112,9 +112,9 @@ impl<A: Allocator> Channel<A> {
         })
     }
 
-    /// The event that the operation would make now, or nothing where it would make none. It takes no
-    /// memory: who records events beside the channel asks it first, and so takes memory for a record
-    /// only where there is an event.
+    /// The event that the operation would make now, or nothing where it would make none. It takes
+    /// no memory: who records events beside the channel asks it first, and so takes memory for a
+    /// record only where there is an event.
     #[inline(always)]
     pub fn next_event(&self, op: &ChanOp) -> Option<Event>
         ensures event { result ≡ event_of op.now self.now }

@@ -8,8 +8,8 @@ use std::marker::Model;
 /// How many data channels the greater machine has (decimal).
 pub const CHANNELS: usize = 24;
 
-/// The number of a data channel, 0 to 13 or 20 to 33 (octal). It is kept as its place in a list of all
-/// channels; contracts see it as the number.
+/// The number of a data channel, 0 to 13 or 20 to 33 (octal). It is kept as its place in a list of
+/// all channels; contracts see it as the number.
 #[derive(Clone, Copy, Debug, PartialEq, Eq)]
 pub struct ChannelNo {
     place: u8,

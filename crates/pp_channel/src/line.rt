@@ -128,12 +128,13 @@ impl<A: Allocator + Copy> Line<A> {
         self.log.keep();
     }
 
-    /// A line of one share, for another thread, with room for `room` entries in a log of its own. It has
-    /// seen what this line has seen. This line needs at least 2 shares, and has one less afterwards; after
-    /// `Memory` nothing has changed.
+    /// A line of one share, for another thread, with room for `room` entries in a log of its own.
+    /// It has seen what this line has seen. This line needs at least 2 shares, and has one less
+    /// afterwards; after `Memory` nothing has changed.
     pub fn split(&mut self, room: u32) -> Result<Line<A>, Memory>
         requires { 2 ≤ self.old.view.shares }
-        ensures parent { IfOk result (λ line. self.new ≡ record self.old { view = parent_view self.old.view }) }
+        ensures parent { IfOk result (λ line.
+            self.new ≡ record self.old { view = parent_view self.old.view }) }
         ensures line { IfOk result (λ line. IsSplitFrom self.old room line) }
         ensures whole { self.new.view.whole ≡ self.old.view.whole }
         ensures table { self.new.table ≡ self.old.table }
@@ -152,16 +153,16 @@ impl<A: Allocator + Copy> Line<A> {
         })
     }
 
-    /// Makes the operation where the channel is ready for it, or looks: one load of the channel's word,
-    /// and at most one exchange. It needs room for 1 entry, takes no memory and never waits.
+    /// Makes the operation where the channel is ready for it, or looks: one load of the channel's
+    /// word, and at most one exchange. It needs room for 1 entry, takes no memory and never waits.
     ///
-    /// `loaded` is how many events the load found. `number` is the same, and for an event its place in the
-    /// history; but an operation whose exchange was lost to another line is held with the flags and the
-    /// number that the exchange found. An event goes to the log, and so does a look, which takes the place
-    /// of a last look at the same channel that was not kept; `room` falls where the log grows. `seen` of
-    /// the channel becomes one more than the number of an event, and the number of a look; `kept` becomes
-    /// false. `Worn` comes only for an operation other than a probe, where the load found 2^50 - 1 events;
-    /// then `seen` of the channel alone has changed.
+    /// `loaded` is how many events the load found. `number` is the same, and for an event its place
+    /// in the history; but an operation whose exchange was lost to another line is held with the
+    /// flags and the number that the exchange found. An event goes to the log, and so does a look,
+    /// which takes the place of a last look at the same channel that was not kept; `room` falls
+    /// where the log grows. `seen` of the channel becomes one more than the number of an event, and
+    /// the number of a look; `kept` becomes false. `Worn` comes only for an operation other than a
+    /// probe, where the load found 2^50 - 1 events; then `seen` of the channel alone has changed.
     pub fn act(&mut self, channel: ChannelNo, op: ChanOp) -> Result<Numbered, Worn>
         requires { 1 ≤ self.old.log.room }
         ensures ok { IfOk result (λ r. IsActed self.old channel op r self.new) }
@@ -230,7 +231,8 @@ impl<A: Allocator + Copy> Line<A> {
         requires room { 1 ≤ self.old.log.room }
         requires found { Contains self.old.view.found (record { channel = channel; word = word }) }
         requires seen { number_in word ≤ seen_on channel self.old.view.seen }
-        ensures written { self.new.log ≡ looked self.old.log (look_entry channel (number_in word) (flags_in word)) }
+        ensures written { self.new.log ≡ looked self.old.log
+            (look_entry channel (number_in word) (flags_in word)) }
         ensures view { self.new.view ≡ self.old.view }
         ensures table { self.new.table ≡ self.old.table }
         ensures log_after { IsLogOf self.new.view self.new.log.entries }
@@ -238,8 +240,8 @@ impl<A: Allocator + Copy> Line<A> {
         self.log.saw(channel, number_in(word), flags_in(word));
     }
 
-    /// One try to make the event where the channel has the word that was loaded. Where another stands
-    /// there by now, that word is found, and a look by it written.
+    /// One try to make the event where the channel has the word that was loaded. Where another
+    /// stands there by now, that word is found, and a look by it written.
     fn try_event(
         &mut self,
         channel: ChannelNo,
@@ -252,9 +254,13 @@ impl<A: Allocator + Copy> Line<A> {
         requires next { (h : List Event) → IsLawful h → HasTwelveBitWords h → history_word h ≡ word
             → IsLawful (h ++ event ∷ []) × HasTwelveBitWord event × (history_word (h ++ event ∷ []) ≡ next) }
         ensures won { OnOk result (IsWonExchange channel self.old.view word event self.new.view) }
-        ensures event_written { OnOk result (self.new.log ≡ appended self.old.log (event_entry channel (number_in word) event)) }
-        ensures lost { IfErr result (λ found. IsLostExchange channel word self.old.view found self.new.view) }
-        ensures look_written { IfErr result (λ found. self.new.log ≡ looked self.old.log (look_entry channel (number_in found) (flags_in found))) }
+        ensures event_written { OnOk result (self.new.log
+            ≡ appended self.old.log (event_entry channel (number_in word) event)) }
+        ensures lost { IfErr result (λ found.
+            IsLostExchange channel word self.old.view found self.new.view) }
+        ensures look_written { IfErr result (λ found.
+            self.new.log ≡ looked self.old.log
+            (look_entry channel (number_in found) (flags_in found))) }
         ensures table { self.new.table ≡ self.old.table }
         ensures log_after { IsLogOf self.new.view self.new.log.entries }
     {
@@ -270,14 +276,16 @@ impl<A: Allocator + Copy> Line<A> {
         Err(found)
     }
 
-    /// This line and another of its family, that is, from the same `open_lines`, as one: the log is this
-    /// line's entries and then the other's, the room is this line's, shares add up, and `seen` is the
-    /// greater for each channel. It makes one load. After `Memory` both come back unchanged.
+    /// This line and another of its family, that is, from the same `open_lines`, as one: the log is
+    /// this line's entries and then the other's, the room is this line's, shares add up, and `seen`
+    /// is the greater for each channel. It makes one load. After `Memory` both come back unchanged.
     pub fn join(mut self, other: Line<A>) -> Result<Line<A>, (Line<A>, Line<A>, Memory)>
         requires { other.table ≡ self.table }
         ensures ok { IfOk result (λ line. line ≡ joined self other) }
-        ensures nothing_forgotten { IfOk result (λ line. ForgetsNothing self line × ForgetsNothing other line) }
-        ensures unchanged_after_memory { IfErr result (λ refused. (refused.0 ≡ self) × (refused.1 ≡ other)) }
+        ensures nothing_forgotten { IfOk result (λ line. ForgetsNothing self line
+            × ForgetsNothing other line) }
+        ensures unchanged_after_memory { IfErr result (λ refused. (refused.0 ≡ self)
+            × (refused.1 ≡ other)) }
     {
         if let Err(memory) = self.log.append(&other.log) {
             return Err((self, other, memory));
@@ -297,13 +305,14 @@ impl<A: Allocator + Copy> Line<A> {
         Ok(self)
     }
 
-    /// The channels, of the line that holds every share of its family: their histories are the events of
-    /// its log, each at its number. It makes one load, and that alone is new of the line where it comes
-    /// back after `Memory`.
+    /// The channels, of the line that holds every share of its family: their histories are the
+    /// events of its log, each at its number. It makes one load, and that alone is new of the line
+    /// where it comes back after `Memory`.
     pub fn close(mut self) -> Result<[Channel<A>; CHANNELS], (Line<A>, Memory)>
         requires { self.view.shares ≡ self.view.whole }
         ensures ok { IfOk result (λ channels. AreClosed self channels) }
-        ensures unchanged_after_memory { IfErr result (λ refused. refused.0 ≡ record self { view = weighs_once self.view }) }
+        ensures unchanged_after_memory { IfErr result (λ refused.
+            refused.0 ≡ record self { view = weighs_once self.view }) }
     {
         self.words.weigh(ChannelNo::at(0));
         let line = &self;

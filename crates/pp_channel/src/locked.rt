@@ -27,8 +27,8 @@ impl<A: Allocator> Locked<A> {
     }
 
     /// Makes the operation under the lock where it is ready, and holds it where it is not. `number`
-    /// is the length of the history before the call, and `loaded` the same. After `Memory` nothing has
-    /// changed.
+    /// is the length of the history before the call, and `loaded` the same. After `Memory` nothing
+    /// has changed.
     pub fn act(&self, rt: &impl Wait, op: ChanOp) -> Result<Numbered, Memory>
         ensures answer { IfOk result (λ r. IsLockedAnswer op r) }
         ensures probe_takes_no_memory { op ≡ ChanOp.Probe → IsOk result }

@@ -19,8 +19,8 @@ use atomic_table::{Seat, Table};
 use std::alloc::Allocator;
 use std::sync::Arc;
 
-/// How many words lie from one channel's word to the next: 128 bytes, so that no two channels share a
-/// cache line.
+/// How many words lie from one channel's word to the next: 128 bytes, so that no two channels share
+/// a cache line.
 const APART: usize = 16;
 
 /// How many words there are: none lies at the place of a channel before the first.
@@ -52,7 +52,8 @@ impl<A: Allocator + Copy> SharedWords<A> {
     pub fn split(&mut self) -> Result<SharedWords<A>, Memory>
         requires { 1 < self.old.seat.me.0.shares }
         ensures table { self.new.seat.table_id ≡ self.old.seat.table_id }
-        ensures parent { IfOk result (λ words. self.new.seat.me.0 ≡ parent_view self.old.seat.me.0) }
+        ensures parent { IfOk result (λ words.
+            self.new.seat.me.0 ≡ parent_view self.old.seat.me.0) }
         ensures child { IfOk result (λ words. words.seat.me.0 ≡ child_view self.old.seat.me.0) }
         ensures child_table { IfOk result (λ words. words.seat.table_id ≡ self.old.seat.table_id) }
         ensures unchanged_after_memory { OnErr result (self.new ≡ self.old) }
@@ -82,11 +83,12 @@ impl<A: Allocator + Copy> SharedWords<A> {
             .load::<Load>(&mut self.seat, place(channel))
     }
 
-    /// One try to make an event: the word of the channel becomes `new` where it is `expected`. Answers
-    /// the word that it found.
+    /// One try to make an event: the word of the channel becomes `new` where it is `expected`.
+    /// Answers the word that it found.
     pub fn exchange(&mut self, channel: ChannelNo, expected: u64, new: u64, event: &Event) -> u64
         requires loaded { (v : LineView) × (self.old.seat.me.0 ≡ finds v channel expected) }
-        requires next { (h : List Event) → IsLawful h → HasTwelveBitWords h → history_word h ≡ expected
+        requires next { (h : List Event) → IsLawful h → HasTwelveBitWords h
+            → history_word h ≡ expected
             → IsLawful (h ++ event.now ∷ []) × HasTwelveBitWord event.now × (history_word (h ++ event.now ∷ []) ≡ new) }
         ensures table { self.new.seat.table_id ≡ self.old.seat.table_id }
         ensures exchange { IsExchange channel expected event.now self.old.seat.me.0 result self.new.seat.me.0 }

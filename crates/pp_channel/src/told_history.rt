@@ -50,14 +50,16 @@ impl<A: Allocator> EventsByNumber<A> {
     }
 }
 
-/// All channels in order, with the histories that the log records. Their lengths are the numbers seen.
+/// All channels in order, with the histories that the log records. Their lengths are the numbers
+/// seen.
 pub fn told_channels<A: Allocator + Copy>(
     alloc: A,
     log: &[Entry],
     seen: &[u64; CHANNELS],
 ) -> Result<[Channel<A>; CHANNELS], Memory>
     requires { (histories : List (List Event)) × IsToldBy log.now seen.now histories }
-    ensures { IfOk result (λ channels. (histories : List (List Event)) → IsToldBy log.now seen.now histories → channels ≡ histories) }
+    ensures { IfOk result (λ channels. (histories : List (List Event))
+        → IsToldBy log.now seen.now histories → channels ≡ histories) }
 {
     let mut histories = told_histories(alloc, log, seen)?;
     let mut channels = array::from_fn(|_| Channel::new(alloc));

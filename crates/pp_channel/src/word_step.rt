@@ -44,7 +44,8 @@ pub enum WordStep {
 #[tactic(auto, using(crate::proofs::ChannelWordLemmas::steps_as_histories))]
 pub fn advance(word: u64, op: ChanOp) -> WordStep
     ensures table { result ≡ step_from op word }
-    ensures history { (h : List Event) → IsLawful h → HasTwelveBitWords h → history_word h ≡ word → StepsFrom h op result }
+    ensures history { (h : List Event) → IsLawful h → HasTwelveBitWords h → history_word h ≡ word
+        → StepsFrom h op result }
 {
     if matches!(&op, ChanOp::Probe) {
         return WordStep::Look(flags_in(word));
@@ -58,8 +59,8 @@ pub fn advance(word: u64, op: ChanOp) -> WordStep
     }
 }
 
-/// The event that an operation makes, by the flags and the register of a word; nothing where it is a
-/// probe or not ready.
+/// The event that an operation makes, by the flags and the register of a word; nothing where it is
+/// a probe or not ready.
 pub(crate) fn next_event_in(word: u64, op: &ChanOp) -> Option<Event>
     ensures event { result ≡ event_in op.now word }
     ensures twelve_bits { IfSome result HasTwelveBitWord }

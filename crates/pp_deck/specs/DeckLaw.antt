@@ -1,4 +1,5 @@
--- What holds of each loaded deck, stated by its lines one beside another: what the last line sets, holds.
+-- What holds of each loaded deck, stated by its lines one beside another: what the last line sets,
+-- holds.
 use Rattle.std.specs.Prelude.{◌≡◌, ℕ, ◌+◌, ◌<◌, ◌↔◌, IsTrue, Bool, true, false, List, [], length, None, Some, slice_get, slice_index, slice_index_or}
 use Rattle.pp_word.specs.Address.{place_count}
 use Rattle.pp_channel.specs.ChannelNumber.{channel_count, names_channel}
@@ -62,7 +63,8 @@ Starts line registers = ⊥
 
 -- a value is what the last line sets that sets it, and `otherwise` where no line does
 pub record HoldsLast {A : Type 0} (lines : List Line) (Sets : ℕ → A → Type 0) (otherwise value : A) : Type 0 where
-  pub last : (k : ℕ) (x : A) → k < length lines → Sets k x → ((j : ℕ) (y : A) → k < j → j < length lines → Sets j y → ⊥) → value ≡ x
+  pub last : (k : ℕ) (x : A) → k < length lines → Sets k x
+      → ((j : ℕ) (y : A) → k < j → j < length lines → Sets j y → ⊥) → value ≡ x
   pub none : ((k : ℕ) (x : A) → k < length lines → Sets k x → ⊥) → value ≡ otherwise
 
 -- some line names processor n
@@ -77,7 +79,8 @@ pub record AsksForDeadStart (lines : List Line) : Type 0 where
   pub within : line < length lines
   pub asks : line_of lines line ≡ dead_start
 
--- processor n of such a machine waits for its program: dead start is asked for, and no line names it
+-- processor n of such a machine waits for its program: dead start is asked for, and no line names
+-- it
 pub record Waits (profile : Profile) (lines : List Line) (n : ℕ) : Type 0 where
   pub processor : IsTrue (has_processor profile n)
   pub asked : AsksForDeadStart lines
@@ -85,28 +88,38 @@ pub record Waits (profile : Profile) (lines : List Line) (n : ℕ) : Type 0 wher
 
 -- no processor is named that a machine of this profile lacks
 abbrev pub NamesWithin : Profile → List Bool → Type 0
-NamesWithin profile named = (n : ℕ) → IsTrue (names_processor n) → slice_index_or named (processor_index n) false ≡ true
+NamesWithin profile named =
+    (n : ℕ) → IsTrue (names_processor n) → slice_index_or named (processor_index n) false ≡ true
     → IsTrue (has_processor profile n)
 
 -- the law of loaded decks
 pub record KeepsDeckLaw (lines : List Line) (deck : LoadedDeck) : Type 0 where
   -- each place of a processor holds the word of the last line for it that sets the place, else 0
   pub places : (n place : ℕ) → IsTrue (names_processor n) → place < place_count
-      → HoldsLast lines (λ k w. IsFor lines k n × SetsWord (line_of lines k) place w) 0 (word_at (processor_of n deck.machine) place)
+      → HoldsLast lines (λ k w. IsFor lines k n × SetsWord (line_of lines k) place w) 0
+      (word_at (processor_of n deck.machine) place)
   -- the last start of a processor holds; without one it is stopped, unless it waits
   pub starts : (n : ℕ) → IsTrue (names_processor n) → (Waits deck.machine.profile lines n → ⊥)
-      → HoldsLast lines (λ k registers. IsFor lines k n × Starts (line_of lines k) registers) at_rest (registers_of (processor_of n deck.machine))
+      → HoldsLast lines (λ k registers. IsFor lines k n
+      × Starts (line_of lines k) registers) at_rest (registers_of (processor_of n deck.machine))
   -- each central word is the word of the last line that sets it, else 0
   pub central : (address : ℕ) → address < length deck.machine.central
-      → HoldsLast lines (λ k w. SetsCentralWord (line_of lines k) address w) 0 (slice_index deck.machine.central address)
+      → HoldsLast lines (λ k w. SetsCentralWord (line_of lines k) address w) 0
+      (slice_index deck.machine.central address)
   -- a processor is named where some line names it
-  pub named : (n : ℕ) → IsTrue (names_processor n) → (slice_index_or deck.named (processor_index n) false ≡ true) ↔ IsNamed lines n
-  -- a processor that waits does so on the channel of its own number; in all others no block is in progress
-  pub waits : (n : ℕ) → Waits deck.machine.profile lines n → processor_of n deck.machine ≡ waiting_on n (processor_of n deck.machine)
-  pub no_block : (n : ℕ) → IsTrue (names_processor n) → (Waits deck.machine.profile lines n → ⊥) → (processor_of n deck.machine).block ≡ None
+  pub named : (n : ℕ) → IsTrue (names_processor n)
+      → (slice_index_or deck.named (processor_index n) false ≡ true) ↔ IsNamed lines n
+  -- a processor that waits does so on the channel of its own number; in all others no block is in
+  -- progress
+  pub waits : (n : ℕ) → Waits deck.machine.profile lines n
+      → processor_of n deck.machine ≡ waiting_on n (processor_of n deck.machine)
+  pub no_block : (n : ℕ) → IsTrue (names_processor n) → (Waits deck.machine.profile lines n → ⊥)
+      → (processor_of n deck.machine).block ≡ None
   -- just the channels of waiting processors are opened, and nothing else has happened
-  pub opened : (c : ℕ) → IsTrue (names_channel c) → (is_opened c deck.machine ≡ true) ↔ Waits deck.machine.profile lines c
-  pub history : (c : ℕ) → IsTrue (names_channel c) → history_of c deck.machine ≡ opening_history c deck.machine
+  pub opened : (c : ℕ) → IsTrue (names_channel c) → (is_opened c deck.machine ≡ true)
+      ↔ Waits deck.machine.profile lines c
+  pub history : (c : ℕ) → IsTrue (names_channel c)
+      → history_of c deck.machine ≡ opening_history c deck.machine
   -- there are as many of each as the machine has
   pub each_processor : length deck.machine.processors ≡ processor_count
   pub each_name : length deck.named ≡ processor_count

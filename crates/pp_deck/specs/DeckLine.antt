@@ -11,9 +11,9 @@ use Rattle.pp_deck.specs.declared.flaw.Flaw.TheVariants.{UnknownLine, BadProcess
 use Rattle.pp_deck.specs.declared.keyword.Keyword.{Keyword}
 use Rattle.pp_deck.specs.declared.keyword.Keyword.TheVariants.{Central, CentralWords, Processor, Start, DeadStart, Words, Unknown}
 
--- what a line may say: nothing; `CENTRAL n`: central memory has n words; `CM a w w ..`: central words from a on;
--- `PP n`: what follows is for processor n; `START p a`: it starts at P = p with A = a; `x w w ..`: its words from
--- place x on; `DEAD`: dead start is asked for
+-- what a line may say: nothing; `CENTRAL n`: central memory has n words; `CM a w w ..`: central
+-- words from a on; `PP n`: what follows is for processor n; `START p a`: it starts at P = p with A
+-- = a; `x w w ..`: its words from place x on; `DEAD`: dead start is asked for
 pub data Line : Type 0 where
   nothing : Line
   central_size : ℕ → Line
@@ -57,7 +57,8 @@ abbrev pub ends_with : Line → Fields → Result Line Flaw
 ends_with line [] = Ok line
 ends_with line (field ∷ fields) = Err UnknownLine
 
--- words of at most this many digits, in places from the first on; a word whose place is not below the end is past it
+-- words of at most this many digits, in places from the first on; a word whose place is not below
+-- the end is past it
 unfoldable pub words_in : ℕ → ℕ → ℕ → Flaw → Fields → Result (List ℕ) Flaw
 words_in most place end past [] = Ok []
 words_in most place end past (field ∷ fields) = do
@@ -67,16 +68,21 @@ words_in most place end past (field ∷ fields) = do
 
 -- `CENTRAL n`: 1 to 400000 (octal) words
 unfoldable pub central_line : Fields → Result Line Flaw
-central_line fields = number_then 6 fields (λ n more. if nat_le 1 n && nat_le n 0o400000 then ends_with (central_size n) more else Err CentralRange)
+central_line fields =
+    number_then 6 fields (λ n more. if nat_le 1 n && nat_le n 0o400000
+    then ends_with (central_size n) more else Err CentralRange)
 
 -- `CM a w w ..` in a central memory of this size
 unfoldable pub central_words_line : ℕ → Fields → Result Line Flaw
-central_words_line size fields = number_then 6 fields (λ a more. words_in 20 a size CentralRange more >>= λ ws. Ok (central_words a ws))
+central_words_line size fields =
+    number_then 6 fields (λ a more. words_in 20 a size CentralRange more >>= λ ws.
+    Ok (central_words a ws))
 
 -- `PP n`, where the machine has processor n
 unfoldable pub section_line : Profile → Fields → Result Line Flaw
 section_line profile fields =
-    number_then 2 fields (λ n more. if has_processor profile n then ends_with (section n) more else Err BadProcessor)
+    number_then 2 fields (λ n more. if has_processor profile n then ends_with (section n) more
+    else Err BadProcessor)
 
 -- `START p`, where A is 0, or `START p a`
 abbrev pub start_from : ℕ → Fields → Result Line Flaw
@@ -88,7 +94,8 @@ start_line fields = number_then 4 fields start_from
 
 -- `x w w ..`
 unfoldable pub words_line : Field → Fields → Result Line Flaw
-words_line field fields = number 4 field >>= λ x. words_in 4 x place_count PastEnd fields >>= λ ws. Ok (words x ws)
+words_line field fields =
+    number 4 field >>= λ x. words_in 4 x place_count PastEnd fields >>= λ ws. Ok (words x ws)
 
 -- what a line says whose first field has this keyword, for a machine of this profile with a central
 -- memory of this size
@@ -103,10 +110,12 @@ line_by profile size Unknown field fields = Err UnknownLine
 
 -- ---- where a line stands
 
--- why a line with this keyword may not come after others, of which some have fields or one begins with `PP`:
--- `CENTRAL` comes before every line with fields, and starts and words belong to the section of a processor
+-- why a line with this keyword may not come after others, of which some have fields or one begins
+-- with `PP`: `CENTRAL` comes before every line with fields, and starts and words belong to the
+-- section of a processor
 abbrev pub misplaced : Bool → Bool → Keyword → Option Flaw
-misplaced is_behind_fields is_in_section Central = if is_behind_fields then Some UnknownLine else None
+misplaced is_behind_fields is_in_section Central =
+    if is_behind_fields then Some UnknownLine else None
 misplaced is_behind_fields is_in_section Start = if is_in_section then None else Some NoProcessor
 misplaced is_behind_fields is_in_section Words = if is_in_section then None else Some NoProcessor
 misplaced is_behind_fields is_in_section keyword = None
@@ -116,8 +125,10 @@ abbrev pub unless_misplaced : Option Flaw → Result Line Flaw → Result Line F
 unless_misplaced (Some flaw) line = Err flaw
 unless_misplaced None line = line
 
--- what a line says after such lines, for a machine of this profile with a central memory of this size
+-- what a line says after such lines, for a machine of this profile with a central memory of this
+-- size
 unfoldable pub line_behind : Profile → ℕ → Bool → Bool → Fields → Result Line Flaw
 line_behind profile size is_behind_fields is_in_section [] = Ok nothing
 line_behind profile size is_behind_fields is_in_section (field ∷ fields) =
-    unless_misplaced (misplaced is_behind_fields is_in_section (keyword_of field)) (line_by profile size (keyword_of field) field fields)
+    unless_misplaced (misplaced is_behind_fields is_in_section (keyword_of field))
+    (line_by profile size (keyword_of field) field fields)

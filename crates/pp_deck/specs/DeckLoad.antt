@@ -28,7 +28,8 @@ is_for n None = false
 -- the lines that are for processor n: those of which the last `PP` line before is `PP n`
 unfoldable pub lines_for : ℕ → List Line → List Line
 lines_for n lines =
-    filter_map (λ k. if is_for n (section_of (take k lines)) then Some (slice_index_or lines k nothing) else None) (range_with_len 0 (length lines))
+    filter_map (λ k. if is_for n (section_of (take k lines))
+    then Some (slice_index_or lines k nothing) else None) (range_with_len 0 (length lines))
 
 -- the word that stands at a place where words stand from a first place on
 abbrev pub word_among : ℕ → List ℕ → ℕ → Option ℕ
@@ -59,7 +60,8 @@ tabulate n f = map f (range_with_len 0 n)
 
 -- the memory that lines leave: each place holds the last word that they set there, else 0
 unfoldable pub memory_of : List Line → List ℕ
-memory_of lines = tabulate place_count (λ place. unwrap_or (last_of (filter_map (word_for place) lines)) 0)
+memory_of lines =
+    tabulate place_count (λ place. unwrap_or (last_of (filter_map (word_for place) lines)) 0)
 
 -- a processor of this profile with this memory: stopped, or running from its start
 abbrev pub processor_with : Profile → List ℕ → Option (ℕ × ℕ) → Processor
@@ -70,11 +72,13 @@ processor_with profile memory (Some s) =
 -- processor n as the lines for it leave it: the last start holds
 unfoldable pub processor_loaded : Profile → List Line → ℕ → Processor
 processor_loaded profile lines n =
-    processor_with profile (memory_of (lines_for n lines)) (last_of (filter_map start_in (lines_for n lines)))
+    processor_with profile (memory_of (lines_for n lines))
+    (last_of (filter_map start_in (lines_for n lines)))
 
 -- central memory of this size: each address holds the last word that a line sets there, else 0
 unfoldable pub central_loaded : ℕ → List Line → List ℕ
-central_loaded size lines = tabulate size (λ address. unwrap_or (last_of (filter_map (central_word_for address) lines)) 0)
+central_loaded size lines =
+    tabulate size (λ address. unwrap_or (last_of (filter_map (central_word_for address) lines)) 0)
 
 -- whether some line names processor n
 abbrev pub is_named : List Line → ℕ → Bool
@@ -92,7 +96,8 @@ asks_dead_start lines = list_any is_dead_start lines
 abbrev pub each_processor : {A : Type 0} → (ℕ → A) → List A
 each_processor of = tabulate processor_count (λ place. of (processor_number place))
 
--- a machine of this profile and this central size in which all is set that lines set, before any dead start
+-- a machine of this profile and this central size in which all is set that lines set, before any
+-- dead start
 abbrev pub machine_loaded : Profile → ℕ → List Line → MachineState
 machine_loaded profile size lines = record (new_machine profile size) {
   processors = each_processor (processor_loaded profile lines);

@@ -1,4 +1,5 @@
--- What a whole deck means: the machine that it loads and the processors that it names, or why it is refused.
+-- What a whole deck means: the machine that it loads and the processors that it names, or why it is
+-- refused.
 use Rattle.std.specs.Prelude.{ℕ, ◌+◌, ◌&&◌, Bool, true, false, not, List, [], ◌∷◌, length, take, Option, None, Some, Result, Ok, Err, slice_index_or, nat_lt, nat_le, count_by, find, filter_map, position, if◌then◌else◌}
 use Rattle.std.specs.List.{list_any, range_with_len}
 use Rattle.pp_machine.specs.DeadStart.{dead_started}
@@ -16,25 +17,30 @@ use Rattle.pp_deck.specs.declared.flaw.Flaw.{Flaw}
 use Rattle.pp_deck.specs.declared.keyword.Keyword.{Keyword}
 use Rattle.pp_deck.specs.declared.keyword.Keyword.TheVariants as keywords
 
--- the machine that a deck loads, and whether it names each processor, in the order of the barrel; no processor is named
--- that the machine lacks
+-- the machine that a deck loads, and whether it names each processor, in the order of the barrel;
+-- no processor is named that the machine lacks
 pub record LoadedDeck : Type 0 where
   pub machine : MachineState
   pub named : List Bool
 
--- whether each processor is to wait at dead start, in the order of the barrel: those of the profile that are not named
+-- whether each processor is to wait at dead start, in the order of the barrel: those of the profile
+-- that are not named
 abbrev pub unnamed_in : Profile → List Bool → List Bool
 unnamed_in profile named =
-    each_processor (λ n. has_processor profile n && not (slice_index_or named (processor_index n) false))
+    each_processor (λ n. has_processor profile n
+    && not (slice_index_or named (processor_index n) false))
 
--- dead start, where a deck asks for it: the processors that it does not name wait for their programs
+-- dead start, where a deck asks for it: the processors that it does not name wait for their
+-- programs
 abbrev pub with_dead_start : Bool → LoadedDeck → LoadedDeck
-with_dead_start true deck = record deck { machine = dead_started (unnamed_in deck.machine.profile deck.named) deck.machine }
+with_dead_start true deck =
+    record deck { machine = dead_started (unnamed_in deck.machine.profile deck.named) deck.machine }
 with_dead_start false deck = deck
 
 -- what lines set and name, in a machine of this profile with a central memory of this size
 abbrev pub set_by : Profile → ℕ → List Line → LoadedDeck
-set_by profile size lines = record { machine = machine_loaded profile size lines; named = each_processor (is_named lines) }
+set_by profile size lines =
+    record { machine = machine_loaded profile size lines; named = each_processor (is_named lines) }
 
 -- what lines load
 abbrev pub loaded : Profile → ℕ → List Line → LoadedDeck
@@ -57,7 +63,8 @@ begins_section (field ∷ fields) = is_processor_keyword (keyword_of field)
 -- what line k says
 unfoldable pub line_at : Profile → ℕ → List Fields → ℕ → Result Line Flaw
 line_at profile size lines k =
-    line_behind profile size (list_any has_fields (take k lines)) (list_any begins_section (take k lines)) (slice_index_or lines k [])
+    line_behind profile size (list_any has_fields (take k lines))
+    (list_any begins_section (take k lines)) (slice_index_or lines k [])
 
 -- ---- the size of central memory: n of a line `CENTRAL n` that is the first with fields, else 10000 (octal)
 
@@ -86,7 +93,8 @@ fault_in k (Err flaw) = Some (record { line = k + 1; code = code_of flaw })
 -- all faults of lines, in their order
 unfoldable pub faults_in : Profile → List Fields → List DeckFault
 faults_in profile lines =
-    filter_map (λ k. fault_in k (line_at profile (size_of lines) lines k)) (range_with_len 0 (length lines))
+    filter_map (λ k. fault_in k (line_at profile (size_of lines) lines k))
+    (range_with_len 0 (length lines))
 
 abbrev pub line_in : Result Line Flaw → Option Line
 line_in (Ok line) = Some line
@@ -95,7 +103,8 @@ line_in (Err flaw) = None
 -- what lines without a fault say, one after another
 unfoldable pub lines_said : Profile → List Fields → List Line
 lines_said profile lines =
-    filter_map (λ k. line_in (line_at profile (size_of lines) lines k)) (range_with_len 0 (length lines))
+    filter_map (λ k. line_in (line_at profile (size_of lines) lines k))
+    (range_with_len 0 (length lines))
 
 abbrev pub unless_faulty : List DeckFault → LoadedDeck → Result LoadedDeck DeckFault
 unless_faulty (fault ∷ faults) deck = Err fault
@@ -104,7 +113,8 @@ unless_faulty [] deck = Ok deck
 -- what lines mean: the first fault, else what they load
 unfoldable pub meaning_of_lines : Profile → List Fields → Result LoadedDeck DeckFault
 meaning_of_lines profile lines =
-    unless_faulty (faults_in profile lines) (loaded profile (size_of lines) (lines_said profile lines))
+    unless_faulty (faults_in profile lines) (loaded profile (size_of lines)
+    (lines_said profile lines))
 
 -- a byte that is not ASCII: from 200 (octal) on
 abbrev pub is_foreign : ℕ → Bool
@@ -118,7 +128,8 @@ abbrev pub unless_foreign : Profile → List ℕ → Option ℕ → Result Loade
 unless_foreign profile text (Some i) = Err (record { line = line_of_byte text i; code = NotAscii })
 unless_foreign profile text None = meaning_of_lines profile (lines_of text)
 
--- what a deck means for a machine of this profile, by the bytes of its text: at most 1,048,576 (decimal), all ASCII
+-- what a deck means for a machine of this profile, by the bytes of its text: at most 1,048,576
+-- (decimal), all ASCII
 unfoldable pub deck_meaning : Profile → List ℕ → Result LoadedDeck DeckFault
 deck_meaning profile text =
     if nat_lt 1048576 (length text) then Err (record { line = 0; code = TooLong })

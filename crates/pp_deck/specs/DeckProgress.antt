@@ -1,4 +1,5 @@
--- A deck as far as its lines have been read, and what one line more changes: the meaning once more, line by line.
+-- A deck as far as its lines have been read, and what one line more changes: the meaning once more,
+-- line by line.
 use Rattle.std.specs.Prelude.{◌≡◌, ℕ, ◌+◌, Bool, true, false, List, [], ◌∷◌, Option, None, Some, Result, Ok, Err, slice_set, replicate, fold}
 use Rattle.pp_machine.specs.MachineState.{MachineState, processor_of, new_machine}
 use Rattle.pp_machine.specs.Processor.{Processor}
@@ -10,7 +11,8 @@ use Rattle.pp_deck.specs.DeckLoad.{section_of, asks_dead_start}
 use Rattle.pp_deck.specs.DeckMeaning.{LoadedDeck, set_by}
 use Rattle.pp_deck.specs.declared.flaw.Flaw.{Flaw}
 
--- the machine so far, the processors named so far, the one whose section it is, and whether dead start was asked for
+-- the machine so far, the processors named so far, the one whose section it is, and whether dead
+-- start was asked for
 pub record Progress : Type 0 where
   pub machine : MachineState
   pub named : List Bool
@@ -38,7 +40,8 @@ started p a pp = record pp { p = p; a = a; state = Running; block = None }
 -- a machine of which processor n has changed, where there is one
 abbrev pub with_processor : Option ℕ → (Processor → Processor) → MachineState → MachineState
 with_processor None change m = m
-with_processor (Some n) change m = record m { processors = slice_set m.processors (processor_index n) (change (processor_of n m)) }
+with_processor (Some n) change m =
+    record m { processors = slice_set m.processors (processor_index n) (change (processor_of n m)) }
 
 -- a machine with central words from address a on
 abbrev pub with_central_words : ℕ → List ℕ → MachineState → MachineState
@@ -79,7 +82,8 @@ after_line progress line = record {
 unfoldable pub after_lines : Profile → ℕ → List Line → Progress
 after_lines profile size lines = fold after_line (before_lines profile size) lines
 
--- what lines set and name, the section that they end in, and whether they ask for dead start, without an order of reading
+-- what lines set and name, the section that they end in, and whether they ask for dead start,
+-- without an order of reading
 unfoldable pub progress_of : Profile → ℕ → List Line → Progress
 progress_of profile size lines = record {
   machine = (set_by profile size lines).machine;

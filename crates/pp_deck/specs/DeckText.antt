@@ -1,5 +1,5 @@
--- The lines of a deck's text, and the fields of a line. Bytes are ASCII codes in decimal: a tab is 9, LF is 10,
--- CR is 13, a space is 32, `*` is 42.
+-- The lines of a deck's text, and the fields of a line. Bytes are ASCII codes in decimal: a tab is
+-- 9, LF is 10, CR is 13, a space is 32, `*` is 42.
 use Rattle.std.specs.Prelude.{ℕ, ◌-◌, ◌==◌, Bool, true, false, not, ◌||◌, List, [], ◌∷◌, length, map, take, filter, slice_index, if◌then◌else◌, Option, None, Some}
 use Rattle.std.specs.Borrow.{Bor}
 use Rattle.std.specs.List.{slice_split, take_while}
@@ -20,7 +20,8 @@ is_blank byte = byte == 32 || byte == 9
 
 -- a line without the CR at its end
 abbrev pub without_return : List ℕ → List ℕ
-without_return line = if slice_index line (length line - 1) == 13 then take (length line - 1) line else line
+without_return line =
+    if slice_index line (length line - 1) == 13 then take (length line - 1) line else line
 
 -- a comment begins with `*`
 abbrev pub is_comment : Field → Bool
@@ -32,7 +33,8 @@ is_nonempty (character ∷ piece) = true
 
 -- the fields in some text: what stands between blanks, up to a comment
 unfoldable pub fields_in : List ℕ → Fields
-fields_in text = take_while (λ field. not (is_comment field)) (filter is_nonempty (slice_split is_blank text))
+fields_in text =
+    take_while (λ field. not (is_comment field)) (filter is_nonempty (slice_split is_blank text))
 
 -- the fields of a line
 abbrev pub fields_of : List ℕ → Fields

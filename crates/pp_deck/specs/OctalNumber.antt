@@ -16,5 +16,6 @@ octal_value digits = fold (λ value digit. value * 8 + (digit - 48)) 0 digits
 -- the number in a field: one octal digit at least, and this many at most
 unfoldable pub number : ℕ → Field → Result ℕ Flaw
 number most field =
-    if nat_le 1 (length field) && nat_le (length field) most && list_all is_octal_digit field then Ok (octal_value field)
+    if nat_le 1 (length field) && nat_le (length field) most && list_all is_octal_digit field
+    then Ok (octal_value field)
     else Err BadDigits

@@ -16,29 +16,35 @@ use std::alloc::Allocator;
 /// The longest text of a deck, in bytes (decimal).
 const LONGEST_TEXT: usize = 1_048_576;
 
-/// A loaded machine, and the processors that its deck names, in the barrel's order; none is named that
-/// the machine lacks.
+/// A loaded machine, and the processors that its deck names, in the barrel's order; none is named
+/// that the machine lacks.
 #[derive(Drop)]
 pub struct Deck<A: Allocator> {
     pub machine: Machine<A>,
     pub named: [bool; PROCESSORS],
 }
 
-/// The deck of a text, for a machine of this profile: ASCII of at most 1,048,576 bytes (decimal), whose numbers are octal. What a
-/// text means is stated in `specs/DeckMeaning`; only `Memory` takes the place of that.
+/// The deck of a text, for a machine of this profile: ASCII of at most 1,048,576 bytes (decimal),
+/// whose numbers are octal. What a text means is stated in `specs/DeckMeaning`; only `Memory` takes
+/// the place of that.
 #[tactic(auto, unfolding(crate::specs::DeckMeaning::deck_meaning))]
 pub fn read_deck<A: Allocator + Copy>(
     alloc: A,
     profile: Profile,
     text: &[u8],
 ) -> Result<Deck<A>, DeckFault>
-    ensures ok { IfOk result (λ deck. deck_meaning profile text.now ≡ Ok (record { machine = deck.machine; named = deck.named })) }
-    ensures fault { IfErr result (λ fault. fault.code ≢ DeckCode.Memory → deck_meaning profile text.now ≡ Err fault) }
-    ensures memory_at_no_line { IfErr result (λ fault. fault.code ≡ DeckCode.Memory → fault.line ≡ 0) }
+    ensures ok { IfOk result (λ deck. deck_meaning profile text.now
+        ≡ Ok (record { machine = deck.machine; named = deck.named })) }
+    ensures fault { IfErr result (λ fault. fault.code ≢ DeckCode.Memory
+        → deck_meaning profile text.now ≡ Err fault) }
+    ensures memory_at_no_line { IfErr result (λ fault. fault.code ≡ DeckCode.Memory
+        → fault.line ≡ 0) }
 
     // These two take no memory.
-    ensures too_long { LONGEST_TEXT < length text.now → result ≡ Err (record { line = 0; code = DeckCode.TooLong }) }
-    ensures not_ascii { (i : ℕ) → length text.now ≤ LONGEST_TEXT → position is_foreign text.now ≡ Some i
+    ensures too_long { LONGEST_TEXT < length text.now
+        → result ≡ Err (record { line = 0; code = DeckCode.TooLong }) }
+    ensures not_ascii { (i : ℕ) → length text.now ≤ LONGEST_TEXT
+        → position is_foreign text.now ≡ Some i
         → result ≡ Err (record { line = line_of_byte text.now i; code = DeckCode.NotAscii }) }
 {
     if text.len() > LONGEST_TEXT {
@@ -87,10 +93,13 @@ fn line_of_byte(text: &[u8], place: usize) -> u32
 fn read_lines<A: Allocator>(reading: &mut Reading<A>, text: &[u8]) -> Result<(), DeckFault>
     requires limit { length text.now ≤ LONGEST_TEXT }
     requires size { size_of (lines_of text.now) ≤ 2 ^ 17 }
-    requires fresh { reading.old ≡ before_lines reading.old.machine.profile (size_of (lines_of text.now)) }
-    ensures ok { OnOk result (meaning_of_lines reading.old.machine.profile (lines_of text.now) ≡ Ok (with_dead_start reading.new.asks_dead_start (deck_so_far reading.new))) }
+    requires fresh { reading.old ≡ before_lines reading.old.machine.profile
+        (size_of (lines_of text.now)) }
+    ensures ok { OnOk result (meaning_of_lines reading.old.machine.profile (lines_of text.now)
+        ≡ Ok (with_dead_start reading.new.asks_dead_start (deck_so_far reading.new))) }
     ensures before { OnOk result (IsBeforeFirstTurn reading.new.machine) }
-    ensures fault { IfErr result (λ fault. meaning_of_lines reading.old.machine.profile (lines_of text.now) ≡ Err fault) }
+    ensures fault { IfErr result (λ fault. meaning_of_lines reading.old.machine.profile
+        (lines_of text.now) ≡ Err fault) }
     ensures no_memory { IfErr result (λ fault. fault.code ≢ DeckCode.Memory) }
 {
     let mut lines = Lines::of(text);

@@ -9,7 +9,8 @@ pub enum DeckCode {
     TooLong = 1,
     /// A byte from 200 (octal) on.
     NotAscii = 2,
-    /// A line of no known kind, in a place that is not its own, or with a field too few or too many.
+    /// A line of no known kind, in a place that is not its own, or with a field too few or too
+    /// many.
     UnknownLine = 3,
     /// A field that is not a number of this many octal digits.
     BadDigits = 4,

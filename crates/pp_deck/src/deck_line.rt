@@ -18,7 +18,8 @@ const LARGEST_SIZE: u32 = 0o400_000;
 
 /// The rest of the line is words from a place on.
 pub(crate) fn set_words(pp: &mut Pp, first: Word12, fields: &mut Fields) -> Result<(), Flaw>
-    ensures { Leaves pp.new result (on_read (λ ws. loaded_from first ws pp.old) (words_in 4 first place_count Flaw.PastEnd fields.old)) }
+    ensures { Leaves pp.new result (on_read (λ ws. loaded_from first ws pp.old)
+        (words_in 4 first place_count Flaw.PastEnd fields.old)) }
 {
     let mut place = first.get();
     while let Some(field) = fields.next_field() {
@@ -39,7 +40,8 @@ pub(crate) fn set_central_words<A: Allocator>(
     fields: &mut Fields,
 ) -> Result<(), Flaw>
     requires { length machine.old.central ≤ 2 ^ 17 }
-    ensures { Leaves machine.new result (on_read (λ ws. with_central_words first ws machine.old) (words_in 20 first (length machine.old.central) Flaw.CentralRange fields.old)) }
+    ensures { Leaves machine.new result (on_read (λ ws. with_central_words first ws machine.old)
+        (words_in 20 first (length machine.old.central) Flaw.CentralRange fields.old)) }
 {
     let mut address = first.get();
     while let Some(field) = fields.next_field() {

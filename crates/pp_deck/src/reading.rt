@@ -59,7 +59,8 @@ impl<A: Allocator> Reading<A> {
     where
         A: Clone,
         requires { IsBeforeFirstTurn self.machine }
-        ensures { IfOk result (λ deck. record { machine = deck.machine; named = deck.named } ≡ with_dead_start self.asks_dead_start (deck_so_far self)) }
+        ensures { IfOk result (λ deck. record { machine = deck.machine; named = deck.named }
+            ≡ with_dead_start self.asks_dead_start (deck_so_far self)) }
     {
         let Reading {
             mut machine,
@@ -74,8 +75,8 @@ impl<A: Allocator> Reading<A> {
         Ok(Deck { machine, named })
     }
 
-    /// Reads a line with this first field and these after it. `is_behind_fields` says whether a line
-    /// with fields stands before it.
+    /// Reads a line with this first field and these after it. `is_behind_fields` says whether a
+    /// line with fields stands before it.
     #[tactic(auto, unfolding(crate::specs::DeckLine::line_behind, crate::specs::DeckProgress::after_line))]
     pub(crate) fn read_line(
         &mut self,
@@ -84,7 +85,10 @@ impl<A: Allocator> Reading<A> {
         fields: &mut Fields,
     ) -> Result<(), Flaw>
         requires { length self.old.machine.central ≤ 2 ^ 17 }
-        ensures { Leaves self.new result (on_read (after_line self.old) (line_behind self.old.machine.profile (length self.old.machine.central) is_behind_fields (is_some self.old.current) (first.now ∷ fields.old))) }
+        ensures { Leaves self.new result (on_read (after_line self.old)
+            (line_behind self.old.machine.profile
+            (length self.old.machine.central) is_behind_fields (is_some self.old.current)
+            (first.now ∷ fields.old))) }
     {
         match Keyword::of(first) {
             Keyword::Central => {
@@ -111,7 +115,8 @@ impl<A: Allocator> Reading<A> {
     #[tactic(auto, unfolding(crate::specs::DeckLine::central_words_line, crate::specs::DeckProgress::after_line))]
     fn read_central_words(&mut self, fields: &mut Fields) -> Result<(), Flaw>
         requires { length self.old.machine.central ≤ 2 ^ 17 }
-        ensures { Leaves self.new result (on_read (after_line self.old) (central_words_line (length self.old.machine.central) fields.old)) }
+        ensures { Leaves self.new result (on_read (after_line self.old)
+            (central_words_line (length self.old.machine.central) fields.old)) }
     {
         let address = word18(fields.next_field().ok_or(Flaw::UnknownLine)?)?;
         set_central_words(&mut self.machine, address, fields)
@@ -120,7 +125,8 @@ impl<A: Allocator> Reading<A> {
     /// `PP n`, after its keyword.
     #[tactic(auto, unfolding(crate::specs::DeckLine::section_line, crate::specs::DeckProgress::after_line))]
     fn read_section(&mut self, fields: &mut Fields) -> Result<(), Flaw>
-        ensures { Leaves self.new result (on_read (after_line self.old) (section_line self.old.machine.profile fields.old)) }
+        ensures { Leaves self.new result (on_read (after_line self.old)
+            (section_line self.old.machine.profile fields.old)) }
     {
         let profile = self.machine.profile();
         let n = number(fields.next_field().ok_or(Flaw::UnknownLine)?, 2)?;
@@ -134,7 +140,9 @@ impl<A: Allocator> Reading<A> {
     /// `START p` or `START p a`, after its keyword.
     #[tactic(auto, unfolding(crate::specs::DeckLine::start_line, crate::specs::DeckProgress::after_line))]
     fn read_start(&mut self, fields: &mut Fields) -> Result<(), Flaw>
-        ensures { Leaves self.new result (on_read (after_line self.old) (unless_misplaced (if is_some self.old.current then None else Some Flaw.NoProcessor) (start_line fields.old))) }
+        ensures { Leaves self.new result (on_read (after_line self.old)
+            (unless_misplaced (if is_some self.old.current then None else Some Flaw.NoProcessor)
+            (start_line fields.old))) }
     {
         let processor = self.current.ok_or(Flaw::NoProcessor)?;
         let p = word12(fields.next_field().ok_or(Flaw::UnknownLine)?)?;
@@ -146,7 +154,9 @@ impl<A: Allocator> Reading<A> {
     /// `x w w ..`: its first field, and the words after it.
     #[tactic(auto, unfolding(crate::specs::DeckLine::words_line, crate::specs::DeckProgress::after_line))]
     fn read_words(&mut self, first: &[u8], fields: &mut Fields) -> Result<(), Flaw>
-        ensures { Leaves self.new result (on_read (after_line self.old) (unless_misplaced (if is_some self.old.current then None else Some Flaw.NoProcessor) (words_line first.now fields.old))) }
+        ensures { Leaves self.new result (on_read (after_line self.old)
+            (unless_misplaced (if is_some self.old.current then None else Some Flaw.NoProcessor)
+            (words_line first.now fields.old))) }
     {
         let processor = self.current.ok_or(Flaw::NoProcessor)?;
         let place = word12(first)?;

@@ -56,7 +56,8 @@ central_word_line central a =
 
 -- these lines in order of address
 abbrev pub central_word_lines : List ℕ → List ListedLine
-central_word_lines central = flat_map (central_word_line central) (range_with_len 0 (length central))
+central_word_lines central =
+    flat_map (central_word_line central) (range_with_len 0 (length central))
 
 -- whether there is a channel with this number and dead start opened it
 abbrev pub is_opened_channel : MachineState → ℕ → Bool

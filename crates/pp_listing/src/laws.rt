@@ -16,8 +16,8 @@ pub fn listing_law()
         → length (listing deck) ≤ 1048576 → deck_meaning profile (listing deck) ≡ Ok deck }
 {}
 
-/// The dump of a loaded deck that any steps have left between programs, read as a deck for a machine
-/// of the same profile, is the deck to go on from.
+/// The dump of a loaded deck that any steps have left between programs, read as a deck for a
+/// machine of the same profile, is the deck to go on from.
 #[tactic(auto, using(crate::proofs::DumpLawLemmas::dump_law_of))]
 pub fn dump_law()
     ensures { (profile : Profile) (text : List ℕ) (deck : LoadedDeck) (steps : List ℕ)

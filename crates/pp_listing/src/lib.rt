@@ -1,4 +1,5 @@
-//! The listing of a deck and the dump of one that has run: texts for people to read, which are decks.
+//! The listing of a deck and the dump of one that has run: texts for people to read, which are
+//! decks.
 #![tactic(auto)]
 
 mod dumped_deck;

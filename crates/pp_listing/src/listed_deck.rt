@@ -16,8 +16,8 @@ use std::alloc::{AllocError, Allocator};
 
 /// The listing of a deck: its central words, `DEAD` where dead start opened a channel, and the
 /// instructions of each processor that it names, one a line with its text. Numbers are octal. Read
-/// as a deck for a machine of the same profile, it is that deck, where a text means the deck and the
-/// listing is no longer than a deck may be (1,048,576 bytes, decimal).
+/// as a deck for a machine of the same profile, it is that deck, where a text means the deck and
+/// the listing is no longer than a deck may be (1,048,576 bytes, decimal).
 #[tactic(auto, using(crate::proofs::TextLemmas::listing_in_parts))]
 pub fn listing<A: Allocator + Copy, B: Allocator>(
     alloc: A,
@@ -55,7 +55,8 @@ pub(crate) fn push_central<A: Allocator, B: Allocator>(
     text: &mut Vec<u8, A>,
     central: &Central<B>,
 ) -> Result<(), AllocError>
-    ensures { OnOk result (text.new.items ≡ text.old.items ++ text_of (central_word_lines central.now)) }
+    ensures { OnOk result (text.new.items ≡ text.old.items
+        ++ text_of (central_word_lines central.now)) }
 {
     for address in 0..central.size() {
         push_central_word(text, central, address)?;
@@ -91,7 +92,8 @@ fn push_dead_start<A: Allocator, B: Allocator>(
     text: &mut Vec<u8, A>,
     machine: &Machine<B>,
 ) -> Result<(), AllocError>
-    ensures { OnOk result (text.new.items ≡ text.old.items ++ text_of (dead_start_line machine.now)) }
+    ensures { OnOk result (text.new.items ≡ text.old.items
+        ++ text_of (dead_start_line machine.now)) }
 {
     if has_opened_channel(machine) {
         text.extend_from_slice(b"DEAD\n")?;

@@ -18,7 +18,8 @@ pub(crate) fn push_sections<A: Allocator, B: Allocator>(
     machine: &Machine<B>,
     named: &[bool; PROCESSORS],
 ) -> Result<(), AllocError>
-    ensures { OnOk result (text.new.items ≡ text.old.items ++ text_of (sections named.now machine.now)) }
+    ensures { OnOk result (text.new.items ≡ text.old.items
+        ++ text_of (sections named.now machine.now)) }
 {
     for number in 0..NUMBERS {
         push_named_section(text, machine, named, number)?;

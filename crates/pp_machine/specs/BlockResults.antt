@@ -1,6 +1,6 @@
--- Whole block transfers, stated without their single steps: which place holds which word, and A, P and the state after.
--- Codes are octal; d is the lower six bits of the instruction, m its second word.
--- (Manual 60100000, peripheral processors: CRM, CWM, IAM, OAM.)
+-- Whole block transfers, stated without their single steps: which place holds which word, and A, P
+-- and the state after. Codes are octal; d is the lower six bits of the instruction, m its second
+-- word. (Manual 60100000, peripheral processors: CRM, CWM, IAM, OAM.)
 use Rattle.std.specs.Prelude.{ℕ, ◌≡◌, ◌≢◌, ◌+◌, ◌-◌, ◌*◌, ◌/◌, ◌%◌, ◌<◌, ◌≤◌, ◌==◌, Bool, true, false, List, [], ◌∷◌, ◌++◌, None, Some, if◌then◌else◌, length, map, replicate, take, slice_index, slice_set}
 use Rattle.pp_word.specs.Address.{place_count, next_place}
 use Rattle.pp_word.specs.CentralWord.{parts_of, joined}
@@ -41,7 +41,8 @@ pub record BeginsAt (op : Opcode) (pp : Processor) : Type 0 where
   pub free : pp.block ≡ None
   pub code : operation pp ≡ op
 
--- each answer is given; then A is this, P is after the place that is in place 0000, and the block is over
+-- each answer is given; then A is this, P is after the place that is in place 0000, and the block
+-- is over
 pub record EndsBlock (pp : Processor) (answers : List Answer) (accumulator : ℕ) : Type 0 where
   pub given : given_count pp answers ≡ length answers
   pub a : (replayed pp answers).a ≡ accumulator
@@ -76,27 +77,33 @@ centrals_taken count = Local ∷ replicate count (Wrote true)
 -- 71: words are taken from channel d, and come to the places from m on
 pub record TakesWords (pp : Processor) (answers : List Answer) (count : ℕ) (words : List ℕ) : Type 0 where
   pub takes : (i : ℕ) → i < count → need_met pp answers i ≡ needs.Channel (lower_six pp) Take
-  pub memory : BringsWords (kept_memory pp) (replayed pp answers).memory (second_word pp) (length words) (λ i. slice_index words i)
+  pub memory : BringsWords (kept_memory pp) (replayed pp answers).memory (second_word pp)
+      (length words) (λ i. slice_index words i)
 
 -- 71: as many words as A says
 abbrev pub WholeInput : Processor → Type 0
 WholeInput pp =
-    (words : List ℕ) → BeginsAt IAM pp → has_channel pp.profile (lower_six pp) ≡ true → 0 < pp.a → length words ≡ pp.a →
+    (words : List ℕ) → BeginsAt IAM pp → has_channel pp.profile (lower_six pp) ≡ true → 0 < pp.a
+    → length words ≡ pp.a →
     length words ≤ place_count →
-    let answers = words_given words in EndsBlock pp answers 0 × TakesWords pp answers (length words) words
+    let answers = words_given words in EndsBlock pp answers 0
+    × TakesWords pp answers (length words) words
 
 -- 71: fewer words, and then the channel was inactive: a word 0 closes them, and A is what was left
 abbrev pub ClosedInput : Processor → Type 0
 ClosedInput pp =
-    (words : List ℕ) (full : Bool) → BeginsAt IAM pp → has_channel pp.profile (lower_six pp) ≡ true → length words < pp.a →
+    (words : List ℕ) (full : Bool) → BeginsAt IAM pp → has_channel pp.profile (lower_six pp) ≡ true
+    → length words < pp.a →
     length words < place_count →
     let answers = words_given words ++ inactive full ∷ [] in
-    EndsBlock pp answers (pp.a - length words) × TakesWords pp answers (length words) (words ++ 0 ∷ [])
+    EndsBlock pp answers (pp.a - length words)
+    × TakesWords pp answers (length words) (words ++ 0 ∷ [])
 
 -- 73: the words from place m on are put, and no place but 0000 changes
 pub record PutsWords (pp : Processor) (answers : List Answer) (count : ℕ) : Type 0 where
   pub puts : (i : ℕ) → i < count →
-      need_met pp answers i ≡ needs.Channel (lower_six pp) (Put (slice_index (kept_memory pp) (place_from (second_word pp) i)))
+      need_met pp answers i ≡ needs.Channel (lower_six pp)
+      (Put (slice_index (kept_memory pp) (place_from (second_word pp) i)))
   pub memory : (replayed pp answers).memory ≡ kept_memory pp
 
 -- 73: as many words as A says
@@ -108,8 +115,10 @@ WholeOutput pp =
 -- 73: fewer words, and then the channel was inactive
 abbrev pub CutOutput : Processor → Type 0
 CutOutput pp =
-    (count : ℕ) (full : Bool) → BeginsAt OAM pp → has_channel pp.profile (lower_six pp) ≡ true → count < pp.a →
-    let answers = words_taken count ++ inactive full ∷ [] in EndsBlock pp answers (pp.a - count) × PutsWords pp answers count
+    (count : ℕ) (full : Bool) → BeginsAt OAM pp → has_channel pp.profile (lower_six pp) ≡ true
+    → count < pp.a →
+    let answers = words_taken count ++ inactive full ∷ [] in
+    EndsBlock pp answers (pp.a - count) × PutsWords pp answers count
 
 -- the address of central word i of a block that begins with A = a
 abbrev pub address_of : ℕ → ℕ → ℕ
@@ -122,29 +131,35 @@ part_of centrals j = slice_index (parts_of (slice_index centrals (j / 5))) (j % 
 -- 61: central words are read, and their parts come to the places from m on
 pub record ReadsCentrals (pp : Processor) (answers : List Answer) (centrals : List ℕ) : Type 0 where
   pub reads : (i : ℕ) → i < length centrals → need_met pp answers i ≡ needs.Read (address_of pp.a i)
-  pub memory : BringsWords (kept_memory pp) (replayed pp answers).memory (second_word pp) (5 * length centrals) (part_of centrals)
+  pub memory : BringsWords (kept_memory pp) (replayed pp answers).memory (second_word pp)
+      (5 * length centrals) (part_of centrals)
 
 -- 61: as many central words as place d says, from 1 to 819 (decimal)
 abbrev pub CentralInput : Processor → Type 0
 CentralInput pp =
     (centrals : List ℕ) → BeginsAt CRM pp → 0 < length centrals → length centrals ≤ 819 →
     length centrals ≡ word_at pp (lower_six pp) →
-    let answers = centrals_given centrals in EndsBlock pp answers (sum pp.a (length centrals)) × ReadsCentrals pp answers centrals
+    let answers = centrals_given centrals in
+    EndsBlock pp answers (sum pp.a (length centrals)) × ReadsCentrals pp answers centrals
 
 -- the central word of places j to j + 4 from m on
 abbrev pub five_from : List ℕ → ℕ → ℕ → ℕ
 five_from memory m j =
-    joined (slice_index memory (place_from m j) ∷ slice_index memory (place_from m (j + 1)) ∷ slice_index memory (place_from m (j + 2)) ∷
+    joined (slice_index memory (place_from m j) ∷ slice_index memory (place_from m (j + 1))
+    ∷ slice_index memory (place_from m (j + 2)) ∷
     slice_index memory (place_from m (j + 3)) ∷ slice_index memory (place_from m (j + 4)) ∷ [])
 
--- 63: central words are written from the words from place m on, five each, and no place but 0000 changes
+-- 63: central words are written from the words from place m on, five each, and no place but 0000
+-- changes
 pub record WritesCentrals (pp : Processor) (answers : List Answer) (count : ℕ) : Type 0 where
   pub writes : (i : ℕ) → i < count →
-      need_met pp answers i ≡ needs.Write (address_of pp.a i) (five_from (kept_memory pp) (second_word pp) (5 * i))
+      need_met pp answers i ≡ needs.Write (address_of pp.a i)
+      (five_from (kept_memory pp) (second_word pp) (5 * i))
   pub memory : (replayed pp answers).memory ≡ kept_memory pp
 
 -- 63: as many central words as place d says
 abbrev pub CentralOutput : Processor → Type 0
 CentralOutput pp =
     (count : ℕ) → BeginsAt CWM pp → 0 < count → count ≡ word_at pp (lower_six pp) →
-    let answers = centrals_taken count in EndsBlock pp answers (sum pp.a count) × WritesCentrals pp answers count
+    let answers = centrals_taken count in EndsBlock pp answers (sum pp.a count)
+    × WritesCentrals pp answers count

@@ -16,7 +16,8 @@ use Rattle.pp_machine.specs.declared.block.Block.{Block}
 -- a memory after words were stored from a place on
 abbrev pub stored_from : List ℕ → ℕ → List ℕ → List ℕ
 stored_from memory place [] = memory
-stored_from memory place (word ∷ words) = stored_from (slice_set memory place word) (next_place place) words
+stored_from memory place (word ∷ words) =
+    stored_from (slice_set memory place word) (next_place place) words
 
 -- the five parts of a central word come to a place and the four after it
 abbrev pub receives : Processor → ℕ → ℕ → Processor
@@ -25,7 +26,8 @@ receives pp place central = record pp { memory = stored_from pp.memory place (pa
 -- the central word of the five words at a place and the four after it
 abbrev pub central_from : Processor → ℕ → ℕ
 central_from pp place =
-    joined (word_at pp place ∷ word_at pp ((place + 1) % place_count) ∷ word_at pp ((place + 2) % place_count) ∷
+    joined (word_at pp place ∷ word_at pp ((place + 1) % place_count)
+    ∷ word_at pp ((place + 2) % place_count) ∷
     word_at pp ((place + 3) % place_count) ∷ word_at pp ((place + 4) % place_count) ∷ [])
 
 -- a word comes to a place
@@ -40,7 +42,8 @@ ends pp = record pp { p = next_place (word_at pp 0); block = None }
 abbrev pub continues : Processor → BlockKind → ℕ → Processor
 continues pp kind place = record pp { block = Some (record { kind = kind; place = place }) }
 
--- the start of a block at place m: the place of the second word goes to place 0000; a count of 0 moves nothing
+-- the start of a block at place m: the place of the second word goes to place 0000; a count of 0
+-- moves nothing
 abbrev pub starts : Processor → ℕ → BlockKind → Processor
 starts pp count kind =
     let kept = stores_at pp 0 (next_place pp.p) in
@@ -60,10 +63,15 @@ counts_up pp left kind place =
 
 -- one word of a block in progress
 abbrev pub block_word : BlockKind → ℕ → Processor → Step
-block_word (CentralIn left) place pp = reads pp.a (λ central. counts_up (receives pp place central) (left - 1) (CentralIn (left - 1)) place)
-block_word (CentralOut left) place pp = writes pp.a (central_from pp place) (counts_up pp (left - 1) (CentralOut (left - 1)) place)
-block_word (Input channel) place pp = takes channel (λ word. counts_down (stores_at pp place word) (Input channel) place)
-block_word (Output channel) place pp = does channel (Put (word_at pp place)) (counts_down pp (Output channel) place)
+block_word (CentralIn left) place pp =
+    reads pp.a (λ central. counts_up (receives pp place central) (left - 1)
+    (CentralIn (left - 1)) place)
+block_word (CentralOut left) place pp =
+    writes pp.a (central_from pp place) (counts_up pp (left - 1) (CentralOut (left - 1)) place)
+block_word (Input channel) place pp =
+    takes channel (λ word. counts_down (stores_at pp place word) (Input channel) place)
+block_word (Output channel) place pp =
+    does channel (Put (word_at pp place)) (counts_down pp (Output channel) place)
 
 -- the channel was inactive: an input closes with a word 0, and either block ends with A as it is
 abbrev pub cut_short : BlockKind → ℕ → Processor → Processor

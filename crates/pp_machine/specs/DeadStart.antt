@@ -1,6 +1,6 @@
 -- Dead start: processors that wait for their programs, each on the channel of its own number.
--- (Manual 60100000, part on dead start: each of these processors is set to an input to its memory from place 0000 on,
--- from the channel of its own number, which is active and empty.)
+-- (Manual 60100000, part on dead start: each of these processors is set to an input to its memory
+-- from place 0000 on, from the channel of its own number, which is active and empty.)
 use Rattle.std.specs.Prelude.{◌≡◌, ℕ, ◌≤◌, ◌&&◌, Bool, false, true, IsTrue, List, [], ◌∷◌, Some, map, if◌then◌else◌, slice_index_or, slice_set}
 use Rattle.std.specs.List.{range_with_len}
 use Rattle.pp_channel.specs.ChannelNumber.{channel_count, channel_index, channel_number, names_channel}
@@ -14,13 +14,21 @@ use Rattle.pp_machine.specs.declared.block.BlockKind.TheVariants.{Input}
 use Rattle.pp_machine.specs.declared.pp_state.PpState.TheVariants.{Running}
 use Rattle.pp_machine.specs.declared.profile.Profile.{Profile}
 
--- a processor that waits for its program: a block input from channel c, with places from 0000 on, P 0000 and A 010000
+-- a processor that waits for its program: a block input from channel c, with places from 0000 on, P
+-- 0000 and A 010000
 abbrev pub waiting_on : ℕ → Processor → Processor
-waiting_on c pp = record pp { a = 0o10000; p = 0; state = Running; block = Some (record { kind = Input c; place = 0 }) }
+waiting_on c pp =
+    record pp {
+      a = 0o10000;
+      p = 0;
+      state = Running;
+      block = Some (record { kind = Input c; place = 0 });
+    }
 
 -- only processors that a machine of this profile has wait
 abbrev pub WaitsWithin : Profile → List Bool → Type 0
-WaitsWithin profile waiting = (place : ℕ) → processors_in profile ≤ place → slice_index_or waiting place false ≡ false
+WaitsWithin profile waiting =
+    (place : ℕ) → processors_in profile ≤ place → slice_index_or waiting place false ≡ false
 
 -- whether a number is that of a processor that is to wait
 abbrev pub waits : List Bool → ℕ → Bool
@@ -41,16 +49,19 @@ history_started waits m c = if waits c then Activate ∷ [] else history_of c m
 
 -- all processors, all histories, and which channels are opened, each in order of place
 unfoldable pub processors_started : (ℕ → Bool) → MachineState → List Processor
-processors_started waits m = map (λ place. processor_started waits m (processor_number place)) (range_with_len 0 processor_count)
+processors_started waits m =
+    map (λ place. processor_started waits m (processor_number place))
+    (range_with_len 0 processor_count)
 
 unfoldable pub histories_started : (ℕ → Bool) → MachineState → List (List Event)
-histories_started waits m = map (λ place. history_started waits m (channel_number place)) (range_with_len 0 channel_count)
+histories_started waits m =
+    map (λ place. history_started waits m (channel_number place)) (range_with_len 0 channel_count)
 
 unfoldable pub opened_where : (ℕ → Bool) → List Bool
 opened_where waits = map (λ place. waits (channel_number place)) (range_with_len 0 channel_count)
 
--- A machine in which the processors wait whose numbers pass a test, each on the channel of its own number, which is
--- active and empty. Central memory, turns and trace stay.
+-- A machine in which the processors wait whose numbers pass a test, each on the channel of its own
+-- number, which is active and empty. Central memory, turns and trace stay.
 abbrev pub started : (ℕ → Bool) → MachineState → MachineState
 started waits m = record m {
   processors = processors_started waits m;

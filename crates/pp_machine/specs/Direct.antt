@@ -20,7 +20,8 @@ abbrev pub IsNext : Option Opcode → ℕ → Processor → Type 0
 IsNext None d pp = (pp.state ≡ Running) × IsSome pp.block
 IsNext (Some op) d pp = IsAtInstruction op d pp
 
--- whether an operation needs nothing from outside, whatever its operands, and begins no block: codes 00 to 57
+-- whether an operation needs nothing from outside, whatever its operands, and begins no block:
+-- codes 00 to 57
 abbrev pub is_inner : Opcode → Bool
 is_inner op = nat_lt (code_of op) 0o60
 

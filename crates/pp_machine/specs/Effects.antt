@@ -35,7 +35,8 @@ jumps_or_stops pp d = if leads_to_itself d then stops pp else goes_to pp (relati
 -- a relative jump where a test holds
 abbrev pub jumps_where : Bool → Processor → ℕ → Processor
 jumps_where test pp d =
-    if test then (if leads_to_itself d then pp else goes_to pp (relative_to pp.p d)) else goes_on pp 1
+    if test then (if leads_to_itself d then pp else goes_to pp (relative_to pp.p d))
+    else goes_on pp 1
 
 -- a long jump to the second word where a test holds
 abbrev pub branches_where : Bool → Processor → Processor
@@ -43,7 +44,8 @@ branches_where test pp = if test then goes_to pp (second_word pp) else goes_on p
 
 -- RJM: the place after the instruction is stored at the target, and the program goes on after that
 abbrev pub calls : Processor → ℕ → Processor
-calls pp target = record pp { memory = slice_set pp.memory target (behind_p pp 2); p = next_place target }
+calls pp target =
+    record pp { memory = slice_set pp.memory target (behind_p pp 2); p = next_place target }
 
 -- A is negative: its uppermost place, 17 (decimal), is 1
 abbrev pub is_negative : Processor → Bool
@@ -77,7 +79,8 @@ differs_from_word pp x = loads pp (exclusive_or pp.a (word_at pp x.place)) x.wor
 
 -- 4: the operand becomes the low twelve bits of A
 abbrev pub stores_word : Processor → Operand → Processor
-stores_word pp x = record pp { memory = slice_set pp.memory x.place (low_of pp.a); p = behind_p pp x.words }
+stores_word pp x =
+    record pp { memory = slice_set pp.memory x.place (low_of pp.a); p = behind_p pp x.words }
 
 -- 5, 6, 7: A becomes a value, and the operand its low twelve bits
 abbrev pub replaces : Processor → Operand → ℕ → Processor

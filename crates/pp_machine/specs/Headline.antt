@@ -11,14 +11,16 @@ use Rattle.pp_machine.specs.declared.trace.Trace.{Trace}
 
 -- the events of a trace on channel c, in order
 abbrev pub events_on : ℕ → List Trace → List Event
-events_on c trace = filter_map (λ entry. if entry.channel == c then Some entry.event else None) trace
+events_on c trace =
+    filter_map (λ entry. if entry.channel == c then Some entry.event else None) trace
 
--- what had happened on channel c before the first step: where dead start opened it an Activate, else nothing
+-- what had happened on channel c before the first step: where dead start opened it an Activate,
+-- else nothing
 abbrev pub opening_history : ℕ → MachineState → List Event
 opening_history c m = if is_opened c m then Activate ∷ [] else []
 
--- the history of a channel is its opening history and then the events of the trace on it; it is lawful; and in every
--- session the words taken are the first of the words put
+-- the history of a channel is its opening history and then the events of the trace on it; it is
+-- lawful; and in every session the words taken are the first of the words put
 pub record HoldsOnChannel (opening events history : List Event) : Type 0 where
   pub traced : history ≡ opening ++ events
   pub lawful : IsLawful history
@@ -26,4 +28,6 @@ pub record HoldsOnChannel (opening events history : List Event) : Type 0 where
 
 -- that holds of every channel
 abbrev pub HoldsOnEachChannel : MachineState → Type 0
-HoldsOnEachChannel m = (c : ℕ) → IsTrue (names_channel c) → HoldsOnChannel (opening_history c m) (events_on c m.trace) (history_of c m)
+HoldsOnEachChannel m =
+    (c : ℕ) → IsTrue (names_channel c) → HoldsOnChannel (opening_history c m) (events_on c m.trace)
+    (history_of c m)

@@ -1,6 +1,7 @@
 -- The table of instructions, one line a code, in the order of the octal codes.
--- (Manual 60100000, peripheral processors: list of instructions and their descriptions; Thornton, Design of
--- a Computer, on the peripheral and control processors. Jumps of 00 and 77 and the two zeros are this project's choice.)
+-- (Manual 60100000, peripheral processors: list of instructions and their descriptions; Thornton,
+-- Design of a Computer, on the peripheral and control processors. Jumps of 00 and 77 and the two
+-- zeros are this project's choice.)
 use Rattle.std.specs.Prelude.{ℕ, ◌==◌, ◌&&◌, not, nat_le, Bool, if◌then◌else◌}
 use Rattle.pp_word.specs.BitPlaces.{shifted, complemented, conjunction, exclusive_or, without}
 use Rattle.pp_word.specs.OnesComplement.{sum, difference}
@@ -87,6 +88,9 @@ row FNC pp d = does d (Function (second_word pp)) (goes_on pp 2)
 abbrev pub works_on_channel : Opcode → Bool
 works_on_channel op = nat_le 0o64 (code_of op)
 
--- an instruction: its row of the table, but fault 3 where it works on channel d and the machine has none
+-- an instruction: its row of the table, but fault 3 where it works on channel d and the machine has
+-- none
 abbrev pub instruction : Opcode → Processor → ℕ → Step
-instruction op pp d = if works_on_channel op && not (has_channel pp.profile d) then local (faults pp 3) else row op pp d
+instruction op pp d =
+    if works_on_channel op && not (has_channel pp.profile d) then local (faults pp 3)
+    else row op pp d

@@ -1,6 +1,6 @@
 -- A machine at one moment, described by what has happened on its channels.
--- (Manual 60100000, part on peripheral and control processors: the processors have memories of their own
--- and share central memory and the data channels.)
+-- (Manual 60100000, part on peripheral and control processors: the processors have memories of
+-- their own and share central memory and the data channels.)
 use Rattle.std.specs.Prelude.{ℕ, Bool, false, List, [], slice_index_or, replicate}
 use Rattle.pp_channel.specs.ChannelNumber.{channel_count, channel_index}
 use Rattle.pp_channel.specs.declared.event.Event.{Event}
@@ -9,8 +9,9 @@ use Rattle.pp_machine.specs.ProcessorNumber.{processor_count, processor_index}
 use Rattle.pp_machine.specs.declared.profile.Profile.{Profile}
 use Rattle.pp_machine.specs.declared.trace.Trace.{Trace}
 
--- its profile, the processors in the order of the barrel, the history of each channel, the central words by address, the turns
--- counted, the events in the order in which steps made them, and of each channel whether dead start opened it
+-- its profile, the processors in the order of the barrel, the history of each channel, the central
+-- words by address, the turns counted, the events in the order in which steps made them, and of
+-- each channel whether dead start opened it
 pub record MachineState : Type 0 where
   pub profile : Profile
   pub processors : List Processor

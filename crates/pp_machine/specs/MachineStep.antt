@@ -1,7 +1,7 @@
 -- One step of one processor of a machine.
--- (Manual 60100000, part on peripheral and control processors: a processor works on its own memory, exchanges
--- words with the data channels, and reads and writes central memory. One step is one trip of it through the
--- slot of the barrel: Thornton, Design of a Computer.)
+-- (Manual 60100000, part on peripheral and control processors: a processor works on its own memory,
+-- exchanges words with the data channels, and reads and writes central memory. One step is one trip
+-- of it through the slot of the barrel: Thornton, Design of a Computer.)
 use Rattle.std.specs.Prelude.{ℕ, ◌+◌, ◌-◌, ◌^◌, min, List, ◌++◌, length, map, nat_lt, Option, None, slice_set}
 use Rattle.std.specs.Option.{option_to_list}
 use Rattle.pp_channel.specs.Answer.{event_of, reply_to, history_after}
@@ -33,7 +33,8 @@ event_for _ m = None
 
 -- the histories after it
 abbrev pub histories_after : Need → MachineState → List (List Event)
-histories_after (Channel c op) m = slice_set m.histories (channel_index c) (history_after op (history_of c m))
+histories_after (Channel c op) m =
+    slice_set m.histories (channel_index c) (history_after op (history_of c m))
 histories_after _ m = m.histories
 
 -- the central words after it
@@ -43,12 +44,19 @@ central_after _ m = m.central
 
 -- the trace after it, where it is processor n's
 abbrev pub trace_after : ℕ → Need → MachineState → List Trace
-trace_after n (Channel c op) m = m.trace ++ map (λ e. record { turn = m.turns; pp = n; channel = c; event = e }) (option_to_list (event_of op (history_of c m)))
+trace_after n (Channel c op) m =
+    m.trace ++ map (λ e. record { turn = m.turns; pp = n; channel = c; event = e })
+    (option_to_list (event_of op (history_of c m)))
 trace_after n _ m = m.trace
 
 -- a machine that has answered a need of processor n
 abbrev pub served : ℕ → Need → MachineState → MachineState
-served n x m = record m { histories = histories_after x m; central = central_after x m; trace = trace_after n x m }
+served n x m =
+    record m {
+      histories = histories_after x m;
+      central = central_after x m;
+      trace = trace_after n x m;
+    }
 
 -- one turn more; the greatest count stays
 abbrev pub counted : ℕ → ℕ
@@ -56,7 +64,12 @@ counted turns = min (turns + 1) (2 ^ 64 - 1)
 
 -- a machine in which processor n has taken an answer, which counts one turn
 abbrev pub taken : ℕ → Answer → MachineState → MachineState
-taken n x m = record m { processors = slice_set m.processors (processor_index n) (processor_after (processor_of n m) x); turns = counted m.turns }
+taken n x m =
+    record m {
+      processors = slice_set m.processors (processor_index n)
+          (processor_after (processor_of n m) x);
+      turns = counted m.turns;
+    }
 
 -- a machine after one step of processor n
 unfoldable pub stepped : ℕ → MachineState → MachineState

@@ -1,4 +1,5 @@
--- What the next step of a processor needs from outside, the processor after its answer, and the outcome.
+-- What the next step of a processor needs from outside, the processor after its answer, and the
+-- outcome.
 use Rattle.std.specs.Prelude.{Bool, true, false, Option, None, Some, if◌then◌else◌}
 use Rattle.pp_channel.specs.declared.reply.Reply.TheVariants.{Flags, Done, Word, Held}
 use Rattle.pp_machine.specs.Blocks.{block_word, held}
@@ -45,7 +46,8 @@ is_held None (Channel (Held flags)) = true
 is_held (Some block) (Channel (Held flags)) = flags.active
 is_held block answer = false
 
--- only a running processor has a next step: what it needs, what an answer leaves, and the outcome, by the state
+-- only a running processor has a next step: what it needs, what an answer leaves, and the outcome,
+-- by the state
 abbrev pub need_in : PpState → Processor → Need
 need_in Running pp = need_of (next_step pp)
 need_in Stopped pp = Nothing

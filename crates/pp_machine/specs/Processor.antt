@@ -10,8 +10,8 @@ use Rattle.pp_machine.specs.declared.pp_state.PpState.TheVariants.{Running, Stop
 use Rattle.pp_machine.specs.declared.profile.Profile.{Profile}
 use Rattle.pp_machine.specs.declared.profile.Profile.TheVariants.{Ten}
 
--- the profile of its machine, memory, A of 18 bits, P of 12 bits, whether it goes on, and perhaps a block transfer in
--- progress
+-- the profile of its machine, memory, A of 18 bits, P of 12 bits, whether it goes on, and perhaps a
+-- block transfer in progress
 pub record Processor : Type 0 where
   pub profile : Profile
   pub memory : List ℕ
@@ -26,13 +26,15 @@ word_at pp place = slice_index pp.memory place
 
 -- a processor before anything is set
 abbrev pub new_processor : Profile → Processor
-new_processor profile = record { profile = profile; memory = empty_memory; a = 0; p = 0; state = Stopped; block = None }
+new_processor profile =
+    record { profile = profile; memory = empty_memory; a = 0; p = 0; state = Stopped; block = None }
 
 -- what stands for a processor past the end of a list
 abbrev pub no_processor : Processor
 no_processor = new_processor Ten
 
--- the faults: 1 exchange jump, 2 no central processor, 3 no such channel, 4 central address at or past the size
+-- the faults: 1 exchange jump, 2 no central processor, 3 no such channel, 4 central address at or
+-- past the size
 pub record IsFaultNumber (number : ℕ) : Type 0 where
   pub first : 1 ≤ number
   pub last : number ≤ 4

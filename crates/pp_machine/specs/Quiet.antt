@@ -1,5 +1,6 @@
--- Quiet steps: they make no event and write no central word, so they change nothing but their own processor. Where all
--- steps of some rounds of the barrel are quiet, those of different processors can change places.
+-- Quiet steps: they make no event and write no central word, so they change nothing but their own
+-- processor. Where all steps of some rounds of the barrel are quiet, those of different processors
+-- can change places.
 use Rattle.std.specs.Prelude.{◌≡◌, ℕ, zero, suc, ◌<◌, ◌≤◌, Bool, true, false, IsTrue, List, Option, Some, None, length, slice_index_or}
 use Rattle.pp_channel.specs.Answer.{event_of}
 use Rattle.pp_channel.specs.declared.event.Event.{Event}
@@ -15,8 +16,9 @@ abbrev pub is_none : Option Event → Bool
 is_none None = true
 is_none (Some event) = false
 
--- whether a step with this need is taken as quiet: nothing is needed from outside, or an operation on a channel that
--- makes no event, since it is a probe or is held. A central read is not, though it changes nothing else.
+-- whether a step with this need is taken as quiet: nothing is needed from outside, or an operation
+-- on a channel that makes no event, since it is a probe or is held. A central read is not, though
+-- it changes nothing else.
 abbrev pub is_quiet : Need → MachineState → Bool
 is_quiet Nothing m = true
 is_quiet Local m = true
@@ -38,10 +40,13 @@ pub record IsAhead (steps : ℕ) (m : MachineState) (old new : Processor) : Type
   pub quiet : (j : ℕ) → j < steps → IsTrue (is_quiet (need (steps_beside j m old)) m)
   pub after : new ≡ steps_beside steps m old
 
--- the processors of a round from a place of the barrel on went this many quiet steps ahead, and all others stand where they
--- stood
+-- the processors of a round from a place of the barrel on went this many quiet steps ahead, and all
+-- others stand where they stood
 pub record AreAhead (steps round place : ℕ) (m : MachineState) (old new : List Processor) : Type 0 where
   pub as_many : length new ≡ length old
-  pub before : (k : ℕ) → k < place → slice_index_or new k no_processor ≡ slice_index_or old k no_processor
-  pub behind : (k : ℕ) → round ≤ k → slice_index_or new k no_processor ≡ slice_index_or old k no_processor
-  pub ahead : (k : ℕ) → place ≤ k → k < round → IsAhead steps m (slice_index_or old k no_processor) (slice_index_or new k no_processor)
+  pub before : (k : ℕ) → k < place → slice_index_or new k no_processor
+      ≡ slice_index_or old k no_processor
+  pub behind : (k : ℕ) → round ≤ k → slice_index_or new k no_processor
+      ≡ slice_index_or old k no_processor
+  pub ahead : (k : ℕ) → place ≤ k → k < round
+      → IsAhead steps m (slice_index_or old k no_processor) (slice_index_or new k no_processor)

@@ -16,7 +16,8 @@ use Rattle.pp_machine.specs.declared.answer.Answer.TheVariants as answers
 use Rattle.pp_machine.specs.declared.need.Need.{Need}
 use Rattle.pp_machine.specs.declared.need.Need.TheVariants as needs
 
--- whether a reply fits an operation: Probe goes with Flags, Take with Word or Held, the other four with Done or Held
+-- whether a reply fits an operation: Probe goes with Flags, Take with Word or Held, the other four
+-- with Done or Held
 abbrev pub reply_fits : ChanOp → Reply → Bool
 reply_fits operations.Probe (replies.Flags flags) = true
 reply_fits operations.Take (replies.Word word) = true
@@ -43,12 +44,14 @@ fits need answer = false
 -- the processor after the answers, up to the first that does not fit
 unfoldable pub replayed : Processor → List Answer → Processor
 replayed pp [] = pp
-replayed pp (answer ∷ more) = if fits (need pp) answer then replayed (processor_after pp answer) more else pp
+replayed pp (answer ∷ more) =
+    if fits (need pp) answer then replayed (processor_after pp answer) more else pp
 
 -- how many of the answers are given
 unfoldable pub given_count : Processor → List Answer → ℕ
 given_count pp [] = 0
-given_count pp (answer ∷ more) = if fits (need pp) answer then given_count (processor_after pp answer) more + 1 else 0
+given_count pp (answer ∷ more) =
+    if fits (need pp) answer then given_count (processor_after pp answer) more + 1 else 0
 
 -- an event, and an event or a look, each with the channel's number
 pub record ChannelEvent : Type 0 where
@@ -59,7 +62,8 @@ pub record ChannelSight : Type 0 where
   pub channel : ℕ
   pub what : Seen
 
--- what an operation that was answered so did or saw: Done and Word give its event, Flags and Held are looks
+-- what an operation that was answered so did or saw: Done and Word give its event, Flags and Held
+-- are looks
 abbrev pub seen_by : ChanOp → Reply → Option Seen
 seen_by operation (replies.Flags flags) = Some (Saw flags)
 seen_by operation (replies.Held flags) = Some (Saw flags)
@@ -68,20 +72,24 @@ seen_by operation reply = option_map (λ e. Did e) (event_answered operation rep
 -- the event of an answer to a need, if it gives one
 abbrev pub events_of : Need → Answer → List ChannelEvent
 events_of (needs.Channel channel operation) (answers.Channel reply) =
-    map (λ e. record { channel = channel; event = e }) (option_to_list (event_answered operation reply))
+    map (λ e. record { channel = channel; event = e })
+    (option_to_list (event_answered operation reply))
 events_of need answer = []
 
 -- the event or the look of an answer to a need, if it gives one
 abbrev pub sights_of : Need → Answer → List ChannelSight
 sights_of (needs.Channel channel operation) (answers.Channel reply) =
-    map (λ what. record { channel = channel; what = what }) (option_to_list (seen_by operation reply))
+    map (λ what. record { channel = channel; what = what })
+    (option_to_list (seen_by operation reply))
 sights_of need answer = []
 
 -- what each answer gives, along a replay, end to end
-unfoldable pub told_along : {X : Type 0} → (Need → Answer → List X) → Processor → List Answer → List X
+unfoldable pub told_along : {X : Type 0} → (Need → Answer → List X) → Processor → List Answer
+    → List X
 told_along tells pp [] = []
 told_along tells pp (answer ∷ more) =
-    if fits (need pp) answer then tells (need pp) answer ++ told_along tells (processor_after pp answer) more else []
+    if fits (need pp) answer then tells (need pp) answer
+    ++ told_along tells (processor_after pp answer) more else []
 
 -- the events of a replay, in order
 abbrev pub events_given : Processor → List Answer → List ChannelEvent

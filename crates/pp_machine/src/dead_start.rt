@@ -21,10 +21,10 @@ impl<A: Allocator> Machine<A> {
         self.opened[ch.index()]
     }
 
-    /// Lets processors wait for their programs, each on the channel of its own number, which is then
-    /// active and empty; `waiting` has the processors in the barrel's order, and false for those that the
-    /// profile lacks. No turn is counted yet, and no channel has a history. These Activates are in no
-    /// trace. After `Memory` nothing has changed.
+    /// Lets processors wait for their programs, each on the channel of its own number, which is
+    /// then active and empty; `waiting` has the processors in the barrel's order, and false for
+    /// those that the profile lacks. No turn is counted yet, and no channel has a history. These
+    /// Activates are in no trace. After `Memory` nothing has changed.
     pub fn dead_start(&mut self, waiting: &[bool; PROCESSORS]) -> Result<(), Memory>
     where
         A: Clone,

@@ -49,8 +49,8 @@ impl<A: Allocator> Machine<A> {
     ghost use Rattle.pp_machine.specs.MachineState.{history_of, new_machine, processor_of};
 
     /// A machine of this profile, with central memory of this many words, all 0: its processors as
-    /// `Pp::new(profile)`, its channels without history, no turn counted. Processors and channels that the
-    /// profile lacks come after the others, and no turn of the barrel is theirs.
+    /// `Pp::new(profile)`, its channels without history, no turn counted. Processors and channels
+    /// that the profile lacks come after the others, and no turn of the barrel is theirs.
     #[tactic(auto, using(pp_channel::proofs::ChannelPlaces::place_below))]
     pub fn new(alloc: A, profile: Profile, size: u32) -> Result<Self, CentralFault>
     where
@@ -120,7 +120,8 @@ impl<A: Allocator> Machine<A> {
     /// Writes a central word, as `Central::write` does.
     pub fn write_central(&mut self, a: Word18, w: Word60) -> bool
         ensures within { IsTrue result ↔ (a < length self.old.central) }
-        ensures written { self.new ≡ record self.old { central = with_central_word a w self.old.central } }
+        ensures written { self.new
+            ≡ record self.old { central = with_central_word a w self.old.central } }
         ensures refused { OnFalse result (self.new ≡ self.old) }
     {
         self.central.write(a, w)
@@ -157,7 +158,8 @@ fn new_processors<A: Allocator>(alloc: A, profile: Profile) -> Result<Vec<Pp, A>
 /// Channels on which nothing has happened.
 fn new_channels<A: Allocator + Copy>(alloc: A) -> Result<Vec<Channel<A>, A>, CentralFault>
     ensures items { IfOk result (λ v. v.items ≡ replicate channel_count []) }
-    ensures headline { IfOk result (λ v. (k : ℕ) → k < channel_count → HoldsOnChannel [] [] (slice_index_or v.items k [])) }
+    ensures headline { IfOk result (λ v. (k : ℕ) → k < channel_count
+        → HoldsOnChannel [] [] (slice_index_or v.items k [])) }
     ensures memory { OnErr result (result ≡ Err CentralFault.Memory) }
 {
     let mut channels = Vec::with_capacity(alloc, CHANNELS)?;

@@ -8,8 +8,8 @@ use std::marker::Model;
 /// How many peripheral processors the greater machine has (decimal).
 pub const PROCESSORS: usize = 20;
 
-/// The number of a peripheral processor, 0 to 11 or 20 to 31 (octal). It is kept as its place in the
-/// barrel of twenty; contracts see it as the number.
+/// The number of a peripheral processor, 0 to 11 or 20 to 31 (octal). It is kept as its place in
+/// the barrel of twenty; contracts see it as the number.
 #[derive(Clone, Copy, Debug, PartialEq, Eq)]
 pub struct PpNo {
     place: u8,

@@ -6,13 +6,14 @@ ghost use Rattle.pp_machine.specs.Profile.{processors_in, channels_in, has_proce
 use crate::pp_no::{PROCESSORS, PpNo};
 use pp_channel::{CHANNELS, ChannelNo};
 
-/// How many processors and channels a machine has. The first have the same numbers in both profiles.
+/// How many processors and channels a machine has. The first have the same numbers in both
+/// profiles.
 #[derive(Clone, Copy, Debug, PartialEq, Eq)]
 pub enum Profile {
     /// The 6600: ten processors, 0 to 11 (octal), and twelve channels, 0 to 13.
     Ten,
-    /// A machine of twenty processors, 0 to 11 and 20 to 31 (octal), and twenty-four channels, 0 to 13
-    /// and 20 to 33.
+    /// A machine of twenty processors, 0 to 11 and 20 to 31 (octal), and twenty-four channels, 0 to
+    /// 13 and 20 to 33.
     Twenty,
 }
 
@@ -43,8 +44,8 @@ impl Profile {
         }
     }
 
-    /// Its processor of this number, or nothing from 12 (octal) on under `Ten`, from 12 to 17 and from
-    /// 32 on under `Twenty`.
+    /// Its processor of this number, or nothing from 12 (octal) on under `Ten`, from 12 to 17 and
+    /// from 32 on under `Twenty`.
     #[tactic(auto, using(crate::proofs::ProfileLemmas::processor_named), unfolding(crate::specs::Profile::has_processor))]
     pub fn processor(self, number: u8) -> Option<PpNo>
         ensures exists { IsSome result ↔ IsTrue (has_processor self number) }
@@ -58,8 +59,8 @@ impl Profile {
         }
     }
 
-    /// Its channel of this number, or nothing from 14 (octal) on under `Ten`, from 14 to 17 and from 34
-    /// on under `Twenty`.
+    /// Its channel of this number, or nothing from 14 (octal) on under `Ten`, from 14 to 17 and
+    /// from 34 on under `Twenty`.
     #[tactic(auto, using(crate::proofs::ProfileLemmas::channels_of_ten, crate::proofs::ProfileLemmas::channels_of_twenty, crate::proofs::ProfileLemmas::small_channels))]
     pub fn channel(self, number: u8) -> Option<ChannelNo>
         ensures exists { IsSome result ↔ IsTrue (has_channel self number) }

@@ -17,8 +17,8 @@ use crate::pp_state::PpState;
 use pp_channel::{ChanOp, Channel, ChannelNo, Reply};
 use std::alloc::Allocator;
 
-/// Runs the processors of a round from a place of the barrel on, each as many steps, up to this many, as all
-/// of them can make quietly, and says how many that are.
+/// Runs the processors of a round from a place of the barrel on, each as many steps, up to this
+/// many, as all of them can make quietly, and says how many that are.
 pub(crate) fn run_ahead<A: Allocator>(
     processors: &mut Vec<Pp, A>,
     channels: &Vec<Channel<A>, A>,
@@ -32,7 +32,8 @@ pub(crate) fn run_ahead<A: Allocator>(
     requires within { place ≤ round }
     ensures most { result ≤ most }
     ensures as_many { vec_len processors.new ≡ processor_count }
-    ensures ahead { (m : MachineState) → m.histories ≡ channels.now.items → AreAhead result round place m processors.old.items processors.new.items }
+    ensures ahead { (m : MachineState) → m.histories ≡ channels.now.items
+        → AreAhead result round place m processors.old.items processors.new.items }
 {
     if most == 0 {
         return 0;
@@ -60,8 +61,10 @@ pub(crate) fn run_ahead<A: Allocator>(
 fn run_quiet_steps<A: Allocator>(pp: &mut Pp, channels: &Vec<Channel<A>, A>, most: u32) -> u32
     requires channels { vec_len channels.now ≡ channel_count }
     ensures most { result ≤ most }
-    ensures ahead { (m : MachineState) → m.histories ≡ channels.now.items → IsAhead result m pp.old pp.new }
-    ensures exact { (m : MachineState) → m.histories ≡ channels.now.items → result < most → is_quiet (need pp.new) m ≡ false }
+    ensures ahead { (m : MachineState) → m.histories ≡ channels.now.items
+        → IsAhead result m pp.old pp.new }
+    ensures exact { (m : MachineState) → m.histories ≡ channels.now.items → result < most
+        → is_quiet (need pp.new) m ≡ false }
 {
     let mut made = 0;
     while made < most {
@@ -93,13 +96,14 @@ fn run_quiet_steps<A: Allocator>(pp: &mut Pp, channels: &Vec<Channel<A>, A>, mos
     made
 }
 
-/// Makes up to this many steps of a processor, as long as each is an instruction of the codes 00 to 57
-/// (octal) or a test of flags, and says how many of them are left.
+/// Makes up to this many steps of a processor, as long as each is an instruction of the codes 00 to
+/// 57 (octal) or a test of flags, and says how many of them are left.
 #[inline(never)]
 fn run_free_steps<A: Allocator>(pp: &mut Pp, channels: &Vec<Channel<A>, A>, most: u32) -> u32
     requires channels { vec_len channels.now ≡ channel_count }
     ensures most { result ≤ most }
-    ensures ahead { (m : MachineState) → m.histories ≡ channels.now.items → IsAhead (most - result) m pp.old pp.new }
+    ensures ahead { (m : MachineState) → m.histories ≡ channels.now.items
+        → IsAhead (most - result) m pp.old pp.new }
 {
     let mut left = most;
     if !pp.is_at_instruction() {
@@ -134,10 +138,13 @@ fn shown<A: Allocator>(
     op: &ChanOp,
 ) -> Option<Reply>
     requires { vec_len channels.now ≡ channel_count }
-    ensures no_event { IsSome result → event_of op.now (slice_index_or channels.now.items (channel_index channel) []) ≡ None }
-    ensures reply { IfSome result (λ reply. reply ≡ reply_to op.now (slice_index_or channels.now.items (channel_index channel) [])) }
+    ensures no_event { IsSome result → event_of op.now
+        (slice_index_or channels.now.items (channel_index channel) []) ≡ None }
+    ensures reply { IfSome result (λ reply. reply
+        ≡ reply_to op.now (slice_index_or channels.now.items (channel_index channel) [])) }
     ensures fits { IfSome result (λ reply. IsTrue (reply_fits op.now reply)) }
-    ensures event { IsNone result → IsSome (event_of op.now (slice_index_or channels.now.items (channel_index channel) [])) }
+    ensures event { IsNone result → IsSome (event_of op.now
+        (slice_index_or channels.now.items (channel_index channel) [])) }
 {
     let channel = &channels[channel.index()];
     let made = channel.next_event(op);

@@ -23,8 +23,8 @@ fn reply_fits(operation: &ChanOp, reply: &Reply) -> bool
     }
 }
 
-/// Whether an answer fits a need: Nothing and Local go with Local, an operation on a channel with its
-/// replies, Read with Read, Write with Wrote.
+/// Whether an answer fits a need: Nothing and Local go with Local, an operation on a channel with
+/// its replies, Read with Read, Write with Wrote.
 pub fn fits(need: &Need, answer: &Answer) -> bool
     ensures { result ≡ fits need.now answer.now }
 {

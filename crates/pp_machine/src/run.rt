@@ -12,18 +12,18 @@ use crate::pp_state::PpState;
 use crate::quiet::run_ahead;
 use std::alloc::Allocator;
 
-/// How many rounds the barrel tries to make quietly at once (decimal). A window costs a copy of each
-/// running processor's memory, and one that fails all that the processors ran too far.
+/// How many rounds the barrel tries to make quietly at once (decimal). A window costs a copy of
+/// each running processor's memory, and one that fails all that the processors ran too far.
 const SHORTEST_WINDOW: u32 = 64;
 
 const LONGEST_WINDOW: u32 = 8192;
 
-/// After how many rounds of the barrel it looks again which processors are at rest (decimal): a look
-/// costs as much as some turns.
+/// After how many rounds of the barrel it looks again which processors are at rest (decimal): a
+/// look costs as much as some turns.
 const LOOK_AFTER: u32 = 512;
 
-/// How many rounds it makes turn by turn where a window failed, before it tries again: twice as many
-/// each time, but few again after this many quiet rounds that it paid (decimal).
+/// How many rounds it makes turn by turn where a window failed, before it tries again: twice as
+/// many each time, but few again after this many quiet rounds that it paid (decimal).
 const SHORTEST_PAUSE: u32 = 64;
 
 const LONGEST_PAUSE: u32 = 8192;
@@ -46,7 +46,8 @@ impl<A: Allocator> Machine<A> {
         ensures cut { IfErr result (λ c. self.new ≡ run (take c.done turns.now) self.old) }
         ensures within { IfErr result (λ c. c.done < length turns.now) }
         // A run is cut only at a step that makes an event.
-        ensures cut_at_event { IfErr result (λ c. IsSome (step_event (slice_index turns.now c.done) self.new)) }
+        ensures cut_at_event { IfErr result (λ c.
+            IsSome (step_event (slice_index turns.now c.done) self.new)) }
         ensures headline { HoldsOnEachChannel self.new }
     {
         let _sound = &self.turns;
@@ -58,14 +59,15 @@ impl<A: Allocator> Machine<A> {
         Ok(())
     }
 
-    /// Runs this many turns of the barrel from its first processor on, in rounds of ten or of twenty
-    /// by its profile. Processors at rest are passed over.
+    /// Runs this many turns of the barrel from its first processor on, in rounds of ten or of
+    /// twenty by its profile. Processors at rest are passed over.
     pub fn run_barrel(&mut self, turns: u32) -> Result<(), Cut>
         ensures ok { OnOk result (self.new ≡ run (barrel self.old.profile turns) self.old) }
         ensures cut { IfErr result (λ c. self.new ≡ run (barrel self.old.profile c.done) self.old) }
         ensures within { IfErr result (λ c. c.done < turns) }
         // A run is cut only at a step that makes an event.
-        ensures cut_at_event { IfErr result (λ c. IsSome (step_event (processor_in_turn self.old.profile c.done) self.new)) }
+        ensures cut_at_event { IfErr result (λ c.
+            IsSome (step_event (processor_in_turn self.old.profile c.done) self.new)) }
         ensures headline { HoldsOnEachChannel self.new }
     {
         let _sound = &self.turns;
@@ -90,14 +92,16 @@ impl<A: Allocator> Machine<A> {
         self.profile.processors() as u32
     }
 
-    /// This many whole rounds of the barrel, as many as can be made quietly, and the others turn by turn.
-    /// Refused, it says how many steps were done.
+    /// This many whole rounds of the barrel, as many as can be made quietly, and the others turn by
+    /// turn. Refused, it says how many steps were done.
     fn run_rounds(&mut self, rounds: u32) -> Result<(), u64>
         requires { HoldsOnEachChannel self.old }
         ensures ok { OnOk result (self.new ≡ run (whole_rounds self.old.profile rounds) self.old) }
-        ensures cut { IfErr result (λ done. self.new ≡ run (barrel self.old.profile done) self.old) }
+        ensures cut { IfErr result (λ done. self.new
+            ≡ run (barrel self.old.profile done) self.old) }
         ensures within { IfErr result (λ done. done < rounds * processors_in self.old.profile) }
-        ensures cut_at_event { IfErr result (λ done. IsSome (step_event (processor_in_turn self.old.profile done) self.new)) }
+        ensures cut_at_event { IfErr result (λ done.
+            IsSome (step_event (processor_in_turn self.old.profile done) self.new)) }
         ensures headline { HoldsOnEachChannel self.new }
     {
         let round = self.round();
@@ -146,15 +150,17 @@ impl<A: Allocator> Machine<A> {
         rounds
     }
 
-    /// This many whole rounds of the barrel, turn by turn; processors at rest are passed over. Refused, it
-    /// says how many steps were done.
+    /// This many whole rounds of the barrel, turn by turn; processors at rest are passed over.
+    /// Refused, it says how many steps were done.
     #[inline(never)]
     fn run_by_turns(&mut self, rounds: u32) -> Result<(), u64>
         requires { HoldsOnEachChannel self.old }
         ensures ok { OnOk result (self.new ≡ run (whole_rounds self.old.profile rounds) self.old) }
-        ensures cut { IfErr result (λ done. self.new ≡ run (barrel self.old.profile done) self.old) }
+        ensures cut { IfErr result (λ done. self.new
+            ≡ run (barrel self.old.profile done) self.old) }
         ensures within { IfErr result (λ done. done < rounds * processors_in self.old.profile) }
-        ensures cut_at_event { IfErr result (λ done. IsSome (step_event (processor_in_turn self.old.profile done) self.new)) }
+        ensures cut_at_event { IfErr result (λ done.
+            IsSome (step_event (processor_in_turn self.old.profile done) self.new)) }
         ensures headline { HoldsOnEachChannel self.new }
     {
         let round = self.round();
@@ -170,8 +176,8 @@ impl<A: Allocator> Machine<A> {
         Ok(())
     }
 
-    /// This many rounds of the barrel, or the first turns of one, where `next` says which processors at
-    /// rest to pass over. Refused, it says how many steps were done.
+    /// This many rounds of the barrel, or the first turns of one, where `next` says which
+    /// processors at rest to pass over. Refused, it says how many steps were done.
     #[inline(never)]
     fn run_passing(
         &mut self,
@@ -183,10 +189,13 @@ impl<A: Allocator> Machine<A> {
         requires whole { 1 < rounds → turns ≡ processors_in self.old.profile }
         requires passes { PassesOverRest next.now self.old.processors }
         requires sound { HoldsOnEachChannel self.old }
-        ensures ok { OnOk result (self.new ≡ run (barrel self.old.profile (rounds * turns)) self.old) }
-        ensures cut { IfErr result (λ done. self.new ≡ run (barrel self.old.profile done) self.old) }
+        ensures ok { OnOk result (self.new ≡ run
+            (barrel self.old.profile (rounds * turns)) self.old) }
+        ensures cut { IfErr result (λ done. self.new
+            ≡ run (barrel self.old.profile done) self.old) }
         ensures within { IfErr result (λ done. done < rounds * turns) }
-        ensures cut_at_event { IfErr result (λ done. IsSome (step_event (processor_in_turn self.old.profile done) self.new)) }
+        ensures cut_at_event { IfErr result (λ done.
+            IsSome (step_event (processor_in_turn self.old.profile done) self.new)) }
         ensures headline { HoldsOnEachChannel self.new }
     {
         let mut left = rounds;
@@ -207,9 +216,11 @@ impl<A: Allocator> Machine<A> {
         requires passes { PassesOverRest next.now self.old.processors }
         requires sound { HoldsOnEachChannel self.old }
         ensures ok { OnOk result (self.new ≡ run (barrel self.old.profile turns) self.old) }
-        ensures cut { IfErr result (λ done. self.new ≡ run (barrel self.old.profile done) self.old) }
+        ensures cut { IfErr result (λ done. self.new
+            ≡ run (barrel self.old.profile done) self.old) }
         ensures within { IfErr result (λ done. done < turns) }
-        ensures cut_at_event { IfErr result (λ done. IsSome (step_event (processor_in_turn self.old.profile done) self.new)) }
+        ensures cut_at_event { IfErr result (λ done.
+            IsSome (step_event (processor_in_turn self.old.profile done) self.new)) }
         ensures passes { PassesOverRest next.now self.new.processors }
         ensures headline { HoldsOnEachChannel self.new }
     {
@@ -232,7 +243,8 @@ impl<A: Allocator> Machine<A> {
     #[tactic(auto, using(crate::proofs::RoundLemmas::passed_to))]
     fn pass_to(&mut self, place: usize, running: usize)
         requires { RestBetween place running self.old.processors }
-        ensures ran { (profile : Profile) (m : MachineState) → running ≤ processors_in profile → self.old ≡ run (barrel profile place) m → self.new ≡ run (barrel profile running) m }
+        ensures ran { (profile : Profile) (m : MachineState) → running ≤ processors_in profile
+            → self.old ≡ run (barrel profile place) m → self.new ≡ run (barrel profile running) m }
         ensures processors { self.new.processors ≡ self.old.processors }
         ensures headline { HoldsOnEachChannel self.new }
     {

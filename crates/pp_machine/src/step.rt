@@ -36,9 +36,13 @@ impl<A: Allocator> Machine<A> {
         ensures outcome { IfOk result (λ o. o ≡ step_outcome n self.old) }
         ensures unchanged_after_memory { OnErr result (self.new ≡ self.old) }
         ensures no_event { IsNone (step_event n self.old) → IsOk result }
-        ensures at_rest { IsAtRest (processor_of n self.old) → self.new ≡ record self.old { turns = counted self.old.turns } }
-        ensures held { IfOk result (λ o. o ≡ Outcome.Held → self.new ≡ record self.old { turns = counted self.old.turns }) }
-        ensures fault_keeps { (processor_of n self.old).state ≡ PpState.Running → IsAtFault (processor_of n self.new) → KeepsMemoryAndRegisters (processor_of n self.old) (processor_of n self.new) }
+        ensures at_rest { IsAtRest (processor_of n self.old)
+            → self.new ≡ record self.old { turns = counted self.old.turns } }
+        ensures held { IfOk result (λ o. o ≡ Outcome.Held
+            → self.new ≡ record self.old { turns = counted self.old.turns }) }
+        ensures fault_keeps { (processor_of n self.old).state ≡ PpState.Running
+            → IsAtFault (processor_of n self.new)
+            → KeepsMemoryAndRegisters (processor_of n self.old) (processor_of n self.new) }
         ensures headline { HoldsOnEachChannel self.new }
     {
         match self.processors[n.index()].state() {
@@ -84,11 +88,13 @@ impl<A: Allocator> Machine<A> {
         self.step_with_answer(n, &next, d)
     }
 
-    /// The step of a processor that tests the flags of a channel, a fault where there is no such channel.
+    /// The step of a processor that tests the flags of a channel, a fault where there is no such
+    /// channel.
     #[tactic(auto, using(crate::proofs::MachineStepLemmas::stepped_by_probe, crate::proofs::MachineStepLemmas::outcome_by_probe, crate::proofs::MachineStepLemmas::stepped_alone, crate::proofs::MachineStepLemmas::outcome_alone))]
     fn test_flags(&mut self, n: PpNo, op: Opcode, d: Word6, profile: Profile)
         requires next { IsAtInstruction op d (processor_of n self.old) }
-        requires probes { need (processor_of n self.old) ≡ (if has_channel profile d then Need.Channel d ChanOp.Probe else Need.Local) }
+        requires probes { need (processor_of n self.old)
+            ≡ (if has_channel profile d then Need.Channel d ChanOp.Probe else Need.Local) }
         ensures stepped { self.new ≡ stepped n self.old }
         ensures outcome { step_outcome n self.old ≡ Outcome.Moved }
         ensures headline { HoldsOnEachChannel self.new }
@@ -138,7 +144,8 @@ impl<A: Allocator> Machine<A> {
                 Ok(Outcome::Moved)
             }
             Need::Write(address, word) => {
-                // The processor first, since no store then comes between its two looks at its block.
+                // The processor first, since no store then comes between its two looks at its
+                // block.
                 let is_within = address.get() < self.central.size();
                 self.processors[i].give_written(next, d, is_within);
                 let _written = self.central.write(address, word);
@@ -148,11 +155,12 @@ impl<A: Allocator> Machine<A> {
         }
     }
 
-    /// One operation of a processor on a channel. Most of them move a word: what they do is compiled for
-    /// each of these by itself.
+    /// One operation of a processor on a channel. Most of them move a word: what they do is
+    /// compiled for each of these by itself.
     #[inline(always)]
     fn exchange(&mut self, n: PpNo, channel: ChannelNo, op: ChanOp) -> Result<Reply, Memory>
-        ensures reply { IfOk result (λ r. Answer.Channel r ≡ answer_to (Need.Channel channel op) self.old) }
+        ensures reply { IfOk result (λ r. Answer.Channel r
+            ≡ answer_to (Need.Channel channel op) self.old) }
         ensures ok { OnOk result (self.new ≡ served n (Need.Channel channel op) self.old) }
         ensures unchanged_after_memory { OnErr result (self.new ≡ self.old) }
         ensures no_event { IsNone (event_for (Need.Channel channel op) self.old) → IsOk result }
@@ -167,7 +175,8 @@ impl<A: Allocator> Machine<A> {
     /// One operation of a processor on a channel, whatever it is.
     #[inline(always)]
     fn operate(&mut self, n: PpNo, channel: ChannelNo, op: ChanOp) -> Result<Reply, Memory>
-        ensures reply { IfOk result (λ r. Answer.Channel r ≡ answer_to (Need.Channel channel op) self.old) }
+        ensures reply { IfOk result (λ r. Answer.Channel r
+            ≡ answer_to (Need.Channel channel op) self.old) }
         ensures ok { OnOk result (self.new ≡ served n (Need.Channel channel op) self.old) }
         ensures unchanged_after_memory { OnErr result (self.new ≡ self.old) }
         ensures no_event { IsNone (event_for (Need.Channel channel op) self.old) → IsOk result }
@@ -212,10 +221,14 @@ fn make_on<A: Allocator>(
     event: Event,
 ) -> Result<Reply, Memory>
     requires channels { vec_len channels.old ≡ channel_count }
-    requires event { event_of op (slice_index_or channels.old.items (channel_index channel) []) ≡ Some event }
+    requires event { event_of op (slice_index_or channels.old.items (channel_index channel) [])
+        ≡ Some event }
     requires twelve_bits { HasTwelveBitWord event }
-    ensures reply { IfOk result (λ r. r ≡ reply_to op (slice_index_or channels.old.items (channel_index channel) [])) }
-    ensures ok { OnOk result (channels.new.items ≡ slice_set channels.old.items (channel_index channel) (history_after op (slice_index_or channels.old.items (channel_index channel) []))) }
+    ensures reply { IfOk result (λ r. r ≡ reply_to op
+        (slice_index_or channels.old.items (channel_index channel) [])) }
+    ensures ok { OnOk result (channels.new.items
+        ≡ slice_set channels.old.items (channel_index channel)
+        (history_after op (slice_index_or channels.old.items (channel_index channel) []))) }
     ensures unchanged_after_memory { OnErr result (channels.new.items ≡ channels.old.items) }
     ensures lawful { IsLawful (slice_index_or channels.new.items (channel_index channel) []) }
     ensures law { KeepsLaw (slice_index_or channels.new.items (channel_index channel) []) }

@@ -24,8 +24,8 @@ fn start(machine: &mut Machine<Global>, n: PpNo, words: &[u32]) {
     pp.start(word(0o100), Word18::ZERO);
 }
 
-/// Processor 0 activates channel 5, puts 0007 and stops; processor 1 takes it and stops. This many turns
-/// were counted before.
+/// Processor 0 activates channel 5, puts 0007 and stops; processor 1 takes it and stops. This many
+/// turns were counted before.
 fn pair(alloc: Global, turns: u64) -> Result<Machine<Global>, CentralFault> {
     let mut machine = Machine::new(alloc, Profile::Ten, 1)?;
     start(&mut machine, PpNo::at(0), &[0o7405, 0o1407, 0o7205, 0o0300]);

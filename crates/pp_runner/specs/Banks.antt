@@ -1,5 +1,5 @@
--- The banks of central memory under locks: 32 of them with 4,096 words each (decimal), which have room for central memory
--- of any size.
+-- The banks of central memory under locks: 32 of them with 4,096 words each (decimal), which have
+-- room for central memory of any size.
 use Rattle.std.specs.Prelude.{◌≡◌, ◌<◌, ◌+◌, ◌*◌, ℕ, List, length, slice_index}
 use Rattle.pp_machine.specs.Central.{IsCentralSize}
 
@@ -13,7 +13,9 @@ pub record StandsAt (address bank place : ℕ) : Type 0 where
   pub bank_is_one : bank < 32
   pub address_is : 32 * place + bank ≡ address
 
--- A bank has the words of central memory that stand in it, and 0 at each place for which central memory has none.
+-- A bank has the words of central memory that stand in it, and 0 at each place for which central
+-- memory has none.
 pub record IsBankOf (bank : ℕ) (central words : List ℕ) : Type 0 where
   pub count : length words ≡ 4096
-  pub each : (place : ℕ) → place < 4096 → slice_index words place ≡ slice_index central (32 * place + bank)
+  pub each : (place : ℕ) → place < 4096 → slice_index words place
+      ≡ slice_index central (32 * place + bank)

@@ -15,7 +15,8 @@ pub record IsKin (line other : LineState) : Type 0 where
   pub whole : other.view.whole ≡ line.view.whole
   pub table : other.table ≡ line.table
 
--- The workers of the barrel's first processors are ready to begin, each on one of these lines, which were split from one.
+-- The workers of the barrel's first processors are ready to begin, each on one of these lines,
+-- which were split from one.
 pub record AreReady (m : MachineState) (room : ℕ) (family : LineState) (lines : List LineState) : Type 0 where
   pub each : length m.processors ≡ processor_count
   pub count : length lines ≤ processor_count
@@ -30,13 +31,14 @@ pub record IsEnded {A : Type 0} (load : Processor) (size steps : ℕ) (line : Li
   pub same_line : IsSameLine line after
 
 -- one such worker, and no other
-abbrev pub IsAlone : {A : Type 0} → Processor → ℕ → ℕ → LineState → List (Worker A) → LineState → Type 0
+abbrev pub IsAlone : {A : Type 0} → Processor → ℕ → ℕ → LineState → List (Worker A) → LineState
+    → Type 0
 IsAlone load size steps line [] after = ⊥
 IsAlone load size steps line (w ∷ []) after = IsEnded load size steps line w after
 IsAlone load size steps line (w ∷ v ∷ ws) after = ⊥
 
--- The workers of these processors have ended, and so many lines of a family are one. None did or saw anything older than
--- what its family had seen when they began.
+-- The workers of these processors have ended, and so many lines of a family are one. None did or
+-- saw anything older than what its family had seen when they began.
 pub record AreEnded {A : Type 0} (loads : List Processor) (size steps count : ℕ) (family : LineState) (ws : List (Worker A)) (after : LineState) : Type 0 where
   pub workers : AreWorkers loads size steps ws
   pub log : after.log.entries ≡ logs_of ws

@@ -26,8 +26,9 @@ use Rattle.pp_runner.specs.WorkerLog.{events_in, sights_in, StandsIn}
 abbrev pub settled : LogState → List Entry
 settled log = if log.kept then log.entries else take (length log.entries - 1) log.entries
 
--- The processor is the replay of its answers, and the log tells what that replay did and saw. Each event and each look of
--- the replay has two entries at most, and there is one more while the processor is held; the log has room for the rest.
+-- The processor is the replay of its answers, and the log tells what that replay did and saw. Each
+-- event and each look of the replay has two entries at most, and there is one more while the
+-- processor is held; the log has room for the rest.
 pub record IsAtWork (load : Processor) (size steps : ℕ) (pp : Processor) (answers : List Answer) (log : LogState) : Type 0 where
   pub pp_is : pp ≡ replayed load answers
   pub all_given : given_count load answers ≡ length answers
@@ -43,13 +44,16 @@ pub record IsAtWork (load : Processor) (size steps : ℕ) (pp : Processor) (answ
 
 -- an event comes to the end of the log, a look as the log's rule says
 abbrev pub noted_as : LogState → ℕ → ℕ → Seen → LogState
-noted_as log channel number (Did e) = appended log (record { channel = channel; number = number; what = Did e })
-noted_as log channel number (Saw f) = looked log (record { channel = channel; number = number; what = Saw f })
+noted_as log channel number (Did e) =
+    appended log (record { channel = channel; number = number; what = Did e })
+noted_as log channel number (Saw f) =
+    looked log (record { channel = channel; number = number; what = Saw f })
 
 -- the log after an answer tells what the answer did or saw, and nothing else
 abbrev pub IsNoted : List ChannelSight → LogState → LogState → Type 0
 IsNoted [] before after = after ≡ before
-IsNoted (sight ∷ []) before after = (number : ℕ) × (after ≡ noted_as before sight.channel number sight.what)
+IsNoted (sight ∷ []) before after =
+    (number : ℕ) × (after ≡ noted_as before sight.channel number sight.what)
 IsNoted (sight ∷ other ∷ more) before after = ⊥
 
 -- An answer to a need, and the log before and after it.
@@ -75,7 +79,8 @@ operations (needs.Channel channel operation) = 1
 operations (needs.Read address) = 0
 operations (needs.Write address word) = 0
 
--- What one operation finds: a word, and where its exchange was lost a later one of the same channel.
+-- What one operation finds: a word, and where its exchange was lost a later one of the same
+-- channel.
 abbrev pub AreFoundByOne : List FoundWord → Type 0
 AreFoundByOne [] = ⊥
 AreFoundByOne (word ∷ []) = Unit {0}
@@ -92,7 +97,8 @@ pub record HasOperated (count : ℕ) (before after : LineState) : Type 0 where
 
 -- Only a worker that made at least as many operations as its patience has given up.
 abbrev pub GaveUpWithCause : ℕ → LineState → End → LineState → Type 0
-GaveUpWithCause patience before finish after = finish ≡ Patience → length before.view.found + patience ≤ length after.view.found
+GaveUpWithCause patience before finish after =
+    finish ≡ Patience → length before.view.found + patience ≤ length after.view.found
 
 -- Of each channel the line has seen so many events, no more than its word can count.
 pub record HasSeen (happened : ℕ → ℕ) (line : LineState) : Type 0 where
@@ -103,11 +109,12 @@ pub record HasSeen (happened : ℕ → ℕ) (line : LineState) : Type 0 where
 abbrev pub NoneOlder : (ℕ → ℕ) → List Entry → Type 0
 NoneOlder happened log = All (λ entry. happened entry.channel ≤ entry.number) log
 
--- The same line, later: it stands at the same channels, with as many shares. It has forgotten nothing, and no entry that
--- came is older than what it had seen.
+-- The same line, later: it stands at the same channels, with as many shares. It has forgotten
+-- nothing, and no entry that came is older than what it had seen.
 pub record IsSameLine (before after : LineState) : Type 0 where
   pub shares : after.view.shares ≡ before.view.shares
   pub whole : after.view.whole ≡ before.view.whole
   pub table : after.table ≡ before.table
   pub seen : (happened : ℕ → ℕ) → HasSeen happened before → HasSeen happened after
-  pub none_older : (happened : ℕ → ℕ) → HasSeen happened before → NoneOlder happened before.log.entries → NoneOlder happened after.log.entries
+  pub none_older : (happened : ℕ → ℕ) → HasSeen happened before
+      → NoneOlder happened before.log.entries → NoneOlder happened after.log.entries

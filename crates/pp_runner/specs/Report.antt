@@ -15,20 +15,24 @@ use Rattle.pp_runner.specs.WorkerReport.{AreWorkers, logs_of}
 use Rattle.pp_runner.specs.contracts.report.Report.{the_row}
 use Rattle.pp_runner.specs.declared.report.Report.{Report}
 
--- A report of a run of this machine within these limits: a worker for each processor of its profile, in their order, and the channels,
--- whose histories are lawful, keep the law of sessions, and are what the workers' logs merge to. The workers began when
--- dead start's channels were open: nothing that one did or saw is older than the opening history of its channel. A worker
--- ended as worn only at a channel whose history has as many events as its word can count. No report shows how often a
--- worker was held, so the patience is not stated.
+-- A report of a run of this machine within these limits: a worker for each processor of its
+-- profile, in their order, and the channels, whose histories are lawful, keep the law of sessions,
+-- and are what the workers' logs merge to. The workers began when dead start's channels were open:
+-- nothing that one did or saw is older than the opening history of its channel. A worker ended as
+-- worn only at a channel whose history has as many events as its word can count. No report shows
+-- how often a worker was held, so the patience is not stated.
 pub record IsReportOf {A : Type 0} (limits : RunLimits) (machine : MachineState) (report : Report A) : Type 0 where
   pub each_processor : length report.ends.items ≡ processors_in machine.profile
-  pub workers : AreWorkers (take (processors_in machine.profile) machine.processors) (length machine.central) limits.steps report.ends.items
+  pub workers : AreWorkers (take (processors_in machine.profile) machine.processors)
+      (length machine.central) limits.steps report.ends.items
   pub lawful : All IsLawful report.channels
   pub law : All KeepsLaw report.channels
   pub twelve_bits : All HasTwelveBitWords report.channels
   pub merged : Merges (λ c. opening_history c machine) report.channels (logs_of report.ends.items)
-  pub begun : All (λ entry. length (opening_history entry.channel machine) ≤ entry.number) (logs_of report.ends.items)
-  pub worn : All (λ w. WornWithCause (λ c. length (history_on c report.channels)) w.finish w.pp) report.ends.items
+  pub begun : All (λ entry. length (opening_history entry.channel machine) ≤ entry.number)
+      (logs_of report.ends.items)
+  pub worn : All (λ w. WornWithCause (λ c. length
+      (history_on c report.channels)) w.finish w.pp) report.ends.items
 
 -- a report takes less than all of memory, as is so wherever a value of it exists
 abbrev pub ReportFitsInMemory : (A : RattleType) → Ghosts A.Denot → Type 0

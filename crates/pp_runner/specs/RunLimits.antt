@@ -1,7 +1,8 @@
 -- How long each worker of a run goes on.
 use Rattle.std.specs.Prelude.{ℕ, ◌≤◌}
 
--- the steps that a worker makes at most, and how often in a row it is held at one step before it gives up
+-- the steps that a worker makes at most, and how often in a row it is held at one step before it
+-- gives up
 pub record RunLimits : Type 0 where
   pub steps : ℕ
   pub patience : ℕ

@@ -56,4 +56,5 @@ pub record IsEnd (steps : ℕ) (finish : End) (pp : Processor) (answers : List A
   pub all_steps : finish ≡ Steps → (pp.state ≡ states.Running) × (length answers ≡ steps)
   pub patience : finish ≡ Patience → HasStepsLeft steps pp answers × WasHeld pp log
   pub memory : finish ≡ Memory → HasStepsLeft steps pp answers
-  pub worn : finish ≡ Worn → HasStepsLeft steps pp answers × ((channel : ℕ) × NeedsChannel (need pp) channel)
+  pub worn : finish ≡ Worn → HasStepsLeft steps pp answers
+      × ((channel : ℕ) × NeedsChannel (need pp) channel)

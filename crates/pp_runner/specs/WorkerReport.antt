@@ -10,14 +10,16 @@ use Rattle.pp_runner.specs.WorkerEnd.{IsEnd}
 use Rattle.pp_runner.specs.WorkerLog.{events_in, sights_in, StandsIn}
 use Rattle.pp_runner.specs.declared.worker.Worker.{Worker}
 
--- A worker that began with this processor, beside central memory of this size, and was to make this many steps at most:
--- what it leaves is the replay of its answers, and its log records what that replay did and saw.
+-- A worker that began with this processor, beside central memory of this size, and was to make this
+-- many steps at most: what it leaves is the replay of its answers, and its log records what that
+-- replay did and saw.
 pub record IsWorker {A : Type 0} (load : Processor) (size steps : ℕ) (w : Worker A) : Type 0 where
   pub pp : w.pp ≡ replayed load w.answers.items
   pub all_given : given_count load w.answers.items ≡ length w.answers.items
   pub all_moved : AllMoved load w.answers.items
   pub by_size : AllBySize size load w.answers.items
-  -- the events that it made are those of the replay, each look that moved its processor stands in its log
+  -- the events that it made are those of the replay, each look that moved its processor stands in
+  -- its log
   pub events : events_in w.log.items ≡ events_given load w.answers.items
   pub sights : StandsIn (sights_given load w.answers.items) (sights_in w.log.items)
   pub rising : IsRising w.log.items

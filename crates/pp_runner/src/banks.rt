@@ -44,8 +44,8 @@ impl Location {
     }
 }
 
-/// How many numbers a bank has beside its words: with its lock it takes 128 bytes at least, so that no
-/// two banks share a cache line.
+/// How many numbers a bank has beside its words: with its lock it takes 128 bytes at least, so that
+/// no two banks share a cache line.
 const APART: usize = 12;
 
 /// One bank. Contracts see the list of its words, by place.

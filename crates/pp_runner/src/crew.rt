@@ -45,9 +45,11 @@ impl<A: Allocator> Promise<Result<Ended<A>, Memory>> for EndOf<A> {
 /// A worker after the others, and their lines as one. The last line's log alone is copied.
 fn combined<A: Allocator + Copy>(others: Crew<A>, last: Ended<A>) -> Result<Crew<A>, RunFault>
     requires { last.line.table ≡ others.line.table }
-    ensures workers { IfOk result (λ crew. crew.workers.items ≡ others.workers.items ++ last.worker ∷ []) }
+    ensures workers { IfOk result (λ crew. crew.workers.items
+        ≡ others.workers.items ++ last.worker ∷ []) }
     ensures line { IfOk result (λ crew. crew.line ≡ joined others.line last.line) }
-    ensures nothing_forgotten { IfOk result (λ crew. ForgetsNothing others.line crew.line × ForgetsNothing last.line crew.line) }
+    ensures nothing_forgotten { IfOk result (λ crew. ForgetsNothing others.line crew.line
+        × ForgetsNothing last.line crew.line) }
 {
     let Crew {
         mut workers,
@@ -71,7 +73,8 @@ fn alone<R: Wait, G: Gate, A: Allocator + Copy>(
     line: Line<A>,
 ) -> Result<Crew<A>, RunFault>
     requires { line.log ≡ empty_log (2 * site.now.limits.steps + 1) }
-    ensures { IfOk result (λ crew. IsAlone load.now site.now.central site.now.limits.steps line crew.workers.items crew.line) }
+    ensures { IfOk result (λ crew.
+        IsAlone load.now site.now.central site.now.limits.steps line crew.workers.items crew.line) }
 {
     let Ended { worker, line } = work(rt, site, gate, number, load, line)?;
     let mut workers = Vec::new(site.alloc);
@@ -79,8 +82,8 @@ fn alone<R: Wait, G: Gate, A: Allocator + Copy>(
     Ok(Crew { workers, line })
 }
 
-/// The workers of the barrel's first processors, one on each line, at once; their lines come back as
-/// one. The first works in this thread.
+/// The workers of the barrel's first processors, one on each line, at once; their lines come back
+/// as one. The first works in this thread.
 #[cycle(crew)]
 pub fn run_first<R: Threads + Wait + Sync, G: Gate + Sync, A: Allocator + Copy + Send + Sync>(
     rt: &R,
@@ -91,7 +94,9 @@ pub fn run_first<R: Threads + Wait + Sync, G: Gate + Sync, A: Allocator + Copy +
     mut lines: Vec<Line<A>, A>,
 ) -> Result<Crew<A>, RunFault>
     requires { AreReady machine.now (2 * site.now.limits.steps + 1) family.value lines.items }
-    ensures { IfOk result (λ crew. AreEnded (take (vec_len lines) machine.now.processors) site.now.central site.now.limits.steps (vec_len lines) family.value crew.workers.items crew.line) }
+    ensures { IfOk result (λ crew. AreEnded (take
+        (vec_len lines) machine.now.processors) site.now.central site.now.limits.steps
+        (vec_len lines) family.value crew.workers.items crew.line) }
 {
     if lines.len() > 1 {
         return beside(rt, site, gate, machine, family, lines);
@@ -115,13 +120,17 @@ fn beside<R: Threads + Wait + Sync, G: Gate + Sync, A: Allocator + Copy + Send +
 ) -> Result<Crew<A>, RunFault>
     requires several { 1 < vec_len lines }
     requires ready { AreReady machine.now (2 * site.now.limits.steps + 1) family.value lines.items }
-    ensures { IfOk result (λ crew. AreEnded (take (vec_len lines) machine.now.processors) site.now.central site.now.limits.steps (vec_len lines) family.value crew.workers.items crew.line) }
+    ensures { IfOk result (λ crew. AreEnded (take
+        (vec_len lines) machine.now.processors) site.now.central site.now.limits.steps
+        (vec_len lines) family.value crew.workers.items crew.line) }
 {
     thread::scope(
         thread::scope_env(),
         rt,
         |scope| -> Result<Crew<A>, RunFault>
-            requires { IsSync R.row × IsSync G.row × IsSend A.row × IsSync A.row × Frees A.Allocator A.dealloc_token × (1 < vec_len lines) × AreReady machine.now (2 * site.now.limits.steps + 1) family.value lines.items }
+            requires { IsSync R.row × IsSync G.row × IsSend A.row × IsSync A.row
+                × Frees A.Allocator A.dealloc_token × (1 < vec_len lines)
+                × AreReady machine.now (2 * site.now.limits.steps + 1) family.value lines.items }
             ensures { IfOk result (λ crew. AreEnded (take (vec_len lines) machine.entry.now.processors) site.entry.now.central site.entry.now.limits.steps (vec_len lines) family.value crew.workers.items crew.line) }
         {
             let mut others = lines;

@@ -54,7 +54,8 @@ fn ask<R: Wait, A: Allocator + Copy>(
     needed: Need,
 ) -> Result<Answer, Worn>
     requires { 1 ≤ line.old.log.room }
-    ensures answered { IfOk result (λ x. IsAnswered central.now needed x line.old.log line.new.log) }
+    ensures answered { IfOk result (λ x.
+        IsAnswered central.now needed x line.old.log line.new.log) }
     ensures acted { IfOk result (λ x. HasActed needed line.old x line.new) }
     ensures worn { OnErr result (NeedsWornChannel (λ c. seen_on c line.new.view.seen) needed) }
     ensures unchanged_when_worn { OnErr result (line.new.log ≡ line.old.log) }
@@ -78,7 +79,8 @@ impl<A: Allocator + Copy> Labour<A> {
         requires { vec_len self.old.answers < vec_capacity self.old.answers }
         ensures items { self.new.answers.items ≡ self.old.answers.items ++ (answer ∷ []) }
         ensures len { vec_len self.new.answers ≡ vec_len self.old.answers + 1 }
-        ensures line { self.new.line ≡ record self.old.line { log = record self.old.line.log { kept = true } } }
+        ensures line { self.new.line
+            ≡ record self.old.line { log = record self.old.line.log { kept = true } } }
         ensures pp { self.new.pp ≡ self.old.pp }
         ensures tries { self.new.tries ≡ self.old.tries }
     {
@@ -96,9 +98,14 @@ impl<A: Allocator + Copy> Labour<A> {
         ensures same_line { IsSameLine self.old.line self.new.line }
         ensures operated { HasOperated (operations (need self.old.pp)) self.old.line self.new.line }
         ensures tries { self.new.tries ≡ self.old.tries }
-        ensures moved { result ≡ Try.Moved → vec_len self.new.answers ≡ vec_len self.old.answers + 1 }
-        ensures held { result ≡ Try.Held → (self.new.pp ≡ self.old.pp) × (self.new.answers ≡ self.old.answers) × WasHeld self.new.pp self.new.line.log.entries }
-        ensures worn { result ≡ Try.Worn → (self.new.pp ≡ self.old.pp) × (self.new.answers ≡ self.old.answers) × NeedsWornChannel (λ c. seen_on c self.new.line.view.seen) (need self.new.pp) }
+        ensures moved { result ≡ Try.Moved → vec_len self.new.answers
+            ≡ vec_len self.old.answers + 1 }
+        ensures held { result ≡ Try.Held → (self.new.pp ≡ self.old.pp)
+            × (self.new.answers ≡ self.old.answers)
+            × WasHeld self.new.pp self.new.line.log.entries }
+        ensures worn { result ≡ Try.Worn → (self.new.pp ≡ self.old.pp)
+            × (self.new.answers ≡ self.old.answers)
+            × NeedsWornChannel (λ c. seen_on c self.new.line.view.seen) (need self.new.pp) }
     {
         let told = ask(rt, &site.central, &mut self.line, self.pp.wants());
         match &told {
@@ -114,10 +121,10 @@ impl<A: Allocator + Copy> Labour<A> {
         }
     }
 
-    /// Tries the next step until the processor moves, and answers `None` where it did. Each try is an
-    /// operation, if the step needs one; a worker gives up after just as many as its patience. A core
-    /// is given away after each 512 tries in vain (decimal), and after each one where it is the only
-    /// core.
+    /// Tries the next step until the processor moves, and answers `None` where it did. Each try is
+    /// an operation, if the step needs one; a worker gives up after just as many as its patience. A
+    /// core is given away after each 512 tries in vain (decimal), and after each one where it is
+    /// the only core.
     fn take_step<R: Wait, G: Gate>(
         &mut self,
         rt: &R,
@@ -131,14 +138,20 @@ impl<A: Allocator + Copy> Labour<A> {
         requires countable { self.old.tries + site.now.limits.patience < 2 ^ 64 }
         ensures work { IsAtWork load.now site.now.central site.now.limits.steps self.new.pp self.new.answers.items self.new.line.log }
         ensures same_line { IsSameLine self.old.line self.new.line }
-        ensures operated { HasOperated ((self.new.tries - self.old.tries) * operations (need self.old.pp)) self.old.line self.new.line }
-        ensures few_tries { (self.old.tries ≤ self.new.tries) × (self.new.tries ≤ self.old.tries + site.now.limits.patience) }
-        ensures one_step { IfSome result (λ _. (self.new.pp ≡ self.old.pp) × (self.new.answers.items ≡ self.old.answers.items)) }
-        ensures patience { IfSome result (λ finish. finish ≡ End.Patience → (self.new.tries ≡ self.old.tries + site.now.limits.patience) × HasOperated site.now.limits.patience self.old.line self.new.line) }
+        ensures operated { HasOperated ((self.new.tries - self.old.tries)
+            * operations (need self.old.pp)) self.old.line self.new.line }
+        ensures few_tries { (self.old.tries ≤ self.new.tries)
+            × (self.new.tries ≤ self.old.tries + site.now.limits.patience) }
+        ensures one_step { IfSome result (λ _. (self.new.pp ≡ self.old.pp)
+            × (self.new.answers.items ≡ self.old.answers.items)) }
+        ensures patience { IfSome result (λ finish. finish ≡ End.Patience
+            → (self.new.tries ≡ self.old.tries + site.now.limits.patience)
+            × HasOperated site.now.limits.patience self.old.line self.new.line) }
         ensures moved { IfNone result (vec_len self.new.answers ≡ vec_len self.old.answers + 1) }
         ensures few { IfSome result (λ _. vec_len self.new.answers ≤ site.now.limits.steps) }
         ensures ended { IfSome result (λ finish. IsEnd site.now.limits.steps finish self.new.pp self.new.answers.items self.new.line.log.entries) }
-        ensures worn { IfSome result (λ finish. WornWithCause (λ c. seen_on c self.new.line.view.seen) finish self.new.pp) }
+        ensures worn { IfSome result (λ finish.
+            WornWithCause (λ c. seen_on c self.new.line.view.seen) finish self.new.pp) }
     {
         if self.answers.reserve(1).is_err() {
             return Some(End::Memory);
@@ -188,7 +201,8 @@ impl<A: Allocator + Copy> Labour<A> {
 /// The end of a processor at rest.
 fn at_rest(pp: &Pp) -> Option<End>
     ensures running { IfNone result (pp.now.state ≡ PpState.Running) }
-    ensures ended { IfSome result (λ finish. (steps : ℕ) (answers : List Answer) (log : List Entry) → IsEnd steps finish pp.now answers log) }
+    ensures ended { IfSome result (λ finish. (steps : ℕ) (answers : List Answer) (log : List Entry)
+        → IsEnd steps finish pp.now answers log) }
 {
     match pp.state() {
         PpState::Running => None,
@@ -207,8 +221,10 @@ pub fn work<R: Wait, G: Gate, A: Allocator + Copy>(
     line: Line<A>,
 ) -> Result<Ended<A>, Memory>
     requires { line.log ≡ empty_log (2 * site.now.limits.steps + 1) }
-    ensures ended { IfOk result (λ ended. IsEnded load.now site.now.central site.now.limits.steps line ended.worker ended.line) }
-    ensures patience { IfOk result (λ ended. GaveUpWithCause site.now.limits.patience line ended.worker.finish ended.line) }
+    ensures ended { IfOk result (λ ended.
+        IsEnded load.now site.now.central site.now.limits.steps line ended.worker ended.line) }
+    ensures patience { IfOk result (λ ended.
+        GaveUpWithCause site.now.limits.patience line ended.worker.finish ended.line) }
 {
     // This call tells the proof that the patience has 32 bits, so that tries can be counted.
     let _patience = site.limits.patience();

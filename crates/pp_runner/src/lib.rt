@@ -1,4 +1,5 @@
-//! Processors that run at once, each in a thread of its own, over shared channels and central memory.
+//! Processors that run at once, each in a thread of its own, over shared channels and central
+//! memory.
 #![tactic(auto)]
 
 mod banks;

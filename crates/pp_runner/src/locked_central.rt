@@ -11,8 +11,8 @@ use std::alloc::Allocator;
 use std::marker::Model;
 use std::sync::{Mutex, Wait};
 
-/// Central memory in banks, a lock each. Contracts see its size alone: what a word is, other threads
-/// may change at any time.
+/// Central memory in banks, a lock each. Contracts see its size alone: what a word is, other
+/// threads may change at any time.
 #[derive(Drop)]
 pub struct LockedCentral<A: Allocator> {
     banks: Vec<Mutex<Bank<A>>, A>,

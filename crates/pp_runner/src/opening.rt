@@ -13,16 +13,18 @@ use pp_channel::{CHANNELS, ChanOp, ChannelNo, Line, Memory, open_lines};
 use pp_machine::Machine;
 use std::alloc::Allocator;
 
-/// The first line of a family of so many shares. It holds them all, and has opened the channels that
-/// dead start opened, and seen that: its log has an Activate for each, and no other event.
+/// The first line of a family of so many shares. It holds them all, and has opened the channels
+/// that dead start opened, and seen that: its log has an Activate for each, and no other event.
 pub fn opening_line<A: Allocator + Copy>(
     alloc: A,
     machine: &Machine<A>,
     shares: u32,
 ) -> Result<Line<A>, Memory>
     requires { 1 ≤ shares }
-    ensures log { IfOk result (λ line. IsOpeningLog (λ c. opening_history c machine.now) line.log.entries) }
-    ensures seen { IfOk result (λ line. HasSeen (λ c. length (opening_history c machine.now)) line) }
+    ensures log { IfOk result (λ line. IsOpeningLog
+        (λ c. opening_history c machine.now) line.log.entries) }
+    ensures seen { IfOk result (λ line. HasSeen
+        (λ c. length (opening_history c machine.now)) line) }
     ensures shares { IfOk result (λ line. line.view.shares ≡ shares) }
     ensures whole { IfOk result (λ line. line.view.whole ≡ shares) }
 {
@@ -38,13 +40,14 @@ pub fn opening_line<A: Allocator + Copy>(
     Ok(line)
 }
 
-/// The first Activate on a channel, by the line that holds all shares: no other line can come between,
-/// so it is made at once.
+/// The first Activate on a channel, by the line that holds all shares: no other line can come
+/// between, so it is made at once.
 fn activate<A: Allocator + Copy>(line: &mut Line<A>, channel: ChannelNo)
     requires room { 1 ≤ line.old.log.room }
     requires alone { line.old.view.shares ≡ line.old.view.whole }
     requires untold { times_told channel 0 line.old.log.entries ≡ 0 }
-    ensures written { line.new.log ≡ appended line.old.log (record { channel = channel; number = 0; what = Did Activate }) }
+    ensures written { line.new.log ≡ appended line.old.log
+        (record { channel = channel; number = 0; what = Did Activate }) }
     ensures within { IsWithin line.new.view.seen line.new.log.entries }
     ensures shares { line.new.view.shares ≡ line.old.view.shares }
     ensures whole { line.new.view.whole ≡ line.old.view.whole }

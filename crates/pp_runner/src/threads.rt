@@ -24,19 +24,23 @@ use std::sync::Wait;
 use std::thread;
 use std::thread::Threads;
 
-/// The line that opened the channels of the machine, and a line for each processor that was split from
-/// it. The first belongs to no processor, and keeps a share.
+/// The line that opened the channels of the machine, and a line for each processor that was split
+/// from it. The first belongs to no processor, and keeps a share.
 fn open_family<A: Allocator + Copy>(
     alloc: A,
     machine: &Machine<A>,
     room: u32,
 ) -> Result<(Line<A>, Vec<Line<A>, A>), Memory>
-    ensures each_processor { IfOk result (λ opened. vec_len opened.1 ≡ processors_in machine.now.profile) }
+    ensures each_processor { IfOk result (λ opened.
+        vec_len opened.1 ≡ processors_in machine.now.profile) }
     ensures fresh { IfOk result (λ opened. All (IsSplitFrom opened.0 room) opened.1.items) }
-    ensures opening { IfOk result (λ opened. IsOpeningLog (λ c. opening_history c machine.now) opened.0.log.entries) }
-    ensures seen { IfOk result (λ opened. HasSeen (λ c. length (opening_history c machine.now)) opened.0) }
+    ensures opening { IfOk result (λ opened.
+        IsOpeningLog (λ c. opening_history c machine.now) opened.0.log.entries) }
+    ensures seen { IfOk result (λ opened. HasSeen
+        (λ c. length (opening_history c machine.now)) opened.0) }
     ensures share { IfOk result (λ opened. opened.0.view.shares ≡ 1) }
-    ensures whole { IfOk result (λ opened. opened.0.view.whole ≡ processors_in machine.now.profile + 1) }
+    ensures whole { IfOk result (λ opened. opened.0.view.whole
+        ≡ processors_in machine.now.profile + 1) }
 {
     let processors = machine.profile().processors();
     let mut first = opening_line(alloc, machine, processors as u32 + 1)?;
@@ -47,13 +51,13 @@ fn open_family<A: Allocator + Copy>(
     Ok((first, lines))
 }
 
-/// Runs the processors of a machine at once, each on a copy of its own in a thread of its own, on new
-/// channels and a copy of central memory. The machine stays as it is. No step of it has made a
+/// Runs the processors of a machine at once, each on a copy of its own in a thread of its own, on
+/// new channels and a copy of central memory. The machine stays as it is. No step of it has made a
 /// channel event.
 ///
 /// A worker goes on until its processor is at rest, until it has made the steps of the limit, or
-/// until it is held at one step as often in a row as its patience allows. `Memory` is answered where
-/// a growth outside the workers' steps was refused, or the system could not start a worker.
+/// until it is held at one step as often in a row as its patience allows. `Memory` is answered
+/// where a growth outside the workers' steps was refused, or the system could not start a worker.
 pub fn run_threads<R: Threads + Wait + Sync, G: Gate + Sync, A: Allocator + Copy + Send + Sync>(
     rt: &R,
     alloc: A,
@@ -91,8 +95,8 @@ fn is_one_core<R: Threads>(rt: &R) -> bool {
     }
 }
 
-/// The channels of all lines: of the workers' as one, and of the one that opened channels, whose events
-/// stand in no worker's log.
+/// The channels of all lines: of the workers' as one, and of the one that opened channels, whose
+/// events stand in no worker's log.
 fn close_with<A: Allocator + Copy>(
     line: Line<A>,
     opening: Line<A>,
@@ -100,7 +104,8 @@ fn close_with<A: Allocator + Copy>(
     requires kin { opening.table ≡ line.table }
     requires all { line.view.shares + opening.view.shares ≡ line.view.whole }
     ensures closed { IfOk result (λ channels. AreClosed (joined line opening) channels) }
-    ensures nothing_forgotten { IfOk result (λ channels. ForgetsNothing line (joined line opening)) }
+    ensures nothing_forgotten { IfOk result (λ channels.
+        ForgetsNothing line (joined line opening)) }
 {
     match line.join(opening) {
         Ok(whole) => match whole.close() {

@@ -14,42 +14,59 @@ use Rattle.pp_sim.specs.declared.line_fault.LineFault.TheVariants.{Memory, Refus
 use Rattle.pp_sim.specs.declared.work.Work.{Work}
 use Rattle.pp_sim.specs.declared.work.Work.TheVariants as works
 
--- THE COMMAND LINE, as clap sees it: `ppsim barrel --turns N`, `ppsim threads --steps N --patience N`,
--- `ppsim list`, `ppsim dump --turns N` or `ppsim state --turns N`, the command and these options
--- required, and for each `--processors N`, which may be left out
+-- THE COMMAND LINE, as clap sees it: `ppsim barrel --turns N`, `ppsim threads --steps N --patience
+-- N`, `ppsim list`, `ppsim dump --turns N` or `ppsim state --turns N`, the command and these
+-- options required, and for each `--processors N`, which may be left out
 
 -- a required option whose value is a number
 abbrev pub number_option : Text → Rule
-number_option id = record (new_rule id) { long = Some id; action = Some Set; required = true; value_names = 1 }
+number_option id =
+    record (new_rule id) { long = Some id; action = Some Set; required = true; value_names = 1 }
 
 -- the option that says how many processors the machine has
 abbrev pub processors_option : Rule
-processors_option = record (new_rule (codes "processors")) { long = Some (codes "processors"); action = Some Set; value_names = 1 }
+processors_option =
+    record (new_rule (codes "processors")) {
+      long = Some (codes "processors");
+      action = Some Set;
+      value_names = 1;
+    }
 
 abbrev pub barrel : App
-barrel = with_rule (with_rule (new_app (codes "barrel")) (number_option (codes "turns"))) processors_option
+barrel =
+    with_rule (with_rule (new_app (codes "barrel"))
+    (number_option (codes "turns"))) processors_option
 
 abbrev pub threads : App
 threads =
-    with_rule (with_rule (with_rule (new_app (codes "threads")) (number_option (codes "steps"))) (number_option (codes "patience")))
+    with_rule (with_rule (with_rule (new_app (codes "threads")) (number_option (codes "steps")))
+    (number_option (codes "patience")))
     processors_option
 
 abbrev pub list : App
 list = with_rule (new_app (codes "list")) processors_option
 
 abbrev pub dump : App
-dump = with_rule (with_rule (new_app (codes "dump")) (number_option (codes "turns"))) processors_option
+dump =
+    with_rule (with_rule (new_app (codes "dump")) (number_option (codes "turns"))) processors_option
 
 abbrev pub state : App
-state = with_rule (with_rule (new_app (codes "state")) (number_option (codes "turns"))) processors_option
+state =
+    with_rule (with_rule (new_app (codes "state"))
+    (number_option (codes "turns"))) processors_option
 
 abbrev pub bare : App
-bare = record (new_app (codes "ppsim")) { top = record (new_app (codes "ppsim")).top { subcommand_required = true } }
+bare =
+    record (new_app (codes "ppsim")) {
+      top = record
+          (new_app (codes "ppsim")).top { subcommand_required = true };
+    }
 
 unfoldable pub ppsim : App
 ppsim =
     with_subcommand
-    (with_subcommand (with_subcommand (with_subcommand (with_subcommand bare barrel.top) threads.top) list.top) dump.top)
+    (with_subcommand (with_subcommand (with_subcommand
+    (with_subcommand bare barrel.top) threads.top) list.top) dump.top)
     state.top
 
 -- the kinds of refusal that clap's parse may give to the words: none where they are a command line
@@ -72,16 +89,21 @@ ReadsProfile (Some text) profile = ReadsNumber (Some text) (processors_in profil
 
 -- the command of this name, with these texts of its options, asks for this work
 abbrev pub IsWorkOf : Text → (Text → Option Text) → Work → Type 0
-IsWorkOf name text_of (works.Barrel profile turns) = (name ≡ codes "barrel") × ReadsProfile (text_of (codes "processors")) profile
+IsWorkOf name text_of (works.Barrel profile turns) =
+    (name ≡ codes "barrel") × ReadsProfile (text_of (codes "processors")) profile
     × ReadsNumber (text_of (codes "turns")) turns × (turns ≤ 999999)
-IsWorkOf name text_of (works.Threads profile limits) = (name ≡ codes "threads") × ReadsProfile (text_of (codes "processors")) profile
-    × ReadsNumber (text_of (codes "steps")) limits.steps × ReadsNumber (text_of (codes "patience")) limits.patience
+IsWorkOf name text_of (works.Threads profile limits) =
+    (name ≡ codes "threads") × ReadsProfile (text_of (codes "processors")) profile
+    × ReadsNumber (text_of (codes "steps")) limits.steps
+    × ReadsNumber (text_of (codes "patience")) limits.patience
     × AreLimits limits
 IsWorkOf name text_of (works.List profile) =
     (name ≡ codes "list") × ReadsProfile (text_of (codes "processors")) profile
-IsWorkOf name text_of (works.Dump profile turns) = (name ≡ codes "dump") × ReadsProfile (text_of (codes "processors")) profile
+IsWorkOf name text_of (works.Dump profile turns) =
+    (name ≡ codes "dump") × ReadsProfile (text_of (codes "processors")) profile
     × ReadsNumber (text_of (codes "turns")) turns × (turns ≤ 999999)
-IsWorkOf name text_of (works.State profile turns) = (name ≡ codes "state") × ReadsProfile (text_of (codes "processors")) profile
+IsWorkOf name text_of (works.State profile turns) =
+    (name ≡ codes "state") × ReadsProfile (text_of (codes "processors")) profile
     × ReadsNumber (text_of (codes "turns")) turns × (turns ≤ 999999)
 
 abbrev pub IsWorkAmong : Option (Text × List Row) → Work → Type 0
@@ -95,7 +117,8 @@ AskFor words work = IsWorkAmong (subcommand_of ppsim words) work
 -- what each answer to the words says
 abbrev pub IsRefused : List Text → LineFault → Type 0
 IsRefused words Memory = Unit {0}
-IsRefused words (Refused error) = IsAmong (kind_of error) (refusals words) × (kind_of error ≢ OutOfMemory)
+IsRefused words (Refused error) =
+    IsAmong (kind_of error) (refusals words) × (kind_of error ≢ OutOfMemory)
 IsRefused words Number = Unit {0}
 
 abbrev pub IsOutOfRange : List Text → LineFault → Type 0

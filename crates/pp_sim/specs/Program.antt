@@ -1,4 +1,5 @@
--- What a run of the program comes to, by its words, by what was read and written, and by the status that it answers.
+-- What a run of the program comes to, by its words, by what was read and written, and by the status
+-- that it answers.
 use Rattle.std.specs.Prelude.{◌≡◌, ℕ, List, [], take, Option, Result, Ok, Err, IfSome, ◌⊎◌}
 use Rattle.std.specs.Io.KnownBytes.{Appends, Keeps}
 use Rattle.clap.specs.Words.{Text, kind_of}
@@ -48,10 +49,14 @@ profile_of (works.List profile) = profile
 profile_of (works.Dump profile turns) = profile
 profile_of (works.State profile turns) = profile
 
--- the answer of a work, to the bytes that were read, and to the first bytes of a reader that tells what it has
+-- the answer of a work, to the bytes that were read, and to the first bytes of a reader that tells
+-- what it has
 pub record IsDone (Z : Type 0) (work : Work) (answer : Result (Unit {0}) TextFault) (before after old new : Option (List ℕ)) : Type 0 where
-  pub every_reader : (bytes : List ℕ) × AnswersUnless (profile_of work) (HindersWork work) (IsTextBy Z work) answer before after old new bytes
-  pub telling_reader : IfSome before (λ bytes. IsAnswerUnless (profile_of work) (HindersWork work) (IsTextBy Z work) answer (take most_bytes bytes) old new)
+  pub every_reader : (bytes : List ℕ) × AnswersUnless (profile_of work) (HindersWork work)
+      (IsTextBy Z work) answer before after old new bytes
+  pub telling_reader : IfSome before (λ bytes.
+      IsAnswerUnless (profile_of work) (HindersWork work) (IsTextBy Z work) answer
+      (take most_bytes bytes) old new)
 
 -- the status of a work that was done, or failed
 abbrev pub status_of : Result (Unit {0}) TextFault → ℕ
@@ -78,7 +83,8 @@ abbrev pub IsHelp : Error → Type 0
 IsHelp error = (kind_of error ≡ DisplayHelp) ⊎ (kind_of error ≡ DisplayVersion)
 
 -- printing a text: all of it is written, or a front of it, or nothing for want of memory
-abbrev pub IsWritten : Result (Unit {0}) TextFault → List ℕ → Option (List ℕ) → Option (List ℕ) → Type 0
+abbrev pub IsWritten : Result (Unit {0}) TextFault → List ℕ → Option (List ℕ) → Option (List ℕ)
+    → Type 0
 IsWritten (Ok done) text old new = Appends old new text
 IsWritten (Err fault.Write) text old new = AppendsFront old new text
 IsWritten (Err fault.Memory) text old new = Keeps old new
@@ -88,13 +94,18 @@ IsWritten (Err (fault.NotBetweenPrograms going_on)) text old new = ⊥
 
 -- a text was printed, or could not be, and the status is that of the answer
 abbrev pub IsPrinted : List ℕ → ℕ → Option (List ℕ) → Option (List ℕ) → Type 0
-IsPrinted text status old new = (answer : Result (Unit {0}) TextFault) × IsWritten answer text old new × (status ≡ status_of answer)
+IsPrinted text status old new =
+    (answer : Result (Unit {0}) TextFault) × IsWritten answer text old new
+    × (status ≡ status_of answer)
 
--- the status of a refusal: that of printing, where help was asked for; in all other cases nothing is printed
+-- the status of a refusal: that of printing, where help was asked for; in all other cases nothing
+-- is printed
 abbrev pub IsTold : LineFault → ℕ → Option (List ℕ) → Option (List ℕ) → Type 0
 IsTold line.Memory status old new = (status ≡ 4) × Keeps old new
 IsTold line.Number status old new = (status ≡ 2) × Keeps old new
-IsTold (line.Refused error) status old new = (IsHelp error × ((text : List ℕ) × IsPrinted text status old new)) ⊎ (¬ IsHelp error × (status ≡ 2) × Keeps old new)
+IsTold (line.Refused error) status old new =
+    (IsHelp error × ((text : List ℕ) × IsPrinted text status old new))
+    ⊎ (¬ IsHelp error × (status ≡ 2) × Keeps old new)
 
 -- the words are refused, nothing is read, and the status tells why
 pub record HasRefused (words : List Text) (status : ℕ) (before after old new : Option (List ℕ)) : Type 0 where
@@ -105,5 +116,7 @@ pub record HasRefused (words : List Text) (status : ℕ) (before after old new :
   pub told : IsTold why status old new
 
 -- THE PROGRAM: it does the work that its words ask for, or refuses them
-abbrev pub IsRun : Type 0 → List Text → ℕ → Option (List ℕ) → Option (List ℕ) → Option (List ℕ) → Option (List ℕ) → Type 0
-IsRun Z words status before after old new = HasWorked Z words status before after old new ⊎ HasRefused words status before after old new
+abbrev pub IsRun : Type 0 → List Text → ℕ → Option (List ℕ) → Option (List ℕ) → Option (List ℕ)
+    → Option (List ℕ) → Type 0
+IsRun Z words status before after old new =
+    HasWorked Z words status before after old new ⊎ HasRefused words status before after old new

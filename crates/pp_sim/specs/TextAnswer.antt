@@ -14,7 +14,8 @@ use Rattle.pp_sim.specs.declared.text_fault.TextFault.TheVariants as fault
 abbrev pub most_bytes : ℕ
 most_bytes = 1048577
 
--- the bytes are refused as a deck for a machine of this profile by this fault, which is no lack of memory
+-- the bytes are refused as a deck for a machine of this profile by this fault, which is no lack of
+-- memory
 pub record IsFaultOf (profile : Profile) (bytes : List ℕ) (f : DeckFault) : Type 0 where
   pub told : deck_meaning profile bytes ≡ Err f
   pub no_memory : f.code ≢ code.Memory
@@ -31,17 +32,25 @@ pub record IsHindered (profile : Profile) (Hinders : LoadedDeck → GoingOn → 
   pub meant : deck_meaning profile bytes ≡ Ok deck
   pub hinders : Hinders deck going_on
 
--- THE ANSWER to a deck of these bytes, for a machine of this profile, and what was written: a whole text of the deck, a first part of one, or nothing
-abbrev pub IsAnswerUnless : Profile → (LoadedDeck → GoingOn → Type 0) → (LoadedDeck → List ℕ → Type 0) → Result (Unit {0}) TextFault → List ℕ → Option (List ℕ) → Option (List ℕ) → Type 0
-IsAnswerUnless profile Hinders IsDeckText (Ok done) bytes old new = (text : List ℕ) × IsTextOf profile IsDeckText bytes text × Appends old new text
-IsAnswerUnless profile Hinders IsDeckText (Err fault.Write) bytes old new = (text : List ℕ) × IsTextOf profile IsDeckText bytes text × AppendsFront old new text
-IsAnswerUnless profile Hinders IsDeckText (Err (fault.NotBetweenPrograms going_on)) bytes old new = IsHindered profile Hinders bytes going_on × Keeps old new
-IsAnswerUnless profile Hinders IsDeckText (Err (fault.Deck f)) bytes old new = IsFaultOf profile bytes f × Keeps old new
+-- THE ANSWER to a deck of these bytes, for a machine of this profile, and what was written: a whole
+-- text of the deck, a first part of one, or nothing
+abbrev pub IsAnswerUnless : Profile → (LoadedDeck → GoingOn → Type 0)
+    → (LoadedDeck → List ℕ → Type 0) → Result (Unit {0}) TextFault → List ℕ → Option (List ℕ)
+    → Option (List ℕ) → Type 0
+IsAnswerUnless profile Hinders IsDeckText (Ok done) bytes old new =
+    (text : List ℕ) × IsTextOf profile IsDeckText bytes text × Appends old new text
+IsAnswerUnless profile Hinders IsDeckText (Err fault.Write) bytes old new =
+    (text : List ℕ) × IsTextOf profile IsDeckText bytes text × AppendsFront old new text
+IsAnswerUnless profile Hinders IsDeckText (Err (fault.NotBetweenPrograms going_on)) bytes old new =
+    IsHindered profile Hinders bytes going_on × Keeps old new
+IsAnswerUnless profile Hinders IsDeckText (Err (fault.Deck f)) bytes old new =
+    IsFaultOf profile bytes f × Keeps old new
 IsAnswerUnless profile Hinders IsDeckText (Err fault.Read) bytes old new = Keeps old new
 IsAnswerUnless profile Hinders IsDeckText (Err fault.Memory) bytes old new = Keeps old new
 
--- One call, whatever its reader is: these bytes were consumed, no more than a deck may have and one; the answer is
--- that to the deck that they spell; and where it is Ok, they were all that the reader had.
+-- One call, whatever its reader is: these bytes were consumed, no more than a deck may have and
+-- one; the answer is that to the deck that they spell; and where it is Ok, they were all that the
+-- reader had.
 pub record AnswersUnless (profile : Profile) (Hinders : LoadedDeck → GoingOn → Type 0) (IsDeckText : LoadedDeck → List ℕ → Type 0) (answer : Result (Unit {0}) TextFault) (before after old new : Option (List ℕ)) (bytes : List ℕ) : Type 0 where
   pub consumed : Consumes before after bytes
   pub bounded : length bytes ≤ most_bytes
@@ -52,10 +61,12 @@ pub record AnswersUnless (profile : Profile) (Hinders : LoadedDeck → GoingOn �
 abbrev pub Never : LoadedDeck → GoingOn → Type 0
 Never deck going_on = ⊥
 
-abbrev pub IsAnswer : Profile → (LoadedDeck → List ℕ → Type 0) → Result (Unit {0}) TextFault → List ℕ → Option (List ℕ) → Option (List ℕ) → Type 0
+abbrev pub IsAnswer : Profile → (LoadedDeck → List ℕ → Type 0) → Result (Unit {0}) TextFault
+    → List ℕ → Option (List ℕ) → Option (List ℕ) → Type 0
 IsAnswer profile IsDeckText = IsAnswerUnless profile Never IsDeckText
 
-abbrev pub AnswersTo : Profile → (LoadedDeck → List ℕ → Type 0) → Result (Unit {0}) TextFault → (before after old new : Option (List ℕ)) → List ℕ → Type 0
+abbrev pub AnswersTo : Profile → (LoadedDeck → List ℕ → Type 0) → Result (Unit {0}) TextFault
+    → (before after old new : Option (List ℕ)) → List ℕ → Type 0
 AnswersTo profile IsDeckText = AnswersUnless profile Never IsDeckText
 
 -- ---- parts of a call
@@ -69,9 +80,11 @@ IsReadFault (fault.Deck f) = ⊥
 IsReadFault (fault.NotBetweenPrograms going_on) = ⊥
 
 -- making a text fails by the deck, by what stands in its way, or for lack of memory
-abbrev pub IsRunFaultUnless : Profile → (LoadedDeck → GoingOn → Type 0) → List ℕ → TextFault → Type 0
+abbrev pub IsRunFaultUnless : Profile → (LoadedDeck → GoingOn → Type 0) → List ℕ → TextFault
+    → Type 0
 IsRunFaultUnless profile Hinders bytes (fault.Deck f) = IsFaultOf profile bytes f
-IsRunFaultUnless profile Hinders bytes (fault.NotBetweenPrograms going_on) = IsHindered profile Hinders bytes going_on
+IsRunFaultUnless profile Hinders bytes (fault.NotBetweenPrograms going_on) =
+    IsHindered profile Hinders bytes going_on
 IsRunFaultUnless profile Hinders bytes fault.Memory = Unit {0}
 IsRunFaultUnless profile Hinders bytes fault.Read = ⊥
 IsRunFaultUnless profile Hinders bytes fault.Write = ⊥

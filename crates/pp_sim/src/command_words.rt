@@ -19,7 +19,8 @@ use std::alloc::Global;
 
 /// The number in an option's text.
 fn number_of(matches: &ArgMatches<'_>, id: &str) -> Option<u32>
-    ensures { MatchOption result ((n : ℕ) → ¬ ReadsNumber (first_value (found_of matches.now) id.now) n)
+    ensures { MatchOption result ((n : ℕ) → ¬ ReadsNumber
+        (first_value (found_of matches.now) id.now) n)
         (ReadsNumber (first_value (found_of matches.now) id.now)) }
 {
     match matches.get_str(id) {
@@ -31,10 +32,11 @@ fn number_of(matches: &ArgMatches<'_>, id: &str) -> Option<u32>
     }
 }
 
-/// The profile with as many processors as the options say, if there is one; the 6600's own where they
-/// do not say it.
+/// The profile with as many processors as the options say, if there is one; the 6600's own where
+/// they do not say it.
 fn profile_of(matches: &ArgMatches<'_>) -> Option<Profile>
-    ensures { MatchOption result ((profile : Profile) → ¬ ReadsProfile (first_value (found_of matches.now) (codes "processors")) profile)
+    ensures { MatchOption result ((profile : Profile)
+        → ¬ ReadsProfile (first_value (found_of matches.now) (codes "processors")) profile)
         (ReadsProfile (first_value (found_of matches.now) (codes "processors"))) }
 {
     if matches.get_str("processors").is_none() {
@@ -77,7 +79,8 @@ fn turns_of(matches: &ArgMatches<'_>) -> Option<u32>
 
 /// The work that a command asks for, if its numbers are in range.
 fn work_of(name: &str, matches: &ArgMatches<'_>) -> Option<Work>
-    ensures { MatchOption result ((work : Work) → ¬ IsWorkOf name.now (first_value (found_of matches.now)) work)
+    ensures { MatchOption result ((work : Work)
+        → ¬ IsWorkOf name.now (first_value (found_of matches.now)) work)
         (IsWorkOf name.now (first_value (found_of matches.now))) }
 {
     if name == "barrel" {

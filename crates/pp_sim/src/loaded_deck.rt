@@ -16,7 +16,8 @@ pub(crate) fn loaded_deck<A: Allocator + Copy>(
     profile: Profile,
     bytes: &[u8],
 ) -> Result<Deck<A>, TextFault>
-    ensures ok { IfOk result (λ deck. deck_meaning profile bytes.now ≡ Ok (record { machine = deck.machine; named = deck.named })) }
+    ensures ok { IfOk result (λ deck. deck_meaning profile bytes.now
+        ≡ Ok (record { machine = deck.machine; named = deck.named })) }
     ensures fresh { IfOk result (λ deck. deck.machine.trace ≡ []) }
     ensures profile { IfOk result (λ deck. deck.machine.profile ≡ profile) }
     ensures names { IfOk result (λ deck. NamesWithin deck.machine.profile deck.named) }

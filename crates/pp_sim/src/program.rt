@@ -43,7 +43,8 @@ pub fn run_program<
     E: Write,
 >(rt: &T, alloc: A, words: &'a [&'a str], input: &mut I, output: &mut O, error: &mut E) -> u8
     requires { ReportFitsInMemory A.row A.Allocator }
-    ensures { IsRun A (map (λ s. s.now) words.entry.now) result (I.remaining input.old) (I.remaining input.new)
+    ensures { IsRun A (map (λ s. s.now) words.entry.now) result (I.remaining input.old)
+        (I.remaining input.new)
         (O.contents output.old) (O.contents output.new) }
 {
     let work = match read_words(rt.alloc(), words) {
@@ -62,7 +63,8 @@ fn do_work<T: Threads + Wait + Sync, I: Read, A: Allocator + Copy + Send + Sync,
     output: &mut O,
 ) -> Result<(), TextFault>
     requires { ReportFitsInMemory A.row A.Allocator }
-    ensures { IsDone A work result (I.remaining input.old) (I.remaining input.new) (O.contents output.old) (O.contents output.new) }
+    ensures { IsDone A work result (I.remaining input.old) (I.remaining input.new)
+        (O.contents output.old) (O.contents output.new) }
 {
     match work {
         Work::Barrel { profile, turns } => barrel_text(alloc, profile, input, output, turns),
@@ -103,7 +105,8 @@ fn show_refusal<O: Write, E: Write>(
     output: &mut O,
     error: &mut E,
 ) -> u8
-    ensures { IsTold (LineFault.Refused refusal.now) result (O.contents output.old) (O.contents output.new) }
+    ensures { IsTold (LineFault.Refused refusal.now) result (O.contents output.old)
+        (O.contents output.new) }
 {
     if refusal.use_stderr() {
         let _ = write!(error, "{refusal}");

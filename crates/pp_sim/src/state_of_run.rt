@@ -13,9 +13,9 @@ use pp_state::{printed_state, run_counting_held};
 use std::alloc::Allocator;
 use std::io::{Read, Write};
 
-/// Reads a deck for a machine of this profile, runs it in the barrel for this many turns (decimal), and
-/// writes how things stand then: the processors that the deck names, what differs from the load, and
-/// the channels.
+/// Reads a deck for a machine of this profile, runs it in the barrel for this many turns (decimal),
+/// and writes how things stand then: the processors that the deck names, what differs from the
+/// load, and the channels.
 pub fn state_text<A: Allocator + Copy, R: Read, W: Write>(
     alloc: A,
     profile: Profile,

@@ -18,11 +18,14 @@ pub(crate) fn read_front<A: Allocator, R: Read>(
     alloc: A,
     reader: &mut R,
 ) -> Result<Vec<u8, A>, TextFault>
-    ensures read { IfOk result (λ front. Consumes (R.remaining reader.old) (R.remaining reader.new) front.items) }
-    ensures end { IfOk result (λ front. length front.items < most_bytes → IsAtEnd (R.remaining reader.new)) }
+    ensures read { IfOk result (λ front. Consumes (R.remaining reader.old)
+        (R.remaining reader.new) front.items) }
+    ensures end { IfOk result (λ front. length front.items < most_bytes
+        → IsAtEnd (R.remaining reader.new)) }
     ensures bounded { IfOk result (λ front. length front.items ≤ most_bytes) }
     ensures fault { IfErr result IsReadFault }
-    ensures limit { (bytes : List ℕ) × Consumes (R.remaining reader.old) (R.remaining reader.new) bytes × (length bytes ≤ most_bytes) }
+    ensures limit { (bytes : List ℕ) × Consumes (R.remaining reader.old)
+        (R.remaining reader.new) bytes × (length bytes ≤ most_bytes) }
 {
     let mut front = Vec::new(alloc);
     let mut buffer = [0u8; 4096];
@@ -44,7 +47,8 @@ pub(crate) fn read_front<A: Allocator, R: Read>(
 pub(crate) fn write_whole<W: Write>(writer: &mut W, text: &[u8]) -> Result<(), TextFault>
     ensures ok { OnOk result (Appends (W.contents writer.old) (W.contents writer.new) text.now) }
     ensures err { IfErr result (λ fault. fault ≡ TextFault.Write) }
-    ensures front { OnErr result (AppendsFront (W.contents writer.old) (W.contents writer.new) text.now) }
+    ensures front { OnErr result (AppendsFront (W.contents writer.old)
+        (W.contents writer.new) text.now) }
 {
     if write_bytes(writer, text).is_err() {
         return Err(TextFault::Write);

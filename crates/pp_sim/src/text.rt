@@ -13,8 +13,8 @@ use pp_text::write_text;
 use std::alloc::Allocator;
 use std::io::{Read, Write};
 
-/// Reads a deck for a machine of this profile, runs it in the barrel for this many turns (decimal), and
-/// writes the text of the run.
+/// Reads a deck for a machine of this profile, runs it in the barrel for this many turns (decimal),
+/// and writes the text of the run.
 pub fn barrel_text<A: Allocator + Copy, R: Read, W: Write>(
     alloc: A,
     profile: Profile,
@@ -23,13 +23,16 @@ pub fn barrel_text<A: Allocator + Copy, R: Read, W: Write>(
     turns: u32,
 ) -> Result<(), TextFault>
     // For every reader, whatever it knows.
-    ensures every_reader { (bytes : List ℕ) × AnswersTo profile (IsBarrelText turns) result (R.remaining reader.old) (R.remaining reader.new)
+    ensures every_reader { (bytes : List ℕ) × AnswersTo profile
+        (IsBarrelText turns) result (R.remaining reader.old) (R.remaining reader.new)
         (W.contents writer.old) (W.contents writer.new) bytes }
     // For a reader that knows the bytes that it has.
-    ensures telling_reader { IfSome (R.remaining reader.old) (λ bytes. IsAnswer profile (IsBarrelText turns) result (take most_bytes bytes)
+    ensures telling_reader { IfSome (R.remaining reader.old) (λ bytes.
+        IsAnswer profile (IsBarrelText turns) result (take most_bytes bytes)
         (W.contents writer.old) (W.contents writer.new)) }
     // Every fault but Write comes before the first byte is written.
-    ensures unwritten { IfErr result (λ fault. fault ≢ TextFault.Write → Keeps (W.contents writer.old) (W.contents writer.new)) }
+    ensures unwritten { IfErr result (λ fault. fault ≢ TextFault.Write
+        → Keeps (W.contents writer.old) (W.contents writer.new)) }
 {
     let deck = read_front(alloc, reader)?;
     write_run(alloc, profile, deck.as_slice(), writer, turns)
@@ -43,7 +46,8 @@ fn write_run<A: Allocator + Copy, W: Write>(
     writer: &mut W,
     turns: u32,
 ) -> Result<(), TextFault>
-    ensures answer { IsAnswer profile (IsBarrelText turns) result deck.now (W.contents writer.old) (W.contents writer.new) }
+    ensures answer { IsAnswer profile (IsBarrelText turns) result deck.now (W.contents writer.old)
+        (W.contents writer.new) }
     ensures bounded { OnOk result (length deck.now < most_bytes) }
 {
     let mut loaded = loaded_deck(alloc, profile, deck)?;

@@ -17,11 +17,12 @@ use std::io::{Read, Write};
 use std::sync::Wait;
 use std::thread::Threads;
 
-// The allocator is the third type parameter here, as it is in `run_threads`: the checker takes over what
-// is known of a type by its place.
+// The allocator is the third type parameter here, as it is in `run_threads`: the checker takes over
+// what is known of a type by its place.
 
 /// Reads a deck for a machine of this profile, runs it with one thread per processor within these
-/// limits, and writes the text of the run. What stands in it beyond what the deck determines may differ from run to run.
+/// limits, and writes the text of the run. What stands in it beyond what the deck determines may
+/// differ from run to run.
 pub fn threads_text<T: Threads + Wait + Sync, R: Read, A: Allocator + Copy + Send + Sync, W: Write>(
     rt: &T,
     alloc: A,
@@ -33,13 +34,16 @@ pub fn threads_text<T: Threads + Wait + Sync, R: Read, A: Allocator + Copy + Sen
     // A report takes less than all of memory, as it does with every allocator that there is.
     requires { ReportFitsInMemory A.row A.Allocator }
     // For every reader, whatever it knows.
-    ensures every_reader { (bytes : List ℕ) × AnswersTo profile (IsThreadsText A limits) result (R.remaining reader.old) (R.remaining reader.new)
+    ensures every_reader { (bytes : List ℕ) × AnswersTo profile
+        (IsThreadsText A limits) result (R.remaining reader.old) (R.remaining reader.new)
         (W.contents writer.old) (W.contents writer.new) bytes }
     // For a reader that knows the bytes that it has.
-    ensures telling_reader { IfSome (R.remaining reader.old) (λ bytes. IsAnswer profile (IsThreadsText A limits) result (take most_bytes bytes)
+    ensures telling_reader { IfSome (R.remaining reader.old) (λ bytes.
+        IsAnswer profile (IsThreadsText A limits) result (take most_bytes bytes)
         (W.contents writer.old) (W.contents writer.new)) }
     // Every fault but Write comes before the first byte is written.
-    ensures unwritten { IfErr result (λ fault. fault ≢ TextFault.Write → Keeps (W.contents writer.old) (W.contents writer.new)) }
+    ensures unwritten { IfErr result (λ fault. fault ≢ TextFault.Write
+        → Keeps (W.contents writer.old) (W.contents writer.new)) }
 {
     let deck = read_front(alloc, reader)?;
     write_threads(rt, &NoGate, alloc, profile, deck.as_slice(), writer, limits)
@@ -61,7 +65,8 @@ fn write_threads<
     limits: Limits,
 ) -> Result<(), TextFault>
     requires { ReportFitsInMemory A.row A.Allocator }
-    ensures answer { IsAnswer profile (IsThreadsText A limits) result deck.now (W.contents writer.old) (W.contents writer.new) }
+    ensures answer { IsAnswer profile (IsThreadsText A limits) result deck.now
+        (W.contents writer.old) (W.contents writer.new) }
     ensures bounded { OnOk result (length deck.now < most_bytes) }
 {
     let loaded = loaded_deck(alloc, profile, deck)?;

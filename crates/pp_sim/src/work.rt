@@ -6,17 +6,17 @@ use pp_runner::Limits;
 /// The work that a command line asks for.
 #[derive(Clone, Copy, Debug, PartialEq, Eq)]
 pub enum Work {
-    /// The run of a deck in the barrel of a machine of this profile, for so many turns (decimal), 0 to
-    /// 999,999.
+    /// The run of a deck in the barrel of a machine of this profile, for so many turns (decimal), 0
+    /// to 999,999.
     Barrel { profile: Profile, turns: u32 },
     /// The run of a deck with one thread per processor of this profile, within these limits.
     Threads { profile: Profile, limits: Limits },
     /// The listing of a deck for a machine of this profile.
     List { profile: Profile },
-    /// The dump of a deck that has run in the barrel of a machine of this profile, for so many turns
-    /// (decimal), 0 to 999,999.
-    Dump { profile: Profile, turns: u32 },
-    /// How things stand after a deck has run in the barrel of a machine of this profile, for so many
+    /// The dump of a deck that has run in the barrel of a machine of this profile, for so many
     /// turns (decimal), 0 to 999,999.
+    Dump { profile: Profile, turns: u32 },
+    /// How things stand after a deck has run in the barrel of a machine of this profile, for so
+    /// many turns (decimal), 0 to 999,999.
     State { profile: Profile, turns: u32 },
 }

@@ -14,9 +14,9 @@ ghost use Rattle.pp_state.specs.StateLaw.{AreMemories, IsNew, Waits, overwritten
 ghost use Rattle.pp_state.specs.StateText.{held_text};
 
 /// What the text of a machine says: it says ` HELD ` of a processor exactly where its next step
-/// needs an operation for which its channel is not ready, which is where that step is held; the load
-/// overwritten by the words on the lines is the memory after the run, and no word on them stands at
-/// its place already; and the same of central memory.
+/// needs an operation for which its channel is not ready, which is where that step is held; the
+/// load overwritten by the words on the lines is the memory after the run, and no word on them
+/// stands at its place already; and the same of central memory.
 pub fn state_law()
     ensures waits { (n : ℕ) (m : MachineState) → length m.histories ≡ channel_count
         → HoldsOnEachChannel m → (step_outcome n m ≡ Held) ↔ Waits n m }

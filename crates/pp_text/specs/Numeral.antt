@@ -1,4 +1,5 @@
--- Printed numbers: octal fields of a fixed width, and counts in decimal. A text is a list of ASCII codes.
+-- Printed numbers: octal fields of a fixed width, and counts in decimal. A text is a list of ASCII
+-- codes.
 use Rattle.std.specs.Prelude.{◌≡◌, ℕ, zero, suc, ◌+◌, ◌-◌, ◌*◌, ◌<◌, ◌≤◌, fold, All, ◌/◌, ◌%◌, ◌^◌, List, [], ◌∷◌, ◌++◌, ◌==◌, if◌then◌else◌}
 
 -- the character of a digit, 0 to 9

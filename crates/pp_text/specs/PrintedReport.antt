@@ -1,5 +1,6 @@
--- The text of a report of a run with one thread per processor: for each channel a line for each of its events, then a
--- line for each processor that the deck names, and for each channel that has a history.
+-- The text of a report of a run with one thread per processor: for each channel a line for each of
+-- its events, then a line for each processor that the deck names, and for each channel that has a
+-- history.
 use Rattle.std.specs.Prelude.{ℕ, Bool, List, [], ◌++◌, Option, Some, None, codes, nat_lt, position, slice_get, if◌then◌else◌}
 use Rattle.std.specs.List.{enumerate_from, flat_map}
 use Rattle.pp_channel.specs.ChannelNumber.{names_channel}
@@ -20,23 +21,28 @@ use Rattle.pp_text.specs.PrintedText.{each_below, event_text, is_named, line_end
 abbrev pub log_tells : ℕ → ℕ → List Entry → Bool
 log_tells c number log = nat_lt 0 (times_told c number log)
 
--- the place of the worker in whose log the event stands: none for an opening event, else just one, since the logs merge
+-- the place of the worker in whose log the event stands: none for an opening event, else just one,
+-- since the logs merge
 abbrev pub author_place : {Z : Type 0} → ℕ → List (Worker Z) → ℕ → Option ℕ
-author_place {Z} c workers number = position (λ (worker : Worker Z). log_tells c number worker.log.items) workers
+author_place {Z} c workers number =
+    position (λ (worker : Worker Z). log_tells c number worker.log.items) workers
 
 -- `CH05 000001 PP00 PUT 0007`, by the place of its author; an opening event has no line
 abbrev pub line_by : ℕ → ℕ → Event → Option ℕ → List ℕ
 line_by c number event None = []
 line_by c number event (Some place) =
-    codes "CH" ++ octal 2 c ++ codes " " ++ decimal number ++ codes " PP" ++ octal 2 (processor_number place) ++ codes " " ++ event_text event ++ line_end
+    codes "CH" ++ octal 2 c ++ codes " " ++ decimal number ++ codes " PP"
+    ++ octal 2 (processor_number place) ++ codes " " ++ event_text event ++ line_end
 
 unfoldable pub numbered_event_line : {Z : Type 0} → ℕ → List (Worker Z) → ℕ × Event → List ℕ
-numbered_event_line c workers (number, event) = line_by c number event (author_place c workers number)
+numbered_event_line c workers (number, event) =
+    line_by c number event (author_place c workers number)
 
 -- the lines of the events of the channel with this number, where there is one
 abbrev pub channel_events : {Z : Type 0} → List (Worker Z) → List (List Event) → ℕ → List ℕ
 channel_events workers histories c =
-    if names_channel c then flat_map (numbered_event_line c workers) (enumerate_from 0 (history_on c histories)) else []
+    if names_channel c then flat_map (numbered_event_line c workers)
+    (enumerate_from 0 (history_on c histories)) else []
 
 -- ---- processors
 
@@ -54,7 +60,8 @@ worker_line n (Some worker) = processor_line n worker.pp (end_text worker.finish
 
 -- the line of the processor with this number, where the deck names it
 abbrev pub named_worker_line : {Z : Type 0} → List Bool → List (Worker Z) → ℕ → List ℕ
-named_worker_line named workers n = if is_named named n then worker_line n (slice_get workers (processor_index n)) else []
+named_worker_line named workers n =
+    if is_named named n then worker_line n (slice_get workers (processor_index n)) else []
 
 -- ---- the whole text
 

@@ -1,5 +1,6 @@
 -- The text of a run: one line for each event, for each processor that the deck names, and for each
--- channel that has a history. A text is a list of ASCII codes, and every line ends with a line feed.
+-- channel that has a history. A text is a list of ASCII codes, and every line ends with a line
+-- feed.
 use Rattle.std.specs.Prelude.{ℕ, zero, suc, Bool, false, ◌&&◌, List, [], ◌∷◌, ◌++◌, Option, Some, None, codes, slice_index_or, if◌then◌else◌}
 use Rattle.std.specs.List.{flat_map}
 use Rattle.pp_channel.specs.ChannelNumber.{names_channel}
@@ -30,7 +31,9 @@ event_text (Function word) = codes "FNC " ++ octal 4 word
 
 -- `000020 PP00 CH05 PUT 0007`
 unfoldable pub event_line : Trace → List ℕ
-event_line e = decimal e.turn ++ codes " PP" ++ octal 2 e.pp ++ codes " CH" ++ octal 2 e.channel ++ codes " " ++ event_text e.event ++ line_end
+event_line e =
+    decimal e.turn ++ codes " PP" ++ octal 2 e.pp ++ codes " CH" ++ octal 2 e.channel ++ codes " "
+    ++ event_text e.event ++ line_end
 
 abbrev pub state_text : PpState → List ℕ
 state_text Running = codes "RUNNING"
@@ -39,7 +42,9 @@ state_text (Fault number) = codes "FAULT " ++ octal 1 number
 
 -- `PP00 P=0103 A=000007 STOPPED`, with what is said of the processor last
 unfoldable pub processor_line : ℕ → Processor → List ℕ → List ℕ
-processor_line n pp said = codes "PP" ++ octal 2 n ++ codes " P=" ++ octal 4 pp.p ++ codes " A=" ++ octal 6 pp.a ++ codes " " ++ said ++ line_end
+processor_line n pp said =
+    codes "PP" ++ octal 2 n ++ codes " P=" ++ octal 4 pp.p ++ codes " A=" ++ octal 6 pp.a
+    ++ codes " " ++ said ++ line_end
 
 -- `ACTIVE FULL 0007`, by whether the channel is active and by the word that waits
 abbrev pub channel_text : Bool → Option ℕ → List ℕ
@@ -49,7 +54,9 @@ channel_text is_active None = if is_active then codes "ACTIVE EMPTY" else codes 
 -- `CH05 ACTIVE FULL 0007`, for a channel with a history
 abbrev pub channel_line : ℕ → List Event → List ℕ
 channel_line c [] = []
-channel_line c (e ∷ h) = codes "CH" ++ octal 2 c ++ codes " " ++ channel_text (active (e ∷ h)) (waiting (e ∷ h)) ++ line_end
+channel_line c (e ∷ h) =
+    codes "CH" ++ octal 2 c ++ codes " " ++ channel_text (active (e ∷ h)) (waiting (e ∷ h))
+    ++ line_end
 
 -- ---- the whole text
 
@@ -64,13 +71,18 @@ is_named named n = names_processor n && slice_index_or named (processor_index n)
 
 -- the line of the processor with this number, where the deck names it
 abbrev pub named_processor_line : List Bool → MachineState → ℕ → List ℕ
-named_processor_line named m n = if is_named named n then (let pp = processor_of n m in processor_line n pp (state_text pp.state)) else []
+named_processor_line named m n =
+    if is_named named n then (let pp = processor_of n m in
+    processor_line n pp (state_text pp.state)) else []
 
 -- the line of the channel with this number, where there is one and it has a history
 abbrev pub used_channel_line : List (List Event) → ℕ → List ℕ
-used_channel_line histories c = if names_channel c then channel_line c (history_on c histories) else []
+used_channel_line histories c =
+    if names_channel c then channel_line c (history_on c histories) else []
 
--- the text of a machine: its events in order, then the processors named and the channels used, in order of number.
--- Numbers have two octal digits.
+-- the text of a machine: its events in order, then the processors named and the channels used, in
+-- order of number. Numbers have two octal digits.
 unfoldable pub printed : List Bool → MachineState → List ℕ
-printed named m = flat_map event_line m.trace ++ each_below 0o100 (named_processor_line named m) ++ each_below 0o100 (used_channel_line m.histories)
+printed named m =
+    flat_map event_line m.trace ++ each_below 0o100 (named_processor_line named m)
+    ++ each_below 0o100 (used_channel_line m.histories)

@@ -76,9 +76,9 @@ shown_of named n report = if is_named named n then end_of n report else None
 abbrev pub HasNumberedEnds : {Z : Type 0} → Report Z → Type 0
 HasNumberedEnds report = All (λ worker. HasEndNumber worker.finish) report.ends.items
 
--- The same events on each channel, each with its number and its author; the same processors shown, each
--- with the same P, A and end; and of each channel whether anything has happened, whether it is active,
--- and the word that waits.
+-- The same events on each channel, each with its number and its author; the same processors shown,
+-- each with the same P, A and end; and of each channel whether anything has happened, whether it is
+-- active, and the word that waits.
 pub record AgreeOnReport {Y Z : Type 0} (named others : List Bool) (one : Report Y) (other : Report Z)
     : Type 0 where
   pub events : (c : ℕ) → IsTrue (names_channel c) → told_of c one ≡ told_of c other

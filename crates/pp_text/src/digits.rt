@@ -16,8 +16,8 @@ pub(crate) fn octal1(n: u8) -> [u8; 1]
     [b'0' + n % 8]
 }
 
-// Each event's line has some of these fields: octal digits are put together in one register, decimal
-// ones stand in a table.
+// Each event's line has some of these fields: octal digits are put together in one register,
+// decimal ones stand in a table.
 
 pub(crate) fn octal2(n: u8) -> [u8; 2]
     ensures { result ≡ octal 2 n }

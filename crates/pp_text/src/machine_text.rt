@@ -21,8 +21,9 @@ use std::io::Write;
 /// How many numbers two octal digits can show.
 pub(crate) const NUMBERS: u8 = 0o100;
 
-/// Writes the text of a machine, with the lines of the processors named, and flushes the writer. The
-/// text goes out in pieces, and takes no memory. Where the writer fails, the rest of the text is lost.
+/// Writes the text of a machine, with the lines of the processors named, and flushes the writer.
+/// The text goes out in pieces, and takes no memory. Where the writer fails, the rest of the text
+/// is lost.
 #[tactic(auto, unfolding(crate::specs::PrintedText::printed))]
 pub fn write_text<A: Allocator + Copy, W: Write>(
     writer: &mut W,

@@ -41,7 +41,8 @@ pub(crate) fn push_numbered_event(
     event: Event,
 )
     requires { HasRoom longest_line piece.old }
-    ensures text { piece.new ≡ piece.old ++ (codes "CH" ++ octal 2 c ++ codes " " ++ decimal number ++ codes " PP" ++ octal 2 author ++ codes " " ++ event_text event ++ line_end) }
+    ensures text { piece.new ≡ piece.old ++ (codes "CH" ++ octal 2 c ++ codes " " ++ decimal number
+        ++ codes " PP" ++ octal 2 author ++ codes " " ++ event_text event ++ line_end) }
     ensures fits { FitsItsLine (record { number = number; author = author; event = event }) }
 {
     let [c0, c1] = octal2(c.get());
@@ -81,7 +82,8 @@ fn push_event_end(piece: &mut Piece, event: Event)
 /// `000020 PP00 CH05 `
 fn event_heading(turn: u32, n: PpNo, c: ChannelNo) -> [u8; 17]
     requires { turn < 10 ^ 6 }
-    ensures text { result ≡ digits 10 6 turn ++ codes " PP" ++ octal 2 n ++ codes " CH" ++ octal 2 c ++ codes " " }
+    ensures text { result ≡ digits 10 6 turn ++ codes " PP" ++ octal 2 n ++ codes " CH" ++ octal 2 c
+        ++ codes " " }
     ensures processor { IsTrue (names_processor n) }
     ensures channel { IsTrue (names_channel c) }
 {
@@ -163,7 +165,8 @@ fn push_fault(piece: &mut Piece, number: u8)
 
 /// `PP00 P=0103 A=000007 `
 fn processor_heading(n: PpNo, pp: &Pp) -> [u8; 21]
-    ensures text { result ≡ codes "PP" ++ octal 2 n ++ codes " P=" ++ octal 4 pp.now.p ++ codes " A=" ++ octal 6 pp.now.a ++ codes " " }
+    ensures text { result ≡ codes "PP" ++ octal 2 n ++ codes " P=" ++ octal 4 pp.now.p
+        ++ codes " A=" ++ octal 6 pp.now.a ++ codes " " }
     ensures p { pp.now.p < 2 ^ 12 }
     ensures a { pp.now.a < 2 ^ 18 }
 {

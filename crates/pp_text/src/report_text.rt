@@ -29,8 +29,8 @@ use std::alloc::Allocator;
 use std::io::Write;
 
 /// Writes the text of a report, with the lines of the processors named, and flushes the writer. Who
-/// made which event is found first, and takes memory; then the text goes out in pieces, and takes none.
-/// Where the writer fails, the rest of the text is lost.
+/// made which event is found first, and takes memory; then the text goes out in pieces, and takes
+/// none. Where the writer fails, the rest of the text is lost.
 pub fn write_report<A: Allocator + Copy, W: Write>(
     alloc: A,
     writer: &mut W,

@@ -9,8 +9,8 @@ use std::io::Write;
 /// The length of the longest line (decimal).
 const LONGEST_LINE: usize = 40;
 
-/// Holds back what is printed until a piece is full, and then writes it. A writer that has failed is
-/// written to no more, and what is printed then is lost.
+/// Holds back what is printed until a piece is full, and then writes it. A writer that has failed
+/// is written to no more, and what is printed then is lost.
 #[derive(Drop)]
 pub(crate) struct TextWriter<'a, W> {
     writer: &'a mut W,

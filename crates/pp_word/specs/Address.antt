@@ -1,5 +1,6 @@
 -- Addresses of the 4096 places of a processor's memory, 0000 to 7777 (octal).
--- (Manual 60100000, peripheral processors: indexed addressing, and relative jumps forward and backward.)
+-- (Manual 60100000, peripheral processors: indexed addressing, and relative jumps forward and
+-- backward.)
 use Rattle.std.specs.Prelude.{ℕ, ◌+◌, ◌-◌, ◌%◌, nat_lt, if◌then◌else◌}
 
 -- how many places there are
@@ -16,4 +17,5 @@ indexed m x = if nat_lt (m + x) place_count then m + x else m + x - 0o7777
 
 -- a jump from p: forward by d for d 00 to 37, backward by 77 - d for d 40 to 77
 abbrev pub relative_to : ℕ → ℕ → ℕ
-relative_to p d = if nat_lt d 0o40 then (p + d) % place_count else (p + place_count - (0o77 - d)) % place_count
+relative_to p d =
+    if nat_lt d 0o40 then (p + d) % place_count else (p + place_count - (0o77 - d)) % place_count

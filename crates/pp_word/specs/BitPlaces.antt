@@ -1,6 +1,6 @@
--- Words as places that are 1 or 0; place 0 is the lowest, place 17 (decimal) the uppermost of an 18-bit word.
--- Values of d are octal, counts of places decimal.
--- (Manual 60100000, peripheral processors: SHN, LMN, LPN, SCN, LCN and their long forms.)
+-- Words as places that are 1 or 0; place 0 is the lowest, place 17 (decimal) the uppermost of an
+-- 18-bit word. Values of d are octal, counts of places decimal. (Manual 60100000, peripheral
+-- processors: SHN, LMN, LPN, SCN, LCN and their long forms.)
 use Rattle.std.specs.Prelude.{ℕ, ◌≡◌, ◌+◌, ◌-◌, ◌*◌, ◌/◌, ◌%◌, ◌<◌, ◌==◌, nat_lt, if◌then◌else◌, Bool, false, List, [], ◌∷◌, ◌++◌, map, take, drop, replicate, min, not, ◌&&◌, zero, suc, slice_index_or}
 
 -- the lowest places of a number as truth values, place 0 first

@@ -4,7 +4,9 @@ use Rattle.std.specs.Prelude.{ℕ, ◌+◌, ◌*◌, ◌/◌, ◌%◌, ◌^◌, 
 
 -- the parts of a central word
 abbrev pub parts_of : ℕ → List ℕ
-parts_of word = word / 2 ^ 48 % 2 ^ 12 ∷ word / 2 ^ 36 % 2 ^ 12 ∷ word / 2 ^ 24 % 2 ^ 12 ∷ word / 2 ^ 12 % 2 ^ 12 ∷ word % 2 ^ 12 ∷ []
+parts_of word =
+    word / 2 ^ 48 % 2 ^ 12 ∷ word / 2 ^ 36 % 2 ^ 12 ∷ word / 2 ^ 24 % 2 ^ 12
+    ∷ word / 2 ^ 12 % 2 ^ 12 ∷ word % 2 ^ 12 ∷ []
 
 -- parts put together, each to the right of those before it
 abbrev pub joined : List ℕ → ℕ

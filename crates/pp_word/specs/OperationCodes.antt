@@ -1,5 +1,5 @@
--- The table of operation codes: the upper six bits of an instruction word, in octal as in the manual.
--- (Manual 60100000, peripheral processors: list of instructions.)
+-- The table of operation codes: the upper six bits of an instruction word, in octal as in the
+-- manual. (Manual 60100000, peripheral processors: list of instructions.)
 use Rattle.std.specs.Prelude.{ℕ, Bool, true, false, List, [], ◌∷◌, slice_index_or, codes}
 use Rattle.pp_word.specs.declared.opcode.Opcode.{Opcode}
 use Rattle.pp_word.specs.declared.opcode.Opcode.TheVariants.{PSN, LJM, RJM, UJN, ZJN, NJN, PJN, MJN, SHN, LMN, LPN, SCN, LDN, LCN, ADN, SBN, LDC, ADC, LPC, LMC, PSN24, PSN25, EXN, RPN, LDD, ADD, SBD, LMD, STD, RAD, AOD, SOD, LDI, ADI, SBI, LMI, STI, RAI, AOI, SOI, LDM, ADM, SBM, LMM, STM, RAM, AOM, SOM, CRD, CRM, CWD, CWM, AJM, IJM, FJM, EJM, IAN, IAM, OAN, OAM, ACN, DCN, FAN, FNC}

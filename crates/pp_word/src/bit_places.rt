@@ -45,7 +45,8 @@ pub fn and18(a: Word18, b: Word18) -> Word18
 /// 1 in each place where just one of the words has 1.
 pub fn xor18(a: Word18, b: Word18) -> Word18
     ensures value { result ≡ exclusive_or a b }
-    ensures each_place { (i : ℕ) → i < 18 → place result i ≡ (if place a i then not (place b i) else place b i) }
+    ensures each_place { (i : ℕ) → i < 18 → place result i
+        ≡ (if place a i then not (place b i) else place b i) }
 {
     Word18::truncated(a.get() ^ b.get())
 }

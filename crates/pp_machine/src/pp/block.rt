@@ -191,8 +191,10 @@ impl Pp {
     #[inline(always)]
     pub(super) fn move_central_in(&mut self, left: Word12, place: Word12, answer: Answer)
         requires running { self.old.state ≡ PpState.Running }
-        requires block { self.old.block ≡ Some (record { kind = BlockKind.CentralIn left; place = place }) }
-        ensures { self.new ≡ answered (block_word (BlockKind.CentralIn left) place self.old) self.old answer }
+        requires block { self.old.block ≡ Some
+            (record { kind = BlockKind.CentralIn left; place = place }) }
+        ensures { self.new ≡ answered (block_word
+            (BlockKind.CentralIn left) place self.old) self.old answer }
     {
         match answer {
             Answer::Read(Some(central)) => {
@@ -209,8 +211,10 @@ impl Pp {
     #[inline(always)]
     pub(super) fn move_central_out(&mut self, left: Word12, place: Word12, answer: Answer)
         requires running { self.old.state ≡ PpState.Running }
-        requires block { self.old.block ≡ Some (record { kind = BlockKind.CentralOut left; place = place }) }
-        ensures { self.new ≡ answered (block_word (BlockKind.CentralOut left) place self.old) self.old answer }
+        requires block { self.old.block ≡ Some
+            (record { kind = BlockKind.CentralOut left; place = place }) }
+        ensures { self.new ≡ answered (block_word
+            (BlockKind.CentralOut left) place self.old) self.old answer }
     {
         match answer {
             Answer::Wrote(true) => {
@@ -226,8 +230,10 @@ impl Pp {
     #[inline(always)]
     pub(super) fn move_input(&mut self, channel: ChannelNo, place: Word12, answer: Answer)
         requires running { self.old.state ≡ PpState.Running }
-        requires block { self.old.block ≡ Some (record { kind = BlockKind.Input channel; place = place }) }
-        ensures { self.new ≡ answered (block_word (BlockKind.Input channel) place self.old) self.old answer }
+        requires block { self.old.block ≡ Some
+            (record { kind = BlockKind.Input channel; place = place }) }
+        ensures { self.new ≡ answered (block_word
+            (BlockKind.Input channel) place self.old) self.old answer }
     {
         match &answer {
             Answer::Channel(Reply::Word(word)) => {
@@ -248,8 +254,10 @@ impl Pp {
     #[inline(always)]
     pub(super) fn move_output(&mut self, channel: ChannelNo, place: Word12, answer: Answer)
         requires running { self.old.state ≡ PpState.Running }
-        requires block { self.old.block ≡ Some (record { kind = BlockKind.Output channel; place = place }) }
-        ensures { self.new ≡ answered (block_word (BlockKind.Output channel) place self.old) self.old answer }
+        requires block { self.old.block ≡ Some
+            (record { kind = BlockKind.Output channel; place = place }) }
+        ensures { self.new ≡ answered (block_word
+            (BlockKind.Output channel) place self.old) self.old answer }
     {
         match answer {
             Answer::Channel(Reply::Done) => self.count_down(BlockKind::Output { channel }, place),

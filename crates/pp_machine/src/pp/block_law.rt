@@ -17,7 +17,8 @@ impl Pp {
     }
 }
 
-/// The law of block transfers, of each processor: what a whole transfer leaves, without its single steps.
+/// The law of block transfers, of each processor: what a whole transfer leaves, without its single
+/// steps.
 pub(crate) fn block_results(pp: &Pp)
     ensures whole_input { WholeInput pp.now }
     ensures closed_input { ClosedInput pp.now }

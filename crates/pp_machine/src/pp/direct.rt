@@ -1,5 +1,5 @@
-//! The parts of a step, for the machine, which makes it without an answer in between: the instruction
-//! is decoded once.
+//! The parts of a step, for the machine, which makes it without an answer in between: the
+//! instruction is decoded once.
 
 ghost use Rattle.std.specs.Prelude.{◌≡◌, ℕ, None, IsTrue, false, if◌then◌else◌};
 ghost use Rattle.std.specs.Bool.{OnTrue, OnFalse};
@@ -24,7 +24,8 @@ use pp_word::{Opcode, Word6, Word60};
 /// Whether an operation needs nothing from outside, whatever its operands: codes 00 to 57 (octal).
 fn is_inner(op: Opcode) -> bool
     ensures inner { result ≡ is_inner op }
-    ensures local { (pp : Processor) (d : ℕ) → IsTrue result → need_of (instruction op pp d) ≡ Need.Local }
+    ensures local { (pp : Processor) (d : ℕ) → IsTrue result
+        → need_of (instruction op pp d) ≡ Need.Local }
 {
     op.code() < 0o60
 }
@@ -104,7 +105,9 @@ impl Pp {
     #[tactic(auto, unfolding(crate::specs::NeedAndEffect::need))]
     pub(crate) fn tests_flags(&self, op: Opcode, d: Word6) -> bool
         requires { IsAtInstruction op d self.now }
-        ensures { OnTrue result (need self.now ≡ (if has_channel self.now.profile d then Need.Channel d ChanOp.Probe else Need.Local)) }
+        ensures { OnTrue result (need self.now
+            ≡ (if has_channel self.now.profile d then Need.Channel d ChanOp.Probe
+            else Need.Local)) }
     {
         matches!(op, Opcode::AJM | Opcode::IJM | Opcode::FJM | Opcode::EJM)
     }
@@ -144,8 +147,8 @@ impl Pp {
         }
     }
 
-    /// Makes its next step where that needs nothing from outside, as `give` does. A call of its own, so
-    /// that no answer is made where another step is taken.
+    /// Makes its next step where that needs nothing from outside, as `give` does. A call of its
+    /// own, so that no answer is made where another step is taken.
     #[inline(never)]
     pub(crate) fn give_local(&mut self) -> Outcome
         requires fits { IsTrue (fits (need self.old) Answer.Local) }

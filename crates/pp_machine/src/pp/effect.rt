@@ -155,7 +155,8 @@ impl Pp {
 
     /// Replace add one.
     pub(super) fn replace_by_one_more(&mut self, place: Word12, words: u8)
-        ensures { self.new ≡ replaces_by_one_more self.old (record { place = place; words = words }) }
+        ensures { self.new ≡ replaces_by_one_more self.old
+            (record { place = place; words = words }) }
     {
         self.replace(
             place,
@@ -166,7 +167,8 @@ impl Pp {
 
     /// Replace subtract one.
     pub(super) fn replace_by_one_less(&mut self, place: Word12, words: u8)
-        ensures { self.new ≡ replaces_by_one_less self.old (record { place = place; words = words }) }
+        ensures { self.new ≡ replaces_by_one_less self.old
+            (record { place = place; words = words }) }
     {
         self.replace(
             place,

@@ -19,7 +19,12 @@ impl Pp {
 
     /// Starts the program at P = p with A = a, on the memory as it is.
     pub fn start(&mut self, p: Word12, a: Word18)
-        ensures { self.new ≡ record self.old { p = p; a = a; state = PpState.Running; block = None } }
+        ensures { self.new ≡ record self.old {
+          p = p;
+          a = a;
+          state = PpState.Running;
+          block = None;
+        } }
     {
         self.p = p;
         self.a = a;
@@ -27,9 +32,9 @@ impl Pp {
         self.block = None;
     }
 
-    /// Lets it wait for a program that comes on a channel: a block input of 10000 words to its memory
-    /// from place 0000 on (octal), with P = 0000, on the memory as it is. Once the channel is inactive
-    /// it goes on after the place whose number stands in place 0000.
+    /// Lets it wait for a program that comes on a channel: a block input of 10000 words to its
+    /// memory from place 0000 on (octal), with P = 0000, on the memory as it is. Once the channel
+    /// is inactive it goes on after the place whose number stands in place 0000.
     pub fn wait_load(&mut self, ch: ChannelNo)
         ensures { self.new ≡ waiting_on ch self.old }
     {

@@ -45,7 +45,8 @@ impl Pp {
         requires free { self.old.block ≡ None }
         requires fits { fits (need_of (instruction op self.old d)) Answer.Local ≡ true }
         ensures answered { self.new ≡ answered (instruction op self.old d) self.old Answer.Local }
-        ensures running { IsTrue (is_inner op) → ends op d ≡ false → self.new.state ≡ PpState.Running }
+        ensures running { IsTrue (is_inner op) → ends op d ≡ false
+            → self.new.state ≡ PpState.Running }
         ensures free { IsTrue (is_inner op) → self.new.block ≡ None }
     {
         match op {

@@ -64,8 +64,10 @@ impl Pp {
     pub(super) fn run_instruction(&mut self, answer: Answer)
         requires running { self.old.state ≡ PpState.Running }
         requires free { self.old.block ≡ None }
-        requires fits { fits (need_of (instruction (operation self.old) self.old (lower_six self.old))) answer ≡ true }
-        ensures { self.new ≡ answered (instruction (operation self.old) self.old (lower_six self.old)) self.old answer }
+        requires fits { fits (need_of (instruction (operation self.old) self.old
+            (lower_six self.old))) answer ≡ true }
+        ensures { self.new ≡ answered (instruction (operation self.old) self.old
+            (lower_six self.old)) self.old answer }
     {
         let (op, d) = self.instruction();
         match answer {

@@ -21,7 +21,8 @@ use pp_word::{Opcode, Word6, Word12};
 impl Pp {
     /// The need of an operation on channel d: local where there is no such channel.
     fn channel_need(&self, d: Word6, operation: ChanOp) -> Need
-        ensures { result ≡ (if has_channel self.now.profile d then Need.Channel d operation else Need.Local) }
+        ensures { result ≡ (if has_channel self.now.profile d then Need.Channel d operation
+            else Need.Local) }
     {
         match self.channel(d) {
             Some(channel) => Need::Channel(channel, operation),
@@ -98,7 +99,8 @@ impl Pp {
         ensures held_by_channel { result ≡ Outcome.Held → IsHeldAnswer answer }
         ensures at_rest_unless_running { (result ≡ Outcome.AtRest) ↔ IsAtRest self.old }
         ensures rest_changes_nothing { IsAtRest self.old → self.new ≡ self.old }
-        ensures fault_keeps { self.old.state ≡ PpState.Running → IsAtFault self.new → KeepsMemoryAndRegisters self.old self.new }
+        ensures fault_keeps { self.old.state ≡ PpState.Running → IsAtFault self.new
+            → KeepsMemoryAndRegisters self.old self.new }
     {
         self.advance(answer)
     }
