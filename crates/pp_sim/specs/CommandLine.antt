@@ -16,7 +16,7 @@ use Rattle.pp_sim.specs.declared.work.Work.TheVariants as works
 
 -- THE COMMAND LINE, as clap sees it: `ppsim barrel --turns N`, `ppsim threads --steps N --patience
 -- N`, `ppsim list`, `ppsim dump --turns N` or `ppsim state --turns N`, the command and these
--- options required, and for each `--processors N`, which may be left out
+-- options required, and for each `--processors N`, which may be left out; or `ppsim --version`
 
 -- a required option whose value is a number
 abbrev pub number_option : Text → Rule
@@ -59,7 +59,7 @@ abbrev pub bare : App
 bare =
     record (new_app (codes "ppsim")) {
       top = record
-          (new_app (codes "ppsim")).top { subcommand_required = true };
+          (new_app (codes "ppsim")).top { has_version = true; subcommand_required = true };
     }
 
 unfoldable pub ppsim : App

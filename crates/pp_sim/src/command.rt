@@ -11,6 +11,46 @@ use std::alloc::{AllocError, Global};
 
 const ABOUT: &str = "Simulates the peripheral processors and data channels of a Control Data 6600";
 
+/// The version of the program, and the toolchain with which it is proved and built.
+const VERSION: &str = "1.0 (rattle-kit-13b logic dac8208d650f15bf)";
+
+const MANUAL: &str = "\
+A deck has these lines. All its numbers are octal:
+  CENTRAL 10000     the size of central memory; only as the first line
+  PP 0              what follows is for processor 0
+  0100 1405 0300    stores these words from address 0100 on
+  START 0100        the processor starts at 0100, with A = 0; START 0100 7 starts it with A = 7
+  CM 20 1 2         stores these central words from address 20 on
+  DEAD              the processors without a section wait for their programs
+  * and the rest of a line is a comment
+
+A deck with a fault is refused, as in 'ppsim: deck fault 4 at line 3':
+  1  it is longer than 1048576 bytes (decimal)
+  2  a byte is not ASCII
+  3  no such line, or too few or too many fields
+  4  not a number of that many octal digits
+  5  no such processor
+  6  words or START before the first PP line
+  7  a word past address 7777
+  8  the size of central memory, or a central word, is out of range
+  9  out of memory, printed as 'ppsim: out of memory'
+
+The exit status is 0 when the work is done or help was asked for, 1 when the deck is refused, 2 when
+the command line is, 3 after a read or write fault, and 4 when memory runs out.
+
+The pages docs/TUTORIAL.md, docs/MACHINE.md (the instructions), docs/DECK.md and docs/OUTPUT.md of
+the repository say more.
+
+Example:
+  ppsim barrel --turns 40 < handoff.deck
+where handoff.deck has the lines
+  PP 0
+  0100 7405 1407 7205 0300
+  START 0100
+  PP 1
+  0200 7005 0300
+  START 0200";
+
 const EXAMPLE: &str = "\
 Example:
   ppsim barrel --turns 40 < handoff.deck
@@ -26,7 +66,7 @@ const BARREL_ABOUT: &str = "Runs a deck in the barrel, one step a turn, and prin
 
 const BARREL_LONG_ABOUT: &str = "\
 Runs a deck in the barrel: processors 0, 1, .. and 11 (octal) take one step a turn, again and again;
-of twenty processors, 20, 21, .. and 31 come behind them in each round.
+of twenty processors, 20, 21, .. and 31 follow them in each round.
 
 Reads the deck from standard input. Prints to standard output a line for each channel event, in
 order; the P, the A and the state of each processor that the deck names; and the state of each
@@ -44,8 +84,9 @@ const THREADS_LONG_ABOUT: &str = "\
 Runs a deck with one thread per processor, all at once. Each goes on at its own speed, so the
 order of events on different channels, and sometimes the events themselves, differ from run to run.
 
-A processor ends where its program stops or faults, after its steps are done (STEPS), or where a
-channel held one step too often in a row (PATIENCE).
+A processor ends when its program stops or faults, when its steps are done (STEPS), or when a
+channel has held one step too often in a row (PATIENCE). 1000000 is a good patience. A processor
+that waits for ever makes all these tries, in about a second; at the greatest patience in hours.
 
 Reads the deck from standard input. Prints to standard output, channel by channel, a line for each
 event in order; the P, the A and the end of each processor that the deck names; and the state of
@@ -53,6 +94,17 @@ each channel that has a history. A fault is one line on standard error.
 
 Where the deck has a line DEAD, the processors without a section wait for their programs, each on
 the channel of its own number, as at a dead start.";
+
+const THREADS_EXAMPLE: &str = "\
+Example:
+  ppsim threads --steps 100 --patience 1000000 < handoff.deck
+where handoff.deck has the lines
+  PP 0
+  0100 7405 1407 7205 0300
+  START 0100
+  PP 1
+  0200 7005 0300
+  START 0200";
 
 const LIST_ABOUT: &str =
     "Prints the listing of a deck, one instruction a line, which is itself a deck";
@@ -67,6 +119,22 @@ deck names. A fault is one line on standard error.
 
 The listing is itself a deck, and loads the same machine, where it is no longer than a deck may be,
 1048576 bytes (decimal).";
+
+const LIST_EXAMPLE: &str = "\
+Example:
+  ppsim list < four.deck
+where four.deck has the lines
+  PP 0
+  0100 1405 1603 3450 0300
+  START 0100";
+
+const DUMP_EXAMPLE: &str = "\
+Example:
+  ppsim dump --turns 40 < four.deck
+where four.deck has the lines
+  PP 0
+  0100 1405 1603 3450 0300
+  START 0100";
 
 const DUMP_ABOUT: &str = "Runs a deck in the barrel, and prints a deck to go on from";
 
@@ -91,6 +159,14 @@ names, its P, its A and its state, the instruction at P, the next place of a blo
 where its next step is held, by which channel and how many of its last steps in a row were; then the
 words of processors and of central memory that differ from those loaded, as lines of a deck; and the
 state of each channel that has a history. A fault is one line on standard error.";
+
+const STATE_EXAMPLE: &str = "\
+Example:
+  ppsim state --turns 40 < four.deck
+where four.deck has the lines
+  PP 0
+  0100 1405 1603 3450 0300
+  START 0100";
 
 /// A required option whose value is a number.
 fn number_option<'a>(alloc: Global, id: &'a str, help: &'a str) -> Arg<'a>
@@ -152,7 +228,8 @@ fn threads_command<'a>(alloc: Global) -> Result<Command<'a>, AllocError>
 {
     let command = Command::new(alloc, "threads")
         .about(THREADS_ABOUT)
-        .long_about(THREADS_LONG_ABOUT);
+        .long_about(THREADS_LONG_ABOUT)
+        .after_help(THREADS_EXAMPLE);
     let command = with_number(alloc, command, "steps", STEPS)?;
     let command = with_number(alloc, command, "patience", PATIENCE)?;
     command.arg(processors_option(alloc))
@@ -165,7 +242,8 @@ fn list_command<'a>(alloc: Global) -> Result<Command<'a>, AllocError>
 {
     let command = Command::new(alloc, "list")
         .about(LIST_ABOUT)
-        .long_about(LIST_LONG_ABOUT);
+        .long_about(LIST_LONG_ABOUT)
+        .after_help(LIST_EXAMPLE);
     command.arg(processors_option(alloc))
 }
 
@@ -176,7 +254,8 @@ fn dump_command<'a>(alloc: Global) -> Result<Command<'a>, AllocError>
 {
     let command = Command::new(alloc, "dump")
         .about(DUMP_ABOUT)
-        .long_about(DUMP_LONG_ABOUT);
+        .long_about(DUMP_LONG_ABOUT)
+        .after_help(DUMP_EXAMPLE);
     let command = with_number(alloc, command, "turns", TURNS)?;
     command.arg(processors_option(alloc))
 }
@@ -188,7 +267,8 @@ fn state_command<'a>(alloc: Global) -> Result<Command<'a>, AllocError>
 {
     let command = Command::new(alloc, "state")
         .about(STATE_ABOUT)
-        .long_about(STATE_LONG_ABOUT);
+        .long_about(STATE_LONG_ABOUT)
+        .after_help(STATE_EXAMPLE);
     let command = with_number(alloc, command, "turns", TURNS)?;
     command.arg(processors_option(alloc))
 }
@@ -205,7 +285,9 @@ pub(crate) fn command<'a>(alloc: Global) -> Result<Command<'a>, AllocError>
     let state = state_command(alloc)?;
     let bare = Command::new(alloc, "ppsim")
         .about(ABOUT)
+        .version(VERSION)
         .after_help(EXAMPLE)
+        .after_long_help(MANUAL)
         .subcommand_required(true);
     let runs = bare.subcommand(barrel)?.subcommand(threads)?;
     let texts = runs.subcommand(list)?;

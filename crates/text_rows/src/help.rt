@@ -22,7 +22,64 @@ Commands:
   help     Print this message or the help of the given subcommand(s)
 
 Options:
-  -h, --help  Print help
+  -h, --help
+          Print help (see a summary with '-h')
+
+  -V, --version
+          Print version
+
+A deck has these lines. All its numbers are octal:
+  CENTRAL 10000     the size of central memory; only as the first line
+  PP 0              what follows is for processor 0
+  0100 1405 0300    stores these words from address 0100 on
+  START 0100        the processor starts at 0100, with A = 0; START 0100 7 starts it with A = 7
+  CM 20 1 2         stores these central words from address 20 on
+  DEAD              the processors without a section wait for their programs
+  * and the rest of a line is a comment
+
+A deck with a fault is refused, as in 'ppsim: deck fault 4 at line 3':
+  1  it is longer than 1048576 bytes (decimal)
+  2  a byte is not ASCII
+  3  no such line, or too few or too many fields
+  4  not a number of that many octal digits
+  5  no such processor
+  6  words or START before the first PP line
+  7  a word past address 7777
+  8  the size of central memory, or a central word, is out of range
+  9  out of memory, printed as 'ppsim: out of memory'
+
+The exit status is 0 when the work is done or help was asked for, 1 when the deck is refused, 2 when
+the command line is, 3 after a read or write fault, and 4 when memory runs out.
+
+The pages docs/TUTORIAL.md, docs/MACHINE.md (the instructions), docs/DECK.md and docs/OUTPUT.md of
+the repository say more.
+
+Example:
+  ppsim barrel --turns 40 < handoff.deck
+where handoff.deck has the lines
+  PP 0
+  0100 7405 1407 7205 0300
+  START 0100
+  PP 1
+  0200 7005 0300
+  START 0200
+";
+
+const PROGRAM_IN_SHORT: &str = "\
+Simulates the peripheral processors and data channels of a Control Data 6600
+
+Usage: ppsim <COMMAND>
+
+Commands:
+  barrel   Runs a deck in the barrel, one step a turn, and prints what happened
+  threads  Runs a deck with one thread per processor, and prints what happened
+  list     Prints the listing of a deck, one instruction a line, which is itself a deck
+  dump     Runs a deck in the barrel, and prints a deck to go on from
+  help     Print this message or the help of the given subcommand(s)
+
+Options:
+  -h, --help     Print help (see more with '--help')
+  -V, --version  Print version
 
 Example:
   ppsim barrel --turns 40 < handoff.deck
@@ -37,7 +94,7 @@ where handoff.deck has the lines
 
 const BARREL: &str = "\
 Runs a deck in the barrel: processors 0, 1, .. and 11 (octal) take one step a turn, again and again;
-of twenty processors, 20, 21, .. and 31 come behind them in each round.
+of twenty processors, 20, 21, .. and 31 follow them in each round.
 
 Reads the deck from standard input. Prints to standard output a line for each channel event, in
 order; the P, the A and the state of each processor that the deck names; and the state of each
@@ -94,8 +151,9 @@ const THREADS: &str = "\
 Runs a deck with one thread per processor, all at once. Each goes on at its own speed, so the
 order of events on different channels, and sometimes the events themselves, differ from run to run.
 
-A processor ends where its program stops or faults, after its steps are done (STEPS), or where a
-channel held one step too often in a row (PATIENCE).
+A processor ends when its program stops or faults, when its steps are done (STEPS), or when a
+channel has held one step too often in a row (PATIENCE). 1000000 is a good patience. A processor
+that waits for ever makes all these tries, in about a second; at the greatest patience in hours.
 
 Reads the deck from standard input. Prints to standard output, channel by channel, a line for each
 event in order; the P, the A and the end of each processor that the deck names; and the state of
@@ -118,6 +176,16 @@ Options:
 
   -h, --help
           Print help (see a summary with '-h')
+
+Example:
+  ppsim threads --steps 100 --patience 1000000 < handoff.deck
+where handoff.deck has the lines
+  PP 0
+  0100 7405 1407 7205 0300
+  START 0100
+  PP 1
+  0200 7005 0300
+  START 0200
 ";
 
 const THREADS_IN_SHORT: &str = "\
@@ -130,6 +198,16 @@ Options:
       --patience <N>    How often in a row a channel may hold a step, 1 to 4294967295 (decimal)
       --processors <N>  How many processors the machine has, 10 or 20 (decimal); 10 if not given
   -h, --help            Print help (see more with '--help')
+
+Example:
+  ppsim threads --steps 100 --patience 1000000 < handoff.deck
+where handoff.deck has the lines
+  PP 0
+  0100 7405 1407 7205 0300
+  START 0100
+  PP 1
+  0200 7005 0300
+  START 0200
 ";
 
 const LIST: &str = "\
@@ -151,6 +229,13 @@ Options:
 
   -h, --help
           Print help (see a summary with '-h')
+
+Example:
+  ppsim list < four.deck
+where four.deck has the lines
+  PP 0
+  0100 1405 1603 3450 0300
+  START 0100
 ";
 
 const LIST_IN_SHORT: &str = "\
@@ -161,6 +246,13 @@ Usage: ppsim list [OPTIONS]
 Options:
       --processors <N>  How many processors the machine has, 10 or 20 (decimal); 10 if not given
   -h, --help            Print help (see more with '--help')
+
+Example:
+  ppsim list < four.deck
+where four.deck has the lines
+  PP 0
+  0100 1405 1603 3450 0300
+  START 0100
 ";
 
 const DUMP: &str = "\
@@ -184,6 +276,13 @@ Options:
 
   -h, --help
           Print help (see a summary with '-h')
+
+Example:
+  ppsim dump --turns 40 < four.deck
+where four.deck has the lines
+  PP 0
+  0100 1405 1603 3450 0300
+  START 0100
 ";
 
 const DUMP_IN_SHORT: &str = "\
@@ -195,6 +294,13 @@ Options:
       --turns <N>       How many turns to run, 0 to 999999 (decimal)
       --processors <N>  How many processors the machine has, 10 or 20 (decimal); 10 if not given
   -h, --help            Print help (see more with '--help')
+
+Example:
+  ppsim dump --turns 40 < four.deck
+where four.deck has the lines
+  PP 0
+  0100 1405 1603 3450 0300
+  START 0100
 ";
 
 const STATE: &str = "\
@@ -218,6 +324,13 @@ Options:
 
   -h, --help
           Print help (see a summary with '-h')
+
+Example:
+  ppsim state --turns 40 < four.deck
+where four.deck has the lines
+  PP 0
+  0100 1405 1603 3450 0300
+  START 0100
 ";
 
 const STATE_IN_SHORT: &str = "\
@@ -229,13 +342,24 @@ Options:
       --turns <N>       How many turns to run, 0 to 999999 (decimal)
       --processors <N>  How many processors the machine has, 10 or 20 (decimal); 10 if not given
   -h, --help            Print help (see more with '--help')
+
+Example:
+  ppsim state --turns 40 < four.deck
+where four.deck has the lines
+  PP 0
+  0100 1405 1603 3450 0300
+  START 0100
 ";
 
-/// Words that ask for help, each with its text.
-const HELP: [(&[&str], &str); 18] = [
+const VERSION: &str = "ppsim 1.0 (rattle-kit-13b logic dac8208d650f15bf)\n";
+
+/// Words that ask for help or for the version, each with its text.
+const HELP: [(&[&str], &str); 20] = [
     (&["ppsim", "--help"], PROGRAM),
-    (&["ppsim", "-h"], PROGRAM),
+    (&["ppsim", "-h"], PROGRAM_IN_SHORT),
     (&["ppsim", "help"], PROGRAM),
+    (&["ppsim", "--version"], VERSION),
+    (&["ppsim", "-V"], VERSION),
     (&["ppsim", "barrel", "--help"], BARREL),
     (&["ppsim", "help", "barrel"], BARREL),
     (&["ppsim", "barrel", "-h"], BARREL_IN_SHORT),
@@ -308,12 +432,56 @@ fn example_of<R: AllocGlobal + Threads + Wait + Sync>(
     printed(rt, &command, &deck)
 }
 
+/// Calls for help, each with what the example in it prints.
+const EXAMPLES: [(&[&str], &str); 6] = [
+    (&["ppsim", "--help"], HANDOFF_TEXT),
+    (&["ppsim", "barrel", "--help"], HANDOFF_TEXT),
+    (&["ppsim", "threads", "--help"], HANDOFF_BY_THREADS),
+    (&["ppsim", "list", "--help"], LISTING_OF_FOUR),
+    (&["ppsim", "dump", "--help"], DUMP_OF_FOUR),
+    (&["ppsim", "state", "--help"], STATE_OF_FOUR),
+];
+
+const HANDOFF_BY_THREADS: &str = "\
+CH05 000000 PP00 ACN
+CH05 000001 PP00 PUT 0007
+CH05 000002 PP01 TAK 0007
+PP00 P=0103 A=000007 STOPPED
+PP01 P=0201 A=000007 STOPPED
+CH05 ACTIVE EMPTY
+";
+
+const LISTING_OF_FOUR: &str = "\
+CENTRAL 10000
+PP 0
+0100 1405           * LDN 05
+0101 1603           * ADN 03
+0102 3450           * STD 50
+0103 0300           * UJN 0103
+START 0100 000000
+";
+
+const DUMP_OF_FOUR: &str = "\
+CENTRAL 10000
+PP 0
+0050 0010           * PSN 10
+0100 1405           * LDN 05
+0101 1603           * ADN 03
+0102 3450           * STD 50
+0103 0300           * UJN 0103
+";
+
+const STATE_OF_FOUR: &str = "\
+PP00 P=0103 A=000010 STOPPED UJN 0103
+PP 0
+0050 0010
+";
+
 #[test]
-fn the_example_runs(rt: HostRuntime) -> Result<(), Fail> {
-    let calls: [&[&str]; 2] = [&["ppsim", "--help"], &["ppsim", "barrel", "--help"]];
-    for words in calls {
+fn the_examples_run(rt: HostRuntime) -> Result<(), Fail> {
+    for (words, expected) in EXAMPLES {
         let text = example_of(&rt, words)?;
-        assert_eq!(rt; text.as_str(), HANDOFF_TEXT);
+        assert_eq!(rt; text.as_str(), expected);
     }
     Ok(())
 }
