@@ -12,7 +12,8 @@ use pp_machine::PpNo;
 /// The least count that has more than six decimal digits.
 const SEVEN_DIGITS: u64 = 1_000_000;
 
-pub(crate) fn octal1(n: u8) -> [u8; 1]
+/// The last octal digit of a number.
+pub fn octal1(n: u8) -> [u8; 1]
     ensures { result ≡ octal 1 n }
 {
     [b'0' + n % 8]
@@ -21,7 +22,8 @@ pub(crate) fn octal1(n: u8) -> [u8; 1]
 // Each event's line has some of these fields: the digits of a word are put together in one register, the
 // others stand in tables.
 
-pub(crate) fn octal4(n: u16) -> [u8; 4]
+/// The last four octal digits.
+pub fn octal4(n: u16) -> [u8; 4]
     ensures { result ≡ octal 4 n }
 {
     let n = u32::from(n);
@@ -31,7 +33,7 @@ pub(crate) fn octal4(n: u16) -> [u8; 4]
 
 /// The number of a processor in two octal digits.
 #[tactic(auto, using(crate::proofs::PairLemmas::processor_pair))]
-pub(crate) fn processor_digits(n: PpNo) -> [u8; 2]
+pub fn processor_digits(n: PpNo) -> [u8; 2]
     ensures { result ≡ octal 2 n }
 {
     let pairs = processor_pairs();
@@ -41,7 +43,7 @@ pub(crate) fn processor_digits(n: PpNo) -> [u8; 2]
 
 /// The number of a channel in two octal digits.
 #[tactic(auto, using(crate::proofs::PairLemmas::channel_pair))]
-pub(crate) fn channel_digits(c: ChannelNo) -> [u8; 2]
+pub fn channel_digits(c: ChannelNo) -> [u8; 2]
     ensures { result ≡ octal 2 c }
 {
     let pairs = channel_pairs();
@@ -49,7 +51,8 @@ pub(crate) fn channel_digits(c: ChannelNo) -> [u8; 2]
     [pairs[first], pairs[first + 1]]
 }
 
-pub(crate) fn octal6(n: u32) -> [u8; 6]
+/// The last six octal digits.
+pub fn octal6(n: u32) -> [u8; 6]
     ensures { result ≡ octal 6 n }
 {
     [
@@ -73,7 +76,7 @@ fn decimal2(n: u32) -> [u8; 2]
 }
 
 /// Six decimal digits.
-pub(crate) fn decimal6(n: u32) -> [u8; 6]
+pub fn decimal6(n: u32) -> [u8; 6]
     requires { n < 10 ^ 6 }
     ensures { result ≡ digits 10 6 n }
 {
@@ -86,7 +89,7 @@ pub(crate) fn decimal6(n: u32) -> [u8; 6]
 /// Adds those decimal digits of a count that stand before its last six, and gives what is left for
 /// these.
 #[inline]
-pub(crate) fn push_upper_digits(piece: &mut Piece, n: u64) -> u32
+pub fn push_upper_digits(piece: &mut Piece, n: u64) -> u32
     requires { HasRoom 14 piece.old }
     ensures text { piece.new ≡ piece.old ++ unpadded 14 (n / 10 ^ 6) }
     ensures room { length piece.new ≤ length piece.old + 14 }
@@ -101,7 +104,7 @@ pub(crate) fn push_upper_digits(piece: &mut Piece, n: u64) -> u32
 
 /// Adds a number in decimal digits, without zeros in front, but at most so many digits.
 #[tactic(auto, using(crate::proofs::TextLemmas::unpadded_more))]
-fn push_unpadded(piece: &mut Piece, n: u64, most: u32)
+pub fn push_unpadded(piece: &mut Piece, n: u64, most: u32)
     requires { HasRoom most piece.old }
     ensures text { piece.new ≡ piece.old ++ unpadded most n }
     ensures room { length piece.new ≤ length piece.old + most }
