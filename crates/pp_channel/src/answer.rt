@@ -29,7 +29,7 @@ pub fn answer_law()
 /// The event that an operation makes, by the flags and the word in the register; nothing where it
 /// is a probe or not ready.
 #[inline(always)]
-pub(crate) fn event_by(op: &ChanOp, flags: Flags, register: Option<Word12>) -> Option<Event>
+pub fn event_by(op: &ChanOp, flags: Flags, register: Option<Word12>) -> Option<Event>
     ensures event { result ≡ event_by op.now flags register }
     ensures twelve_bits { IfSome result HasTwelveBitWord }
 {
@@ -57,7 +57,7 @@ pub(crate) fn event_by(op: &ChanOp, flags: Flags, register: Option<Word12>) -> O
 
 /// The reply where an event is made.
 #[inline(always)]
-pub(crate) fn reply_made(event: &Event) -> Reply
+pub fn reply_made(event: &Event) -> Reply
     ensures { result ≡ reply_made event.now }
 {
     match event {
@@ -68,7 +68,7 @@ pub(crate) fn reply_made(event: &Event) -> Reply
 
 /// The flags after an event.
 #[inline(always)]
-pub(crate) fn flags_after(event: &Event) -> Flags
+pub fn flags_after(event: &Event) -> Flags
     ensures { result ≡ flags_after event.now }
 {
     match event {
@@ -89,7 +89,7 @@ pub(crate) fn flags_after(event: &Event) -> Flags
 
 /// The word in the register after an event.
 #[inline(always)]
-pub(crate) fn word_after(event: &Event) -> Option<Word12>
+pub fn word_after(event: &Event) -> Option<Word12>
     ensures { result ≡ word_after event.now }
 {
     match event {

@@ -21,7 +21,7 @@ mod told_history;
 mod word_step;
 mod worn;
 
-pub use answer::answer_law;
+pub use answer::{answer_law, event_by, flags_after, reply_made, word_after};
 pub use chan_op::ChanOp;
 pub use channel::Channel;
 pub use channel_no::{CHANNELS, ChannelNo};

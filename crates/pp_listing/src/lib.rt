@@ -18,3 +18,4 @@ pub use instruction_text::push_instruction;
 pub use laws::{dump_law, listing_law};
 pub use listed_deck::listing;
 pub use octal_digits::{push_octal, push_short_octal};
+pub use operands::Operands;

@@ -8,7 +8,7 @@ use pp_word::Opcode;
 /// What stands behind the mnemonic of an instruction, of which d is the lower six bits and m the
 /// second word.
 #[derive(Clone, Copy, Debug, PartialEq, Eq)]
-pub(crate) enum Operands {
+pub enum Operands {
     /// `mmmm`, and `,dd` where d is not 00: a place, and the place of its index.
     IndexedPlace,
     /// The place that a taken jump leads to.
@@ -25,7 +25,7 @@ impl Operands {
     ghost use Rattle.pp_listing.specs.InstructionText.{operands_of};
 
     /// The operands of instructions with this operation.
-    pub(crate) fn of(operation: Opcode) -> Operands
+    pub fn of(operation: Opcode) -> Operands
         ensures { result ≡ operands_of (code_of operation) }
     {
         match operation.code() {

@@ -10,7 +10,8 @@ use crate::piece::Piece;
 /// The least count that has more than six decimal digits.
 const SEVEN_DIGITS: u64 = 1_000_000;
 
-pub(crate) fn octal1(n: u8) -> [u8; 1]
+/// The last octal digit of a number.
+pub fn octal1(n: u8) -> [u8; 1]
     ensures { result ≡ octal 1 n }
 {
     [b'0' + n % 8]
@@ -19,14 +20,16 @@ pub(crate) fn octal1(n: u8) -> [u8; 1]
 // Each event's line has some of these fields: octal digits are put together in one register,
 // decimal ones stand in a table.
 
-pub(crate) fn octal2(n: u8) -> [u8; 2]
+/// The last two octal digits.
+pub fn octal2(n: u8) -> [u8; 2]
     ensures { result ≡ octal 2 n }
 {
     let n = u16::from(n);
     (0x3030 + n / 8 % 8 + n % 8 * 0x100).to_le_bytes()
 }
 
-pub(crate) fn octal4(n: u16) -> [u8; 4]
+/// The last four octal digits.
+pub fn octal4(n: u16) -> [u8; 4]
     ensures { result ≡ octal 4 n }
 {
     let n = u32::from(n);
@@ -34,7 +37,8 @@ pub(crate) fn octal4(n: u16) -> [u8; 4]
     (first + n / 8 % 8 * 0x1_0000 + n % 8 * 0x100_0000).to_le_bytes()
 }
 
-pub(crate) fn octal6(n: u32) -> [u8; 6]
+/// The last six octal digits.
+pub fn octal6(n: u32) -> [u8; 6]
     ensures { result ≡ octal 6 n }
 {
     [
@@ -58,7 +62,7 @@ fn decimal2(n: u32) -> [u8; 2]
 }
 
 /// Six decimal digits.
-pub(crate) fn decimal6(n: u32) -> [u8; 6]
+pub fn decimal6(n: u32) -> [u8; 6]
     requires { n < 10 ^ 6 }
     ensures { result ≡ digits 10 6 n }
 {
@@ -71,7 +75,7 @@ pub(crate) fn decimal6(n: u32) -> [u8; 6]
 /// Adds those decimal digits of a count that stand before its last six, and gives what is left for
 /// these.
 #[inline]
-pub(crate) fn push_upper_digits(piece: &mut Piece, n: u64) -> u32
+pub fn push_upper_digits(piece: &mut Piece, n: u64) -> u32
     requires { HasRoom 14 piece.old }
     ensures text { piece.new ≡ piece.old ++ unpadded 14 (n / 10 ^ 6) }
     ensures room { length piece.new ≤ length piece.old + 14 }
@@ -86,7 +90,7 @@ pub(crate) fn push_upper_digits(piece: &mut Piece, n: u64) -> u32
 
 /// Adds a number in decimal digits, without zeros in front, but at most so many digits.
 #[tactic(auto, using(crate::proofs::TextLemmas::unpadded_more))]
-fn push_unpadded(piece: &mut Piece, n: u64, most: u32)
+pub fn push_unpadded(piece: &mut Piece, n: u64, most: u32)
     requires { HasRoom most piece.old }
     ensures text { piece.new ≡ piece.old ++ unpadded most n }
     ensures room { length piece.new ≤ length piece.old + most }

@@ -12,8 +12,11 @@ mod report_text;
 mod text_writer;
 mod write_fault;
 
+pub use digits::{decimal6, octal1, octal2, octal4, octal6, push_unpadded, push_upper_digits};
 pub use laws::{author_law, report_law, text_law};
 pub use machine_text::write_text;
+pub use piece::Piece;
 pub use report_fault::ReportFault;
 pub use report_text::write_report;
+pub use text_writer::TextWriter;
 pub use write_fault::{WriteFault, write_bytes};

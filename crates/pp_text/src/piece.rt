@@ -1,6 +1,6 @@
 //! A piece of a text.
 
-ghost use Rattle.std.specs.Prelude.{◌≡◌, ◌-◌, [], ◌++◌, length};
+ghost use Rattle.std.specs.Prelude.{◌≡◌, ◌-◌, ◌≤◌, [], ◌++◌, length};
 ghost use Rattle.pp_text.specs.Piece.{HasRoom, piece_length};
 
 use std::marker::Model;
@@ -11,7 +11,7 @@ const PIECE_LENGTH: usize = 8192;
 /// The bytes of a text that are held back, to be written at once. It takes no memory. Contracts see
 /// the list of its bytes.
 #[derive(Drop)]
-pub(crate) struct Piece {
+pub struct Piece {
     bytes: [u8; PIECE_LENGTH],
     filled: usize,
 }
@@ -29,7 +29,7 @@ impl Model for Piece {
 
 impl Piece {
     /// No bytes.
-    pub(crate) fn new() -> Piece
+    pub fn new() -> Piece
         ensures { result ≡ [] }
     {
         Piece {
@@ -39,23 +39,25 @@ impl Piece {
     }
 
     /// The bytes.
-    pub(crate) fn as_slice(&self) -> &[u8]
-        ensures { result.now ≡ self.now }
+    pub fn as_slice(&self) -> &[u8]
+        ensures bytes { result.now ≡ self.now }
+        ensures fits { length result.now ≤ piece_length }
     {
         &self.bytes[..self.filled]
     }
 
     /// How many more bytes it can hold.
     #[inline]
-    pub(crate) fn room(&self) -> usize
-        ensures { result ≡ piece_length - length self.now }
+    pub fn room(&self) -> usize
+        ensures room { result ≡ piece_length - length self.now }
+        ensures fits { length self.now ≤ piece_length }
     {
         PIECE_LENGTH - self.filled
     }
 
     /// Adds these bytes.
     #[inline]
-    pub(crate) fn push(&mut self, bytes: &[u8])
+    pub fn push(&mut self, bytes: &[u8])
         requires { HasRoom (length bytes.now) self.old }
         ensures { self.new ≡ self.old ++ bytes.now }
     {
@@ -65,7 +67,7 @@ impl Piece {
     }
 
     /// Lets all bytes go.
-    pub(crate) fn clear(&mut self)
+    pub fn clear(&mut self)
         ensures { self.new ≡ [] }
     {
         self.filled = 0;

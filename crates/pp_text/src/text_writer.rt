@@ -1,6 +1,6 @@
 //! A writer that gets a text in pieces.
 
-ghost use Rattle.std.specs.Prelude.{◌≡◌, ℕ, List, [], Option};
+ghost use Rattle.std.specs.Prelude.{◌≡◌, ◌≤◌, ℕ, List, [], length, Option};
 
 use crate::piece::Piece;
 use crate::write_fault::{WriteFault, write_bytes};
@@ -12,7 +12,7 @@ const LONGEST_LINE: usize = 40;
 /// Holds back what is printed until a piece is full, and then writes it. A writer that has failed
 /// is written to no more, and what is printed then is lost.
 #[derive(Drop)]
-pub(crate) struct TextWriter<'a, W> {
+pub struct TextWriter<'a, W> {
     writer: &'a mut W,
     pub(crate) piece: Piece,
     failed: bool,
@@ -20,11 +20,11 @@ pub(crate) struct TextWriter<'a, W> {
 
 impl<'a, W: Write> TextWriter<'a, W> {
     ghost use Rattle.pp_text.specs.TextWriter.{HasPrinted, Prints};
-    ghost use Rattle.pp_text.specs.Piece.{HasRoom, longest_line};
+    ghost use Rattle.pp_text.specs.Piece.{HasRoom, longest_line, piece_length};
     ghost use Rattle.pp_text.specs.Written.{IsWritten};
 
     /// Prints to this writer. Nothing is printed yet.
-    pub(crate) fn new(writer: &'a mut W) -> TextWriter<'a, W>
+    pub fn new(writer: &'a mut W) -> TextWriter<'a, W>
         ensures same_writer { result.writer.ghost_name ≡ writer.entry.ghost_name }
         ensures nothing { HasPrinted W.contents (W.contents writer.old) [] result }
     {
@@ -46,6 +46,18 @@ impl<'a, W: Write> TextWriter<'a, W> {
         }
     }
 
+    /// Prints some bytes, no more than a piece holds.
+    #[inline]
+    pub fn print(&mut self, bytes: &[u8])
+        requires { length bytes.now ≤ piece_length }
+        ensures { Prints W.contents self.old self.new bytes.now }
+    {
+        if self.piece.room() < bytes.len() {
+            self.write_piece();
+        }
+        self.piece.push(bytes);
+    }
+
     /// Writes what is held back.
     fn write_piece(&mut self)
         ensures nothing_more { Prints W.contents self.old self.new [] }
@@ -58,7 +70,7 @@ impl<'a, W: Write> TextWriter<'a, W> {
     }
 
     /// Ends the text: writes what is held back, and flushes the writer.
-    pub(crate) fn finish(&mut self) -> Result<(), WriteFault>
+    pub fn finish(&mut self) -> Result<(), WriteFault>
         ensures same_writer { self.new.writer.ghost_name ≡ self.old.writer.ghost_name }
         ensures written { (start : Option (List ℕ)) (text : List ℕ)
             → HasPrinted W.contents start text self.old

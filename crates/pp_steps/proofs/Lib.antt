@@ -1,0 +1,4 @@
+pub mod BareLemmas
+pub mod StoreLemmas
+pub mod LineLemmas
+pub mod PlaceLemmas

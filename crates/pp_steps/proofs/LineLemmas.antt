@@ -1,0 +1,154 @@
+-- The line of a step, put together from its parts.
+use Rattle.std.proofs.Common.{get_or-set_same, ◌≡◌, ℕ, suc, ◌-◌, ◌/◌, ◌%◌, ◌^◌, ◌<◌, List, [], ◌∷◌, ◌++◌, codes, length, get_or, replicate, refl, sym, ap, ◌∙◌, append_assoc, arith}
+use Rattle.pp_word.specs.Address.{next_place}
+use Rattle.pp_word.specs.OperationCodes.{mnemonic_of}
+use Rattle.pp_word.specs.declared.opcode.Opcode.{Opcode}
+use Rattle.pp_word.specs.declared.opcode.Opcode.TheVariants.{PSN, LJM, RJM, UJN, ZJN, NJN, PJN, MJN, SHN, LMN, LPN, SCN, LDN, LCN, ADN, SBN, LDC, ADC, LPC, LMC, PSN24, PSN25, EXN, RPN, LDD, ADD, SBD, LMD, STD, RAD, AOD, SOD, LDI, ADI, SBI, LMI, STI, RAI, AOI, SOI, LDM, ADM, SBM, LMM, STM, RAM, AOM, SOM, CRD, CRM, CWD, CWM, AJM, IJM, FJM, EJM, IAN, IAM, OAN, OAM, ACN, DCN, FAN, FNC}
+use Rattle.pp_channel.specs.Answer.{flags_of}
+use Rattle.pp_channel.specs.declared.chan_op.ChanOp.{ChanOp}
+use Rattle.pp_deck.specs.DeckLoad.{tabulate}
+use Rattle.pp_deck.proofs.ListLemmas.{tabulate_is}
+use Rattle.pp_machine.specs.MachineState.{MachineState, history_of, processor_of}
+use Rattle.pp_machine.specs.MachineStep.{answer_to, central_after, stepped}
+use Rattle.pp_machine.specs.ProcessorNumber.{processor_index}
+use Rattle.pp_machine.specs.NeedAndEffect.{need, processor_after}
+use Rattle.pp_machine.specs.Processor.{Processor, no_processor, word_at}
+use Rattle.pp_machine.specs.declared.need.Need.{Need}
+use Rattle.pp_machine.specs.declared.need.Need.TheVariants.{Channel}
+use Rattle.pp_machine.specs.declared.pp_state.PpState.{PpState}
+use Rattle.pp_machine.specs.declared.outcome.Outcome.TheVariants.{Held}
+use Rattle.pp_listing.specs.InstructionText.{instruction_text}
+use Rattle.pp_listing.specs.ListedLine.{padded}
+use Rattle.pp_text.specs.Numeral.{decimal, digits, octal, unpadded}
+use Rattle.pp_state.specs.StateText.{count_text, flags_text, held_text}
+use Rattle.pp_steps.specs.StepLine.{centrals_text, channel_text, end_text, heading, places_text, step_line, words_text}
+
+-- nine characters, one by one
+pub nine : (xs : List ℕ) → length xs ≡ 9
+    → get_or xs 0 0 ∷ get_or xs 1 0 ∷ get_or xs 2 0 ∷ get_or xs 3 0 ∷ get_or xs 4 0 ∷ get_or xs 5 0 ∷ get_or xs 6 0 ∷ get_or xs 7 0 ∷ get_or xs 8 0 ∷ [] ≡ xs
+unfolding tabulate
+nine xs long = sym (tabulate_is 0 xs 9 (λ i. get_or xs i 0) long (λ i below. refl))
+
+pub three : (xs : List ℕ) → length xs ≡ 3 → get_or xs 0 0 ∷ get_or xs 1 0 ∷ get_or xs 2 0 ∷ [] ≡ xs
+unfolding tabulate
+three xs long = sym (tabulate_is 0 xs 3 (λ i. get_or xs i 0) long (λ i below. refl))
+
+-- a mnemonic has three letters
+pub three_letters : (op : Opcode) → length (mnemonic_of op) ≡ 3
+three_letters PSN = refl
+three_letters LJM = refl
+three_letters RJM = refl
+three_letters UJN = refl
+three_letters ZJN = refl
+three_letters NJN = refl
+three_letters PJN = refl
+three_letters MJN = refl
+three_letters SHN = refl
+three_letters LMN = refl
+three_letters LPN = refl
+three_letters SCN = refl
+three_letters LDN = refl
+three_letters LCN = refl
+three_letters ADN = refl
+three_letters SBN = refl
+three_letters LDC = refl
+three_letters ADC = refl
+three_letters LPC = refl
+three_letters LMC = refl
+three_letters PSN24 = refl
+three_letters PSN25 = refl
+three_letters EXN = refl
+three_letters RPN = refl
+three_letters LDD = refl
+three_letters ADD = refl
+three_letters SBD = refl
+three_letters LMD = refl
+three_letters STD = refl
+three_letters RAD = refl
+three_letters AOD = refl
+three_letters SOD = refl
+three_letters LDI = refl
+three_letters ADI = refl
+three_letters SBI = refl
+three_letters LMI = refl
+three_letters STI = refl
+three_letters RAI = refl
+three_letters AOI = refl
+three_letters SOI = refl
+three_letters LDM = refl
+three_letters ADM = refl
+three_letters SBM = refl
+three_letters LMM = refl
+three_letters STM = refl
+three_letters RAM = refl
+three_letters AOM = refl
+three_letters SOM = refl
+three_letters CRD = refl
+three_letters CRM = refl
+three_letters CWD = refl
+three_letters CWM = refl
+three_letters AJM = refl
+three_letters IJM = refl
+three_letters FJM = refl
+three_letters EJM = refl
+three_letters IAN = refl
+three_letters IAM = refl
+three_letters OAN = refl
+three_letters OAM = refl
+three_letters ACN = refl
+three_letters DCN = refl
+three_letters FAN = refl
+three_letters FNC = refl
+
+-- behind a mnemonic nine of thirteen columns are left
+padded_more : (a b c : ℕ) (text : List ℕ) → padded 13 ((a ∷ b ∷ c ∷ []) ++ codes " " ++ text) ≡ a ∷ b ∷ c ∷ 32 ∷ padded 9 text
+padded_more a b c text =
+    let left : 13 - suc (suc (suc (suc (length text)))) ≡ 9 - length text = omega arith in
+    ap (λ (n : ℕ). a ∷ b ∷ c ∷ 32 ∷ text ++ replicate n 32) left
+
+pub instruction_in_pieces : (name operands text : List ℕ) (op : Opcode) → name ≡ mnemonic_of op → length operands ≡ 9 → operands ≡ padded 9 text
+    → get_or name 0 0 ∷ get_or name 1 0 ∷ get_or name 2 0 ∷ 32 ∷ get_or operands 0 0 ∷ get_or operands 1 0 ∷ get_or operands 2 0 ∷ get_or operands 3 0 ∷ get_or operands 4 0 ∷ get_or operands 5 0 ∷ get_or operands 6 0 ∷ get_or operands 7 0 ∷ get_or operands 8 0 ∷ []
+    ≡ padded 13 (mnemonic_of op ++ codes " " ++ text)
+instruction_in_pieces name operands text op is long are =
+    ap (λ (xs : List ℕ). get_or name 0 0 ∷ get_or name 1 0 ∷ get_or name 2 0 ∷ 32 ∷ xs) (nine operands long ∙ are)
+    ∙ sym (padded_more (get_or name 0 0) (get_or name 1 0) (get_or name 2 0) text)
+    ∙ ap (λ (xs : List ℕ). padded 13 (xs ++ codes " " ++ text)) (three name (ap length is ∙ three_letters op) ∙ is)
+
+-- the turn, the processor and P, the words, the instruction, A
+pub heading_in_pieces : (text upper first words instruction last : List ℕ) (turn n : ℕ) (pp : Processor) (a : ℕ) → upper ≡ unpadded 14 (turn / 10 ^ 6)
+    → first ≡ digits 10 6 (turn % 10 ^ 6) ++ codes " PP" ++ octal 2 n ++ codes " " ++ octal 4 pp.p ++ codes " "
+    → words ≡ padded 9 (words_text (word_at pp pp.p) (word_at pp (next_place pp.p))) ++ codes "  "
+    → instruction ≡ padded 13 (instruction_text pp.p (word_at pp pp.p) (word_at pp (next_place pp.p)))
+    → last ≡ codes " A=" ++ octal 6 a
+    → ((((text ++ upper) ++ first) ++ words) ++ instruction) ++ last ≡ text ++ heading turn n pp a
+unfolding decimal
+heading_in_pieces text upper first words instruction last turn n pp a u f w i l = rw (u, f, w, i, l) (simp append_assoc)
+
+-- the channel that holds a step
+pub held_in_pieces : (text channel flags count : List ℕ) (x : Need) (c : ℕ) (op : ChanOp) (m : MachineState) (k : ℕ) → x ≡ Channel c op
+    → channel ≡ codes " CH" ++ octal 2 c ++ codes " " → flags ≡ flags_text (flags_of (history_of c m)) → count ≡ count_text k
+    → (((text ++ codes " HELD") ++ channel) ++ flags) ++ count ≡ text ++ held_text x Held m k
+held_in_pieces text channel flags count x c op m k is h f n = rw (is, h, f, n) (simp append_assoc refl)
+
+line_pieces : (t a b c d e z : List ℕ) → (((((t ++ a) ++ b) ++ c) ++ d) ++ e) ++ z ≡ t ++ (a ++ b ++ c ++ d ++ e ++ z)
+line_pieces t a b c d e z = simp append_assoc refl
+
+-- the whole line of a step
+pub step_line_in_pieces : (t t1 t2 t3 t4 t5 t6 : List ℕ) (n : ℕ) (m after : MachineState) (old new : Processor) (turn a : ℕ) (before_central after_central : List ℕ) (x : Need) (state : PpState)
+    → old ≡ processor_of n m → new ≡ processor_of n after → turn ≡ m.turns → a ≡ new.a → before_central ≡ m.central → after_central ≡ after.central → x ≡ need old → state ≡ new.state
+    → t1 ≡ t ++ heading turn n old a → t2 ≡ t1 ++ places_text old.memory new.memory → t3 ≡ t2 ++ centrals_text before_central after_central → t4 ≡ t3 ++ channel_text x m → t5 ≡ t4 ++ end_text state → t6 ≡ t5 ++ 10 ∷ []
+    → t6 ≡ t ++ step_line n m after
+unfolding step_line
+step_line_in_pieces t t1 t2 t3 t4 t5 t6 n m after old new turn a before_central after_central x state is_old is_new is_turn is_a is_before is_after is_need is_state e1 e2 e3 e4 e5 e6 =
+    rw (e6, e5, e4, e3, e2, e1, is_state, is_need, is_after, is_before, is_a, is_turn, is_new, is_old)
+    (line_pieces t (heading m.turns n (processor_of n m) (processor_of n after).a) (places_text (processor_of n m).memory (processor_of n after).memory) (centrals_text m.central after.central) (channel_text (need (processor_of n m)) m) (end_text (processor_of n after).state) (10 ∷ []))
+
+-- a processor after its step
+pub stepped_processor : (n : ℕ) (m : MachineState) → processor_index n < length m.processors → processor_of n (stepped n m) ≡ processor_after (processor_of n m) (answer_to (need (processor_of n m)) m)
+unfolding stepped
+stepped_processor n m within = get_or-set_same m.processors (processor_index n) (processor_after (processor_of n m) (answer_to (need (processor_of n m)) m)) no_processor within
+
+-- central memory after a step
+pub stepped_central : (n : ℕ) (m : MachineState) → (stepped n m).central ≡ central_after (need (processor_of n m)) m
+unfolding stepped
+stepped_central n m = refl

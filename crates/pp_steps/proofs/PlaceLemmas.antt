@@ -1,0 +1,149 @@
+-- What has changed in a memory, looked for at some places alone.
+use Rattle.std.proofs.Common.{get_or-set_other, ◌≡◌, ◌≢◌, ℕ, zero, suc, ◌+◌, ◌-◌, ◌<◌, ◌≤◌, true, false, eqb, List, [], ◌∷◌, ◌++◌, length, slice_index, slice_set, get_or, refl, sym, ap, ◌∙◌, subst, append_assoc, arith}
+use Rattle.std.specs.Prelude.{Some, None, codes, slice_get}
+use Rattle.std.specs.List.{flat_map, range_with_len}
+use Rattle.std.proofs.lemmas.Bool.{eq-eqb, ne_eqb}
+use Rattle.std.proofs.lemmas.List.{append-nil, length-set, set_past}
+use Rattle.std.proofs.lemmas.List.Concat.{flat_map-append}
+use mathlib.Core.Logic.{dite}
+use native.Mathlib.Decide.{dec_lt}
+use Rattle.pp_word.specs.Address.{place_count}
+use Rattle.pp_deck.proofs.ListLemmas.{range_append, range_more}
+use Rattle.pp_machine.specs.MachineState.{MachineState}
+use Rattle.pp_machine.specs.MachineStep.{central_after}
+use Rattle.pp_machine.specs.declared.need.Need.{Need}
+use Rattle.pp_machine.specs.declared.need.Need.TheVariants.{Nothing, Local, Channel, Read, Write}
+use Rattle.pp_text.specs.Numeral.{octal}
+use Rattle.pp_state.specs.Changes.{places}
+use Rattle.pp_steps.specs.StepLine.{central_text, centrals_text, place_text, places_text, written_address}
+use Rattle.pp_steps.specs.Stores.{IsApart}
+
+-- a stretch of numbers of which nothing is said
+nothing : (f : ℕ → List ℕ) (a n : ℕ) → ((k : ℕ) → k < n → f (a + k) ≡ []) → flat_map f (range_with_len a n) ≡ []
+nothing f a zero none = refl
+nothing f a (suc n) none =
+    let here : f a ≡ [] = subst (λ (i : ℕ). f i ≡ []) (omega arith) (none 0 (omega arith)) in
+    ap (λ (text : List ℕ). text ++ flat_map f (range_with_len (a + 1) n)) here
+    ∙ nothing f (a + 1) n (λ k below. subst (λ (i : ℕ). f i ≡ []) (omega arith) (none (suc k) (omega (arith, below))))
+
+-- what is said of one number more
+pub one_more : (f : ℕ → List ℕ) (first so_far next : List ℕ) (a k place : ℕ) → place ≡ a + k → so_far ≡ first ++ flat_map f (range_with_len a k) → next ≡ so_far ++ f place → next ≡ first ++ flat_map f (range_with_len a (k + 1))
+one_more f first so_far next a k place is h step =
+    step ∙ ap (λ (text : List ℕ). text ++ f place) h ∙ append_assoc first (flat_map f (range_with_len a k)) (f place)
+    ∙ ap (λ (text : List ℕ). first ++ text)
+    (ap (λ (i : ℕ). flat_map f (range_with_len a k) ++ f i) is
+    ∙ ap (λ (text : List ℕ). flat_map f (range_with_len a k) ++ text) (sym (append-nil (f (a + k))))
+    ∙ sym (flat_map-append f (range_with_len a k) ((a + k) ∷ []))
+    ∙ ap (flat_map f) (sym (range_more a k)))
+
+-- three stretches, one behind another
+three_stretches : (f : ℕ → List ℕ) (a b c : ℕ) → flat_map f (range_with_len 0 (a + (b + c))) ≡ flat_map f (range_with_len 0 a) ++ (flat_map f (range_with_len a b) ++ flat_map f (range_with_len (a + b) c))
+three_stretches f a b c =
+    let from_zero : 0 + a ≡ a = omega arith in
+    ap (flat_map f) (range_append 0 a (b + c))
+    ∙ flat_map-append f (range_with_len 0 a) (range_with_len (0 + a) (b + c))
+    ∙ ap (λ (i : ℕ). flat_map f (range_with_len 0 a) ++ flat_map f (range_with_len i (b + c))) from_zero
+    ∙ ap (λ (ks : List ℕ). flat_map f (range_with_len 0 a) ++ flat_map f ks) (range_append a b c)
+    ∙ ap (λ (text : List ℕ). flat_map f (range_with_len 0 a) ++ text) (flat_map-append f (range_with_len a b) (range_with_len (a + b) c))
+
+-- something is said of the second alone
+middle : (f : ℕ → List ℕ) (a b c : ℕ) → ((k : ℕ) → k < a → f k ≡ []) → ((k : ℕ) → k < c → f (a + b + k) ≡ []) → flat_map f (range_with_len 0 (a + (b + c))) ≡ flat_map f (range_with_len a b)
+middle f a b c before behind =
+    let first : flat_map f (range_with_len 0 a) ≡ [] = nothing f 0 a (λ k below. subst (λ (i : ℕ). f i ≡ []) (omega arith) (before k below)) in
+    let last : flat_map f (range_with_len (a + b) c) ≡ [] = nothing f (a + b) c behind in
+    three_stretches f a b c ∙ rw (first, last) (append-nil (flat_map f (range_with_len a b)))
+
+-- or of the first and the third
+ends : (f : ℕ → List ℕ) (a b c : ℕ) → ((k : ℕ) → k < b → f (a + k) ≡ []) → flat_map f (range_with_len 0 (a + (b + c))) ≡ flat_map f (range_with_len 0 a) ++ flat_map f (range_with_len (a + b) c)
+ends f a b c between = let gap : flat_map f (range_with_len a b) ≡ [] = nothing f a b between in three_stretches f a b c ∙ rw gap refl
+
+-- nothing is said of a word that stays
+same_place : (before after : List ℕ) (place : ℕ) → slice_index after place ≡ slice_index before place → place_text before after place ≡ []
+same_place before after place same = let is : eqb (get_or before place 0) (get_or after place 0) ≡ true = eq-eqb _ _ (sym same) in rw is refl
+
+same_central : (before after : List ℕ) (a : ℕ) → slice_index after a ≡ slice_index before a → central_text before after a ≡ []
+same_central before after a same = let is : eqb (get_or before a 0) (get_or after a 0) ≡ true = eq-eqb _ _ (sym same) in rw is refl
+
+-- all words stay but those at places one behind another
+pub places_here : (before after : List ℕ) (first count : ℕ) → first + count ≤ place_count → ((place : ℕ) → IsApart place (record { first = first; count = count }) → slice_index after place ≡ slice_index before place)
+    → places_text before after ≡ flat_map (place_text before after) (range_with_len first count)
+unfolding places
+places_here before after first count within same =
+    let f = place_text before after in
+    let all : place_count ≡ first + (count + (place_count - (first + count))) = omega (arith, within) in
+    ap (λ (n : ℕ). flat_map f (range_with_len 0 n)) all
+    ∙ middle f first count (place_count - (first + count))
+    (λ k below. same_place before after k (same k (λ i lt e. omega (arith, e, lt, below, within))))
+    (λ k below. same_place before after (first + count + k) (same (first + count + k) (λ i lt e. omega (arith, e, lt, below, within))))
+
+-- the same where they go on at place 0000
+pub places_round : (before after : List ℕ) (first count : ℕ) → first < place_count → count ≤ 5 → place_count < first + count → ((place : ℕ) → IsApart place (record { first = first; count = count }) → slice_index after place ≡ slice_index before place)
+    → places_text before after ≡ flat_map (place_text before after) (range_with_len 0 (first + count - place_count)) ++ flat_map (place_text before after) (range_with_len first (place_count - first))
+unfolding places
+places_round before after first count low few past same =
+    let f = place_text before after in
+    let a = first + count - place_count in
+    let b = first - a in
+    let c = place_count - first in
+    let all : place_count ≡ a + (b + c) = omega (arith, low, few, past) in
+    let there : a + b ≡ first = omega (arith, low, few, past) in
+    ap (λ (n : ℕ). flat_map f (range_with_len 0 n)) all
+    ∙ ends f a b c (λ k below. same_place before after (a + k) (same (a + k) (λ i lt e. omega (arith, e, lt, below, low, few, past))))
+    ∙ ap (λ (i : ℕ). flat_map f (range_with_len 0 a) ++ flat_map f (range_with_len i c)) there
+
+-- a central memory that stays
+pub centrals_same : (central : List ℕ) → centrals_text central central ≡ []
+centrals_same central = nothing (central_text central central) 0 (length central) (λ k below. same_central central central (0 + k) refl)
+
+-- one word of it was written
+pub central_one : (central : List ℕ) (a w : ℕ) → centrals_text central (slice_set central a w) ≡ central_text central (slice_set central a w) a
+central_one central a w = dite (dec_lt a (length central)) inside outside
+  where
+    after : List ℕ
+    after = slice_set central a w
+
+    f : ℕ → List ℕ
+    f = central_text central after
+
+    inside : a < length central → centrals_text central after ≡ f a
+    inside below =
+        let all : length after ≡ a + (1 + (length central - (a + 1))) = length-set central a w ∙ omega (arith, below) in
+        ap (λ (n : ℕ). flat_map f (range_with_len 0 n)) all
+        ∙ middle f a 1 (length central - (a + 1))
+        (λ k lt. same_central central after k (get_or-set_other central a k w 0 (λ e. omega (arith, e, lt))))
+        (λ k lt. same_central central after (a + 1 + k) (get_or-set_other central a (a + 1 + k) w 0 (λ e. omega (arith, e))))
+        ∙ append-nil (f a)
+
+    outside : (a < length central → ⊥) → centrals_text central after ≡ f a
+    outside past =
+        let same : after ≡ central = set_past central a w (omega (arith, past)) in
+        ap (centrals_text central) same ∙ centrals_same central
+        ∙ sym (ap (λ (words : List ℕ). central_text central words a) same ∙ same_central central central a refl)
+
+-- a step that writes no central word leaves them all
+pub centrals_stay : (x : Need) (m : MachineState) (before after text : List ℕ) → None ≡ written_address x → before ≡ m.central → after ≡ central_after x m → text ≡ text ++ centrals_text before after
+centrals_stay Nothing m before after text none old new = rw (new, old, centrals_same m.central) (sym (append-nil text))
+centrals_stay Local m before after text none old new = rw (new, old, centrals_same m.central) (sym (append-nil text))
+centrals_stay (Channel c op) m before after text none old new = rw (new, old, centrals_same m.central) (sym (append-nil text))
+centrals_stay (Read a) m before after text none old new = rw (new, old, centrals_same m.central) (sym (append-nil text))
+centrals_stay (Write a w) m before after text none old new = absurd (cc)
+
+-- and one that writes changes one at most
+pub centrals_go : (x : Need) (m : MachineState) (before after : List ℕ) (a : ℕ) → Some a ≡ written_address x → before ≡ m.central → after ≡ central_after x m → centrals_text before after ≡ central_text before after a
+centrals_go Nothing m before after a some old new = absurd (cc)
+centrals_go Local m before after a some old new = absurd (cc)
+centrals_go (Channel c op) m before after a some old new = absurd (cc)
+centrals_go (Read b) m before after a some old new = absurd (cc)
+centrals_go (Write b w) m before after a some old new = let is : a ≡ b = cc in rw (new, old, is) (central_one m.central b w)
+
+-- past the end of central memory stands nothing
+pub no_word : (central : List ℕ) (a : ℕ) → None ≡ slice_get central a → get_or central a 0 ≡ 0
+no_word [] a e = refl
+no_word (w ∷ ws) zero e = absurd (cc)
+no_word (w ∷ ws) (suc a) e = no_word ws a e
+
+-- a central word that differs
+pub central_changed : (text heading before after : List ℕ) (a word old : ℕ) → heading ≡ codes " CM " ++ octal 6 a ++ codes "=" → word ≡ slice_index after a → old ≡ slice_index before a → word ≢ old → (text ++ heading) ++ octal 20 word ≡ text ++ central_text before after a
+central_changed text heading before after a word old h is was differ =
+    let no : eqb (get_or before a 0) (get_or after a 0) ≡ false = ne_eqb (get_or before a 0) (get_or after a 0) (λ e. differ (is ∙ sym e ∙ sym was)) in
+    rw (no, h, is) (simp append_assoc)

@@ -1,0 +1,3 @@
+pub mod BareMachine
+pub mod Stores
+pub mod StepLine
