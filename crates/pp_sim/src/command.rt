@@ -38,7 +38,7 @@ A deck with a fault is refused, as in 'ppsim: deck fault 4 at line 3':
 The exit status is 0 when the work is done or help was asked for, 1 when the deck is refused, 2 when
 the command line is, 3 after a read or write fault, and 4 when memory runs out.
 
-The pages docs/TUTORIAL.md, docs/MACHINE.md (the instructions), docs/DECK.md and docs/OUTPUT.md of
+The pages TUTORIAL.md, docs/MACHINE.md (the instructions), docs/DECK.md and docs/OUTPUT.md of
 the repository say more.
 
 Example:
