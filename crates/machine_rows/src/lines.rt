@@ -14,8 +14,8 @@ fn expect_answers<A: Allocator + Copy>(
     line: &mut Line<A>,
     calls: &[(ChanOp, Numbered)],
 ) -> Result<(), Fail>
-    ensures shares { line.new.shares ≡ line.old.shares }
-    ensures whole { line.new.whole ≡ line.old.whole }
+    ensures shares { line.new.view.shares ≡ line.old.view.shares }
+    ensures whole { line.new.view.whole ≡ line.old.view.whole }
     ensures table { line.new.table ≡ line.old.table }
 {
     for (op, answer) in calls {
@@ -41,8 +41,8 @@ fn expect_log(rt: &impl Abort, log: &[Entry], entries: &[(u64, Seen)]) -> Result
 
 fn join_lines<A: Allocator + Copy>(line: Line<A>, other: Line<A>) -> Result<Line<A>, Fail>
     requires { other.table ≡ line.table }
-    ensures shares { IfOk result (λ both. both.shares ≡ line.shares + other.shares) }
-    ensures whole { IfOk result (λ both. both.whole ≡ line.whole) }
+    ensures shares { IfOk result (λ both. both.view.shares ≡ line.view.shares + other.view.shares) }
+    ensures whole { IfOk result (λ both. both.view.whole ≡ line.view.whole) }
 {
     match line.join(other) {
         Ok(both) => Ok(both),
@@ -58,7 +58,7 @@ fn expect_history(
     used: usize,
     events: &[Event],
 ) -> Result<(), Fail>
-    requires { line.shares ≡ line.whole }
+    requires { line.view.shares ≡ line.view.whole }
 {
     let Ok(channels) = line.close() else {
         return Err("no close".into());

@@ -10,8 +10,8 @@ use std::test::Fail;
 use test_bench::{channel, word};
 
 fn act<A: Allocator + Copy>(line: &mut Line<A>, channel: ChannelNo, op: ChanOp) -> Result<(), Fail>
-    ensures shares { line.new.shares ≡ line.old.shares }
-    ensures whole { line.new.whole ≡ line.old.whole }
+    ensures shares { line.new.view.shares ≡ line.old.view.shares }
+    ensures whole { line.new.view.whole ≡ line.old.view.whole }
     ensures table { line.new.table ≡ line.old.table }
 {
     if line.room() == 0 {

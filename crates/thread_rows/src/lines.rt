@@ -14,8 +14,8 @@ fn act_in_turn<A: Allocator + Copy>(
     channel: ChannelNo,
     operations: [ChanOp; 3],
 ) -> Line<A>
-    ensures shares { result.shares ≡ line.shares }
-    ensures whole { result.whole ≡ line.whole }
+    ensures shares { result.view.shares ≡ line.view.shares }
+    ensures whole { result.view.whole ≡ line.view.whole }
     ensures table { result.table ≡ line.table }
 {
     for turn in 0..1000usize {

@@ -3,7 +3,7 @@ use Rattle.thread_rows.proofs.lines.act_in_turn.Given as goal
 
 abbrev pub invariant-loop-turn : goal.invariant-loop-turn
 invariant-loop-turn g l = record {
-  shares : l.line.shares ≡ l.initial.line.shares;
-  whole : l.line.whole ≡ l.initial.line.whole;
+  shares : l.line.view.shares ≡ l.initial.line.view.shares;
+  whole : l.line.view.whole ≡ l.initial.line.view.whole;
   table : l.line.table ≡ l.initial.line.table;
 }
