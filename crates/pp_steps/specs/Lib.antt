@@ -1,3 +1,6 @@
 pub mod BareMachine
 pub mod Stores
 pub mod StepLine
+pub mod HeldRuns
+pub mod StepsText
+pub mod Cursor
