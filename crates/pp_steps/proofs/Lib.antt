@@ -5,3 +5,5 @@ pub mod PlaceLemmas
 pub mod RunCountLemmas
 pub mod CountedRuns
 pub mod TextOfSteps
+pub mod EventLawLemmas
+pub mod StepLawLemmas

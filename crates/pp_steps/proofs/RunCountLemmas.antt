@@ -34,10 +34,10 @@ same_twice false false = refl
 with_itself : (g : Flags) → is_held_with g (Held g) ≡ true
 with_itself g = same_twice g.active g.full
 
-with_other : (f g : Flags) → is_held_with f (Held g) ≡ is_held_with g (Held f)
+pub with_other : (f g : Flags) → is_held_with f (Held g) ≡ is_held_with g (Held f)
 with_other f g = rw (same_sym f.active g.active, same_sym f.full g.full) refl
 
-with_same : (f g : Flags) → is_held_with g (Held f) ≡ true → g ≡ f
+pub with_same : (f g : Flags) → is_held_with g (Held f) ≡ true → g ≡ f
 with_same f g e =
     let (active, full) = both (same_flag g.active f.active) (same_flag g.full f.full) e in
     let first : record { active = g.active; full = g.full } ≡ record { active = f.active; full = g.full } = ap (λ (a : Bool). record { active = a; full = g.full }) (same_is g.active f.active active) in
@@ -45,7 +45,7 @@ with_same f g e =
 
 -- ---- one step more
 
-first_of : (g : Flags) (steps : List Progress) → prefix_len (is_held_with g) (Held g ∷ steps) ≡ 1 + prefix_len (is_held_with g) steps
+pub first_of : (g : Flags) (steps : List Progress) → prefix_len (is_held_with g) (Held g ∷ steps) ≡ 1 + prefix_len (is_held_with g) steps
 first_of g steps = ap (λ (b : Bool). cond b (1 + prefix_len (is_held_with g) steps) 0) (with_itself g)
 
 -- a step that is not held like the last: the last time is over

@@ -54,17 +54,17 @@ next_to_come p turn turns before =
 
 -- ---- the last step of a processor
 
-fold_more : (first : Progress) (steps : List Progress) (x : Progress) → fold (λ last step. step) first (steps ++ x ∷ []) ≡ x
+pub fold_more : (first : Progress) (steps : List Progress) (x : Progress) → fold (λ last step. step) first (steps ++ x ∷ []) ≡ x
 fold_more first [] x = refl
 fold_more first (y ∷ steps) x = fold_more y steps x
 
-along_other : (n k : ℕ) (past : List ℕ) (m : MachineState) → k ≢ n → progress_along n (past ++ k ∷ []) m ≡ progress_along n past m
+pub along_other : (n k : ℕ) (past : List ℕ) (m : MachineState) → k ≢ n → progress_along n (past ++ k ∷ []) m ≡ progress_along n past m
 unfolding progress_along
 along_other n k [] m other = other_along n k [] m other
 along_other n k (j ∷ past) m other =
     ap (λ (ss : List Progress). cond (eqb j n) (progress n m ∷ ss) ss) (along_other n k past (stepped j m) other)
 
-along_own : (n : ℕ) (past : List ℕ) (m : MachineState) → progress_along n (past ++ n ∷ []) m ≡ progress_along n past m ++ progress n (run past m) ∷ []
+pub along_own : (n : ℕ) (past : List ℕ) (m : MachineState) → progress_along n (past ++ n ∷ []) m ≡ progress_along n past m ++ progress n (run past m) ∷ []
 unfolding progress_along
 along_own n [] m = own_along n [] m ∙ ap (λ (ss : List Progress). progress n m ∷ ss) (none_along n (stepped n m))
 along_own n (j ∷ past) m =

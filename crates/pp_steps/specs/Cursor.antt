@@ -16,9 +16,11 @@ abbrev pub CountsOf : List ℕ → Cursor → List Progress → Type 0
 CountsOf counts cursor steps = drop cursor.times counts ≡ held_counts cursor.last steps
 
 -- a cursor goes past a step, which has this line
-pub record Passes (counts : List ℕ) (step : Progress) (old new : Cursor) (kind : LineKind) : Type 0 where
+pub record Passes (counts : List ℕ) (step : Progress) (old new : Cursor) (kind : LineKind)
+    : Type 0 where
   pub last : new.last ≡ step
   pub most : new.times ≤ old.times + 1
-  pub rest : (steps : List Progress) → CountsOf counts old (step ∷ steps) → CountsOf counts new steps
+  pub rest : (steps : List Progress) → CountsOf counts old (step ∷ steps)
+      → CountsOf counts new steps
   pub line : (steps : List Progress) → CountsOf counts old (step ∷ steps)
       → kind ≡ line_kind old.last step steps

@@ -25,7 +25,8 @@ same_flag false false = true
 
 -- whether a step is held with these flags
 abbrev pub is_held_with : Flags → Progress → Bool
-is_held_with flags (Held others) = same_flag flags.active others.active && same_flag flags.full others.full
+is_held_with flags (Held others) =
+    same_flag flags.active others.active && same_flag flags.full others.full
 is_held_with flags step = false
 
 -- whether a step is held like the last one
@@ -68,7 +69,8 @@ abbrev pub no_times : HeldTimes
 no_times = record { counts = []; current = 0; last = AtRest }
 
 -- how long each processor named is held each time, where a machine takes these steps
-pub record AreCounted (named : List Bool) (steps : List ℕ) (m : MachineState) (runs : List HeldTimes) : Type 0 where
+pub record AreCounted (named : List Bool) (steps : List ℕ) (m : MachineState)
+    (runs : List HeldTimes) : Type 0 where
   pub as_many : length runs ≡ processor_count
   pub counts : (n : ℕ) → IsTrue (is_named named n)
       → (slice_index_or runs (processor_index n) no_times).counts

@@ -4,3 +4,4 @@ pub mod StepLine
 pub mod HeldRuns
 pub mod StepsText
 pub mod Cursor
+pub mod StepsLaw

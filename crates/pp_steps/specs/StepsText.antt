@@ -19,7 +19,8 @@ abbrev pub line_kind : Progress → Progress → List Progress → LineKind
 line_kind last AtRest steps = NoLine
 line_kind last Moved steps = OneStep
 line_kind last (Held flags) steps =
-    if is_held_with flags last then NoLine else HeldSteps (1 + prefix_len (is_held_with flags) steps)
+    if is_held_with flags last then NoLine
+    else HeldSteps (1 + prefix_len (is_held_with flags) steps)
 
 -- a step of a run: its processor, the machine before it, and which line it has
 pub record RunStep : Type 0 where

@@ -31,8 +31,8 @@ impl Cursor {
         }
     }
 
-    /// Goes past a step, and says which line it has: how many steps in a row are held from it on was
-    /// counted before.
+    /// Goes past a step, and says which line it has: how many steps in a row are held from it on
+    /// was counted before.
     pub(crate) fn pass<A: Allocator>(&mut self, runs: &HeldRuns<A>, step: Progress) -> LineKind
         requires { self.old.times + 1 < 2 ^ 64 }
         ensures { Passes runs.now.counts step self.old self.new result }

@@ -8,6 +8,7 @@ mod channel_state;
 mod cursor;
 mod held_runs;
 mod instruction_field;
+mod laws;
 mod line_kind;
 mod progress;
 mod run_counts;
@@ -15,4 +16,5 @@ mod step_line;
 mod steps_text;
 mod stores;
 
+pub use laws::steps_law;
 pub use steps_text::write_steps;

@@ -44,7 +44,8 @@ fn note_step<A: Allocator>(
     step: Progress,
 ) -> Result<(), Memory>
     requires as_many { length runs.old.items ≡ processor_count }
-    requires low { (slice_index_or runs.old.items (processor_index n) no_times).current + 1 < 2 ^ 32 }
+    requires low { (slice_index_or runs.old.items (processor_index n) no_times).current + 1
+        < 2 ^ 32 }
     ensures as_many { OnOk result (length runs.new.items ≡ processor_count) }
     ensures others { OnOk result ((k : ℕ) → k ≢ processor_index n
         → slice_index_or runs.new.items k no_times ≡ slice_index_or runs.old.items k no_times) }

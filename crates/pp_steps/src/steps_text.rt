@@ -23,9 +23,9 @@ use pp_text::{Piece, ReportFault, TextWriter};
 use std::alloc::Allocator;
 use std::io::Write;
 
-/// Writes the steps of a machine in the first turns (decimal) of the barrel, of the processors named
-/// and from a turn on, and flushes the writer. The run is made twice: first the held steps in a row
-/// are counted, which takes the memory, and then the lines go out in pieces.
+/// Writes the steps of a machine in the first turns (decimal) of the barrel, of the processors
+/// named and from a turn on, and flushes the writer. The run is made twice: first the held steps in
+/// a row are counted, which takes the memory, and then the lines go out in pieces.
 pub fn write_steps<A: Allocator + Copy, W: Write>(
     alloc: A,
     writer: &mut W,
@@ -34,7 +34,8 @@ pub fn write_steps<A: Allocator + Copy, W: Write>(
     turns: u32,
     from: u32,
 ) -> Result<(), ReportFault>
-    ensures { IsReportWritten (steps_text named.now from (barrel machine.now.profile turns) machine.now)
+    ensures { IsReportWritten
+        (steps_text named.now from (barrel machine.now.profile turns) machine.now)
         result (W.contents writer.old) (W.contents writer.new) }
 {
     let Ok(runs) = counted_runs(alloc, machine, named, turns) else {
@@ -63,7 +64,7 @@ pub fn write_steps<A: Allocator + Copy, W: Write>(
     }
 }
 
-/// Prints the steps of a machine, from two that stand for it: the one goes a step ahead of the other.
+/// Prints the steps of a machine, from two that stand for it: one goes a step ahead of the other.
 fn print_steps<A: Allocator, W: Write>(
     text: &mut TextWriter<W>,
     machine: &Machine<A>,
@@ -76,7 +77,8 @@ fn print_steps<A: Allocator, W: Write>(
 )
     requires before { StandsFor before.old machine.now }
     requires after { StandsFor after.old machine.now }
-    requires counted { AreCounted named.now (barrel machine.now.profile turns) machine.now runs.now.items }
+    requires counted { AreCounted named.now (barrel machine.now.profile turns) machine.now
+        runs.now.items }
     ensures { Prints W.contents text.old text.new
         (steps_text named.now from (barrel machine.now.profile turns) machine.now) }
 {

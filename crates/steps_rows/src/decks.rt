@@ -324,8 +324,8 @@ START 0200
 ",
 );
 
-/// First turns (decimal), and the steps of processor 1 of the deck with the lost word from there on:
-/// a line of held steps that began before is left out whole.
+/// First turns (decimal), and the steps of processor 1 of the deck with the lost word from there
+/// on: a line of held steps that began before is left out whole.
 const FROM: [(u32, &str); 4] = [
     (
         31,
