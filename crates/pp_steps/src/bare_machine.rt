@@ -11,7 +11,7 @@ use std::alloc::Allocator;
 /// A machine that keeps no history and no trace: of each channel it has the flags and the register
 /// alone. Its steps take no memory.
 #[derive(Drop)]
-pub struct BareMachine<A: Allocator> {
+pub(crate) struct BareMachine<A: Allocator> {
     pub(crate) processors: Vec<Pp, A>,
     pub(crate) central: Central<A>,
     pub(crate) channels: [ChannelState; CHANNELS],

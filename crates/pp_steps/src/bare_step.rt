@@ -17,7 +17,7 @@ use std::alloc::Allocator;
 
 impl<A: Allocator> BareMachine<A> {
     /// What stands for a machine as it is.
-    pub fn of<B: Allocator>(alloc: A, machine: &Machine<B>) -> Result<Self, Memory>
+    pub(crate) fn of<B: Allocator>(alloc: A, machine: &Machine<B>) -> Result<Self, Memory>
     where
         A: Copy,
         ensures { IfOk result (λ bare. StandsFor bare machine.now) }
@@ -32,7 +32,7 @@ impl<A: Allocator> BareMachine<A> {
     }
 
     /// A processor.
-    pub fn pp(&self, n: PpNo) -> &Pp
+    pub(crate) fn pp(&self, n: PpNo) -> &Pp
         ensures value { (m : MachineState) → StandsFor self.now m → result.now ≡ processor_of n m }
         ensures within { processor_index n < processor_count }
     {
@@ -40,7 +40,7 @@ impl<A: Allocator> BareMachine<A> {
     }
 
     /// The state of a channel.
-    pub fn channel(&self, c: ChannelNo) -> ChannelState
+    pub(crate) fn channel(&self, c: ChannelNo) -> ChannelState
         ensures { (m : MachineState) → StandsFor self.now m
             → result ≡ channel_state (history_of c m) }
     {
@@ -48,14 +48,14 @@ impl<A: Allocator> BareMachine<A> {
     }
 
     /// Central memory.
-    pub fn central(&self) -> &Central<A>
+    pub(crate) fn central(&self) -> &Central<A>
         ensures { (m : MachineState) → StandsFor self.now m → result.now ≡ m.central }
     {
         &self.central
     }
 
     /// How many turns it has counted (decimal).
-    pub fn turns(&self) -> u64
+    pub(crate) fn turns(&self) -> u64
         ensures { (m : MachineState) → StandsFor self.now m → result ≡ m.turns }
     {
         self.turns
@@ -63,7 +63,7 @@ impl<A: Allocator> BareMachine<A> {
 
     /// One step of a processor.
     #[tactic(auto, unfolding(crate::specs::BareMachine::progress, pp_machine::specs::MachineStep::stepped, pp_machine::specs::MachineStep::step_outcome))]
-    pub fn step(&mut self, n: PpNo) -> Progress
+    pub(crate) fn step(&mut self, n: PpNo) -> Progress
         ensures stepped { (m : MachineState) → StandsFor self.old m
             → StandsFor self.new (stepped n m) }
         ensures progress { (m : MachineState) → StandsFor self.old m → result ≡ progress n m }

@@ -15,7 +15,7 @@ use std::alloc::Allocator;
 
 /// The flags of a channel and the word in its register.
 #[derive(Clone, Copy, Debug, PartialEq, Eq)]
-pub struct ChannelState {
+pub(crate) struct ChannelState {
     pub(crate) flags: Flags,
     pub(crate) register: Option<Word12>,
 }

@@ -5,12 +5,16 @@
 mod bare_machine;
 mod bare_step;
 mod channel_state;
+mod cursor;
+mod held_runs;
 mod instruction_field;
+mod laws;
+mod line_kind;
 mod progress;
+mod run_counts;
 mod step_line;
+mod steps_text;
 mod stores;
 
-pub use bare_machine::BareMachine;
-pub use channel_state::ChannelState;
-pub use progress::Progress;
-pub use step_line::{push_held_line, push_step_line};
+pub use laws::steps_law;
+pub use steps_text::write_steps;

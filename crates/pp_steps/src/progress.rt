@@ -4,7 +4,7 @@ use pp_channel::Flags;
 
 /// What a step did to its processor, and what held it.
 #[derive(Clone, Copy, Debug, PartialEq, Eq)]
-pub enum Progress {
+pub(crate) enum Progress {
     /// The processor was stopped or at fault already.
     AtRest,
     /// The processor went on, stopped, or ended in a fault.

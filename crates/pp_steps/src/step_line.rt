@@ -31,7 +31,7 @@ const PLACES: u32 = 0o10000;
 
 /// Adds the line of a step of a processor from one machine to another:
 /// `000020 PP00 0102 7205       OAN 05        A=000001 CH05 PUT 0001` and a line feed.
-pub fn push_step_line<A: Allocator>(
+pub(crate) fn push_step_line<A: Allocator>(
     line: &mut Piece,
     n: PpNo,
     before: &BareMachine<A>,
@@ -59,7 +59,12 @@ pub fn push_step_line<A: Allocator>(
 
 /// Adds the line of so many held steps in a row of a processor:
 /// `000031 PP01 0201 7105 0300  IAM 0300,05   A=000004 HELD CH05 ACTIVE EMPTY x1` and a line feed.
-pub fn push_held_line<A: Allocator>(line: &mut Piece, n: PpNo, machine: &BareMachine<A>, count: u32)
+pub(crate) fn push_held_line<A: Allocator>(
+    line: &mut Piece,
+    n: PpNo,
+    machine: &BareMachine<A>,
+    count: u32,
+)
     requires { HasRoom longest_line line.old }
     ensures { (m : MachineState) → StandsFor machine.now m
         → line.new ≡ line.old ++ held_line n m count }

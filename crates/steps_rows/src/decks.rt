@@ -1,14 +1,13 @@
 //! The steps of runs of decks, worked out by an independent program.
 
 use pp_deck::{Deck, read_deck};
-use pp_machine::{PpNo, Profile};
-use pp_steps::{BareMachine, Progress, push_held_line, push_step_line};
-use pp_text::Piece;
+use pp_machine::{PROCESSORS, PpNo, Profile};
+use pp_steps::write_steps;
 use std::alloc::Global;
 use std::test::Fail;
 
 /// Turns (decimal), a deck, and the steps of its run.
-const STEPS: [(u32, &str, &str); 5] = [
+const STEPS: [(u32, &str, &str); 6] = [
     (
         50,
         "\
@@ -270,39 +269,137 @@ START 0100
 000891 PP01 0204 3060       LDD 60        A=000003
 ",
     ),
+    (
+        80,
+        LOST_WORD,
+        "\
+000000 PP00 0100 7405       ACN 05        A=000000 CH05 ACN
+000001 PP01 0200 2400       PSN 00        A=000000
+000010 PP00 0101 1407       LDN 07        A=000007
+000011 PP01 0201 2400       PSN 00        A=000000
+000020 PP00 0102 7205       OAN 05        A=000007 CH05 PUT 0007
+000021 PP01 0202 2400       PSN 00        A=000000
+000030 PP00 0103 7505       DCN 05        A=000007 CH05 DCN
+000031 PP01 0203 7005       IAN 05        A=000000 HELD CH05 INACTIVE x1
+000040 PP00 0104 7405       ACN 05        A=000007 CH05 ACN
+000041 PP01 0203 7005       IAN 05        A=000000 HELD CH05 ACTIVE EMPTY x2
+000050 PP00 0105 1403       LDN 03        A=000003
+000060 PP00 0106 7205       OAN 05        A=000003 CH05 PUT 0003
+000061 PP01 0203 7005       IAN 05        A=000003 CH05 TAK 0003
+000070 PP00 0107 0300       UJN 0107      A=000003 STOPPED
+000071 PP01 0204 0300       UJN 0204      A=000003 STOPPED
+",
+    ),
+];
+
+/// A disconnect loses a word.
+const LOST_WORD: &str = "\
+PP 0
+0100 7405 1407 7205 7505
+0104 7405 1403 7205 0300
+START 0100
+PP 1
+0200 2400 2400 2400 7005 0300
+START 0200
+";
+
+/// Two processors and a channel that a machine of ten has not, in 90 turns: 31 is held twice.
+const ON_TWENTY: (&str, &str) = (
+    "\
+PP 20
+0100 7433 1407 7233 0300
+START 0100
+PP 31
+0200 7033 0300
+START 0200
+",
+    "\
+000010 PP20 0100 7433       ACN 33        A=000000 CH33 ACN
+000019 PP31 0200 7033       IAN 33        A=000000 HELD CH33 ACTIVE EMPTY x2
+000030 PP20 0101 1407       LDN 07        A=000007
+000050 PP20 0102 7233       OAN 33        A=000007 CH33 PUT 0007
+000059 PP31 0200 7033       IAN 33        A=000007 CH33 TAK 0007
+000070 PP20 0103 0300       UJN 0103      A=000007 STOPPED
+000079 PP31 0201 0300       UJN 0201      A=000007 STOPPED
+",
+);
+
+/// First turns (decimal), and the steps of processor 1 of the deck with the lost word from there
+/// on: a line of held steps that began before is left out whole.
+const FROM: [(u32, &str); 4] = [
+    (
+        31,
+        "\
+000031 PP01 0203 7005       IAN 05        A=000000 HELD CH05 INACTIVE x1
+000041 PP01 0203 7005       IAN 05        A=000000 HELD CH05 ACTIVE EMPTY x2
+000061 PP01 0203 7005       IAN 05        A=000003 CH05 TAK 0003
+000071 PP01 0204 0300       UJN 0204      A=000003 STOPPED
+",
+    ),
+    (
+        42,
+        "\
+000061 PP01 0203 7005       IAN 05        A=000003 CH05 TAK 0003
+000071 PP01 0204 0300       UJN 0204      A=000003 STOPPED
+",
+    ),
+    (
+        71,
+        "\
+000071 PP01 0204 0300       UJN 0204      A=000003 STOPPED
+",
+    ),
+    (72, ""),
 ];
 
 fn deck_of(alloc: Global, profile: Profile, text: &str) -> Result<Deck<Global>, Fail> {
     read_deck(alloc, profile, text.as_bytes()).map_err(|_| "a deck without faults".into())
 }
 
-/// The lines of a run, of the processors named, where each held step has a line of its own.
-fn lines_of(alloc: Global, turns: u32, text: &str) -> Result<Vec<u8, Global>, Fail> {
-    let deck = deck_of(alloc, Profile::Ten, text)?;
-    let mut before = BareMachine::of(alloc, &deck.machine)?;
-    let mut after = BareMachine::of(alloc, &deck.machine)?;
-    let mut lines = Vec::new(alloc);
-    let mut line = Piece::new();
-    for turn in 0..turns {
-        let n = PpNo::at((turn % 10) as usize);
-        line.clear();
-        match after.step(n) {
-            _ if !deck.named[n.index()] => {}
-            Progress::AtRest => {}
-            Progress::Moved => push_step_line(&mut line, n, &before, &after),
-            Progress::Held(_) => push_held_line(&mut line, n, &before, 1),
-        }
-        lines.extend_from_slice(line.as_slice())?;
-        let _same = before.step(n);
+/// The steps of a deck from a turn on, of the processors that it names or of one of them.
+fn steps_of(
+    alloc: Global,
+    profile: Profile,
+    text: &str,
+    turns: u32,
+    only: Option<PpNo>,
+    from: u32,
+) -> Result<Vec<u8>, Fail> {
+    let deck = deck_of(alloc, profile, text)?;
+    let mut named = deck.named;
+    if let Some(n) = only {
+        named = [false; PROCESSORS];
+        named[n.index()] = true;
     }
-    Ok(lines)
+    let mut written = Vec::new(alloc);
+    match write_steps(alloc, &mut written, &deck.machine, &named, turns, from) {
+        Ok(()) => Ok(written),
+        Err(_) => Err("steps with ample memory".into()),
+    }
 }
 
 #[test]
 fn steps_of_decks(rt: HostRuntime) -> Result<(), Fail> {
     for (turns, deck, steps) in &STEPS {
-        let lines = lines_of(rt.alloc(), *turns, deck)?;
-        assert_eq!(rt; lines.as_slice(), steps.as_bytes(), "{deck}");
+        let text = steps_of(rt.alloc(), Profile::Ten, deck, *turns, None, 0)?;
+        assert_eq!(rt; text.as_slice(), steps.as_bytes(), "{deck}");
+    }
+    Ok(())
+}
+
+#[test]
+fn steps_on_twenty(rt: HostRuntime) -> Result<(), Fail> {
+    let (deck, steps) = ON_TWENTY;
+    let text = steps_of(rt.alloc(), Profile::Twenty, deck, 90, None, 0)?;
+    assert_eq!(rt; text.as_slice(), steps.as_bytes());
+    Ok(())
+}
+
+#[test]
+fn steps_of_one_processor(rt: HostRuntime) -> Result<(), Fail> {
+    for (from, steps) in &FROM {
+        let text = steps_of(rt.alloc(), Profile::Ten, LOST_WORD, 80, PpNo::new(1), *from)?;
+        assert_eq!(rt; text.as_slice(), steps.as_bytes(), "{from}");
     }
     Ok(())
 }

@@ -1,0 +1,77 @@
+-- How long a processor is held each time.
+use Rattle.std.specs.Prelude.{◌≡◌, ℕ, ◌+◌, Bool, true, false, ◌==◌, ◌&&◌, IsTrue, List, [], ◌∷◌, ◌++◌, length, slice_index_or, if◌then◌else◌}
+use Rattle.std.specs.List.{fold, prefix_len}
+use Rattle.pp_channel.specs.declared.flags.Flags.{Flags}
+use Rattle.pp_machine.specs.MachineState.{MachineState}
+use Rattle.pp_machine.specs.MachineStep.{stepped}
+use Rattle.pp_machine.specs.ProcessorNumber.{processor_count, processor_index}
+use Rattle.pp_text.specs.PrintedText.{is_named}
+use Rattle.pp_steps.specs.BareMachine.{progress}
+use Rattle.pp_steps.specs.declared.progress.Progress.{Progress}
+use Rattle.pp_steps.specs.declared.progress.Progress.TheVariants.{AtRest, Held}
+
+-- what each step of processor n does, in order, where a machine takes these steps
+unfoldable pub progress_along : ℕ → List ℕ → MachineState → List Progress
+progress_along n [] m = []
+progress_along n (k ∷ steps) m =
+    if k == n then progress n m ∷ progress_along n steps (stepped k m)
+    else progress_along n steps (stepped k m)
+
+-- two flags that are the same
+abbrev pub same_flag : Bool → Bool → Bool
+same_flag true other = other
+same_flag false true = false
+same_flag false false = true
+
+-- whether a step is held with these flags
+abbrev pub is_held_with : Flags → Progress → Bool
+is_held_with flags (Held others) =
+    same_flag flags.active others.active && same_flag flags.full others.full
+is_held_with flags step = false
+
+-- whether a step is held like the last one
+abbrev pub goes_on : Progress → Progress → Bool
+goes_on last (Held flags) = is_held_with flags last
+goes_on last step = false
+
+-- the last of some steps, or one at rest where there is none
+abbrev pub last_of : List Progress → Progress
+last_of steps = fold (λ last step. step) AtRest steps
+
+-- of each time that a processor is held in some steps, behind a last one, how many steps in a row:
+-- a step that is held like the last one begins no time of its own
+abbrev pub held_counts : Progress → List Progress → List ℕ
+held_counts last [] = []
+held_counts last (Held flags ∷ steps) =
+    if is_held_with flags last then held_counts (Held flags) steps
+    else prefix_len (is_held_with flags) (Held flags ∷ steps) ∷ held_counts (Held flags) steps
+held_counts last (step ∷ steps) = held_counts step steps
+
+-- the times of one processor so far: how many steps each took that is over, how many the one that
+-- may go on, and the last step
+pub record HeldTimes : Type 0 where
+  pub counts : List ℕ
+  pub current : ℕ
+  pub last : Progress
+
+-- the time that may go on, with what follows
+abbrev pub open_time : Progress → ℕ → List Progress → List ℕ
+open_time (Held flags) current steps = (current + prefix_len (is_held_with flags) steps) ∷ []
+open_time step current steps = []
+
+-- all times, with the steps that follow
+abbrev pub all_times : HeldTimes → List Progress → List ℕ
+all_times times steps =
+    times.counts ++ (open_time times.last times.current steps ++ held_counts times.last steps)
+
+-- a processor without steps
+abbrev pub no_times : HeldTimes
+no_times = record { counts = []; current = 0; last = AtRest }
+
+-- how long each processor named is held each time, where a machine takes these steps
+pub record AreCounted (named : List Bool) (steps : List ℕ) (m : MachineState)
+    (runs : List HeldTimes) : Type 0 where
+  pub as_many : length runs ≡ processor_count
+  pub counts : (n : ℕ) → IsTrue (is_named named n)
+      → (slice_index_or runs (processor_index n) no_times).counts
+      ≡ held_counts AtRest (progress_along n steps m)

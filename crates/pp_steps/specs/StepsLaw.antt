@@ -1,0 +1,53 @@
+-- What the lines of a run tell: which events there were, and how many steps.
+use Rattle.std.specs.Prelude.{ℕ, Bool, true, false, ◌==◌, ◌&&◌, nat_le, List, [], ◌∷◌, map, replicate}
+use Rattle.std.specs.Option.{option_to_list}
+use Rattle.pp_channel.specs.Answer.{event_of}
+use Rattle.pp_machine.specs.MachineState.{MachineState, history_of, processor_of}
+use Rattle.pp_machine.specs.NeedAndEffect.{need}
+use Rattle.pp_machine.specs.declared.need.Need.{Need}
+use Rattle.pp_machine.specs.declared.need.Need.TheVariants.{Channel}
+use Rattle.pp_machine.specs.declared.trace.Trace.{Trace}
+use Rattle.pp_text.specs.PrintedText.{is_named}
+use Rattle.pp_steps.specs.BareMachine.{progress}
+use Rattle.pp_steps.specs.StepsText.{RunStep}
+use Rattle.pp_steps.specs.declared.line_kind.LineKind.{LineKind}
+use Rattle.pp_steps.specs.declared.line_kind.LineKind.TheVariants.{NoLine, OneStep, HeldSteps}
+use Rattle.pp_steps.specs.declared.progress.Progress.{Progress}
+use Rattle.pp_steps.specs.declared.progress.Progress.TheVariants.{AtRest}
+
+-- the event that a step of processor n with this need makes, as an entry of the trace
+abbrev pub entry_of : ℕ → Need → MachineState → List Trace
+entry_of n (Channel c operation) m =
+    map (λ e. record { turn = m.turns; pp = n; channel = c; event = e })
+    (option_to_list (event_of operation (history_of c m)))
+entry_of n need m = []
+
+-- the event on a line, as an entry of the trace: on that of one step, where it made one
+abbrev pub event_on : LineKind → ℕ → MachineState → List Trace
+event_on OneStep n m = entry_of n (need (processor_of n m)) m
+event_on line n m = []
+
+abbrev pub line_event : RunStep → List Trace
+line_event step = event_on step.line step.processor step.before
+
+-- whether an event is shown: of a processor that is named, and of a turn from this one on
+abbrev pub is_shown_event : List Bool → ℕ → Trace → Bool
+is_shown_event named from entry = is_named named entry.pp && nat_le from entry.turn
+
+-- the steps on a line: none, one, or as many as it counts
+abbrev pub steps_on : LineKind → Progress → List Progress
+steps_on NoLine step = []
+steps_on OneStep step = step ∷ []
+steps_on (HeldSteps count) step = replicate count step
+
+abbrev pub line_steps : RunStep → List Progress
+line_steps step = steps_on step.line (progress step.processor step.before)
+
+-- whether a step is processor n's
+abbrev pub is_of : ℕ → RunStep → Bool
+is_of n step = step.processor == n
+
+-- whether the processor was running
+abbrev pub is_running : Progress → Bool
+is_running AtRest = false
+is_running step = true

@@ -1,0 +1,102 @@
+//! How long processors are held each time.
+
+ghost use Rattle.std.specs.Prelude.{◌≡◌, ◌+◌, ◌<◌, ◌≤◌, ◌^◌, ◌∷◌, ◌++◌, [], slice_index, List, OnOk};
+ghost use Rattle.pp_steps.specs.HeldRuns.{all_times, goes_on, is_held_with, open_time};
+ghost use Rattle.pp_steps.specs.declared.progress.Progress.{Progress};
+ghost use Rattle.pp_steps.specs.declared.progress.Progress.TheVariants.{AtRest};
+
+use crate::progress::Progress;
+use pp_channel::{Flags, Memory};
+use std::alloc::Allocator;
+use std::marker::Model;
+
+/// The held steps in a row of one processor, each time that it was held, in order.
+#[derive(Drop)]
+pub(crate) struct HeldRuns<A: Allocator> {
+    counts: Vec<u32, A>,
+    current: u32,
+    last: Progress,
+}
+
+impl<A: Allocator> Model for HeldRuns<A> {
+    ghost use Rattle.pp_steps.specs.HeldRuns.{HeldTimes};
+
+    ghost Value = { HeldTimes };
+
+    ghost view = { λ r. record { counts = r.counts.items; current = r.current; last = r.last } };
+}
+
+impl<A: Allocator> HeldRuns<A> {
+    /// Those of a processor without steps.
+    pub(crate) fn new(alloc: A) -> HeldRuns<A>
+        ensures { result ≡ record { counts = []; current = 0; last = AtRest } }
+    {
+        HeldRuns {
+            counts: Vec::new(alloc),
+            current: 0,
+            last: Progress::AtRest,
+        }
+    }
+
+    /// Counts one step more.
+    pub(crate) fn note(&mut self, step: Progress) -> Result<(), Memory>
+        requires { self.old.current + 1 < 2 ^ 32 }
+        ensures times { OnOk result ((steps : List Progress)
+            → all_times self.new steps ≡ all_times self.old (step ∷ steps)) }
+        ensures most { OnOk result (self.new.current ≤ self.old.current + 1) }
+        ensures last { OnOk result (self.new.last ≡ step) }
+    {
+        if goes_on(&self.last, &step) {
+            self.current += 1;
+            self.last = step;
+            return Ok(());
+        }
+        self.end()?;
+        self.current = 1;
+        self.last = step;
+        Ok(())
+    }
+
+    /// The last time is over, if the last step was held.
+    pub(crate) fn end(&mut self) -> Result<(), Memory>
+        ensures { OnOk result (self.new ≡ record self.old {
+          counts = self.old.counts ++ open_time self.old.last self.old.current [];
+        }) }
+    {
+        match self.last {
+            Progress::Held(_) => self.counts.push(self.current)?,
+            Progress::AtRest | Progress::Moved => {}
+        }
+        Ok(())
+    }
+
+    /// How many steps in a row it was held one time.
+    pub(crate) fn count(&self, time: usize) -> u32
+        ensures { result ≡ slice_index self.now.counts time }
+    {
+        match self.counts.get(time) {
+            Some(count) => *count,
+            None => 0,
+        }
+    }
+}
+
+/// Whether a step is held like the last.
+pub(crate) fn goes_on(last: &Progress, step: &Progress) -> bool
+    ensures { result ≡ goes_on last.now step.now }
+{
+    match step {
+        Progress::Held(flags) => is_held_with(flags, last),
+        Progress::AtRest | Progress::Moved => false,
+    }
+}
+
+/// Whether a step is held with these flags.
+fn is_held_with(flags: &Flags, step: &Progress) -> bool
+    ensures { result ≡ is_held_with flags.now step.now }
+{
+    match step {
+        Progress::Held(others) => flags.active == others.active && flags.full == others.full,
+        Progress::AtRest | Progress::Moved => false,
+    }
+}

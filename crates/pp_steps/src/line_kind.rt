@@ -1,0 +1,12 @@
+//! Which line a step has.
+
+/// The line of a step.
+#[derive(Clone, Copy, Debug, PartialEq, Eq)]
+pub(crate) enum LineKind {
+    /// None: the processor was at rest, or held as before.
+    NoLine,
+    /// That of a step that moved the processor.
+    OneStep,
+    /// That of so many held steps in a row, this one the first (decimal).
+    HeldSteps(u32),
+}

@@ -1,0 +1,87 @@
+//! The held steps of a run, counted.
+
+ghost use Rattle.std.specs.Prelude.{◌≡◌, ◌≢◌, ℕ, ◌+◌, ◌<◌, ◌≤◌, ◌^◌, ◌∷◌, [], length, List, IfOk, OnOk, IsTrue, replicate, slice_index_or, vec_len};
+ghost use Rattle.pp_machine.specs.ProcessorNumber.{processor_count, processor_index};
+ghost use Rattle.pp_machine.specs.Run.{barrel};
+ghost use Rattle.pp_text.specs.PrintedText.{is_named};
+ghost use Rattle.pp_steps.specs.HeldRuns.{AreCounted, all_times, no_times};
+ghost use Rattle.pp_steps.specs.declared.progress.Progress.{Progress};
+
+use crate::bare_machine::BareMachine;
+use crate::held_runs::HeldRuns;
+use crate::progress::Progress;
+use pp_channel::Memory;
+use pp_machine::{Machine, PROCESSORS, PpNo};
+use std::alloc::Allocator;
+
+/// How long each processor named is held each time, in a run of so many turns of the barrel.
+pub(crate) fn counted_runs<A: Allocator + Copy>(
+    alloc: A,
+    machine: &Machine<A>,
+    named: &[bool; PROCESSORS],
+    turns: u32,
+) -> Result<Vec<HeldRuns<A>, A>, Memory>
+    ensures { IfOk result (λ runs.
+        AreCounted named.now (barrel machine.now.profile turns) machine.now runs.items) }
+{
+    let mut runs = no_runs(alloc)?;
+    let mut bare = BareMachine::of(alloc, machine)?;
+    let round = machine.profile().processors() as u32;
+    for turn in 0..turns {
+        let n = PpNo::at((turn % round) as usize);
+        let step = bare.step(n);
+        note_step(&mut runs, named, n, step)?;
+    }
+    end_runs(&mut runs)?;
+    Ok(runs)
+}
+
+/// Counts a step of a processor, where it is named.
+fn note_step<A: Allocator>(
+    runs: &mut Vec<HeldRuns<A>, A>,
+    named: &[bool; PROCESSORS],
+    n: PpNo,
+    step: Progress,
+) -> Result<(), Memory>
+    requires as_many { length runs.old.items ≡ processor_count }
+    requires low { (slice_index_or runs.old.items (processor_index n) no_times).current + 1
+        < 2 ^ 32 }
+    ensures as_many { OnOk result (length runs.new.items ≡ processor_count) }
+    ensures others { OnOk result ((k : ℕ) → k ≢ processor_index n
+        → slice_index_or runs.new.items k no_times ≡ slice_index_or runs.old.items k no_times) }
+    ensures own { OnOk result (IsTrue (is_named named.now n) → (steps : List Progress)
+        → all_times (slice_index_or runs.new.items (processor_index n) no_times) steps
+        ≡ all_times (slice_index_or runs.old.items (processor_index n) no_times) (step ∷ steps)) }
+    ensures low { OnOk result ((slice_index_or runs.new.items (processor_index n) no_times).current
+        ≤ (slice_index_or runs.old.items (processor_index n) no_times).current + 1) }
+{
+    if !named[n.index()] {
+        return Ok(());
+    }
+    runs[n.index()].note(step)
+}
+
+/// Counts the times that may go on as over.
+fn end_runs<A: Allocator>(runs: &mut Vec<HeldRuns<A>, A>) -> Result<(), Memory>
+    requires { length runs.old.items ≡ processor_count }
+    ensures as_many { OnOk result (length runs.new.items ≡ processor_count) }
+    ensures counts { OnOk result ((k : ℕ) → k < processor_count
+        → (slice_index_or runs.new.items k no_times).counts
+        ≡ all_times (slice_index_or runs.old.items k no_times) []) }
+{
+    for place in 0..PROCESSORS {
+        runs[place].end()?;
+    }
+    Ok(())
+}
+
+/// Those of processors without steps.
+fn no_runs<A: Allocator + Copy>(alloc: A) -> Result<Vec<HeldRuns<A>, A>, Memory>
+    ensures { IfOk result (λ runs. runs.items ≡ replicate processor_count no_times) }
+{
+    let mut runs = Vec::with_capacity(alloc, PROCESSORS)?;
+    for _ in 0..PROCESSORS {
+        runs.push(HeldRuns::new(alloc))?;
+    }
+    Ok(runs)
+}

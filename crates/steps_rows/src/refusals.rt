@@ -1,0 +1,77 @@
+//! Steps whose growths are refused, or whose writer gives up.
+
+use pp_deck::{Deck, read_deck};
+use pp_machine::Profile;
+use pp_steps::write_steps;
+use pp_text::ReportFault;
+use rationed::Rationed;
+use std::alloc::Global;
+use std::test::Fail;
+use test_bench::{Failure, Sink};
+
+/// Processor 1 waits for a word, and then for another that never comes.
+const DECK: &str = "\
+PP 0
+0100 7405 1407 7205 0300
+START 0100
+PP 1
+0200 7005 7005 0300
+START 0200
+";
+
+const STEPS: &str = "\
+000000 PP00 0100 7405       ACN 05        A=000000 CH05 ACN
+000001 PP01 0200 7005       IAN 05        A=000000 HELD CH05 ACTIVE EMPTY x2
+000010 PP00 0101 1407       LDN 07        A=000007
+000020 PP00 0102 7205       OAN 05        A=000007 CH05 PUT 0007
+000021 PP01 0200 7005       IAN 05        A=000007 CH05 TAK 0007
+000030 PP00 0103 0300       UJN 0103      A=000007 STOPPED
+000031 PP01 0201 7005       IAN 05        A=000007 HELD CH05 ACTIVE EMPTY x7
+";
+
+const TURNS: u32 = 100;
+
+fn deck_over(heap: &Rationed<Global>) -> Result<Deck<&Rationed<Global>>, Fail> {
+    read_deck(heap, Profile::Ten, DECK.as_bytes()).map_err(|_| "a deck without faults".into())
+}
+
+/// How the steps end with this request refused, and what was written.
+fn steps_at(
+    alloc: Global,
+    heap: &Rationed<Global>,
+    number: u64,
+) -> Result<(Result<(), ReportFault>, Vec<u8>), Fail> {
+    let deck = deck_over(heap)?;
+    let mut written = Vec::new(alloc);
+    heap.refuse(number);
+    let done = write_steps(heap, &mut written, &deck.machine, &deck.named, TURNS, 0);
+    heap.refuse(0);
+    Ok((done, written))
+}
+
+#[test]
+fn steps_refused(rt: HostRuntime) -> Result<(), Fail> {
+    let heap = Rationed::new(rt.alloc());
+    for number in 1..50u64 {
+        let (done, written) = steps_at(rt.alloc(), &heap, number)?;
+        if done.is_ok() {
+            assert!(rt; written.as_slice() == STEPS.as_bytes());
+            assert!(rt; number > 4, "counts, and three machines");
+            return Ok(());
+        }
+        assert_eq!(rt; done.err(), Some(ReportFault::Memory));
+        assert!(rt; written.is_empty(), "request {number}");
+    }
+    panic!(rt; "a request is refused in each run")
+}
+
+#[test]
+fn steps_that_no_one_takes(rt: HostRuntime) -> Result<(), Fail> {
+    let heap = Rationed::new(rt.alloc());
+    let deck = deck_over(&heap)?;
+    let mut sink = Sink::new(rt.alloc(), 100, 30, Failure::TakesNothing);
+    let done = write_steps(&heap, &mut sink, &deck.machine, &deck.named, TURNS, 0);
+    assert_eq!(rt; done.err(), Some(ReportFault::Write));
+    assert_eq!(rt; sink.taken(), &STEPS.as_bytes()[..100]);
+    Ok(())
+}
