@@ -1,5 +1,5 @@
-//! The law of the steps of a run. The function does nothing: its contract says what is proved of the
-//! definitions.
+//! The law of the steps of a run. The function does nothing: its contract says what is proved of
+//! the definitions.
 
 ghost use Rattle.std.specs.Prelude.{◌≡◌, ℕ, Bool, List, drop, length};
 ghost use Rattle.std.specs.List.{filter, flat_map};
