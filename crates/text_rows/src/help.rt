@@ -75,6 +75,7 @@ Commands:
   threads  Runs a deck with one thread per processor, and prints what happened
   list     Prints the listing of a deck, one instruction a line, which is itself a deck
   dump     Runs a deck in the barrel, and prints a deck to go on from
+  state    Runs a deck in the barrel, and prints how things stand then
   help     Print this message or the help of the given subcommand(s)
 
 Options:
