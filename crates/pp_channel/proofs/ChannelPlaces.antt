@@ -54,3 +54,12 @@ named_low c low = grind (arith, low)
 pub named_high : (c : ℕ) → 0o17 < c → c < 0o34 → IsTrue (names_channel c)
 unfolding names_channel
 named_high c past below = grind (arith, past, below)
+
+-- the first twelve places are those of the first twelve channels
+pub low_number : (c : ℕ) → channel_index c < 0o14 → c < 0o14
+unfolding channel_index
+low_number c below = grind (arith, below)
+
+pub low_place : (c : ℕ) → c < 0o14 → channel_index c < 0o14
+unfolding channel_index
+low_place c below = grind (arith, below)

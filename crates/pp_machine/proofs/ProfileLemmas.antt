@@ -41,8 +41,9 @@ channel_named p c has = let most = most_channels p in channels.named_below c (gr
 
 -- the channels of each profile by number
 pub channels_of_ten : (c : ℕ) → IsTrue (has_channel Ten c) ↔ (c < 0o14)
-unfolding has_channel channel_index
-channels_of_ten c = (λ has. grind (arith), λ below. grind (arith))
+unfolding has_channel
+channels_of_ten c =
+    (λ has. channels.low_number c (grind (arith, has)), λ below. let place = channels.low_place c below in grind (arith))
 
 -- numbers that are small enough name one
 pub small_channels : (c : ℕ) → c < 0o14 → IsTrue (names_channel c)
