@@ -123,7 +123,7 @@ impl<A: Allocator + Copy> Labour<A> {
 
     /// Tries the next step until the processor moves, and answers `None` where it did. Each try is
     /// an operation, if the step needs one; a worker gives up after just as many as its patience. A
-    /// core is given away after each 512 tries in vain (decimal), and after each one where it is
+    /// core is given away after each 128 tries in vain (decimal), and after each one where it is
     /// the only core.
     fn take_step<R: Wait, G: Gate>(
         &mut self,
@@ -161,7 +161,7 @@ impl<A: Allocator + Copy> Labour<A> {
             self.tries += 1;
             match self.try_step(rt, site, load) {
                 Try::Moved => return None,
-                Try::Held if held % 512 < 511 && !site.one_core => hint::spin_loop(),
+                Try::Held if held % 128 < 127 && !site.one_core => hint::spin_loop(),
                 Try::Held => thread::yield_now(),
                 Try::Worn => return Some(End::Worn),
             }
