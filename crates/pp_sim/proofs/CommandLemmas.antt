@@ -92,6 +92,14 @@ work_by_rows name f (works.Dump profile turns) k =
     (k.0, rw (← first_value-rows f (codes "processors")) k.1, rw (← first_value-rows f (codes "turns")) k.2, k.3)
 work_by_rows name f (works.State profile turns) k =
     (k.0, rw (← first_value-rows f (codes "processors")) k.1, rw (← first_value-rows f (codes "turns")) k.2, k.3)
+work_by_rows name f (works.Steps profile turns only from) k = (
+  k.0,
+  rw (← first_value-rows f (codes "processors")) k.1,
+  rw (← first_value-rows f (codes "turns")) k.2,
+  k.3,
+  rw (← first_value-rows f (codes "pp")) k.4,
+  rw (← first_value-rows f (codes "from")) k.5,
+)
 
 pub work_by_values : (name : Text) (f : Found) (work : Work) → IsWorkAmong (Some (name, rows_of f)) work → IsWorkOf name (first_value f) work
 work_by_values name f (works.Barrel profile turns) k =
@@ -108,6 +116,14 @@ work_by_values name f (works.Dump profile turns) k =
     (k.0, rw (first_value-rows f (codes "processors")) k.1, rw (first_value-rows f (codes "turns")) k.2, k.3)
 work_by_values name f (works.State profile turns) k =
     (k.0, rw (first_value-rows f (codes "processors")) k.1, rw (first_value-rows f (codes "turns")) k.2, k.3)
+work_by_values name f (works.Steps profile turns only from) k = (
+  k.0,
+  rw (first_value-rows f (codes "processors")) k.1,
+  rw (first_value-rows f (codes "turns")) k.2,
+  k.3,
+  rw (first_value-rows f (codes "pp")) k.4,
+  rw (first_value-rows f (codes "from")) k.5,
+)
 
 -- where the text of an option is there, and is no number, it says no profile
 pub no_profile : {B : Type 0} (of : B → Text) (o : Option B) (text : Option Text) → is_some o ≡ true → option_map of o ≡ text → ((n : ℕ) → ReadsNumber text n → ⊥) → (profile : Profile) → ReadsProfile text profile → ⊥

@@ -1,11 +1,11 @@
 -- What a command line asks for, by the words that stand in it.
-use Rattle.std.specs.Prelude.{◌≡◌, ◌≢◌, ℕ, ◌≤◌, true, List, [], Option, Some, None, Ok, codes}
+use Rattle.std.specs.Prelude.{◌≡◌, ◌≢◌, ℕ, ◌≤◌, true, IsTrue, List, [], Option, Some, None, Ok, codes}
 use Rattle.std.specs.Str.Parse.{ParsesUnsigned}
 use Rattle.clap.specs.Words.{App, IsAmong, Kinds, Row, Rule, Text, fault_of, first_of, kind_of, new_app, new_rule, subcommand_of, with_rule, with_subcommand}
 use Rattle.clap.specs.declared.builder.action.ArgAction.TheVariants.{Set}
 use Rattle.clap.specs.declared.error.Error.{Error}
 use Rattle.clap.specs.declared.error.kind.ErrorKind.TheVariants.{OutOfMemory}
-use Rattle.pp_machine.specs.Profile.{processors_in}
+use Rattle.pp_machine.specs.Profile.{has_processor, processors_in}
 use Rattle.pp_machine.specs.declared.profile.Profile.{Profile}
 use Rattle.pp_machine.specs.declared.profile.Profile.TheVariants.{Ten}
 use Rattle.pp_runner.specs.RunLimits.{AreLimits}
@@ -15,22 +15,23 @@ use Rattle.pp_sim.specs.declared.work.Work.{Work}
 use Rattle.pp_sim.specs.declared.work.Work.TheVariants as works
 
 -- THE COMMAND LINE, as clap sees it: `ppsim barrel --turns N`, `ppsim threads --steps N --patience
--- N`, `ppsim list`, `ppsim dump --turns N` or `ppsim state --turns N`, the command and these
--- options required, and for each `--processors N`, which may be left out; or `ppsim --version`
+-- N`, `ppsim list`, `ppsim dump --turns N`, `ppsim steps --turns N` or `ppsim state --turns N`, the
+-- command and these options required; for each `--processors N` and for `steps` also `--pp N` and
+-- `--from N`, which may be left out; or `ppsim --version`
 
 -- a required option whose value is a number
 abbrev pub number_option : Text → Rule
 number_option id =
     record (new_rule id) { long = Some id; action = Some Set; required = true; value_names = 1 }
 
+-- an option that may be left out, whose value is a number
+abbrev pub optional_number : Text → Rule
+optional_number id =
+    record (new_rule id) { long = Some id; action = Some Set; value_names = 1 }
+
 -- the option that says how many processors the machine has
 abbrev pub processors_option : Rule
-processors_option =
-    record (new_rule (codes "processors")) {
-      long = Some (codes "processors");
-      action = Some Set;
-      value_names = 1;
-    }
+processors_option = optional_number (codes "processors")
 
 abbrev pub barrel : App
 barrel =
@@ -55,6 +56,13 @@ state =
     with_rule (with_rule (new_app (codes "state"))
     (number_option (codes "turns"))) processors_option
 
+abbrev pub steps : App
+steps =
+    with_rule (with_rule (with_rule (with_rule (new_app (codes "steps"))
+    (number_option (codes "turns"))) (optional_number (codes "pp")))
+    (optional_number (codes "from")))
+    processors_option
+
 abbrev pub bare : App
 bare =
     record (new_app (codes "ppsim")) {
@@ -65,8 +73,8 @@ bare =
 unfoldable pub ppsim : App
 ppsim =
     with_subcommand
-    (with_subcommand (with_subcommand (with_subcommand
-    (with_subcommand bare barrel.top) threads.top) list.top) dump.top)
+    (with_subcommand (with_subcommand (with_subcommand (with_subcommand
+    (with_subcommand bare barrel.top) threads.top) list.top) dump.top) steps.top)
     state.top
 
 -- the kinds of refusal that clap's parse may give to the words: none where they are a command line
@@ -84,6 +92,18 @@ ReadsNumber (Some text) n = ParsesUnsigned {E = ℕ} 32 10 text (Ok n)
 abbrev pub ReadsProfile : Option Text → Profile → Type 0
 ReadsProfile None profile = profile ≡ Ten
 ReadsProfile (Some text) profile = ReadsNumber (Some text) (processors_in profile)
+
+-- a processor of a machine of this profile, by its number in octal; or none is said
+abbrev pub ReadsProcessor : Profile → Option Text → Option ℕ → Type 0
+ReadsProcessor profile None only = only ≡ None
+ReadsProcessor profile (Some text) None = ⊥
+ReadsProcessor profile (Some text) (Some n) =
+    ParsesUnsigned {E = ℕ} 8 8 text (Ok n) × IsTrue (has_processor profile n)
+
+-- a turn, 0 where none is said
+abbrev pub ReadsTurn : Option Text → ℕ → Type 0
+ReadsTurn None turn = turn ≡ 0
+ReadsTurn (Some text) turn = ReadsNumber (Some text) turn × (turn ≤ 999999)
 
 -- WHAT IT ASKS FOR
 
@@ -105,6 +125,11 @@ IsWorkOf name text_of (works.Dump profile turns) =
 IsWorkOf name text_of (works.State profile turns) =
     (name ≡ codes "state") × ReadsProfile (text_of (codes "processors")) profile
     × ReadsNumber (text_of (codes "turns")) turns × (turns ≤ 999999)
+IsWorkOf name text_of (works.Steps profile turns only from) =
+    (name ≡ codes "steps") × ReadsProfile (text_of (codes "processors")) profile
+    × ReadsNumber (text_of (codes "turns")) turns × (turns ≤ 999999)
+    × ReadsProcessor profile (text_of (codes "pp")) only
+    × ReadsTurn (text_of (codes "from")) from
 
 abbrev pub IsWorkAmong : Option (Text × List Row) → Work → Type 0
 IsWorkAmong None work = ⊥

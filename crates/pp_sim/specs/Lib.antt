@@ -4,5 +4,6 @@ pub mod ThreadsText
 pub mod ListText
 pub mod DumpText
 pub mod StateOfRun
+pub mod StepsOfRun
 pub mod CommandLine
 pub mod Program

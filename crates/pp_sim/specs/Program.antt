@@ -11,6 +11,7 @@ use Rattle.pp_sim.specs.CommandLine.{AskFor, IsOutOfRange, IsRefused, refusals}
 use Rattle.pp_sim.specs.DumpText.{HindersDump, IsDumpText}
 use Rattle.pp_sim.specs.ListText.{IsListText}
 use Rattle.pp_sim.specs.StateOfRun.{IsStateText}
+use Rattle.pp_sim.specs.StepsOfRun.{IsStepsText}
 use Rattle.pp_deck.specs.DeckMeaning.{LoadedDeck}
 use Rattle.pp_listing.specs.declared.going_on.GoingOn.{GoingOn}
 use Rattle.pp_sim.specs.TextAnswer.{AnswersUnless, IsAnswerUnless, Never, most_bytes}
@@ -32,6 +33,7 @@ IsTextBy Z (works.Threads profile limits) = IsThreadsText Z limits
 IsTextBy Z (works.List profile) = IsListText
 IsTextBy Z (works.Dump profile turns) = IsDumpText turns
 IsTextBy Z (works.State profile turns) = IsStateText turns
+IsTextBy Z (works.Steps profile turns only from) = IsStepsText turns only from
 
 -- what may stand in the way of one
 abbrev pub HindersWork : Work → LoadedDeck → GoingOn → Type 0
@@ -40,6 +42,7 @@ HindersWork (works.Threads profile limits) = Never
 HindersWork (works.List profile) = Never
 HindersWork (works.Dump profile turns) = HindersDump turns
 HindersWork (works.State profile turns) = Never
+HindersWork (works.Steps profile turns only from) = Never
 
 -- the profile of its machine
 abbrev pub profile_of : Work → Profile
@@ -48,6 +51,7 @@ profile_of (works.Threads profile limits) = profile
 profile_of (works.List profile) = profile
 profile_of (works.Dump profile turns) = profile
 profile_of (works.State profile turns) = profile
+profile_of (works.Steps profile turns only from) = profile
 
 -- the answer of a work, to the bytes that were read, and to the first bytes of a reader that tells
 -- what it has

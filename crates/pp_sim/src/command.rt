@@ -3,9 +3,9 @@
 ghost use Rattle.std.specs.Prelude.{◌≡◌, false, IfOk};
 ghost use Rattle.clap.specs.Words.{app_of, rule_of, with_rule};
 ghost use Rattle.clap.specs.declared.builder.command.Command.TheViews.{out-Command as fields_of};
-ghost use Rattle.pp_sim.specs.CommandLine.{barrel, dump, list, number_option, processors_option, ppsim, state, threads};
+ghost use Rattle.pp_sim.specs.CommandLine.{barrel, dump, list, number_option, optional_number, processors_option, ppsim, state, steps, threads};
 
-use crate::number_range::{NumberRange, PATIENCE, STEPS, TURNS};
+use crate::number_range::{FROM, NumberRange, PATIENCE, STEPS, TURNS};
 use clap::{Arg, ArgAction, Command};
 use std::alloc::{AllocError, Global};
 
@@ -70,7 +70,10 @@ of twenty processors, 20, 21, .. and 31 follow them in each round.
 
 Reads the deck from standard input. Prints to standard output a line for each channel event, in
 order; the P, the A and the state of each processor that the deck names; and the state of each
-channel that has a history. A fault is one line on standard error.
+channel that has a history. What goes wrong is one line on standard error.
+
+FAULT 1 is an exchange jump, FAULT 2 a request to the central processor, FAULT 3 a channel that the
+machine does not have, and FAULT 4 an address past the end of central memory.
 
 Where the deck has a line DEAD, the processors without a section wait for their programs, each on
 the channel of its own number, as at a dead start.";
@@ -87,10 +90,15 @@ order of events on different channels, and sometimes the events themselves, diff
 A processor ends when its program stops or faults, when its steps are done (STEPS), or when a
 channel has held one step too often in a row (PATIENCE). 1000000 is a good patience. A processor
 that waits for ever makes all these tries, in about a second; at the greatest patience in hours.
+It also ends where it is refused memory for one more answer (MEMORY), and where a channel has had
+2^50 - 1 events (WORN).
+
+FAULT 1 is an exchange jump, FAULT 2 a request to the central processor, FAULT 3 a channel that the
+machine does not have, and FAULT 4 an address past the end of central memory.
 
 Reads the deck from standard input. Prints to standard output, channel by channel, a line for each
 event in order; the P, the A and the end of each processor that the deck names; and the state of
-each channel that has a history. A fault is one line on standard error.
+each channel that has a history. What goes wrong is one line on standard error.
 
 Where the deck has a line DEAD, the processors without a section wait for their programs, each on
 the channel of its own number, as at a dead start.";
@@ -115,7 +123,7 @@ with its mnemonic and operands behind it as a comment. Nothing is run.
 
 Reads the deck from standard input. Prints to standard output the size of central memory and its
 words; DEAD, where processors wait for their programs; and the section of each processor that the
-deck names. A fault is one line on standard error.
+deck names. What goes wrong is one line on standard error.
 
 The listing is itself a deck, and loads the same machine, where it is no longer than a deck may be,
 1048576 bytes (decimal).";
@@ -146,7 +154,7 @@ that are running start where they are; the others keep their memory alone.
 Reads the deck from standard input. What is printed to standard output is a deck to go on from,
 where it is no longer than a deck may be, 1048576 bytes (decimal): histories and turns are gone.
 Where a processor is within a block or at fault, or a channel is active, nothing is printed, and the
-first of these is told on standard error. A fault is one line there too.";
+first of these is told on standard error. What else goes wrong is one line there too.";
 
 const STATE_ABOUT: &str = "Runs a deck in the barrel, and prints how things stand then";
 
@@ -158,11 +166,39 @@ Reads the deck from standard input. Prints to standard output, for each processo
 names, its P, its A and its state, the instruction at P, the next place of a block in progress, and,
 where its next step is held, by which channel and how many of its last steps in a row were; then the
 words of processors and of central memory that differ from those loaded, as lines of a deck; and the
-state of each channel that has a history. A fault is one line on standard error.";
+state of each channel that has a history. What goes wrong is one line on standard error.
+
+FAULT 1 is an exchange jump, FAULT 2 a request to the central processor, FAULT 3 a channel that the
+machine does not have, and FAULT 4 an address past the end of central memory.";
 
 const STATE_EXAMPLE: &str = "\
 Example:
   ppsim state --turns 40 < four.deck
+where four.deck has the lines
+  PP 0
+  0100 1405 1603 3450 0300
+  START 0100";
+
+const STEPS_ABOUT: &str = "Runs a deck in the barrel, and prints each step";
+
+const STEPS_LONG_ABOUT: &str = "\
+Runs a deck in the barrel, and prints each step: what the instruction is, and what it did.
+
+Reads the deck from standard input. Prints to standard output a line for each step of the processors
+that the deck names: the turn, the processor, P, the word or two at P, the instruction that they
+are, and A after it; then each place and each central word that is not what it was; the channel
+event, or the flags that were seen; and STOPPED or FAULT with its number. Steps of a processor that
+are held in a row, with the same flags, are one line, at the first of them: HELD, the channel with
+its flags, and how many they are. What goes wrong is one line on standard error.
+
+FAULT 1 is an exchange jump, FAULT 2 a request to the central processor, FAULT 3 a channel that the
+machine does not have, and FAULT 4 an address past the end of central memory.";
+
+const PP_HELP: &str = "The processor whose steps alone are printed (octal)";
+
+const STEPS_EXAMPLE: &str = "\
+Example:
+  ppsim steps --turns 40 --pp 0 < four.deck
 where four.deck has the lines
   PP 0
   0100 1405 1603 3450 0300
@@ -181,16 +217,24 @@ fn number_option<'a>(alloc: Global, id: &'a str, help: &'a str) -> Arg<'a>
         .help(help)
 }
 
+/// An option that may be left out, whose value is a number.
+fn optional_number<'a>(alloc: Global, id: &'a str, help: &'a str) -> Arg<'a>
+    ensures rule { rule_of result ≡ optional_number id.entry.now }
+    ensures local { result.global ≡ false }
+{
+    Arg::new(alloc, id)
+        .long(id)
+        .action(ArgAction::Set)
+        .value_name("N")
+        .help(help)
+}
+
 /// The option that says how many processors the machine has.
 fn processors_option<'a>(alloc: Global) -> Arg<'a>
     ensures rule { rule_of result ≡ processors_option }
     ensures local { result.global ≡ false }
 {
-    Arg::new(alloc, "processors")
-        .long("processors")
-        .action(ArgAction::Set)
-        .value_name("N")
-        .help(PROCESSORS_HELP)
+    optional_number(alloc, "processors", PROCESSORS_HELP)
 }
 
 /// A command with one more required option, whose value is a number of this range.
@@ -206,6 +250,21 @@ fn with_number<'a>(
     ensures local { IfOk result (λ c. (fields_of c).has_globals ≡ false) }
 {
     command.arg(number_option(alloc, id, range.help))
+}
+
+/// A command with one more option that may be left out, whose value is a number.
+fn with_optional_number<'a>(
+    alloc: Global,
+    command: Command<'a>,
+    id: &'a str,
+    help: &'a str,
+) -> Result<Command<'a>, AllocError>
+    requires { (fields_of command).has_globals ≡ false }
+    ensures app { IfOk result (λ c. app_of c
+        ≡ with_rule (app_of command.entry) (optional_number id.entry.now)) }
+    ensures local { IfOk result (λ c. (fields_of c).has_globals ≡ false) }
+{
+    command.arg(optional_number(alloc, id, help))
 }
 
 /// `barrel --turns N [--processors N]`
@@ -273,6 +332,21 @@ fn state_command<'a>(alloc: Global) -> Result<Command<'a>, AllocError>
     command.arg(processors_option(alloc))
 }
 
+/// `steps --turns N [--pp N] [--from N] [--processors N]`
+fn steps_command<'a>(alloc: Global) -> Result<Command<'a>, AllocError>
+    ensures app { IfOk result (λ c. app_of c ≡ steps) }
+    ensures local { IfOk result (λ c. (fields_of c).has_globals ≡ false) }
+{
+    let command = Command::new(alloc, "steps")
+        .about(STEPS_ABOUT)
+        .long_about(STEPS_LONG_ABOUT)
+        .after_help(STEPS_EXAMPLE);
+    let command = with_number(alloc, command, "turns", TURNS)?;
+    let command = with_optional_number(alloc, command, "pp", PP_HELP)?;
+    let command = with_optional_number(alloc, command, "from", FROM.help)?;
+    command.arg(processors_option(alloc))
+}
+
 /// The whole command line.
 #[tactic(auto, unfolding(crate::specs::CommandLine::ppsim))]
 pub(crate) fn command<'a>(alloc: Global) -> Result<Command<'a>, AllocError>
@@ -282,6 +356,7 @@ pub(crate) fn command<'a>(alloc: Global) -> Result<Command<'a>, AllocError>
     let threads = threads_command(alloc)?;
     let list = list_command(alloc)?;
     let dump = dump_command(alloc)?;
+    let steps = steps_command(alloc)?;
     let state = state_command(alloc)?;
     let bare = Command::new(alloc, "ppsim")
         .about(ABOUT)
@@ -292,6 +367,7 @@ pub(crate) fn command<'a>(alloc: Global) -> Result<Command<'a>, AllocError>
     let runs = bare.subcommand(barrel)?.subcommand(threads)?;
     let texts = runs.subcommand(list)?;
     let decks = texts.subcommand(dump)?;
-    let whole = decks.subcommand(state)?;
+    let runs_step_by_step = decks.subcommand(steps)?;
+    let whole = runs_step_by_step.subcommand(state)?;
     Ok(whole)
 }

@@ -1,19 +1,19 @@
 //! Reading the words of a command line.
 
-ghost use Rattle.std.specs.Prelude.{◌≡◌, ◌≤◌, ◌↔◌, ℕ, [], codes, map, IfOk, IfErr, IfSome, IsSome, OnOk, MatchOption};
+ghost use Rattle.std.specs.Prelude.{◌≡◌, ◌≤◌, ◌↔◌, ℕ, [], codes, map, Option, IfOk, IfErr, IfSome, IsSome, OnOk, MatchOption};
 ghost use Rattle.clap.specs.Words.{first_value, found_of};
 ghost use Rattle.pp_machine.specs.declared.profile.Profile.{Profile};
 ghost use Rattle.pp_runner.specs.RunLimits.{AreLimits};
-ghost use Rattle.pp_sim.specs.CommandLine.{AskFor, IsFaultBy, IsOutOfRange, IsRefused, IsWorkOf, ReadsNumber, ReadsProfile, refusals};
+ghost use Rattle.pp_sim.specs.CommandLine.{AskFor, IsFaultBy, IsOutOfRange, IsRefused, IsWorkOf, ReadsNumber, ReadsProcessor, ReadsProfile, ReadsTurn, refusals};
 ghost use Rattle.pp_sim.specs.declared.work.Work.{Work};
 
 use crate::command::command;
 use crate::line_fault::LineFault;
-use crate::number_range::{PATIENCE, STEPS, TURNS};
+use crate::number_range::{FROM, PATIENCE, STEPS, TURNS};
 use crate::work::Work;
 use clap::error::ErrorKind;
 use clap::{ArgMatches, Error};
-use pp_machine::Profile;
+use pp_machine::{PpNo, Profile};
 use pp_runner::Limits;
 use std::alloc::Global;
 
@@ -77,6 +77,40 @@ fn turns_of(matches: &ArgMatches<'_>) -> Option<u32>
     Some(turns)
 }
 
+/// The processor of a machine of this profile that the options say, in octal; or nothing where they
+/// say no such processor. They need not say one.
+fn only_of(matches: &ArgMatches<'_>, profile: Profile) -> Option<Option<PpNo>>
+    ensures { MatchOption result ((only : Option ℕ) → ¬ ReadsProcessor profile
+        (first_value (found_of matches.now) (codes "pp")) only)
+        (ReadsProcessor profile (first_value (found_of matches.now) (codes "pp"))) }
+{
+    let Some(text) = matches.get_str("pp") else {
+        return Some(None);
+    };
+    match u8::from_str_radix(text, 8) {
+        Ok(number) => match profile.processor(number) {
+            Some(n) => Some(Some(n)),
+            None => None,
+        },
+        Err(_) => None,
+    }
+}
+
+/// The turn from which on lines are printed, if it is in range; 0 where the options do not say it.
+fn from_of(matches: &ArgMatches<'_>) -> Option<u32>
+    ensures { MatchOption result
+        ((n : ℕ) → ¬ ReadsTurn (first_value (found_of matches.now) (codes "from")) n)
+        (ReadsTurn (first_value (found_of matches.now) (codes "from"))) }
+{
+    let Some(text) = matches.get_str("from") else {
+        return Some(0);
+    };
+    match text.parse::<u32>() {
+        Ok(turn) if FROM.contains(turn) => Some(turn),
+        Ok(_) | Err(_) => None,
+    }
+}
+
 /// The work that a command asks for, if its numbers are in range.
 fn work_of(name: &str, matches: &ArgMatches<'_>) -> Option<Work>
     ensures { MatchOption result ((work : Work)
@@ -104,6 +138,17 @@ fn work_of(name: &str, matches: &ArgMatches<'_>) -> Option<Work>
         let profile = profile_of(matches)?;
         let turns = turns_of(matches)?;
         Some(Work::State { profile, turns })
+    } else if name == "steps" {
+        let profile = profile_of(matches)?;
+        let turns = turns_of(matches)?;
+        let only = only_of(matches, profile)?;
+        let from = from_of(matches)?;
+        Some(Work::Steps {
+            profile,
+            turns,
+            only,
+            from,
+        })
     } else {
         None
     }

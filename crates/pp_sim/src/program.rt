@@ -9,6 +9,7 @@ use crate::dumped_text::dump_text;
 use crate::line_fault::LineFault;
 use crate::listing_text::list_text;
 use crate::state_of_run::state_text;
+use crate::steps_of_run::steps_text;
 use crate::streams::write_whole;
 use crate::text::barrel_text;
 use crate::text_by_threads::threads_text;
@@ -74,6 +75,12 @@ fn do_work<T: Threads + Wait + Sync, I: Read, A: Allocator + Copy + Send + Sync,
         Work::List { profile } => list_text(alloc, profile, input, output),
         Work::Dump { profile, turns } => dump_text(alloc, profile, input, output, turns),
         Work::State { profile, turns } => state_text(alloc, profile, input, output, turns),
+        Work::Steps {
+            profile,
+            turns,
+            only,
+            from,
+        } => steps_text(alloc, profile, input, output, turns, only, from),
     }
 }
 

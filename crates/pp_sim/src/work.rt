@@ -1,6 +1,6 @@
 //! What a command line asks for.
 
-use pp_machine::Profile;
+use pp_machine::{PpNo, Profile};
 use pp_runner::Limits;
 
 /// The work that a command line asks for.
@@ -8,15 +8,38 @@ use pp_runner::Limits;
 pub enum Work {
     /// The run of a deck in the barrel of a machine of this profile, for so many turns (decimal), 0
     /// to 999,999.
-    Barrel { profile: Profile, turns: u32 },
+    Barrel {
+        profile: Profile,
+        turns: u32,
+    },
     /// The run of a deck with one thread per processor of this profile, within these limits.
-    Threads { profile: Profile, limits: Limits },
+    Threads {
+        profile: Profile,
+        limits: Limits,
+    },
     /// The listing of a deck for a machine of this profile.
-    List { profile: Profile },
+    List {
+        profile: Profile,
+    },
     /// The dump of a deck that has run in the barrel of a machine of this profile, for so many
     /// turns (decimal), 0 to 999,999.
-    Dump { profile: Profile, turns: u32 },
+    Dump {
+        profile: Profile,
+        turns: u32,
+    },
     /// How things stand after a deck has run in the barrel of a machine of this profile, for so
     /// many turns (decimal), 0 to 999,999.
-    State { profile: Profile, turns: u32 },
+    State {
+        profile: Profile,
+        turns: u32,
+    },
+    /// The steps of a deck in the barrel of a machine of this profile, in so many turns (decimal), 0
+    /// to 999,999: of one processor of the machine alone, or else of those that the deck names; and
+    /// from a turn on, 0 to 999,999.
+    Steps {
+        profile: Profile,
+        turns: u32,
+        only: Option<PpNo>,
+        from: u32,
+    },
 }

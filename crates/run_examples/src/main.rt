@@ -11,7 +11,7 @@ use std::thread::Threads;
 use test_bench::text_of_twenty;
 
 /// The examples that run in the barrel of ten processors, and their turns.
-const IN_THE_BARREL: [(&str, &str); 14] = [
+const IN_THE_BARREL: [(&str, &str); 17] = [
     ("handoff", "40"),
     ("no_turns", "0"),
     ("lost_word", "80"),
@@ -26,11 +26,14 @@ const IN_THE_BARREL: [(&str, &str); 14] = [
     ("token_ring", "300"),
     ("central_copy", "200"),
     ("dead_start", "1600"),
+    ("bubble_sort", "1700"),
+    ("subroutine", "200"),
+    ("poll_loop", "400"),
 ];
 
 /// The same on twenty processors, in twice the turns, and the lines that follow their texts then:
 /// the channels on which the further processors wait.
-const ON_TWENTY: [(&str, &str, &str); 14] = [
+const ON_TWENTY: [(&str, &str, &str); 17] = [
     ("handoff", "80", ""),
     ("no_turns", "0", ""),
     ("lost_word", "160", ""),
@@ -44,6 +47,9 @@ const ON_TWENTY: [(&str, &str, &str); 14] = [
     ("loader", "2400", ""),
     ("token_ring", "600", ""),
     ("central_copy", "400", ""),
+    ("bubble_sort", "3400", ""),
+    ("subroutine", "400", ""),
+    ("poll_loop", "800", ""),
     (
         "dead_start",
         "3200",

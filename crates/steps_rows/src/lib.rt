@@ -1,8 +1,10 @@
-//! The lines of steps: rows worked out by an independent program, each growth refused in turn, and
-//! a writer that gives up.
+//! The lines of steps: rows worked out by an independent program, decks that are refused, devices
+//! that fail, and each growth refused in turn.
 #![tactic(auto)]
 
 #[cfg(test)]
 mod decks;
+#[cfg(test)]
+mod devices;
 #[cfg(test)]
 mod refusals;

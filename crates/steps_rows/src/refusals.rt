@@ -2,6 +2,7 @@
 
 use pp_deck::{Deck, read_deck};
 use pp_machine::Profile;
+use pp_sim::{TextFault, steps_text};
 use pp_steps::write_steps;
 use pp_text::ReportFault;
 use rationed::Rationed;
@@ -10,7 +11,7 @@ use std::test::Fail;
 use test_bench::{Failure, Sink};
 
 /// Processor 1 waits for a word, and then for another that never comes.
-const DECK: &str = "\
+pub(crate) const DECK: &str = "\
 PP 0
 0100 7405 1407 7205 0300
 START 0100
@@ -19,7 +20,7 @@ PP 1
 START 0200
 ";
 
-const STEPS: &str = "\
+pub(crate) const STEPS: &str = "\
 000000 PP00 0100 7405       ACN 05        A=000000 CH05 ACN
 000001 PP01 0200 7005       IAN 05        A=000000 HELD CH05 ACTIVE EMPTY x2
 000010 PP00 0101 1407       LDN 07        A=000007
@@ -29,7 +30,7 @@ const STEPS: &str = "\
 000031 PP01 0201 7005       IAN 05        A=000007 HELD CH05 ACTIVE EMPTY x7
 ";
 
-const TURNS: u32 = 100;
+pub(crate) const TURNS: u32 = 100;
 
 fn deck_over(heap: &Rationed<Global>) -> Result<Deck<&Rationed<Global>>, Fail> {
     read_deck(heap, Profile::Ten, DECK.as_bytes()).map_err(|_| "a deck without faults".into())
@@ -74,4 +75,41 @@ fn steps_that_no_one_takes(rt: HostRuntime) -> Result<(), Fail> {
     assert_eq!(rt; done.err(), Some(ReportFault::Write));
     assert_eq!(rt; sink.taken(), &STEPS.as_bytes()[..100]);
     Ok(())
+}
+
+/// How the steps of a deck that is read end with this request refused, and whether all of them were
+/// written, or nothing.
+fn text_at(
+    rt: &impl AllocGlobal,
+    heap: &Rationed<Global>,
+    number: u64,
+) -> (Result<(), TextFault>, bool, bool) {
+    heap.refuse(number);
+    let mut written = Vec::new(rt.alloc());
+    let mut input = DECK.as_bytes();
+    let done = steps_text(heap, Profile::Ten, &mut input, &mut written, TURNS, None, 0);
+    let is_whole = written.as_slice() == STEPS.as_bytes();
+    (done, is_whole, written.is_empty())
+}
+
+#[test]
+fn steps_text_refused(rt: HostRuntime) {
+    let heap = Rationed::new(rt.alloc());
+    for number in 1..100u64 {
+        let ended = text_at(&rt, &heap, number);
+        if !heap.has_refused() {
+            assert_eq!(rt; ended, (Ok(()), true, false));
+            assert!(rt;
+                number > 6,
+                "bytes, a machine, counts and three more machines"
+            );
+            return;
+        }
+        assert_eq!(rt;
+            ended,
+            (Err(TextFault::Memory), false, true),
+            "request {number}"
+        );
+    }
+    panic!(rt; "a request is refused in each run")
 }

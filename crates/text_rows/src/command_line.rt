@@ -1,8 +1,9 @@
 //! Command lines, each with what it asks for.
 
-use pp_machine::Profile;
+use pp_machine::{PpNo, Profile};
 use pp_sim::{LineFault, Work, read_words};
 use std::alloc::Global;
+use std::test::Fail;
 
 /// Why a command line was refused.
 #[derive(Clone, Copy, Debug, PartialEq, Eq)]
@@ -23,7 +24,7 @@ fn asked(alloc: Global, words: &[&str]) -> Result<Work, Refused> {
 }
 
 /// Words after the program's name, and what they ask for.
-const RUNS: [(&[&str], Result<Work, Refused>); 10] = [
+const RUNS: [(&[&str], Result<Work, Refused>); 12] = [
     (
         &["ppsim", "barrel", "--turns", "40"],
         Ok(Work::Barrel {
@@ -67,6 +68,11 @@ const RUNS: [(&[&str], Result<Work, Refused>); 10] = [
         Err(Refused::Number),
     ),
     (&["ppsim", "state"], Err(Refused::Words)),
+    (
+        &["ppsim", "steps", "--turns", "1000000"],
+        Err(Refused::Number),
+    ),
+    (&["ppsim", "steps", "--pp", "0"], Err(Refused::Words)),
 ];
 
 #[test]
@@ -74,6 +80,85 @@ fn words_of_a_run(rt: HostRuntime) {
     for (words, work) in RUNS {
         assert_eq!(rt; asked(rt.alloc(), words), work);
     }
+}
+
+/// Options of `steps` behind `--turns 40`, and the processor (octal) and the turn that they give, if
+/// they are taken.
+const SHOWN: [(&[&str], Option<(Option<u8>, u32)>); 15] = [
+    (&[], Some((None, 0))),
+    (&["--pp", "0"], Some((Some(0), 0))),
+    (&["--pp", "11"], Some((Some(0o11), 0))),
+    (&["--pp", "+07"], Some((Some(0o7), 0))),
+    (&["--pp", "12"], None),
+    (&["--pp", "9"], None),
+    (&["--pp", "20"], None),
+    (&["--pp", "400"], None),
+    (&["--pp", ""], None),
+    (&["--pp", "31", "--processors", "20"], Some((Some(0o31), 0))),
+    (&["--pp", "32", "--processors", "20"], None),
+    (&["--from", "999999"], Some((None, 999_999))),
+    (&["--from", "1000000"], None),
+    (&["--from", "ten"], None),
+    (&["--from", "8", "--pp", "1"], Some((Some(1), 8))),
+];
+
+/// The words that ask for 40 turns of steps with these options.
+fn words_of_steps(
+    alloc: Global,
+    options: &'static [&'static str],
+) -> Result<Vec<&'static str>, Fail> {
+    let mut words = Vec::new(alloc);
+    words.extend_from_slice(&["ppsim", "steps", "--turns", "40"])?;
+    words.extend_from_slice(options)?;
+    Ok(words)
+}
+
+/// The processor and the turn of steps, if they are asked for in 40 turns.
+fn shown_in(asked: Result<Work, Refused>) -> Option<(Option<u8>, u32)> {
+    match asked.ok()? {
+        Work::Steps {
+            turns: 40,
+            only,
+            from,
+            ..
+        } => Some((only.map(|n| n.get()), from)),
+        _ => None,
+    }
+}
+
+/// Every option of `steps`.
+const ALL_OPTIONS: [&str; 10] = [
+    "ppsim",
+    "steps",
+    "--turns",
+    "999999",
+    "--pp",
+    "31",
+    "--from",
+    "5",
+    "--processors",
+    "20",
+];
+
+#[test]
+fn words_of_all_options(rt: HostRuntime) {
+    let work = Work::Steps {
+        profile: Profile::Twenty,
+        turns: 999_999,
+        only: PpNo::new(0o31),
+        from: 5,
+    };
+    assert_eq!(rt; asked(rt.alloc(), &ALL_OPTIONS), Ok(work));
+}
+
+#[test]
+fn words_of_steps_shown(rt: HostRuntime) -> Result<(), Fail> {
+    for (options, numbers) in SHOWN {
+        let words = words_of_steps(rt.alloc(), options)?;
+        let shown = shown_in(asked(rt.alloc(), &words));
+        assert_eq!(rt; shown, numbers, "{options:?}");
+    }
+    Ok(())
 }
 
 /// The texts of the two numbers, and the numbers where they are taken.
@@ -99,7 +184,11 @@ fn asked_limits(alloc: Global, steps: &str, patience: &str) -> Option<(u32, u32)
 fn limits_in(asked: Result<Work, Refused>) -> Option<(u32, u32)> {
     match asked.ok()? {
         Work::Threads { limits, .. } => Some((limits.steps(), limits.patience())),
-        Work::Barrel { .. } | Work::List { .. } | Work::Dump { .. } | Work::State { .. } => None,
+        Work::Barrel { .. }
+        | Work::List { .. }
+        | Work::Dump { .. }
+        | Work::State { .. }
+        | Work::Steps { .. } => None,
     }
 }
 

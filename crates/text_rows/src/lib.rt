@@ -11,6 +11,12 @@ mod faults;
 #[cfg(test)]
 mod help;
 #[cfg(test)]
+mod help_examples;
+#[cfg(test)]
+mod help_of_runs;
+#[cfg(test)]
+mod help_of_views;
+#[cfg(test)]
 mod memories;
 #[cfg(test)]
 mod processors;

@@ -34,9 +34,10 @@ fn kind_of(work: Work) -> Kind {
         Work::Threads { profile, limits } => {
             (profile, limits.steps() == 5 && limits.patience() == 6)
         }
-        Work::List { profile } | Work::Dump { profile, .. } | Work::State { profile, .. } => {
-            (profile, false)
-        }
+        Work::List { profile }
+        | Work::Dump { profile, .. }
+        | Work::State { profile, .. }
+        | Work::Steps { profile, .. } => (profile, false),
     };
     if is_this {
         Kind::Run(profile)

@@ -72,6 +72,59 @@ CH33 ACTIVE EMPTY
     ),
 ];
 
+/// A command line that asks for steps, a deck, and the answer.
+const STEPS: [(&[&str], &str, &str); 4] = [
+    (
+        &["ppsim", "steps", "--turns", "40"],
+        HANDOFF,
+        "\
+000000 PP00 0100 7405       ACN 05        A=000000 CH05 ACN
+000001 PP01 0200 7005       IAN 05        A=000000 HELD CH05 ACTIVE EMPTY x2
+000010 PP00 0101 1407       LDN 07        A=000007
+000020 PP00 0102 7205       OAN 05        A=000007 CH05 PUT 0007
+000021 PP01 0200 7005       IAN 05        A=000007 CH05 TAK 0007
+000030 PP00 0103 0300       UJN 0103      A=000007 STOPPED
+000031 PP01 0201 0300       UJN 0201      A=000007 STOPPED
+",
+    ),
+    (
+        &["ppsim", "steps", "--turns", "40", "--pp", "1"],
+        HANDOFF,
+        "\
+000001 PP01 0200 7005       IAN 05        A=000000 HELD CH05 ACTIVE EMPTY x2
+000021 PP01 0200 7005       IAN 05        A=000007 CH05 TAK 0007
+000031 PP01 0201 0300       UJN 0201      A=000007 STOPPED
+",
+    ),
+    (
+        &["ppsim", "steps", "--turns", "31", "--from", "20"],
+        HANDOFF,
+        "\
+000020 PP00 0102 7205       OAN 05        A=000007 CH05 PUT 0007
+000021 PP01 0200 7005       IAN 05        A=000007 CH05 TAK 0007
+000030 PP00 0103 0300       UJN 0103      A=000007 STOPPED
+",
+    ),
+    // A processor that the deck does not name is shown where it is asked for: it waits for its
+    // program from the first turn on.
+    (
+        &["ppsim", "steps", "--turns", "20", "--pp", "11"],
+        "DEAD\n",
+        "\
+000009 PP11 0000 0000       PSN 00        A=010000 HELD CH11 ACTIVE EMPTY x2
+",
+    ),
+];
+
+#[test]
+fn steps_of_a_run(rt: HostRuntime) {
+    for (words, deck, text) in STEPS {
+        let input = Source::new(deck.as_bytes(), 1, None);
+        let ended = ending(&rt, words, input, text, "");
+        assert_eq!(rt; ended, (0, true, true, deck.len() as u32 + 1), "{text}");
+    }
+}
+
 #[test]
 fn how_things_stand(rt: HostRuntime) {
     for (words, deck, text) in STATES {
@@ -82,11 +135,12 @@ fn how_things_stand(rt: HostRuntime) {
 }
 
 /// A command line, and a processor that its machine has not.
-const BEHIND_THE_LAST: [(&[&str], &str); 4] = [
+const BEHIND_THE_LAST: [(&[&str], &str); 5] = [
     (&WORDS_OF_A_RUN, "PP 20"),
     (&WORDS_OF_TWENTY, "PP 12"),
     (&WORDS_OF_TWENTY, "PP 32"),
     (&["ppsim", "state", "--turns", "40"], "PP 12"),
+    (&["ppsim", "steps", "--turns", "40"], "PP 20"),
 ];
 
 #[test]

@@ -4,12 +4,12 @@ use crate::program::{ending, handoff};
 
 const OUT_OF_RANGE: &str = "ppsim: number out of range\n";
 
-const REFUSED: [(&[&str], &str); 21] = [
+const REFUSED: [(&[&str], &str); 24] = [
     (
         &["ppsim"],
         "\
 error: 'ppsim' requires a subcommand but one was not provided
-  [subcommands: barrel, threads, list, dump, state, help]
+  [subcommands: barrel, threads, list, dump, steps, state, help]
 
 Usage: ppsim <COMMAND>
 
@@ -143,6 +143,25 @@ For more information, try '--help'.
 ",
     ),
     (&["ppsim", "state", "--turns", "1000000"], OUT_OF_RANGE),
+    (
+        &["ppsim", "steps"],
+        "\
+error: the following required arguments were not provided:
+  --turns <N>
+
+Usage: ppsim steps --turns <N>
+
+For more information, try '--help'.
+",
+    ),
+    (
+        &["ppsim", "steps", "--turns", "9", "--pp", "12"],
+        OUT_OF_RANGE,
+    ),
+    (
+        &["ppsim", "steps", "--turns", "9", "--from", "1000000"],
+        OUT_OF_RANGE,
+    ),
     (&["ppsim", "barrel", "--turns", "1000000"], OUT_OF_RANGE),
     (&["ppsim", "barrel", "--turns", "forty"], OUT_OF_RANGE),
     (&["ppsim", "barrel", "--turns", ""], OUT_OF_RANGE),

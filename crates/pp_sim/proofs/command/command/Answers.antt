@@ -15,4 +15,6 @@ returns c =
     c.in_ok-texts.ensures.shape c.in_ok-list.ensures.local ∙ ap₂ with_subcommand runs_are (ap (λ (a : App). a.top) c.in_ok-list.ensures.app) in
     let decks_are : app_of c.in_ok-decks.decks ≡ with_subcommand (with_subcommand (with_subcommand (with_subcommand bare _) _) _) _ =
     c.in_ok-decks.ensures.shape c.in_ok-dump.ensures.local ∙ ap₂ with_subcommand texts_are (ap (λ (a : App). a.top) c.in_ok-dump.ensures.app) in
-    c.in_ok-whole.ensures.shape c.in_ok-state.ensures.local ∙ ap₂ with_subcommand decks_are (ap (λ (a : App). a.top) c.in_ok-state.ensures.app)
+    let steps_are : app_of c.in_ok-runs_step_by_step.runs_step_by_step ≡ with_subcommand (with_subcommand (with_subcommand (with_subcommand (with_subcommand bare _) _) _) _) _ =
+    c.in_ok-runs_step_by_step.ensures.shape c.in_ok-steps.ensures.local ∙ ap₂ with_subcommand decks_are (ap (λ (a : App). a.top) c.in_ok-steps.ensures.app) in
+    c.in_ok-whole.ensures.shape c.in_ok-state.ensures.local ∙ ap₂ with_subcommand steps_are (ap (λ (a : App). a.top) c.in_ok-state.ensures.app)

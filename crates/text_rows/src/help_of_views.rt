@@ -1,0 +1,204 @@
+//! The help of the commands that list a deck, or run it and print what it did and how things stand.
+
+pub(crate) const LIST: &str = "\
+Prints the listing of a deck: the words of each processor that are not 0, one instruction a line,
+with its mnemonic and operands behind it as a comment. Nothing is run.
+
+Reads the deck from standard input. Prints to standard output the size of central memory and its
+words; DEAD, where processors wait for their programs; and the section of each processor that the
+deck names. What goes wrong is one line on standard error.
+
+The listing is itself a deck, and loads the same machine, where it is no longer than a deck may be,
+1048576 bytes (decimal).
+
+Usage: ppsim list [OPTIONS]
+
+Options:
+      --processors <N>
+          How many processors the machine has, 10 or 20 (decimal); 10 if not given
+
+  -h, --help
+          Print help (see a summary with '-h')
+
+Example:
+  ppsim list < four.deck
+where four.deck has the lines
+  PP 0
+  0100 1405 1603 3450 0300
+  START 0100
+";
+
+pub(crate) const LIST_IN_SHORT: &str = "\
+Prints the listing of a deck, one instruction a line, which is itself a deck
+
+Usage: ppsim list [OPTIONS]
+
+Options:
+      --processors <N>  How many processors the machine has, 10 or 20 (decimal); 10 if not given
+  -h, --help            Print help (see more with '--help')
+
+Example:
+  ppsim list < four.deck
+where four.deck has the lines
+  PP 0
+  0100 1405 1603 3450 0300
+  START 0100
+";
+
+pub(crate) const DUMP: &str = "\
+Runs a deck in the barrel, and prints what is in the machine then, in the form of a listing: central
+memory, and the words of each processor that the deck names or that was loaded at dead start. Those
+that are running start where they are; the others keep their memory alone.
+
+Reads the deck from standard input. What is printed to standard output is a deck to go on from,
+where it is no longer than a deck may be, 1048576 bytes (decimal): histories and turns are gone.
+Where a processor is within a block or at fault, or a channel is active, nothing is printed, and the
+first of these is told on standard error. What else goes wrong is one line there too.
+
+Usage: ppsim dump [OPTIONS] --turns <N>
+
+Options:
+      --turns <N>
+          How many turns to run, 0 to 999999 (decimal)
+
+      --processors <N>
+          How many processors the machine has, 10 or 20 (decimal); 10 if not given
+
+  -h, --help
+          Print help (see a summary with '-h')
+
+Example:
+  ppsim dump --turns 40 < four.deck
+where four.deck has the lines
+  PP 0
+  0100 1405 1603 3450 0300
+  START 0100
+";
+
+pub(crate) const DUMP_IN_SHORT: &str = "\
+Runs a deck in the barrel, and prints a deck to go on from
+
+Usage: ppsim dump [OPTIONS] --turns <N>
+
+Options:
+      --turns <N>       How many turns to run, 0 to 999999 (decimal)
+      --processors <N>  How many processors the machine has, 10 or 20 (decimal); 10 if not given
+  -h, --help            Print help (see more with '--help')
+
+Example:
+  ppsim dump --turns 40 < four.deck
+where four.deck has the lines
+  PP 0
+  0100 1405 1603 3450 0300
+  START 0100
+";
+
+pub(crate) const STEPS: &str = "\
+Runs a deck in the barrel, and prints each step: what the instruction is, and what it did.
+
+Reads the deck from standard input. Prints to standard output a line for each step of the processors
+that the deck names: the turn, the processor, P, the word or two at P, the instruction that they
+are, and A after it; then each place and each central word that is not what it was; the channel
+event, or the flags that were seen; and STOPPED or FAULT with its number. Steps of a processor that
+are held in a row, with the same flags, are one line, at the first of them: HELD, the channel with
+its flags, and how many they are. What goes wrong is one line on standard error.
+
+FAULT 1 is an exchange jump, FAULT 2 a request to the central processor, FAULT 3 a channel that the
+machine does not have, and FAULT 4 an address past the end of central memory.
+
+Usage: ppsim steps [OPTIONS] --turns <N>
+
+Options:
+      --turns <N>
+          How many turns to run, 0 to 999999 (decimal)
+
+      --pp <N>
+          The processor whose steps alone are printed (octal)
+
+      --from <N>
+          The first turn whose line is printed (0 if not given), 0 to 999999 (decimal)
+
+      --processors <N>
+          How many processors the machine has, 10 or 20 (decimal); 10 if not given
+
+  -h, --help
+          Print help (see a summary with '-h')
+
+Example:
+  ppsim steps --turns 40 --pp 0 < four.deck
+where four.deck has the lines
+  PP 0
+  0100 1405 1603 3450 0300
+  START 0100
+";
+
+pub(crate) const STEPS_IN_SHORT: &str = "\
+Runs a deck in the barrel, and prints each step
+
+Usage: ppsim steps [OPTIONS] --turns <N>
+
+Options:
+      --turns <N>       How many turns to run, 0 to 999999 (decimal)
+      --pp <N>          The processor whose steps alone are printed (octal)
+      --from <N>        The first turn whose line is printed (0 if not given), 0 to 999999 (decimal)
+      --processors <N>  How many processors the machine has, 10 or 20 (decimal); 10 if not given
+  -h, --help            Print help (see more with '--help')
+
+Example:
+  ppsim steps --turns 40 --pp 0 < four.deck
+where four.deck has the lines
+  PP 0
+  0100 1405 1603 3450 0300
+  START 0100
+";
+
+pub(crate) const STATE: &str = "\
+Runs a deck in the barrel, and prints how things stand then: where each processor is and what holds
+it, what the run has changed in the memories, and the state of the channels.
+
+Reads the deck from standard input. Prints to standard output, for each processor that the deck
+names, its P, its A and its state, the instruction at P, the next place of a block in progress, and,
+where its next step is held, by which channel and how many of its last steps in a row were; then the
+words of processors and of central memory that differ from those loaded, as lines of a deck; and the
+state of each channel that has a history. What goes wrong is one line on standard error.
+
+FAULT 1 is an exchange jump, FAULT 2 a request to the central processor, FAULT 3 a channel that the
+machine does not have, and FAULT 4 an address past the end of central memory.
+
+Usage: ppsim state [OPTIONS] --turns <N>
+
+Options:
+      --turns <N>
+          How many turns to run, 0 to 999999 (decimal)
+
+      --processors <N>
+          How many processors the machine has, 10 or 20 (decimal); 10 if not given
+
+  -h, --help
+          Print help (see a summary with '-h')
+
+Example:
+  ppsim state --turns 40 < four.deck
+where four.deck has the lines
+  PP 0
+  0100 1405 1603 3450 0300
+  START 0100
+";
+
+pub(crate) const STATE_IN_SHORT: &str = "\
+Runs a deck in the barrel, and prints how things stand then
+
+Usage: ppsim state [OPTIONS] --turns <N>
+
+Options:
+      --turns <N>       How many turns to run, 0 to 999999 (decimal)
+      --processors <N>  How many processors the machine has, 10 or 20 (decimal); 10 if not given
+  -h, --help            Print help (see more with '--help')
+
+Example:
+  ppsim state --turns 40 < four.deck
+where four.deck has the lines
+  PP 0
+  0100 1405 1603 3450 0300
+  START 0100
+";
