@@ -19,7 +19,6 @@ use pp_channel::{Line, Memory, Worn};
 use pp_machine::{Answer, Need, Outcome, Pp, PpNo, PpState};
 use std::alloc::Allocator;
 use std::sync::Wait;
-use std::{hint, thread};
 
 /// A worker between two tries of a step.
 #[derive(Drop)]
@@ -122,9 +121,7 @@ impl<A: Allocator + Copy> Labour<A> {
     }
 
     /// Tries the next step until the processor moves, and answers `None` where it did. Each try is
-    /// an operation, if the step needs one; a worker gives up after just as many as its patience. A
-    /// core is given away after each 128 tries in vain (decimal), and after each one where it is
-    /// the only core.
+    /// an operation, if the step needs one; a worker gives up after just as many as its patience.
     fn take_step<R: Wait, G: Gate>(
         &mut self,
         rt: &R,
@@ -161,8 +158,7 @@ impl<A: Allocator + Copy> Labour<A> {
             self.tries += 1;
             match self.try_step(rt, site, load) {
                 Try::Moved => return None,
-                Try::Held if held % 128 < 127 && !site.one_core => hint::spin_loop(),
-                Try::Held => thread::yield_now(),
+                Try::Held => site.wait(held),
                 Try::Worn => return Some(End::Worn),
             }
         }

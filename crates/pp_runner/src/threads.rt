@@ -16,12 +16,12 @@ use crate::opening::opening_line;
 use crate::report::Report;
 use crate::run_fault::RunFault;
 use crate::site::Site;
+use crate::tries::tries_of_run;
 use pp_channel::{CHANNELS, Channel, Line, Memory};
 use pp_machine::Machine;
 use std::alloc::Allocator;
 use std::snapshot::Snapshot;
 use std::sync::Wait;
-use std::thread;
 use std::thread::Threads;
 
 /// The line that opened the channels of the machine, and a line for each processor that was split
@@ -74,7 +74,7 @@ pub fn run_threads<R: Threads + Wait + Sync, G: Gate + Sync, A: Allocator + Copy
         alloc,
         central: LockedCentral::new(alloc, machine.central())?,
         limits,
-        one_core: is_one_core(rt),
+        tries: tries_of_run(rt, machine),
     };
     // Two entries an answer at most, and a look at which the worker gives up.
     let (first, lines) = open_family(alloc, machine, 2 * limits.steps() + 1)?;
@@ -85,14 +85,6 @@ pub fn run_threads<R: Threads + Wait + Sync, G: Gate + Sync, A: Allocator + Copy
         ends: workers,
         channels,
     })
-}
-
-/// Whether the system lets the program run on one core alone.
-fn is_one_core<R: Threads>(rt: &R) -> bool {
-    match thread::available_parallelism(rt) {
-        Ok(cores) => cores.get() == 1,
-        Err(_) => false,
-    }
 }
 
 /// The channels of all lines: of the workers' as one, and of the one that opened channels, whose
