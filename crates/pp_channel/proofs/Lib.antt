@@ -21,3 +21,4 @@ pub mod LineKeeping
 pub mod LineAnswers
 pub mod RisingLemmas
 pub mod OpeningLemmas
+pub mod JoinedLines

@@ -90,12 +90,12 @@ merges_by_counts opening histories first log whole is m sum first_true log_true 
       entries_true = log_true;
     }
 
--- Where other logs and then a log of opening histories merge over none, the others merge over the opening histories.
-pub merges_before : (opening : ℕ → List Event) (histories : List (List Event)) (log last : List Entry)
-    → IsOpeningLog opening last → Merges no_opening histories (log ++ last) → Merges opening histories log
-merges_before opening histories log last is m =
-    merges_by_counts opening histories last log (log ++ last) is m (λ c number. let s = times_told-append c number log last in omega (arith, s))
-    (All-back (IsTrueOf histories) log last m.entries_true) (All-front (IsTrueOf histories) log last m.entries_true)
+-- Where a log of opening histories and then other logs merge over none, the others merge over the opening histories.
+pub merges_after : (opening : ℕ → List Event) (histories : List (List Event)) (first log : List Entry)
+    → IsOpeningLog opening first → Merges no_opening histories (first ++ log) → Merges opening histories log
+merges_after opening histories first log is m =
+    merges_by_counts opening histories first log (first ++ log) is m (λ c number. times_told-append c number first log)
+    (All-front (IsTrueOf histories) first log m.entries_true) (All-back (IsTrueOf histories) first log m.entries_true)
 
 -- one channel more has an opening history, an Activate
 pub opening_more : (before after : ℕ → List Event) (c : ℕ) (log : List Entry) → before c ≡ [] → after c ≡ Activate ∷ [] → ((d : ℕ) → d ≢ c → after d ≡ before d) → IsOpeningLog before log → IsOpeningLog after (log ++ event_entry c 0 Activate ∷ [])

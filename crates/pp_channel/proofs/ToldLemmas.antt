@@ -73,7 +73,7 @@ length-filled : (log : List Entry) (hs : List (List Event)) (p : ℕ) → length
 length-filled [] hs p = refl
 length-filled (entry ∷ log) hs p = length-filled log (with_entry hs entry) p ∙ length-told hs (channel_index entry.channel) p entry.number entry.what
 
-count-filled : (log : List Entry) (hs : List (List Event)) → length (fold with_entry hs log) ≡ length hs
+pub count-filled : (log : List Entry) (hs : List (List Event)) → length (fold with_entry hs log) ≡ length hs
 count-filled [] hs = refl
 count-filled (entry ∷ log) hs = count-filled log (with_entry hs entry) ∙ count-told hs (channel_index entry.channel) entry.number entry.what
 

@@ -1,6 +1,7 @@
 -- A line as contracts see it: what it holds, what it knows of the channels' histories, and what its
 -- calls make of it.
 use Rattle.std.specs.Prelude.{◌≡◌, ◌≢◌, ℕ, ◌+◌, ◌<◌, ◌≤◌, List, [], ◌∷◌, ◌++◌, length, map, take, All, slice_set, true}
+use Rattle.std.specs.List.{fold}
 use Rattle.atomic_table.specs.Seated.{TableId}
 use Rattle.pp_channel.specs.declared.chan_op.ChanOp.{ChanOp}
 use Rattle.pp_channel.specs.declared.event.Event.{Event}
@@ -51,6 +52,15 @@ joined line other = record {
   view = weighs_once (joined_view line.view other.view);
   table = line.table;
 }
+
+-- a line and others as one, joined in their order
+abbrev pub all_joined : LineState → List LineState → LineState
+all_joined line others = fold joined line others
+
+-- A line and others that hold every share of their family between them.
+pub record HoldEveryShare (line : LineState) (others : List LineState) : Type 0 where
+  pub tables : All (λ other. other.table ≡ line.table) others
+  pub shares : (all_joined line others).view.shares ≡ line.view.whole
 
 -- Of each channel the line afterwards has seen at least as many events as this one.
 abbrev pub ForgetsNothing : LineState → LineState → Type 0

@@ -29,7 +29,7 @@ pub use entry::{Entry, Seen};
 pub use event::Event;
 pub use flags::Flags;
 pub use law::session_law;
-pub use line::{Line, open_lines};
+pub use line::{Closed, Line, open_lines};
 pub use locked::Locked;
 pub use memory::Memory;
 pub use numbered::Numbered;

@@ -1,5 +1,7 @@
 //! One thread's access to all channels.
 
+mod closing;
+
 ghost use Rattle.std.specs.Prelude.{◌≡◌, ◌≤◌, ◌+◌, ◌-◌, List, [], ◌∷◌, ◌++◌, Contains, true, IfOk, OnOk, OnErr, IfErr, length};
 ghost use Rattle.pp_channel.specs.declared.event.Event.{Event};
 ghost use Rattle.pp_channel.specs.ChannelNumber.{channel_count};
@@ -25,6 +27,7 @@ use crate::shared_words::SharedWords;
 use crate::told_history::told_channels;
 use crate::word_step::{WordStep, advance, flags_in, next_event_in, number_in};
 use crate::worn::Worn;
+pub use closing::Closed;
 use std::alloc::Allocator;
 use std::marker::Model;
 
@@ -316,7 +319,13 @@ impl<A: Allocator + Copy> Line<A> {
     {
         self.words.weigh(ChannelNo::at(0));
         let line = &self;
-        match told_channels(line.alloc, line.log.entries(), &line.seen) {
+        let others = Vec::new(line.alloc);
+        match told_channels(
+            line.alloc,
+            line.log.entries(),
+            others.as_slice(),
+            &line.seen,
+        ) {
             Ok(channels) => Ok(channels),
             Err(memory) => Err((self, memory)),
         }

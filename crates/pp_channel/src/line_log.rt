@@ -50,6 +50,18 @@ impl<A: Allocator> LineLog<A> {
         self.entries.as_slice()
     }
 
+    /// Its entries, by which it ends.
+    pub fn into_entries(self) -> Vec<Entry, A>
+        ensures { result.items ≡ self.entries }
+    {
+        let LineLog {
+            entries,
+            room: _,
+            kept: _,
+        } = self;
+        entries
+    }
+
     /// For how many more it has room.
     pub fn room(&self) -> u32
         ensures { result ≡ self.now.room }

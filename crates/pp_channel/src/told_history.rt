@@ -1,6 +1,7 @@
-//! The channels, of a log that records their histories whole.
+//! The channels, of logs that record their histories whole.
 
-ghost use Rattle.std.specs.Prelude.{◌≡◌, ℕ, ◌<◌, List, [], length, IfOk, slice_index_or, slice_set};
+ghost use Rattle.std.specs.Prelude.{◌≡◌, ℕ, ◌<◌, ◌++◌, List, [], length, IfOk, slice_index_or, slice_set};
+ghost use Rattle.std.specs.List.{flat_map, fold};
 ghost use Rattle.pp_channel.specs.ChannelNumber.{channel_count};
 ghost use Rattle.pp_channel.specs.declared.event.Event.{Event};
 ghost use Rattle.pp_channel.specs.ToldHistory.{IsToldBy, with_entry};
@@ -50,18 +51,21 @@ impl<A: Allocator> EventsByNumber<A> {
     }
 }
 
-/// All channels in order, with the histories that the log records. Their lengths are the numbers
-/// seen.
+/// All channels in order, with the histories that the log and others record. Their lengths are the
+/// numbers seen.
 pub fn told_channels<A: Allocator + Copy>(
     alloc: A,
     log: &[Entry],
+    others: &[Vec<Entry, A>],
     seen: &[u64; CHANNELS],
 ) -> Result<[Channel<A>; CHANNELS], Memory>
-    requires { (histories : List (List Event)) × IsToldBy log.now seen.now histories }
+    requires { (histories : List (List Event))
+        × IsToldBy (log.now ++ flat_map (λ other. other.items) others.now) seen.now histories }
     ensures { IfOk result (λ channels. (histories : List (List Event))
-        → IsToldBy log.now seen.now histories → channels ≡ histories) }
+        → IsToldBy (log.now ++ flat_map (λ other. other.items) others.now) seen.now histories
+        → channels ≡ histories) }
 {
-    let mut histories = told_histories(alloc, log, seen)?;
+    let mut histories = told_histories(alloc, log, others, seen)?;
     let mut channels = array::from_fn(|_| Channel::new(alloc));
     for place in 0..CHANNELS {
         let events = take_events(alloc, &mut histories, place);
@@ -91,20 +95,33 @@ fn take_events<A: Allocator>(
     mem::replace(&mut history.events, Vec::new(alloc))
 }
 
-/// The histories of all channels in order, by one pass over the log.
+/// The histories of all channels in order, by one pass over the logs.
 fn told_histories<A: Allocator + Copy>(
     alloc: A,
     log: &[Entry],
+    others: &[Vec<Entry, A>],
     seen: &[u64; CHANNELS],
 ) -> Result<Vec<EventsByNumber<A>, A>, Memory>
     ensures { IfOk result (λ told. (histories : List (List Event))
-        → IsToldBy log.now seen.now histories → told.items ≡ histories) }
+        → IsToldBy (log.now ++ flat_map (λ other. other.items) others.now) seen.now histories
+        → told.items ≡ histories) }
 {
     let mut told = untold_histories(alloc, seen)?;
-    for entry in log {
-        put_entry(&mut told, entry);
+    put_log(&mut told, log);
+    for other in others {
+        put_log(&mut told, other.as_slice());
     }
     Ok(told)
+}
+
+/// Puts each event of a log at its number, in the history of its channel.
+fn put_log<A: Allocator>(histories: &mut Vec<EventsByNumber<A>, A>, log: &[Entry])
+    requires { length histories.old.items ≡ channel_count }
+    ensures { histories.new.items ≡ fold with_entry histories.old.items log.now }
+{
+    for entry in log {
+        put_entry(histories, entry);
+    }
 }
 
 /// As many events of each channel as were seen, of which none is placed yet.

@@ -5,3 +5,4 @@ pub mod LabourLemmas
 pub mod EndLemmas
 pub mod CrewLemmas
 pub mod OpeningLemmas
+pub mod ReportLemmas

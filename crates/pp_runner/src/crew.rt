@@ -3,15 +3,14 @@
 ghost use Rattle.std.specs.Prelude.{◌≡◌, ◌+◌, ◌*◌, ◌<◌, [], ◌∷◌, ◌++◌, take, vec_len, IfOk};
 ghost use denote.Param.Send.{IsSync, IsSend, Frees};
 ghost use Rattle.pp_channel.specs.LineLog.{empty_log};
-ghost use Rattle.pp_channel.specs.LineState.{joined, ForgetsNothing};
-ghost use Rattle.pp_runner.specs.Crew.{IsEnded, IsAlone, AreEnded, AreReady};
+ghost use Rattle.pp_runner.specs.Crew.{IsEnded, AreEnded, AreReady};
 
 use crate::gate::Gate;
 use crate::labour::{Ended, work};
 use crate::run_fault::RunFault;
 use crate::site::Site;
 use crate::worker::Worker;
-use pp_channel::{Line, Memory};
+use pp_channel::Line;
 use pp_machine::{Machine, Pp, PpNo};
 use std::alloc::Allocator;
 use std::snapshot::Snapshot;
@@ -19,11 +18,11 @@ use std::sync::Wait;
 use std::thread;
 use std::thread::{Promise, Threads};
 
-/// Workers that have ended, in order, and their lines as one.
+/// Workers that have ended, in order, and their lines, which have their logs.
 #[derive(Drop)]
 pub struct Crew<A: Allocator> {
     pub workers: Vec<Worker<A>, A>,
-    pub line: Line<A>,
+    pub lines: Vec<Line<A>, A>,
 }
 
 /// The promise that a worker ends as one that began with this processor and this line.
@@ -35,55 +34,30 @@ struct EndOf<A: Allocator> {
     steps: u32,
 }
 
-impl<A: Allocator> Promise<Result<Ended<A>, Memory>> for EndOf<A> {
-    ghost use Rattle.std.specs.Prelude.{IfOk};
+impl<A: Allocator> Promise<Ended<A>> for EndOf<A> {
     ghost use Rattle.pp_runner.specs.Crew.{IsEnded};
 
-    ghost kept_by = { λ p r. IfOk r (λ ended. IsEnded p.load.value p.size p.steps p.line.value ended.worker ended.line) };
+    ghost kept_by = { λ p ended. IsEnded p.load.value p.size p.steps p.line.value ended.worker ended.line };
 }
 
-/// A worker after the others, and their lines as one. The last line's log alone is copied.
-fn combined<A: Allocator + Copy>(others: Crew<A>, last: Ended<A>) -> Result<Crew<A>, RunFault>
-    requires { last.line.table ≡ others.line.table }
+/// A worker after the others.
+fn combined<A: Allocator>(others: Crew<A>, last: Ended<A>) -> Result<Crew<A>, RunFault>
     ensures workers { IfOk result (λ crew. crew.workers.items
         ≡ others.workers.items ++ last.worker ∷ []) }
-    ensures line { IfOk result (λ crew. crew.line ≡ joined others.line last.line) }
-    ensures nothing_forgotten { IfOk result (λ crew. ForgetsNothing others.line crew.line
-        × ForgetsNothing last.line crew.line) }
+    ensures lines { IfOk result (λ crew. crew.lines.items ≡ others.lines.items ++ last.line ∷ []) }
 {
     let Crew {
         mut workers,
-        line: before,
+        mut lines,
     } = others;
     let Ended { worker, line } = last;
     workers.push(worker)?;
-    match before.join(line) {
-        Ok(line) => Ok(Crew { workers, line }),
-        Err((_, _, refused)) => Err(RunFault::from(refused)),
-    }
+    lines.push(line)?;
+    Ok(Crew { workers, lines })
 }
 
-/// The first worker, in this thread.
-fn alone<R: Wait, G: Gate, A: Allocator + Copy>(
-    rt: &R,
-    site: &Site<A>,
-    gate: &G,
-    number: PpNo,
-    load: &Pp,
-    line: Line<A>,
-) -> Result<Crew<A>, RunFault>
-    requires { line.log ≡ empty_log (2 * site.now.limits.steps + 1) }
-    ensures { IfOk result (λ crew.
-        IsAlone load.now site.now.central site.now.limits.steps line crew.workers.items crew.line) }
-{
-    let Ended { worker, line } = work(rt, site, gate, number, load, line)?;
-    let mut workers = Vec::new(site.alloc);
-    workers.push(worker)?;
-    Ok(Crew { workers, line })
-}
-
-/// The workers of the barrel's first processors, one on each line, at once; their lines come back
-/// as one. The first works in this thread.
+/// The workers of the barrel's first processors, one on each line, at once. The first works in this
+/// thread.
 #[cycle(crew)]
 pub fn run_first<R: Threads + Wait + Sync, G: Gate + Sync, A: Allocator + Copy + Send + Sync>(
     rt: &R,
@@ -96,7 +70,7 @@ pub fn run_first<R: Threads + Wait + Sync, G: Gate + Sync, A: Allocator + Copy +
     requires { AreReady machine.now (2 * site.now.limits.steps + 1) family.value lines.items }
     ensures { IfOk result (λ crew. AreEnded (take
         (vec_len lines) machine.now.processors) site.now.central site.now.limits.steps
-        (vec_len lines) family.value crew.workers.items crew.line) }
+        (2 * site.now.limits.steps + 1) family.value crew.workers.items crew.lines.items) }
 {
     if lines.len() > 1 {
         return beside(rt, site, gate, machine, family, lines);
@@ -105,7 +79,12 @@ pub fn run_first<R: Threads + Wait + Sync, G: Gate + Sync, A: Allocator + Copy +
         unreachable!()
     };
     let number = PpNo::at(lines.len());
-    alone(rt, site, gate, number, machine.pp(number), line)
+    let first = work(rt, site, gate, number, machine.pp(number), line);
+    let nobody = Crew {
+        workers: Vec::new(site.alloc),
+        lines: Vec::new(site.alloc),
+    };
+    combined(nobody, first)
 }
 
 /// The worker on the last line in a thread of its own, beside those before it.
@@ -122,7 +101,7 @@ fn beside<R: Threads + Wait + Sync, G: Gate + Sync, A: Allocator + Copy + Send +
     requires ready { AreReady machine.now (2 * site.now.limits.steps + 1) family.value lines.items }
     ensures { IfOk result (λ crew. AreEnded (take
         (vec_len lines) machine.now.processors) site.now.central site.now.limits.steps
-        (vec_len lines) family.value crew.workers.items crew.line) }
+        (2 * site.now.limits.steps + 1) family.value crew.workers.items crew.lines.items) }
 {
     thread::scope(
         thread::scope_env(),
@@ -131,7 +110,7 @@ fn beside<R: Threads + Wait + Sync, G: Gate + Sync, A: Allocator + Copy + Send +
             requires { IsSync R.row × IsSync G.row × IsSend A.row × IsSync A.row
                 × Frees A.Allocator A.dealloc_token × (1 < vec_len lines)
                 × AreReady machine.now (2 * site.now.limits.steps + 1) family.value lines.items }
-            ensures { IfOk result (λ crew. AreEnded (take (vec_len lines) machine.entry.now.processors) site.entry.now.central site.entry.now.limits.steps (vec_len lines) family.value crew.workers.items crew.line) }
+            ensures { IfOk result (λ crew. AreEnded (take (vec_len lines) machine.entry.now.processors) site.entry.now.central site.entry.now.limits.steps (2 * site.entry.now.limits.steps + 1) family.value crew.workers.items crew.lines.items) }
         {
             let mut others = lines;
             let Some(line) = others.pop() else {
@@ -147,14 +126,14 @@ fn beside<R: Threads + Wait + Sync, G: Gate + Sync, A: Allocator + Copy + Send +
             };
             let child = scope.spawn_with(
                 promise,
-                move || -> Result<Ended<A>, Memory>
+                move || -> Ended<A>
                     requires { line.log ≡ empty_log (2 * site.now.limits.steps + 1) }
-                    ensures { IfOk result (λ ended. IsEnded load.entry.now site.entry.now.central site.entry.now.limits.steps line ended.worker ended.line) }
+                    ensures { IsEnded load.entry.now site.entry.now.central site.entry.now.limits.steps line result.worker result.line }
                 { work(rt, site, gate, number, load, line) },
             )?;
             let others = run_first(rt, site, gate, machine, family, others);
             let last = child.join(rt);
-            combined(others?, last?)
+            combined(others?, last)
         },
     )
 }

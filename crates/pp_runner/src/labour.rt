@@ -15,11 +15,10 @@ use crate::gate::Gate;
 use crate::locked_central::LockedCentral;
 use crate::site::Site;
 use crate::worker::Worker;
-use pp_channel::{Line, Memory, Worn};
+use pp_channel::{Line, Worn};
 use pp_machine::{Answer, Need, Outcome, Pp, PpNo, PpState};
 use std::alloc::Allocator;
 use std::sync::Wait;
-use std::{hint, thread};
 
 /// A worker between two tries of a step.
 #[derive(Drop)]
@@ -31,7 +30,7 @@ pub struct Labour<A: Allocator> {
     pub tries: u64,
 }
 
-/// A worker that has ended, with its line.
+/// A worker that has ended, with its line. The line has its log.
 #[derive(Drop)]
 pub struct Ended<A: Allocator> {
     pub worker: Worker<A>,
@@ -122,9 +121,7 @@ impl<A: Allocator + Copy> Labour<A> {
     }
 
     /// Tries the next step until the processor moves, and answers `None` where it did. Each try is
-    /// an operation, if the step needs one; a worker gives up after just as many as its patience. A
-    /// core is given away after each 128 tries in vain (decimal), and after each one where it is
-    /// the only core.
+    /// an operation, if the step needs one; a worker gives up after just as many as its patience.
     fn take_step<R: Wait, G: Gate>(
         &mut self,
         rt: &R,
@@ -161,26 +158,23 @@ impl<A: Allocator + Copy> Labour<A> {
             self.tries += 1;
             match self.try_step(rt, site, load) {
                 Try::Moved => return None,
-                Try::Held if held % 128 < 127 && !site.one_core => hint::spin_loop(),
-                Try::Held => thread::yield_now(),
+                Try::Held => site.wait(held),
                 Try::Worn => return Some(End::Worn),
             }
         }
         Some(End::Patience)
     }
 
-    /// What is left once no further step is made: the log is copied before the line is given back.
-    fn ended(self, site: &Site<A>, load: &Pp, finish: End) -> Result<Ended<A>, Memory>
+    /// What is left once no further step is made. The log stays with the line.
+    fn ended(self, site: &Site<A>, load: &Pp, finish: End) -> Ended<A>
         requires work { IsAtWork load.now site.now.central site.now.limits.steps self.pp self.answers.items self.line.log }
         requires few { vec_len self.answers ≤ site.now.limits.steps }
         requires finish { IsEnd site.now.limits.steps finish self.pp self.answers.items self.line.log.entries }
         requires worn { WornWithCause (λ c. seen_on c self.line.view.seen) finish self.pp }
-        ensures ended { IfOk result (λ ended. IsEnded load.now site.now.central site.now.limits.steps self.line ended.worker ended.line) }
-        ensures line { IfOk result (λ ended. ended.line ≡ self.line) }
-        ensures finish { IfOk result (λ ended. ended.worker.finish ≡ finish) }
+        ensures ended { IsEnded load.now site.now.central site.now.limits.steps self.line result.worker result.line }
+        ensures line { result.line ≡ self.line }
+        ensures finish { result.worker.finish ≡ finish }
     {
-        let mut log = Vec::new(site.alloc);
-        log.extend_from_slice(self.line.log())?;
         let Labour {
             number: _,
             pp,
@@ -190,11 +184,11 @@ impl<A: Allocator + Copy> Labour<A> {
         } = self;
         let worker = Worker {
             pp,
-            log,
+            log: Vec::new(site.alloc),
             answers,
             finish,
         };
-        Ok(Ended { worker, line })
+        Ended { worker, line }
     }
 }
 
@@ -219,12 +213,10 @@ pub fn work<R: Wait, G: Gate, A: Allocator + Copy>(
     number: PpNo,
     load: &Pp,
     line: Line<A>,
-) -> Result<Ended<A>, Memory>
+) -> Ended<A>
     requires { line.log ≡ empty_log (2 * site.now.limits.steps + 1) }
-    ensures ended { IfOk result (λ ended.
-        IsEnded load.now site.now.central site.now.limits.steps line ended.worker ended.line) }
-    ensures patience { IfOk result (λ ended.
-        GaveUpWithCause site.now.limits.patience line ended.worker.finish ended.line) }
+    ensures ended { IsEnded load.now site.now.central site.now.limits.steps line result.worker result.line }
+    ensures patience { GaveUpWithCause site.now.limits.patience line result.worker.finish result.line }
 {
     // This call tells the proof that the patience has 32 bits, so that tries can be counted.
     let _patience = site.limits.patience();

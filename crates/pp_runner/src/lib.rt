@@ -14,6 +14,7 @@ mod report;
 mod run_fault;
 mod site;
 mod threads;
+mod tries;
 mod worker;
 
 pub use end::End;

@@ -1,7 +1,7 @@
 //! A run of a machine's processors, each in a thread of its own.
 
 ghost use Rattle.std.specs.Prelude.{◌≡◌, ◌+◌, [], All, length, vec_len, IfOk};
-ghost use Rattle.pp_channel.specs.LineState.{IsSplitFrom, AreClosed, ForgetsNothing, joined};
+ghost use Rattle.pp_channel.specs.LineState.{IsSplitFrom};
 ghost use Rattle.pp_channel.specs.Merge.{IsOpeningLog};
 ghost use Rattle.pp_machine.specs.Headline.{opening_history};
 ghost use Rattle.pp_machine.specs.Profile.{processors_in};
@@ -16,12 +16,13 @@ use crate::opening::opening_line;
 use crate::report::Report;
 use crate::run_fault::RunFault;
 use crate::site::Site;
-use pp_channel::{CHANNELS, Channel, Line, Memory};
+use crate::tries::tries_of_run;
+use crate::worker::with_logs;
+use pp_channel::{Closed, Line, Memory};
 use pp_machine::Machine;
 use std::alloc::Allocator;
 use std::snapshot::Snapshot;
 use std::sync::Wait;
-use std::thread;
 use std::thread::Threads;
 
 /// The line that opened the channels of the machine, and a line for each processor that was split
@@ -74,44 +75,16 @@ pub fn run_threads<R: Threads + Wait + Sync, G: Gate + Sync, A: Allocator + Copy
         alloc,
         central: LockedCentral::new(alloc, machine.central())?,
         limits,
-        one_core: is_one_core(rt),
+        tries: tries_of_run(rt, machine),
     };
     // Two entries an answer at most, and a look at which the worker gives up.
     let (first, lines) = open_family(alloc, machine, 2 * limits.steps() + 1)?;
     let family = Snapshot::of(&first);
-    let Crew { workers, line } = run_first(rt, &site, gate, machine, family, lines)?;
-    let channels = close_with(line, first)?;
+    let Crew { workers, lines } = run_first(rt, &site, gate, machine, family, lines)?;
+    // The events of the line that opened channels stand in no worker's log.
+    let Closed { logs, channels } = first.close_with(lines)?;
     Ok(Report {
-        ends: workers,
+        ends: with_logs(workers, logs),
         channels,
     })
-}
-
-/// Whether the system lets the program run on one core alone.
-fn is_one_core<R: Threads>(rt: &R) -> bool {
-    match thread::available_parallelism(rt) {
-        Ok(cores) => cores.get() == 1,
-        Err(_) => false,
-    }
-}
-
-/// The channels of all lines: of the workers' as one, and of the one that opened channels, whose
-/// events stand in no worker's log.
-fn close_with<A: Allocator + Copy>(
-    line: Line<A>,
-    opening: Line<A>,
-) -> Result<[Channel<A>; CHANNELS], Memory>
-    requires kin { opening.table ≡ line.table }
-    requires all { line.view.shares + opening.view.shares ≡ line.view.whole }
-    ensures closed { IfOk result (λ channels. AreClosed (joined line opening) channels) }
-    ensures nothing_forgotten { IfOk result (λ channels.
-        ForgetsNothing line (joined line opening)) }
-{
-    match line.join(opening) {
-        Ok(whole) => match whole.close() {
-            Ok(channels) => Ok(channels),
-            Err((_, refused)) => Err(refused),
-        },
-        Err((_, _, refused)) => Err(refused),
-    }
 }

@@ -1,5 +1,9 @@
 //! What a worker leaves.
 
+ghost use Rattle.std.specs.Prelude.{◌≡◌, ◌<◌, Some, length, slice_get, slice_set};
+ghost use Rattle.pp_runner.specs.WorkerReport.{with_logs};
+ghost use Rattle.pp_runner.specs.declared.worker.Worker.{Worker};
+
 use crate::end::End;
 use pp_channel::Entry;
 use pp_machine::{Answer, Pp};
@@ -13,4 +17,30 @@ pub struct Worker<A: Allocator> {
     pub log: Vec<Entry, A>,
     pub answers: Vec<Answer, A>,
     pub finish: End,
+}
+
+/// The workers, each with the log that stands at its place.
+pub fn with_logs<A: Allocator>(
+    mut workers: Vec<Worker<A>, A>,
+    logs: Vec<Vec<Entry, A>, A>,
+) -> Vec<Worker<A>, A>
+    requires { length logs.items ≡ length workers.items }
+    ensures { result.items ≡ with_logs logs.items workers.items }
+{
+    let mut place = 0;
+    for log in logs {
+        put_log(&mut workers, place, log);
+        place += 1;
+    }
+    workers
+}
+
+/// The worker at a place has this log.
+fn put_log<A: Allocator>(workers: &mut Vec<Worker<A>, A>, place: usize, log: Vec<Entry, A>)
+    requires { place < length workers.old.items }
+    ensures { (w : Worker A) → slice_get workers.old.items place ≡ Some w
+        → workers.new.items ≡ slice_set workers.old.items place (record w { log = log }) }
+{
+    let worker = &mut workers[place];
+    worker.log = log;
 }

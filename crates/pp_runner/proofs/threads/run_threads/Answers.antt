@@ -1,51 +1,95 @@
-use Rattle.std.proofs.Common.{rules, ◌≡◌, ◌∙◌, ℕ, ◌+◌, ◌*◌, List, ◌++◌, length, take, sym, ap, subst, arith}
+use Rattle.std.proofs.Common.{rules, ◌≡◌, ◌≤◌, ◌∙◌, ℕ, ◌+◌, ◌*◌, vec_len, List, length, take, sym, ap, subst, arith}
 use Rattle.std.specs.Prelude.{All}
+use Rattle.std.specs.List.{flat_map}
 use Rattle.std.proofs.lemmas.List.{length-take-le}
 use Rattle.std.proofs.lemmas.List.Elements.{All-weaker}
-use Rattle.pp_channel.specs.LineState.{LineState, IsSplitFrom, joined}
+use Rattle.pp_channel.specs.LineState.{LineState, IsSplitFrom, all_joined, ForgetsNothing}
 use Rattle.pp_channel.specs.LineView.{KnowsAll}
 use Rattle.pp_channel.specs.Merge.{Merges, no_opening, history_on}
 use Rattle.pp_channel.specs.RisingLog.{seen_on}
 use Rattle.pp_channel.specs.declared.entry.Entry.{Entry}
-use Rattle.pp_channel.proofs.OpeningLemmas.{merges_before}
+use Rattle.pp_channel.specs.declared.event.Event.{Event}
+use Rattle.pp_channel.proofs.JoinedLines.{joined_entries, joined_whole, same_parts}
+use Rattle.pp_channel.proofs.OpeningLemmas.{merges_after}
 use Rattle.pp_machine.specs.Headline.{opening_history}
-use Rattle.pp_machine.specs.ProcessorNumber.{processor_count}
 use Rattle.pp_machine.specs.Profile.{processors_in}
 use Rattle.pp_machine.proofs.ProfileLemmas.{some_processors, most_processors}
 use Rattle.pp_runner.proofs.CrewLemmas.{workers_count}
-use Rattle.pp_runner.proofs.EndLemmas.{worn_later}
+use Rattle.pp_runner.proofs.ReportLemmas.{logs_count, ended_tables, ended_shares, ended_begun, ended_logged, ended_worn, logs_given}
 use Rattle.pp_runner.specs.Labour.{HasSeen}
-use Rattle.pp_runner.specs.WorkerReport.{AreWorkers, logs_of}
+use Rattle.pp_runner.specs.WorkerReport.{AreWorkers, logs_of, with_logs}
 use Rattle.pp_runner.proofs.threads.run_threads.Goals as goal
+
+pub close_with-requires : goal.close_with-requires
+close_with-requires g c =
+    let p = c.args.machine.now.profile in
+    let steps = c.args.limits.steps in
+    let first = c.in_ok-first.first in
+    let many = c.in_ok-first.ensures.each_processor in
+    let loads = take (vec_len c.in_ok-first.lines) c.args.machine.now.processors in
+    let workers = c.in_ok-workers.field-0.workers.items in
+    let lines = c.in_ok-workers.field-0.lines.items in
+    let ended = c.in_ok-workers.ensures in
+    let few = most_processors p in
+    let each : length loads ≡ vec_len c.in_ok-first.lines = length-take-le (vec_len c.in_ok-first.lines) c.args.machine.now.processors (omega (arith, c.turns-turns.ensures.sound.processors, few, many)) in
+    let shares = ended_shares c.in_ok-new.field-0 steps (2 * steps + 1) c.of-family.result.value loads workers lines first ended in (
+      -- what lines leave together takes as much memory as a report
+      c.requires-raw.1.1.1.1.1.1.1.1.0,
+      record {
+        tables = subst (λ (family : LineState). All (λ l. l.table ≡ family.table) lines) c.of-family.ensures
+            (ended_tables c.in_ok-new.field-0 steps (2 * steps + 1) c.of-family.result.value loads workers lines ended);
+        shares = omega (arith, shares, each, many, c.in_ok-first.ensures.share, c.in_ok-first.ensures.whole);
+      },
+    )
+
+pub with_logs-requires : goal.with_logs-requires
+with_logs-requires g c =
+    logs_count c.in_ok-new.field-0 c.args.limits.steps (2 * c.args.limits.steps + 1) c.of-family.result.value (take (vec_len c.in_ok-first.lines) c.args.machine.now.processors)
+    c.in_ok-workers.field-0.workers.items c.in_ok-workers.field-0.lines.items c.in_ok-logs.field-0.logs.items c.in_ok-logs.ensures.logs c.in_ok-workers.ensures
 
 pub returns : goal.returns
 returns g c =
-    let ended = c.in_ok-workers.ensures in
-    let opened = c.in_ok-first.ensures in
-    let ws = c.in_ok-workers.field-0.workers.items in
-    let line = c.in_ok-workers.field-0.line in
     let p = c.args.machine.now.profile in
-    let loads = take (processors_in p) c.args.machine.now.processors in
-    let some = most_processors p in
-    let all : length c.args.machine.now.processors ≡ processor_count = c.turns-turns.ensures.sound.processors in
-    let many : length loads ≡ processors_in p = length-take-le (processors_in p) c.args.machine.now.processors (omega (arith, all, some)) in
-    let workers : AreWorkers loads c.in_ok-new.field-0 c.args.limits.steps ws =
-    subst (λ (k : ℕ). AreWorkers (take k c.args.machine.now.processors) c.in_ok-new.field-0 c.args.limits.steps ws) opened.each_processor ended.workers in
-    let channels = c.in_ok-channels.channels in
-    let closed = c.in_ok-channels.ensures.closed in
-    let whole : line.view.whole ≡ c.in_ok-first.first.view.whole = ended.kin.whole ∙ ap (λ l. l.view.whole) c.of-family.ensures in
-    let known : KnowsAll (joined line c.in_ok-first.first).view (joined line c.in_ok-first.first).log.entries channels = closed.known.all_known (omega (arith, ended.shares, whole, opened.whole, opened.share, opened.each_processor)) in record {
-      each_processor = workers_count loads c.in_ok-new.field-0 c.args.limits.steps ws workers ∙ many;
-      workers = search rules;
+    let steps = c.args.limits.steps in
+    let size = c.in_ok-new.field-0 in
+    let first = c.in_ok-first.first in
+    let many = c.in_ok-first.ensures.each_processor in
+    let processors = c.args.machine.now.processors in
+    let loads = take (vec_len c.in_ok-first.lines) processors in
+    let ws = c.in_ok-workers.field-0.workers.items in
+    let lines = c.in_ok-workers.field-0.lines.items in
+    let logs = c.in_ok-logs.field-0.logs.items in
+    let channels = c.in_ok-logs.field-0.channels in
+    let family = c.of-family.result.value in
+    let ended = c.in_ok-workers.ensures in
+    let closed = c.in_ok-logs.ensures.channels in
+    let few = most_processors p in
+    let each : length loads ≡ vec_len c.in_ok-first.lines = length-take-le (vec_len c.in_ok-first.lines) processors (omega (arith, c.turns-turns.ensures.sound.processors, few, many)) in
+    let shares = ended_shares size steps (2 * steps + 1) family loads ws lines first ended in
+    let whole = joined_whole first lines in
+    let known : KnowsAll (all_joined first lines).view (all_joined first lines).log.entries channels = closed.known.all_known (omega (arith, shares, whole, each, many, c.in_ok-first.ensures.share, c.in_ok-first.ensures.whole)) in
+    let opening : ℕ → List Event = λ k. opening_history k c.args.machine.now in
+    let given = c.with_logs.ensures in
+    let sized : size ≡ length c.args.machine.now.central = search rules in
+    let workers : AreWorkers loads size steps (with_logs logs ws) = ended_logged size steps (2 * steps + 1) family loads ws lines logs c.in_ok-logs.ensures.logs ended in
+    let same : logs_of (with_logs logs ws) ≡ flat_map (λ l. l.log.entries) lines = logs_given logs ws (logs_count size steps (2 * steps + 1) family loads ws lines logs c.in_ok-logs.ensures.logs ended)
+    ∙ same_parts (λ log. log.items) (λ l. l.log.entries) logs lines c.in_ok-logs.ensures.logs in
+    let seen : All (λ l. (k : ℕ) → seen_on k l.view.seen ≤ length (history_on k channels)) lines = All-weaker (λ (l : LineState). ForgetsNothing l (all_joined first lines)) (λ (l : LineState). (k : ℕ) → seen_on k l.view.seen ≤ length (history_on k channels))
+    (λ l less k. let all = known.seen k in let here = less k in omega (arith, all, here)) lines c.in_ok-logs.ensures.nothing_forgotten in
+    let begun = ended_begun size steps (2 * steps + 1) family loads ws lines (λ k. length (opening k))
+    (subst (λ (line : LineState). HasSeen (λ k. length (opening k)) line) (sym c.of-family.ensures) c.in_ok-first.ensures.seen) ended in
+    let worn = ended_worn size steps (2 * steps + 1) family loads ws lines logs (λ k. length (history_on k channels)) seen ended in
+    let merged = merges_after opening channels first.log.entries (flat_map (λ l. l.log.entries) lines) c.in_ok-first.ensures.opening
+    (subst (λ (log : List Entry). Merges no_opening channels log) (joined_entries first lines) closed.merged) in record {
+      each_processor = ap length given ∙ (workers_count loads size steps (with_logs logs ws) workers ∙ (each ∙ many));
+      workers = rw given (subst (λ (k : ℕ). AreWorkers (take (processors_in p) processors) k steps (with_logs logs ws)) sized
+          (subst (λ (k : ℕ). AreWorkers (take k processors) size steps (with_logs logs ws)) many workers));
       lawful = closed.known.sound.lawful;
       law = closed.law;
       twelve_bits = closed.known.sound.twelve_bits;
-      merged = merges_before (λ k. opening_history k c.args.machine.now) channels (logs_of ws) c.in_ok-first.first.log.entries opened.opening
-          (subst (λ (log : List Entry). Merges no_opening channels (log ++ c.in_ok-first.first.log.entries)) ended.log closed.merged);
-      begun = ended.begun (λ k. length (opening_history k c.args.machine.now))
-          (subst (λ (family : LineState). HasSeen (λ k. length (opening_history k c.args.machine.now)) family) (sym c.of-family.ensures) opened.seen);
-      worn = All-weaker _ _ (λ w. worn_later (λ k. seen_on k line.view.seen) (λ k. length (history_on k channels)) w.finish w.pp
-          (λ k. let all = known.seen k in let less = c.in_ok-channels.ensures.nothing_forgotten k in omega (arith, all, less))) ws ended.worn;
+      merged = rw (given, same) merged;
+      begun = rw (given, same) begun;
+      worn = rw given worn;
     }
 
 pub run_first-requires-after_bounds : goal.run_first-requires-after_bounds

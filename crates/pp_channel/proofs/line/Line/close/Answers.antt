@@ -1,4 +1,8 @@
-use Rattle.std.proofs.Common.{rules, List, sym, ap, ◌∙◌, subst}
+use Rattle.std.proofs.Common.{rules, ◌≡◌, ℕ, List, [], ◌++◌, sym, ap, ◌∙◌, subst}
+use Rattle.std.specs.List.{flat_map}
+use Rattle.std.proofs.lemmas.List.{append-nil}
+use Rattle.pp_channel.specs.declared.entry.Entry.{Entry}
+use Rattle.pp_channel.specs.ToldHistory.{IsToldBy}
 use Rattle.pp_channel.specs.declared.event.Event.{Event}
 use Rattle.pp_channel.specs.declared.rule.LineView.{LineView}
 use Rattle.pp_channel.specs.LineState.{LineState, AreClosed}
@@ -8,19 +12,25 @@ use Rattle.pp_channel.proofs.LineKnowledge.{knows_by_log}
 use Rattle.pp_channel.proofs.LineAnswers.{told_whole, closed_by}
 use Rattle.pp_channel.proofs.line.Line.close.Goals as goal
 
+-- a log, and no others
+alone : {X : Type 0} (f : X → List Entry) (seen : List ℕ) (histories : List (List Event)) (log : List Entry) (others : List X) → others ≡ [] → IsToldBy log seen histories → IsToldBy (log ++ flat_map f others) seen histories
+alone f seen histories log others none told = rw none (subst (λ (l : List Entry). IsToldBy l seen histories) (sym (append-nil log)) told)
+
 pub told_channels-requires : goal.told_channels-requires
 told_channels-requires g c =
     let tells = c.weigh.ensures.tells.1 in
     let all = ap (λ (line : LineState). line.view.shares) c.self.view_is ∙ (c.requires ∙ sym (ap (λ (line : LineState). line.view.whole) c.self.view_is)) in
+    let none : c.as_slice.result.now ≡ [] = search rules in
     let told = told_whole c.self.invariant.3 tells all in
-    (search rules, (tells.histories, rw (c.entries.ensures, c.self.invariant.0) told))
+    (search rules, (tells.histories, alone _ _ tells.histories _ _ none (rw (c.entries.ensures, c.self.invariant.0) told)))
 
 pub returns-in-Ok-clause-ok : goal.returns-in-Ok-clause-ok
 returns-in-Ok-clause-ok g c =
     let tells = c.weigh.ensures.tells.1 in
     let all = ap (λ (line : LineState). line.view.shares) c.self.view_is ∙ (c.requires ∙ sym (ap (λ (line : LineState). line.view.whole) c.self.view_is)) in
     let known = subst (λ (line : LineState). Knows line.view line.log.entries tells.histories) c.self.view_is (knows_by_log c.self.invariant.3 tells.known) in
-    let same = (c.in-Ok.ensures) tells.histories (rw (c.entries.ensures, c.self.invariant.0) (told_whole c.self.invariant.3 tells all)) in
+    let none : c.as_slice.result.now ≡ [] = search rules in
+    let same = (c.in-Ok.ensures) tells.histories (alone _ _ tells.histories _ _ none (rw (c.entries.ensures, c.self.invariant.0) (told_whole c.self.invariant.3 tells all))) in
     subst (λ (hs : List (List Event)). AreClosed c.args.self hs) (sym same) (closed_by c.args.self tells.histories known c.requires)
 
 pub invariant_of-self : goal.invariant_of-self
