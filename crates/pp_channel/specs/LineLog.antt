@@ -10,8 +10,8 @@ use Rattle.pp_channel.specs.declared.entry.Seen.{Seen}
 use Rattle.pp_channel.specs.declared.numbered.Numbered.{Numbered}
 use Rattle.pp_channel.specs.Answer.{event_with}
 
--- A log: its entries in order, for how many more it has room, and whether its last entry is to
--- stay.
+-- A log: its entries in order, how many more it has room for, and whether its last entry is kept
+-- when a look at the same channel follows.
 pub record LogState : Type 0 where
   pub entries : List Entry
   pub room : ℕ
@@ -28,7 +28,7 @@ event_entry c number e = record { channel = c; number = number; what = Seen.Did 
 abbrev pub look_entry : ℕ → ℕ → Flags → Entry
 look_entry c number f = record { channel = c; number = number; what = Seen.Saw f }
 
--- an entry comes to the end
+-- an entry is added at the end
 abbrev pub appended : LogState → Entry → LogState
 appended log entry =
     record { entries = log.entries ++ entry ∷ []; room = log.room - 1; kept = false }
@@ -43,11 +43,11 @@ abbrev pub is_look_at : ℕ → Option Entry → Bool
 is_look_at c None = false
 is_look_at c (Some entry) = not (is_event entry.what) && (entry.channel == c)
 
--- whether the log ends in a look at channel c that need not stay
+-- whether the log ends in a look at channel c that is not kept
 abbrev pub ends_in_look_at : ℕ → LogState → Bool
 ends_in_look_at c log = not log.kept && is_look_at c (last_or None log.entries)
 
--- a look takes the place of such a last look, else it comes to the end
+-- a look takes the place of such a last look; otherwise it is added at the end
 abbrev pub looked : LogState → Entry → LogState
 looked log entry =
     if ends_in_look_at entry.channel log
@@ -58,13 +58,13 @@ looked log entry =
     }
     else appended log entry
 
--- the event of an operation that was answered so
+-- the event that an operation made, by its answer
 abbrev pub event_answered : ChanOp → Reply → Option Event
 event_answered ChanOp.Take (Reply.Word w) = Some (Event.Take w)
 event_answered op Reply.Done = event_with op None
 event_answered op reply = None
 
--- an event is an entry of its own; Flags and Held are looks
+-- an event gets an entry of its own; Flags and Held are looks
 abbrev pub with_event : LogState → ℕ → ℕ → Option Event → LogState
 with_event log c number None = log
 with_event log c number (Some e) = appended log (event_entry c number e)
@@ -78,7 +78,7 @@ with_answer log c op number reply = with_event log c number (event_answered op r
 abbrev pub log_after : LogState → ℕ → ChanOp → Numbered → LogState
 log_after log c op r = with_answer log c op r.number r.reply
 
--- the events that a line made, after that answer
+-- the events that a line has made, after an answer
 abbrev pub with_made : List Entry → ℕ → ℕ → Option Event → List Entry
 with_made events c number None = events
 with_made events c number (Some e) = events ++ event_entry c number e ∷ []

@@ -1,5 +1,5 @@
--- A line as contracts see it: what it holds, what it knows of the channels' histories, and what its
--- calls make of it.
+-- A line as contracts see it: what it holds, what it knows of the channels' histories, and how its
+-- calls change it.
 use Rattle.std.specs.Prelude.{◌≡◌, ◌≢◌, ℕ, ◌+◌, ◌<◌, ◌≤◌, List, [], ◌∷◌, ◌++◌, length, map, take, All, slice_set, true}
 use Rattle.std.specs.List.{fold}
 use Rattle.atomic_table.specs.Seated.{TableId}
@@ -40,8 +40,8 @@ pub record IsSplitFrom (parent : LineState) (room : ℕ) (line : LineState) : Ty
   pub view : line.view ≡ child_view parent.view
   pub table : line.table ≡ parent.table
 
--- Two lines as one: the entries of the one and then those of the other, the room of the one, and
--- what both know, with the shares of both, which it has weighed once more.
+-- Two lines as one: the entries of the first and then those of the second, the room of the first,
+-- and what both know, with the shares of both, which it has weighed once more.
 abbrev pub joined : LineState → LineState → LineState
 joined line other = record {
   log = record {
@@ -79,14 +79,14 @@ pub record IsLost (history : List Event) (op : ChanOp) (r : Numbered) : Type 0 w
   pub was_ready : (e : Event) × IsReady (take r.loaded history) op e
   pub held : r.reply ≡ Reply.Held (flags_of history)
 
--- The answer to an operation on a channel, which has this history after it: the channel answered at
--- once, after the events that the load found, or the exchange was lost.
+-- The answer to an operation on a channel that has this history after it: either the channel
+-- answered at once, after the events that the load found, or the exchange was lost.
 pub record IsAnsweredBy (history : List Event) (op : ChanOp) (r : Numbered) : Type 0 where
   pub now : length history ≡ number_after r.number r.reply
   pub at_once : r.number ≡ r.loaded → IsAnswer (take r.loaded history) op r.reply history
   pub lost : r.number ≢ r.loaded → IsLost history op r
 
--- The words that an answer found: the one that it loaded, and where the exchange was lost the one
+-- The words that an answer found: the one that it loaded and, if the exchange was lost, the one
 -- that stood there instead.
 abbrev pub AreFoundBy : Numbered → List ℕ → Type 0
 AreFoundBy r [] = ⊥

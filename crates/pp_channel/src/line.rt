@@ -116,15 +116,15 @@ impl<A: Allocator + Copy> Line<A> {
         self.whole
     }
 
-    /// Whether the last entry of its log is to stay: so on a new and on a joined line, and after
-    /// `keep`, until `act` answers.
+    /// Whether the last entry of its log stays when a look at the same channel follows. It does on
+    /// a new line, on a joined one and after `keep`, until `act` answers.
     pub fn kept(&self) -> bool
         ensures { result ≡ self.now.log.kept }
     {
         self.log.kept()
     }
 
-    /// The last entry of its log is to stay, also where a look at the same channel follows.
+    /// Keeps the last entry of its log, even if a look at the same channel follows.
     pub fn keep(&mut self)
         ensures { self.new ≡ record self.old { log = record self.old.log { kept = true } } }
     {
@@ -132,7 +132,7 @@ impl<A: Allocator + Copy> Line<A> {
     }
 
     /// A line of one share, for another thread, with room for `room` entries in a log of its own.
-    /// It has seen what this line has seen. This line needs at least 2 shares, and has one less
+    /// It has seen what this line has seen. This line needs at least 2 shares and has one less
     /// afterwards; after `Memory` nothing has changed.
     pub fn split(&mut self, room: u32) -> Result<Line<A>, Memory>
         requires { 2 ≤ self.old.view.shares }
@@ -156,8 +156,8 @@ impl<A: Allocator + Copy> Line<A> {
         })
     }
 
-    /// Makes the operation where the channel is ready for it, or looks: one load of the channel's
-    /// word, and at most one exchange. It needs room for 1 entry, takes no memory and never waits.
+    /// Makes the operation if the channel is ready for it, and looks if not: one load of the
+    /// channel's word, and at most one exchange. It needs room for 1 entry, takes no memory and never waits.
     ///
     /// `loaded` is how many events the load found. `number` is the same, and for an event its place
     /// in the history; but an operation whose exchange was lost to another line is held with the
@@ -216,7 +216,7 @@ impl<A: Allocator + Copy> Line<A> {
         }
     }
 
-    /// The word of the channel, whose events the line has then seen.
+    /// The word of the channel. The line has then seen all events that the word counts.
     fn load(&mut self, channel: ChannelNo) -> u64
         ensures load { IsLoad channel self.old.view result self.new.view }
         ensures log { self.new.log ≡ self.old.log }
@@ -229,7 +229,7 @@ impl<A: Allocator + Copy> Line<A> {
         word
     }
 
-    /// Writes a look by a word that the line found on the channel.
+    /// Writes down a look, by a word that the line found on the channel.
     fn look(&mut self, channel: ChannelNo, word: u64)
         requires room { 1 ≤ self.old.log.room }
         requires found { Contains self.old.view.found (record { channel = channel; word = word }) }
@@ -243,8 +243,8 @@ impl<A: Allocator + Copy> Line<A> {
         self.log.saw(channel, number_in(word), flags_in(word));
     }
 
-    /// One try to make the event where the channel has the word that was loaded. Where another
-    /// stands there by now, that word is found, and a look by it written.
+    /// One try to make the event, if the channel still has the word that was loaded. If another
+    /// word is there by now, the line finds that word, and writes down a look by it.
     fn try_event(
         &mut self,
         channel: ChannelNo,
@@ -279,9 +279,9 @@ impl<A: Allocator + Copy> Line<A> {
         Err(found)
     }
 
-    /// This line and another of its family, that is, from the same `open_lines`, as one: the log is
-    /// this line's entries and then the other's, the room is this line's, shares add up, and `seen`
-    /// is the greater for each channel. It makes one load. After `Memory` both come back unchanged.
+    /// This line and another of its family (from the same `open_lines`) as one: the log has this
+    /// line's entries and then the other's, the room is this line's, shares add up, and `seen` is
+    /// the greater of the two for each channel. It makes one load. After `Memory` both come back unchanged.
     pub fn join(mut self, other: Line<A>) -> Result<Line<A>, (Line<A>, Line<A>, Memory)>
         requires { other.table ≡ self.table }
         ensures ok { IfOk result (λ line. line ≡ joined self other) }
@@ -308,9 +308,9 @@ impl<A: Allocator + Copy> Line<A> {
         Ok(self)
     }
 
-    /// The channels, of the line that holds every share of its family: their histories are the
-    /// events of its log, each at its number. It makes one load, and that alone is new of the line
-    /// where it comes back after `Memory`.
+    /// The channels, from the line that holds every share of its family: their histories are the
+    /// events of its log, each at its number. It makes one load; a line that comes back after
+    /// `Memory` differs in nothing else.
     pub fn close(mut self) -> Result<[Channel<A>; CHANNELS], (Line<A>, Memory)>
         requires { self.view.shares ≡ self.view.whole }
         ensures ok { IfOk result (λ channels. AreClosed self channels) }

@@ -22,7 +22,7 @@ use Rattle.pp_runner.specs.AnswersGiven.{AllMoved, AllBySize, IsBySize}
 use Rattle.pp_runner.specs.WorkerEnd.{WasHeld}
 use Rattle.pp_runner.specs.WorkerLog.{events_in, sights_in, StandsIn}
 
--- the entries that stay whatever comes: all but a last look that held the processor
+-- the entries that stay whatever follows: all but a last look that held the processor
 abbrev pub settled : LogState → List Entry
 settled log = if log.kept then log.entries else take (length log.entries - 1) log.entries
 
@@ -42,7 +42,7 @@ pub record IsAtWork (load : Processor) (size steps : ℕ) (pp : Processor) (answ
   pub held : log.kept ≡ false → WasHeld pp log.entries
   pub room : log.room + length log.entries ≡ 2 * steps + 1
 
--- an event comes to the end of the log, a look as the log's rule says
+-- an event is added at the end of the log, a look as the log's rule says
 abbrev pub noted_as : LogState → ℕ → ℕ → Seen → LogState
 noted_as log channel number (Did e) =
     appended log (record { channel = channel; number = number; what = Did e })
@@ -79,8 +79,7 @@ operations (needs.Channel channel operation) = 1
 operations (needs.Read address) = 0
 operations (needs.Write address word) = 0
 
--- What one operation finds: a word, and where its exchange was lost a later one of the same
--- channel.
+-- What one operation finds: a word and, if its exchange was lost, a later one of the same channel.
 abbrev pub AreFoundByOne : List FoundWord → Type 0
 AreFoundByOne [] = ⊥
 AreFoundByOne (word ∷ []) = Unit {0}

@@ -87,7 +87,7 @@ impl<A: Allocator + Copy> Labour<A> {
         self.answers.push_reserved(answer);
     }
 
-    /// One try of the next step. Only where the processor moves is there one more answer.
+    /// One try of the next step. Its answer is kept only if the processor moves.
     fn try_step<R: Wait>(&mut self, rt: &R, site: &Site<A>, load: &Pp) -> Try
         requires running { self.old.pp.state ≡ PpState.Running }
         requires steps_left { vec_len self.old.answers < site.now.limits.steps }
@@ -120,8 +120,8 @@ impl<A: Allocator + Copy> Labour<A> {
         }
     }
 
-    /// Tries the next step until the processor moves, and answers `None` where it did. Each try is
-    /// an operation, if the step needs one; a worker gives up after just as many as its patience.
+    /// Tries the next step until the processor moves, and then answers `None`. If the step needs an
+    /// operation, each try makes one; a worker gives up after exactly as many as its patience.
     fn take_step<R: Wait, G: Gate>(
         &mut self,
         rt: &R,
@@ -165,7 +165,7 @@ impl<A: Allocator + Copy> Labour<A> {
         Some(End::Patience)
     }
 
-    /// What is left once no further step is made. The log stays with the line.
+    /// What is left when no further step is made. The log stays with the line.
     fn ended(self, site: &Site<A>, load: &Pp, finish: End) -> Ended<A>
         requires work { IsAtWork load.now site.now.central site.now.limits.steps self.pp self.answers.items self.line.log }
         requires few { vec_len self.answers ≤ site.now.limits.steps }
