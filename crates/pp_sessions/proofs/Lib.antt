@@ -1,0 +1,6 @@
+pub mod TallyLemmas
+pub mod LineLemmas
+pub mod CutLemmas
+pub mod TakeInLemmas
+pub mod HistoryLemmas
+pub mod CountLemmas

@@ -1,0 +1,5 @@
+pub mod TimedEvents
+pub mod Stretches
+pub mod StepCounts
+pub mod SessionsText
+pub mod OpenStretch
