@@ -4,3 +4,5 @@ pub mod CutLemmas
 pub mod TakeInLemmas
 pub mod HistoryLemmas
 pub mod CountLemmas
+pub mod CourseLemmas
+pub mod StretchLawLemmas

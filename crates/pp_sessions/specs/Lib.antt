@@ -3,3 +3,4 @@ pub mod Stretches
 pub mod StepCounts
 pub mod SessionsText
 pub mod OpenStretch
+pub mod SessionsLaw

@@ -1,6 +1,8 @@
 -- How far the lines of a channel are printed: the stretch that is not over yet, and the number of
 -- the next session.
 use Rattle.std.specs.Prelude.{◌≡◌, ℕ, ◌+◌, ◌≤◌, Bool, false, List, [], ◌∷◌, ◌++◌, Option, None, Some, IfSome}
+use Rattle.pp_channel.specs.declared.event.Event.{Event}
+use Rattle.pp_channel.specs.declared.event.Event.TheVariants.{Put, Take}
 use Rattle.pp_sessions.specs.SessionsText.{lines_from}
 use Rattle.pp_sessions.specs.Stretches.{are_parted, stretches, tally_of}
 use Rattle.pp_sessions.specs.declared.moment.TimedEvent.{TimedEvent}
@@ -27,6 +29,12 @@ TakesIn c old events printed new =
     → (after : List TimedEvent) × IsOpen new.tally after × ((rest : List TimedEvent)
     → lines_from c old.number (stretches (stretch ++ (events ++ rest)))
     ≡ printed ++ lines_from c new.number (stretches (after ++ rest)))
+
+-- the word put and not taken after an event, where it was this before
+abbrev pub untaken_after : Event → Option ℕ → Option ℕ
+untaken_after (Put w) word = Some w
+untaken_after (Take w) word = None
+untaken_after event word = word
 
 -- the counts of a stretch are at most this
 pub record CountsAtMost (most : ℕ) (tally : Tally) : Type 0 where

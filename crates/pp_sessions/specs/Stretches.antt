@@ -1,9 +1,9 @@
 -- The stretches of a channel: its sessions, and the idle stretches between them.
-use Rattle.std.specs.Prelude.{ℕ, Bool, true, false, ◌||◌, List, [], ◌∷◌, Option, None, Some, fold, length, if◌then◌else◌}
+use Rattle.std.specs.Prelude.{ℕ, Bool, true, false, ◌||◌, List, [], ◌∷◌, Option, None, fold, length, if◌then◌else◌}
 use Rattle.std.specs.List.{after_last, last_or, onto_first}
 use Rattle.pp_channel.specs.Session.{puts, takes}
 use Rattle.pp_channel.specs.declared.event.Event.{Event}
-use Rattle.pp_channel.specs.declared.event.Event.TheVariants.{Activate, Disconnect, Put, Take}
+use Rattle.pp_channel.specs.declared.event.Event.TheVariants.{Activate, Disconnect, Take}
 use Rattle.pp_sessions.specs.TimedEvents.{events_in}
 use Rattle.pp_sessions.specs.declared.moment.TimedEvent.{TimedEvent}
 use Rattle.pp_sessions.specs.declared.tally.Tally.{Tally}
@@ -49,15 +49,9 @@ is_take event = false
 abbrev pub untaken : List Event → Option ℕ
 untaken events = last_or None (puts (after_last is_take events))
 
--- the same after one event more
-abbrev pub untaken_after : Event → Option ℕ → Option ℕ
-untaken_after (Put w) word = Some w
-untaken_after (Take w) word = None
-untaken_after event word = word
-
--- What the line of a stretch tells of it, by its first event and the others: whether it is a session,
--- and whether it ended; when it began, and when its last event was; how many events it has, how many
--- words were put and taken, and the word put and not taken.
+-- What the line of a stretch tells of it, by its first event and the others: whether it is a
+-- session, and whether it ended; when it began, and when its last event was; how many events it
+-- has, how many words were put and taken, and the word put and not taken.
 unfoldable pub tally_of : TimedEvent → List TimedEvent → Tally
 tally_of first others =
     let last = fold (λ before event. event) first others in

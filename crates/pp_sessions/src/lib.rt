@@ -10,6 +10,6 @@ mod sessions_text;
 mod step_counts;
 mod tally;
 
-pub use laws::counts_law;
+pub use laws::{counts_law, course_law, sessions_law};
 pub use sessions_text::write_sessions;
 pub use step_counts::{StepCounts, run_counting_steps};

@@ -20,10 +20,10 @@ use std::io::Write;
 /// How many numbers two octal digits can show.
 const NUMBERS: u8 = 0o100;
 
-/// Writes the sessions of a machine, channel by channel, with the idle stretches between them, and
-/// for each processor named how many of its steps did what, by these counts of each processor in the
-/// order of the barrel; and flushes the writer. The text goes out in pieces, and takes no memory.
-/// Where the writer fails, the rest of the text is lost.
+/// Writes the sessions of a machine, channel by channel, with the idle stretches between them; and
+/// for each processor named how many of its steps did what, by these counts of each processor in
+/// the order of the barrel; and flushes the writer. The text goes out in pieces, and takes no
+/// memory. Where the writer fails, the rest of the text is lost.
 #[tactic(auto, unfolding(crate::specs::SessionsText::sessions_text))]
 pub fn write_sessions<A: Allocator, W: Write>(
     writer: &mut W,

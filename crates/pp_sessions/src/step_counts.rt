@@ -49,8 +49,8 @@ impl StepCounts {
 }
 
 /// Runs so many turns of the barrel (decimal), as `Machine::run_barrel` does, and says of each
-/// processor, in the order of the barrel, how many of its steps moved it, were held, and found it at
-/// rest.
+/// processor, in the order of the barrel, how many of its steps moved it, were held, and found it
+/// at rest.
 pub fn run_counting_steps<A: Allocator>(
     machine: &mut Machine<A>,
     turns: u32,

@@ -2,8 +2,8 @@
 
 ghost use Rattle.std.specs.Prelude.{◌≡◌, ◌+◌, ◌≤◌, ◌^◌, ◌++◌, ◌∷◌, ◌||◌, [], ℕ, List, length};
 ghost use Rattle.pp_channel.specs.Session.{puts, takes};
-ghost use Rattle.pp_sessions.specs.OpenStretch.{CountsAtMost};
-ghost use Rattle.pp_sessions.specs.Stretches.{begins_session, ends_session, tally_of, untaken_after};
+ghost use Rattle.pp_sessions.specs.OpenStretch.{CountsAtMost, untaken_after};
+ghost use Rattle.pp_sessions.specs.Stretches.{begins_session, ends_session, tally_of};
 ghost use Rattle.pp_sessions.specs.declared.moment.TimedEvent.{TimedEvent};
 
 use crate::moment::{Moment, TimedEvent};

@@ -172,9 +172,9 @@ PP03 MOVED 5 HELD 395 REST 0
     ),
 ];
 
-/// Idle stretches before, between and without sessions, and two channels and processors that a
-/// machine of ten has not, worked out by hand, after 13 rounds. A word is lost, and the next is taken;
-/// processor 31 is held twice while channel 33 is inactive, and once while it is empty.
+/// Idle stretches before, between and without sessions, with a channel and processors that a
+/// machine of ten has not, worked out by hand, after 13 rounds. A word is lost, and the next is
+/// taken; processor 31 is held twice while channel 33 is inactive, and once while it is empty.
 const ON_TWENTY: (u32, &str, &str) = (
     260,
     "\
