@@ -1,9 +1,11 @@
 -- The stretches of a channel are those of its course.
-use Rattle.std.proofs.Common.{◌≡◌, ℕ, Bool, true, false, ◌||◌, cond, List, [], ◌∷◌, ◌++◌, length, map, Option, Some, None, refl, sym, ap, subst, ◌∙◌, append_assoc}
+use Rattle.std.proofs.Common.{◌≡◌, ℕ, ◌+◌, Bool, true, false, ◌||◌, cond, List, [], ◌∷◌, ◌++◌, length, map, Option, Some, None, refl, sym, ap, subst, ◌∙◌, append_assoc, arith}
+use Rattle.std.specs.Prelude.{count_by}
 use Rattle.std.specs.Option.{option_to_list}
 use Rattle.std.specs.List.{after_last, flat_map, last_or}
 use Rattle.std.proofs.lemmas.List.{append-nil, length-append, length-map}
 use Rattle.std.proofs.lemmas.List.Elements.{filter_map-append}
+use Rattle.std.proofs.lemmas.List.Sums.{sum_by-cons}
 use Rattle.pp_channel.specs.History.{Course, events_of, idle_stretch}
 use Rattle.pp_channel.specs.Session.{Session, body, puts, takes, word_put}
 use Rattle.pp_channel.specs.declared.event.Event.{Event}
@@ -11,7 +13,8 @@ use Rattle.pp_channel.specs.declared.event.Event.TheVariants.{Activate, Disconne
 use Rattle.pp_channel.proofs.LastElements.{after_last-found, after_last-push}
 use Rattle.pp_sessions.specs.OpenStretch.{IsUncut}
 use Rattle.pp_sessions.specs.SessionsLaw.{TellsIdle, TellsSession, idle_part, session_events, stretches_of, whole_parts}
-use Rattle.pp_sessions.specs.Stretches.{begins_session, cut_between, ends_session, is_over, is_take, stretches, tally_of, untaken}
+use Rattle.pp_sessions.specs.SessionsText.{lines_from, next_number, stretch_line}
+use Rattle.pp_sessions.specs.Stretches.{is_session, begins_session, cut_between, ends_session, is_over, is_take, stretches, tally_of, untaken}
 use Rattle.pp_sessions.specs.TimedEvents.{events_in}
 use Rattle.pp_sessions.specs.declared.moment.TimedEvent.{TimedEvent}
 use Rattle.pp_sessions.proofs.CourseLemmas.{BeginsSession, begins_with_session, course_parts, lone_word, passed_words, sessions_on, whole_then}
@@ -212,3 +215,21 @@ idle_told (code ∷ codes) first others are =
       is_idle = ap begins_session begins;
       functions = ap length are ∙ length-map (code ∷ codes) (λ (k : ℕ). Function k);
     }
+
+-- ---- the numbers of sessions
+
+numbered_from : (c number : ℕ) (before after : List (List TimedEvent)) → lines_from c number (before ++ after) ≡ lines_from c number before ++ lines_from c (number + count_by is_session before) after
+unfolding lines_from
+numbered_from c number [] after = let same : number ≡ number + 0 = omega arith in ap (λ (k : ℕ). lines_from c k after) same
+numbered_from c number (stretch ∷ before) after =
+    let others = lines_from c (next_number number stretch) before in
+    ap (λ (text : List ℕ). stretch_line c number stretch ++ text) (numbered_from c (next_number number stretch) before after)
+    ∙ sym (append_assoc (stretch_line c number stretch) others (lines_from c (next_number number stretch + count_by is_session before) after))
+    ∙ ap (λ (k : ℕ). (stretch_line c number stretch ++ others) ++ lines_from c k after) (one_more (is_session stretch) (sum_by-cons (λ (s : List TimedEvent). cond (is_session s) 1 0) stretch before))
+  where
+    one_more : (b : Bool) {total : ℕ} → total ≡ cond b 1 0 + count_by is_session before → cond b (number + 1) number + count_by is_session before ≡ number + total
+    one_more true all = omega (arith, all)
+    one_more false all = omega (arith, all)
+
+pub numbered : (c : ℕ) (before after : List (List TimedEvent)) → lines_from c 1 (before ++ after) ≡ lines_from c 1 before ++ lines_from c (1 + count_by is_session before) after
+numbered c before after = numbered_from c 1 before after

@@ -29,6 +29,7 @@ cut_between test (x ∷ next ∷ xs) =
     if test x next then (x ∷ []) ∷ cut_between test (next ∷ xs)
     else onto_first x (cut_between test (next ∷ xs))
 
+-- whether two events that follow one another are of two stretches
 abbrev pub are_parted : TimedEvent → TimedEvent → Bool
 are_parted e next = is_over e.event next.event
 

@@ -1,7 +1,7 @@
 //! Laws of sessions. These functions do nothing: their contracts say what is proved of the
 //! definitions.
 
-ghost use Rattle.std.specs.Prelude.{◌≡◌, ◌==◌, ◌+◌, ◌∷◌, ℕ, Bool, IsTrue, List, count_by, map};
+ghost use Rattle.std.specs.Prelude.{◌≡◌, ◌==◌, ◌+◌, ◌∷◌, ◌++◌, ℕ, Bool, IsTrue, List, count_by, map};
 ghost use Rattle.std.specs.List.{flat_map};
 ghost use Rattle.pp_channel.specs.ChannelNumber.{names_channel};
 ghost use Rattle.pp_channel.specs.History.{Course, events_of, idle_stretch};
@@ -9,8 +9,9 @@ ghost use Rattle.pp_channel.specs.Session.{Session};
 ghost use Rattle.pp_machine.specs.Headline.{HoldsOnEachChannel};
 ghost use Rattle.pp_machine.specs.MachineState.{MachineState, history_of};
 ghost use Rattle.pp_sessions.specs.SessionsLaw.{TellsIdle, TellsSession, session_events, stretches_of};
+ghost use Rattle.pp_sessions.specs.SessionsText.{lines_from};
 ghost use Rattle.pp_sessions.specs.StepCounts.{step_counts};
-ghost use Rattle.pp_sessions.specs.Stretches.{stretches, tally_of};
+ghost use Rattle.pp_sessions.specs.Stretches.{is_session, stretches, tally_of};
 ghost use Rattle.pp_sessions.specs.TimedEvents.{events_in, timed_events};
 ghost use Rattle.pp_sessions.specs.declared.moment.TimedEvent.{TimedEvent};
 
@@ -30,6 +31,10 @@ pub fn sessions_law()
     ensures stretches { (events : List TimedEvent) (course : Course)
         → events_of course ≡ events_in events
         → map events_in (stretches events) ≡ stretches_of course }
+    // The sessions of a channel are numbered from 1 on, in order.
+    ensures numbers { (c : ℕ) (before after : List (List TimedEvent))
+        → lines_from c 1 (before ++ after)
+        ≡ lines_from c 1 before ++ lines_from c (1 + count_by is_session before) after }
     ensures session { (session : Session) (ended : Bool) (first : TimedEvent)
         (others : List TimedEvent) → events_in (first ∷ others) ≡ session_events session ended
         → TellsSession session ended (tally_of first others) }

@@ -1,7 +1,7 @@
 use Rattle.pp_sessions.specs.Stretches.{are_parted}
 use Rattle.pp_sessions.proofs.CutLemmas.{cut_together}
 use Rattle.pp_sessions.proofs.HistoryLemmas.{timed_is_history}
-use Rattle.pp_sessions.proofs.StretchLawLemmas.{idle_told, session_told, stretches_are}
+use Rattle.pp_sessions.proofs.StretchLawLemmas.{idle_told, numbered, session_told, stretches_are}
 use Rattle.pp_sessions.proofs.laws.sessions_law.Goals as goal
 
 pub returns-clause-history : goal.returns-clause-history
@@ -12,6 +12,9 @@ returns-clause-together c = λ events. cut_together are_parted events
 
 pub returns-clause-stretches : goal.returns-clause-stretches
 returns-clause-stretches c = λ events course is. stretches_are events course is
+
+pub returns-clause-numbers : goal.returns-clause-numbers
+returns-clause-numbers c = λ n before after. numbered n before after
 
 pub returns-clause-session : goal.returns-clause-session
 returns-clause-session c = λ session ended first others are. session_told session ended first others are
