@@ -92,6 +92,8 @@ work_by_rows name f (works.Dump profile turns) k =
     (k.0, rw (← first_value-rows f (codes "processors")) k.1, rw (← first_value-rows f (codes "turns")) k.2, k.3)
 work_by_rows name f (works.State profile turns) k =
     (k.0, rw (← first_value-rows f (codes "processors")) k.1, rw (← first_value-rows f (codes "turns")) k.2, k.3)
+work_by_rows name f (works.Sessions profile turns) k =
+    (k.0, rw (← first_value-rows f (codes "processors")) k.1, rw (← first_value-rows f (codes "turns")) k.2, k.3)
 work_by_rows name f (works.Steps profile turns only from) k = (
   k.0,
   rw (← first_value-rows f (codes "processors")) k.1,
@@ -115,6 +117,8 @@ work_by_values name f (works.List profile) k = (k.0, rw (first_value-rows f (cod
 work_by_values name f (works.Dump profile turns) k =
     (k.0, rw (first_value-rows f (codes "processors")) k.1, rw (first_value-rows f (codes "turns")) k.2, k.3)
 work_by_values name f (works.State profile turns) k =
+    (k.0, rw (first_value-rows f (codes "processors")) k.1, rw (first_value-rows f (codes "turns")) k.2, k.3)
+work_by_values name f (works.Sessions profile turns) k =
     (k.0, rw (first_value-rows f (codes "processors")) k.1, rw (first_value-rows f (codes "turns")) k.2, k.3)
 work_by_values name f (works.Steps profile turns only from) k = (
   k.0,

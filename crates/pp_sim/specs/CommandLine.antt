@@ -15,8 +15,8 @@ use Rattle.pp_sim.specs.declared.work.Work.{Work}
 use Rattle.pp_sim.specs.declared.work.Work.TheVariants as works
 
 -- THE COMMAND LINE, as clap sees it: `ppsim barrel --turns N`, `ppsim threads --steps N --patience
--- N`, `ppsim list`, `ppsim dump --turns N`, `ppsim steps --turns N` or `ppsim state --turns N`, the
--- command and these options required; for each `--processors N` and for `steps` also `--pp N` and
+-- N`, `ppsim list`, `ppsim dump --turns N`, `ppsim steps --turns N`, `ppsim state --turns N` or
+-- `ppsim sessions --turns N`, the command and these options required; for each `--processors N` and for `steps` also `--pp N` and
 -- `--from N`, which may be left out; or `ppsim --version`
 
 -- a required option whose value is a number
@@ -63,6 +63,11 @@ steps =
     (optional_number (codes "from")))
     processors_option
 
+abbrev pub sessions : App
+sessions =
+    with_rule (with_rule (new_app (codes "sessions"))
+    (number_option (codes "turns"))) processors_option
+
 abbrev pub bare : App
 bare =
     record (new_app (codes "ppsim")) {
@@ -73,9 +78,9 @@ bare =
 unfoldable pub ppsim : App
 ppsim =
     with_subcommand
-    (with_subcommand (with_subcommand (with_subcommand (with_subcommand
-    (with_subcommand bare barrel.top) threads.top) list.top) dump.top) steps.top)
-    state.top
+    (with_subcommand (with_subcommand (with_subcommand (with_subcommand (with_subcommand
+    (with_subcommand bare barrel.top) threads.top) list.top) dump.top) steps.top) state.top)
+    sessions.top
 
 -- the kinds of refusal that clap's parse may give to the words: none where they are a command line
 unfoldable pub refusals : List Text → Kinds
@@ -124,6 +129,9 @@ IsWorkOf name text_of (works.Dump profile turns) =
     × ReadsNumber (text_of (codes "turns")) turns × (turns ≤ 999999)
 IsWorkOf name text_of (works.State profile turns) =
     (name ≡ codes "state") × ReadsProfile (text_of (codes "processors")) profile
+    × ReadsNumber (text_of (codes "turns")) turns × (turns ≤ 999999)
+IsWorkOf name text_of (works.Sessions profile turns) =
+    (name ≡ codes "sessions") × ReadsProfile (text_of (codes "processors")) profile
     × ReadsNumber (text_of (codes "turns")) turns × (turns ≤ 999999)
 IsWorkOf name text_of (works.Steps profile turns only from) =
     (name ≡ codes "steps") × ReadsProfile (text_of (codes "processors")) profile

@@ -4,6 +4,7 @@ pub mod ThreadsText
 pub mod ListText
 pub mod DumpText
 pub mod StateOfRun
+pub mod SessionsOfRun
 pub mod StepsOfRun
 pub mod CommandLine
 pub mod Program

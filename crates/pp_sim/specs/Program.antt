@@ -10,6 +10,7 @@ use Rattle.pp_sim.specs.BarrelText.{IsBarrelText}
 use Rattle.pp_sim.specs.CommandLine.{AskFor, IsOutOfRange, IsRefused, refusals}
 use Rattle.pp_sim.specs.DumpText.{HindersDump, IsDumpText}
 use Rattle.pp_sim.specs.ListText.{IsListText}
+use Rattle.pp_sim.specs.SessionsOfRun.{IsSessionsText}
 use Rattle.pp_sim.specs.StateOfRun.{IsStateText}
 use Rattle.pp_sim.specs.StepsOfRun.{IsStepsText}
 use Rattle.pp_deck.specs.DeckMeaning.{LoadedDeck}
@@ -33,6 +34,7 @@ IsTextBy Z (works.Threads profile limits) = IsThreadsText Z limits
 IsTextBy Z (works.List profile) = IsListText
 IsTextBy Z (works.Dump profile turns) = IsDumpText turns
 IsTextBy Z (works.State profile turns) = IsStateText turns
+IsTextBy Z (works.Sessions profile turns) = IsSessionsText turns
 IsTextBy Z (works.Steps profile turns only from) = IsStepsText turns only from
 
 -- what may stand in the way of one
@@ -42,6 +44,7 @@ HindersWork (works.Threads profile limits) = Never
 HindersWork (works.List profile) = Never
 HindersWork (works.Dump profile turns) = HindersDump turns
 HindersWork (works.State profile turns) = Never
+HindersWork (works.Sessions profile turns) = Never
 HindersWork (works.Steps profile turns only from) = Never
 
 -- the profile of its machine
@@ -51,6 +54,7 @@ profile_of (works.Threads profile limits) = profile
 profile_of (works.List profile) = profile
 profile_of (works.Dump profile turns) = profile
 profile_of (works.State profile turns) = profile
+profile_of (works.Sessions profile turns) = profile
 profile_of (works.Steps profile turns only from) = profile
 
 -- the answer of a work, to the bytes that were read, and to the first bytes of a reader that tells

@@ -3,7 +3,7 @@
 ghost use Rattle.std.specs.Prelude.{◌≡◌, false, IfOk};
 ghost use Rattle.clap.specs.Words.{app_of, rule_of, with_rule};
 ghost use Rattle.clap.specs.declared.builder.command.Command.TheViews.{out-Command as fields_of};
-ghost use Rattle.pp_sim.specs.CommandLine.{barrel, dump, list, number_option, optional_number, processors_option, ppsim, state, steps, threads};
+ghost use Rattle.pp_sim.specs.CommandLine.{bare, barrel, dump, list, number_option, optional_number, processors_option, ppsim, sessions, state, steps, threads};
 
 use crate::number_range::{FROM, NumberRange, PATIENCE, STEPS, TURNS};
 use clap::{Arg, ArgAction, Command};
@@ -179,6 +179,31 @@ where four.deck has the lines
   0100 1405 1603 3450 0300
   START 0100";
 
+const SESSIONS_ABOUT: &str = "Runs a deck in the barrel, and prints the sessions of its channels";
+
+const SESSIONS_LONG_ABOUT: &str = "\
+Runs a deck in the barrel, and prints the sessions of its channels, each from an activate to the
+disconnect after it.
+
+Reads the deck from standard input. Prints to standard output, channel by channel, a line for each
+session: the turns of its activate and its disconnect (DEAD START, where it was open before the
+first turn; GOING ON, where it still is), how many words were put and taken, and the word that was
+put and not taken, which was LOST by the disconnect or is WAITING; and a line for each idle stretch
+with function codes. Then, for each processor that the deck names, how many of its turns MOVED it,
+were HELD, and found it at REST. All counts are decimal. What goes wrong is one line on standard
+error.";
+
+const SESSIONS_EXAMPLE: &str = "\
+Example:
+  ppsim sessions --turns 40 < handoff.deck
+where handoff.deck has the lines
+  PP 0
+  0100 7405 1407 7205 0300
+  START 0100
+  PP 1
+  0200 7005 0300
+  START 0200";
+
 const STEPS_ABOUT: &str = "Runs a deck in the barrel, and prints each step";
 
 const STEPS_LONG_ABOUT: &str = "\
@@ -332,6 +357,19 @@ fn state_command<'a>(alloc: Global) -> Result<Command<'a>, AllocError>
     command.arg(processors_option(alloc))
 }
 
+/// `sessions --turns N [--processors N]`
+fn sessions_command<'a>(alloc: Global) -> Result<Command<'a>, AllocError>
+    ensures app { IfOk result (λ c. app_of c ≡ sessions) }
+    ensures local { IfOk result (λ c. (fields_of c).has_globals ≡ false) }
+{
+    let command = Command::new(alloc, "sessions")
+        .about(SESSIONS_ABOUT)
+        .long_about(SESSIONS_LONG_ABOUT)
+        .after_help(SESSIONS_EXAMPLE);
+    let command = with_number(alloc, command, "turns", TURNS)?;
+    command.arg(processors_option(alloc))
+}
+
 /// `steps --turns N [--pp N] [--from N] [--processors N]`
 fn steps_command<'a>(alloc: Global) -> Result<Command<'a>, AllocError>
     ensures app { IfOk result (λ c. app_of c ≡ steps) }
@@ -347,6 +385,19 @@ fn steps_command<'a>(alloc: Global) -> Result<Command<'a>, AllocError>
     command.arg(processors_option(alloc))
 }
 
+/// The program's name, its version and its help, without a command.
+fn bare_command<'a>(alloc: Global) -> Command<'a>
+    ensures app { app_of result ≡ bare }
+    ensures local { (fields_of result).has_globals ≡ false }
+{
+    Command::new(alloc, "ppsim")
+        .about(ABOUT)
+        .version(VERSION)
+        .after_help(EXAMPLE)
+        .after_long_help(MANUAL)
+        .subcommand_required(true)
+}
+
 /// The whole command line.
 #[tactic(auto, unfolding(crate::specs::CommandLine::ppsim))]
 pub(crate) fn command<'a>(alloc: Global) -> Result<Command<'a>, AllocError>
@@ -358,16 +409,13 @@ pub(crate) fn command<'a>(alloc: Global) -> Result<Command<'a>, AllocError>
     let dump = dump_command(alloc)?;
     let steps = steps_command(alloc)?;
     let state = state_command(alloc)?;
-    let bare = Command::new(alloc, "ppsim")
-        .about(ABOUT)
-        .version(VERSION)
-        .after_help(EXAMPLE)
-        .after_long_help(MANUAL)
-        .subcommand_required(true);
+    let sessions = sessions_command(alloc)?;
+    let bare = bare_command(alloc);
     let runs = bare.subcommand(barrel)?.subcommand(threads)?;
     let texts = runs.subcommand(list)?;
     let decks = texts.subcommand(dump)?;
-    let runs_step_by_step = decks.subcommand(steps)?;
-    let whole = runs_step_by_step.subcommand(state)?;
+    let with_steps = decks.subcommand(steps)?;
+    let with_state = with_steps.subcommand(state)?;
+    let whole = with_state.subcommand(sessions)?;
     Ok(whole)
 }

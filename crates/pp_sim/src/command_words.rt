@@ -138,6 +138,10 @@ fn work_of(name: &str, matches: &ArgMatches<'_>) -> Option<Work>
         let profile = profile_of(matches)?;
         let turns = turns_of(matches)?;
         Some(Work::State { profile, turns })
+    } else if name == "sessions" {
+        let profile = profile_of(matches)?;
+        let turns = turns_of(matches)?;
+        Some(Work::Sessions { profile, turns })
     } else if name == "steps" {
         let profile = profile_of(matches)?;
         let turns = turns_of(matches)?;

@@ -12,6 +12,7 @@ mod loaded_deck;
 mod number_range;
 mod numeral;
 mod program;
+mod sessions_of_run;
 mod state_of_run;
 mod steps_of_run;
 mod streams;
@@ -29,9 +30,13 @@ pub use listing_text::list_text;
 pub use numeral::numeral_law;
 pub use pp_deck::{Deck, DeckCode, DeckFault, deck_law, headline_law, read_deck, reading_law};
 pub use pp_listing::{DumpFault, GoingOn, dump, dump_law, listing, listing_law};
+pub use pp_sessions::{
+    StepCounts, counts_law, course_law, run_counting_steps, sessions_law, write_sessions,
+};
 pub use pp_state::{printed_state, run_counting_held, state_law};
 pub use pp_steps::{steps_law, write_steps};
 pub use program::run_program;
+pub use sessions_of_run::sessions_text;
 pub use state_of_run::state_text;
 pub use steps_of_run::steps_text;
 pub use text::barrel_text;

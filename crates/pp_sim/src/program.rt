@@ -8,6 +8,7 @@ use crate::command_words::read_words;
 use crate::dumped_text::dump_text;
 use crate::line_fault::LineFault;
 use crate::listing_text::list_text;
+use crate::sessions_of_run::sessions_text;
 use crate::state_of_run::state_text;
 use crate::steps_of_run::steps_text;
 use crate::streams::write_whole;
@@ -75,6 +76,7 @@ fn do_work<T: Threads + Wait + Sync, I: Read, A: Allocator + Copy + Send + Sync,
         Work::List { profile } => list_text(alloc, profile, input, output),
         Work::Dump { profile, turns } => dump_text(alloc, profile, input, output, turns),
         Work::State { profile, turns } => state_text(alloc, profile, input, output, turns),
+        Work::Sessions { profile, turns } => sessions_text(alloc, profile, input, output, turns),
         Work::Steps {
             profile,
             turns,

@@ -24,7 +24,7 @@ fn asked(alloc: Global, words: &[&str]) -> Result<Work, Refused> {
 }
 
 /// Words after the program's name, and what they ask for.
-const RUNS: [(&[&str], Result<Work, Refused>); 12] = [
+const RUNS: [(&[&str], Result<Work, Refused>); 14] = [
     (
         &["ppsim", "barrel", "--turns", "40"],
         Ok(Work::Barrel {
@@ -68,6 +68,21 @@ const RUNS: [(&[&str], Result<Work, Refused>); 12] = [
         Err(Refused::Number),
     ),
     (&["ppsim", "state"], Err(Refused::Words)),
+    (
+        &[
+            "ppsim",
+            "sessions",
+            "--turns",
+            "999999",
+            "--processors",
+            "20",
+        ],
+        Ok(Work::Sessions {
+            profile: Profile::Twenty,
+            turns: 999_999,
+        }),
+    ),
+    (&["ppsim", "sessions"], Err(Refused::Words)),
     (
         &["ppsim", "steps", "--turns", "1000000"],
         Err(Refused::Number),
@@ -188,6 +203,7 @@ fn limits_in(asked: Result<Work, Refused>) -> Option<(u32, u32)> {
         | Work::List { .. }
         | Work::Dump { .. }
         | Work::State { .. }
+        | Work::Sessions { .. }
         | Work::Steps { .. } => None,
     }
 }

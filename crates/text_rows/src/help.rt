@@ -4,14 +4,15 @@ use crate::help_of_runs::{
     BARREL, BARREL_IN_SHORT, PROGRAM, PROGRAM_IN_SHORT, THREADS, THREADS_IN_SHORT,
 };
 use crate::help_of_views::{
-    DUMP, DUMP_IN_SHORT, LIST, LIST_IN_SHORT, STATE, STATE_IN_SHORT, STEPS, STEPS_IN_SHORT,
+    DUMP, DUMP_IN_SHORT, LIST, LIST_IN_SHORT, SESSIONS, SESSIONS_IN_SHORT, STATE, STATE_IN_SHORT,
+    STEPS, STEPS_IN_SHORT,
 };
 use crate::program::{ending, handoff};
 
 const VERSION: &str = "ppsim 1.0 (rattle-kit-13b logic dac8208d650f15bf)\n";
 
 /// Words that ask for help or for the version, each with its text.
-const HELP: [(&[&str], &str); 23] = [
+const HELP: [(&[&str], &str); 26] = [
     (&["ppsim", "--help"], PROGRAM),
     (&["ppsim", "-h"], PROGRAM_IN_SHORT),
     (&["ppsim", "help"], PROGRAM),
@@ -35,6 +36,9 @@ const HELP: [(&[&str], &str); 23] = [
     (&["ppsim", "state", "--help"], STATE),
     (&["ppsim", "help", "state"], STATE),
     (&["ppsim", "state", "-h"], STATE_IN_SHORT),
+    (&["ppsim", "sessions", "--help"], SESSIONS),
+    (&["ppsim", "help", "sessions"], SESSIONS),
+    (&["ppsim", "sessions", "-h"], SESSIONS_IN_SHORT),
 ];
 
 #[test]

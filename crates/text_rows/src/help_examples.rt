@@ -55,7 +55,7 @@ fn example_of<R: AllocGlobal + Threads + Wait + Sync>(
 }
 
 /// Calls for help, each with what the example in it prints.
-const EXAMPLES: [(&[&str], &str); 7] = [
+const EXAMPLES: [(&[&str], &str); 8] = [
     (&["ppsim", "--help"], HANDOFF_TEXT),
     (&["ppsim", "barrel", "--help"], HANDOFF_TEXT),
     (&["ppsim", "threads", "--help"], HANDOFF_BY_THREADS),
@@ -63,6 +63,7 @@ const EXAMPLES: [(&[&str], &str); 7] = [
     (&["ppsim", "dump", "--help"], DUMP_OF_FOUR),
     (&["ppsim", "steps", "--help"], STEPS_OF_FOUR),
     (&["ppsim", "state", "--help"], STATE_OF_FOUR),
+    (&["ppsim", "sessions", "--help"], SESSIONS_OF_HANDOFF),
 ];
 
 const HANDOFF_BY_THREADS: &str = "\
@@ -105,6 +106,12 @@ const STATE_OF_FOUR: &str = "\
 PP00 P=0103 A=000010 STOPPED UJN 0103
 PP 0
 0050 0010
+";
+
+const SESSIONS_OF_HANDOFF: &str = "\
+CH05 SESSION 1 FROM 000000 GOING ON PUT 1 TAKEN 1
+PP00 MOVED 4 HELD 0 REST 0
+PP01 MOVED 2 HELD 2 REST 0
 ";
 
 #[test]

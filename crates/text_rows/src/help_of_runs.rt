@@ -6,13 +6,14 @@ Simulates the peripheral processors and data channels of a Control Data 6600
 Usage: ppsim <COMMAND>
 
 Commands:
-  barrel   Runs a deck in the barrel, one step a turn, and prints what happened
-  threads  Runs a deck with one thread per processor, and prints what happened
-  list     Prints the listing of a deck, one instruction a line, which is itself a deck
-  dump     Runs a deck in the barrel, and prints a deck to go on from
-  steps    Runs a deck in the barrel, and prints each step
-  state    Runs a deck in the barrel, and prints how things stand then
-  help     Print this message or the help of the given subcommand(s)
+  barrel    Runs a deck in the barrel, one step a turn, and prints what happened
+  threads   Runs a deck with one thread per processor, and prints what happened
+  list      Prints the listing of a deck, one instruction a line, which is itself a deck
+  dump      Runs a deck in the barrel, and prints a deck to go on from
+  steps     Runs a deck in the barrel, and prints each step
+  state     Runs a deck in the barrel, and prints how things stand then
+  sessions  Runs a deck in the barrel, and prints the sessions of its channels
+  help      Print this message or the help of the given subcommand(s)
 
 Options:
   -h, --help
@@ -64,13 +65,14 @@ Simulates the peripheral processors and data channels of a Control Data 6600
 Usage: ppsim <COMMAND>
 
 Commands:
-  barrel   Runs a deck in the barrel, one step a turn, and prints what happened
-  threads  Runs a deck with one thread per processor, and prints what happened
-  list     Prints the listing of a deck, one instruction a line, which is itself a deck
-  dump     Runs a deck in the barrel, and prints a deck to go on from
-  steps    Runs a deck in the barrel, and prints each step
-  state    Runs a deck in the barrel, and prints how things stand then
-  help     Print this message or the help of the given subcommand(s)
+  barrel    Runs a deck in the barrel, one step a turn, and prints what happened
+  threads   Runs a deck with one thread per processor, and prints what happened
+  list      Prints the listing of a deck, one instruction a line, which is itself a deck
+  dump      Runs a deck in the barrel, and prints a deck to go on from
+  steps     Runs a deck in the barrel, and prints each step
+  state     Runs a deck in the barrel, and prints how things stand then
+  sessions  Runs a deck in the barrel, and prints the sessions of its channels
+  help      Print this message or the help of the given subcommand(s)
 
 Options:
   -h, --help     Print help (see more with '--help')

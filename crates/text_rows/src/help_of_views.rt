@@ -202,3 +202,59 @@ where four.deck has the lines
   0100 1405 1603 3450 0300
   START 0100
 ";
+
+pub(crate) const SESSIONS: &str = "\
+Runs a deck in the barrel, and prints the sessions of its channels, each from an activate to the
+disconnect after it.
+
+Reads the deck from standard input. Prints to standard output, channel by channel, a line for each
+session: the turns of its activate and its disconnect (DEAD START, where it was open before the
+first turn; GOING ON, where it still is), how many words were put and taken, and the word that was
+put and not taken, which was LOST by the disconnect or is WAITING; and a line for each idle stretch
+with function codes. Then, for each processor that the deck names, how many of its turns MOVED it,
+were HELD, and found it at REST. All counts are decimal. What goes wrong is one line on standard
+error.
+
+Usage: ppsim sessions [OPTIONS] --turns <N>
+
+Options:
+      --turns <N>
+          How many turns to run, 0 to 999999 (decimal)
+
+      --processors <N>
+          How many processors the machine has, 10 or 20 (decimal); 10 if not given
+
+  -h, --help
+          Print help (see a summary with '-h')
+
+Example:
+  ppsim sessions --turns 40 < handoff.deck
+where handoff.deck has the lines
+  PP 0
+  0100 7405 1407 7205 0300
+  START 0100
+  PP 1
+  0200 7005 0300
+  START 0200
+";
+
+pub(crate) const SESSIONS_IN_SHORT: &str = "\
+Runs a deck in the barrel, and prints the sessions of its channels
+
+Usage: ppsim sessions [OPTIONS] --turns <N>
+
+Options:
+      --turns <N>       How many turns to run, 0 to 999999 (decimal)
+      --processors <N>  How many processors the machine has, 10 or 20 (decimal); 10 if not given
+  -h, --help            Print help (see more with '--help')
+
+Example:
+  ppsim sessions --turns 40 < handoff.deck
+where handoff.deck has the lines
+  PP 0
+  0100 7405 1407 7205 0300
+  START 0100
+  PP 1
+  0200 7005 0300
+  START 0200
+";

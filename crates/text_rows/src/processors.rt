@@ -37,6 +37,7 @@ fn kind_of(work: Work) -> Kind {
         Work::List { profile }
         | Work::Dump { profile, .. }
         | Work::State { profile, .. }
+        | Work::Sessions { profile, .. }
         | Work::Steps { profile, .. } => (profile, false),
     };
     if is_this {

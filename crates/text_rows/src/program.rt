@@ -50,8 +50,8 @@ fn whole_run_of_twenty(rt: HostRuntime) {
     assert_eq!(rt; ended, (0, true, true, HANDOFF.len() as u32 + 1));
 }
 
-/// A command line that asks how things stand, a deck, and the answer.
-const STATES: [(&[&str], &str, &str); 2] = [
+/// A command line that asks how things stand or for the sessions, a deck, and the answer.
+const STATES: [(&[&str], &str, &str); 4] = [
     (
         &["ppsim", "state", "--turns", "40"],
         HANDOFF,
@@ -68,6 +68,23 @@ CH05 ACTIVE EMPTY
         "\
 PP31 P=0101 A=000000 RUNNING UJN 0101
 CH33 ACTIVE EMPTY
+",
+    ),
+    (
+        &["ppsim", "sessions", "--turns", "40"],
+        HANDOFF,
+        "\
+CH05 SESSION 1 FROM 000000 GOING ON PUT 1 TAKEN 1
+PP00 MOVED 4 HELD 0 REST 0
+PP01 MOVED 2 HELD 2 REST 0
+",
+    ),
+    (
+        &["ppsim", "sessions", "--turns", "20", "--processors", "20"],
+        "PP 31\n0100 7433 0300\nSTART 0100\n",
+        "\
+CH33 SESSION 1 FROM 000019 GOING ON PUT 0 TAKEN 0
+PP31 MOVED 1 HELD 0 REST 0
 ",
     ),
 ];

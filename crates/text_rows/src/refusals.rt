@@ -4,12 +4,12 @@ use crate::program::{ending, handoff};
 
 const OUT_OF_RANGE: &str = "ppsim: number out of range\n";
 
-const REFUSED: [(&[&str], &str); 24] = [
+const REFUSED: [(&[&str], &str); 25] = [
     (
         &["ppsim"],
         "\
 error: 'ppsim' requires a subcommand but one was not provided
-  [subcommands: barrel, threads, list, dump, steps, state, help]
+  [subcommands: barrel, threads, list, dump, steps, state, sessions, help]
 
 Usage: ppsim <COMMAND>
 
@@ -143,6 +143,7 @@ For more information, try '--help'.
 ",
     ),
     (&["ppsim", "state", "--turns", "1000000"], OUT_OF_RANGE),
+    (&["ppsim", "sessions", "--turns", "1000000"], OUT_OF_RANGE),
     (
         &["ppsim", "steps"],
         "\

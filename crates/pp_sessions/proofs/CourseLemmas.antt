@@ -1,0 +1,142 @@
+-- A lawful history has one course.
+use Rattle.std.proofs.Common.{◌≡◌, ℕ, List, [], ◌∷◌, ◌++◌, map, Option, Some, None, refl, sym, ap, ◌∙◌, append_assoc}
+use Rattle.std.specs.Option.{option_to_list}
+use Rattle.std.specs.List.{flat_map}
+use Rattle.pp_channel.specs.History.{Course, events_of, idle_stretch, whole_session}
+use Rattle.pp_channel.specs.Session.{Session, body}
+use Rattle.pp_channel.specs.declared.event.Event.{Event}
+use Rattle.pp_channel.specs.declared.event.Event.TheVariants.{Activate, Disconnect, Put, Take, Function}
+
+-- what may follow an idle stretch: nothing, or an Activate
+abbrev pub BeginsSession : List Event → Type 0
+BeginsSession [] = Unit {0}
+BeginsSession (Activate ∷ events) = Unit {0}
+BeginsSession (Disconnect ∷ events) = ⊥
+BeginsSession (Put w ∷ events) = ⊥
+BeginsSession (Take w ∷ events) = ⊥
+BeginsSession (Function w ∷ events) = ⊥
+
+-- what may follow the words of a session: nothing, or a Disconnect
+abbrev EndsSession : List Event → Type 0
+EndsSession [] = Unit {0}
+EndsSession (Disconnect ∷ events) = Unit {0}
+EndsSession (Activate ∷ events) = ⊥
+EndsSession (Put w ∷ events) = ⊥
+EndsSession (Take w ∷ events) = ⊥
+EndsSession (Function w ∷ events) = ⊥
+
+-- ---- one part at the front of two lists
+
+no_function : (events others : List Event) (w : ℕ) → BeginsSession events → events ≡ Function w ∷ others → ⊥
+no_function [] others w begins e = cc
+no_function (Activate ∷ events) others w begins e = cc
+no_function (Disconnect ∷ events) others w begins e = begins
+no_function (Put v ∷ events) others w begins e = begins
+no_function (Take v ∷ events) others w begins e = begins
+no_function (Function v ∷ events) others w begins e = begins
+
+no_put : (events others : List Event) (w : ℕ) → EndsSession events → events ≡ Put w ∷ others → ⊥
+no_put [] others w ends e = cc
+no_put (Disconnect ∷ events) others w ends e = cc
+no_put (Activate ∷ events) others w ends e = ends
+no_put (Put v ∷ events) others w ends e = ends
+no_put (Take v ∷ events) others w ends e = ends
+no_put (Function v ∷ events) others w ends e = ends
+
+no_take : (events others : List Event) (w : ℕ) → EndsSession events → events ≡ Take w ∷ others → ⊥
+no_take [] others w ends e = cc
+no_take (Disconnect ∷ events) others w ends e = cc
+no_take (Activate ∷ events) others w ends e = ends
+no_take (Put v ∷ events) others w ends e = ends
+no_take (Take v ∷ events) others w ends e = ends
+no_take (Function v ∷ events) others w ends e = ends
+
+-- the function codes of an idle stretch, and what follows it
+same_idle : (one other : List ℕ) (xs ys : List Event) → BeginsSession xs → BeginsSession ys → idle_stretch one ++ xs ≡ idle_stretch other ++ ys → (one ≡ other) × (xs ≡ ys)
+same_idle [] [] xs ys begin begins e = (refl, e)
+same_idle [] (v ∷ other) xs ys begin begins e = absurd (no_function xs (idle_stretch other ++ ys) v begin e)
+same_idle (w ∷ one) [] xs ys begin begins e = absurd (no_function ys (idle_stretch one ++ xs) w begins (sym e))
+same_idle (w ∷ one) (v ∷ other) xs ys begin begins e =
+    let rest : idle_stretch one ++ xs ≡ idle_stretch other ++ ys = cc in
+    let same : w ≡ v = cc in
+    let (codes, follow) = same_idle one other xs ys begin begins rest in
+    (ap (λ (k : ℕ). k ∷ one) same ∙ ap (λ (ks : List ℕ). v ∷ ks) codes, follow)
+
+-- the words of a session, and what follows them
+abbrev pub passed_words : List ℕ → List Event
+passed_words ws = flat_map (λ w. Put w ∷ Take w ∷ []) ws
+
+abbrev pub lone_word : Option ℕ → List Event
+lone_word o = map (λ w. Put w) (option_to_list o)
+
+same_words : (one other : List ℕ) (a b : Option ℕ) (xs ys : List Event) → EndsSession xs → EndsSession ys → passed_words one ++ (lone_word a ++ xs) ≡ passed_words other ++ (lone_word b ++ ys) → (one ≡ other) × (a ≡ b) × (xs ≡ ys)
+same_words [] [] None None xs ys end ends e = (refl, refl, e)
+same_words [] [] None (Some v) xs ys end ends e = absurd (no_put xs ys v end e)
+same_words [] [] (Some w) None xs ys end ends e = absurd (no_put ys xs w ends (sym e))
+same_words [] [] (Some w) (Some v) xs ys end ends e = (refl, let same : w ≡ v = cc in ap Some same, cc)
+same_words [] (v ∷ other) None b xs ys end ends e = absurd (no_put xs (Take v ∷ (passed_words other ++ (lone_word b ++ ys))) v end e)
+same_words [] (v ∷ other) (Some w) b xs ys end ends e =
+    let rest : xs ≡ Take v ∷ (passed_words other ++ (lone_word b ++ ys)) = cc in absurd (no_take xs (passed_words other ++ (lone_word b ++ ys)) v end rest)
+same_words (w ∷ one) [] a None xs ys end ends e = absurd (no_put ys (Take w ∷ (passed_words one ++ (lone_word a ++ xs))) w ends (sym e))
+same_words (w ∷ one) [] a (Some v) xs ys end ends e =
+    let rest : ys ≡ Take w ∷ (passed_words one ++ (lone_word a ++ xs)) = cc in absurd (no_take ys (passed_words one ++ (lone_word a ++ xs)) w ends rest)
+same_words (w ∷ one) (v ∷ other) a b xs ys end ends e =
+    let rest : passed_words one ++ (lone_word a ++ xs) ≡ passed_words other ++ (lone_word b ++ ys) = cc in
+    let same : w ≡ v = cc in
+    let (words, lone, follow) = same_words one other a b xs ys end ends rest in
+    (ap (λ (k : ℕ). k ∷ one) same ∙ ap (λ (ks : List ℕ). v ∷ ks) words, lone, follow)
+
+same_body : (s t : Session) (xs ys : List Event) → EndsSession xs → EndsSession ys → body s ++ xs ≡ body t ++ ys → (s ≡ t) × (xs ≡ ys)
+same_body s t xs ys end ends e =
+    let all : Activate ∷ (passed_words s.passed ++ (lone_word s.lone ++ xs)) ≡ Activate ∷ (passed_words t.passed ++ (lone_word t.lone ++ ys)) =
+    sym (append_assoc (Activate ∷ passed_words s.passed) (lone_word s.lone) xs) ∙ e ∙ append_assoc (Activate ∷ passed_words t.passed) (lone_word t.lone) ys in
+    let inside : passed_words s.passed ++ (lone_word s.lone ++ xs) ≡ passed_words t.passed ++ (lone_word t.lone ++ ys) = cc in
+    let (words, lone, follow) = same_words s.passed t.passed s.lone t.lone xs ys end ends inside in
+    (ap (λ (ws : List ℕ). record { passed = ws; lone = s.lone }) words ∙ ap (λ (o : Option ℕ). record { passed = t.passed; lone = o }) lone, follow)
+
+-- ---- courses
+
+-- the sessions from some on, and the open one
+abbrev pub sessions_on : List (Session × List ℕ) → Option Session → List Event
+sessions_on whole open_one = flat_map whole_session whole ++ flat_map body (option_to_list open_one)
+
+pub begins_with_session : (whole : List (Session × List ℕ)) (open_one : Option Session) → BeginsSession (sessions_on whole open_one)
+begins_with_session [] None = tt
+begins_with_session [] (Some s) = tt
+begins_with_session (p ∷ whole) open_one = tt
+
+-- a whole session, and what follows it
+pub whole_then : (s : Session) (codes : List ℕ) (whole : List (Session × List ℕ)) (open_one : Option Session) → sessions_on ((s, codes) ∷ whole) open_one ≡ body s ++ (Disconnect ∷ (idle_stretch codes ++ sessions_on whole open_one))
+whole_then s codes whole open_one =
+    append_assoc (body s ++ (Disconnect ∷ idle_stretch codes)) (flat_map whole_session whole) (flat_map body (option_to_list open_one))
+    ∙ append_assoc (body s) (Disconnect ∷ idle_stretch codes) (sessions_on whole open_one)
+
+same_sessions : (one other : List (Session × List ℕ)) (a b : Option Session) → sessions_on one a ≡ sessions_on other b → (one ≡ other) × (a ≡ b)
+same_sessions [] [] None None e = (refl, refl)
+same_sessions [] [] None (Some t) e = absurd (cc)
+same_sessions [] [] (Some s) None e = absurd (cc)
+same_sessions [] [] (Some s) (Some t) e = let (same, rest) = same_body s t [] [] tt tt e in (refl, ap Some same)
+same_sessions [] ((t, codes) ∷ other) None b e = absurd (cc)
+same_sessions [] ((t, codes) ∷ other) (Some s) b e =
+    let (same, rest) = same_body s t [] (Disconnect ∷ (idle_stretch codes ++ sessions_on other b)) tt tt (e ∙ whole_then t codes other b) in absurd (cc)
+same_sessions ((s, codes) ∷ one) [] a None e = absurd (cc)
+same_sessions ((s, codes) ∷ one) [] a (Some t) e =
+    let (same, rest) = same_body s t (Disconnect ∷ (idle_stretch codes ++ sessions_on one a)) [] tt tt (sym (whole_then s codes one a) ∙ e) in absurd (cc)
+same_sessions ((s, codes) ∷ one) ((t, others) ∷ other) a b e =
+    let (same, rest) = same_body s t (Disconnect ∷ (idle_stretch codes ++ sessions_on one a)) (Disconnect ∷ (idle_stretch others ++ sessions_on other b)) tt tt (sym (whole_then s codes one a) ∙ e ∙ whole_then t others other b) in
+    let behind : idle_stretch codes ++ sessions_on one a ≡ idle_stretch others ++ sessions_on other b = cc in
+    let (idle, on) = same_idle codes others (sessions_on one a) (sessions_on other b) (begins_with_session one a) (begins_with_session other b) behind in
+    let (wholes, opens) = same_sessions one other a b on in
+    (ap (λ (x : Session). (x, codes) ∷ one) same ∙ ap (λ (ks : List ℕ). (t, ks) ∷ one) idle ∙ ap (λ (ps : List (Session × List ℕ)). (t, others) ∷ ps) wholes, opens)
+
+pub course_parts : (c : Course) → events_of c ≡ idle_stretch c.first_stretch ++ sessions_on c.whole_sessions c.open_session
+course_parts c = append_assoc (idle_stretch c.first_stretch) (flat_map whole_session c.whole_sessions) (flat_map body (option_to_list c.open_session))
+
+pub one_course : (one other : Course) → events_of one ≡ events_of other → one ≡ other
+one_course one other e =
+    let (first, on) = same_idle one.first_stretch other.first_stretch (sessions_on one.whole_sessions one.open_session) (sessions_on other.whole_sessions other.open_session)
+    (begins_with_session one.whole_sessions one.open_session) (begins_with_session other.whole_sessions other.open_session) (sym (course_parts one) ∙ e ∙ course_parts other) in
+    let (wholes, opens) = same_sessions one.whole_sessions other.whole_sessions one.open_session other.open_session on in
+    ap (λ (ws : List ℕ). record { first_stretch = ws; whole_sessions = one.whole_sessions; open_session = one.open_session }) first
+    ∙ ap (λ (ps : List (Session × List ℕ)). record { first_stretch = other.first_stretch; whole_sessions = ps; open_session = one.open_session }) wholes
+    ∙ ap (λ (o : Option Session). record { first_stretch = other.first_stretch; whole_sessions = other.whole_sessions; open_session = o }) opens

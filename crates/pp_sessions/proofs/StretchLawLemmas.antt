@@ -1,0 +1,235 @@
+-- The stretches of a channel are those of its course.
+use Rattle.std.proofs.Common.{◌≡◌, ℕ, ◌+◌, Bool, true, false, ◌||◌, cond, List, [], ◌∷◌, ◌++◌, length, map, Option, Some, None, refl, sym, ap, subst, ◌∙◌, append_assoc, arith}
+use Rattle.std.specs.Prelude.{count_by}
+use Rattle.std.specs.Option.{option_to_list}
+use Rattle.std.specs.List.{after_last, flat_map, last_or}
+use Rattle.std.proofs.lemmas.List.{append-nil, length-append, length-map}
+use Rattle.std.proofs.lemmas.List.Elements.{filter_map-append}
+use Rattle.std.proofs.lemmas.List.Sums.{sum_by-cons}
+use Rattle.pp_channel.specs.History.{Course, events_of, idle_stretch}
+use Rattle.pp_channel.specs.Session.{Session, body, puts, takes, word_put}
+use Rattle.pp_channel.specs.declared.event.Event.{Event}
+use Rattle.pp_channel.specs.declared.event.Event.TheVariants.{Activate, Disconnect, Put, Take, Function}
+use Rattle.pp_channel.proofs.LastElements.{after_last-found, after_last-push}
+use Rattle.pp_sessions.specs.OpenStretch.{IsUncut}
+use Rattle.pp_sessions.specs.SessionsLaw.{TellsIdle, TellsSession, idle_part, session_events, stretches_of, whole_parts}
+use Rattle.pp_sessions.specs.SessionsText.{lines_from, next_number, stretch_line}
+use Rattle.pp_sessions.specs.Stretches.{is_session, begins_session, cut_between, ends_session, is_over, is_take, stretches, tally_of, untaken}
+use Rattle.pp_sessions.specs.TimedEvents.{events_in}
+use Rattle.pp_sessions.specs.declared.moment.TimedEvent.{TimedEvent}
+use Rattle.pp_sessions.proofs.CourseLemmas.{BeginsSession, begins_with_session, course_parts, lone_word, passed_words, sessions_on, whole_then}
+use Rattle.pp_sessions.proofs.CutLemmas.{IsCutBefore, cut-append, cut-map, cut-nil, last_in, uncut-push}
+
+-- ---- events that neither begin nor end a session
+
+abbrev IsPlain : Event → Type 0
+IsPlain e = (ends_session e ≡ false) × (begins_session e ≡ false)
+
+abbrev ArePlain : List Event → Type 0
+ArePlain [] = Unit {0}
+ArePlain (e ∷ events) = IsPlain e × ArePlain events
+
+neither : (a b : Bool) → a ≡ false → b ≡ false → (a || b) ≡ false
+neither a b goes stays = ap (λ (x : Bool). x || b) goes ∙ stays
+
+or_true : (a : Bool) → (a || true) ≡ true
+or_true true = refl
+or_true false = refl
+
+uncut_plain : (first : Event) (others : List Event) → ends_session first ≡ false → ArePlain others → IsUncut is_over first others
+uncut_plain first [] goes plain = tt
+uncut_plain first (next ∷ others) goes plain = (neither (ends_session first) (begins_session next) goes plain.0.1, uncut_plain next others plain.0.0 plain.1)
+
+last_plain : (first : Event) (others : List Event) → ends_session first ≡ false → ArePlain others → ends_session (last_in first others) ≡ false
+last_plain first [] goes plain = goes
+last_plain first (next ∷ others) goes plain = last_plain next others plain.0.0 plain.1
+
+last_in-push : {X : Type 0} (x : X) (xs : List X) (y : X) → last_in x (xs ++ y ∷ []) ≡ y
+last_in-push x [] y = refl
+last_in-push x (next ∷ xs) y = last_in-push next xs y
+
+-- ---- an idle stretch
+
+plain_codes : (codes : List ℕ) → ArePlain (idle_stretch codes)
+plain_codes [] = tt
+plain_codes (code ∷ codes) = ((refl, refl), plain_codes codes)
+
+cut_before_session : (last : Event) (rest : List Event) → BeginsSession rest → IsCutBefore is_over last rest
+cut_before_session last [] begins = tt
+cut_before_session last (Activate ∷ rest) begins = or_true (ends_session last)
+cut_before_session last (Disconnect ∷ rest) begins = absurd begins
+cut_before_session last (Put w ∷ rest) begins = absurd begins
+cut_before_session last (Take w ∷ rest) begins = absurd begins
+cut_before_session last (Function w ∷ rest) begins = absurd begins
+
+cut_idle : (codes : List ℕ) (rest : List Event) → BeginsSession rest → cut_between is_over (idle_stretch codes ++ rest) ≡ idle_part codes ++ cut_between is_over rest
+cut_idle [] rest begins = refl
+cut_idle (code ∷ codes) rest begins =
+    cut-append is_over (Function code) (idle_stretch codes) rest (uncut_plain (Function code) (idle_stretch codes) refl (plain_codes codes)) (cut_before_session (last_in (Function code) (idle_stretch codes)) rest begins)
+
+-- ---- a session
+
+-- the words of a session
+abbrev words : Session → List Event
+words s = passed_words s.passed ++ lone_word s.lone
+
+plain_words : (passed : List ℕ) (lone : Option ℕ) → ArePlain (passed_words passed ++ lone_word lone)
+plain_words [] None = tt
+plain_words [] (Some w) = ((refl, refl), tt)
+plain_words (w ∷ passed) lone = ((refl, refl), ((refl, refl), plain_words passed lone))
+
+uncut_words : (s : Session) → IsUncut is_over Activate (words s)
+uncut_words s = uncut_plain Activate (words s) refl (plain_words s.passed s.lone)
+
+no_end : (s : Session) → ends_session (last_in Activate (words s)) ≡ false
+no_end s = last_plain Activate (words s) refl (plain_words s.passed s.lone)
+
+uncut_session : (s : Session) → IsUncut is_over Activate (words s ++ Disconnect ∷ [])
+uncut_session s = uncut-push is_over Activate (words s) Disconnect (uncut_words s) (neither (ends_session (last_in Activate (words s))) false (no_end s) refl)
+
+cut_after_end : (last : Event) (rest : List Event) → last ≡ Disconnect → IsCutBefore is_over last rest
+cut_after_end last [] is = tt
+cut_after_end last (next ∷ rest) is = ap (λ (e : Event). is_over e next) is
+
+cut_whole : (s : Session) (rest : List Event) → cut_between is_over ((body s ++ Disconnect ∷ []) ++ rest) ≡ session_events s true ∷ cut_between is_over rest
+cut_whole s rest = cut-append is_over Activate (words s ++ Disconnect ∷ []) rest (uncut_session s) (cut_after_end (last_in Activate (words s ++ Disconnect ∷ [])) rest (last_in-push Activate (words s) Disconnect))
+
+-- ---- a course
+
+abbrev open_parts : Option Session → List (List Event)
+open_parts o = map (λ session. session_events session false) (option_to_list o)
+
+cut_open : (o : Option Session) → cut_between is_over (sessions_on [] o) ≡ open_parts o
+cut_open None = cut-nil is_over
+cut_open (Some s) =
+    cut-append is_over Activate (words s) [] (uncut_words s) tt
+    ∙ ap (λ (parts : List (List Event)). body s ∷ parts) (cut-nil is_over)
+    ∙ ap (λ (part : List Event). part ∷ []) (sym (append-nil (body s)))
+
+cut_sessions : (whole : List (Session × List ℕ)) (o : Option Session) → cut_between is_over (sessions_on whole o) ≡ flat_map whole_parts whole ++ open_parts o
+cut_sessions [] o = cut_open o
+cut_sessions ((s, codes) ∷ whole) o =
+    ap (cut_between is_over) (whole_then s codes whole o ∙ sym (append_assoc (body s) (Disconnect ∷ []) (idle_stretch codes ++ sessions_on whole o)))
+    ∙ cut_whole s (idle_stretch codes ++ sessions_on whole o)
+    ∙ ap (λ (parts : List (List Event)). session_events s true ∷ parts) (cut_idle codes (sessions_on whole o) (begins_with_session whole o) ∙ ap (λ (parts : List (List Event)). idle_part codes ++ parts) (cut_sessions whole o))
+    ∙ ap (λ (parts : List (List Event)). session_events s true ∷ parts) (sym (append_assoc (idle_part codes) (flat_map whole_parts whole) (open_parts o)))
+
+cut_course : (c : Course) → cut_between is_over (events_of c) ≡ stretches_of c
+cut_course c =
+    ap (cut_between is_over) (course_parts c)
+    ∙ cut_idle c.first_stretch (sessions_on c.whole_sessions c.open_session) (begins_with_session c.whole_sessions c.open_session)
+    ∙ ap (λ (parts : List (List Event)). idle_part c.first_stretch ++ parts) (cut_sessions c.whole_sessions c.open_session)
+    ∙ sym (append_assoc (idle_part c.first_stretch) (flat_map whole_parts c.whole_sessions) (open_parts c.open_session))
+
+pub stretches_are : (events : List TimedEvent) (c : Course) → events_of c ≡ events_in events → map events_in (stretches events) ≡ stretches_of c
+stretches_are events c is = cut-map (λ (e : TimedEvent). e.event) is_over events ∙ ap (cut_between is_over) (sym is) ∙ cut_course c
+
+-- ---- what a line tells
+
+puts_words : (passed : List ℕ) (lone : Option ℕ) (ended : Bool) → puts ((passed_words passed ++ lone_word lone) ++ cond ended (Disconnect ∷ []) []) ≡ passed ++ option_to_list lone
+puts_words [] None true = refl
+puts_words [] None false = refl
+puts_words [] (Some w) true = refl
+puts_words [] (Some w) false = refl
+puts_words (w ∷ passed) lone ended = ap (λ (ws : List ℕ). w ∷ ws) (puts_words passed lone ended)
+
+takes_words : (passed : List ℕ) (lone : Option ℕ) (ended : Bool) → takes ((passed_words passed ++ lone_word lone) ++ cond ended (Disconnect ∷ []) []) ≡ passed
+takes_words [] None true = refl
+takes_words [] None false = refl
+takes_words [] (Some w) true = refl
+takes_words [] (Some w) false = refl
+takes_words (w ∷ passed) lone ended = ap (λ (ws : List ℕ). w ∷ ws) (takes_words passed lone ended)
+
+-- no word was put after the last Take
+abbrev IsClear : List Event → Type 0
+IsClear events = puts (after_last is_take events) ≡ []
+
+clear_passed : (passed : List ℕ) (events : List Event) → IsClear events → IsClear (events ++ passed_words passed)
+clear_passed [] events clear = subst IsClear (sym (append-nil events)) clear
+clear_passed (w ∷ passed) events clear =
+    subst IsClear (append_assoc (events ++ Put w ∷ []) (Take w ∷ []) (passed_words passed) ∙ append_assoc events (Put w ∷ []) (Take w ∷ passed_words passed))
+    (clear_passed passed ((events ++ Put w ∷ []) ++ Take w ∷ []) (ap puts (after_last-found is_take (events ++ Put w ∷ []) (Take w) refl)))
+
+abbrev HaveNoTake : List Event → Type 0
+HaveNoTake [] = Unit {0}
+HaveNoTake (e ∷ events) = (is_take e ≡ false) × HaveNoTake events
+
+after_last-append : (events others : List Event) → HaveNoTake others → after_last is_take (events ++ others) ≡ after_last is_take events ++ others
+after_last-append events [] none = ap (after_last is_take) (append-nil events) ∙ sym (append-nil (after_last is_take events))
+after_last-append events (e ∷ others) none =
+    ap (after_last is_take) (sym (append_assoc events (e ∷ []) others))
+    ∙ after_last-append (events ++ e ∷ []) others none.1
+    ∙ ap (λ (es : List Event). es ++ others) (after_last-push is_take events e none.0)
+    ∙ append_assoc (after_last is_take events) (e ∷ []) others
+
+no_take_behind : (lone : Option ℕ) (ended : Bool) → HaveNoTake (lone_word lone ++ cond ended (Disconnect ∷ []) [])
+no_take_behind None true = (refl, tt)
+no_take_behind None false = tt
+no_take_behind (Some w) true = (refl, (refl, tt))
+no_take_behind (Some w) false = (refl, tt)
+
+lone_is : (lone : Option ℕ) (ended : Bool) → last_or None (puts (lone_word lone ++ cond ended (Disconnect ∷ []) [])) ≡ lone
+lone_is None true = refl
+lone_is None false = refl
+lone_is (Some w) true = refl
+lone_is (Some w) false = refl
+
+untaken_is : (s : Session) (ended : Bool) → untaken (session_events s ended) ≡ s.lone
+untaken_is s ended =
+    let passed = Activate ∷ passed_words s.passed in
+    let behind = lone_word s.lone ++ cond ended (Disconnect ∷ []) [] in
+    ap (λ (es : List Event). untaken es) (append_assoc passed (lone_word s.lone) (cond ended (Disconnect ∷ []) []))
+    ∙ ap (λ (es : List Event). last_or None (puts es)) (after_last-append passed behind (no_take_behind s.lone ended))
+    ∙ ap (last_or None) (filter_map-append word_put (after_last is_take passed) behind)
+    ∙ ap (λ (ws : List ℕ). last_or None (ws ++ puts behind)) (clear_passed s.passed (Activate ∷ []) refl)
+    ∙ lone_is s.lone ended
+
+-- the last event of a list, alone
+last_alone : (first : TimedEvent) (others : List TimedEvent) → (last_in first others).event ≡ last_in first.event (events_in others)
+last_alone first [] = refl
+last_alone first (next ∷ others) = last_alone next others
+
+end_is : (s : Session) (ended : Bool) → ends_session (last_in Activate (words s ++ cond ended (Disconnect ∷ []) [])) ≡ ended
+end_is s true = ap ends_session (last_in-push Activate (words s) Disconnect)
+end_is s false = ap (λ (es : List Event). ends_session (last_in Activate es)) (append-nil (words s)) ∙ no_end s
+
+pub session_told : (s : Session) (ended : Bool) (first : TimedEvent) (others : List TimedEvent) → events_in (first ∷ others) ≡ session_events s ended → TellsSession s ended (tally_of first others)
+unfolding tally_of
+session_told s ended first others are =
+    let begins : first.event ≡ Activate = cc in
+    let behind : events_in others ≡ words s ++ cond ended (Disconnect ∷ []) [] = cc in
+    record {
+      is_session = ap begins_session begins;
+      end = ap ends_session (last_alone first others ∙ ap (λ (e : Event). last_in e (events_in others)) begins ∙ ap (last_in Activate) behind) ∙ end_is s ended;
+      put = ap (λ (es : List Event). length (puts es)) are ∙ ap length (puts_words s.passed s.lone ended) ∙ length-append s.passed (option_to_list s.lone);
+      taken = ap (λ (es : List Event). length (takes es)) are ∙ ap length (takes_words s.passed s.lone ended);
+      untaken = ap (λ (es : List Event). untaken es) are ∙ untaken_is s ended;
+    }
+
+pub idle_told : (codes : List ℕ) (first : TimedEvent) (others : List TimedEvent) → events_in (first ∷ others) ≡ idle_stretch codes → TellsIdle codes (tally_of first others)
+unfolding tally_of
+idle_told [] first others are = absurd (cc)
+idle_told (code ∷ codes) first others are =
+    let begins : first.event ≡ Function code = cc in
+    record {
+      is_idle = ap begins_session begins;
+      functions = ap length are ∙ length-map (code ∷ codes) (λ (k : ℕ). Function k);
+    }
+
+-- ---- the numbers of sessions
+
+numbered_from : (c number : ℕ) (before after : List (List TimedEvent)) → lines_from c number (before ++ after) ≡ lines_from c number before ++ lines_from c (number + count_by is_session before) after
+unfolding lines_from
+numbered_from c number [] after = let same : number ≡ number + 0 = omega arith in ap (λ (k : ℕ). lines_from c k after) same
+numbered_from c number (stretch ∷ before) after =
+    let others = lines_from c (next_number number stretch) before in
+    ap (λ (text : List ℕ). stretch_line c number stretch ++ text) (numbered_from c (next_number number stretch) before after)
+    ∙ sym (append_assoc (stretch_line c number stretch) others (lines_from c (next_number number stretch + count_by is_session before) after))
+    ∙ ap (λ (k : ℕ). (stretch_line c number stretch ++ others) ++ lines_from c k after) (one_more (is_session stretch) (sum_by-cons (λ (s : List TimedEvent). cond (is_session s) 1 0) stretch before))
+  where
+    one_more : (b : Bool) {total : ℕ} → total ≡ cond b 1 0 + count_by is_session before → cond b (number + 1) number + count_by is_session before ≡ number + total
+    one_more true all = omega (arith, all)
+    one_more false all = omega (arith, all)
+
+pub numbered : (c : ℕ) (before after : List (List TimedEvent)) → lines_from c 1 (before ++ after) ≡ lines_from c 1 before ++ lines_from c (1 + count_by is_session before) after
+numbered c before after = numbered_from c 1 before after

@@ -1,0 +1,81 @@
+-- What the line of a stretch tells, with an event more.
+use Rattle.std.proofs.Common.{◌≡◌, ℕ, ◌+◌, Bool, false, List, [], ◌∷◌, ◌++◌, length, Option, None, refl, sym, ap, ◌∙◌}
+use Rattle.std.specs.Prelude.{fold}
+use Rattle.std.specs.List.{after_last, last_or}
+use Rattle.std.proofs.lemmas.List.{append-nil, length-append, length_push, map-append}
+use Rattle.std.proofs.lemmas.List.Elements.{filter_map-append}
+use Rattle.pp_channel.specs.Session.{puts, takes, word_put, word_taken}
+use Rattle.pp_channel.specs.declared.event.Event.{Event}
+use Rattle.pp_channel.specs.declared.event.Event.TheVariants.{Activate, Disconnect, Put, Take, Function}
+use Rattle.pp_channel.proofs.LastElements.{after_last-found, after_last-push, last_or-push}
+use Rattle.pp_sessions.specs.OpenStretch.{untaken_after}
+use Rattle.pp_sessions.specs.Stretches.{begins_session, ends_session, is_take, tally_of, untaken}
+use Rattle.pp_sessions.specs.TimedEvents.{events_in}
+use Rattle.pp_sessions.specs.declared.moment.TimedEvent.{TimedEvent}
+use Rattle.pp_sessions.specs.declared.tally.Tally.{Tally}
+
+abbrev pub last_event : TimedEvent → List TimedEvent → TimedEvent
+last_event first others = fold (λ before event. event) first others
+
+pub last_pushed : (first : TimedEvent) (others : List TimedEvent) (e : TimedEvent) → last_event first (others ++ e ∷ []) ≡ e
+last_pushed first [] e = refl
+last_pushed first (next ∷ others) e = last_pushed next others e
+
+-- the word put and not taken
+after_no_take : (events : List Event) (e : Event) → is_take e ≡ false → untaken (events ++ e ∷ []) ≡ last_or None (puts (after_last is_take events) ++ puts (e ∷ []))
+after_no_take events e other =
+    ap (λ (es : List Event). last_or None (puts es)) (after_last-push is_take events e other)
+    ∙ ap (last_or None) (filter_map-append word_put (after_last is_take events) (e ∷ []))
+
+stays : (events : List Event) (e : Event) → is_take e ≡ false → puts (e ∷ []) ≡ [] → untaken (events ++ e ∷ []) ≡ untaken events
+stays events e other none =
+    after_no_take events e other ∙ ap (λ (ws : List ℕ). last_or None (puts (after_last is_take events) ++ ws)) none ∙ ap (last_or None) (append-nil (puts (after_last is_take events)))
+
+pub untaken_more : (events : List Event) (e : Event) → untaken (events ++ e ∷ []) ≡ untaken_after e (untaken events)
+untaken_more events Activate = stays events Activate refl refl
+untaken_more events Disconnect = stays events Disconnect refl refl
+untaken_more events (Function w) = stays events (Function w) refl refl
+untaken_more events (Put w) = after_no_take events (Put w) refl ∙ last_or-push None (puts (after_last is_take events)) w
+untaken_more events (Take w) = ap (λ (es : List Event). last_or None (puts es)) (after_last-found is_take events (Take w) refl)
+
+-- a stretch with an event more
+abbrev with_event : Tally → TimedEvent → Tally
+with_event told e = record {
+  is_session = told.is_session;
+  has_ended = ends_session e.event;
+  from = told.from;
+  to = e.moment;
+  events = told.events + 1;
+  put = told.put + length (puts (e.event ∷ []));
+  taken = told.taken + length (takes (e.event ∷ []));
+  untaken = untaken_after e.event told.untaken;
+}
+
+tally_more : (first : TimedEvent) (others : List TimedEvent) (e : TimedEvent) → tally_of first (others ++ e ∷ []) ≡ with_event (tally_of first others) e
+unfolding tally_of
+tally_more first others e = with_fields (last_event first (others ++ e ∷ [])) (events_in (first ∷ others ++ e ∷ [])) (last_pushed first others e) (map-append (λ (x : TimedEvent). x.event) (first ∷ others) (e ∷ []))
+  where
+    with_fields : (last : TimedEvent) (events : List Event) → last ≡ e → events ≡ events_in (first ∷ others) ++ e.event ∷ [] →
+        record { is_session = begins_session first.event; has_ended = ends_session last.event; from = first.moment; to = last.moment; events = length events; put = length (puts events); taken = length (takes events); untaken = untaken events }
+        ≡ with_event (record { is_session = begins_session first.event; has_ended = ends_session (last_event first others).event; from = first.moment; to = (last_event first others).moment; events = length (events_in (first ∷ others)); put = length (puts (events_in (first ∷ others))); taken = length (takes (events_in (first ∷ others))); untaken = untaken (events_in (first ∷ others)) }) e
+    with_fields last events is_last are = rw (
+      is_last,
+      are,
+      untaken_more (events_in (first ∷ others)) e.event,
+      length_push (events_in (first ∷ others)) e.event,
+      filter_map-append word_put (events_in (first ∷ others)) (e.event ∷ []),
+      filter_map-append word_taken (events_in (first ∷ others)) (e.event ∷ []),
+      length-append (puts (events_in (first ∷ others))) (puts (e.event ∷ [])),
+      length-append (takes (events_in (first ∷ others))) (takes (e.event ∷ [])),
+    ) refl
+
+pub tally_with : (told : Tally) (first : TimedEvent) (others : List TimedEvent) (e : TimedEvent) (ended : Bool) (put taken : ℕ) (word : Option ℕ) → told ≡ tally_of first others
+    → ended ≡ ends_session e.event → put ≡ length (puts (e.event ∷ [])) → taken ≡ length (takes (e.event ∷ [])) → word ≡ untaken_after e.event told.untaken
+    → record { is_session = told.is_session; has_ended = ended; from = told.from; to = e.moment; events = told.events + 1; put = told.put + put; taken = told.taken + taken; untaken = word } ≡ tally_of first (others ++ e ∷ [])
+tally_with told first others e ended put taken word is e1 e2 e3 e4 =
+    rw (e1, e2, e3, e4) (ap (λ (t : Tally). with_event t e) is ∙ sym (tally_more first others e))
+
+pub tally_alone : (e : TimedEvent) (begins ended : Bool) (put taken : ℕ) (word : Option ℕ) → begins ≡ begins_session e.event → ended ≡ ends_session e.event → put ≡ length (puts (e.event ∷ [])) → taken ≡ length (takes (e.event ∷ [])) → word ≡ untaken_after e.event None
+    → record { is_session = begins; has_ended = ended; from = e.moment; to = e.moment; events = 1; put = put; taken = taken; untaken = word } ≡ tally_of e []
+unfolding tally_of
+tally_alone e begins ended put taken word e1 e2 e3 e4 e5 = rw (e1, e2, e3, e4, e5) (ap (λ (o : Option ℕ). record { is_session = begins_session e.event; has_ended = ends_session e.event; from = e.moment; to = e.moment; events = 1; put = length (puts (e.event ∷ [])); taken = length (takes (e.event ∷ [])); untaken = o }) (sym (untaken_more [] e.event)))

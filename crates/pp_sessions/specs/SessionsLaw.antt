@@ -1,0 +1,43 @@
+-- What the lines of a channel tell: the sessions of its course, with the idle stretches between
+-- them.
+use Rattle.std.specs.Prelude.{◌≡◌, ℕ, ◌+◌, Bool, true, false, List, [], ◌∷◌, ◌++◌, length, map, if◌then◌else◌}
+use Rattle.std.specs.List.{flat_map}
+use Rattle.std.specs.Option.{option_to_list}
+use Rattle.pp_channel.specs.History.{Course, idle_stretch}
+use Rattle.pp_channel.specs.Session.{Session, body}
+use Rattle.pp_channel.specs.declared.event.Event.{Event}
+use Rattle.pp_channel.specs.declared.event.Event.TheVariants.{Disconnect}
+use Rattle.pp_sessions.specs.declared.tally.Tally.{Tally}
+
+-- the events of a session, with the Disconnect that ended it if one did
+abbrev pub session_events : Session → Bool → List Event
+session_events session ended = body session ++ (if ended then Disconnect ∷ [] else [])
+
+-- an idle stretch is one where it has a function code
+abbrev pub idle_part : List ℕ → List (List Event)
+idle_part [] = []
+idle_part (code ∷ codes) = idle_stretch (code ∷ codes) ∷ []
+
+-- a whole session, and the idle stretch after it
+abbrev pub whole_parts : Session × List ℕ → List (List Event)
+whole_parts (session, codes) = session_events session true ∷ idle_part codes
+
+-- the stretches of a course, in order
+abbrev pub stretches_of : Course → List (List Event)
+stretches_of c =
+    idle_part c.first_stretch
+    ++ flat_map whole_parts c.whole_sessions
+    ++ map (λ session. session_events session false) (option_to_list c.open_session)
+
+-- what the line of a stretch tells is a session: whether it ended, its words, and the lone last word
+pub record TellsSession (session : Session) (ended : Bool) (told : Tally) : Type 0 where
+  pub is_session : told.is_session ≡ true
+  pub end : told.has_ended ≡ ended
+  pub put : told.put ≡ length session.passed + length (option_to_list session.lone)
+  pub taken : told.taken ≡ length session.passed
+  pub untaken : told.untaken ≡ session.lone
+
+-- or it is an idle stretch of these function codes
+pub record TellsIdle (codes : List ℕ) (told : Tally) : Type 0 where
+  pub is_idle : told.is_session ≡ false
+  pub functions : told.events ≡ length codes

@@ -1,0 +1,108 @@
+-- The text of the sessions of a run: for each channel a line for each of its stretches, and for
+-- each processor that the deck names a line with the counts of its steps.
+use Rattle.std.specs.Prelude.{ℕ, ◌+◌, ◌/◌, ◌%◌, Bool, List, [], ◌∷◌, ◌++◌, Option, None, Some, codes, slice_index_or, if◌then◌else◌}
+use Rattle.pp_channel.specs.ChannelNumber.{names_channel}
+use Rattle.pp_machine.specs.MachineState.{MachineState}
+use Rattle.pp_machine.specs.ProcessorNumber.{processor_index}
+use Rattle.pp_machine.specs.Run.{run}
+use Rattle.pp_deck.specs.DeckMeaning.{LoadedDeck}
+use Rattle.pp_text.specs.Numeral.{decimal, digit, octal, unpadded}
+use Rattle.pp_text.specs.PrintedText.{each_below, is_named, line_end}
+use Rattle.pp_sessions.specs.StepCounts.{each_step_counts, no_steps}
+use Rattle.pp_sessions.specs.Stretches.{is_session, stretches, tally_of}
+use Rattle.pp_sessions.specs.TimedEvents.{timed_events}
+use Rattle.pp_sessions.specs.declared.moment.Moment.{Moment}
+use Rattle.pp_sessions.specs.declared.moment.Moment.TheVariants.{DeadStart, Turn}
+use Rattle.pp_sessions.specs.declared.moment.TimedEvent.{TimedEvent}
+use Rattle.pp_sessions.specs.declared.step_counts.StepCounts.{StepCounts}
+use Rattle.pp_sessions.specs.declared.tally.Tally.{Tally}
+
+-- a count in decimal digits, without zeros in front. Twenty digits are enough for every count of 64
+-- bits
+unfoldable pub short_decimal : ℕ → List ℕ
+short_decimal n = unpadded 19 (n / 10) ++ digit (n % 10)
+
+-- ---- channels
+
+-- `000060`, a turn, or `DEAD START`
+abbrev pub moment_text : Moment → List ℕ
+moment_text DeadStart = codes "DEAD START"
+moment_text (Turn turn) = decimal turn
+
+-- `CH05 IDLE FUNCTIONS 2 FROM 000010 TO 000030`, of an idle stretch
+unfoldable pub idle_line : ℕ → Tally → List ℕ
+idle_line c idle =
+    codes "CH" ++ octal 2 c ++ codes " IDLE FUNCTIONS " ++ short_decimal idle.events
+    ++ codes " FROM " ++ moment_text idle.from ++ codes " TO " ++ moment_text idle.to ++ line_end
+
+-- ` TO 000030`, the moment of its Disconnect, where a session has ended
+abbrev pub end_text : Bool → Moment → List ℕ
+end_text has_ended moment =
+    if has_ended then codes " TO " ++ moment_text moment else codes " GOING ON"
+
+-- ` LOST 0007`, a word untaken where a session has ended, else ` WAITING 0007`
+abbrev pub word_text : Bool → Option ℕ → List ℕ
+word_text has_ended None = []
+word_text has_ended (Some word) =
+    (if has_ended then codes " LOST " else codes " WAITING ") ++ octal 4 word
+
+-- `CH05 SESSION 1 FROM 000000 TO 000030 PUT 1 TAKEN 0 LOST 0007`, of the session with this number
+unfoldable pub session_line : ℕ → ℕ → Tally → List ℕ
+session_line c number session =
+    codes "CH" ++ octal 2 c ++ codes " SESSION " ++ short_decimal number
+    ++ codes " FROM " ++ moment_text session.from ++ end_text session.has_ended session.to
+    ++ codes " PUT " ++ short_decimal session.put ++ codes " TAKEN " ++ short_decimal session.taken
+    ++ word_text session.has_ended session.untaken ++ line_end
+
+-- the line of a stretch; where it is a session, it has this number
+abbrev pub tally_line : ℕ → ℕ → Tally → List ℕ
+tally_line c number stretch =
+    if stretch.is_session then session_line c number stretch else idle_line c stretch
+
+abbrev pub stretch_line : ℕ → ℕ → List TimedEvent → List ℕ
+stretch_line c number [] = []
+stretch_line c number (first ∷ others) = tally_line c number (tally_of first others)
+
+-- the number of the next session after a stretch, where it was this before
+abbrev pub next_number : ℕ → List TimedEvent → ℕ
+next_number number stretch = if is_session stretch then number + 1 else number
+
+-- the lines of stretches, where the first session among them has this number
+unfoldable pub lines_from : ℕ → ℕ → List (List TimedEvent) → List ℕ
+lines_from c number [] = []
+lines_from c number (stretch ∷ others) =
+    stretch_line c number stretch ++ lines_from c (next_number number stretch) others
+
+-- the lines of the channel with this number, where there is one
+unfoldable pub channel_lines : MachineState → ℕ → List ℕ
+channel_lines m c =
+    if names_channel c then lines_from c 1 (stretches (timed_events c m)) else []
+
+-- ---- processors
+
+-- `PP00 MOVED 24 HELD 376 REST 0`
+unfoldable pub counts_line : ℕ → StepCounts → List ℕ
+counts_line n counts =
+    codes "PP" ++ octal 2 n ++ codes " MOVED " ++ short_decimal counts.moved
+    ++ codes " HELD " ++ short_decimal counts.held ++ codes " REST " ++ short_decimal counts.at_rest
+    ++ line_end
+
+-- the line of the processor with this number, where the deck names it; `counts` has the counts of
+-- each processor, in the order of the barrel
+abbrev pub named_counts_line : List Bool → List StepCounts → ℕ → List ℕ
+named_counts_line named counts n =
+    if is_named named n
+    then counts_line n (slice_index_or counts (processor_index n) no_steps) else []
+
+-- ---- the whole text
+
+-- THE TEXT of the sessions of a machine, in order of channel and processor. Numbers have two octal
+-- digits.
+unfoldable pub sessions_text : List Bool → MachineState → List StepCounts → List ℕ
+sessions_text named m counts =
+    each_below 0o100 (channel_lines m) ++ each_below 0o100 (named_counts_line named counts)
+
+-- the text of a loaded deck after these steps
+abbrev pub sessions_after : List ℕ → LoadedDeck → List ℕ
+sessions_after steps deck =
+    sessions_text deck.named (run steps deck.machine) (each_step_counts steps deck.machine)

@@ -1,0 +1,40 @@
+-- How many steps moved a processor, were held, and found it at rest.
+use Rattle.std.specs.Prelude.{ℕ, Bool, true, false, List, count_by}
+use Rattle.pp_machine.specs.MachineState.{MachineState}
+use Rattle.pp_machine.specs.declared.outcome.Outcome.{Outcome}
+use Rattle.pp_machine.specs.declared.outcome.Outcome.TheVariants.{Moved, Held, AtRest}
+use Rattle.pp_deck.specs.DeckLoad.{each_processor}
+use Rattle.pp_state.specs.HeldSteps.{outcomes}
+use Rattle.pp_sessions.specs.declared.step_counts.StepCounts.{StepCounts}
+
+abbrev pub is_moved : Outcome → Bool
+is_moved Moved = true
+is_moved _ = false
+
+abbrev pub is_held : Outcome → Bool
+is_held Held = true
+is_held _ = false
+
+abbrev pub is_at_rest : Outcome → Bool
+is_at_rest AtRest = true
+is_at_rest _ = false
+
+-- of some steps, how many had each outcome
+abbrev pub counts_of : List Outcome → StepCounts
+counts_of steps = record {
+  moved = count_by is_moved steps;
+  held = count_by is_held steps;
+  at_rest = count_by is_at_rest steps;
+}
+
+-- the same of the steps of processor n, where a machine takes these steps
+abbrev pub step_counts : ℕ → List ℕ → MachineState → StepCounts
+step_counts n steps m = counts_of (outcomes n steps m)
+
+-- and of each processor, in the order of the barrel
+abbrev pub each_step_counts : List ℕ → MachineState → List StepCounts
+each_step_counts steps m = each_processor (λ n. step_counts n steps m)
+
+-- no steps
+abbrev pub no_steps : StepCounts
+no_steps = record { moved = 0; held = 0; at_rest = 0 }

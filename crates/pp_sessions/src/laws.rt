@@ -1,0 +1,52 @@
+//! Laws of sessions. These functions do nothing: their contracts say what is proved of the
+//! definitions.
+
+ghost use Rattle.std.specs.Prelude.{◌≡◌, ◌==◌, ◌+◌, ◌∷◌, ◌++◌, ℕ, Bool, IsTrue, List, count_by, map};
+ghost use Rattle.std.specs.List.{flat_map};
+ghost use Rattle.pp_channel.specs.ChannelNumber.{names_channel};
+ghost use Rattle.pp_channel.specs.History.{Course, events_of, idle_stretch};
+ghost use Rattle.pp_channel.specs.Session.{Session};
+ghost use Rattle.pp_machine.specs.Headline.{HoldsOnEachChannel};
+ghost use Rattle.pp_machine.specs.MachineState.{MachineState, history_of};
+ghost use Rattle.pp_sessions.specs.SessionsLaw.{TellsIdle, TellsSession, session_events, stretches_of};
+ghost use Rattle.pp_sessions.specs.SessionsText.{lines_from};
+ghost use Rattle.pp_sessions.specs.StepCounts.{step_counts};
+ghost use Rattle.pp_sessions.specs.Stretches.{is_session, stretches, tally_of};
+ghost use Rattle.pp_sessions.specs.TimedEvents.{events_in, timed_events};
+ghost use Rattle.pp_sessions.specs.declared.moment.TimedEvent.{TimedEvent};
+
+/// A lawful history has just one course.
+pub fn course_law()
+    ensures { (one other : Course) → events_of one ≡ events_of other → one ≡ other }
+{}
+
+/// The lines of a channel are about its whole history, and each about a session or an idle stretch
+/// of its course, in order; what is told of a session is whether it ended, how many words were put
+/// and taken in it, and its lone last word.
+pub fn sessions_law()
+    ensures history { (c : ℕ) (m : MachineState) → IsTrue (names_channel c)
+        → HoldsOnEachChannel m → events_in (timed_events c m) ≡ history_of c m }
+    ensures together { (events : List TimedEvent)
+        → flat_map (λ stretch. stretch) (stretches events) ≡ events }
+    ensures stretches { (events : List TimedEvent) (course : Course)
+        → events_of course ≡ events_in events
+        → map events_in (stretches events) ≡ stretches_of course }
+    // The sessions of a channel are numbered from 1 on, in order.
+    ensures numbers { (c : ℕ) (before after : List (List TimedEvent))
+        → lines_from c 1 (before ++ after)
+        ≡ lines_from c 1 before ++ lines_from c (1 + count_by is_session before) after }
+    ensures session { (session : Session) (ended : Bool) (first : TimedEvent)
+        (others : List TimedEvent) → events_in (first ∷ others) ≡ session_events session ended
+        → TellsSession session ended (tally_of first others) }
+    ensures idle { (codes : List ℕ) (first : TimedEvent) (others : List TimedEvent)
+        → events_in (first ∷ others) ≡ idle_stretch codes
+        → TellsIdle codes (tally_of first others) }
+{}
+
+/// The steps of a processor that moved it, that were held, and that found it at rest are all its
+/// steps.
+pub fn counts_law()
+    ensures { (n : ℕ) (steps : List ℕ) (m : MachineState)
+        → let counts = step_counts n steps m in
+        counts.moved + counts.held + counts.at_rest ≡ count_by (λ k. k == n) steps }
+{}

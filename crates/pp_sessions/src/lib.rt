@@ -1,0 +1,15 @@
+//! The sessions of a run, channel by channel, and how many steps of each processor moved it, were
+//! held, and found it at rest.
+#![tactic(auto)]
+
+mod laws;
+mod lines;
+mod moment;
+mod open_stretch;
+mod sessions_text;
+mod step_counts;
+mod tally;
+
+pub use laws::{counts_law, course_law, sessions_law};
+pub use sessions_text::write_sessions;
+pub use step_counts::{StepCounts, run_counting_steps};

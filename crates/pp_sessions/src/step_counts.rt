@@ -1,0 +1,82 @@
+//! Runs that count what their steps did.
+
+ghost use Rattle.std.specs.Prelude.{◌≡◌, ◌+◌, ◌<◌, ◌^◌, ◌++◌, ◌∷◌, [], List, IfErr, IfOk, IsSome, OnOk};
+ghost use Rattle.pp_machine.specs.Headline.{HoldsOnEachChannel};
+ghost use Rattle.pp_machine.specs.MachineStep.{step_event};
+ghost use Rattle.pp_machine.specs.Profile.{processor_in_turn};
+ghost use Rattle.pp_machine.specs.Run.{barrel, run};
+ghost use Rattle.pp_machine.specs.declared.outcome.Outcome.{Outcome};
+ghost use Rattle.pp_sessions.specs.StepCounts.{counts_of, each_step_counts, no_steps};
+
+use pp_machine::{Cut, Machine, Outcome, PROCESSORS, PpNo};
+use std::alloc::Allocator;
+
+/// How many steps of a processor did what (decimal).
+#[derive(Clone, Copy, Debug, PartialEq, Eq)]
+pub struct StepCounts {
+    /// Steps in which it went on, stopped, or ended in a fault.
+    pub moved: u32,
+    /// Steps that a channel held, since it was not ready.
+    pub held: u32,
+    /// Steps that found it stopped or at fault.
+    pub at_rest: u32,
+}
+
+impl StepCounts {
+    /// No steps.
+    const NONE: StepCounts = StepCounts {
+        moved: 0,
+        held: 0,
+        at_rest: 0,
+    };
+
+    /// Those with a step more.
+    fn with(self, outcome: Outcome) -> StepCounts
+        requires moved { self.moved + 1 < 2 ^ 32 }
+        requires held { self.held + 1 < 2 ^ 32 }
+        requires at_rest { self.at_rest + 1 < 2 ^ 32 }
+        ensures { (steps : List Outcome) → self ≡ counts_of steps
+            → result ≡ counts_of (steps ++ outcome ∷ []) }
+    {
+        let mut counts = self;
+        match outcome {
+            Outcome::Moved => counts.moved += 1,
+            Outcome::Held => counts.held += 1,
+            Outcome::AtRest => counts.at_rest += 1,
+        }
+        counts
+    }
+}
+
+/// Runs so many turns of the barrel (decimal), as `Machine::run_barrel` does, and says of each
+/// processor, in the order of the barrel, how many of its steps moved it, were held, and found it
+/// at rest.
+pub fn run_counting_steps<A: Allocator>(
+    machine: &mut Machine<A>,
+    turns: u32,
+) -> Result<[StepCounts; PROCESSORS], Cut>
+    ensures ran { OnOk result (machine.new ≡ run (barrel machine.old.profile turns) machine.old) }
+    ensures counts { IfOk result (λ counts.
+        counts ≡ each_step_counts (barrel machine.old.profile turns) machine.old) }
+    ensures cut { IfErr result (λ c.
+        machine.new ≡ run (barrel machine.old.profile c.done) machine.old) }
+    ensures within { IfErr result (λ c. c.done < turns) }
+    // A run is cut only at a step that makes an event.
+    ensures cut_at_event { IfErr result (λ c.
+        IsSome (step_event (processor_in_turn machine.old.profile c.done) machine.new)) }
+    ensures headline { HoldsOnEachChannel machine.new }
+{
+    let _sound = machine.turns();
+    let round = machine.profile().processors() as u32;
+    let mut counts = [StepCounts::NONE; PROCESSORS];
+    for turn in 0..turns {
+        let n = PpNo::at((turn % round) as usize);
+        let Ok(outcome) = machine.step(n) else {
+            return Err(Cut {
+                done: u64::from(turn),
+            });
+        };
+        counts[n.index()] = counts[n.index()].with(outcome);
+    }
+    Ok(counts)
+}
