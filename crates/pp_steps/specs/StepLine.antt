@@ -94,6 +94,6 @@ held_line n m count =
     let pp = processor_of n m in
     heading m.turns n pp pp.a ++ held_text (need pp) Held m count ++ line_end
 
--- the length of the longest line (decimal): that of a step whose turn has twenty digits
+-- a bound on the length of a line (decimal)
 abbrev pub longest_line : ℕ
 longest_line = 200
