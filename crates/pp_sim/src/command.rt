@@ -35,11 +35,12 @@ A deck with a fault is refused, as in 'ppsim: deck fault 4 at line 3':
   8  the size of central memory, or a central word, is out of range
   9  out of memory, printed as 'ppsim: out of memory'
 
-The exit status is 0 when the work is done or help was asked for, 1 when the deck is refused, 2 when
-the command line is, 3 after a read or write fault, and 4 when memory runs out.
+The exit status is 0 when the work is done or help was asked for, 1 when the deck is refused or
+can't be dumped as it stands, 2 when the command line is refused, 3 after a read or write fault, and
+4 when memory runs out.
 
-The pages TUTORIAL.md, docs/MACHINE.md (the instructions), docs/DECK.md and docs/OUTPUT.md of
-the repository say more.
+The pages TUTORIAL.md, docs/MACHINE.md (the instructions), docs/DECK.md, docs/OUTPUT.md and
+docs/VIEWS.md of the repository say more.
 
 Example:
   ppsim barrel --turns 40 < handoff.deck
@@ -154,7 +155,7 @@ that are running start where they are; the others keep their memory alone.
 Reads the deck from standard input. What is printed to standard output is a deck to go on from,
 where it is no longer than a deck may be, 1048576 bytes (decimal): histories and turns are gone.
 Where a processor is within a block or at fault, or a channel is active, nothing is printed, and the
-first of these is told on standard error. What else goes wrong is one line there too.";
+first of these is told on standard error. Any other fault is one line there too.";
 
 const STATE_ABOUT: &str = "Runs a deck in the barrel, and prints how things stand then";
 
@@ -190,8 +191,8 @@ session: the turns of its activate and its disconnect (DEAD START, where it was 
 first turn; GOING ON, where it still is), how many words were put and taken, and the word that was
 put and not taken, which was LOST by the disconnect or is WAITING; and a line for each idle stretch
 with function codes. Then, for each processor that the deck names, how many of its turns MOVED it,
-were HELD, and found it at REST. All counts are decimal. What goes wrong is one line on standard
-error.";
+were HELD, and found it at REST. Turns and counts are decimal, words octal. What goes wrong is one
+line on standard error.";
 
 const SESSIONS_EXAMPLE: &str = "\
 Example:
@@ -211,15 +212,15 @@ Runs a deck in the barrel, and prints each step: what the instruction is, and wh
 
 Reads the deck from standard input. Prints to standard output a line for each step of the processors
 that the deck names: the turn, the processor, P, the word or two at P, the instruction that they
-are, and A after it; then each place and each central word that is not what it was; the channel
-event, or the flags that were seen; and STOPPED or FAULT with its number. Steps of a processor that
-are held in a row, with the same flags, are one line, at the first of them: HELD, the channel with
-its flags, and how many they are. What goes wrong is one line on standard error.
+are, and A after it; then each place and each central word that the step changed; the channel event,
+or the flags that were seen; and STOPPED or FAULT with its number. Steps of a processor that are
+held in a row, with the same flags, are one line, at the first of them: HELD, the channel with its
+flags, and how many there are. What goes wrong is one line on standard error.
 
 FAULT 1 is an exchange jump, FAULT 2 a request to the central processor, FAULT 3 a channel that the
 machine does not have, and FAULT 4 an address past the end of central memory.";
 
-const PP_HELP: &str = "The processor whose steps alone are printed (octal)";
+const PP_HELP: &str = "Print the steps of this processor only (octal)";
 
 const STEPS_EXAMPLE: &str = "\
 Example:

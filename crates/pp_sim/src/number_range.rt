@@ -24,7 +24,7 @@ macro_rules! range {
 pub(crate) const TURNS: NumberRange = range!("How many turns to run", 0 to 999_999);
 
 pub(crate) const FROM: NumberRange =
-    range!("The first turn whose line is printed (0 if not given)", 0 to 999_999);
+    range!("The first turn to print (0 if not given)", 0 to 999_999);
 
 /// The range of `Limits`, as is the next.
 pub(crate) const STEPS: NumberRange = range!("How many steps each processor may do", 1 to 100_000);

@@ -16,7 +16,7 @@ use std::io::{Read, Write};
 
 /// Reads a deck for a machine of this profile, and writes the steps of its run in the barrel, in
 /// this many turns (decimal) and from a turn on: those of one processor alone, or else of those
-/// that the deck names. Memory grows by how often a processor is held, and not by the lines.
+/// that the deck names. Memory grows with the lines of held steps, and not with the others.
 pub fn steps_text<A: Allocator + Copy, R: Read, W: Write>(
     alloc: A,
     profile: Profile,

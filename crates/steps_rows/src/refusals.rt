@@ -113,3 +113,32 @@ fn steps_text_refused(rt: HostRuntime) {
     }
     panic!(rt; "a request is refused in each run")
 }
+
+/// A loop that no channel holds.
+const LOOP: &str = "\
+PP 0
+0100 3650 0376
+START 0100
+";
+
+/// How many requests the steps of this loop make in so many turns, and one more.
+fn requests_in(alloc: Global, heap: &Rationed<Global>, turns: u32) -> Result<u64, Fail> {
+    for number in 1..50u64 {
+        heap.refuse(number);
+        let mut written = Vec::new(alloc);
+        let mut input = LOOP.as_bytes();
+        let done = steps_text(heap, Profile::Ten, &mut input, &mut written, turns, None, 0);
+        if done.is_ok() && !heap.has_refused() {
+            return Ok(number);
+        }
+    }
+    Err("a request is refused in each run".into())
+}
+
+#[test]
+fn lines_take_no_memory(rt: HostRuntime) -> Result<(), Fail> {
+    let heap = Rationed::new(rt.alloc());
+    let few = requests_in(rt.alloc(), &heap, 100)?;
+    assert_eq!(rt; requests_in(rt.alloc(), &heap, 20_000)?, few);
+    Ok(())
+}

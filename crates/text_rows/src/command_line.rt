@@ -192,12 +192,20 @@ const LIMITS: [(&str, &str, Option<(u32, u32)>); 9] = [
 /// The steps and the patience that a command line gives, if it is taken.
 fn asked_limits(alloc: Global, steps: &str, patience: &str) -> Option<(u32, u32)> {
     let words = ["ppsim", "threads", "--steps", steps, "--patience", patience];
-    limits_in(asked(alloc, &words))
+    limits_of(alloc, &words)
 }
 
-/// The steps and the patience of a run by threads, if one is asked for.
-fn limits_in(asked: Result<Work, Refused>) -> Option<(u32, u32)> {
-    match asked.ok()? {
+/// The steps and the patience of a run by threads, if the words ask for one.
+fn limits_of(alloc: Global, words: &[&str]) -> Option<(u32, u32)> {
+    match asked(alloc, words) {
+        Ok(work) => limits_in(work),
+        Err(_) => None,
+    }
+}
+
+/// The steps and the patience of a run by threads.
+fn limits_in(work: Work) -> Option<(u32, u32)> {
+    match work {
         Work::Threads { limits, .. } => Some((limits.steps(), limits.patience())),
         Work::Barrel { .. }
         | Work::List { .. }
@@ -250,6 +258,6 @@ fn longer_command_lines(rt: HostRuntime) {
     for (words, numbers) in LONGER {
         let asked = asked(rt.alloc(), words);
         assert!(rt; asked != Err(Refused::Memory));
-        assert_eq!(rt; limits_in(asked), numbers);
+        assert_eq!(rt; limits_of(rt.alloc(), words), numbers);
     }
 }

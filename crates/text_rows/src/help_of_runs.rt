@@ -42,11 +42,12 @@ A deck with a fault is refused, as in 'ppsim: deck fault 4 at line 3':
   8  the size of central memory, or a central word, is out of range
   9  out of memory, printed as 'ppsim: out of memory'
 
-The exit status is 0 when the work is done or help was asked for, 1 when the deck is refused, 2 when
-the command line is, 3 after a read or write fault, and 4 when memory runs out.
+The exit status is 0 when the work is done or help was asked for, 1 when the deck is refused or
+can't be dumped as it stands, 2 when the command line is refused, 3 after a read or write fault, and
+4 when memory runs out.
 
-The pages TUTORIAL.md, docs/MACHINE.md (the instructions), docs/DECK.md and docs/OUTPUT.md of
-the repository say more.
+The pages TUTORIAL.md, docs/MACHINE.md (the instructions), docs/DECK.md, docs/OUTPUT.md and
+docs/VIEWS.md of the repository say more.
 
 Example:
   ppsim barrel --turns 40 < handoff.deck

@@ -53,7 +53,7 @@ that are running start where they are; the others keep their memory alone.
 Reads the deck from standard input. What is printed to standard output is a deck to go on from,
 where it is no longer than a deck may be, 1048576 bytes (decimal): histories and turns are gone.
 Where a processor is within a block or at fault, or a channel is active, nothing is printed, and the
-first of these is told on standard error. What else goes wrong is one line there too.
+first of these is told on standard error. Any other fault is one line there too.
 
 Usage: ppsim dump [OPTIONS] --turns <N>
 
@@ -98,10 +98,10 @@ Runs a deck in the barrel, and prints each step: what the instruction is, and wh
 
 Reads the deck from standard input. Prints to standard output a line for each step of the processors
 that the deck names: the turn, the processor, P, the word or two at P, the instruction that they
-are, and A after it; then each place and each central word that is not what it was; the channel
-event, or the flags that were seen; and STOPPED or FAULT with its number. Steps of a processor that
-are held in a row, with the same flags, are one line, at the first of them: HELD, the channel with
-its flags, and how many they are. What goes wrong is one line on standard error.
+are, and A after it; then each place and each central word that the step changed; the channel event,
+or the flags that were seen; and STOPPED or FAULT with its number. Steps of a processor that are
+held in a row, with the same flags, are one line, at the first of them: HELD, the channel with its
+flags, and how many there are. What goes wrong is one line on standard error.
 
 FAULT 1 is an exchange jump, FAULT 2 a request to the central processor, FAULT 3 a channel that the
 machine does not have, and FAULT 4 an address past the end of central memory.
@@ -113,10 +113,10 @@ Options:
           How many turns to run, 0 to 999999 (decimal)
 
       --pp <N>
-          The processor whose steps alone are printed (octal)
+          Print the steps of this processor only (octal)
 
       --from <N>
-          The first turn whose line is printed (0 if not given), 0 to 999999 (decimal)
+          The first turn to print (0 if not given), 0 to 999999 (decimal)
 
       --processors <N>
           How many processors the machine has, 10 or 20 (decimal); 10 if not given
@@ -139,8 +139,8 @@ Usage: ppsim steps [OPTIONS] --turns <N>
 
 Options:
       --turns <N>       How many turns to run, 0 to 999999 (decimal)
-      --pp <N>          The processor whose steps alone are printed (octal)
-      --from <N>        The first turn whose line is printed (0 if not given), 0 to 999999 (decimal)
+      --pp <N>          Print the steps of this processor only (octal)
+      --from <N>        The first turn to print (0 if not given), 0 to 999999 (decimal)
       --processors <N>  How many processors the machine has, 10 or 20 (decimal); 10 if not given
   -h, --help            Print help (see more with '--help')
 
@@ -212,8 +212,8 @@ session: the turns of its activate and its disconnect (DEAD START, where it was 
 first turn; GOING ON, where it still is), how many words were put and taken, and the word that was
 put and not taken, which was LOST by the disconnect or is WAITING; and a line for each idle stretch
 with function codes. Then, for each processor that the deck names, how many of its turns MOVED it,
-were HELD, and found it at REST. All counts are decimal. What goes wrong is one line on standard
-error.
+were HELD, and found it at REST. Turns and counts are decimal, words octal. What goes wrong is one
+line on standard error.
 
 Usage: ppsim sessions [OPTIONS] --turns <N>
 
