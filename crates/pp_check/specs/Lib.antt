@@ -1,0 +1,5 @@
+pub mod TraceLine
+pub mod LawfulTrace
+pub mod TraceFault
+pub mod Verdict
+pub mod Judge

@@ -1,0 +1,18 @@
+//! The judge of a channel trace, whoever made it: its events, line by line, are those of lawful
+//! histories, or the first line is named at which no lawful history is left.
+#![tactic(auto)]
+
+mod channel_state;
+mod check;
+mod judge;
+mod numeral;
+mod standing;
+mod trace_fault;
+mod trace_line;
+mod unlawful;
+mod verdict;
+
+pub use channel_state::ChannelState;
+pub use check::check_trace;
+pub use trace_fault::{TraceFault, TraceFlaw};
+pub use verdict::Verdict;
