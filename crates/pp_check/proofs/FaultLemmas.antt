@@ -54,7 +54,7 @@ are_lawful_prefix opened text n lawful = record {
 -- ---- a flaw
 
 -- a turn that is not greater than the last does not fit
-late_turn : (opened : List ℕ) (before : List TraceLine) (line : TraceLine) (turn last : ℕ) → turn_of line ≡ Some turn → last_turn before ≡ Some last → turn ≤ last → Fits opened before line → ⊥
+pub late_turn : (opened : List ℕ) (before : List TraceLine) (line : TraceLine) (turn last : ℕ) → turn_of line ≡ Some turn → last_turn before ≡ Some last → turn ≤ last → Fits opened before line → ⊥
 late_turn opened before (AtTurn t c e) turn last is was late fits =
     let same : t ≡ turn = cc in
     let less : last < t = subst (λ (o : Option ℕ). IfSome o (λ l. l < t)) was fits in

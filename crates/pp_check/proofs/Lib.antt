@@ -5,3 +5,4 @@ pub mod KeepsLemmas
 pub mod VerdictLemmas
 pub mod OpeningLemmas
 pub mod CheckLemmas
+pub mod LawLemmas

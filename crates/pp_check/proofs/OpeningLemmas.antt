@@ -13,7 +13,7 @@ use Rattle.pp_channel.specs.declared.chan_op.ChanOp.TheVariants as operations
 use Rattle.pp_channel.specs.declared.event.Event.{Event}
 use Rattle.pp_channel.specs.declared.event.Event.TheVariants.{Activate}
 use Rattle.pp_check.specs.Judge.{Keeps, new_standing, standing, standing_of}
-use Rattle.pp_check.specs.LawfulTrace.{IsLawfulTrace, channel_state, events_on, history, is_opened, last_turn, opening}
+use Rattle.pp_check.specs.LawfulTrace.{IsLawfulTrace, channel_state, events_on, history, is_opened, last_turn, opening, turns}
 use Rattle.pp_check.specs.TraceLine.{empty}
 use Rattle.pp_check.specs.declared.standing.Standing.{Standing}
 
@@ -88,7 +88,7 @@ lawful_start opened = record {
 }
 
 no_turn : last_turn [] ≡ None
-unfolding last_turn
+unfolding last_turn turns
 no_turn = refl
 
 pub keeps_opening : (opened : List ℕ) (standings : List Standing) → length standings ≡ channel_count → AreOpened opened standings → Keeps opened [] (record { channels = standings; last_turn = None; events = 0; sessions = 0 })

@@ -11,7 +11,7 @@ use Rattle.pp_channel.proofs.LastElements.{last_or-push}
 use Rattle.pp_channel.specs.History.{IsLawful}
 use Rattle.pp_channel.specs.declared.event.Event.{Event}
 use Rattle.pp_deck.proofs.ListLemmas.{filter_map_more}
-use Rattle.pp_check.specs.LawfulTrace.{Fits, IsLawfulTrace, event_on, events_on, history, last_turn, opening, turn_of}
+use Rattle.pp_check.specs.LawfulTrace.{Fits, IsLawfulTrace, event_on, events_on, history, last_turn, opening, turn_of, turns}
 use Rattle.pp_check.specs.declared.trace_line.TraceLine.{TraceLine}
 use Rattle.pp_check.specs.declared.trace_line.TraceLine.TheVariants.{Other}
 
@@ -34,15 +34,23 @@ history_more opened lines line c e is =
 pub history_same : (opened : List ℕ) (lines : List TraceLine) (line : TraceLine) (c : ℕ) → event_on c line ≡ None → history opened (lines ++ line ∷ []) c ≡ history opened lines c
 history_same opened lines line c is = ap (λ (es : List Event). opening opened c ++ es) (events_same c lines line is)
 
+pub turns_more : (lines : List TraceLine) (line : TraceLine) (turn : ℕ) → turn_of line ≡ Some turn → turns (lines ++ line ∷ []) ≡ turns lines ++ turn ∷ []
+unfolding turns
+turns_more lines line turn is =
+    filter_map_more turn_of lines line ∙ ap (λ (o : Option ℕ). filter_map turn_of lines ++ option_to_list o) is
+
+pub turns_same : (lines : List TraceLine) (line : TraceLine) → turn_of line ≡ None → turns (lines ++ line ∷ []) ≡ turns lines
+unfolding turns
+turns_same lines line is =
+    filter_map_more turn_of lines line ∙ ap (λ (o : Option ℕ). filter_map turn_of lines ++ option_to_list o) is ∙ append-nil (filter_map turn_of lines)
+
 pub last_turn_more : (lines : List TraceLine) (line : TraceLine) (turn : ℕ) → turn_of line ≡ Some turn → last_turn (lines ++ line ∷ []) ≡ Some turn
 unfolding last_turn
-last_turn_more lines line turn is =
-    ap (last_or None) (filter_map_more turn_of lines line ∙ ap (λ (o : Option ℕ). filter_map turn_of lines ++ option_to_list o) is) ∙ last_or-push None (filter_map turn_of lines) turn
+last_turn_more lines line turn is = ap (last_or None) (turns_more lines line turn is) ∙ last_or-push None (turns lines) turn
 
 pub last_turn_same : (lines : List TraceLine) (line : TraceLine) → turn_of line ≡ None → last_turn (lines ++ line ∷ []) ≡ last_turn lines
 unfolding last_turn
-last_turn_same lines line is =
-    ap (last_or None) (filter_map_more turn_of lines line ∙ ap (λ (o : Option ℕ). filter_map turn_of lines ++ option_to_list o) is ∙ append-nil (filter_map turn_of lines))
+last_turn_same lines line is = ap (last_or None) (turns_same lines line is)
 
 -- ---- one line more
 

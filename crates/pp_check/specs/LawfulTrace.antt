@@ -49,9 +49,13 @@ turn_of (Numbered number channel e) = None
 turn_of (Standing channel state) = None
 turn_of Other = None
 
+-- the turns of lines, in order
+unfoldable pub turns : List TraceLine → List ℕ
+turns lines = filter_map turn_of lines
+
 -- the turn of the last line that has one
 unfoldable pub last_turn : List TraceLine → Option ℕ
-last_turn lines = last_or None (filter_map turn_of lines)
+last_turn lines = last_or None (turns lines)
 
 -- ---- lawful traces
 

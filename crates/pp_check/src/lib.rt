@@ -5,6 +5,7 @@
 mod channel_state;
 mod check;
 mod judge;
+mod laws;
 mod numeral;
 mod standing;
 mod trace_fault;
@@ -14,5 +15,6 @@ mod verdict;
 
 pub use channel_state::ChannelState;
 pub use check::check_trace;
+pub use laws::{fault_law, trace_law};
 pub use trace_fault::{TraceFault, TraceFlaw};
 pub use verdict::Verdict;
