@@ -6,3 +6,7 @@ pub mod VerdictLemmas
 pub mod OpeningLemmas
 pub mod CheckLemmas
 pub mod LawLemmas
+pub mod NumeralTextLemmas
+pub mod PrintedLineLemmas
+pub mod PrintedTextLemmas
+pub mod PrintedLawLemmas

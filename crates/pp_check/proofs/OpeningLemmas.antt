@@ -69,7 +69,7 @@ first_history opened c = ap (λ (es : List Event). opening opened c ++ es) (no_e
 lawful_activate : IsLawful (Activate ∷ [])
 lawful_activate = lawful_with_event [] operations.Activate Activate lawful_empty refl
 
-lawful_opening : (b : Bool) → IsLawful (if b then Activate ∷ [] else [])
+pub lawful_opening : (b : Bool) → IsLawful (if b then Activate ∷ [] else [])
 lawful_opening true = lawful_activate
 lawful_opening false = lawful_empty
 

@@ -3,3 +3,4 @@ pub mod LawfulTrace
 pub mod TraceFault
 pub mod Verdict
 pub mod Judge
+pub mod PrintedTrace
