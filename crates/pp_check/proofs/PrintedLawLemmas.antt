@@ -1,11 +1,11 @@
 -- The lines that the barrel prints are a lawful trace.
 use Rattle.std.proofs.Common.{All, ◌≡◌, ◌∙◌, ℕ, zero, suc, ◌<◌, ◌==◌, Bool, true, false, List, [], ◌∷◌, ◌++◌, length, map, take, get_or, Option, Some, None, refl, sym, ap, subst, append_assoc, arith, add-one}
 use Rattle.std.specs.Prelude.{IfSome, IsTrue, if◌then◌else◌, is_some}
-use Rattle.std.specs.List.{AllByRecursion, cons_option, last_or}
+use Rattle.std.specs.List.{AllByRecursion, cons_option, filter_map, last_or}
 use Rattle.std.specs.List.Sorted.{IsStrictlyIncreasing}
 use Rattle.std.proofs.lemmas.Bool.{ne_eqb}
 use Rattle.std.proofs.lemmas.List.{append-nil, take_more}
-use Rattle.std.proofs.lemmas.List.Elements.{All-head, All-tail}
+use Rattle.std.proofs.lemmas.List.Elements.{All-head, All-tail, filter_map-append}
 use Rattle.pp_channel.proofs.HistoryLemmas.{Fits as FitsState, active_at, full_at, held_word, is_active, state_at, waiting_at}
 use Rattle.pp_channel.proofs.HistoryWalk.{State, Inactive, Empty, Holding}
 use Rattle.pp_channel.proofs.LastElements.{last_or-push}
@@ -20,7 +20,7 @@ use Rattle.pp_machine.specs.declared.trace.Trace.{Trace}
 use Rattle.pp_deck.specs.DeckText.{lines_of}
 use Rattle.pp_text.specs.PrintedText.{is_named, printed}
 use Rattle.pp_text.specs.TextLaw.{IsTold}
-use Rattle.pp_check.specs.LawfulTrace.{AreLawful, Fits, IsLawfulTrace, channel_state, events_on, history, is_opened, last_turn, opening, turn_of, turns}
+use Rattle.pp_check.specs.LawfulTrace.{AreLawful, Fits, IsLawfulTrace, channel_state, event_on, events_on, history, is_opened, last_turn, lines_said, opening, turn_of, turns}
 use Rattle.pp_check.specs.PrintedTrace.{AreOpenedBy, IsPrintable}
 use Rattle.pp_check.specs.declared.channel_state.ChannelState.{ChannelState}
 use Rattle.pp_check.specs.declared.trace_line.TraceLine.{TraceLine}
@@ -217,19 +217,45 @@ channels_show named m opened is opens c = by_name (names_channel c) refl
 
 -- ---- the whole text
 
-pub printed_lawful : (named : List Bool) (m : MachineState) (opened : List ℕ) → IsPrintable named m → AreOpenedBy m opened → AreLawful opened (lines_of (printed named m))
-unfolding said_lines
-printed_lawful named m opened is opens =
+-- what stands behind the events
+shown_lines : List Bool → MachineState → List TraceLine
+shown_lines named m =
+    lines_below 0o100 (processor_lines named) ++ (lines_below 0o100 (channel_lines m.histories) ++ Other ∷ [])
+
+all_shown : (named : List Bool) (m : MachineState) (opened : List ℕ) → IsPrintable named m → AreOpenedBy m opened → AllByRecursion (Shows opened (map at_turn m.trace)) (shown_lines named m)
+unfolding shown_lines
+all_shown named m opened is opens =
     let events = map at_turn m.trace in
     let processors = lines_below 0o100 (processor_lines named) in
     let channels = lines_below 0o100 (channel_lines m.histories) in
-    let shown : AllByRecursion (Shows opened events) (processors ++ (channels ++ Other ∷ [])) =
     all_both opened events processors (channels ++ Other ∷ []) (all_below opened events 0o100 (processor_lines named) (processors_show opened events named))
-    (all_both opened events channels (Other ∷ []) (all_below opened events 0o100 (channel_lines m.histories) (channels_show named m opened is opens)) (tt, tt)) in
-    let lawful : IsLawfulTrace opened (events ++ (processors ++ (channels ++ Other ∷ []))) = lawful_shown opened events (processors ++ (channels ++ Other ∷ [])) (lawful_events named m opened is opens) shown in
-    let grouped : ((events ++ processors) ++ channels) ++ Other ∷ [] ≡ events ++ (processors ++ (channels ++ Other ∷ [])) = simp append_assoc in
-    let text = whole_text named m is in
-    record {
-      said = all_said (lines_of (printed named m)) (said_lines named m ++ Other ∷ []) text;
-      lawful = subst (IsLawfulTrace opened) (sym (said_is (lines_of (printed named m)) (said_lines named m ++ Other ∷ []) text ∙ grouped)) lawful;
-    }
+    (all_both opened events channels (Other ∷ []) (all_below opened events 0o100 (channel_lines m.histories) (channels_show named m opened is opens)) (tt, tt))
+
+text_says : (named : List Bool) (m : MachineState) → IsPrintable named m → lines_said (lines_of (printed named m)) ≡ map at_turn m.trace ++ shown_lines named m
+unfolding said_lines shown_lines
+text_says named m is =
+    said_is (lines_of (printed named m)) (said_lines named m ++ Other ∷ []) (whole_text named m is) ∙ simp append_assoc
+
+pub printed_lawful : (named : List Bool) (m : MachineState) (opened : List ℕ) → IsPrintable named m → AreOpenedBy m opened → AreLawful opened (lines_of (printed named m))
+printed_lawful named m opened is opens = record {
+  said = all_said (lines_of (printed named m)) (said_lines named m ++ Other ∷ []) (whole_text named m is);
+  lawful = subst (IsLawfulTrace opened) (sym (text_says named m is)) (lawful_shown opened (map at_turn m.trace) (shown_lines named m) (lawful_events named m opened is opens) (all_shown named m opened is opens));
+}
+
+events_both : (c : ℕ) (xs ys : List TraceLine) → events_on c (xs ++ ys) ≡ events_on c xs ++ events_on c ys
+unfolding events_on
+events_both c xs ys = filter_map-append (event_on c) xs ys
+
+none_shown : (opened : List ℕ) (lines more : List TraceLine) (c : ℕ) → AllByRecursion (Shows opened lines) more → events_on c more ≡ []
+unfolding events_on
+none_shown opened lines [] c all = refl
+none_shown opened lines (x ∷ more) c all =
+    ap (λ (o : Option Event). cons_option o (filter_map (event_on c) more)) ((shows_none opened lines x all.0).event c) ∙ none_shown opened lines more c all.1
+
+pub printed_events : (named : List Bool) (m : MachineState) (opened : List ℕ) → IsPrintable named m → AreOpenedBy m opened → (c : ℕ) → events_on c (lines_said (lines_of (printed named m))) ≡ headline.events_on c m.trace
+printed_events named m opened is opens c =
+    ap (events_on c) (text_says named m is)
+    ∙ events_both c (map at_turn m.trace) (shown_lines named m)
+    ∙ ap (λ (es : List Event). events_on c (map at_turn m.trace) ++ es) (none_shown opened (map at_turn m.trace) (shown_lines named m) c (all_shown named m opened is opens))
+    ∙ append-nil (events_on c (map at_turn m.trace))
+    ∙ told_events c m.trace

@@ -5,9 +5,10 @@ ghost use Rattle.std.specs.Prelude.{ℕ, ◌≡◌, ◌<◌, ◌≤◌, ◌↔�
 ghost use Rattle.std.specs.List.Sorted.{IsStrictlyIncreasing};
 ghost use Rattle.pp_channel.specs.Law.{KeepsLaw};
 ghost use Rattle.pp_deck.specs.DeckText.{Fields, lines_of};
+ghost use Rattle.pp_machine.specs.Headline.{events_on as trace_events_on};
 ghost use Rattle.pp_machine.specs.MachineState.{MachineState};
 ghost use Rattle.pp_text.specs.PrintedText.{printed};
-ghost use Rattle.pp_check.specs.LawfulTrace.{AreLawful, IsLawfulTrace, history, turns};
+ghost use Rattle.pp_check.specs.LawfulTrace.{AreLawful, IsLawfulTrace, events_on, history, lines_said, turns};
 ghost use Rattle.pp_check.specs.PrintedTrace.{AreOpenedBy, IsPrintable};
 ghost use Rattle.pp_check.specs.TraceFault.{IsFault};
 ghost use Rattle.pp_check.specs.declared.trace_fault.TraceFault.{TraceFault};
@@ -41,10 +42,15 @@ pub fn trace_law()
 
 /// What the barrel prints is lawful: the text of a machine whose histories are those of its trace,
 /// and whose turns rise and have at most 19 decimal digits, where the channels said to be open are
-/// those that dead start opened. The histories are so after every run (`headline_law` of
-/// `pp_deck`), and a machine that is printed fits its text (`write_text`).
+/// those that dead start opened. On each channel the events that are read are those of the trace.
+/// The histories are so after every run (`headline_law` of `pp_deck`), and a machine that is printed
+/// fits its text (`write_text`).
 pub fn printed_law()
-    ensures { (named : List Bool) (m : MachineState) (opened : List ℕ)
+    ensures lawful { (named : List Bool) (m : MachineState) (opened : List ℕ)
         → IsPrintable named m → AreOpenedBy m opened
         → AreLawful opened (lines_of (printed named m)) }
+    ensures events { (named : List Bool) (m : MachineState) (opened : List ℕ)
+        → IsPrintable named m → AreOpenedBy m opened
+        → (c : ℕ) → events_on c (lines_said (lines_of (printed named m)))
+        ≡ trace_events_on c m.trace }
 {}
