@@ -10,3 +10,4 @@ pub mod NumeralTextLemmas
 pub mod PrintedLineLemmas
 pub mod PrintedTextLemmas
 pub mod PrintedLawLemmas
+pub mod PrintedReportLemmas

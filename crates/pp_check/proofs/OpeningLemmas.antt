@@ -81,7 +81,7 @@ standing_is opened c = by_test (is_opened opened c)
     by_test true = refl
     by_test false = refl
 
-lawful_start : (opened : List ℕ) → IsLawfulTrace opened []
+pub lawful_start : (opened : List ℕ) → IsLawfulTrace opened []
 lawful_start opened = record {
   histories = λ c. let P : List Event → Type 0 = λ h. IsLawful h in subst P (sym (first_history opened c)) (lawful_opening (is_opened opened c));
   each_fits = λ k less. absurd (omega (arith, less));

@@ -120,7 +120,7 @@ lawful_events named m opened is opens = record {
 -- ---- the lines behind the events
 
 -- a line that shows how a channel stands after lines, or nothing
-abbrev Shows : List ℕ → List TraceLine → TraceLine → Type 0
+abbrev pub Shows : List ℕ → List TraceLine → TraceLine → Type 0
 Shows opened lines (Standing c state) = state ≡ channel_state (history opened lines c)
 Shows opened lines Other = Unit {0}
 Shows opened lines (AtTurn turn c e) = ⊥
@@ -148,7 +148,7 @@ all_still : (opened : List ℕ) (lines : List TraceLine) (line : TraceLine) (mor
 all_still opened lines line [] none all = all
 all_still opened lines line (x ∷ more) none all = (shows_still opened lines line x none all.0, all_still opened lines line more none all.1)
 
-lawful_shown : (opened : List ℕ) (lines more : List TraceLine) → IsLawfulTrace opened lines → AllByRecursion (Shows opened lines) more → IsLawfulTrace opened (lines ++ more)
+pub lawful_shown : (opened : List ℕ) (lines more : List TraceLine) → IsLawfulTrace opened lines → AllByRecursion (Shows opened lines) more → IsLawfulTrace opened (lines ++ more)
 lawful_shown opened lines [] lawful all = subst (IsLawfulTrace opened) (sym (append-nil lines)) lawful
 lawful_shown opened lines (x ∷ more) lawful all =
     let none = shows_none opened lines x all.0 in
@@ -179,11 +179,11 @@ shown_by_state h s fits =
 shown_is : (h : List Event) → IsLawful h → shown_state (active h) (waiting h) ≡ channel_state h
 shown_is h lawful = let s = state_at h lawful in shown_by_state h s.0 s.2
 
-all_both : (opened : List ℕ) (lines xs ys : List TraceLine) → AllByRecursion (Shows opened lines) xs → AllByRecursion (Shows opened lines) ys → AllByRecursion (Shows opened lines) (xs ++ ys)
+pub all_both : (opened : List ℕ) (lines xs ys : List TraceLine) → AllByRecursion (Shows opened lines) xs → AllByRecursion (Shows opened lines) ys → AllByRecursion (Shows opened lines) (xs ++ ys)
 all_both opened lines [] ys first second = second
 all_both opened lines (x ∷ xs) ys first second = (first.0, all_both opened lines xs ys first.1 second)
 
-all_below : (opened : List ℕ) (lines : List TraceLine) (k : ℕ) (f : ℕ → List TraceLine) → ((n : ℕ) → AllByRecursion (Shows opened lines) (f n)) → AllByRecursion (Shows opened lines) (lines_below k f)
+pub all_below : (opened : List ℕ) (lines : List TraceLine) (k : ℕ) (f : ℕ → List TraceLine) → ((n : ℕ) → AllByRecursion (Shows opened lines) (f n)) → AllByRecursion (Shows opened lines) (lines_below k f)
 unfolding lines_below
 all_below opened lines zero f each = tt
 all_below opened lines (suc k) f each = all_both opened lines (lines_below k f) (f k) (all_below opened lines k f each) (each k)
@@ -196,7 +196,7 @@ processors_show opened lines named n = by_test (is_named named n)
     by_test true = (tt, tt)
     by_test false = tt
 
-history_shows : (opened : List ℕ) (lines : List TraceLine) (c : ℕ) (h : List Event) → history opened lines c ≡ h → IsLawful h → AllByRecursion (Shows opened lines) (state_lines c h)
+pub history_shows : (opened : List ℕ) (lines : List TraceLine) (c : ℕ) (h : List Event) → history opened lines c ≡ h → IsLawful h → AllByRecursion (Shows opened lines) (state_lines c h)
 unfolding state_lines
 history_shows opened lines c [] same lawful = tt
 history_shows opened lines c (e ∷ h) same lawful = (shown_is (e ∷ h) lawful ∙ ap channel_state (sym same), tt)
@@ -242,11 +242,11 @@ printed_lawful named m opened is opens = record {
   lawful = subst (IsLawfulTrace opened) (sym (text_says named m is)) (lawful_shown opened (map at_turn m.trace) (shown_lines named m) (lawful_events named m opened is opens) (all_shown named m opened is opens));
 }
 
-events_both : (c : ℕ) (xs ys : List TraceLine) → events_on c (xs ++ ys) ≡ events_on c xs ++ events_on c ys
+pub events_both : (c : ℕ) (xs ys : List TraceLine) → events_on c (xs ++ ys) ≡ events_on c xs ++ events_on c ys
 unfolding events_on
 events_both c xs ys = filter_map-append (event_on c) xs ys
 
-none_shown : (opened : List ℕ) (lines more : List TraceLine) (c : ℕ) → AllByRecursion (Shows opened lines) more → events_on c more ≡ []
+pub none_shown : (opened : List ℕ) (lines more : List TraceLine) (c : ℕ) → AllByRecursion (Shows opened lines) more → events_on c more ≡ []
 unfolding events_on
 none_shown opened lines [] c all = refl
 none_shown opened lines (x ∷ more) c all =

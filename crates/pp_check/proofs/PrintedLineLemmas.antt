@@ -13,17 +13,20 @@ use Rattle.pp_channel.specs.declared.event.Event.TheVariants.{Activate, Disconne
 use Rattle.pp_deck.proofs.FieldTextLemmas.{IsField, IsTail, and_both, and_left, and_right, fields_of_plain, is_ink, is_plain, tail_blank, tail_field, tail_last}
 use Rattle.pp_deck.specs.DeckText.{fields_of}
 use Rattle.pp_machine.proofs.ProcessorPlaces as processor_places
-use Rattle.pp_machine.specs.ProcessorNumber.{names_processor}
+use Rattle.pp_machine.specs.ProcessorNumber.{names_processor, processor_number}
 use Rattle.pp_machine.specs.Processor.{Processor}
 use Rattle.pp_machine.specs.declared.pp_state.PpState.{PpState}
 use Rattle.pp_machine.specs.declared.pp_state.PpState.TheVariants.{Running, Stopped, Fault}
 use Rattle.pp_machine.specs.declared.trace.Trace.{Trace}
 use Rattle.pp_text.specs.Numeral.{decimal, octal}
 use Rattle.pp_text.specs.PrintedText.{channel_line as printed_channel_line, channel_text, event_line, event_text, line_end, processor_line, state_text}
+use Rattle.pp_text.specs.PrintedReport.{end_text, line_by as line_by_author}
 use Rattle.pp_text.specs.TextLaw.{IsTold}
-use Rattle.pp_check.specs.TraceLine.{channel_in, channel_line, empty, event_said, full_with, inactive, is_digit, is_processor, line_said, number_behind, numeral, state_said, turn_line}
+use Rattle.pp_runner.specs.declared.end.End.{End}
+use Rattle.pp_runner.specs.declared.end.End.TheVariants as ends
+use Rattle.pp_check.specs.TraceLine.{channel_in, channel_line, empty, event_said, full_with, inactive, is_digit, is_processor, line_said, number_behind, numbered_line, numeral, state_said, turn_line}
 use Rattle.pp_check.specs.declared.channel_state.ChannelState.{ChannelState}
-use Rattle.pp_check.specs.declared.trace_line.TraceLine.TheVariants.{AtTurn, Standing, Other}
+use Rattle.pp_check.specs.declared.trace_line.TraceLine.TheVariants.{AtTurn, Numbered, Other, Standing}
 use Rattle.pp_check.proofs.NumeralTextLemmas.{decimal_are, decimal_field, decimal_read, octal_field, octal_ink, octal_read}
 
 -- ---- fields of processors and channels
@@ -150,35 +153,71 @@ event_line_read e told below =
 
 -- ---- the line of a processor
 
--- what stands in it
-pub processor_body : ℕ → Processor → List ℕ
-processor_body n pp = processor_field n ++ (32 ∷ codes "P=" ++ octal 4 pp.p ++ (codes " A=" ++ octal 6 pp.a ++ (codes " " ++ state_text pp.state)))
+-- what stands in it, with what is said of the processor last
+unfoldable pub processor_body : ℕ → Processor → List ℕ → List ℕ
+processor_body n pp said = processor_field n ++ (32 ∷ codes "P=" ++ octal 4 pp.p ++ (codes " A=" ++ octal 6 pp.a ++ (codes " " ++ said)))
 
-pub processor_line_is : (n : ℕ) (pp : Processor) → processor_line n pp (state_text pp.state) ≡ processor_body n pp ++ line_end
+pub processor_line_is : (n : ℕ) (pp : Processor) (said : List ℕ) → processor_line n pp said ≡ processor_body n pp said ++ line_end
 unfolding processor_line processor_body
-processor_line_is n pp = simp append_assoc
+processor_line_is n pp said = simp append_assoc
 
-plain_state : (state : PpState) → list_all is_plain (state_text state) ≡ true
+pub plain_state : (state : PpState) → list_all is_plain (state_text state) ≡ true
 plain_state Running = refl
 plain_state Stopped = refl
 plain_state (Fault number) = plain_octal 1 number
 
-pub plain_processor : (n : ℕ) (pp : Processor) → list_all is_plain (processor_body n pp) ≡ true
+pub plain_end : (finish : End) → list_all is_plain (end_text finish) ≡ true
+plain_end ends.Stopped = refl
+plain_end (ends.Fault number) = plain_octal 1 number
+plain_end ends.Steps = refl
+plain_end ends.Patience = refl
+plain_end ends.Memory = refl
+plain_end ends.Worn = refl
+
+pub plain_processor : (n : ℕ) (pp : Processor) (said : List ℕ) → list_all is_plain said ≡ true → list_all is_plain (processor_body n pp said) ≡ true
 unfolding processor_body
-plain_processor n pp =
-    let state = codes " " ++ state_text pp.state in
-    let a = codes " A=" ++ octal 6 pp.a in
+plain_processor n pp said plain =
+    let state = codes " " ++ said in
     let p = 32 ∷ codes "P=" ++ octal 4 pp.p in
     plain_more (processor_field n) (p ++ (codes " A=" ++ octal 6 pp.a ++ state)) (plain_octal 2 n)
     (plain_more p (codes " A=" ++ octal 6 pp.a ++ state) (plain_octal 4 pp.p)
-    (ap (list_all is_plain) (append_assoc (codes " A=") (octal 6 pp.a) state) ∙ plain_more (octal 6 pp.a) state (plain_octal 6 pp.a) (plain_state pp.state)))
+    (ap (list_all is_plain) (append_assoc (codes " A=") (octal 6 pp.a) state) ∙ plain_more (octal 6 pp.a) state (plain_octal 6 pp.a) plain))
 
-pub processor_line_read : (n : ℕ) (pp : Processor) → IsTrue (names_processor n) → line_said (fields_of (processor_body n pp)) ≡ Some Other
+pub processor_line_read : (n : ℕ) (pp : Processor) (said : List ℕ) → list_all is_plain said ≡ true → IsTrue (names_processor n) → line_said (fields_of (processor_body n pp said)) ≡ Some Other
 unfolding line_said processor_body
-processor_line_read n pp names =
-    let rest = codes "P=" ++ octal 4 pp.p ++ (codes " A=" ++ octal 6 pp.a ++ (codes " " ++ state_text pp.state)) in
-    ap line_said (fields_of_plain (processor_body n pp) (plain_processor n pp) ∙ tail_blank rest (processor_field n) (is_processor_field n))
+processor_line_read n pp said plain names =
+    let rest = codes "P=" ++ octal 4 pp.p ++ (codes " A=" ++ octal 6 pp.a ++ (codes " " ++ said)) in
+    ap line_said (fields_of_plain (processor_body n pp said) (plain_processor n pp said plain) ∙ tail_blank rest (processor_field n) (is_processor_field n))
     ∙ rw (processor_read n names) refl
+
+-- ---- the line of an event with its number
+
+-- what stands in it, each field behind a blank
+unfoldable pub numbered_body : ℕ → ℕ → ℕ → Event → List ℕ
+numbered_body c number n e = channel_field c ++ (32 ∷ decimal number ++ (32 ∷ processor_field n ++ (32 ∷ event_text e)))
+
+regrouped : (a b s d p o e l : List ℕ) → (((((((a ++ b) ++ s) ++ d) ++ p) ++ o) ++ s) ++ e) ++ l ≡ ((a ++ b) ++ (s ++ (d ++ (p ++ (o ++ (s ++ e)))))) ++ l
+regrouped a b s d p o e l = simp append_assoc
+
+pub numbered_line_is : (c number place : ℕ) (e : Event) → line_by_author c number e (Some place) ≡ numbered_body c number (processor_number place) e ++ line_end
+unfolding numbered_body
+numbered_line_is c number place e =
+    regrouped (codes "CH") (octal 2 c) (codes " ") (decimal number) (codes " PP") (octal 2 (processor_number place)) (event_text e) line_end
+
+pub plain_numbered : (c number n : ℕ) (e : Event) → list_all is_plain (numbered_body c number n e) ≡ true
+unfolding numbered_body
+plain_numbered c number n e =
+    let event = 32 ∷ event_text e in
+    let pp = 32 ∷ processor_field n in
+    plain_more (channel_field c) (32 ∷ decimal number ++ (pp ++ event)) (plain_octal 2 c)
+    (plain_more (32 ∷ decimal number) (pp ++ event) (ink_plain (decimal number) (decimal_field number).ink) (plain_more pp event (plain_octal 2 n) (plain_event e)))
+
+pub numbered_line_read : (c number n : ℕ) (e : Event) → IsTrue (names_channel c) → number < 10 ^ 19 → IsTrue (names_processor n) → HasTwelveBitWord e → line_said (fields_of (numbered_body c number n e)) ≡ Some (Numbered number c e)
+unfolding line_said channel_line numbered_body numbered_line
+numbered_line_read c number n e names below author bits =
+    ap line_said (fields_of_plain (numbered_body c number n e) (plain_numbered c number n e)
+    ∙ tail_field (decimal number) (32 ∷ processor_field n ++ (32 ∷ event_text e)) (processor_field n ∷ event_fields e) (decimal_field number) (tail_field (processor_field n) (32 ∷ event_text e) (event_fields e) (is_processor_field n) (event_tail e)) (channel_field c) (is_channel_field c))
+    ∙ rw (channel_no_processor c, channel_read c names, decimal_read number below, processor_read n author, event_read e bits) refl
 
 -- ---- the line of a channel
 

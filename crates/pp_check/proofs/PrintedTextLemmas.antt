@@ -16,7 +16,7 @@ use Rattle.pp_deck.specs.DeckText.{fields_of, is_line_feed, lines_of}
 use Rattle.pp_machine.specs.MachineState.{MachineState, processor_of}
 use Rattle.pp_machine.specs.ProcessorNumber.{names_processor, processor_index}
 use Rattle.pp_machine.specs.declared.trace.Trace.{Trace}
-use Rattle.pp_text.specs.PrintedText.{each_below, event_line, channel_line, is_named, line_end, named_processor_line, printed, used_channel_line}
+use Rattle.pp_text.specs.PrintedText.{each_below, event_line, channel_line, is_named, line_end, named_processor_line, printed, state_text, used_channel_line}
 use Rattle.pp_text.specs.TextLaw.{IsListed, IsTold}
 use Rattle.pp_check.specs.LawfulTrace.{lines_said}
 use Rattle.pp_check.specs.PrintedTrace.{IsPrintable}
@@ -24,7 +24,7 @@ use Rattle.pp_check.specs.TraceLine.{line_said}
 use Rattle.pp_check.specs.declared.trace_line.TraceLine.{TraceLine}
 use Rattle.pp_check.specs.declared.trace_line.TraceLine.TheVariants.{AtTurn, Standing, Other}
 use Rattle.pp_check.proofs.FaultLemmas.{Says, Text}
-use Rattle.pp_check.proofs.PrintedLineLemmas.{channel_body, channel_line_is, channel_line_read, event_body, event_line_is, event_line_read, plain_body, plain_channel, plain_processor, processor_body, processor_line_is, processor_line_read, shown_state}
+use Rattle.pp_check.proofs.PrintedLineLemmas.{channel_body, channel_line_is, channel_line_read, event_body, event_line_is, event_line_read, plain_body, plain_channel, plain_processor, plain_state, processor_body, processor_line_is, processor_line_read, shown_state}
 
 -- ---- texts of whole lines
 
@@ -32,11 +32,11 @@ use Rattle.pp_check.proofs.PrintedLineLemmas.{channel_body, channel_line_is, cha
 abbrev pub Reads : List ℕ → List TraceLine → Type 0
 Reads text lines = (rest : List ℕ) → map line_said (lines_of (text ++ rest)) ≡ map (λ l. Some l) lines ++ map line_said (lines_of rest)
 
-map_both : (xs ys : List TraceLine) → map (λ l. Some l) (xs ++ ys) ≡ map (λ l. Some l) xs ++ map (λ l. Some l) ys
+pub map_both : (xs ys : List TraceLine) → map (λ l. Some l) (xs ++ ys) ≡ map (λ l. Some l) xs ++ map (λ l. Some l) ys
 map_both [] ys = refl
 map_both (x ∷ xs) ys = ap (λ (more : List (Option TraceLine)). Some x ∷ more) (map_both xs ys)
 
-reads_both : (a b : List ℕ) (xs ys : List TraceLine) → Reads a xs → Reads b ys → Reads (a ++ b) (xs ++ ys)
+pub reads_both : (a b : List ℕ) (xs ys : List TraceLine) → Reads a xs → Reads b ys → Reads (a ++ b) (xs ++ ys)
 reads_both a b xs ys first second = λ rest.
     ap (λ (text : List ℕ). map line_said (lines_of text)) (append_assoc a b rest)
     ∙ first (b ++ rest)
@@ -49,7 +49,7 @@ no_line_feed body plain = λ k d lt.
     let least = plain_least (get_or body k d) (AllPass-from_list_all is_plain body plain k d lt) in
     ne_eqb (get_or body k d) 10 (λ e. absurd (omega (arith, least, e)))
 
-reads_line : (body : List ℕ) (line : TraceLine) → list_all is_plain body ≡ true → line_said (fields_of body) ≡ Some line → Reads (body ++ line_end) (line ∷ [])
+pub reads_line : (body : List ℕ) (line : TraceLine) → list_all is_plain body ≡ true → line_said (fields_of body) ≡ Some line → Reads (body ++ line_end) (line ∷ [])
 unfolding lines_of
 reads_line body line plain is = λ rest.
     ap (λ (text : List ℕ). map line_said (map fields_of (slice_split is_line_feed text))) (append_assoc body (10 ∷ []) rest)
@@ -76,7 +76,7 @@ unfoldable pub lines_below : ℕ → (ℕ → List TraceLine) → List TraceLine
 lines_below zero f = []
 lines_below (suc k) f = lines_below k f ++ f k
 
-reads_below : (k : ℕ) (said : ℕ → List ℕ) (f : ℕ → List TraceLine) → ((n : ℕ) → Reads (said n) (f n)) → Reads (each_below k said) (lines_below k f)
+pub reads_below : (k : ℕ) (said : ℕ → List ℕ) (f : ℕ → List TraceLine) → ((n : ℕ) → Reads (said n) (f n)) → Reads (each_below k said) (lines_below k f)
 unfolding each_below lines_below
 reads_below zero said f each = λ rest. refl
 reads_below (suc k) said f each = reads_both (each_below k said) (said k) (lines_below k f) (f k) (reads_below k said f each) (each k)
@@ -84,11 +84,11 @@ reads_below (suc k) said f each = reads_both (each_below k said) (said k) (lines
 unfoldable pub processor_lines : List Bool → ℕ → List TraceLine
 processor_lines named n = if is_named named n then Other ∷ [] else []
 
-reads_if : (b : Bool) (text : List ℕ) (lines : List TraceLine) → (IsTrue b → Reads text lines) → Reads (if b then text else []) (if b then lines else [])
+pub reads_if : (b : Bool) (text : List ℕ) (lines : List TraceLine) → (IsTrue b → Reads text lines) → Reads (if b then text else []) (if b then lines else [])
 reads_if true text lines reads = reads refl
 reads_if false text lines reads = λ rest. refl
 
-left_true : (a b : Bool) → IsTrue (a && b) → IsTrue a
+pub left_true : (a b : Bool) → IsTrue (a && b) → IsTrue a
 left_true true b is = refl
 left_true false b is = is
 
@@ -97,8 +97,8 @@ unfolding processor_lines
 reads_processor named m n =
     let pp = processor_of n m in
     reads_if (is_named named n) _ (Other ∷ []) (λ is.
-    subst (λ (text : List ℕ). Reads text (Other ∷ [])) (sym (processor_line_is n pp))
-    (reads_line (processor_body n pp) Other (plain_processor n pp) (processor_line_read n pp (left_true (names_processor n) (slice_index_or named (processor_index n) false) is))))
+    subst (λ (text : List ℕ). Reads text (Other ∷ [])) (sym (processor_line_is n pp (state_text pp.state)))
+    (reads_line (processor_body n pp (state_text pp.state)) Other (plain_processor n pp (state_text pp.state) (plain_state pp.state)) (processor_line_read n pp (state_text pp.state) (plain_state pp.state) (left_true (names_processor n) (slice_index_or named (processor_index n) false) is))))
 
 unfoldable pub state_lines : ℕ → List Event → List TraceLine
 state_lines c [] = []
@@ -115,7 +115,7 @@ reads_history c (e ∷ h) names fits =
     subst (λ (text : List ℕ). Reads text (state_lines c (e ∷ h))) (sym (channel_line_is c e h))
     (reads_line (channel_body c (active (e ∷ h)) (waiting (e ∷ h))) (Standing c (shown_state (active (e ∷ h)) (waiting (e ∷ h)))) (plain_channel c (active (e ∷ h)) (waiting (e ∷ h))) (channel_line_read c (active (e ∷ h)) (waiting (e ∷ h)) names fits))
 
-reads_channel : (histories : List (List Event)) → ((c : ℕ) → IsTrue (names_channel c) → IsListed (history_on c histories)) → (c : ℕ) → Reads (used_channel_line histories c) (channel_lines histories c)
+pub reads_channel : (histories : List (List Event)) → ((c : ℕ) → IsTrue (names_channel c) → IsListed (history_on c histories)) → (c : ℕ) → Reads (used_channel_line histories c) (channel_lines histories c)
 unfolding channel_lines
 reads_channel histories fits c = reads_if (names_channel c) _ (state_lines c (history_on c histories)) (λ is. reads_history c (history_on c histories) is (fits c is))
 
@@ -132,7 +132,7 @@ reads_printed named m is =
     (reads_below 0o100 (used_channel_line m.histories) (channel_lines m.histories) (reads_channel m.histories is.fits.channels))
 
 -- behind the last line feed stands a line without fields
-no_text : map line_said (lines_of []) ≡ Some Other ∷ []
+pub no_text : map line_said (lines_of []) ≡ Some Other ∷ []
 unfolding lines_of line_said
 no_text = ap (λ (fields : List (List ℕ)). line_said fields ∷ []) no_fields
 

@@ -1,20 +1,26 @@
 //! Laws of traces. These functions do nothing: their contracts say what is proved of the
 //! definitions.
 
-ghost use Rattle.std.specs.Prelude.{ℕ, ◌≡◌, ◌<◌, ◌≤◌, ◌↔◌, Bool, List, length, take};
+ghost use Rattle.std.specs.Prelude.{ℕ, ◌≡◌, ◌<◌, ◌≤◌, ◌↔◌, Bool, IsTrue, List, length, take};
 ghost use Rattle.std.specs.List.Sorted.{IsStrictlyIncreasing};
+ghost use Rattle.pp_channel.specs.ChannelNumber.{names_channel};
 ghost use Rattle.pp_channel.specs.Law.{KeepsLaw};
+ghost use Rattle.pp_channel.specs.Merge.{history_on};
 ghost use Rattle.pp_deck.specs.DeckText.{Fields, lines_of};
 ghost use Rattle.pp_machine.specs.Headline.{events_on as trace_events_on};
 ghost use Rattle.pp_machine.specs.MachineState.{MachineState};
+ghost use Rattle.pp_runner.specs.RunLimits.{RunLimits};
+ghost use Rattle.pp_runner.specs.declared.report.Report.{Report};
+ghost use Rattle.pp_text.specs.PrintedReport.{printed_report};
 ghost use Rattle.pp_text.specs.PrintedText.{printed};
 ghost use Rattle.pp_check.specs.LawfulTrace.{AreLawful, IsLawfulTrace, events_on, history, lines_said, turns};
-ghost use Rattle.pp_check.specs.PrintedTrace.{AreOpenedBy, IsPrintable};
+ghost use Rattle.pp_check.specs.PrintedTrace.{AreOpenedBy, IsPrintable, IsPrintableReport};
 ghost use Rattle.pp_check.specs.TraceFault.{IsFault};
 ghost use Rattle.pp_check.specs.declared.trace_fault.TraceFault.{TraceFault};
 ghost use Rattle.pp_check.specs.declared.trace_line.TraceLine.{TraceLine};
 
 use pp_channel::session_law;
+use std::alloc::Allocator;
 
 /// The fault of a text is the first line at which no lawful history is left: the lines before it
 /// are lawful, and so are all fronts of these, and no lines that contain it are. A text has at most
@@ -53,4 +59,19 @@ pub fn printed_law()
         → IsPrintable named m → AreOpenedBy m opened
         → (c : ℕ) → events_on c (lines_said (lines_of (printed named m)))
         ≡ trace_events_on c m.trace }
+{}
+
+/// What threads print is lawful: the text of a report of any run of a machine by threads that fits
+/// its text, as each that is printed does (`write_report`), where no number of an event has more
+/// than 19 decimal digits, and the channels said to be open are those that dead start opened. On
+/// each channel the events that are read, behind what was open, are the history that the run made.
+pub fn printed_report_law<A: Allocator>()
+    ensures lawful { (named : List Bool) (limits : RunLimits) (m : MachineState) (report : Report A)
+        (opened : List ℕ) → IsPrintableReport named limits m report → AreOpenedBy m opened
+        → AreLawful opened (lines_of (printed_report named report)) }
+    ensures histories { (named : List Bool) (limits : RunLimits) (m : MachineState) (report : Report A)
+        (opened : List ℕ) → IsPrintableReport named limits m report → AreOpenedBy m opened
+        → (c : ℕ) → IsTrue (names_channel c)
+        → history opened (lines_said (lines_of (printed_report named report))) c
+        ≡ history_on c report.channels }
 {}
