@@ -11,3 +11,4 @@ pub mod PrintedLineLemmas
 pub mod PrintedTextLemmas
 pub mod PrintedLawLemmas
 pub mod PrintedReportLemmas
+pub mod RisingTurnLemmas

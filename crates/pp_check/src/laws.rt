@@ -1,18 +1,22 @@
 //! Laws of traces. These functions do nothing: their contracts say what is proved of the
 //! definitions.
 
-ghost use Rattle.std.specs.Prelude.{ℕ, ◌≡◌, ◌<◌, ◌≤◌, ◌↔◌, Bool, IsTrue, List, length, take};
+ghost use Rattle.std.specs.Prelude.{ℕ, ◌≡◌, ◌<◌, ◌≤◌, ◌↔◌, ◌^◌, Bool, IsTrue, List, Ok, length, take};
 ghost use Rattle.std.specs.List.Sorted.{IsStrictlyIncreasing};
 ghost use Rattle.pp_channel.specs.ChannelNumber.{names_channel};
 ghost use Rattle.pp_channel.specs.Law.{KeepsLaw};
 ghost use Rattle.pp_channel.specs.Merge.{history_on};
+ghost use Rattle.pp_deck.specs.DeckMeaning.{LoadedDeck, deck_meaning};
 ghost use Rattle.pp_deck.specs.DeckText.{Fields, lines_of};
 ghost use Rattle.pp_machine.specs.Headline.{events_on as trace_events_on};
 ghost use Rattle.pp_machine.specs.MachineState.{MachineState};
+ghost use Rattle.pp_machine.specs.Run.{run};
+ghost use Rattle.pp_machine.specs.declared.profile.Profile.{Profile};
 ghost use Rattle.pp_runner.specs.RunLimits.{RunLimits};
 ghost use Rattle.pp_runner.specs.declared.report.Report.{Report};
 ghost use Rattle.pp_text.specs.PrintedReport.{printed_report};
 ghost use Rattle.pp_text.specs.PrintedText.{printed};
+ghost use Rattle.pp_text.specs.TextLaw.{FitsItsText};
 ghost use Rattle.pp_check.specs.LawfulTrace.{AreLawful, IsLawfulTrace, events_on, history, lines_said, turns};
 ghost use Rattle.pp_check.specs.PrintedTrace.{AreOpenedBy, IsPrintable, IsPrintableReport};
 ghost use Rattle.pp_check.specs.TraceFault.{IsFault};
@@ -20,6 +24,7 @@ ghost use Rattle.pp_check.specs.declared.trace_fault.TraceFault.{TraceFault};
 ghost use Rattle.pp_check.specs.declared.trace_line.TraceLine.{TraceLine};
 
 use pp_channel::session_law;
+use pp_deck::{deck_law, headline_law};
 use std::alloc::Allocator;
 
 /// The fault of a text is the first line at which no lawful history is left: the lines before it
@@ -60,6 +65,19 @@ pub fn printed_law()
         → (c : ℕ) → events_on c (lines_said (lines_of (printed named m)))
         ≡ trace_events_on c m.trace }
 {}
+
+/// What `barrel` prints is lawful, of every deck and after every list of fewer than 10^19 steps: the
+/// text of the machine, which fits it as each that is printed does (`write_text`), where the
+/// channels said to be open are those that dead start opened.
+pub fn barrel_law()
+    ensures { (profile : Profile) (text : List ℕ) (deck : LoadedDeck) (steps opened : List ℕ)
+        → deck_meaning profile text ≡ Ok deck → length steps < 10 ^ 19
+        → (let m = run steps deck.machine in FitsItsText deck.named m → AreOpenedBy m opened
+        → AreLawful opened (lines_of (printed deck.named m))) }
+{
+    deck_law();
+    headline_law();
+}
 
 /// What threads print is lawful: the text of a report of any run of a machine by threads that fits
 /// its text, as each that is printed does (`write_report`), where no number of an event has more

@@ -15,6 +15,6 @@ mod verdict;
 
 pub use channel_state::ChannelState;
 pub use check::check_trace;
-pub use laws::{fault_law, printed_law, printed_report_law, trace_law};
+pub use laws::{barrel_law, fault_law, printed_law, printed_report_law, trace_law};
 pub use trace_fault::{TraceFault, TraceFlaw};
 pub use verdict::Verdict;
