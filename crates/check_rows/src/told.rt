@@ -6,8 +6,8 @@ use std::alloc::{AllocError, Global};
 /// The channels of these traces (octal).
 pub(crate) const NUMBERS: [u8; 4] = [0o5, 0o13, 0o20, 0o33];
 
-/// A line of a trace: its turn, the place of its channel among `NUMBERS`, the number of the event on
-/// the channel, and the event.
+/// A line of a trace: its turn, the place of its channel among `NUMBERS`, the number of the event
+/// on the channel, and the event.
 #[derive(Clone, Copy, Debug)]
 pub(crate) struct Told {
     pub(crate) turn: u32,

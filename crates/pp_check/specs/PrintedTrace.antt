@@ -26,10 +26,10 @@ pub record IsPrintable (named : List Bool) (m : MachineState) : Type 0 where
   pub rising : IsStrictlyIncreasing (map (λ e. e.turn) m.trace)
   pub few_turns : All (λ e. e.turn < 10 ^ 19) m.trace
 
--- a report of a run of a machine by threads, that fits its text, and whose numbers of events have at
--- most 19 decimal digits
-pub record IsPrintableReport {Z : Type 0} (named : List Bool) (limits : RunLimits) (m : MachineState)
-    (report : Report Z) : Type 0 where
+-- a report of a run of a machine by threads, that fits its text, and whose numbers of events have
+-- at most 19 decimal digits
+pub record IsPrintableReport {Z : Type 0} (named : List Bool) (limits : RunLimits)
+    (m : MachineState) (report : Report Z) : Type 0 where
   pub run : IsReportOf limits m report
   pub fits : FitsItsReport named report
   pub few_events : (c : ℕ) → IsTrue (names_channel c)

@@ -49,7 +49,8 @@ impl Judge {
         requires kept { KeepsSome self.old }
         ensures judged { (opened : List ℕ) (lines : List TraceLine) → Keeps opened lines self.old
             → IsRead opened lines (line_said (fields_of line.now)) self.new result }
-        ensures room { OnOk result (2 * self.new.events ≤ 2 * self.old.events + length line.now + 1) }
+        ensures room { OnOk result
+            (2 * self.new.events ≤ 2 * self.old.events + length line.now + 1) }
         ensures no_empty_flaw { IsErr result → 0 < length line.now }
     {
         if line.is_empty() {

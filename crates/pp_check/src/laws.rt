@@ -54,8 +54,8 @@ pub fn trace_law()
 /// What the barrel prints is lawful: the text of a machine whose histories are those of its trace,
 /// and whose turns rise and have at most 19 decimal digits, where the channels said to be open are
 /// those that dead start opened. On each channel the events that are read are those of the trace.
-/// The histories are so after every run (`headline_law` of `pp_deck`), and a machine that is printed
-/// fits its text (`write_text`).
+/// The histories are so after every run (`headline_law` of `pp_deck`), and a machine that is
+/// printed fits its text (`write_text`).
 pub fn printed_law()
     ensures lawful { (named : List Bool) (m : MachineState) (opened : List ℕ)
         → IsPrintable named m → AreOpenedBy m opened
@@ -66,8 +66,8 @@ pub fn printed_law()
         ≡ trace_events_on c m.trace }
 {}
 
-/// What `barrel` prints is lawful, of every deck and after every list of fewer than 10^19 steps: the
-/// text of the machine, which fits it as each that is printed does (`write_text`), where the
+/// What `barrel` prints is lawful, of every deck and after every list of fewer than 10^19 steps:
+/// the text of the machine, which fits it as each that is printed does (`write_text`), where the
 /// channels said to be open are those that dead start opened.
 pub fn barrel_law()
     ensures { (profile : Profile) (text : List ℕ) (deck : LoadedDeck) (steps opened : List ℕ)
@@ -84,11 +84,11 @@ pub fn barrel_law()
 /// than 19 decimal digits, and the channels said to be open are those that dead start opened. On
 /// each channel the events that are read, behind what was open, are the history that the run made.
 pub fn printed_report_law<A: Allocator>()
-    ensures lawful { (named : List Bool) (limits : RunLimits) (m : MachineState) (report : Report A)
-        (opened : List ℕ) → IsPrintableReport named limits m report → AreOpenedBy m opened
+    ensures lawful { (named : List Bool) (limits : RunLimits) (m : MachineState)
+        (report : Report A) (opened : List ℕ) → IsPrintableReport named limits m report → AreOpenedBy m opened
         → AreLawful opened (lines_of (printed_report named report)) }
-    ensures histories { (named : List Bool) (limits : RunLimits) (m : MachineState) (report : Report A)
-        (opened : List ℕ) → IsPrintableReport named limits m report → AreOpenedBy m opened
+    ensures histories { (named : List Bool) (limits : RunLimits) (m : MachineState)
+        (report : Report A) (opened : List ℕ) → IsPrintableReport named limits m report → AreOpenedBy m opened
         → (c : ℕ) → IsTrue (names_channel c)
         → history opened (lines_said (lines_of (printed_report named report))) c
         ≡ history_on c report.channels }
