@@ -6,9 +6,10 @@ ghost use Rattle.pp_deck.specs.DeckText.{is_blank, without_return};
 
 use std::marker::Model;
 
-/// The fields of a line that are left, from left to right. Contracts see the list of them.
+/// The fields of a line that are left, from left to right. Contracts see the list of them. Traces
+/// are read by them too.
 #[derive(Drop)]
-pub(crate) struct Fields<'a> {
+pub struct Fields<'a> {
     text: &'a [u8],
 }
 
@@ -25,7 +26,7 @@ impl<'a> Fields<'a> {
     ghost use Rattle.pp_deck.specs.DeckText.{fields_of};
 
     /// The fields of a line.
-    pub(crate) fn of(line: &'a [u8]) -> Fields<'a>
+    pub fn of(line: &'a [u8]) -> Fields<'a>
         ensures { result ≡ fields_of line.now }
     {
         Fields {
@@ -34,7 +35,7 @@ impl<'a> Fields<'a> {
     }
 
     /// The next field, if there is one more.
-    pub(crate) fn next_field(&mut self) -> Option<&'a [u8]>
+    pub fn next_field(&mut self) -> Option<&'a [u8]>
         ensures taken { IfSome result (λ field. self.old ≡ field.now ∷ self.new) }
         ensures none { IfNone result (self.old ≡ []) }
     {

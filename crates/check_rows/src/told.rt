@@ -1,0 +1,96 @@
+//! Traces line by line, and a plain check of them that knows nothing of the judge.
+
+use pp_channel::Event;
+use std::alloc::{AllocError, Global};
+
+/// The channels of these traces (octal).
+pub(crate) const NUMBERS: [u8; 4] = [0o5, 0o13, 0o20, 0o33];
+
+/// A line of a trace: its turn, the place of its channel among `NUMBERS`, the number of the event
+/// on the channel, and the event.
+#[derive(Clone, Copy, Debug)]
+pub(crate) struct Told {
+    pub(crate) turn: u32,
+    pub(crate) place: usize,
+    pub(crate) number: u32,
+    pub(crate) event: Event,
+}
+
+/// How a channel stands.
+#[derive(Clone, Copy, Debug, PartialEq, Eq)]
+pub(crate) enum Stand {
+    Idle,
+    Ready,
+    Holds(u16),
+}
+
+/// How a channel stands after an event; nothing where the event may not come.
+pub(crate) fn after(stand: Stand, event: &Event) -> Option<Stand> {
+    match (stand, event) {
+        (Stand::Idle, Event::Function(_)) => Some(Stand::Idle),
+        (Stand::Idle, Event::Activate) => Some(Stand::Ready),
+        (Stand::Ready, Event::Put(word)) => Some(Stand::Holds(word.get())),
+        (Stand::Holds(held), Event::Take(word)) if held == word.get() => Some(Stand::Ready),
+        (Stand::Ready, Event::Disconnect) => Some(Stand::Idle),
+        (Stand::Holds(_), Event::Disconnect) => Some(Stand::Idle),
+        _ => None,
+    }
+}
+
+/// In which form a trace is printed.
+#[derive(Clone, Copy, Debug, PartialEq, Eq)]
+pub(crate) enum Form {
+    ByTurn,
+    ByNumber,
+}
+
+/// The place of the first line, from 0 on, that may not come behind those before it.
+pub(crate) fn first_unlawful(lines: &[Told], form: Form) -> Option<usize> {
+    let mut stands = [Stand::Idle; 4];
+    let mut numbers = [0u32; 4];
+    let mut turn_before = None;
+    for (place, line) in lines.iter().enumerate() {
+        let stand = stands.get_mut(line.place)?;
+        let number = numbers.get_mut(line.place)?;
+        let in_order = match form {
+            Form::ByTurn => turn_before.is_none_or(|before| before < line.turn),
+            Form::ByNumber => *number == line.number,
+        };
+        let Some(next) = after(*stand, &line.event) else {
+            return Some(place);
+        };
+        if !in_order {
+            return Some(place);
+        }
+        *stand = next;
+        *number = number.wrapping_add(1);
+        turn_before = Some(line.turn);
+    }
+    None
+}
+
+/// The text of a trace.
+pub(crate) fn text_of(alloc: Global, lines: &[Told], form: Form) -> Result<String, AllocError> {
+    let mut text = String::new(alloc);
+    for line in lines {
+        let channel = NUMBERS.get(line.place).copied().unwrap_or(0);
+        let (turn, number) = (line.turn, line.number);
+        let head = match form {
+            Form::ByTurn => format!(in alloc; "{turn:06} PP00 CH{channel:02o} ")?,
+            Form::ByNumber => format!(in alloc; "CH{channel:02o} {number:06} PP00 ")?,
+        };
+        text.push_str(head.as_str())?;
+        text.push_str(event_text(alloc, &line.event)?.as_str())?;
+    }
+    Ok(text)
+}
+
+fn event_text(alloc: Global, event: &Event) -> Result<String, AllocError> {
+    match event {
+        Event::Activate => format!(in alloc; "ACN\n"),
+        Event::Disconnect => format!(in alloc; "DCN\n"),
+        Event::Put(word) => format!(in alloc; "PUT {:04o}\n", word.get()),
+        Event::Take(word) => format!(in alloc; "TAK {:04o}\n", word.get()),
+        Event::Function(word) => format!(in alloc; "FNC {:04o}\n", word.get()),
+    }
+}

@@ -1,0 +1,14 @@
+pub mod NumeralLemmas
+pub mod TraceLemmas
+pub mod FaultLemmas
+pub mod KeepsLemmas
+pub mod VerdictLemmas
+pub mod OpeningLemmas
+pub mod CheckLemmas
+pub mod LawLemmas
+pub mod NumeralTextLemmas
+pub mod PrintedLineLemmas
+pub mod PrintedTextLemmas
+pub mod PrintedLawLemmas
+pub mod PrintedReportLemmas
+pub mod RisingTurnLemmas

@@ -1,0 +1,268 @@
+-- Printed lines are read as what they tell.
+use Rattle.std.proofs.Common.{◌≡◌, ◌∙◌, ℕ, ◌^◌, ◌<◌, ◌≤◌, Bool, true, false, List, [], ◌∷◌, ◌++◌, take, codes, Option, Some, None, refl, ap, append_assoc, arith}
+use Rattle.std.specs.Prelude.{IfSome, IsTrue, nat_le, nat_lt}
+use Rattle.std.specs.List.{list_all}
+use Rattle.std.specs.Str.{bytes_eq}
+use Rattle.std.proofs.lemmas.Bool.{leb-true, le-leb, ltb-true, ne_eqb}
+use Rattle.std.proofs.lemmas.List.Folds.{list_all-append}
+use Rattle.pp_channel.proofs.ChannelPlaces as channel_places
+use Rattle.pp_channel.specs.ChannelNumber.{names_channel}
+use Rattle.pp_channel.specs.History.{HasTwelveBitWord, active, waiting}
+use Rattle.pp_channel.specs.declared.event.Event.{Event}
+use Rattle.pp_channel.specs.declared.event.Event.TheVariants.{Activate, Disconnect, Put, Take, Function}
+use Rattle.pp_deck.proofs.FieldTextLemmas.{IsField, IsTail, and_both, and_left, and_right, fields_of_plain, is_ink, is_plain, tail_blank, tail_field, tail_last}
+use Rattle.pp_deck.specs.DeckText.{fields_of}
+use Rattle.pp_machine.proofs.ProcessorPlaces as processor_places
+use Rattle.pp_machine.specs.ProcessorNumber.{names_processor, processor_number}
+use Rattle.pp_machine.specs.Processor.{Processor}
+use Rattle.pp_machine.specs.declared.pp_state.PpState.{PpState}
+use Rattle.pp_machine.specs.declared.pp_state.PpState.TheVariants.{Running, Stopped, Fault}
+use Rattle.pp_machine.specs.declared.trace.Trace.{Trace}
+use Rattle.pp_text.specs.Numeral.{decimal, octal}
+use Rattle.pp_text.specs.PrintedText.{channel_line as printed_channel_line, channel_text, event_line, event_text, line_end, processor_line, state_text}
+use Rattle.pp_text.specs.PrintedReport.{end_text, line_by as line_by_author}
+use Rattle.pp_text.specs.TextLaw.{IsTold}
+use Rattle.pp_runner.specs.declared.end.End.{End}
+use Rattle.pp_runner.specs.declared.end.End.TheVariants as ends
+use Rattle.pp_check.specs.TraceLine.{channel_in, channel_line, empty, event_said, full_with, inactive, is_digit, is_processor, line_said, number_behind, numbered_line, numeral, state_said, turn_line}
+use Rattle.pp_check.specs.declared.channel_state.ChannelState.{ChannelState}
+use Rattle.pp_check.specs.declared.trace_line.TraceLine.TheVariants.{AtTurn, Numbered, Other, Standing}
+use Rattle.pp_check.proofs.NumeralTextLemmas.{decimal_are, decimal_field, decimal_read, octal_field, octal_ink, octal_read}
+
+-- ---- fields of processors and channels
+
+abbrev pub processor_field : ℕ → List ℕ
+processor_field n = codes "PP" ++ octal 2 n
+
+abbrev pub channel_field : ℕ → List ℕ
+channel_field c = codes "CH" ++ octal 2 c
+
+pub is_processor_field : (n : ℕ) → IsField (processor_field n)
+is_processor_field n = record { some = omega arith; ink = octal_ink 2 n }
+
+pub is_channel_field : (c : ℕ) → IsField (channel_field c)
+is_channel_field c = record { some = omega arith; ink = octal_ink 2 c }
+
+pub processor_read : (n : ℕ) → IsTrue (names_processor n) → is_processor (processor_field n) ≡ true
+unfolding is_processor number_behind
+processor_read n names = rw (octal_read 2 2 n (omega arith) (omega arith) (omega (arith, processor_places.number_fits n names)), names) refl
+
+pub channel_read : (c : ℕ) → IsTrue (names_channel c) → channel_in (channel_field c) ≡ Some c
+unfolding channel_in number_behind
+channel_read c names = rw (octal_read 2 2 c (omega arith) (omega arith) (omega (arith, channel_places.number_fits c names)), names) refl
+
+pub channel_no_processor : (c : ℕ) → is_processor (channel_field c) ≡ false
+unfolding is_processor number_behind
+channel_no_processor c = refl
+
+-- a field of digits is neither
+digit_first : (first second : ℕ) (text : List ℕ) → 58 ≤ first → list_all (is_digit 10) text ≡ true → bytes_eq (take 2 text) (first ∷ second ∷ []) ≡ false
+digit_first first second [] late is = refl
+digit_first first second (c ∷ text) late is =
+    let here = and_left (is_digit 10 c) (list_all (is_digit 10) text) is in
+    let most = ltb-true c 58 (and_right (nat_le 48 c) (nat_lt c 58) here) in
+    rw (ne_eqb c first (λ same. absurd (omega (arith, same, most, late)))) refl
+
+pub count_no_processor : (n : ℕ) → is_processor (decimal n) ≡ false
+unfolding is_processor number_behind
+count_no_processor n = rw (digit_first 80 80 (decimal n) (omega arith) (decimal_are n)) refl
+
+pub count_no_channel : (n : ℕ) → channel_in (decimal n) ≡ None
+unfolding channel_in number_behind
+count_no_channel n = rw (digit_first 67 72 (decimal n) (omega arith) (decimal_are n)) refl
+
+-- ---- events
+
+pub event_fields : Event → List (List ℕ)
+event_fields Activate = codes "ACN" ∷ []
+event_fields Disconnect = codes "DCN" ∷ []
+event_fields (Put w) = codes "PUT" ∷ octal 4 w ∷ []
+event_fields (Take w) = codes "TAK" ∷ octal 4 w ∷ []
+event_fields (Function w) = codes "FNC" ∷ octal 4 w ∷ []
+
+word_field : (text : List ℕ) → IsField text → (w : ℕ) → IsTail (32 ∷ text ++ 32 ∷ octal 4 w) (text ∷ octal 4 w ∷ [])
+word_field text is w = tail_field text (32 ∷ octal 4 w) (octal 4 w ∷ []) is (tail_last (octal 4 w) (octal_field 4 w (omega arith)))
+
+event_tail : (e : Event) → IsTail (32 ∷ event_text e) (event_fields e)
+unfolding event_fields
+event_tail Activate = tail_last (codes "ACN") (record { some = omega arith; ink = refl })
+event_tail Disconnect = tail_last (codes "DCN") (record { some = omega arith; ink = refl })
+event_tail (Put w) = word_field (codes "PUT") (record { some = omega arith; ink = refl }) w
+event_tail (Take w) = word_field (codes "TAK") (record { some = omega arith; ink = refl }) w
+event_tail (Function w) = word_field (codes "FNC") (record { some = omega arith; ink = refl }) w
+
+event_read : (e : Event) → HasTwelveBitWord e → event_said (event_fields e) ≡ Some e
+unfolding event_fields event_said
+event_read Activate bits = refl
+event_read Disconnect bits = refl
+event_read (Put w) bits = rw (octal_read 4 4 w (omega arith) (omega arith) (omega (arith, bits))) refl
+event_read (Take w) bits = rw (octal_read 4 4 w (omega arith) (omega arith) (omega (arith, bits))) refl
+event_read (Function w) bits = rw (octal_read 4 4 w (omega arith) (omega arith) (omega (arith, bits))) refl
+
+-- ---- plain lines
+
+ink_plain : (text : List ℕ) → list_all is_ink text ≡ true → list_all is_plain text ≡ true
+ink_plain [] is = refl
+ink_plain (c ∷ text) is =
+    let here = and_left (is_ink c) (list_all is_ink text) is in
+    let least = leb-true 43 c (and_left (nat_le 43 c) (nat_le c 126) here) in
+    and_both (is_plain c) (list_all is_plain text) (and_both (nat_le 32 c) (nat_le c 126) (le-leb 32 c (omega (arith, least))) (and_right (nat_le 43 c) (nat_le c 126) here)) (ink_plain text (and_right (is_ink c) (list_all is_ink text) is))
+
+pub plain_more : (xs ys : List ℕ) → list_all is_plain xs ≡ true → list_all is_plain ys ≡ true → list_all is_plain (xs ++ ys) ≡ true
+plain_more xs ys is more = list_all-append is_plain xs ys ∙ and_both (list_all is_plain xs) (list_all is_plain ys) is more
+
+pub plain_octal : (width n : ℕ) → list_all is_plain (octal width n) ≡ true
+plain_octal width n = ink_plain (octal width n) (octal_ink width n)
+
+plain_event : (e : Event) → list_all is_plain (event_text e) ≡ true
+plain_event Activate = refl
+plain_event Disconnect = refl
+plain_event (Put w) = plain_octal 4 w
+plain_event (Take w) = plain_octal 4 w
+plain_event (Function w) = plain_octal 4 w
+
+-- ---- the line of an event
+
+-- what stands in it, each field behind a blank
+pub event_body : Trace → List ℕ
+event_body e = decimal e.turn ++ (32 ∷ processor_field e.pp ++ (32 ∷ channel_field e.channel ++ (32 ∷ event_text e.event)))
+
+pub event_line_is : (e : Trace) → event_line e ≡ event_body e ++ line_end
+unfolding event_line event_body
+event_line_is e = simp append_assoc
+
+pub plain_body : (e : Trace) → list_all is_plain (event_body e) ≡ true
+unfolding event_body
+plain_body e =
+    let event = 32 ∷ event_text e.event in
+    let channel = 32 ∷ channel_field e.channel in
+    plain_more (decimal e.turn) (32 ∷ processor_field e.pp ++ (channel ++ event)) (ink_plain (decimal e.turn) (decimal_field e.turn).ink)
+    (plain_more (32 ∷ processor_field e.pp) (channel ++ event) (plain_octal 2 e.pp) (plain_more channel event (plain_octal 2 e.channel) (plain_event e.event)))
+
+body_fields : (e : Trace) → fields_of (event_body e) ≡ decimal e.turn ∷ processor_field e.pp ∷ channel_field e.channel ∷ event_fields e.event
+unfolding event_body
+body_fields e =
+    fields_of_plain (event_body e) (plain_body e)
+    ∙ tail_field (processor_field e.pp) _ _ (is_processor_field e.pp) (tail_field (channel_field e.channel) _ _ (is_channel_field e.channel) (event_tail e.event)) (decimal e.turn) (decimal_field e.turn)
+
+pub event_line_read : (e : Trace) → IsTold e → e.turn < 10 ^ 19 → line_said (fields_of (event_body e)) ≡ Some (AtTurn e.turn e.channel e.event)
+unfolding line_said turn_line
+event_line_read e told below =
+    ap line_said (body_fields e)
+    ∙ rw (count_no_processor e.turn, count_no_channel e.turn, decimal_read e.turn below, processor_read e.pp told.pp, channel_read e.channel told.channel, event_read e.event told.word) refl
+
+-- ---- the line of a processor
+
+-- what stands in it, with what is said of the processor last
+unfoldable pub processor_body : ℕ → Processor → List ℕ → List ℕ
+processor_body n pp said = processor_field n ++ (32 ∷ codes "P=" ++ octal 4 pp.p ++ (codes " A=" ++ octal 6 pp.a ++ (codes " " ++ said)))
+
+pub processor_line_is : (n : ℕ) (pp : Processor) (said : List ℕ) → processor_line n pp said ≡ processor_body n pp said ++ line_end
+unfolding processor_line processor_body
+processor_line_is n pp said = simp append_assoc
+
+pub plain_state : (state : PpState) → list_all is_plain (state_text state) ≡ true
+plain_state Running = refl
+plain_state Stopped = refl
+plain_state (Fault number) = plain_octal 1 number
+
+pub plain_end : (finish : End) → list_all is_plain (end_text finish) ≡ true
+plain_end ends.Stopped = refl
+plain_end (ends.Fault number) = plain_octal 1 number
+plain_end ends.Steps = refl
+plain_end ends.Patience = refl
+plain_end ends.Memory = refl
+plain_end ends.Worn = refl
+
+pub plain_processor : (n : ℕ) (pp : Processor) (said : List ℕ) → list_all is_plain said ≡ true → list_all is_plain (processor_body n pp said) ≡ true
+unfolding processor_body
+plain_processor n pp said plain =
+    let state = codes " " ++ said in
+    let p = 32 ∷ codes "P=" ++ octal 4 pp.p in
+    plain_more (processor_field n) (p ++ (codes " A=" ++ octal 6 pp.a ++ state)) (plain_octal 2 n)
+    (plain_more p (codes " A=" ++ octal 6 pp.a ++ state) (plain_octal 4 pp.p)
+    (ap (list_all is_plain) (append_assoc (codes " A=") (octal 6 pp.a) state) ∙ plain_more (octal 6 pp.a) state (plain_octal 6 pp.a) plain))
+
+pub processor_line_read : (n : ℕ) (pp : Processor) (said : List ℕ) → list_all is_plain said ≡ true → IsTrue (names_processor n) → line_said (fields_of (processor_body n pp said)) ≡ Some Other
+unfolding line_said processor_body
+processor_line_read n pp said plain names =
+    let rest = codes "P=" ++ octal 4 pp.p ++ (codes " A=" ++ octal 6 pp.a ++ (codes " " ++ said)) in
+    ap line_said (fields_of_plain (processor_body n pp said) (plain_processor n pp said plain) ∙ tail_blank rest (processor_field n) (is_processor_field n))
+    ∙ rw (processor_read n names) refl
+
+-- ---- the line of an event with its number
+
+-- what stands in it, each field behind a blank
+unfoldable pub numbered_body : ℕ → ℕ → ℕ → Event → List ℕ
+numbered_body c number n e = channel_field c ++ (32 ∷ decimal number ++ (32 ∷ processor_field n ++ (32 ∷ event_text e)))
+
+regrouped : (a b s d p o e l : List ℕ) → (((((((a ++ b) ++ s) ++ d) ++ p) ++ o) ++ s) ++ e) ++ l ≡ ((a ++ b) ++ (s ++ (d ++ (p ++ (o ++ (s ++ e)))))) ++ l
+regrouped a b s d p o e l = simp append_assoc
+
+pub numbered_line_is : (c number place : ℕ) (e : Event) → line_by_author c number e (Some place) ≡ numbered_body c number (processor_number place) e ++ line_end
+unfolding numbered_body
+numbered_line_is c number place e =
+    regrouped (codes "CH") (octal 2 c) (codes " ") (decimal number) (codes " PP") (octal 2 (processor_number place)) (event_text e) line_end
+
+pub plain_numbered : (c number n : ℕ) (e : Event) → list_all is_plain (numbered_body c number n e) ≡ true
+unfolding numbered_body
+plain_numbered c number n e =
+    let event = 32 ∷ event_text e in
+    let pp = 32 ∷ processor_field n in
+    plain_more (channel_field c) (32 ∷ decimal number ++ (pp ++ event)) (plain_octal 2 c)
+    (plain_more (32 ∷ decimal number) (pp ++ event) (ink_plain (decimal number) (decimal_field number).ink) (plain_more pp event (plain_octal 2 n) (plain_event e)))
+
+pub numbered_line_read : (c number n : ℕ) (e : Event) → IsTrue (names_channel c) → number < 10 ^ 19 → IsTrue (names_processor n) → HasTwelveBitWord e → line_said (fields_of (numbered_body c number n e)) ≡ Some (Numbered number c e)
+unfolding line_said channel_line numbered_body numbered_line
+numbered_line_read c number n e names below author bits =
+    ap line_said (fields_of_plain (numbered_body c number n e) (plain_numbered c number n e)
+    ∙ tail_field (decimal number) (32 ∷ processor_field n ++ (32 ∷ event_text e)) (processor_field n ∷ event_fields e) (decimal_field number) (tail_field (processor_field n) (32 ∷ event_text e) (event_fields e) (is_processor_field n) (event_tail e)) (channel_field c) (is_channel_field c))
+    ∙ rw (channel_no_processor c, channel_read c names, decimal_read number below, processor_read n author, event_read e bits) refl
+
+-- ---- the line of a channel
+
+-- what stands in it
+pub channel_body : ℕ → Bool → Option ℕ → List ℕ
+channel_body c is_active word = channel_field c ++ (32 ∷ channel_text is_active word)
+
+state_fields : Bool → Option ℕ → List (List ℕ)
+state_fields is_active (Some w) = codes "ACTIVE" ∷ codes "FULL" ∷ octal 4 w ∷ []
+state_fields true None = codes "ACTIVE" ∷ codes "EMPTY" ∷ []
+state_fields false None = codes "INACTIVE" ∷ []
+
+state_tail : (is_active : Bool) (word : Option ℕ) → IsTail (32 ∷ channel_text is_active word) (state_fields is_active word)
+unfolding state_fields
+state_tail is_active (Some w) = tail_field (codes "ACTIVE") (32 ∷ codes "FULL" ++ 32 ∷ octal 4 w) (codes "FULL" ∷ octal 4 w ∷ []) (record { some = omega arith; ink = refl }) (word_field (codes "FULL") (record { some = omega arith; ink = refl }) w)
+state_tail true None = tail_field (codes "ACTIVE") (32 ∷ codes "EMPTY") (codes "EMPTY" ∷ []) (record { some = omega arith; ink = refl }) (tail_last (codes "EMPTY") (record { some = omega arith; ink = refl }))
+state_tail false None = tail_last (codes "INACTIVE") (record { some = omega arith; ink = refl })
+
+plain_shown : (is_active : Bool) (word : Option ℕ) → list_all is_plain (channel_text is_active word) ≡ true
+plain_shown is_active (Some w) = plain_octal 4 w
+plain_shown true None = refl
+plain_shown false None = refl
+
+-- the state that the words of a line tell
+unfoldable pub shown_state : Bool → Option ℕ → ChannelState
+shown_state is_active (Some w) = full_with w
+shown_state true None = empty
+shown_state false None = inactive
+
+pub plain_channel : (c : ℕ) (is_active : Bool) (word : Option ℕ) → list_all is_plain (channel_body c is_active word) ≡ true
+unfolding channel_body
+plain_channel c is_active word = plain_more (channel_field c) (32 ∷ channel_text is_active word) (plain_octal 2 c) (plain_shown is_active word)
+
+pub channel_line_is : (c : ℕ) (e : Event) (h : List Event) → printed_channel_line c (e ∷ h) ≡ channel_body c (active (e ∷ h)) (waiting (e ∷ h)) ++ line_end
+unfolding channel_body
+channel_line_is c e h = simp append_assoc
+
+pub channel_line_read : (c : ℕ) (is_active : Bool) (word : Option ℕ) → IsTrue (names_channel c) → IfSome word (λ w. w < 2 ^ 12) → line_said (fields_of (channel_body c is_active word)) ≡ Some (Standing c (shown_state is_active word))
+unfolding line_said channel_line channel_body state_fields state_said shown_state numeral
+channel_line_read c is_active word names bits =
+    ap line_said (fields_of_plain (channel_body c is_active word) (plain_channel c is_active word)
+    ∙ state_tail is_active word (channel_field c) (is_channel_field c))
+    ∙ rw (channel_no_processor c, channel_read c names) (by_word is_active word bits)
+  where
+    by_word : (is_active : Bool) (word : Option ℕ) → IfSome word (λ w. w < 2 ^ 12) → channel_line c (state_fields is_active word) ≡ Some (Standing c (shown_state is_active word))
+    by_word is_active (Some w) bits = rw (octal_read 4 4 w (omega arith) (omega arith) (omega (arith, bits))) refl
+    by_word true None bits = refl
+    by_word false None bits = refl

@@ -1,0 +1,72 @@
+-- What the judge keeps of the lines so far.
+use Rattle.std.specs.Prelude.{◌≡◌, ℕ, ◌+◌, List, [], ◌∷◌, ◌++◌, length, false, IsTrue, count_by, slice_index_or, Result, Ok, Err, Option, None, Some, if◌then◌else◌}
+use Rattle.pp_channel.specs.ChannelNumber.{channel_count, channel_index, names_channel}
+use Rattle.pp_check.specs.LawfulTrace.{IsLawfulTrace, channel_state, events_on, history, is_opened, last_turn}
+use Rattle.pp_check.specs.TraceFault.{IsFlaw, IsFlawOf}
+use Rattle.pp_check.specs.TraceLine.{inactive}
+use Rattle.pp_check.specs.Verdict.{begins_session, tells_event}
+use Rattle.pp_check.specs.declared.judge.Judge.{Judge}
+use Rattle.pp_check.specs.declared.standing.Standing.{Standing}
+use Rattle.pp_check.specs.declared.trace_fault.TraceFlaw.{TraceFlaw}
+use Rattle.pp_check.specs.declared.trace_line.TraceLine.{TraceLine}
+
+-- what is kept of channel c
+unfoldable pub standing : List ℕ → List TraceLine → ℕ → Standing
+standing opened lines c = record {
+  state = channel_state (history opened lines c);
+  events = length (events_on c lines);
+  is_opened = is_opened opened c;
+}
+
+-- of a channel of which nothing is told, and which was not opened
+abbrev pub new_standing : Standing
+new_standing = record { state = inactive; events = 0; is_opened = false }
+
+-- what is kept of channel c among all channels
+abbrev pub standing_of : List Standing → ℕ → Standing
+standing_of channels c = slice_index_or channels (channel_index c) new_standing
+
+-- the number of a channel's next event
+abbrev pub next_number : Standing → ℕ
+next_number s = if s.is_opened then s.events + 1 else s.events
+
+-- The lines so far are lawful; of each channel is kept how it stands; and events and sessions are
+-- counted.
+pub record KeepsEvents (opened : List ℕ) (lines : List TraceLine)
+    (standings : List Standing) (event_count session_count : ℕ) : Type 0 where
+  pub lawful : IsLawfulTrace opened lines
+  pub each_channel : length standings ≡ channel_count
+  pub channels : (c : ℕ) → IsTrue (names_channel c)
+      → standing_of standings c ≡ standing opened lines c
+  pub events : event_count ≡ count_by tells_event lines
+  pub sessions : session_count ≡ count_by begins_session lines
+
+-- all that the judge keeps of the lines so far
+pub record Keeps (opened : List ℕ) (lines : List TraceLine) (judge : Judge) : Type 0 where
+  pub kept : KeepsEvents opened lines judge.channels judge.events judge.sessions
+  pub last_turn : judge.last_turn ≡ last_turn lines
+
+-- it keeps the events of some lines
+abbrev pub KeepsSome : Judge → Type 0
+KeepsSome judge = (opened : List ℕ) × ((lines : List TraceLine)
+    × KeepsEvents opened lines judge.channels judge.events judge.sessions)
+
+-- what the event of a line that fits comes to: it is kept, or may not come
+abbrev pub Happens : List ℕ → List TraceLine → TraceLine → Judge
+    → Result (Unit {0}) TraceFlaw → Type 0
+Happens opened before line after (Ok done) =
+    KeepsEvents opened (before ++ line ∷ []) after.channels after.events after.sessions
+Happens opened before line after (Err flaw) = IsFlawOf opened before line flaw
+
+-- what judging a line behind others comes to: the judge keeps it too, or it has this flaw
+abbrev pub IsJudged : List ℕ → List TraceLine → TraceLine → Judge
+    → Result (Unit {0}) TraceFlaw → Type 0
+IsJudged opened before line after (Ok done) = Keeps opened (before ++ line ∷ []) after
+IsJudged opened before line after (Err flaw) = IsFlawOf opened before line flaw
+
+-- the same of a line by what it says, if it says anything
+abbrev pub IsRead : List ℕ → List TraceLine → Option TraceLine → Judge
+    → Result (Unit {0}) TraceFlaw → Type 0
+IsRead opened before None after (Ok done) = ⊥
+IsRead opened before None after (Err flaw) = IsFlaw opened before None flaw
+IsRead opened before (Some line) after done = IsJudged opened before line after done

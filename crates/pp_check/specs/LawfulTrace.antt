@@ -1,0 +1,84 @@
+-- Which traces are lawful, stated on all their lines.
+use Rattle.std.specs.Prelude.{◌≡◌, ℕ, ◌<◌, ◌==◌, Bool, List, [], ◌∷◌, ◌++◌, length, take, All, IsSome, IfSome, Option, None, Some, slice_index_or, if◌then◌else◌}
+use Rattle.std.specs.List.{filter_map, last_or, list_any}
+use Rattle.pp_channel.specs.Answer.{flags_of}
+use Rattle.pp_channel.specs.History.{IsLawful, waiting}
+use Rattle.pp_channel.specs.declared.event.Event.{Event}
+use Rattle.pp_channel.specs.declared.event.Event.TheVariants.{Activate}
+use Rattle.pp_deck.specs.DeckText.{Fields}
+use Rattle.pp_check.specs.TraceLine.{line_said}
+use Rattle.pp_check.specs.declared.channel_state.ChannelState.{ChannelState}
+use Rattle.pp_check.specs.declared.trace_line.TraceLine.{TraceLine}
+use Rattle.pp_check.specs.declared.trace_line.TraceLine.TheVariants.{AtTurn, Numbered, Standing, Other}
+
+-- how a channel with the history h stands
+abbrev pub channel_state : List Event → ChannelState
+channel_state h = record { flags = flags_of h; register = waiting h }
+
+-- ---- events
+
+-- the event that a line tells of channel c, if it tells one
+abbrev pub event_on : ℕ → TraceLine → Option Event
+event_on c (AtTurn turn channel e) = if channel == c then Some e else None
+event_on c (Numbered number channel e) = if channel == c then Some e else None
+event_on c (Standing channel state) = None
+event_on c Other = None
+
+-- the events that lines tell of channel c, in order
+unfoldable pub events_on : ℕ → List TraceLine → List Event
+events_on c lines = filter_map (event_on c) lines
+
+-- whether channel c is among those that were opened before the trace
+abbrev pub is_opened : List ℕ → ℕ → Bool
+is_opened opened c = list_any (λ d. d == c) opened
+
+-- what had happened on channel c before the first line: where it was opened an Activate, else
+-- nothing
+abbrev pub opening : List ℕ → ℕ → List Event
+opening opened c = if is_opened opened c then Activate ∷ [] else []
+
+-- the history of channel c after lines
+abbrev pub history : List ℕ → List TraceLine → ℕ → List Event
+history opened lines c = opening opened c ++ events_on c lines
+
+-- ---- turns
+
+abbrev pub turn_of : TraceLine → Option ℕ
+turn_of (AtTurn turn channel e) = Some turn
+turn_of (Numbered number channel e) = None
+turn_of (Standing channel state) = None
+turn_of Other = None
+
+-- the turns of lines, in order
+unfoldable pub turns : List TraceLine → List ℕ
+turns lines = filter_map turn_of lines
+
+-- the turn of the last line that has one
+unfoldable pub last_turn : List TraceLine → Option ℕ
+last_turn lines = last_or None (turns lines)
+
+-- ---- lawful traces
+
+-- A line fits those before it: its turn is greater than the last; its number counts the events of
+-- its channel before it; its channel stands as the events before it leave it.
+abbrev pub Fits : List ℕ → List TraceLine → TraceLine → Type 0
+Fits opened before (AtTurn turn c e) = IfSome (last_turn before) (λ last. last < turn)
+Fits opened before (Numbered number c e) = number ≡ length (history opened before c)
+Fits opened before (Standing c state) = state ≡ channel_state (history opened before c)
+Fits opened before Other = Unit {0}
+
+-- A trace is lawful where on each channel its events, in order, are a lawful history over the
+-- opening of the channel, and each line fits those before it.
+pub record IsLawfulTrace (opened : List ℕ) (lines : List TraceLine) : Type 0 where
+  pub histories : (c : ℕ) → IsLawful (history opened lines c)
+  pub each_fits : (k : ℕ) → k < length lines
+      → Fits opened (take k lines) (slice_index_or lines k Other)
+
+-- what lines of a text say, each by its fields
+unfoldable pub lines_said : List Fields → List TraceLine
+lines_said text = filter_map line_said text
+
+-- Lines of a text are a lawful trace: each says something, and what they say is lawful.
+pub record AreLawful (opened : List ℕ) (text : List Fields) : Type 0 where
+  pub said : All (λ line. IsSome (line_said line)) text
+  pub lawful : IsLawfulTrace opened (lines_said text)

@@ -1,0 +1,149 @@
+-- What a line of a trace says, by its fields: an event of the barrel, an event of threads, how a
+-- channel stands, or nothing that concerns channels. Turns and numbers of events are decimal, of
+-- at most 19 digits; processors, channels and words are octal.
+use Rattle.std.specs.Prelude.{ℕ, ◌+◌, ◌&&◌, Bool, true, false, List, [], ◌∷◌, length, take, drop, codes, nat_le, nat_lt, Option, None, Some, is_some, if◌then◌else◌}
+use Rattle.std.specs.List.{list_all}
+use Rattle.std.specs.Option.{option_map}
+use Rattle.std.specs.Str.{bytes_eq}
+use Rattle.pp_channel.specs.ChannelNumber.{names_channel}
+use Rattle.pp_channel.specs.declared.event.Event.{Event}
+use Rattle.pp_channel.specs.declared.event.Event.TheVariants.{Activate, Disconnect, Put, Take, Function}
+use Rattle.pp_deck.specs.DeckText.{Field, Fields}
+use Rattle.pp_machine.specs.ProcessorNumber.{names_processor}
+use Rattle.pp_text.specs.Numeral.{value_of}
+use Rattle.pp_check.specs.declared.channel_state.ChannelState.{ChannelState}
+use Rattle.pp_check.specs.declared.trace_line.TraceLine.{TraceLine}
+use Rattle.pp_check.specs.declared.trace_line.TraceLine.TheVariants.{AtTurn, Numbered, Standing, Other}
+
+infixl 10 ◌>>=◌
+-- one thing after another, from left to right
+abbrev pub ◌>>=◌ : {A B : Type 0} → Option A → (A → Option B) → Option B
+None >>= next = None
+(Some x) >>= next = next x
+
+-- ---- fields
+
+-- the characters of the digits of a base, from 48 (decimal) on
+abbrev pub is_digit : ℕ → ℕ → Bool
+is_digit base character = nat_le 48 character && nat_lt character (48 + base)
+
+-- the number that digits of a base spell: one digit at least, and this many at most
+unfoldable pub numeral : ℕ → ℕ → Field → Option ℕ
+numeral base most field =
+    if nat_le 1 (length field) && nat_le (length field) most && list_all (is_digit base) field
+    then Some (value_of base field) else None
+
+-- the number behind two letters, in at most two octal digits
+unfoldable pub number_behind : List ℕ → Field → Option ℕ
+number_behind letters field =
+    if bytes_eq (take 2 field) letters then numeral 8 2 (drop 2 field) else None
+
+-- whether a field is `PP00` or another processor's
+unfoldable pub is_processor : Field → Bool
+is_processor field = is_some (number_behind (codes "PP") field >>= λ n.
+    if names_processor n then Some n else None)
+
+-- the channel of a field as `CH05`
+unfoldable pub channel_in : Field → Option ℕ
+channel_in field = number_behind (codes "CH") field >>= λ c.
+    if names_channel c then Some c else None
+
+-- ---- the fields of a line, from left to right
+
+abbrev pub are_over : Fields → Bool
+are_over [] = true
+are_over (field ∷ fields) = false
+
+-- something that no field more may follow
+abbrev pub alone : {A : Type 0} → A → Fields → Option A
+alone x fields = if are_over fields then Some x else None
+
+-- one word, and no field more
+abbrev pub last_word : Fields → Option ℕ
+last_word [] = None
+last_word (field ∷ fields) = if are_over fields then numeral 8 4 field else None
+
+-- what follows a processor
+abbrev pub behind_processor : Fields → Option Fields
+behind_processor [] = None
+behind_processor (field ∷ fields) = if is_processor field then Some fields else None
+
+-- a channel, and what follows it
+abbrev pub behind_channel : Fields → Option (ℕ × Fields)
+behind_channel [] = None
+behind_channel (field ∷ fields) = channel_in field >>= λ c. Some (c, fields)
+
+-- `ACN`, `DCN`, `PUT 0007`, `TAK 0007`, `FNC 0007`
+unfoldable pub event_said : Fields → Option Event
+event_said [] = None
+event_said (name ∷ fields) =
+    if bytes_eq name (codes "ACN") then alone Activate fields
+    else if bytes_eq name (codes "DCN") then alone Disconnect fields
+    else if bytes_eq name (codes "PUT") then option_map (λ w. Put w) (last_word fields)
+    else if bytes_eq name (codes "TAK") then option_map (λ w. Take w) (last_word fields)
+    else if bytes_eq name (codes "FNC") then option_map (λ w. Function w) (last_word fields)
+    else None
+
+-- ---- how a channel stands
+
+abbrev pub inactive : ChannelState
+inactive = record { flags = record { active = false; full = false }; register = None }
+
+abbrev pub empty : ChannelState
+empty = record { flags = record { active = true; full = false }; register = None }
+
+abbrev pub full_with : ℕ → ChannelState
+full_with w = record { flags = record { active = true; full = true }; register = Some w }
+
+-- `EMPTY`, `FULL 0007`
+abbrev pub active_said : Fields → Option ChannelState
+active_said [] = None
+active_said (field ∷ fields) =
+    if bytes_eq field (codes "EMPTY") then alone empty fields
+    else if bytes_eq field (codes "FULL") then option_map full_with (last_word fields)
+    else None
+
+-- `INACTIVE`, `ACTIVE EMPTY`, `ACTIVE FULL 0007`
+unfoldable pub state_said : Field → Fields → Option ChannelState
+state_said field fields =
+    if bytes_eq field (codes "INACTIVE") then alone inactive fields
+    else if bytes_eq field (codes "ACTIVE") then active_said fields
+    else None
+
+-- ---- lines
+
+-- `000020 PP00 CH05 PUT 0007`: turn 20, processor 0, channel 5
+unfoldable pub turn_line : Field → Fields → Option TraceLine
+turn_line field fields = do
+  turn ← numeral 10 19 field
+  behind ← behind_processor fields
+  there ← behind_channel behind
+  event ← event_said there.1
+  Some (AtTurn turn there.0 event)
+
+-- `000001 PP00 PUT 0007` after `CH05`: event number 1 of channel 5
+unfoldable pub numbered_line : ℕ → ℕ → Fields → Option TraceLine
+numbered_line c number fields = do
+  behind ← behind_processor fields
+  event ← event_said behind
+  Some (Numbered number c event)
+
+-- what follows `CH05`: an event with its number, or how the channel stands
+abbrev pub channel_line_by : ℕ → Option ℕ → Field → Fields → Option TraceLine
+channel_line_by c (Some number) field fields = numbered_line c number fields
+channel_line_by c None field fields = option_map (λ s. Standing c s) (state_said field fields)
+
+unfoldable pub channel_line : ℕ → Fields → Option TraceLine
+channel_line c [] = None
+channel_line c (field ∷ fields) = channel_line_by c (numeral 10 19 field) field fields
+
+abbrev pub line_by : Bool → Option ℕ → Field → Fields → Option TraceLine
+line_by true channel field fields = Some Other
+line_by false (Some c) field fields = channel_line c fields
+line_by false None field fields = turn_line field fields
+
+-- What a line says, if it is one of a trace. A line without fields says nothing, and one that
+-- begins with a processor speaks of that processor alone.
+unfoldable pub line_said : Fields → Option TraceLine
+line_said [] = Some Other
+line_said (field ∷ fields) = line_by (is_processor field) (channel_in field) field fields

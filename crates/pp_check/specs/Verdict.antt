@@ -1,0 +1,51 @@
+-- What is counted in a lawful trace.
+use Rattle.std.specs.Prelude.{ℕ, ◌+◌, ◌&&◌, Bool, true, false, List, length, map, nat_lt, count_by}
+use Rattle.std.specs.List.{range_with_len}
+use Rattle.pp_channel.specs.ChannelNumber.{channel_count, channel_number}
+use Rattle.pp_channel.specs.declared.event.Event.{Event}
+use Rattle.pp_channel.specs.declared.event.Event.TheVariants.{Activate}
+use Rattle.pp_check.specs.LawfulTrace.{events_on, is_opened}
+use Rattle.pp_check.specs.declared.trace_line.TraceLine.{TraceLine}
+use Rattle.pp_check.specs.declared.trace_line.TraceLine.TheVariants.{AtTurn, Numbered, Standing, Other}
+use Rattle.pp_check.specs.declared.verdict.Verdict.{Verdict}
+
+abbrev pub tells_event : TraceLine → Bool
+tells_event (AtTurn turn c e) = true
+tells_event (Numbered number c e) = true
+tells_event (Standing c state) = false
+tells_event Other = false
+
+abbrev pub is_activate : Event → Bool
+is_activate Activate = true
+is_activate e = false
+
+-- whether a line tells that a session begins
+abbrev pub begins_session : TraceLine → Bool
+begins_session (AtTurn turn c e) = is_activate e
+begins_session (Numbered number c e) = is_activate e
+begins_session (Standing c state) = false
+begins_session Other = false
+
+-- whether lines tell events of channel c
+abbrev pub is_used : List TraceLine → ℕ → Bool
+is_used lines c = nat_lt 0 (length (events_on c lines))
+
+abbrev pub all_channels : List ℕ
+all_channels = map channel_number (range_with_len 0 channel_count)
+
+-- how many channels have events
+abbrev pub used_count : List TraceLine → ℕ
+used_count lines = count_by (is_used lines) all_channels
+
+-- how many of these had been opened before the trace
+abbrev pub opened_count : List ℕ → List TraceLine → ℕ
+opened_count opened lines = count_by (λ c. is_used lines c && is_opened opened c) all_channels
+
+-- the events; the channels that have events; and the sessions on these channels: those that an
+-- event of the trace begins, and those that had been opened before it
+abbrev pub verdict_of : List ℕ → List TraceLine → Verdict
+verdict_of opened lines = record {
+  events = count_by tells_event lines;
+  channels = used_count lines;
+  sessions = count_by begins_session lines + opened_count opened lines;
+}

@@ -1,0 +1,64 @@
+//! The check of a trace.
+
+ghost use Rattle.std.specs.Prelude.{ℕ, ◌≡◌, ◌+◌, ◌<◌, ◌≤◌, ◌↔◌, [], ◌∷◌, IfOk, IfErr, MatchOption, length, position, take};
+ghost use Rattle.pp_deck.specs.DeckText.{fields_of, is_line_feed, lines_of};
+ghost use Rattle.pp_check.specs.LawfulTrace.{AreLawful, lines_said};
+ghost use Rattle.pp_check.specs.TraceFault.{IsFault};
+ghost use Rattle.pp_check.specs.Verdict.{verdict_of};
+
+use crate::judge::Judge;
+use crate::trace_fault::TraceFault;
+use crate::verdict::Verdict;
+use pp_channel::ChannelNo;
+
+/// Whether the events of a trace are those of lawful histories: a text in the lines that `barrel`
+/// or `threads` print. `opened` are the channels that were open before the first line. A lawful
+/// trace is answered by what is counted in it; of any other the first line is named at which no
+/// lawful history is left. It takes no memory.
+pub fn check_trace(text: &[u8], opened: &[ChannelNo]) -> Result<Verdict, TraceFault>
+    ensures lawful { IfOk result (λ verdict. AreLawful opened.now (lines_of text.now)) }
+    ensures counted { IfOk result (λ verdict.
+        verdict ≡ verdict_of opened.now (lines_said (lines_of text.now))) }
+    ensures fault { IfErr result (λ fault. IsFault opened.now (lines_of text.now) fault) }
+    // The lines before it alone are lawful, and none that contain it.
+    ensures first { IfErr result (λ fault. (k : ℕ) → k ≤ length (lines_of text.now)
+        → AreLawful opened.now (take k (lines_of text.now)) ↔ (k < fault.line)) }
+{
+    let mut judge = Judge::new(opened);
+    let mut left = text;
+    let mut passed = 0;
+    'lines: loop {
+        let (line, rest) = first_line(left);
+        if let Err(flaw) = judge.read(line) {
+            return Err(TraceFault {
+                line: passed + 1,
+                flaw,
+            });
+        }
+        let Some(rest) = rest else {
+            return Ok(judge.verdict());
+        };
+        left = rest;
+        passed += 1;
+    }
+}
+
+/// The first line of a text, and what follows its line feed, if it has one.
+fn first_line(text: &[u8]) -> (&[u8], Option<&[u8]>)
+    ensures lines { MatchOption result.1 (lines_of text.now ≡ fields_of result.0.now ∷ [])
+        (λ rest. lines_of text.now ≡ fields_of result.0.now ∷ lines_of rest.now) }
+    ensures lengths { MatchOption result.1 (length result.0.now ≡ length text.now)
+        (λ rest. length result.0.now + length rest.now + 1 ≡ length text.now) }
+{
+    match first_line_feed(text) {
+        Some(end) => (&text[..end], Some(&text[end + 1..])),
+        None => (text, None),
+    }
+}
+
+/// Where the first line of a text ends.
+fn first_line_feed(text: &[u8]) -> Option<usize>
+    ensures { result ≡ position is_line_feed text.now }
+{
+    text.iter().position(|byte| *byte == b'\n')
+}

@@ -1,0 +1,160 @@
+//! The judge of a trace, line by line.
+
+ghost use Rattle.std.specs.Prelude.{◌≡◌, ◌∷◌, ◌++◌, ◌+◌, ◌*◌, ◌<◌, ◌≤◌, ◌^◌, [], ℕ, List, Some, IsTrue, IsErr, OnOk, length};
+ghost use Rattle.pp_channel.specs.ChannelNumber.{names_channel};
+ghost use Rattle.pp_deck.specs.DeckText.{fields_of};
+ghost use Rattle.pp_check.specs.Judge.{Happens, IsJudged, IsRead, Keeps, KeepsEvents, KeepsSome};
+ghost use Rattle.pp_check.specs.LawfulTrace.{Fits, event_on};
+ghost use Rattle.pp_check.specs.TraceLine.{line_said};
+ghost use Rattle.pp_check.specs.Verdict.{is_activate, verdict_of};
+ghost use Rattle.pp_check.specs.declared.trace_line.TraceLine.{TraceLine};
+
+use crate::standing::Standing;
+use crate::trace_fault::TraceFlaw;
+use crate::trace_line::{TraceLine, line_in};
+use crate::verdict::Verdict;
+use pp_channel::{CHANNELS, ChannelNo, Event};
+use pp_deck::Fields;
+
+/// What is kept of the lines so far: of each channel how it stands, the last turn, and how many
+/// events and sessions began. It takes no memory that grows.
+#[derive(Clone, Copy, Debug)]
+pub(crate) struct Judge {
+    pub(crate) channels: [Standing; CHANNELS],
+    pub(crate) last_turn: Option<u64>,
+    pub(crate) events: u64,
+    pub(crate) sessions: u64,
+}
+
+impl Judge {
+    /// No line is told yet, and these channels are open.
+    pub(crate) fn new(opened: &[ChannelNo]) -> Judge
+        ensures { Keeps opened.now [] result }
+    {
+        let mut channels = [Standing::NEW; CHANNELS];
+        for channel in opened {
+            channels[channel.index()] = Standing::OPENED;
+        }
+        Judge {
+            channels,
+            last_turn: None,
+            events: 0,
+            sessions: 0,
+        }
+    }
+
+    /// Reads one line more, and judges it.
+    pub(crate) fn read(&mut self, line: &[u8]) -> Result<(), TraceFlaw>
+        requires room { self.old.events < 2 ^ 63 }
+        requires kept { KeepsSome self.old }
+        ensures judged { (opened : List ℕ) (lines : List TraceLine) → Keeps opened lines self.old
+            → IsRead opened lines (line_said (fields_of line.now)) self.new result }
+        ensures room { OnOk result
+            (2 * self.new.events ≤ 2 * self.old.events + length line.now + 1) }
+        ensures no_empty_flaw { IsErr result → 0 < length line.now }
+    {
+        if line.is_empty() {
+            return Ok(());
+        }
+        let mut fields = Fields::of(line);
+        match line_in(&mut fields) {
+            Some(line) => self.judge(line),
+            None => Err(TraceFlaw::Malformed),
+        }
+    }
+
+    /// Judges one line more.
+    fn judge(&mut self, line: TraceLine) -> Result<(), TraceFlaw>
+        requires room { self.old.events < 2 ^ 63 }
+        requires kept { KeepsSome self.old }
+        ensures judged { (opened : List ℕ) (lines : List TraceLine) → Keeps opened lines self.old
+            → IsJudged opened lines line self.new result }
+        ensures room { OnOk result (self.new.events ≤ self.old.events + 1) }
+    {
+        match line {
+            TraceLine::AtTurn(turn, channel, event) => {
+                if let Some(last) = self.last_turn {
+                    if turn <= last {
+                        return Err(TraceFlaw::TurnNotRising(turn, last));
+                    }
+                }
+                self.last_turn = Some(turn);
+                self.happen(channel, event)
+            }
+            TraceLine::Numbered(number, channel, event) => {
+                let next = self.channels[channel.index()].next_number();
+                if number != next {
+                    return Err(TraceFlaw::WrongNumber(channel, number, next));
+                }
+                self.happen(channel, event)
+            }
+            TraceLine::Standing(channel, told) => {
+                let state = self.channels[channel.index()].state;
+                if told != state {
+                    return Err(TraceFlaw::WrongState(channel, told, state));
+                }
+                Ok(())
+            }
+            TraceLine::Other => Ok(()),
+        }
+    }
+
+    /// An event comes on a channel.
+    fn happen(&mut self, channel: ChannelNo, event: Event) -> Result<(), TraceFlaw>
+        requires room { self.old.events < 2 ^ 63 }
+        requires kept { KeepsSome self.old }
+        ensures happens { (opened : List ℕ) (lines : List TraceLine) (line : TraceLine)
+            → KeepsEvents opened lines self.old.channels self.old.events self.old.sessions
+            → Fits opened lines line
+            → event_on channel line ≡ Some event → Happens opened lines line self.new result }
+        ensures room { OnOk result (self.new.events ≤ self.old.events + 1) }
+        ensures turn { self.new.last_turn ≡ self.old.last_turn }
+    {
+        let place = channel.index();
+        let standing = self.channels[place];
+        let Some(state) = standing.state.after(&event) else {
+            return Err(TraceFlaw::UnlawfulEvent(channel, event, standing.state));
+        };
+        self.channels[place] = Standing {
+            state,
+            events: standing.events + 1,
+            is_opened: standing.is_opened,
+        };
+        self.events += 1;
+        if is_activate(&event) {
+            self.sessions += 1;
+        }
+        Ok(())
+    }
+
+    /// What was counted.
+    pub(crate) fn verdict(&self) -> Verdict
+        requires room { self.now.events ≤ 2 ^ 63 }
+        requires kept { KeepsSome self.now }
+        ensures { (opened : List ℕ) (lines : List TraceLine) → Keeps opened lines self.now
+            → result ≡ verdict_of opened lines }
+    {
+        let mut channels = 0;
+        let mut sessions = self.sessions;
+        for standing in &self.channels {
+            if standing.events > 0 {
+                channels += 1;
+                if standing.is_opened {
+                    sessions += 1;
+                }
+            }
+        }
+        Verdict {
+            events: self.events,
+            channels,
+            sessions,
+        }
+    }
+}
+
+/// Whether an event begins a session.
+fn is_activate(event: &Event) -> bool
+    ensures { result ≡ is_activate event.now }
+{
+    matches!(event, Event::Activate)
+}

@@ -1,0 +1,95 @@
+//! Laws of traces. These functions do nothing: their contracts say what is proved of the
+//! definitions.
+
+ghost use Rattle.std.specs.Prelude.{ℕ, ◌≡◌, ◌<◌, ◌≤◌, ◌↔◌, ◌^◌, Bool, IsTrue, List, Ok, length, take};
+ghost use Rattle.std.specs.List.Sorted.{IsStrictlyIncreasing};
+ghost use Rattle.pp_channel.specs.ChannelNumber.{names_channel};
+ghost use Rattle.pp_channel.specs.Law.{KeepsLaw};
+ghost use Rattle.pp_channel.specs.Merge.{history_on};
+ghost use Rattle.pp_deck.specs.DeckMeaning.{LoadedDeck, deck_meaning};
+ghost use Rattle.pp_deck.specs.DeckText.{Fields, lines_of};
+ghost use Rattle.pp_machine.specs.Headline.{events_on as trace_events_on};
+ghost use Rattle.pp_machine.specs.MachineState.{MachineState};
+ghost use Rattle.pp_machine.specs.Run.{run};
+ghost use Rattle.pp_machine.specs.declared.profile.Profile.{Profile};
+ghost use Rattle.pp_runner.specs.RunLimits.{RunLimits};
+ghost use Rattle.pp_runner.specs.declared.report.Report.{Report};
+ghost use Rattle.pp_text.specs.PrintedReport.{printed_report};
+ghost use Rattle.pp_text.specs.PrintedText.{printed};
+ghost use Rattle.pp_text.specs.TextLaw.{FitsItsText};
+ghost use Rattle.pp_check.specs.LawfulTrace.{AreLawful, IsLawfulTrace, events_on, history, lines_said, turns};
+ghost use Rattle.pp_check.specs.PrintedTrace.{AreOpenedBy, IsPrintable, IsPrintableReport};
+ghost use Rattle.pp_check.specs.TraceFault.{IsFault};
+ghost use Rattle.pp_check.specs.declared.trace_fault.TraceFault.{TraceFault};
+ghost use Rattle.pp_check.specs.declared.trace_line.TraceLine.{TraceLine};
+
+use pp_channel::session_law;
+use pp_deck::{deck_law, headline_law};
+use std::alloc::Allocator;
+
+/// The fault of a text is the first line at which no lawful history is left: the lines before it
+/// are lawful, and so are all fronts of these, and no lines that contain it are. A text has at most
+/// one fault, flaw and all, and a lawful text has none.
+pub fn fault_law()
+    ensures first { (opened : List ℕ) (text : List Fields) (fault : TraceFault)
+        → IsFault opened text fault → (k : ℕ) → k ≤ length text
+        → AreLawful opened (take k text) ↔ (k < fault.line) }
+    ensures one { (opened : List ℕ) (text : List Fields) (fault other : TraceFault)
+        → IsFault opened text fault → IsFault opened text other → fault ≡ other }
+    ensures none { (opened : List ℕ) (text : List Fields) (fault : TraceFault)
+        → IsFault opened text fault → ¬ AreLawful opened text }
+{}
+
+/// In a lawful trace turns rise from line to line, and on every channel the law of sessions holds:
+/// in every session the words taken are the first of the words put, all but at most one.
+pub fn trace_law()
+    ensures turns { (opened : List ℕ) (lines : List TraceLine) → IsLawfulTrace opened lines
+        → IsStrictlyIncreasing (turns lines) }
+    ensures sessions { (opened : List ℕ) (lines : List TraceLine) → IsLawfulTrace opened lines
+        → (c : ℕ) → KeepsLaw (history opened lines c) }
+{
+    session_law();
+}
+
+/// What the barrel prints is lawful: the text of a machine whose histories are those of its trace,
+/// and whose turns rise and have at most 19 decimal digits, where the channels said to be open are
+/// those that dead start opened. On each channel the events that are read are those of the trace.
+/// The histories are so after every run (`headline_law` of `pp_deck`), and a machine that is
+/// printed fits its text (`write_text`).
+pub fn printed_law()
+    ensures lawful { (named : List Bool) (m : MachineState) (opened : List ℕ)
+        → IsPrintable named m → AreOpenedBy m opened
+        → AreLawful opened (lines_of (printed named m)) }
+    ensures events { (named : List Bool) (m : MachineState) (opened : List ℕ)
+        → IsPrintable named m → AreOpenedBy m opened
+        → (c : ℕ) → events_on c (lines_said (lines_of (printed named m)))
+        ≡ trace_events_on c m.trace }
+{}
+
+/// What `barrel` prints is lawful, of every deck and after every list of fewer than 10^19 steps:
+/// the text of the machine, which fits it as each that is printed does (`write_text`), where the
+/// channels said to be open are those that dead start opened.
+pub fn barrel_law()
+    ensures { (profile : Profile) (text : List ℕ) (deck : LoadedDeck) (steps opened : List ℕ)
+        → deck_meaning profile text ≡ Ok deck → length steps < 10 ^ 19
+        → (let m = run steps deck.machine in FitsItsText deck.named m → AreOpenedBy m opened
+        → AreLawful opened (lines_of (printed deck.named m))) }
+{
+    deck_law();
+    headline_law();
+}
+
+/// What threads print is lawful: the text of a report of any run of a machine by threads that fits
+/// its text, as each that is printed does (`write_report`), where no number of an event has more
+/// than 19 decimal digits, and the channels said to be open are those that dead start opened. On
+/// each channel the events that are read, behind what was open, are the history that the run made.
+pub fn printed_report_law<A: Allocator>()
+    ensures lawful { (named : List Bool) (limits : RunLimits) (m : MachineState)
+        (report : Report A) (opened : List ℕ) → IsPrintableReport named limits m report → AreOpenedBy m opened
+        → AreLawful opened (lines_of (printed_report named report)) }
+    ensures histories { (named : List Bool) (limits : RunLimits) (m : MachineState)
+        (report : Report A) (opened : List ℕ) → IsPrintableReport named limits m report → AreOpenedBy m opened
+        → (c : ℕ) → IsTrue (names_channel c)
+        → history opened (lines_said (lines_of (printed_report named report))) c
+        ≡ history_on c report.channels }
+{}

@@ -1,0 +1,20 @@
+//! The judge of a channel trace, whoever made it: its events, line by line, are those of lawful
+//! histories, or the first line is named at which no lawful history is left.
+#![tactic(auto)]
+
+mod channel_state;
+mod check;
+mod judge;
+mod laws;
+mod numeral;
+mod standing;
+mod trace_fault;
+mod trace_line;
+mod unlawful;
+mod verdict;
+
+pub use channel_state::ChannelState;
+pub use check::check_trace;
+pub use laws::{barrel_law, fault_law, printed_law, printed_report_law, trace_law};
+pub use trace_fault::{TraceFault, TraceFlaw};
+pub use verdict::Verdict;

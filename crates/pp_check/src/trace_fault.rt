@@ -1,0 +1,37 @@
+//! Why a trace is not lawful.
+
+use crate::channel_state::ChannelState;
+use crate::unlawful::Unlawful;
+use pp_channel::{ChannelNo, Event};
+use thiserror::Error;
+
+/// What is wrong with a line of a trace. Printed, channels and words are octal, turns and numbers
+/// of events decimal.
+#[derive(Clone, Copy, Debug, PartialEq, Eq, Error)]
+pub enum TraceFlaw {
+    /// The line is none of a trace.
+    #[error("not a line of a trace")]
+    Malformed,
+    /// Its turn is not greater than the last one: the turn, and the last.
+    #[error("turn {} after turn {}", .0, .1)]
+    TurnNotRising(u64, u64),
+    /// Its number is not the next of the channel: the channel, the number, and the next.
+    #[error("number {} where {} is next", .1, .2)]
+    WrongNumber(ChannelNo, u64, u64),
+    /// The event may not come: the channel, the event, and how the channel stands before it.
+    #[error("{}", Unlawful(*.0, *.1, *.2))]
+    UnlawfulEvent(ChannelNo, Event, ChannelState),
+    /// The channel stands otherwise: the channel, how the line shows it, and how its events leave
+    /// it.
+    #[error("CH{:02o} {}, expected {}", .0.get(), .1, .2)]
+    WrongState(ChannelNo, ChannelState, ChannelState),
+}
+
+/// Why a trace is not lawful: the first line at which no lawful history is left, from 1 on
+/// (decimal), and what is wrong with it.
+#[derive(Clone, Copy, Debug, PartialEq, Eq, Error)]
+#[error("line {}: {}", .line, .flaw)]
+pub struct TraceFault {
+    pub line: u64,
+    pub flaw: TraceFlaw,
+}

@@ -1,0 +1,219 @@
+//! What a line of a trace says.
+
+ghost use Rattle.std.specs.Prelude.{◌≡◌, ◌∷◌, ◌<◌, ◌^◌, Some, None, IfSome, MatchOption, is_some, length, take, drop, codes, if◌then◌else◌};
+ghost use Rattle.std.specs.Str.{bytes_eq};
+ghost use Rattle.pp_check.specs.TraceLine.{active_said, are_over, behind_channel, behind_processor, channel_in, channel_line, event_said, is_processor, last_word, line_said, number_behind, numbered_line, state_said, turn_line};
+
+use crate::channel_state::ChannelState;
+use crate::numeral::numeral;
+use pp_channel::{ChannelNo, Event, Flags};
+use pp_deck::Fields;
+use pp_machine::PpNo;
+use pp_word::Word12;
+
+/// What one line of a trace says.
+#[derive(Clone, Copy, Debug, PartialEq, Eq)]
+pub(crate) enum TraceLine {
+    /// An event in a turn, on a channel.
+    AtTurn(u64, ChannelNo, Event),
+    /// An event of a channel with its number.
+    Numbered(u64, ChannelNo, Event),
+    /// How a channel stands.
+    Standing(ChannelNo, ChannelState),
+    /// Nothing that concerns channels.
+    Other,
+}
+
+/// The longest numbers of turns and events, in decimal digits.
+const COUNT_DIGITS: usize = 19;
+
+/// What a line with these fields says.
+#[tactic(auto, unfolding(crate::specs::TraceLine::line_said))]
+pub(crate) fn line_in(fields: &mut Fields) -> Option<TraceLine>
+    ensures { result ≡ line_said fields.old }
+{
+    let Some(field) = fields.next_field() else {
+        return Some(TraceLine::Other);
+    };
+    if is_processor(field) {
+        return Some(TraceLine::Other);
+    }
+    match channel_in(field) {
+        Some(channel) => channel_line(channel, fields),
+        None => turn_line(field, fields),
+    }
+}
+
+/// `000020 PP00 CH05 PUT 0007`, with its first field.
+#[tactic(auto, unfolding(crate::specs::TraceLine::turn_line))]
+fn turn_line(field: &[u8], fields: &mut Fields) -> Option<TraceLine>
+    ensures { result ≡ turn_line field.now fields.old }
+{
+    let turn = numeral(10, COUNT_DIGITS, field)?;
+    behind_processor(fields)?;
+    let channel = behind_channel(fields)?;
+    let event = event_in(fields)?;
+    Some(TraceLine::AtTurn(turn, channel, event))
+}
+
+/// What follows `CH05`.
+#[tactic(auto, unfolding(crate::specs::TraceLine::channel_line))]
+fn channel_line(channel: ChannelNo, fields: &mut Fields) -> Option<TraceLine>
+    ensures { result ≡ channel_line channel fields.old }
+{
+    let field = fields.next_field()?;
+    match numeral(10, COUNT_DIGITS, field) {
+        Some(number) => numbered_line(channel, number, fields),
+        None => Some(TraceLine::Standing(channel, state_in(field, fields)?)),
+    }
+}
+
+/// `000001 PP00 PUT 0007` after `CH05`, behind its number.
+#[tactic(auto, unfolding(crate::specs::TraceLine::numbered_line))]
+fn numbered_line(channel: ChannelNo, number: u64, fields: &mut Fields) -> Option<TraceLine>
+    ensures { result ≡ numbered_line channel number fields.old }
+{
+    behind_processor(fields)?;
+    let event = event_in(fields)?;
+    Some(TraceLine::Numbered(number, channel, event))
+}
+
+/// `ACN`, `DCN`, `PUT 0007`, `TAK 0007`, `FNC 0007`.
+#[tactic(auto, unfolding(crate::specs::TraceLine::event_said))]
+fn event_in(fields: &mut Fields) -> Option<Event>
+    ensures { result ≡ event_said fields.old }
+{
+    let name = fields.next_field()?;
+    if name == b"ACN".as_slice() {
+        if are_over(fields) {
+            Some(Event::Activate)
+        } else {
+            None
+        }
+    } else if name == b"DCN".as_slice() {
+        if are_over(fields) {
+            Some(Event::Disconnect)
+        } else {
+            None
+        }
+    } else if name == b"PUT".as_slice() {
+        Some(Event::Put(last_word(fields)?))
+    } else if name == b"TAK".as_slice() {
+        Some(Event::Take(last_word(fields)?))
+    } else if name == b"FNC".as_slice() {
+        Some(Event::Function(last_word(fields)?))
+    } else {
+        None
+    }
+}
+
+/// `INACTIVE`, `ACTIVE EMPTY`, `ACTIVE FULL 0007`, with its first field.
+#[tactic(auto, unfolding(crate::specs::TraceLine::state_said))]
+fn state_in(field: &[u8], fields: &mut Fields) -> Option<ChannelState>
+    ensures { result ≡ state_said field.now fields.old }
+{
+    if field == b"INACTIVE".as_slice() {
+        if are_over(fields) {
+            Some(ChannelState::INACTIVE)
+        } else {
+            None
+        }
+    } else if field == b"ACTIVE".as_slice() {
+        active_in(fields)
+    } else {
+        None
+    }
+}
+
+/// `EMPTY` and `FULL 0007` after `ACTIVE`.
+fn active_in(fields: &mut Fields) -> Option<ChannelState>
+    ensures { result ≡ active_said fields.old }
+{
+    let field = fields.next_field()?;
+    if field == b"EMPTY".as_slice() {
+        if are_over(fields) {
+            Some(ChannelState::EMPTY)
+        } else {
+            None
+        }
+    } else if field == b"FULL".as_slice() {
+        let word = last_word(fields)?;
+        Some(ChannelState {
+            flags: Flags {
+                active: true,
+                full: true,
+            },
+            register: Some(word),
+        })
+    } else {
+        None
+    }
+}
+
+/// Whether no field is left.
+fn are_over(fields: &mut Fields) -> bool
+    ensures { result ≡ are_over fields.old }
+{
+    fields.next_field().is_none()
+}
+
+/// The word of 12 bits that ends the line.
+#[tactic(auto, unfolding(crate::specs::TraceLine::numeral))]
+fn last_word(fields: &mut Fields) -> Option<Word12>
+    ensures { result ≡ last_word fields.old }
+{
+    let field = fields.next_field()?;
+    if !are_over(fields) {
+        return None;
+    }
+    let word = numeral(8, 4, field)?;
+    Some(Word12::truncated(word as u32))
+}
+
+/// Goes on behind a processor.
+fn behind_processor(fields: &mut Fields) -> Option<()>
+    ensures { MatchOption result (behind_processor fields.old ≡ None)
+        (λ _. behind_processor fields.old ≡ Some fields.new) }
+{
+    let field = fields.next_field()?;
+    if is_processor(field) { Some(()) } else { None }
+}
+
+/// The channel that comes next; goes on behind it.
+fn behind_channel(fields: &mut Fields) -> Option<ChannelNo>
+    ensures { MatchOption result (behind_channel fields.old ≡ None)
+        (λ c. behind_channel fields.old ≡ Some (c, fields.new)) }
+{
+    let field = fields.next_field()?;
+    channel_in(field)
+}
+
+/// Whether a field is `PP00` or another processor's.
+#[tactic(auto, unfolding(crate::specs::TraceLine::is_processor))]
+fn is_processor(field: &[u8]) -> bool
+    ensures { result ≡ is_processor field.now }
+{
+    match number_behind(b"PP".as_slice(), field) {
+        Some(number) => PpNo::new(number).is_some(),
+        None => false,
+    }
+}
+
+/// The channel of a field as `CH05`.
+#[tactic(auto, unfolding(crate::specs::TraceLine::channel_in))]
+fn channel_in(field: &[u8]) -> Option<ChannelNo>
+    ensures { result ≡ channel_in field.now }
+{
+    ChannelNo::new(number_behind(b"CH".as_slice(), field)?)
+}
+
+/// The number behind two letters, in at most two octal digits.
+#[tactic(auto, unfolding(crate::specs::TraceLine::number_behind))]
+fn number_behind(letters: &[u8], field: &[u8]) -> Option<u8>
+    requires { length letters.now ≡ 2 }
+    ensures { result ≡ number_behind letters.now field.now }
+{
+    let digits = field.strip_prefix(letters)?;
+    let number = numeral(8, 2, digits)?;
+    Some(number as u8)
+}

@@ -1,0 +1,49 @@
+//! Events that may not come, as they are reported.
+
+use crate::channel_state::ChannelState;
+use pp_channel::{ChannelNo, Event};
+use std::fmt::{self, Display, Formatter, Write};
+
+/// A channel, an event that may not come on it, and how the channel stands.
+#[derive(Clone, Copy, Debug)]
+pub(crate) struct Unlawful(
+    pub(crate) ChannelNo,
+    pub(crate) Event,
+    pub(crate) ChannelState,
+);
+
+impl Display for Unlawful {
+    fn fmt<W: Write>(&self, f: &mut Formatter<W>) -> fmt::Result {
+        let Unlawful(channel, event, state) = self;
+        write_event(f, event)?;
+        write!(f, " on CH{:02o}, ", channel.get())?;
+        match (event, state.register) {
+            (Event::Take(_), Some(word)) => write!(f, "expected TAK {:04o}", word.get()),
+            _ => write!(f, "which is {}", standing(event, state)),
+        }
+    }
+}
+
+/// `PUT 0007`.
+fn write_event<W: Write>(f: &mut Formatter<W>, event: &Event) -> fmt::Result {
+    match event {
+        Event::Activate => write!(f, "ACN"),
+        Event::Disconnect => write!(f, "DCN"),
+        Event::Put(word) => write!(f, "PUT {:04o}", word.get()),
+        Event::Take(word) => write!(f, "TAK {:04o}", word.get()),
+        Event::Function(word) => write!(f, "FNC {:04o}", word.get()),
+    }
+}
+
+/// What stands in the way of an event: words pass on an active channel, to an empty register and
+/// out of a full one.
+fn standing(event: &Event, state: &ChannelState) -> &'static str {
+    if !state.flags.active {
+        return "inactive";
+    }
+    match event {
+        Event::Put(_) | Event::Take(_) if state.flags.full => "full",
+        Event::Put(_) | Event::Take(_) => "empty",
+        _ => "active",
+    }
+}
