@@ -1,7 +1,8 @@
 -- What the line of a stretch tells, with an event more.
-use Rattle.std.proofs.Common.{◌≡◌, ℕ, ◌+◌, Bool, false, List, [], ◌∷◌, ◌++◌, length, Option, None, refl, sym, ap, ◌∙◌}
+use Rattle.std.proofs.Common.{◌≡◌, ℕ, ◌+◌, Bool, false, List, [], ◌∷◌, ◌++◌, length, Option, None, Some, refl, sym, ap, ◌∙◌}
 use Rattle.std.specs.Prelude.{fold}
 use Rattle.std.specs.List.{after_last, last_or}
+use Rattle.std.specs.Option.{option_map}
 use Rattle.std.proofs.lemmas.List.{append-nil, length-append, length_push, map-append}
 use Rattle.std.proofs.lemmas.List.Elements.{filter_map-append}
 use Rattle.pp_channel.specs.Session.{puts, takes, word_put, word_taken}
@@ -9,6 +10,7 @@ use Rattle.pp_channel.specs.declared.event.Event.{Event}
 use Rattle.pp_channel.specs.declared.event.Event.TheVariants.{Activate, Disconnect, Put, Take, Function}
 use Rattle.pp_channel.proofs.LastElements.{after_last-found, after_last-push, last_or-push}
 use Rattle.pp_sessions.specs.OpenStretch.{untaken_after}
+use Rattle.pp_sessions.specs.SessionsLaw.{TellsMoments}
 use Rattle.pp_sessions.specs.Stretches.{begins_session, ends_session, is_take, tally_of, untaken}
 use Rattle.pp_sessions.specs.TimedEvents.{events_in}
 use Rattle.pp_sessions.specs.declared.moment.TimedEvent.{TimedEvent}
@@ -79,3 +81,15 @@ pub tally_alone : (e : TimedEvent) (begins ended : Bool) (put taken : ℕ) (word
     → record { is_session = begins; has_ended = ended; from = e.moment; to = e.moment; events = 1; put = put; taken = taken; untaken = word } ≡ tally_of e []
 unfolding tally_of
 tally_alone e begins ended put taken word e1 e2 e3 e4 e5 = rw (e1, e2, e3, e4, e5) (ap (λ (o : Option ℕ). record { is_session = begins_session e.event; has_ended = ends_session e.event; from = e.moment; to = e.moment; events = 1; put = length (puts (e.event ∷ [])); taken = length (takes (e.event ∷ [])); untaken = o }) (sym (untaken_more [] e.event)))
+
+last_is : (first : TimedEvent) (others : List TimedEvent) → last_or (Some first) others ≡ Some (last_event first others)
+last_is first [] = refl
+last_is first (next ∷ others) = last_is next others
+
+-- the turns of a stretch are those of its first event and its last
+pub moments_told : (first : TimedEvent) (others : List TimedEvent) → TellsMoments first others (tally_of first others)
+unfolding tally_of
+moments_told first others = record {
+  from = refl;
+  to = ap (option_map (λ (e : TimedEvent). e.moment)) (sym (last_is first others));
+}

@@ -1,12 +1,13 @@
 -- What the lines of a channel tell: the sessions of its course, with the idle stretches between
 -- them.
-use Rattle.std.specs.Prelude.{◌≡◌, ℕ, ◌+◌, Bool, true, false, List, [], ◌∷◌, ◌++◌, length, map, if◌then◌else◌}
-use Rattle.std.specs.List.{flat_map}
-use Rattle.std.specs.Option.{option_to_list}
+use Rattle.std.specs.Prelude.{◌≡◌, ℕ, ◌+◌, Bool, true, false, List, [], ◌∷◌, ◌++◌, length, map, Some, if◌then◌else◌}
+use Rattle.std.specs.List.{flat_map, last_or}
+use Rattle.std.specs.Option.{option_map, option_to_list}
 use Rattle.pp_channel.specs.History.{Course, idle_stretch}
 use Rattle.pp_channel.specs.Session.{Session, body}
 use Rattle.pp_channel.specs.declared.event.Event.{Event}
 use Rattle.pp_channel.specs.declared.event.Event.TheVariants.{Disconnect}
+use Rattle.pp_sessions.specs.declared.moment.TimedEvent.{TimedEvent}
 use Rattle.pp_sessions.specs.declared.tally.Tally.{Tally}
 
 -- the events of a session, with the Disconnect that ended it if one did
@@ -36,6 +37,11 @@ pub record TellsSession (session : Session) (ended : Bool) (told : Tally) : Type
   pub put : told.put ≡ length session.passed + length (option_to_list session.lone)
   pub taken : told.taken ≡ length session.passed
   pub untaken : told.untaken ≡ session.lone
+
+-- the line of a stretch tells when its first event was, and when its last
+pub record TellsMoments (first : TimedEvent) (others : List TimedEvent) (told : Tally) : Type 0 where
+  pub from : told.from ≡ first.moment
+  pub to : Some told.to ≡ option_map (λ (e : TimedEvent). e.moment) (last_or (Some first) others)
 
 -- or it is an idle stretch of these function codes
 pub record TellsIdle (codes : List ℕ) (told : Tally) : Type 0 where

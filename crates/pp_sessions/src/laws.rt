@@ -8,7 +8,7 @@ ghost use Rattle.pp_channel.specs.History.{Course, events_of, idle_stretch};
 ghost use Rattle.pp_channel.specs.Session.{Session};
 ghost use Rattle.pp_machine.specs.Headline.{HoldsOnEachChannel};
 ghost use Rattle.pp_machine.specs.MachineState.{MachineState, history_of};
-ghost use Rattle.pp_sessions.specs.SessionsLaw.{TellsIdle, TellsSession, session_events, stretches_of};
+ghost use Rattle.pp_sessions.specs.SessionsLaw.{TellsIdle, TellsMoments, TellsSession, session_events, stretches_of};
 ghost use Rattle.pp_sessions.specs.SessionsText.{lines_from};
 ghost use Rattle.pp_sessions.specs.StepCounts.{step_counts};
 ghost use Rattle.pp_sessions.specs.Stretches.{is_session, stretches, tally_of};
@@ -22,7 +22,7 @@ pub fn course_law()
 
 /// The lines of a channel are about its whole history, and each about a session or an idle stretch
 /// of its course, in order; what is told of a session is whether it ended, how many words were put
-/// and taken in it, and its lone last word.
+/// and taken in it, its lone last word, and the turns of its first event and its last.
 pub fn sessions_law()
     ensures history { (c : ℕ) (m : MachineState) → IsTrue (names_channel c)
         → HoldsOnEachChannel m → events_in (timed_events c m) ≡ history_of c m }
@@ -38,6 +38,9 @@ pub fn sessions_law()
     ensures session { (session : Session) (ended : Bool) (first : TimedEvent)
         (others : List TimedEvent) → events_in (first ∷ others) ≡ session_events session ended
         → TellsSession session ended (tally_of first others) }
+    // Whatever the stretch is, the turns told of it are those of its first event and its last.
+    ensures moments { (first : TimedEvent) (others : List TimedEvent)
+        → TellsMoments first others (tally_of first others) }
     ensures idle { (codes : List ℕ) (first : TimedEvent) (others : List TimedEvent)
         → events_in (first ∷ others) ≡ idle_stretch codes
         → TellsIdle codes (tally_of first others) }

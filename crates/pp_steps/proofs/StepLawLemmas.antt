@@ -2,7 +2,7 @@
 use Rattle.std.proofs.Common.{◌≡◌, ◌≢◌, ℕ, ◌+◌, ◌⊎◌, inl, inr, suc, Bool, true, false, cond, List, [], ◌∷◌, ◌++◌, drop, refl, sym, ap, subst, ◌∙◌, arith}
 use Rattle.std.specs.Prelude.{replicate}
 use Rattle.std.specs.List.{filter, flat_map, prefix_len}
-use Rattle.std.proofs.lemmas.Bool.{cases_eq, eq-eqb, ne_eqb}
+use Rattle.std.proofs.lemmas.Bool.{cases_eq, eq-eqb, eqb-true, le-leb, ne_eqb}
 use Rattle.pp_channel.specs.declared.flags.Flags.{Flags}
 use Rattle.pp_machine.specs.MachineState.{MachineState}
 use Rattle.pp_machine.specs.Run.{run}
@@ -10,7 +10,8 @@ use Rattle.pp_machine.proofs.RunLemmas.{run-append}
 use Rattle.pp_steps.specs.BareMachine.{progress}
 use Rattle.pp_steps.specs.HeldRuns.{is_held_with, last_of, progress_along}
 use Rattle.pp_steps.specs.StepsLaw.{is_of, is_running, line_steps, steps_on}
-use Rattle.pp_steps.specs.StepsText.{line_kind, next_step, run_steps, steps_from}
+use Rattle.pp_text.specs.PrintedText.{is_named}
+use Rattle.pp_steps.specs.StepsText.{RunStep, is_shown, line_kind, next_step, run_steps, steps_from}
 use Rattle.pp_steps.specs.declared.line_kind.LineKind.TheVariants.{HeldSteps, NoLine}
 use Rattle.pp_steps.specs.declared.progress.Progress.{Progress}
 use Rattle.pp_steps.specs.declared.progress.Progress.TheVariants.{AtRest, Moved, Held}
@@ -138,3 +139,30 @@ steps_all_told n steps load =
     told_from n [] steps load
     ∙ ap (λ (ss : List Progress). steps_told (last_of ss) (progress_along n steps load)) (none_along n load)
     ∙ told_all AtRest (progress_along n steps load)
+
+-- ---- the lines that are shown
+
+-- a step of a named processor is shown where no turn is left out
+step_shown : (named : List Bool) (n : ℕ) (step : RunStep) → is_named named n ≡ true → is_of n step ≡ true → is_shown named 0 step ≡ true
+step_shown named n step names own = rw (eqb-true step.processor n own) (rw names (le-leb 0 step.before.turns (omega arith)))
+
+dropped : (n : ℕ) (step : RunStep) (rest : List RunStep) (b : Bool) → is_of n step ≡ false → filter (is_of n) (cond b (step ∷ rest) rest) ≡ filter (is_of n) rest
+dropped n step rest true other = rw other refl
+dropped n step rest false other = refl
+
+one_more : (named : List Bool) (n : ℕ) (step : RunStep) (steps : List RunStep) (b : Bool) → is_of n step ≡ b → is_named named n ≡ true
+    → filter (is_of n) (filter (is_shown named 0) steps) ≡ filter (is_of n) steps
+    → filter (is_of n) (filter (is_shown named 0) (step ∷ steps)) ≡ filter (is_of n) (step ∷ steps)
+one_more named n step steps true own names rest =
+    rw (step_shown named n step names own) (rw own (ap (λ (ss : List RunStep). step ∷ ss) rest))
+one_more named n step steps false other names rest =
+    dropped n step (filter (is_shown named 0) steps) (is_shown named 0 step) other ∙ rest ∙ rw other refl
+
+all_shown : (named : List Bool) (n : ℕ) (steps : List RunStep) → is_named named n ≡ true → filter (is_of n) (filter (is_shown named 0) steps) ≡ filter (is_of n) steps
+all_shown named n [] names = refl
+all_shown named n (step ∷ steps) names = one_more named n step steps (is_of n step) refl names (all_shown named n steps names)
+
+pub shown_all_told : (named : List Bool) (n : ℕ) (steps : List ℕ) (load : MachineState) → is_named named n ≡ true
+    → flat_map line_steps (filter (is_of n) (filter (is_shown named 0) (run_steps steps load))) ≡ filter is_running (progress_along n steps load)
+shown_all_told named n steps load names =
+    ap (flat_map line_steps) (all_shown named n (run_steps steps load) names) ∙ steps_all_told n steps load

@@ -2,6 +2,7 @@ use Rattle.pp_sessions.specs.Stretches.{are_parted}
 use Rattle.pp_sessions.proofs.CutLemmas.{cut_together}
 use Rattle.pp_sessions.proofs.HistoryLemmas.{timed_is_history}
 use Rattle.pp_sessions.proofs.StretchLawLemmas.{idle_told, numbered, session_told, stretches_are}
+use Rattle.pp_sessions.proofs.TallyLemmas.{moments_told}
 use Rattle.pp_sessions.proofs.laws.sessions_law.Goals as goal
 
 pub returns-clause-history : goal.returns-clause-history
@@ -21,3 +22,6 @@ returns-clause-session c = λ session ended first others are. session_told sessi
 
 pub returns-clause-idle : goal.returns-clause-idle
 returns-clause-idle c = λ codes first others are. idle_told codes first others are
+
+pub returns-clause-moments : goal.returns-clause-moments
+returns-clause-moments c = λ first others. moments_told first others
