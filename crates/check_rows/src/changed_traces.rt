@@ -1,5 +1,6 @@
 //! Lawful traces, and the same with one change: a word altered, an event dropped, doubled or moved.
 
+use crate::said::NONE;
 use crate::told::{Form, Stand, Told, after, first_unlawful, text_of};
 use pp_channel::Event;
 use pp_check::check_trace;
@@ -120,7 +121,7 @@ fn changed(alloc: Global, lines: &[Told], chance: &mut Chance) -> Result<Vec<Tol
 fn is_refused(rt: &impl Abort, alloc: Global, lines: &[Told], form: Form) -> Result<bool, Fail> {
     let text = text_of(alloc, lines, form)?;
     match (
-        check_trace(text.as_bytes(), &[]),
+        check_trace(text.as_bytes(), &NONE),
         first_unlawful(lines, form),
     ) {
         (Ok(verdict), None) => {

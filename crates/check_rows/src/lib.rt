@@ -5,8 +5,14 @@
 #[cfg(test)]
 mod changed_traces;
 #[cfg(test)]
+mod malformed_lines;
+#[cfg(test)]
 mod odd_traces;
 #[cfg(test)]
+mod open_channels;
+#[cfg(test)]
 mod printed_texts;
+#[cfg(test)]
+mod said;
 #[cfg(test)]
 mod told;

@@ -1,10 +1,7 @@
 //! Odd traces, each with its answer, worked out by hand.
 
-use pp_channel::ChannelNo;
-use pp_check::check_trace;
-use std::alloc::Global;
+use crate::said::{NONE, said_of};
 use std::test::Fail;
-use test_bench::channel;
 
 /// Traces before which no channel was open, and what is said of them.
 const ROWS: [(&str, &str); 44] = [
@@ -322,139 +319,11 @@ word
     ),
 ];
 
-/// Channels (octal) that were open before a trace, the trace, and what is said of it.
-const ON_OPENED: [(u8, &str, &str); 9] = [
-    (
-        0o5,
-        "\
-000010 PP00 CH05 PUT 0001
-000011 PP01 CH05 TAK 0001
-CH05 ACTIVE EMPTY
-",
-        "lawful: 2 events on 1 channels, 1 sessions",
-    ),
-    (
-        0o5,
-        "\
-000010 PP00 CH05 DCN
-000020 PP00 CH05 ACN
-000030 PP00 CH06 ACN
-",
-        "lawful: 3 events on 2 channels, 3 sessions",
-    ),
-    (
-        0o5,
-        "000000 PP00 CH05 ACN\n",
-        "line 1: ACN on CH05, which is active",
-    ),
-    (
-        0o5,
-        "000000 PP00 CH05 TAK 0000\n",
-        "line 1: TAK 0000 on CH05, which is empty",
-    ),
-    (
-        0o5,
-        "\
-CH05 000001 PP00 PUT 0007
-CH05 000002 PP01 TAK 0007
-",
-        "lawful: 2 events on 1 channels, 1 sessions",
-    ),
-    (
-        0o5,
-        "CH05 000000 PP00 PUT 0007\n",
-        "line 1: number 0 where 1 is next",
-    ),
-    (
-        0o20,
-        "CH20 ACTIVE EMPTY\n",
-        "lawful: 0 events on 0 channels, 0 sessions",
-    ),
-    (
-        0o20,
-        "CH20 INACTIVE\n",
-        "line 1: CH20 INACTIVE, expected ACTIVE EMPTY",
-    ),
-    (
-        0o5,
-        "000010 PP00 CH06 PUT 0001\n",
-        "line 1: PUT 0001 on CH06, which is inactive",
-    ),
-];
-
-/// Lines that are none of a trace.
-const MALFORMED: [&str; 37] = [
-    "000000 PP00 CH14 ACN",
-    "000000 PP00 CH34 ACN",
-    "000000 PP12 CH05 ACN",
-    "000000 PP00 CH05 PUT 00007",
-    "000000 PP00 CH05 PUT 0008",
-    "000000 PP00 CH05 PUT",
-    "000000 PP00 CH05 ACN 0007",
-    "000000 PP00 CH05 XYZ",
-    "000000 PP00 CH05 acn",
-    "000000 PP00 CH05",
-    "000000 PP00",
-    "000000",
-    "10000000000000000000 PP00 CH05 ACN",
-    "00000A PP00 CH05 ACN",
-    "-1 PP00 CH05 ACN",
-    "000000 CH05 PP00 ACN",
-    "000000 PP00 CH005 ACN",
-    "000000 PP00 CH05 * ACN",
-    "000000 PP00 CH05 PUT 0001 0002",
-    "000000PP00 CH05 ACN",
-    "CH05",
-    "CH05 ACTIVE",
-    "CH05 ACTIVE FULL",
-    "CH05 ACTIVE FULL 10000",
-    "CH05 EMPTY",
-    "CH05 INACTIVE 0000",
-    "CH05 ACTIVE EMPTY 0000",
-    "CH05 000000 ACN",
-    "CH05 000000 PP00",
-    "CH05 PP00 000000 ACN",
-    "CH 000000 PP00 ACN",
-    "CH5A 000000 PP00 ACN",
-    "PP",
-    "PP12 P=0103",
-    "P",
-    "000000 PP00 0100 7405       ACN 05        A=000000 CH05 ACN",
-    "é",
-];
-
-/// What is said of a trace.
-fn answer(alloc: Global, text: &str, opened: &[ChannelNo]) -> Result<String, Fail> {
-    Ok(match check_trace(text.as_bytes(), opened) {
-        Ok(verdict) => format!(in alloc; "{verdict}")?,
-        Err(fault) => format!(in alloc; "{fault}")?,
-    })
-}
-
 #[test]
 fn odd_traces(rt: HostRuntime) -> Result<(), Fail> {
     for (text, said) in &ROWS {
-        let answer = answer(rt.alloc(), text, &[])?;
+        let answer = said_of(rt.alloc(), text, &NONE)?;
         assert_eq!(rt; answer.as_str(), *said, "{text}");
-    }
-    Ok(())
-}
-
-#[test]
-fn traces_on_open_channels(rt: HostRuntime) -> Result<(), Fail> {
-    for (number, text, said) in &ON_OPENED {
-        let opened = [channel(0)?, channel(*number)?, channel(*number)?];
-        let answer = answer(rt.alloc(), text, &opened)?;
-        assert_eq!(rt; answer.as_str(), *said, "{text}");
-    }
-    Ok(())
-}
-
-#[test]
-fn lines_of_no_trace(rt: HostRuntime) -> Result<(), Fail> {
-    for line in &MALFORMED {
-        let answer = answer(rt.alloc(), line, &[])?;
-        assert_eq!(rt; answer.as_str(), "line 1: not a line of a trace", "{line}");
     }
     Ok(())
 }

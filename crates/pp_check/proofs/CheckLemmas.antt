@@ -1,5 +1,5 @@
 -- A text as far as it was read.
-use Rattle.std.proofs.Common.{◌≡◌, ℕ, ◌+◌, ◌-◌, ◌<◌, ◌≤◌, List, [], ◌∷◌, length, take, drop, get_or, Option, Some, None, Ok, Err, refl, sym, ap, ◌∙◌, subst, arith}
+use Rattle.std.proofs.Common.{◌≡◌, ℕ, ◌+◌, ◌-◌, ◌<◌, ◌≤◌, Bool, List, [], ◌∷◌, length, take, drop, get_or, Option, Some, None, Ok, Err, refl, sym, ap, ◌∙◌, subst, arith}
 use Rattle.std.specs.Prelude.{All, IsSome, MatchOption}
 use Rattle.std.specs.Borrow.{Bor}
 use Rattle.pp_deck.proofs.LinesLemmas.{next_line}
@@ -16,15 +16,15 @@ use Rattle.pp_check.specs.declared.trace_line.TraceLine.{TraceLine}
 use Rattle.pp_check.proofs.FaultLemmas.{Says, Text, said_more}
 
 -- the first k lines say something each, and the judge keeps what they say
-pub record HasRead (opened : List ℕ) (all : Text) (k : ℕ) (judge : Judge) : Type 0 where
+pub record HasRead (opened : List Bool) (all : Text) (k : ℕ) (judge : Judge) : Type 0 where
   pub said : All Says (take k all)
   pub keeps : Keeps opened (lines_said (take k all)) judge
 
-pub none_read : (opened : List ℕ) (all : Text) (judge : Judge) → Keeps opened [] judge → HasRead opened all 0 judge
+pub none_read : (opened : List Bool) (all : Text) (judge : Judge) → Keeps opened [] judge → HasRead opened all 0 judge
 unfolding lines_said
 none_read opened all judge keeps = record { said = All-nil Says; keeps = keeps }
 
-module _ (opened : List ℕ) (all : Text) (k : ℕ) (line : List (List ℕ)) (judge : Judge) (within : k < length all) (here : get_or all k [] ≡ line) where
+module _ (opened : List Bool) (all : Text) (k : ℕ) (line : List (List ℕ)) (judge : Judge) (within : k < length all) (here : get_or all k [] ≡ line) where
   read_by : (o : Option TraceLine) → line_said line ≡ o → All Says (take k all) → IsRead opened (lines_said (take k all)) o judge (Ok tt) → HasRead opened all (k + 1) judge
   read_by None is said read = absurd read
   read_by (Some l) is said read =
@@ -54,10 +54,10 @@ module _ (opened : List ℕ) (all : Text) (k : ℕ) (line : List (List ℕ)) (ju
       }
 
 -- all lines are read
-pub keeps_text : (opened : List ℕ) (all : Text) (k : ℕ) (judge : Judge) → length all ≤ k → HasRead opened all k judge → Keeps opened (lines_said all) judge
+pub keeps_text : (opened : List Bool) (all : Text) (k : ℕ) (judge : Judge) → length all ≤ k → HasRead opened all k judge → Keeps opened (lines_said all) judge
 keeps_text opened all k judge past has = subst (λ (text : Text). Keeps opened (lines_said text) judge) (take_all k all past) has.keeps
 
-pub lawful_text : (opened : List ℕ) (all : Text) (k : ℕ) (judge : Judge) → length all ≤ k → HasRead opened all k judge → AreLawful opened all
+pub lawful_text : (opened : List Bool) (all : Text) (k : ℕ) (judge : Judge) → length all ≤ k → HasRead opened all k judge → AreLawful opened all
 lawful_text opened all k judge past has =
     let whole = take_all k all past in
     subst (AreLawful opened) whole (record { said = has.said; lawful = has.keeps.kept.lawful })

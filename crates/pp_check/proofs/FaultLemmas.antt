@@ -1,5 +1,5 @@
 -- Texts whose lines are a lawful trace, and where they stop.
-use Rattle.std.proofs.Common.{◌≡◌, ℕ, ◌+◌, ◌-◌, ◌<◌, ◌≤◌, List, [], ◌∷◌, ◌++◌, length, take, drop, get_or, Option, Some, None, refl, sym, ap, ◌∙◌, subst, arith, inl, inr}
+use Rattle.std.proofs.Common.{◌≡◌, ℕ, ◌+◌, ◌-◌, ◌<◌, ◌≤◌, Bool, List, [], ◌∷◌, ◌++◌, length, take, drop, get_or, Option, Some, None, refl, sym, ap, ◌∙◌, subst, arith, inl, inr}
 use Rattle.std.specs.Prelude.{◌↔◌, All, IfSome, IsSome, option_to_list}
 use Rattle.std.specs.List.{filter_map}
 use Rattle.std.proofs.Math.Seq.{take-append_seam, take-take}
@@ -45,7 +45,7 @@ said_prefix : (text : Text) (n : ℕ) → take (length (lines_said (take n text)
 said_prefix text n =
     ap (take (length (lines_said (take n text)))) (said_split text n) ∙ take-append_seam (lines_said (take n text)) (lines_said (drop n text))
 
-pub are_lawful_prefix : (opened : List ℕ) (text : Text) (n : ℕ) → AreLawful opened text → AreLawful opened (take n text)
+pub are_lawful_prefix : (opened : List Bool) (text : Text) (n : ℕ) → AreLawful opened text → AreLawful opened (take n text)
 are_lawful_prefix opened text n lawful = record {
   said = All-take Says n text lawful.said;
   lawful = subst (IsLawfulTrace opened) (said_prefix text n) (lawful_prefix opened (lines_said text) (length (lines_said (take n text))) lawful.lawful);
@@ -54,7 +54,7 @@ are_lawful_prefix opened text n lawful = record {
 -- ---- a flaw
 
 -- a turn that is not greater than the last does not fit
-pub late_turn : (opened : List ℕ) (before : List TraceLine) (line : TraceLine) (turn last : ℕ) → turn_of line ≡ Some turn → last_turn before ≡ Some last → turn ≤ last → Fits opened before line → ⊥
+pub late_turn : (opened : List Bool) (before : List TraceLine) (line : TraceLine) (turn last : ℕ) → turn_of line ≡ Some turn → last_turn before ≡ Some last → turn ≤ last → Fits opened before line → ⊥
 late_turn opened before (AtTurn t c e) turn last is was late fits =
     let same : t ≡ turn = cc in
     let less : last < t = subst (λ (o : Option ℕ). IfSome o (λ l. l < t)) was fits in
@@ -64,7 +64,7 @@ late_turn opened before (Standing c state) turn last is was late fits = absurd c
 late_turn opened before Other turn last is was late fits = absurd cc
 
 -- lines with a flaw at their end are not lawful
-flawed : (opened : List ℕ) (before : List TraceLine) (line : TraceLine) (flaw : TraceFlaw) → IsFlawOf opened before line flaw → IsLawfulTrace opened (before ++ line ∷ []) → ⊥
+flawed : (opened : List Bool) (before : List TraceLine) (line : TraceLine) (flaw : TraceFlaw) → IsFlawOf opened before line flaw → IsLawfulTrace opened (before ++ line ∷ []) → ⊥
 flawed opened before line Malformed flaw lawful = flaw
 flawed opened before line (TurnNotRising turn last) flaw lawful = late_turn opened before line turn last flaw.0 flaw.1 flaw.2 (last_fits opened before line lawful)
 flawed opened before line (WrongNumber c number next) flaw lawful =
@@ -81,7 +81,7 @@ last_says : (text : Text) (line : List (List ℕ)) → All Says (text ++ line �
 last_says text line all =
     subst Says (get_or_push text line [] (length text) refl) (All-get_or Says (text ++ line ∷ []) (length text) [] (omega (arith, length_push text line)) all)
 
-flaw_stops_by : (opened : List ℕ) (text : Text) (k : ℕ) (flaw : TraceFlaw) (o : Option TraceLine) → line_said (get_or text k []) ≡ o → k < length text
+flaw_stops_by : (opened : List Bool) (text : Text) (k : ℕ) (flaw : TraceFlaw) (o : Option TraceLine) → line_said (get_or text k []) ≡ o → k < length text
     → IsFlaw opened (lines_said (take k text)) o flaw → AreLawful opened (take (k + 1) text) → ⊥
 flaw_stops_by opened text k flaw None is within flawed_so lawful =
     let all = subst (All Says) (take_more text k [] within) lawful.said in
@@ -91,17 +91,17 @@ flaw_stops_by opened text k flaw None is within flawed_so lawful =
 flaw_stops_by opened text k flaw (Some line) is within flawed_so lawful =
     flawed opened (lines_said (take k text)) line flaw flawed_so (subst (IsLawfulTrace opened) (said_more text k line within is) lawful.lawful)
 
-pub flaw_stops : (opened : List ℕ) (text : Text) (k : ℕ) (flaw : TraceFlaw) → k < length text → IsFlaw opened (lines_said (take k text)) (line_said (get_or text k [])) flaw → AreLawful opened (take (k + 1) text) → ⊥
+pub flaw_stops : (opened : List Bool) (text : Text) (k : ℕ) (flaw : TraceFlaw) → k < length text → IsFlaw opened (lines_said (take k text)) (line_said (get_or text k [])) flaw → AreLawful opened (take (k + 1) text) → ⊥
 flaw_stops opened text k flaw within flawed_so lawful =
     flaw_stops_by opened text k flaw (line_said (get_or text k [])) refl within flawed_so lawful
 
 -- ---- the first fault
 
-pub before_fault : (opened : List ℕ) (text : Text) (fault : TraceFault) → IsFault opened text fault → (k : ℕ) → k < fault.line → AreLawful opened (take k text)
+pub before_fault : (opened : List Bool) (text : Text) (fault : TraceFault) → IsFault opened text fault → (k : ℕ) → k < fault.line → AreLawful opened (take k text)
 before_fault opened text fault is k early =
     subst (AreLawful opened) (take-take k (fault.line - 1) text (omega (arith, early))) (are_lawful_prefix opened (take (fault.line - 1) text) k is.before)
 
-pub from_fault : (opened : List ℕ) (text : Text) (fault : TraceFault) → IsFault opened text fault → (k : ℕ) → fault.line ≤ k → AreLawful opened (take k text) → ⊥
+pub from_fault : (opened : List Bool) (text : Text) (fault : TraceFault) → IsFault opened text fault → (k : ℕ) → fault.line ≤ k → AreLawful opened (take k text) → ⊥
 from_fault opened text fault is k late lawful =
     let counted = is.counted in
     let within = is.within in
@@ -110,7 +110,7 @@ from_fault opened text fault is k late lawful =
     flaw_stops opened text (fault.line - 1) fault.flaw (omega (arith, counted, within)) is.flaw
     (subst (λ (n : ℕ). AreLawful opened (take n text)) (sym line) front)
 
-pub first_fault : (opened : List ℕ) (text : Text) (fault : TraceFault) → IsFault opened text fault → (k : ℕ) → AreLawful opened (take k text) ↔ (k < fault.line)
+pub first_fault : (opened : List Bool) (text : Text) (fault : TraceFault) → IsFault opened text fault → (k : ℕ) → AreLawful opened (take k text) ↔ (k < fault.line)
 first_fault opened text fault is k = (
   λ lawful. elim (cases_lt k fault.line) [ inl early ↦ early | inr late ↦ absurd (from_fault opened text fault is k late lawful) ],
   before_fault opened text fault is k,

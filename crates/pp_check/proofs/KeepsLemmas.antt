@@ -58,7 +58,7 @@ event_line c e says.Other is = absurd cc
 
 -- ---- a line without an event
 
-pub standing_same : (opened : List ℕ) (lines : List TraceLine) (line : TraceLine) (c : ℕ) → event_on c line ≡ None → standing opened (lines ++ line ∷ []) c ≡ standing opened lines c
+pub standing_same : (opened : List Bool) (lines : List TraceLine) (line : TraceLine) (c : ℕ) → event_on c line ≡ None → standing opened (lines ++ line ∷ []) c ≡ standing opened lines c
 unfolding standing
 standing_same opened lines line c none =
     ap (λ (h : List Event). record { state = channel_state h; events = length (events_on c (lines ++ line ∷ [])); is_opened = is_opened opened c }) (history_same opened lines line c none)
@@ -71,7 +71,7 @@ pub record TellsNone (line : TraceLine) : Type 0 where
   pub told : tells_event line ≡ false
   pub begins : begins_session line ≡ false
 
-pub keeps_without_event : (opened : List ℕ) (lines : List TraceLine) (judge : Judge) (line : TraceLine) → Keeps opened lines judge → Fits opened lines line → TellsNone line → Keeps opened (lines ++ line ∷ []) judge
+pub keeps_without_event : (opened : List Bool) (lines : List TraceLine) (judge : Judge) (line : TraceLine) → Keeps opened lines judge → Fits opened lines line → TellsNone line → Keeps opened (lines ++ line ∷ []) judge
 keeps_without_event opened lines judge line k fits none = record {
   kept = record {
     lawful = lawful_push opened lines line k.kept.lawful fits (λ c.
@@ -100,13 +100,13 @@ state_told channel state = record { event = λ c. refl; turn = refl; told = refl
 abbrev pub standing_after : Standing → ChannelState → Standing
 standing_after s state = record { state = state; events = s.events + 1; is_opened = s.is_opened }
 
-pub standing_more : (opened : List ℕ) (lines : List TraceLine) (line : TraceLine) (c : ℕ) (e : Event) → event_on c line ≡ Some e → standing opened (lines ++ line ∷ []) c ≡ standing_after (standing opened lines c) (channel_state (history opened lines c ++ e ∷ []))
+pub standing_more : (opened : List Bool) (lines : List TraceLine) (line : TraceLine) (c : ℕ) (e : Event) → event_on c line ≡ Some e → standing opened (lines ++ line ∷ []) c ≡ standing_after (standing opened lines c) (channel_state (history opened lines c ++ e ∷ []))
 unfolding standing
 standing_more opened lines line c e is =
     ap (λ (h : List Event). record { state = channel_state h; events = length (events_on c (lines ++ line ∷ [])); is_opened = is_opened opened c }) (history_more opened lines line c e is)
     ∙ ap (λ (n : ℕ). record { state = channel_state (history opened lines c ++ e ∷ []); events = n; is_opened = is_opened opened c }) (ap length (events_more c lines line e is) ∙ length_push (events_on c lines) e)
 
-module _ (opened : List ℕ) (lines : List TraceLine) (standings : List Standing) (line : TraceLine) (c : ℕ) (e : Event) (is : event_on c line ≡ Some e) (names : IsTrue (names_channel c)) (all : length standings ≡ channel_count) where
+module _ (opened : List Bool) (lines : List TraceLine) (standings : List Standing) (line : TraceLine) (c : ℕ) (e : Event) (is : event_on c line ≡ Some e) (names : IsTrue (names_channel c)) (all : length standings ≡ channel_count) where
   next : ChannelState → List Standing
   next state = slice_set standings (channel_index c) (standing_after (standing_of standings c) state)
 
@@ -157,7 +157,7 @@ length_opening true e es = length-append (e ∷ []) es ∙ swap (length es)
     swap n = omega arith
 length_opening false e es = refl
 
-pub next_number_is : (opened : List ℕ) (lines : List TraceLine) (c : ℕ) → next_number (standing opened lines c) ≡ length (history opened lines c)
+pub next_number_is : (opened : List Bool) (lines : List TraceLine) (c : ℕ) → next_number (standing opened lines c) ≡ length (history opened lines c)
 unfolding standing
 next_number_is opened lines c = sym (length_opening (is_opened opened c) Activate (events_on c lines))
 
@@ -184,7 +184,7 @@ some_events c (line ∷ lines) =
     let more = event_by_line c line (filter_map (event_on c) lines) (count_by tells_event lines) (some_events c lines) in
     subst (λ (n : ℕ). length (cons_option (event_on c line) (filter_map (event_on c) lines)) ≤ n) (sym (count_first tells_event line lines)) more
 
-pub few_events : (opened : List ℕ) (lines : List TraceLine) (judge : Judge) (c : ℕ) → KeepsEvents opened lines judge.channels judge.events judge.sessions → IsTrue (names_channel c) → (standing_of judge.channels c).events ≤ judge.events
+pub few_events : (opened : List Bool) (lines : List TraceLine) (judge : Judge) (c : ℕ) → KeepsEvents opened lines judge.channels judge.events judge.sessions → IsTrue (names_channel c) → (standing_of judge.channels c).events ≤ judge.events
 unfolding standing
 few_events opened lines judge c k names =
     let here = ap (λ (s : Standing). s.events) (k.channels c names) in
@@ -214,7 +214,7 @@ pub read_standing : (standings : List Standing) (c place : ℕ) (s : Standing) �
 read_standing standings c place s read at below all =
     sym read ∙ get_or_read standings place s (omega (arith, below, all)) read new_standing ∙ ap (λ (k : ℕ). get_or standings k new_standing) at
 
-pub kept_as : (opened : List ℕ) (lines : List TraceLine) (standings others : List Standing) (events m n : ℕ) → standings ≡ others → m ≡ n → KeepsEvents opened lines standings events m → KeepsEvents opened lines others events n
+pub kept_as : (opened : List Bool) (lines : List TraceLine) (standings others : List Standing) (events m n : ℕ) → standings ≡ others → m ≡ n → KeepsEvents opened lines standings events m → KeepsEvents opened lines others events n
 kept_as opened lines standings others events m n same also k =
     subst (λ (s : ℕ). KeepsEvents opened lines others events s) also (subst (λ (xs : List Standing). KeepsEvents opened lines xs events m) same k)
 
@@ -226,7 +226,7 @@ at_turn_here turn c e = ap (λ (b : Bool). if b then Some e else None) (eq-eqb c
 pub numbered_here : (number c : ℕ) (e : Event) → event_on c (says.Numbered number c e) ≡ Some e
 numbered_here number c e = ap (λ (b : Bool). if b then Some e else None) (eq-eqb c c refl)
 
-pub judged_by : (opened : List ℕ) (lines : List TraceLine) (line : TraceLine) (judge : Judge) (r : Result (Unit {0}) TraceFlaw) → judge.last_turn ≡ last_turn (lines ++ line ∷ []) → Happens opened lines line judge r → IsJudged opened lines line judge r
+pub judged_by : (opened : List Bool) (lines : List TraceLine) (line : TraceLine) (judge : Judge) (r : Result (Unit {0}) TraceFlaw) → judge.last_turn ≡ last_turn (lines ++ line ∷ []) → Happens opened lines line judge r → IsJudged opened lines line judge r
 judged_by opened lines line judge (Ok done) same k = record { kept = k; last_turn = same }
 judged_by opened lines line judge (Err flaw) same k = k
 

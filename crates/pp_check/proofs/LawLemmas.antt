@@ -1,5 +1,5 @@
 -- A text has one fault, and the turns of a lawful trace rise.
-use Rattle.std.proofs.Common.{◌≡◌, ℕ, zero, suc, ◌+◌, ◌-◌, ◌<◌, ◌≤◌, List, [], ◌∷◌, ◌++◌, length, take, get_or, Option, Some, None, refl, sym, ap, ◌∙◌, subst, arith, inl, inr, add-one}
+use Rattle.std.proofs.Common.{◌≡◌, ℕ, zero, suc, ◌+◌, ◌-◌, ◌<◌, ◌≤◌, Bool, List, [], ◌∷◌, ◌++◌, length, take, get_or, Option, Some, None, refl, sym, ap, ◌∙◌, subst, arith, inl, inr, add-one}
 use Rattle.std.specs.Prelude.{IfSome, slice_get}
 use Rattle.std.specs.List.{last_or}
 use Rattle.std.specs.List.Sorted.{IsStrictlyIncreasing}
@@ -33,7 +33,7 @@ one_channel c d e k line is also = elim (cases_eq d c) [
   | inr other ↦ let none = (event_line c e line is).elsewhere d other in absurd (cc)
 ]
 
-module _ (opened : List ℕ) (before : List TraceLine) (line : TraceLine) where
+module _ (opened : List Bool) (before : List TraceLine) (line : TraceLine) where
   abbrev Flawed : TraceFlaw → Type 0
   Flawed flaw = IsFlawOf opened before line flaw
 
@@ -109,17 +109,17 @@ module _ (opened : List ℕ) (before : List TraceLine) (line : TraceLine) where
   one_flaw_of (WrongState a b x) (UnlawfulEvent c d e) is also = absurd (event_state c d e a b x also is)
   one_flaw_of (WrongState a b x) (WrongState c d e) is also = same_state a b x c d e is also
 
-one_flaw : (opened : List ℕ) (before : List TraceLine) (o : Option TraceLine) (f g : TraceFlaw) → IsFlaw opened before o f → IsFlaw opened before o g → f ≡ g
+one_flaw : (opened : List Bool) (before : List TraceLine) (o : Option TraceLine) (f g : TraceFlaw) → IsFlaw opened before o f → IsFlaw opened before o g → f ≡ g
 one_flaw opened before None f g is also = is ∙ sym also
 one_flaw opened before (Some line) f g is also = one_flaw_of opened before line f g is also
 
 -- ---- one fault
 
-not_before : (opened : List ℕ) (text : Text) (fault other : TraceFault) → IsFault opened text fault → IsFault opened text other → fault.line < other.line → ⊥
+not_before : (opened : List Bool) (text : Text) (fault other : TraceFault) → IsFault opened text fault → IsFault opened text other → fault.line < other.line → ⊥
 not_before opened text fault other is also early =
     from_fault opened text fault is fault.line (omega arith) (before_fault opened text other also fault.line early)
 
-same_line : (opened : List ℕ) (text : Text) (fault other : TraceFault) → IsFault opened text fault → IsFault opened text other → fault.line ≡ other.line
+same_line : (opened : List Bool) (text : Text) (fault other : TraceFault) → IsFault opened text fault → IsFault opened text other → fault.line ≡ other.line
 same_line opened text fault other is also = elim (cases_lt fault.line other.line) [
   | inl early ↦ absurd (not_before opened text fault other is also early)
   | inr late ↦ elim (cases_lt other.line fault.line) [
@@ -128,18 +128,18 @@ same_line opened text fault other is also = elim (cases_lt fault.line other.line
   ]
 ]
 
-abbrev FlawAt : List ℕ → Text → TraceFlaw → ℕ → Type 0
+abbrev FlawAt : List Bool → Text → TraceFlaw → ℕ → Type 0
 FlawAt opened text flaw n =
     IsFlaw opened (lines_said (take (n - 1) text)) (line_said (get_or text (n - 1) [])) flaw
 
-pub one_fault : (opened : List ℕ) (text : Text) (fault other : TraceFault) → IsFault opened text fault → IsFault opened text other → fault ≡ other
+pub one_fault : (opened : List Bool) (text : Text) (fault other : TraceFault) → IsFault opened text fault → IsFault opened text other → fault ≡ other
 one_fault opened text fault other is also =
     let line = same_line opened text fault other is also in
     let there : FlawAt opened text fault.flaw other.line = subst (FlawAt opened text fault.flaw) line is.flaw in
     let flaw = one_flaw opened (lines_said (take (other.line - 1) text)) (line_said (get_or text (other.line - 1) [])) fault.flaw other.flaw there also.flaw in
     ap (λ (n : ℕ). record { line = n; flaw = fault.flaw }) line ∙ ap (λ (f : TraceFlaw). record { line = other.line; flaw = f }) flaw
 
-pub no_fault : (opened : List ℕ) (text : Text) (fault : TraceFault) → IsFault opened text fault → AreLawful opened text → ⊥
+pub no_fault : (opened : List Bool) (text : Text) (fault : TraceFault) → IsFault opened text fault → AreLawful opened text → ⊥
 no_fault opened text fault is lawful =
     from_fault opened text fault is (length text) is.within (subst (AreLawful opened) (sym (take_all (length text) text (omega arith))) lawful)
 
@@ -161,7 +161,7 @@ increasing_push xs t rise less = λ k within. elim (cases_lt (k + 1) (length xs)
       omega (arith, a, b, r)
 ]
 
-turns_step : (opened : List ℕ) (lines : List TraceLine) (line : TraceLine) → IsStrictlyIncreasing (turns lines) → Fits opened lines line → IsStrictlyIncreasing (turns (lines ++ line ∷ []))
+turns_step : (opened : List Bool) (lines : List TraceLine) (line : TraceLine) → IsStrictlyIncreasing (turns lines) → Fits opened lines line → IsStrictlyIncreasing (turns (lines ++ line ∷ []))
 unfolding last_turn
 turns_step opened lines (says.AtTurn turn c e) rise fits =
     subst IsStrictlyIncreasing (sym (turns_more lines (says.AtTurn turn c e) turn refl)) (increasing_push (turns lines) turn rise fits)
@@ -173,7 +173,7 @@ no_turns : IsStrictlyIncreasing (turns [])
 unfolding turns
 no_turns = λ k within. absurd (omega (arith, within))
 
-rise_to : (opened : List ℕ) (lines : List TraceLine) → IsLawfulTrace opened lines → (n : ℕ) → n ≤ length lines → IsStrictlyIncreasing (turns (take n lines))
+rise_to : (opened : List Bool) (lines : List TraceLine) → IsLawfulTrace opened lines → (n : ℕ) → n ≤ length lines → IsStrictlyIncreasing (turns (take n lines))
 rise_to opened lines lawful zero within = no_turns
 rise_to opened lines lawful (suc n) within =
     let less : n < length lines = omega (arith, within) in
@@ -181,6 +181,6 @@ rise_to opened lines lawful (suc n) within =
     subst (λ (some : List TraceLine). IsStrictlyIncreasing (turns some)) (sym more)
     (turns_step opened (take n lines) (get_or lines n says.Other) (rise_to opened lines lawful n (omega (arith, less))) (lawful.each_fits n less))
 
-pub turns_rise : (opened : List ℕ) (lines : List TraceLine) → IsLawfulTrace opened lines → IsStrictlyIncreasing (turns lines)
+pub turns_rise : (opened : List Bool) (lines : List TraceLine) → IsLawfulTrace opened lines → IsStrictlyIncreasing (turns lines)
 turns_rise opened lines lawful =
     subst (λ (some : List TraceLine). IsStrictlyIncreasing (turns some)) (take_all (length lines) lines (omega arith)) (rise_to opened lines lawful (length lines) (omega arith))

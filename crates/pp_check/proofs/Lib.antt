@@ -12,3 +12,4 @@ pub mod PrintedTextLemmas
 pub mod PrintedLawLemmas
 pub mod PrintedReportLemmas
 pub mod RisingTurnLemmas
+pub mod ChannelListLemmas

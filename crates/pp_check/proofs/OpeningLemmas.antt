@@ -1,11 +1,10 @@
 -- What the judge keeps before the first line.
-use Rattle.std.proofs.Common.{◌≡◌, ℕ, ◌==◌, Bool, true, false, List, [], ◌∷◌, ◌++◌, length, get_or, replicate, None, refl, sym, ap, ◌∙◌, subst, arith, inl, inr}
-use Rattle.std.specs.Prelude.{◌||◌, IsTrue, slice_set, if◌then◌else◌}
-use Rattle.std.proofs.lemmas.Bool.{cases_eq, eq-eqb, ne_eqb}
-use Rattle.std.proofs.lemmas.List.Folds.{list_any-append}
+use Rattle.std.proofs.Common.{◌≡◌, ℕ, ◌+◌, ◌<◌, ◌≤◌, Bool, true, false, List, [], ◌∷◌, ◌++◌, length, get_or, replicate, None, refl, sym, ap, ◌∙◌, subst, arith, inl, inr}
+use Rattle.std.specs.Prelude.{◌&&◌, IsTrue, nat_lt, slice_set, if◌then◌else◌}
+use Rattle.std.proofs.lemmas.Bool.{cases_eq, cases_lt, le-ltb, lt-ltb}
 use Rattle.std.proofs.lemmas.List.{append-nil, get_or-replicate, get_or-set_other, get_or-set_same}
 use Rattle.pp_channel.proofs.AnswerLemmas.{lawful_with_event}
-use Rattle.pp_channel.proofs.ChannelPlaces.{one_place, place_below}
+use Rattle.pp_channel.proofs.ChannelPlaces.{place_below}
 use Rattle.pp_channel.proofs.HistoryLemmas.{lawful_empty}
 use Rattle.pp_channel.specs.ChannelNumber.{channel_count, channel_index, names_channel}
 use Rattle.pp_channel.specs.History.{IsLawful}
@@ -24,38 +23,62 @@ opened_standing = record { state = empty; events = 0; is_opened = true }
 abbrev pub standing_by : Bool → Standing
 standing_by is_open = if is_open then opened_standing else new_standing
 
--- the standing of each channel at which these are open
-abbrev pub AreOpened : List ℕ → List Standing → Type 0
-AreOpened opened standings = (c : ℕ) → IsTrue (names_channel c) → standing_of standings c ≡ standing_by (is_opened opened c)
+-- the standings of the first n places at which these channels are open; behind them nothing is told
+abbrev pub AreOpenedTo : ℕ → List Bool → List Standing → Type 0
+AreOpenedTo n opened standings = (k : ℕ) → k < channel_count → get_or standings k new_standing ≡ standing_by (nat_lt k n && get_or opened k false)
+
+and_false : (b : Bool) → (b && false) ≡ false
+and_false true = refl
+and_false false = refl
+
+-- a place other than the next is among the first n + 1 where it is among the first n
+not_next : (k n : ℕ) → (k ≡ n → ⊥) → nat_lt k n ≡ nat_lt k (n + 1)
+not_next k n other = elim (cases_lt k n) [
+  | inl below ↦ lt-ltb k n below ∙ sym (lt-ltb k (n + 1) (omega (arith, below)))
+  | inr least ↦ le-ltb k n least ∙ sym (le-ltb k (n + 1) (past k n least other))
+]
+  where
+    past : (k n : ℕ) → n ≤ k → (k ≡ n → ⊥) → n + 1 ≤ k
+    past k n least other = elim (cases_lt n k) [
+      | inl more ↦ omega (arith, more)
+      | inr most ↦ absurd (other (omega (arith, least, most)))
+    ]
 
 -- ---- no channel, and one channel more
 
-pub none_opened : (c : ℕ) → IsTrue (names_channel c) → get_or (replicate channel_count new_standing) (channel_index c) new_standing ≡ new_standing
-none_opened c names = get_or-replicate channel_count (channel_index c) new_standing new_standing (place_below c names)
+pub none_opened : (opened : List Bool) → AreOpenedTo 0 opened (replicate channel_count new_standing)
+none_opened opened k below =
+    get_or-replicate channel_count k new_standing new_standing below
+    ∙ ap (λ (b : Bool). standing_by (b && get_or opened k false)) (sym (le-ltb k 0 (omega arith)))
 
-or_true : (b : Bool) → (b || true) ≡ true
-or_true true = refl
-or_true false = refl
-
-or_false : (b : Bool) → (b || false) ≡ b
-or_false true = refl
-or_false false = refl
-
-opened_more : (opened : List ℕ) (d c : ℕ) → is_opened (opened ++ d ∷ []) c ≡ (is_opened opened c || (d == c))
-opened_more opened d c =
-    list_any-append (λ k. k == c) opened (d ∷ []) ∙ ap (λ (b : Bool). is_opened opened c || b) (or_false (d == c))
-
-pub are_opened_more : (opened : List ℕ) (standings : List Standing) (d : ℕ) → AreOpened opened standings → IsTrue (names_channel d) → length standings ≡ channel_count → AreOpened (opened ++ d ∷ []) (slice_set standings (channel_index d) opened_standing)
-are_opened_more opened standings d are names all = λ c named. elim (cases_eq c d) [
+-- the next place is open
+pub opened_more : (opened : List Bool) (standings : List Standing) (n : ℕ) → AreOpenedTo n opened standings → length standings ≡ channel_count → n < channel_count → get_or opened n false ≡ true → AreOpenedTo (n + 1) opened (slice_set standings n opened_standing)
+opened_more opened standings n are all within is_open = λ k below. elim (cases_eq k n) [
   | inl same ↦
-      ap (λ (k : ℕ). standing_of (slice_set standings (channel_index d) opened_standing) k) same
-      ∙ get_or-set_same standings (channel_index d) opened_standing new_standing (omega (arith, all, place_below d names))
-      ∙ ap standing_by (sym (opened_more opened d c ∙ ap (λ (b : Bool). is_opened opened c || b) (eq-eqb d c (sym same)) ∙ or_true (is_opened opened c)))
+      ap (λ (i : ℕ). get_or (slice_set standings n opened_standing) i new_standing) same
+      ∙ get_or-set_same standings n opened_standing new_standing (omega (arith, all))
+      ∙ ap standing_by (sym (ap (λ (b : Bool). b && get_or opened k false) (lt-ltb k (n + 1) (omega (arith, same))) ∙ ap (λ (i : ℕ). get_or opened i false) same ∙ is_open))
   | inr other ↦
-      get_or-set_other standings (channel_index d) (channel_index c) opened_standing new_standing (λ same_place. other (one_place d c names same_place))
-      ∙ are c named
-      ∙ ap standing_by (sym (opened_more opened d c ∙ ap (λ (b : Bool). is_opened opened c || b) (ne_eqb d c (λ same. other (sym same))) ∙ or_false (is_opened opened c)))
+      get_or-set_other standings n k opened_standing new_standing (λ there. other there)
+      ∙ are k below
+      ∙ ap (λ (b : Bool). standing_by (b && get_or opened k false)) (not_next k n other)
 ]
+
+-- the next place is not
+pub opened_same : (opened : List Bool) (standings : List Standing) (n : ℕ) → AreOpenedTo n opened standings → get_or opened n false ≡ false → AreOpenedTo (n + 1) opened standings
+opened_same opened standings n are shut = λ k below. elim (cases_eq k n) [
+  | inl same ↦
+      are k below
+      ∙ ap standing_by (ap (λ (b : Bool). nat_lt k n && b) (ap (λ (i : ℕ). get_or opened i false) same ∙ shut) ∙ and_false (nat_lt k n)
+      ∙ sym (ap (λ (b : Bool). nat_lt k (n + 1) && b) (ap (λ (i : ℕ). get_or opened i false) same ∙ shut) ∙ and_false (nat_lt k (n + 1))))
+  | inr other ↦ are k below ∙ ap (λ (b : Bool). standing_by (b && get_or opened k false)) (not_next k n other)
+]
+
+-- all places
+pub all_opened : (n : ℕ) (opened : List Bool) (standings : List Standing) → channel_count ≤ n → AreOpenedTo n opened standings → (c : ℕ) → IsTrue (names_channel c) → standing_of standings c ≡ standing_by (is_opened opened c)
+all_opened n opened standings past are c names =
+    are (channel_index c) (place_below c names)
+    ∙ ap (λ (b : Bool). standing_by (b && is_opened opened c)) (lt-ltb (channel_index c) n (omega (arith, past, place_below c names)))
 
 -- ---- before the first line
 
@@ -63,7 +86,7 @@ no_events : (c : ℕ) → events_on c [] ≡ []
 unfolding events_on
 no_events c = refl
 
-first_history : (opened : List ℕ) (c : ℕ) → history opened [] c ≡ opening opened c
+first_history : (opened : List Bool) (c : ℕ) → history opened [] c ≡ opening opened c
 first_history opened c = ap (λ (es : List Event). opening opened c ++ es) (no_events c) ∙ append-nil (opening opened c)
 
 lawful_activate : IsLawful (Activate ∷ [])
@@ -73,7 +96,7 @@ pub lawful_opening : (b : Bool) → IsLawful (if b then Activate ∷ [] else [])
 lawful_opening true = lawful_activate
 lawful_opening false = lawful_empty
 
-standing_is : (opened : List ℕ) (c : ℕ) → standing_by (is_opened opened c) ≡ standing opened [] c
+standing_is : (opened : List Bool) (c : ℕ) → standing_by (is_opened opened c) ≡ standing opened [] c
 unfolding standing events_on
 standing_is opened c = by_test (is_opened opened c)
   where
@@ -81,7 +104,7 @@ standing_is opened c = by_test (is_opened opened c)
     by_test true = refl
     by_test false = refl
 
-pub lawful_start : (opened : List ℕ) → IsLawfulTrace opened []
+pub lawful_start : (opened : List Bool) → IsLawfulTrace opened []
 lawful_start opened = record {
   histories = λ c. let P : List Event → Type 0 = λ h. IsLawful h in subst P (sym (first_history opened c)) (lawful_opening (is_opened opened c));
   each_fits = λ k less. absurd (omega (arith, less));
@@ -91,12 +114,12 @@ no_turn : last_turn [] ≡ None
 unfolding last_turn turns
 no_turn = refl
 
-pub keeps_opening : (opened : List ℕ) (standings : List Standing) → length standings ≡ channel_count → AreOpened opened standings → Keeps opened [] (record { channels = standings; last_turn = None; events = 0; sessions = 0 })
-keeps_opening opened standings all are = record {
+pub keeps_opening : (n : ℕ) (opened : List Bool) (standings : List Standing) → channel_count ≤ n → length standings ≡ channel_count → AreOpenedTo n opened standings → Keeps opened [] (record { channels = standings; last_turn = None; events = 0; sessions = 0 })
+keeps_opening n opened standings past all are = record {
   kept = record {
     lawful = lawful_start opened;
     each_channel = all;
-    channels = λ c names. are c names ∙ standing_is opened c;
+    channels = λ c names. all_opened n opened standings past are c names ∙ standing_is opened c;
     events = refl;
     sessions = refl;
   };

@@ -54,7 +54,7 @@ none_elsewhere c (e ∷ trace) unnamed told =
     named_twice : (d c : ℕ) → d ≡ c → IsTrue (names_channel d) → names_channel c ≡ false → ⊥
     named_twice d c same names unnamed = let both : true ≡ false = sym names ∙ ap names_channel same ∙ unnamed in cc
 
-lawful_by_name : (named : List Bool) (m : MachineState) (opened : List ℕ) → IsPrintable named m → AreOpenedBy m opened → (c : ℕ) (b : Bool) → names_channel c ≡ b → IsLawful (history opened (map at_turn m.trace) c)
+lawful_by_name : (named : List Bool) (m : MachineState) (opened : List Bool) → IsPrintable named m → AreOpenedBy m opened → (c : ℕ) (b : Bool) → names_channel c ≡ b → IsLawful (history opened (map at_turn m.trace) c)
 lawful_by_name named m opened is opens c true names =
     let channel = is.headline c names in
     let same : history opened (map at_turn m.trace) c ≡ history_of c m =
@@ -96,7 +96,7 @@ turns_front : (trace : List Trace) (k : ℕ) → last_turn (take k (map at_turn 
 unfolding last_turn
 turns_front trace k = ap (last_or None) (front_turns trace k)
 
-fits_by_turn : (opened : List ℕ) (before : List TraceLine) (line : TraceLine) (turn : ℕ) → turn_of line ≡ Some turn → IfSome (last_turn before) (λ last. last < turn) → Fits opened before line
+fits_by_turn : (opened : List Bool) (before : List TraceLine) (line : TraceLine) (turn : ℕ) → turn_of line ≡ Some turn → IfSome (last_turn before) (λ last. last < turn) → Fits opened before line
 fits_by_turn opened before (AtTurn t c e) turn is less =
     let same : turn ≡ t = cc in
     subst (λ (n : ℕ). IfSome (last_turn before) (λ last. last < n)) same less
@@ -108,7 +108,7 @@ as_many : (trace : List Trace) → length (map at_turn trace) ≡ length (map (�
 as_many [] = refl
 as_many (e ∷ trace) = omega (arith, as_many trace)
 
-lawful_events : (named : List Bool) (m : MachineState) (opened : List ℕ) → IsPrintable named m → AreOpenedBy m opened → IsLawfulTrace opened (map at_turn m.trace)
+lawful_events : (named : List Bool) (m : MachineState) (opened : List Bool) → IsPrintable named m → AreOpenedBy m opened → IsLawfulTrace opened (map at_turn m.trace)
 lawful_events named m opened is opens = record {
   histories = λ c. lawful_by_name named m opened is opens c (names_channel c) refl;
   each_fits = λ k within.
@@ -120,35 +120,35 @@ lawful_events named m opened is opens = record {
 -- ---- the lines behind the events
 
 -- a line that shows how a channel stands after lines, or nothing
-abbrev pub Shows : List ℕ → List TraceLine → TraceLine → Type 0
+abbrev pub Shows : List Bool → List TraceLine → TraceLine → Type 0
 Shows opened lines (Standing c state) = state ≡ channel_state (history opened lines c)
 Shows opened lines Other = Unit {0}
 Shows opened lines (AtTurn turn c e) = ⊥
 Shows opened lines (Numbered number c e) = ⊥
 
-shows_none : (opened : List ℕ) (lines : List TraceLine) (line : TraceLine) → Shows opened lines line → TellsNone line
+shows_none : (opened : List Bool) (lines : List TraceLine) (line : TraceLine) → Shows opened lines line → TellsNone line
 shows_none opened lines (Standing c state) shows = state_told c state
 shows_none opened lines Other shows = nothing_told
 shows_none opened lines (AtTurn turn c e) shows = absurd shows
 shows_none opened lines (Numbered number c e) shows = absurd shows
 
-shows_fit : (opened : List ℕ) (lines : List TraceLine) (line : TraceLine) → Shows opened lines line → Fits opened lines line
+shows_fit : (opened : List Bool) (lines : List TraceLine) (line : TraceLine) → Shows opened lines line → Fits opened lines line
 shows_fit opened lines (Standing c state) shows = shows
 shows_fit opened lines Other shows = tt
 shows_fit opened lines (AtTurn turn c e) shows = absurd shows
 shows_fit opened lines (Numbered number c e) shows = absurd shows
 
-shows_still : (opened : List ℕ) (lines : List TraceLine) (line x : TraceLine) → TellsNone line → Shows opened lines x → Shows opened (lines ++ line ∷ []) x
+shows_still : (opened : List Bool) (lines : List TraceLine) (line x : TraceLine) → TellsNone line → Shows opened lines x → Shows opened (lines ++ line ∷ []) x
 shows_still opened lines line (Standing c state) none shows = shows ∙ ap channel_state (sym (history_same opened lines line c (none.event c)))
 shows_still opened lines line Other none shows = tt
 shows_still opened lines line (AtTurn turn c e) none shows = shows
 shows_still opened lines line (Numbered number c e) none shows = shows
 
-all_still : (opened : List ℕ) (lines : List TraceLine) (line : TraceLine) (more : List TraceLine) → TellsNone line → AllByRecursion (Shows opened lines) more → AllByRecursion (Shows opened (lines ++ line ∷ [])) more
+all_still : (opened : List Bool) (lines : List TraceLine) (line : TraceLine) (more : List TraceLine) → TellsNone line → AllByRecursion (Shows opened lines) more → AllByRecursion (Shows opened (lines ++ line ∷ [])) more
 all_still opened lines line [] none all = all
 all_still opened lines line (x ∷ more) none all = (shows_still opened lines line x none all.0, all_still opened lines line more none all.1)
 
-pub lawful_shown : (opened : List ℕ) (lines more : List TraceLine) → IsLawfulTrace opened lines → AllByRecursion (Shows opened lines) more → IsLawfulTrace opened (lines ++ more)
+pub lawful_shown : (opened : List Bool) (lines more : List TraceLine) → IsLawfulTrace opened lines → AllByRecursion (Shows opened lines) more → IsLawfulTrace opened (lines ++ more)
 lawful_shown opened lines [] lawful all = subst (IsLawfulTrace opened) (sym (append-nil lines)) lawful
 lawful_shown opened lines (x ∷ more) lawful all =
     let none = shows_none opened lines x all.0 in
@@ -179,16 +179,16 @@ shown_by_state h s fits =
 shown_is : (h : List Event) → IsLawful h → shown_state (active h) (waiting h) ≡ channel_state h
 shown_is h lawful = let s = state_at h lawful in shown_by_state h s.0 s.2
 
-pub all_both : (opened : List ℕ) (lines xs ys : List TraceLine) → AllByRecursion (Shows opened lines) xs → AllByRecursion (Shows opened lines) ys → AllByRecursion (Shows opened lines) (xs ++ ys)
+pub all_both : (opened : List Bool) (lines xs ys : List TraceLine) → AllByRecursion (Shows opened lines) xs → AllByRecursion (Shows opened lines) ys → AllByRecursion (Shows opened lines) (xs ++ ys)
 all_both opened lines [] ys first second = second
 all_both opened lines (x ∷ xs) ys first second = (first.0, all_both opened lines xs ys first.1 second)
 
-pub all_below : (opened : List ℕ) (lines : List TraceLine) (k : ℕ) (f : ℕ → List TraceLine) → ((n : ℕ) → AllByRecursion (Shows opened lines) (f n)) → AllByRecursion (Shows opened lines) (lines_below k f)
+pub all_below : (opened : List Bool) (lines : List TraceLine) (k : ℕ) (f : ℕ → List TraceLine) → ((n : ℕ) → AllByRecursion (Shows opened lines) (f n)) → AllByRecursion (Shows opened lines) (lines_below k f)
 unfolding lines_below
 all_below opened lines zero f each = tt
 all_below opened lines (suc k) f each = all_both opened lines (lines_below k f) (f k) (all_below opened lines k f each) (each k)
 
-processors_show : (opened : List ℕ) (lines : List TraceLine) (named : List Bool) (n : ℕ) → AllByRecursion (Shows opened lines) (processor_lines named n)
+processors_show : (opened : List Bool) (lines : List TraceLine) (named : List Bool) (n : ℕ) → AllByRecursion (Shows opened lines) (processor_lines named n)
 unfolding processor_lines
 processors_show opened lines named n = by_test (is_named named n)
   where
@@ -196,12 +196,12 @@ processors_show opened lines named n = by_test (is_named named n)
     by_test true = (tt, tt)
     by_test false = tt
 
-pub history_shows : (opened : List ℕ) (lines : List TraceLine) (c : ℕ) (h : List Event) → history opened lines c ≡ h → IsLawful h → AllByRecursion (Shows opened lines) (state_lines c h)
+pub history_shows : (opened : List Bool) (lines : List TraceLine) (c : ℕ) (h : List Event) → history opened lines c ≡ h → IsLawful h → AllByRecursion (Shows opened lines) (state_lines c h)
 unfolding state_lines
 history_shows opened lines c [] same lawful = tt
 history_shows opened lines c (e ∷ h) same lawful = (shown_is (e ∷ h) lawful ∙ ap channel_state (sym same), tt)
 
-channels_show : (named : List Bool) (m : MachineState) (opened : List ℕ) → IsPrintable named m → AreOpenedBy m opened → (c : ℕ) → AllByRecursion (Shows opened (map at_turn m.trace)) (channel_lines m.histories c)
+channels_show : (named : List Bool) (m : MachineState) (opened : List Bool) → IsPrintable named m → AreOpenedBy m opened → (c : ℕ) → AllByRecursion (Shows opened (map at_turn m.trace)) (channel_lines m.histories c)
 unfolding channel_lines
 channels_show named m opened is opens c = by_name (names_channel c) refl
   where
@@ -222,7 +222,7 @@ shown_lines : List Bool → MachineState → List TraceLine
 shown_lines named m =
     lines_below 0o100 (processor_lines named) ++ (lines_below 0o100 (channel_lines m.histories) ++ Other ∷ [])
 
-all_shown : (named : List Bool) (m : MachineState) (opened : List ℕ) → IsPrintable named m → AreOpenedBy m opened → AllByRecursion (Shows opened (map at_turn m.trace)) (shown_lines named m)
+all_shown : (named : List Bool) (m : MachineState) (opened : List Bool) → IsPrintable named m → AreOpenedBy m opened → AllByRecursion (Shows opened (map at_turn m.trace)) (shown_lines named m)
 unfolding shown_lines
 all_shown named m opened is opens =
     let events = map at_turn m.trace in
@@ -236,7 +236,7 @@ unfolding said_lines shown_lines
 text_says named m is =
     said_is (lines_of (printed named m)) (said_lines named m ++ Other ∷ []) (whole_text named m is) ∙ simp append_assoc
 
-pub printed_lawful : (named : List Bool) (m : MachineState) (opened : List ℕ) → IsPrintable named m → AreOpenedBy m opened → AreLawful opened (lines_of (printed named m))
+pub printed_lawful : (named : List Bool) (m : MachineState) (opened : List Bool) → IsPrintable named m → AreOpenedBy m opened → AreLawful opened (lines_of (printed named m))
 printed_lawful named m opened is opens = record {
   said = all_said (lines_of (printed named m)) (said_lines named m ++ Other ∷ []) (whole_text named m is);
   lawful = subst (IsLawfulTrace opened) (sym (text_says named m is)) (lawful_shown opened (map at_turn m.trace) (shown_lines named m) (lawful_events named m opened is opens) (all_shown named m opened is opens));
@@ -246,13 +246,13 @@ pub events_both : (c : ℕ) (xs ys : List TraceLine) → events_on c (xs ++ ys) 
 unfolding events_on
 events_both c xs ys = filter_map-append (event_on c) xs ys
 
-pub none_shown : (opened : List ℕ) (lines more : List TraceLine) (c : ℕ) → AllByRecursion (Shows opened lines) more → events_on c more ≡ []
+pub none_shown : (opened : List Bool) (lines more : List TraceLine) (c : ℕ) → AllByRecursion (Shows opened lines) more → events_on c more ≡ []
 unfolding events_on
 none_shown opened lines [] c all = refl
 none_shown opened lines (x ∷ more) c all =
     ap (λ (o : Option Event). cons_option o (filter_map (event_on c) more)) ((shows_none opened lines x all.0).event c) ∙ none_shown opened lines more c all.1
 
-pub printed_events : (named : List Bool) (m : MachineState) (opened : List ℕ) → IsPrintable named m → AreOpenedBy m opened → (c : ℕ) → events_on c (lines_said (lines_of (printed named m))) ≡ headline.events_on c m.trace
+pub printed_events : (named : List Bool) (m : MachineState) (opened : List Bool) → IsPrintable named m → AreOpenedBy m opened → (c : ℕ) → events_on c (lines_said (lines_of (printed named m))) ≡ headline.events_on c m.trace
 printed_events named m opened is opens c =
     ap (events_on c) (text_says named m is)
     ∙ events_both c (map at_turn m.trace) (shown_lines named m)

@@ -94,7 +94,7 @@ all_told workers c k (e ∷ es) authors =
     ∙ ap (λ (lines : List TraceLine). Numbered k c e ∷ lines) (all_told workers c (k + 1) es (λ n le lt. authors n (omega (arith, le)) (omega (arith, lt))))
 
 -- all events but the opening are told
-module _ {Z : Type 0} (opened : List ℕ) (openings : ℕ → List Event) (histories : List (List Event)) (workers : List (Worker Z)) (merged : Merges openings histories (logs_of workers)) (c : ℕ) (alike : openings c ≡ opening opened c) where
+module _ {Z : Type 0} (opened : List Bool) (openings : ℕ → List Event) (histories : List (List Event)) (workers : List (Worker Z)) (merged : Merges openings histories (logs_of workers)) (c : ℕ) (alike : openings c ≡ opening opened c) where
   authors_of : (k : ℕ) (es : List Event) → k ≡ length (opening opened c) → length (history_on c histories) ≡ k + length es → (n : ℕ) → k ≤ n → n < k + length es → author_place c workers n ≡ None → ⊥
   authors_of k es at long n le lt none =
       let early = (only_openings openings histories workers merged c n (omega (arith, long, lt))).0 none in
@@ -136,7 +136,7 @@ block_here c k [] = refl
 block_here c k (e ∷ es) =
     ap (λ (o : Option Event). cons_option o (filter_map (event_on c) (numbered c (k + 1) es))) (numbered_here k c e) ∙ ap (λ (more : List Event). e ∷ more) (block_here c (k + 1) es)
 
-lawful_block : (opened : List ℕ) (lines : List TraceLine) (c k : ℕ) (h es : List Event) → IsLawfulTrace opened lines → history opened lines c ≡ h → k ≡ length h → IsLawful (h ++ es) → IsLawfulTrace opened (lines ++ numbered c k es)
+lawful_block : (opened : List Bool) (lines : List TraceLine) (c k : ℕ) (h es : List Event) → IsLawfulTrace opened lines → history opened lines c ≡ h → k ≡ length h → IsLawful (h ++ es) → IsLawfulTrace opened (lines ++ numbered c k es)
 unfolding numbered
 lawful_block opened lines c k h [] lawful same at more = subst (IsLawfulTrace opened) (sym (append-nil lines)) lawful
 lawful_block opened lines c k h (e ∷ es) lawful same at more =
@@ -153,7 +153,7 @@ lawful_block opened lines c k h (e ∷ es) lawful same at more =
 
 -- ---- one channel after another
 
-module _ (opened : List ℕ) (histories : List (List Event)) where
+module _ (opened : List Bool) (histories : List (List Event)) where
   -- lines that tell the histories of all channels below a number, and nothing else
   pub record Tell (n : ℕ) (lines : List TraceLine) : Type 0 where
     pub lawful : IsLawfulTrace opened lines
@@ -228,7 +228,7 @@ text_reads text lines reads =
     ∙ sym (map_both lines (Other ∷ []))
 
 -- a report over what was open before, with what the lines of its text want
-pub record StandsOver {Z : Type 0} (named : List Bool) (report : Report Z) (opened : List ℕ) : Type 0 where
+pub record StandsOver {Z : Type 0} (named : List Bool) (report : Report Z) (opened : List Bool) : Type 0 where
   pub openings : ℕ → List Event
   pub opened_alike : (c : ℕ) → IsTrue (names_channel c) → openings c ≡ opening opened c
   pub merged : Merges openings report.channels (logs_of report.ends.items)
@@ -236,7 +236,7 @@ pub record StandsOver {Z : Type 0} (named : List Bool) (report : Report Z) (open
   pub fits : FitsItsReport named report
   pub few_events : (c : ℕ) → IsTrue (names_channel c) → length (history_on c report.channels) < 10 ^ 19
 
-module _ {Z : Type 0} (named : List Bool) (report : Report Z) (opened : List ℕ) (is : StandsOver named report opened) where
+module _ {Z : Type 0} (named : List Bool) (report : Report Z) (opened : List Bool) (is : StandsOver named report opened) where
   event_lines : ℕ → List TraceLine
   event_lines c =
       if names_channel c then told_from report.ends.items c 0 (history_on c report.channels) else []
@@ -322,7 +322,7 @@ module _ {Z : Type 0} (named : List Bool) (report : Report Z) (opened : List ℕ
 
 -- ---- a report of a run
 
-pub stands_over : {Z : Type 0} (named : List Bool) (limits : RunLimits) (m : MachineState) (report : Report Z) (opened : List ℕ) → IsPrintableReport named limits m report → AreOpenedBy m opened → StandsOver named report opened
+pub stands_over : {Z : Type 0} (named : List Bool) (limits : RunLimits) (m : MachineState) (report : Report Z) (opened : List Bool) → IsPrintableReport named limits m report → AreOpenedBy m opened → StandsOver named report opened
 stands_over named limits m report opened is opens = record {
   openings = λ c. opening_history c m;
   opened_alike = λ c names. ap (λ (b : Bool). if b then Activate ∷ [] else []) (sym (opens c names));

@@ -1,5 +1,5 @@
 -- Lawful traces, one line more and one line less.
-use Rattle.std.proofs.Common.{◌≡◌, ℕ, ◌<◌, List, [], ◌∷◌, ◌++◌, length, take, drop, get_or, Option, Some, None, refl, sym, ap, ◌∙◌, subst, arith, inl, inr, append_assoc}
+use Rattle.std.proofs.Common.{◌≡◌, ℕ, ◌<◌, Bool, List, [], ◌∷◌, ◌++◌, length, take, drop, get_or, Option, Some, None, refl, sym, ap, ◌∙◌, subst, arith, inl, inr, append_assoc}
 use Rattle.std.specs.Prelude.{option_to_list}
 use Rattle.std.specs.List.{filter_map, last_or}
 use Rattle.std.proofs.Math.Seq.{take-append_seam, take-take}
@@ -27,11 +27,11 @@ events_more c lines line e is = events_push c lines line ∙ ap (λ (o : Option 
 pub events_same : (c : ℕ) (lines : List TraceLine) (line : TraceLine) → event_on c line ≡ None → events_on c (lines ++ line ∷ []) ≡ events_on c lines
 events_same c lines line is = events_push c lines line ∙ ap (λ (o : Option Event). events_on c lines ++ option_to_list o) is ∙ append-nil (events_on c lines)
 
-pub history_more : (opened : List ℕ) (lines : List TraceLine) (line : TraceLine) (c : ℕ) (e : Event) → event_on c line ≡ Some e → history opened (lines ++ line ∷ []) c ≡ history opened lines c ++ e ∷ []
+pub history_more : (opened : List Bool) (lines : List TraceLine) (line : TraceLine) (c : ℕ) (e : Event) → event_on c line ≡ Some e → history opened (lines ++ line ∷ []) c ≡ history opened lines c ++ e ∷ []
 history_more opened lines line c e is =
     ap (λ (es : List Event). opening opened c ++ es) (events_more c lines line e is) ∙ sym (append_assoc (opening opened c) (events_on c lines) (e ∷ []))
 
-pub history_same : (opened : List ℕ) (lines : List TraceLine) (line : TraceLine) (c : ℕ) → event_on c line ≡ None → history opened (lines ++ line ∷ []) c ≡ history opened lines c
+pub history_same : (opened : List Bool) (lines : List TraceLine) (line : TraceLine) (c : ℕ) → event_on c line ≡ None → history opened (lines ++ line ∷ []) c ≡ history opened lines c
 history_same opened lines line c is = ap (λ (es : List Event). opening opened c ++ es) (events_same c lines line is)
 
 pub turns_more : (lines : List TraceLine) (line : TraceLine) (turn : ℕ) → turn_of line ≡ Some turn → turns (lines ++ line ∷ []) ≡ turns lines ++ turn ∷ []
@@ -54,24 +54,24 @@ last_turn_same lines line is = ap (last_or None) (turns_same lines line is)
 
 -- ---- one line more
 
-abbrev FitsAt : List ℕ → List TraceLine → ℕ → Type 0
+abbrev FitsAt : List Bool → List TraceLine → ℕ → Type 0
 FitsAt opened lines k = Fits opened (take k lines) (get_or lines k Other)
 
-fits_before : (opened : List ℕ) (lines : List TraceLine) (line : TraceLine) (k : ℕ) → k < length lines → FitsAt opened lines k → FitsAt opened (lines ++ line ∷ []) k
+fits_before : (opened : List Bool) (lines : List TraceLine) (line : TraceLine) (k : ℕ) → k < length lines → FitsAt opened lines k → FitsAt opened (lines ++ line ∷ []) k
 fits_before opened lines line k less fits =
     let front : take k (lines ++ line ∷ []) ≡ take k lines = take-append-le k lines (line ∷ []) (omega arith) in
     let here : get_or (lines ++ line ∷ []) k Other ≡ get_or lines k Other = get_or_append_left lines (line ∷ []) Other k less in
     subst (λ (x : TraceLine). Fits opened (take k (lines ++ line ∷ [])) x) (sym here)
     (subst (λ (before : List TraceLine). Fits opened before (get_or lines k Other)) (sym front) fits)
 
-fits_last : (opened : List ℕ) (lines : List TraceLine) (line : TraceLine) (k : ℕ) → k ≡ length lines → Fits opened lines line → FitsAt opened (lines ++ line ∷ []) k
+fits_last : (opened : List Bool) (lines : List TraceLine) (line : TraceLine) (k : ℕ) → k ≡ length lines → Fits opened lines line → FitsAt opened (lines ++ line ∷ []) k
 fits_last opened lines line k last fits =
     let front : take k (lines ++ line ∷ []) ≡ lines = ap (λ (n : ℕ). take n (lines ++ line ∷ [])) last ∙ take-append_seam lines (line ∷ []) in
     let here : get_or (lines ++ line ∷ []) k Other ≡ line = get_or_push lines line Other k (sym last) in
     subst (λ (x : TraceLine). Fits opened (take k (lines ++ line ∷ [])) x) (sym here)
     (subst (λ (before : List TraceLine). Fits opened before line) (sym front) fits)
 
-pub lawful_push : (opened : List ℕ) (lines : List TraceLine) (line : TraceLine) → IsLawfulTrace opened lines → Fits opened lines line → ((c : ℕ) → IsLawful (history opened (lines ++ line ∷ []) c)) → IsLawfulTrace opened (lines ++ line ∷ [])
+pub lawful_push : (opened : List Bool) (lines : List TraceLine) (line : TraceLine) → IsLawfulTrace opened lines → Fits opened lines line → ((c : ℕ) → IsLawful (history opened (lines ++ line ∷ []) c)) → IsLawfulTrace opened (lines ++ line ∷ [])
 lawful_push opened lines line lawful fits histories = record {
   histories = histories;
   each_fits = λ k less. elim (cases_lt k (length lines)) [
@@ -81,7 +81,7 @@ lawful_push opened lines line lawful fits histories = record {
 }
 
 -- what a lawful trace of one line more says of the last line
-pub last_fits : (opened : List ℕ) (lines : List TraceLine) (line : TraceLine) → IsLawfulTrace opened (lines ++ line ∷ []) → Fits opened lines line
+pub last_fits : (opened : List Bool) (lines : List TraceLine) (line : TraceLine) → IsLawfulTrace opened (lines ++ line ∷ []) → Fits opened lines line
 last_fits opened lines line lawful =
     let at = lawful.each_fits (length lines) (omega (arith, length_push lines line)) in
     subst (λ (x : TraceLine). Fits opened lines x) (get_or_push lines line Other (length lines) refl)
@@ -94,11 +94,11 @@ unfolding events_on
 events_split c lines n =
     ap (filter_map (event_on c)) (sym (take-append-drop n lines)) ∙ filter_map-append (event_on c) (take n lines) (drop n lines)
 
-history_split : (opened : List ℕ) (lines : List TraceLine) (n c : ℕ) → history opened lines c ≡ history opened (take n lines) c ++ events_on c (drop n lines)
+history_split : (opened : List Bool) (lines : List TraceLine) (n c : ℕ) → history opened lines c ≡ history opened (take n lines) c ++ events_on c (drop n lines)
 history_split opened lines n c =
     ap (λ (es : List Event). opening opened c ++ es) (events_split c lines n) ∙ sym (append_assoc (opening opened c) (events_on c (take n lines)) (events_on c (drop n lines)))
 
-pub lawful_prefix : (opened : List ℕ) (lines : List TraceLine) (n : ℕ) → IsLawfulTrace opened lines → IsLawfulTrace opened (take n lines)
+pub lawful_prefix : (opened : List Bool) (lines : List TraceLine) (n : ℕ) → IsLawfulTrace opened lines → IsLawfulTrace opened (take n lines)
 lawful_prefix opened lines n lawful = record {
   histories = λ c.
       let P : List Event → Type 0 = λ h. IsLawful h in

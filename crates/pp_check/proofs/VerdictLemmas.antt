@@ -20,12 +20,12 @@ is_told s = nat_lt 0 s.events
 abbrev pub was_open : Standing → Bool
 was_open s = nat_lt 0 s.events && s.is_opened
 
-by_place : (opened : List ℕ) (lines : List TraceLine) (standings : List Standing) (events sessions : ℕ) → KeepsEvents opened lines standings events sessions → (k : ℕ) → k < channel_count → get_or standings k new_standing ≡ standing opened lines (channel_number k)
+by_place : (opened : List Bool) (lines : List TraceLine) (standings : List Standing) (events sessions : ℕ) → KeepsEvents opened lines standings events sessions → (k : ℕ) → k < channel_count → get_or standings k new_standing ≡ standing opened lines (channel_number k)
 by_place opened lines standings events sessions kept k below =
     ap (λ (i : ℕ). get_or standings i new_standing) (sym (place_of_number k below)) ∙ kept.channels (channel_number k) (number_named k below)
 
 -- what is kept of the channels, as a list
-pub all_standings : (opened : List ℕ) (lines : List TraceLine) (standings : List Standing) (events sessions : ℕ) → KeepsEvents opened lines standings events sessions → standings ≡ map (λ k. standing opened lines (channel_number k)) (range_with_len 0 channel_count)
+pub all_standings : (opened : List Bool) (lines : List TraceLine) (standings : List Standing) (events sessions : ℕ) → KeepsEvents opened lines standings events sessions → standings ≡ map (λ k. standing opened lines (channel_number k)) (range_with_len 0 channel_count)
 all_standings opened lines standings events sessions kept =
     fill_by_all (λ k. standing opened lines (channel_number k)) standings channel_count new_standing kept.each_channel (by_place opened lines standings events sessions kept)
 
@@ -39,14 +39,14 @@ count_map p f (x ∷ xs) =
 count_channels : (p : ℕ → Bool) → count_by p all_channels ≡ count_by (λ k. p (channel_number k)) (range_with_len 0 channel_count)
 count_channels p = count_map p channel_number (range_with_len 0 channel_count)
 
-pub told_count : (opened : List ℕ) (lines : List TraceLine) (standings : List Standing) (events sessions : ℕ) → KeepsEvents opened lines standings events sessions → count_by is_told standings ≡ used_count lines
+pub told_count : (opened : List Bool) (lines : List TraceLine) (standings : List Standing) (events sessions : ℕ) → KeepsEvents opened lines standings events sessions → count_by is_told standings ≡ used_count lines
 unfolding standing
 told_count opened lines standings events sessions kept =
     ap (count_by is_told) (all_standings opened lines standings events sessions kept)
     ∙ count_map is_told (λ k. standing opened lines (channel_number k)) (range_with_len 0 channel_count)
     ∙ sym (count_channels (is_used lines))
 
-pub open_count : (opened : List ℕ) (lines : List TraceLine) (standings : List Standing) (events sessions : ℕ) → KeepsEvents opened lines standings events sessions → count_by was_open standings ≡ opened_count opened lines
+pub open_count : (opened : List Bool) (lines : List TraceLine) (standings : List Standing) (events sessions : ℕ) → KeepsEvents opened lines standings events sessions → count_by was_open standings ≡ opened_count opened lines
 unfolding standing
 open_count opened lines standings events sessions kept =
     ap (count_by was_open) (all_standings opened lines standings events sessions kept)

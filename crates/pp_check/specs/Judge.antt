@@ -1,5 +1,5 @@
 -- What the judge keeps of the lines so far.
-use Rattle.std.specs.Prelude.{◌≡◌, ℕ, ◌+◌, List, [], ◌∷◌, ◌++◌, length, false, IsTrue, count_by, slice_index_or, Result, Ok, Err, Option, None, Some, if◌then◌else◌}
+use Rattle.std.specs.Prelude.{◌≡◌, ℕ, ◌+◌, Bool, List, [], ◌∷◌, ◌++◌, length, false, IsTrue, count_by, slice_index_or, Result, Ok, Err, Option, None, Some, if◌then◌else◌}
 use Rattle.pp_channel.specs.ChannelNumber.{channel_count, channel_index, names_channel}
 use Rattle.pp_check.specs.LawfulTrace.{IsLawfulTrace, channel_state, events_on, history, is_opened, last_turn}
 use Rattle.pp_check.specs.TraceFault.{IsFlaw, IsFlawOf}
@@ -11,7 +11,7 @@ use Rattle.pp_check.specs.declared.trace_fault.TraceFlaw.{TraceFlaw}
 use Rattle.pp_check.specs.declared.trace_line.TraceLine.{TraceLine}
 
 -- what is kept of channel c
-unfoldable pub standing : List ℕ → List TraceLine → ℕ → Standing
+unfoldable pub standing : List Bool → List TraceLine → ℕ → Standing
 standing opened lines c = record {
   state = channel_state (history opened lines c);
   events = length (events_on c lines);
@@ -32,7 +32,7 @@ next_number s = if s.is_opened then s.events + 1 else s.events
 
 -- The lines so far are lawful; of each channel is kept how it stands; and events and sessions are
 -- counted.
-pub record KeepsEvents (opened : List ℕ) (lines : List TraceLine)
+pub record KeepsEvents (opened : List Bool) (lines : List TraceLine)
     (standings : List Standing) (event_count session_count : ℕ) : Type 0 where
   pub lawful : IsLawfulTrace opened lines
   pub each_channel : length standings ≡ channel_count
@@ -42,30 +42,30 @@ pub record KeepsEvents (opened : List ℕ) (lines : List TraceLine)
   pub sessions : session_count ≡ count_by begins_session lines
 
 -- all that the judge keeps of the lines so far
-pub record Keeps (opened : List ℕ) (lines : List TraceLine) (judge : Judge) : Type 0 where
+pub record Keeps (opened : List Bool) (lines : List TraceLine) (judge : Judge) : Type 0 where
   pub kept : KeepsEvents opened lines judge.channels judge.events judge.sessions
   pub last_turn : judge.last_turn ≡ last_turn lines
 
 -- it keeps the events of some lines
 abbrev pub KeepsSome : Judge → Type 0
-KeepsSome judge = (opened : List ℕ) × ((lines : List TraceLine)
+KeepsSome judge = (opened : List Bool) × ((lines : List TraceLine)
     × KeepsEvents opened lines judge.channels judge.events judge.sessions)
 
 -- what the event of a line that fits comes to: it is kept, or may not come
-abbrev pub Happens : List ℕ → List TraceLine → TraceLine → Judge
+abbrev pub Happens : List Bool → List TraceLine → TraceLine → Judge
     → Result (Unit {0}) TraceFlaw → Type 0
 Happens opened before line after (Ok done) =
     KeepsEvents opened (before ++ line ∷ []) after.channels after.events after.sessions
 Happens opened before line after (Err flaw) = IsFlawOf opened before line flaw
 
 -- what judging a line behind others comes to: the judge keeps it too, or it has this flaw
-abbrev pub IsJudged : List ℕ → List TraceLine → TraceLine → Judge
+abbrev pub IsJudged : List Bool → List TraceLine → TraceLine → Judge
     → Result (Unit {0}) TraceFlaw → Type 0
 IsJudged opened before line after (Ok done) = Keeps opened (before ++ line ∷ []) after
 IsJudged opened before line after (Err flaw) = IsFlawOf opened before line flaw
 
 -- the same of a line by what it says, if it says anything
-abbrev pub IsRead : List ℕ → List TraceLine → Option TraceLine → Judge
+abbrev pub IsRead : List Bool → List TraceLine → Option TraceLine → Judge
     → Result (Unit {0}) TraceFlaw → Type 0
 IsRead opened before None after (Ok done) = ⊥
 IsRead opened before None after (Err flaw) = IsFlaw opened before None flaw

@@ -1,7 +1,8 @@
 -- Which traces are lawful, stated on all their lines.
-use Rattle.std.specs.Prelude.{◌≡◌, ℕ, ◌<◌, ◌==◌, Bool, List, [], ◌∷◌, ◌++◌, length, take, All, IsSome, IfSome, Option, None, Some, slice_index_or, if◌then◌else◌}
-use Rattle.std.specs.List.{filter_map, last_or, list_any}
+use Rattle.std.specs.Prelude.{◌≡◌, ℕ, ◌<◌, ◌==◌, Bool, false, List, [], ◌∷◌, ◌++◌, length, take, All, IsSome, IfSome, Option, None, Some, slice_index_or, if◌then◌else◌}
+use Rattle.std.specs.List.{filter_map, last_or}
 use Rattle.pp_channel.specs.Answer.{flags_of}
+use Rattle.pp_channel.specs.ChannelNumber.{channel_index}
 use Rattle.pp_channel.specs.History.{IsLawful, waiting}
 use Rattle.pp_channel.specs.declared.event.Event.{Event}
 use Rattle.pp_channel.specs.declared.event.Event.TheVariants.{Activate}
@@ -28,17 +29,17 @@ event_on c Other = None
 unfoldable pub events_on : ℕ → List TraceLine → List Event
 events_on c lines = filter_map (event_on c) lines
 
--- whether channel c is among those that were opened before the trace
-abbrev pub is_opened : List ℕ → ℕ → Bool
-is_opened opened c = list_any (λ d. d == c) opened
+-- whether channel c was opened before the trace, by flags in the order of the channels' places
+abbrev pub is_opened : List Bool → ℕ → Bool
+is_opened opened c = slice_index_or opened (channel_index c) false
 
 -- what had happened on channel c before the first line: where it was opened an Activate, else
 -- nothing
-abbrev pub opening : List ℕ → ℕ → List Event
+abbrev pub opening : List Bool → ℕ → List Event
 opening opened c = if is_opened opened c then Activate ∷ [] else []
 
 -- the history of channel c after lines
-abbrev pub history : List ℕ → List TraceLine → ℕ → List Event
+abbrev pub history : List Bool → List TraceLine → ℕ → List Event
 history opened lines c = opening opened c ++ events_on c lines
 
 -- ---- turns
@@ -61,7 +62,7 @@ last_turn lines = last_or None (turns lines)
 
 -- A line fits those before it: its turn is greater than the last; its number counts the events of
 -- its channel before it; its channel stands as the events before it leave it.
-abbrev pub Fits : List ℕ → List TraceLine → TraceLine → Type 0
+abbrev pub Fits : List Bool → List TraceLine → TraceLine → Type 0
 Fits opened before (AtTurn turn c e) = IfSome (last_turn before) (λ last. last < turn)
 Fits opened before (Numbered number c e) = number ≡ length (history opened before c)
 Fits opened before (Standing c state) = state ≡ channel_state (history opened before c)
@@ -69,7 +70,7 @@ Fits opened before Other = Unit {0}
 
 -- A trace is lawful where on each channel its events, in order, are a lawful history over the
 -- opening of the channel, and each line fits those before it.
-pub record IsLawfulTrace (opened : List ℕ) (lines : List TraceLine) : Type 0 where
+pub record IsLawfulTrace (opened : List Bool) (lines : List TraceLine) : Type 0 where
   pub histories : (c : ℕ) → IsLawful (history opened lines c)
   pub each_fits : (k : ℕ) → k < length lines
       → Fits opened (take k lines) (slice_index_or lines k Other)
@@ -79,6 +80,6 @@ unfoldable pub lines_said : List Fields → List TraceLine
 lines_said text = filter_map line_said text
 
 -- Lines of a text are a lawful trace: each says something, and what they say is lawful.
-pub record AreLawful (opened : List ℕ) (text : List Fields) : Type 0 where
+pub record AreLawful (opened : List Bool) (text : List Fields) : Type 0 where
   pub said : All (λ line. IsSome (line_said line)) text
   pub lawful : IsLawfulTrace opened (lines_said text)

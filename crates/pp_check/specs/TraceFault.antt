@@ -1,5 +1,5 @@
 -- Where a trace stops being lawful, and why.
-use Rattle.std.specs.Prelude.{◌≡◌, ◌≢◌, ℕ, ◌-◌, ◌<◌, ◌≤◌, List, [], ◌∷◌, ◌++◌, length, take, Option, None, Some, slice_index_or}
+use Rattle.std.specs.Prelude.{◌≡◌, ◌≢◌, ◌-◌, ◌<◌, ◌≤◌, Bool, List, [], ◌∷◌, ◌++◌, length, take, Option, None, Some, slice_index_or}
 use Rattle.pp_channel.specs.History.{IsLawful}
 use Rattle.pp_channel.specs.declared.event.Event.{Event}
 use Rattle.pp_deck.specs.DeckText.{Fields}
@@ -14,7 +14,7 @@ use Rattle.pp_check.specs.declared.trace_line.TraceLine.TheVariants.{Numbered, S
 -- why a line may not come behind lawful lines: its turn is not greater than the last; its number is
 -- not the next of its channel; with its event the history of the channel is lawful no longer; its
 -- channel stands otherwise
-abbrev pub IsFlawOf : List ℕ → List TraceLine → TraceLine → TraceFlaw → Type 0
+abbrev pub IsFlawOf : List Bool → List TraceLine → TraceLine → TraceFlaw → Type 0
 IsFlawOf opened before line Malformed = ⊥
 IsFlawOf opened before line (TurnNotRising turn last) =
     (turn_of line ≡ Some turn) × (last_turn before ≡ Some last) × (turn ≤ last)
@@ -29,13 +29,13 @@ IsFlawOf opened before line (WrongState c told state) =
     (line ≡ Standing c told) × (state ≡ channel_state (history opened before c)) × (told ≢ state)
 
 -- the same of a line by what it says; where it says nothing it is no line of a trace
-abbrev pub IsFlaw : List ℕ → List TraceLine → Option TraceLine → TraceFlaw → Type 0
+abbrev pub IsFlaw : List Bool → List TraceLine → Option TraceLine → TraceFlaw → Type 0
 IsFlaw opened before None flaw = flaw ≡ Malformed
 IsFlaw opened before (Some line) flaw = IsFlawOf opened before line flaw
 
 -- The fault of a text, by its lines, which are counted from 1: the lines before it are lawful, and
 -- it has this flaw behind them.
-pub record IsFault (opened : List ℕ) (text : List Fields) (fault : TraceFault) : Type 0 where
+pub record IsFault (opened : List Bool) (text : List Fields) (fault : TraceFault) : Type 0 where
   pub counted : 0 < fault.line
   pub within : fault.line ≤ length text
   pub before : AreLawful opened (take (fault.line - 1) text)

@@ -1,9 +1,11 @@
 -- What is counted in a lawful trace.
-use Rattle.std.specs.Prelude.{ℕ, ◌+◌, ◌&&◌, Bool, true, false, List, length, map, nat_lt, count_by}
+use Rattle.std.specs.Prelude.{ℕ, ◌+◌, ◌++◌, ◌&&◌, Bool, true, false, List, codes, length, map, nat_lt, count_by}
 use Rattle.std.specs.List.{range_with_len}
 use Rattle.pp_channel.specs.ChannelNumber.{channel_count, channel_number}
 use Rattle.pp_channel.specs.declared.event.Event.{Event}
 use Rattle.pp_channel.specs.declared.event.Event.TheVariants.{Activate}
+use Rattle.pp_text.specs.Numeral.{short_decimal}
+use Rattle.pp_text.specs.PrintedText.{line_end}
 use Rattle.pp_check.specs.LawfulTrace.{events_on, is_opened}
 use Rattle.pp_check.specs.declared.trace_line.TraceLine.{TraceLine}
 use Rattle.pp_check.specs.declared.trace_line.TraceLine.TheVariants.{AtTurn, Numbered, Standing, Other}
@@ -38,14 +40,21 @@ abbrev pub used_count : List TraceLine → ℕ
 used_count lines = count_by (is_used lines) all_channels
 
 -- how many of these had been opened before the trace
-abbrev pub opened_count : List ℕ → List TraceLine → ℕ
+abbrev pub opened_count : List Bool → List TraceLine → ℕ
 opened_count opened lines = count_by (λ c. is_used lines c && is_opened opened c) all_channels
 
 -- the events; the channels that have events; and the sessions on these channels: those that an
 -- event of the trace begins, and those that had been opened before it
-abbrev pub verdict_of : List ℕ → List TraceLine → Verdict
+abbrev pub verdict_of : List Bool → List TraceLine → Verdict
 verdict_of opened lines = record {
   events = count_by tells_event lines;
   channels = used_count lines;
   sessions = count_by begins_session lines + opened_count opened lines;
 }
+
+-- `lawful: 12 events on 3 channels, 4 sessions`, in decimal
+unfoldable pub verdict_line : Verdict → List ℕ
+verdict_line verdict =
+    codes "lawful: " ++ short_decimal verdict.events ++ codes " events on "
+    ++ short_decimal verdict.channels ++ codes " channels, "
+    ++ short_decimal verdict.sessions ++ codes " sessions" ++ line_end

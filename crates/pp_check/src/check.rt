@@ -9,13 +9,13 @@ ghost use Rattle.pp_check.specs.Verdict.{verdict_of};
 use crate::judge::Judge;
 use crate::trace_fault::TraceFault;
 use crate::verdict::Verdict;
-use pp_channel::ChannelNo;
+use pp_channel::CHANNELS;
 
 /// Whether the events of a trace are those of lawful histories: a text in the lines that `barrel`
-/// or `threads` print. `opened` are the channels that were open before the first line. A lawful
-/// trace is answered by what is counted in it; of any other the first line is named at which no
-/// lawful history is left. It takes no memory.
-pub fn check_trace(text: &[u8], opened: &[ChannelNo]) -> Result<Verdict, TraceFault>
+/// or `threads` print. `opened` are flags of the channels that were open before the first line, in
+/// the order of the channels' places. A lawful trace is answered by what is counted in it; of any
+/// other the first line is named at which no lawful history is left. It takes no memory.
+pub fn check_trace(text: &[u8], opened: &[bool; CHANNELS]) -> Result<Verdict, TraceFault>
     ensures lawful { IfOk result (λ verdict. AreLawful opened.now (lines_of text.now)) }
     ensures counted { IfOk result (λ verdict.
         verdict ≡ verdict_of opened.now (lines_said (lines_of text.now))) }

@@ -1,6 +1,6 @@
 //! The judge of a trace, line by line.
 
-ghost use Rattle.std.specs.Prelude.{◌≡◌, ◌∷◌, ◌++◌, ◌+◌, ◌*◌, ◌<◌, ◌≤◌, ◌^◌, [], ℕ, List, Some, IsTrue, IsErr, OnOk, length};
+ghost use Rattle.std.specs.Prelude.{◌≡◌, ◌∷◌, ◌++◌, ◌+◌, ◌*◌, ◌<◌, ◌≤◌, ◌^◌, [], ℕ, Bool, List, Some, IsTrue, IsErr, OnOk, length};
 ghost use Rattle.pp_channel.specs.ChannelNumber.{names_channel};
 ghost use Rattle.pp_deck.specs.DeckText.{fields_of};
 ghost use Rattle.pp_check.specs.Judge.{Happens, IsJudged, IsRead, Keeps, KeepsEvents, KeepsSome};
@@ -27,13 +27,15 @@ pub(crate) struct Judge {
 }
 
 impl Judge {
-    /// No line is told yet, and these channels are open.
-    pub(crate) fn new(opened: &[ChannelNo]) -> Judge
+    /// No line is told yet, and these channels are open, by flags in the order of their places.
+    pub(crate) fn new(opened: &[bool; CHANNELS]) -> Judge
         ensures { Keeps opened.now [] result }
     {
         let mut channels = [Standing::NEW; CHANNELS];
-        for channel in opened {
-            channels[channel.index()] = Standing::OPENED;
+        for place in 0..CHANNELS {
+            if opened[place] {
+                channels[place] = Standing::OPENED;
+            }
         }
         Judge {
             channels,
@@ -47,7 +49,7 @@ impl Judge {
     pub(crate) fn read(&mut self, line: &[u8]) -> Result<(), TraceFlaw>
         requires room { self.old.events < 2 ^ 63 }
         requires kept { KeepsSome self.old }
-        ensures judged { (opened : List ℕ) (lines : List TraceLine) → Keeps opened lines self.old
+        ensures judged { (opened : List Bool) (lines : List TraceLine) → Keeps opened lines self.old
             → IsRead opened lines (line_said (fields_of line.now)) self.new result }
         ensures room { OnOk result
             (2 * self.new.events ≤ 2 * self.old.events + length line.now + 1) }
@@ -67,7 +69,7 @@ impl Judge {
     fn judge(&mut self, line: TraceLine) -> Result<(), TraceFlaw>
         requires room { self.old.events < 2 ^ 63 }
         requires kept { KeepsSome self.old }
-        ensures judged { (opened : List ℕ) (lines : List TraceLine) → Keeps opened lines self.old
+        ensures judged { (opened : List Bool) (lines : List TraceLine) → Keeps opened lines self.old
             → IsJudged opened lines line self.new result }
         ensures room { OnOk result (self.new.events ≤ self.old.events + 1) }
     {
@@ -103,7 +105,7 @@ impl Judge {
     fn happen(&mut self, channel: ChannelNo, event: Event) -> Result<(), TraceFlaw>
         requires room { self.old.events < 2 ^ 63 }
         requires kept { KeepsSome self.old }
-        ensures happens { (opened : List ℕ) (lines : List TraceLine) (line : TraceLine)
+        ensures happens { (opened : List Bool) (lines : List TraceLine) (line : TraceLine)
             → KeepsEvents opened lines self.old.channels self.old.events self.old.sessions
             → Fits opened lines line
             → event_on channel line ≡ Some event → Happens opened lines line self.new result }
@@ -131,7 +133,7 @@ impl Judge {
     pub(crate) fn verdict(&self) -> Verdict
         requires room { self.now.events ≤ 2 ^ 63 }
         requires kept { KeepsSome self.now }
-        ensures { (opened : List ℕ) (lines : List TraceLine) → Keeps opened lines self.now
+        ensures { (opened : List Bool) (lines : List TraceLine) → Keeps opened lines self.now
             → result ≡ verdict_of opened lines }
     {
         let mut channels = 0;

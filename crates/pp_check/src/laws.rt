@@ -31,21 +31,21 @@ use std::alloc::Allocator;
 /// are lawful, and so are all fronts of these, and no lines that contain it are. A text has at most
 /// one fault, flaw and all, and a lawful text has none.
 pub fn fault_law()
-    ensures first { (opened : List ℕ) (text : List Fields) (fault : TraceFault)
+    ensures first { (opened : List Bool) (text : List Fields) (fault : TraceFault)
         → IsFault opened text fault → (k : ℕ) → k ≤ length text
         → AreLawful opened (take k text) ↔ (k < fault.line) }
-    ensures one { (opened : List ℕ) (text : List Fields) (fault other : TraceFault)
+    ensures one { (opened : List Bool) (text : List Fields) (fault other : TraceFault)
         → IsFault opened text fault → IsFault opened text other → fault ≡ other }
-    ensures none { (opened : List ℕ) (text : List Fields) (fault : TraceFault)
+    ensures none { (opened : List Bool) (text : List Fields) (fault : TraceFault)
         → IsFault opened text fault → ¬ AreLawful opened text }
 {}
 
 /// In a lawful trace turns rise from line to line, and on every channel the law of sessions holds:
 /// in every session the words taken are the first of the words put, all but at most one.
 pub fn trace_law()
-    ensures turns { (opened : List ℕ) (lines : List TraceLine) → IsLawfulTrace opened lines
+    ensures turns { (opened : List Bool) (lines : List TraceLine) → IsLawfulTrace opened lines
         → IsStrictlyIncreasing (turns lines) }
-    ensures sessions { (opened : List ℕ) (lines : List TraceLine) → IsLawfulTrace opened lines
+    ensures sessions { (opened : List Bool) (lines : List TraceLine) → IsLawfulTrace opened lines
         → (c : ℕ) → KeepsLaw (history opened lines c) }
 {
     session_law();
@@ -57,10 +57,10 @@ pub fn trace_law()
 /// The histories are so after every run (`headline_law` of `pp_deck`), and a machine that is
 /// printed fits its text (`write_text`).
 pub fn printed_law()
-    ensures lawful { (named : List Bool) (m : MachineState) (opened : List ℕ)
+    ensures lawful { (named : List Bool) (m : MachineState) (opened : List Bool)
         → IsPrintable named m → AreOpenedBy m opened
         → AreLawful opened (lines_of (printed named m)) }
-    ensures events { (named : List Bool) (m : MachineState) (opened : List ℕ)
+    ensures events { (named : List Bool) (m : MachineState) (opened : List Bool)
         → IsPrintable named m → AreOpenedBy m opened
         → (c : ℕ) → events_on c (lines_said (lines_of (printed named m)))
         ≡ trace_events_on c m.trace }
@@ -70,7 +70,7 @@ pub fn printed_law()
 /// the text of the machine, which fits it as each that is printed does (`write_text`), where the
 /// channels said to be open are those that dead start opened.
 pub fn barrel_law()
-    ensures { (profile : Profile) (text : List ℕ) (deck : LoadedDeck) (steps opened : List ℕ)
+    ensures { (profile : Profile) (text : List ℕ) (deck : LoadedDeck) (steps : List ℕ) (opened : List Bool)
         → deck_meaning profile text ≡ Ok deck → length steps < 10 ^ 19
         → (let m = run steps deck.machine in FitsItsText deck.named m → AreOpenedBy m opened
         → AreLawful opened (lines_of (printed deck.named m))) }
@@ -85,10 +85,10 @@ pub fn barrel_law()
 /// each channel the events that are read, behind what was open, are the history that the run made.
 pub fn printed_report_law<A: Allocator>()
     ensures lawful { (named : List Bool) (limits : RunLimits) (m : MachineState)
-        (report : Report A) (opened : List ℕ) → IsPrintableReport named limits m report → AreOpenedBy m opened
+        (report : Report A) (opened : List Bool) → IsPrintableReport named limits m report → AreOpenedBy m opened
         → AreLawful opened (lines_of (printed_report named report)) }
     ensures histories { (named : List Bool) (limits : RunLimits) (m : MachineState)
-        (report : Report A) (opened : List ℕ) → IsPrintableReport named limits m report → AreOpenedBy m opened
+        (report : Report A) (opened : List Bool) → IsPrintableReport named limits m report → AreOpenedBy m opened
         → (c : ℕ) → IsTrue (names_channel c)
         → history opened (lines_said (lines_of (printed_report named report))) c
         ≡ history_on c report.channels }

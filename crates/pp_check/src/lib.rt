@@ -2,6 +2,7 @@
 //! histories, or the first line is named at which no lawful history is left.
 #![tactic(auto)]
 
+mod channel_list;
 mod channel_state;
 mod check;
 mod judge;
@@ -13,8 +14,9 @@ mod trace_line;
 mod unlawful;
 mod verdict;
 
+pub use channel_list::listed_channels;
 pub use channel_state::ChannelState;
 pub use check::check_trace;
 pub use laws::{barrel_law, fault_law, printed_law, printed_report_law, trace_law};
 pub use trace_fault::{TraceFault, TraceFlaw};
-pub use verdict::Verdict;
+pub use verdict::{Verdict, push_verdict};

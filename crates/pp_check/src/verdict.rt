@@ -1,6 +1,10 @@
 //! What is counted in a lawful trace.
 
-use std::fmt::{self, Display, Formatter, Write};
+ghost use Rattle.std.specs.Prelude.{◌≡◌, ◌++◌};
+ghost use Rattle.pp_check.specs.Verdict.{verdict_line};
+ghost use Rattle.pp_text.specs.Piece.{HasRoom};
+
+use pp_text::{Piece, push_short_decimal};
 
 /// How much a lawful trace tells (decimal).
 #[derive(Clone, Copy, Debug, PartialEq, Eq)]
@@ -13,16 +17,17 @@ pub struct Verdict {
     pub sessions: u64,
 }
 
-impl Display for Verdict {
-    fn fmt<W: Write>(&self, f: &mut Formatter<W>) -> fmt::Result {
-        let Verdict {
-            events,
-            channels,
-            sessions,
-        } = self;
-        write!(
-            f,
-            "lawful: {events} events on {channels} channels, {sessions} sessions"
-        )
-    }
+/// Adds `lawful: 12 events on 3 channels, 4 sessions` and a line feed, in at most 103 characters.
+#[tactic(auto, unfolding(crate::specs::Verdict::verdict_line))]
+pub fn push_verdict(line: &mut Piece, verdict: &Verdict)
+    requires { HasRoom 103 line.old }
+    ensures { line.new ≡ line.old ++ verdict_line verdict.now }
+{
+    line.push(b"lawful: ");
+    push_short_decimal(line, verdict.events);
+    line.push(b" events on ");
+    push_short_decimal(line, verdict.channels);
+    line.push(b" channels, ");
+    push_short_decimal(line, verdict.sessions);
+    line.push(b" sessions\n");
 }

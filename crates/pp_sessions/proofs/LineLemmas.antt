@@ -1,7 +1,7 @@
 -- Lines, put together from their parts.
 use Rattle.std.proofs.Common.{◌≡◌, ℕ, List, [], ◌∷◌, ◌++◌, codes, refl, append_assoc}
-use Rattle.pp_text.specs.Numeral.{octal}
-use Rattle.pp_sessions.specs.SessionsText.{end_text, idle_line, moment_text, session_line, short_decimal, word_text}
+use Rattle.pp_text.specs.Numeral.{octal, short_decimal}
+use Rattle.pp_sessions.specs.SessionsText.{end_text, idle_line, moment_text, session_line, word_text}
 use Rattle.pp_sessions.specs.declared.tally.Tally.{Tally}
 
 session_pieces : (t c n a s b f e p x k y w z : List ℕ) → ((((((((((((t ++ (c ++ n)) ++ a) ++ s) ++ b) ++ f) ++ e) ++ p) ++ x) ++ k) ++ y) ++ w) ++ z)

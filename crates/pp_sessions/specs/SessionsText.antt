@@ -1,12 +1,12 @@
 -- The text of the sessions of a run: for each channel a line for each of its stretches, and for
 -- each processor that the deck names a line with the counts of its steps.
-use Rattle.std.specs.Prelude.{ℕ, ◌+◌, ◌/◌, ◌%◌, Bool, List, [], ◌∷◌, ◌++◌, Option, None, Some, codes, slice_index_or, if◌then◌else◌}
+use Rattle.std.specs.Prelude.{ℕ, ◌+◌, Bool, List, [], ◌∷◌, ◌++◌, Option, None, Some, codes, slice_index_or, if◌then◌else◌}
 use Rattle.pp_channel.specs.ChannelNumber.{names_channel}
 use Rattle.pp_machine.specs.MachineState.{MachineState}
 use Rattle.pp_machine.specs.ProcessorNumber.{processor_index}
 use Rattle.pp_machine.specs.Run.{run}
 use Rattle.pp_deck.specs.DeckMeaning.{LoadedDeck}
-use Rattle.pp_text.specs.Numeral.{decimal, digit, octal, unpadded}
+use Rattle.pp_text.specs.Numeral.{decimal, octal, short_decimal}
 use Rattle.pp_text.specs.PrintedText.{each_below, is_named, line_end}
 use Rattle.pp_sessions.specs.StepCounts.{each_step_counts, no_steps}
 use Rattle.pp_sessions.specs.Stretches.{is_session, stretches, tally_of}
@@ -16,11 +16,6 @@ use Rattle.pp_sessions.specs.declared.moment.Moment.TheVariants.{DeadStart, Turn
 use Rattle.pp_sessions.specs.declared.moment.TimedEvent.{TimedEvent}
 use Rattle.pp_sessions.specs.declared.step_counts.StepCounts.{StepCounts}
 use Rattle.pp_sessions.specs.declared.tally.Tally.{Tally}
-
--- a count in decimal digits, without zeros in front. Twenty digits are enough for every count of 64
--- bits
-unfoldable pub short_decimal : ℕ → List ℕ
-short_decimal n = unpadded 19 (n / 10) ++ digit (n % 10)
 
 -- ---- channels
 

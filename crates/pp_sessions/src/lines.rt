@@ -4,14 +4,14 @@ ghost use Rattle.std.specs.Prelude.{◌≡◌, ◌+◌, ◌≤◌, ◌++◌, cod
 ghost use Rattle.pp_text.specs.Numeral.{decimal, octal};
 ghost use Rattle.pp_text.specs.Piece.{HasRoom};
 ghost use Rattle.pp_text.specs.PrintedText.{line_end};
-ghost use Rattle.pp_sessions.specs.SessionsText.{counts_line, end_text, idle_line, moment_text, session_line, short_decimal, tally_line, word_text};
+ghost use Rattle.pp_sessions.specs.SessionsText.{counts_line, end_text, idle_line, moment_text, session_line, tally_line, word_text};
 
 use crate::moment::Moment;
 use crate::step_counts::StepCounts;
 use crate::tally::Tally;
 use pp_channel::ChannelNo;
 use pp_machine::PpNo;
-use pp_text::{Piece, decimal6, octal2, octal4, push_unpadded, push_upper_digits};
+use pp_text::{Piece, decimal6, octal2, octal4, push_short_decimal, push_upper_digits};
 use pp_word::Word12;
 
 /// Adds the line of a stretch of a channel and a line feed; where it is a session, it has this
@@ -142,15 +142,4 @@ fn push_word(line: &mut Piece, has_ended: bool, untaken: Option<Word12>)
         line.push(if has_ended { b" LOST " } else { b" WAITING " });
         line.push(&octal4(word.get()));
     }
-}
-
-/// Adds a count in decimal digits, without zeros in front.
-#[tactic(auto, unfolding(crate::specs::SessionsText::short_decimal))]
-fn push_short_decimal(line: &mut Piece, n: u64)
-    requires { HasRoom 20 line.old }
-    ensures text { line.new ≡ line.old ++ short_decimal n }
-    ensures room { length line.new ≤ length line.old + 20 }
-{
-    push_unpadded(line, n / 10, 19);
-    line.push(&[b'0' + (n % 10) as u8]);
 }

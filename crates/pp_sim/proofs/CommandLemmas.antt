@@ -102,6 +102,7 @@ work_by_rows name f (works.Steps profile turns only from) k = (
   rw (← first_value-rows f (codes "pp")) k.4,
   rw (← first_value-rows f (codes "from")) k.5,
 )
+work_by_rows name f (works.Check opened) k = (k.0, rw (← first_value-rows f (codes "opened")) k.1)
 
 pub work_by_values : (name : Text) (f : Found) (work : Work) → IsWorkAmong (Some (name, rows_of f)) work → IsWorkOf name (first_value f) work
 work_by_values name f (works.Barrel profile turns) k =
@@ -128,6 +129,7 @@ work_by_values name f (works.Steps profile turns only from) k = (
   rw (first_value-rows f (codes "pp")) k.4,
   rw (first_value-rows f (codes "from")) k.5,
 )
+work_by_values name f (works.Check opened) k = (k.0, rw (first_value-rows f (codes "opened")) k.1)
 
 -- where the text of an option is there, and is no number, it says no profile
 pub no_profile : {B : Type 0} (of : B → Text) (o : Option B) (text : Option Text) → is_some o ≡ true → option_map of o ≡ text → ((n : ℕ) → ReadsNumber text n → ⊥) → (profile : Profile) → ReadsProfile text profile → ⊥

@@ -1,10 +1,12 @@
 -- What a command line asks for, by the words that stand in it.
-use Rattle.std.specs.Prelude.{◌≡◌, ◌≢◌, ℕ, ◌≤◌, true, IsTrue, List, [], Option, Some, None, Ok, codes}
+use Rattle.std.specs.Prelude.{◌≡◌, ◌≢◌, ℕ, ◌≤◌, Bool, true, false, IsTrue, List, [], replicate, Option, Some, None, Ok, codes}
 use Rattle.std.specs.Str.Parse.{ParsesUnsigned}
 use Rattle.clap.specs.Words.{App, IsAmong, Kinds, Row, Rule, Text, fault_of, first_of, kind_of, new_app, new_rule, subcommand_of, with_rule, with_subcommand}
 use Rattle.clap.specs.declared.builder.action.ArgAction.TheVariants.{Set}
 use Rattle.clap.specs.declared.error.Error.{Error}
 use Rattle.clap.specs.declared.error.kind.ErrorKind.TheVariants.{OutOfMemory}
+use Rattle.pp_channel.specs.ChannelNumber.{channel_count}
+use Rattle.pp_check.specs.ChannelList.{AreListed}
 use Rattle.pp_machine.specs.Profile.{has_processor, processors_in}
 use Rattle.pp_machine.specs.declared.profile.Profile.{Profile}
 use Rattle.pp_machine.specs.declared.profile.Profile.TheVariants.{Ten}
@@ -15,23 +17,24 @@ use Rattle.pp_sim.specs.declared.work.Work.{Work}
 use Rattle.pp_sim.specs.declared.work.Work.TheVariants as works
 
 -- THE COMMAND LINE, as clap sees it: `ppsim barrel --turns N`, `ppsim threads --steps N --patience
--- N`, `ppsim list`, `ppsim dump --turns N`, `ppsim steps --turns N`, `ppsim state --turns N` or
--- `ppsim sessions --turns N`, the command and these options required; for each `--processors N` and for `steps` also `--pp N` and
--- `--from N`, which may be left out; or `ppsim --version`
+-- N`, `ppsim list`, `ppsim dump --turns N`, `ppsim steps --turns N`, `ppsim state --turns N`,
+-- `ppsim sessions --turns N` or `ppsim check`, the command and these options required; for each but
+-- `check` also `--processors N`, for `steps` `--pp N` and `--from N`, for `check`
+-- `--opened N,N,..`, which may be left out; or `ppsim --version`
 
 -- a required option whose value is a number
 abbrev pub number_option : Text → Rule
 number_option id =
     record (new_rule id) { long = Some id; action = Some Set; required = true; value_names = 1 }
 
--- an option that may be left out, whose value is a number
-abbrev pub optional_number : Text → Rule
-optional_number id =
+-- an option that may be left out, with one value
+abbrev pub optional_value : Text → Rule
+optional_value id =
     record (new_rule id) { long = Some id; action = Some Set; value_names = 1 }
 
 -- the option that says how many processors the machine has
 abbrev pub processors_option : Rule
-processors_option = optional_number (codes "processors")
+processors_option = optional_value (codes "processors")
 
 abbrev pub barrel : App
 barrel =
@@ -59,14 +62,17 @@ state =
 abbrev pub steps : App
 steps =
     with_rule (with_rule (with_rule (with_rule (new_app (codes "steps"))
-    (number_option (codes "turns"))) (optional_number (codes "pp")))
-    (optional_number (codes "from")))
+    (number_option (codes "turns"))) (optional_value (codes "pp")))
+    (optional_value (codes "from")))
     processors_option
 
 abbrev pub sessions : App
 sessions =
     with_rule (with_rule (new_app (codes "sessions"))
     (number_option (codes "turns"))) processors_option
+
+abbrev pub check : App
+check = with_rule (new_app (codes "check")) (optional_value (codes "opened"))
 
 abbrev pub bare : App
 bare =
@@ -77,10 +83,10 @@ bare =
 
 unfoldable pub ppsim : App
 ppsim =
-    with_subcommand
+    with_subcommand (with_subcommand
     (with_subcommand (with_subcommand (with_subcommand (with_subcommand (with_subcommand
     (with_subcommand bare barrel.top) threads.top) list.top) dump.top) steps.top) state.top)
-    sessions.top
+    sessions.top) check.top
 
 -- the kinds of refusal that clap's parse may give to the words: none where they are a command line
 unfoldable pub refusals : List Text → Kinds
@@ -110,6 +116,11 @@ abbrev pub ReadsTurn : Option Text → ℕ → Type 0
 ReadsTurn None turn = turn ≡ 0
 ReadsTurn (Some text) turn = ReadsNumber (Some text) turn × (turn ≤ 999999)
 
+-- the channels of a list as `1,5,13`, by flags in the order of their places; none if none is said
+abbrev pub ReadsChannels : Option Text → List Bool → Type 0
+ReadsChannels None flags = flags ≡ replicate channel_count false
+ReadsChannels (Some text) flags = AreListed text flags
+
 -- WHAT IT ASKS FOR
 
 -- the command of this name, with these texts of its options, asks for this work
@@ -138,6 +149,8 @@ IsWorkOf name text_of (works.Steps profile turns only from) =
     × ReadsNumber (text_of (codes "turns")) turns × (turns ≤ 999999)
     × ReadsProcessor profile (text_of (codes "pp")) only
     × ReadsTurn (text_of (codes "from")) from
+IsWorkOf name text_of (works.Check opened) =
+    (name ≡ codes "check") × ReadsChannels (text_of (codes "opened")) opened
 
 abbrev pub IsWorkAmong : Option (Text × List Row) → Work → Type 0
 IsWorkAmong None work = ⊥

@@ -2,6 +2,7 @@ pub mod TextAnswer
 pub mod BarrelText
 pub mod ThreadsText
 pub mod ListText
+pub mod CheckText
 pub mod DumpText
 pub mod StateOfRun
 pub mod SessionsOfRun

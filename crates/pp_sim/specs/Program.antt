@@ -1,12 +1,13 @@
 -- What a run of the program comes to, by its words, by what was read and written, and by the status
 -- that it answers.
-use Rattle.std.specs.Prelude.{◌≡◌, ℕ, List, [], take, Option, Result, Ok, Err, IfSome, ◌⊎◌}
+use Rattle.std.specs.Prelude.{◌≡◌, ℕ, Bool, List, [], take, Option, Result, Ok, Err, IfSome, ◌⊎◌}
 use Rattle.std.specs.Io.KnownBytes.{Appends, Keeps}
 use Rattle.clap.specs.Words.{Text, kind_of}
 use Rattle.clap.specs.declared.error.Error.{Error}
 use Rattle.clap.specs.declared.error.kind.ErrorKind.TheVariants.{DisplayHelp, DisplayVersion}
 use Rattle.pp_machine.specs.declared.profile.Profile.{Profile}
 use Rattle.pp_sim.specs.BarrelText.{IsBarrelText}
+use Rattle.pp_sim.specs.CheckText.{Checks, IsCheck}
 use Rattle.pp_sim.specs.CommandLine.{AskFor, IsOutOfRange, IsRefused, refusals}
 use Rattle.pp_sim.specs.DumpText.{HindersDump, IsDumpText}
 use Rattle.pp_sim.specs.ListText.{IsListText}
@@ -27,50 +28,40 @@ use Rattle.pp_sim.specs.declared.work.Work.TheVariants as works
 
 -- ---- words that ask for work
 
--- the texts that a work may print of a deck; Z is the allocator's type, of which a report is made
-abbrev pub IsTextBy : Type 0 → Work → LoadedDeck → List ℕ → Type 0
-IsTextBy Z (works.Barrel profile turns) = IsBarrelText turns
-IsTextBy Z (works.Threads profile limits) = IsThreadsText Z limits
-IsTextBy Z (works.List profile) = IsListText
-IsTextBy Z (works.Dump profile turns) = IsDumpText turns
-IsTextBy Z (works.State profile turns) = IsStateText turns
-IsTextBy Z (works.Sessions profile turns) = IsSessionsText turns
-IsTextBy Z (works.Steps profile turns only from) = IsStepsText turns only from
-
--- what may stand in the way of one
-abbrev pub HindersWork : Work → LoadedDeck → GoingOn → Type 0
-HindersWork (works.Barrel profile turns) = Never
-HindersWork (works.Threads profile limits) = Never
-HindersWork (works.List profile) = Never
-HindersWork (works.Dump profile turns) = HindersDump turns
-HindersWork (works.State profile turns) = Never
-HindersWork (works.Sessions profile turns) = Never
-HindersWork (works.Steps profile turns only from) = Never
-
--- the profile of its machine
-abbrev pub profile_of : Work → Profile
-profile_of (works.Barrel profile turns) = profile
-profile_of (works.Threads profile limits) = profile
-profile_of (works.List profile) = profile
-profile_of (works.Dump profile turns) = profile
-profile_of (works.State profile turns) = profile
-profile_of (works.Sessions profile turns) = profile
-profile_of (works.Steps profile turns only from) = profile
-
--- the answer of a work, to the bytes that were read, and to the first bytes of a reader that tells
--- what it has
-pub record IsDone (Z : Type 0) (work : Work) (answer : Result (Unit {0}) TextFault) (before after old new : Option (List ℕ)) : Type 0 where
-  pub every_reader : (bytes : List ℕ) × AnswersUnless (profile_of work) (HindersWork work)
-      (IsTextBy Z work) answer before after old new bytes
+-- the answer of a work on a deck for a machine of this profile: to the bytes that were read, and to
+-- the first bytes of a reader that tells what it has
+pub record AnswersDeck (profile : Profile) (Hinders : LoadedDeck → GoingOn → Type 0) (IsDeckText : LoadedDeck → List ℕ → Type 0) (answer : Result (Unit {0}) TextFault) (before after old new : Option (List ℕ)) : Type 0 where
+  pub every_reader : (bytes : List ℕ) × AnswersUnless profile Hinders IsDeckText answer before after
+      old new bytes
   pub telling_reader : IfSome before (λ bytes.
-      IsAnswerUnless (profile_of work) (HindersWork work) (IsTextBy Z work) answer
-      (take most_bytes bytes) old new)
+      IsAnswerUnless profile Hinders IsDeckText answer (take most_bytes bytes) old new)
+
+-- the answer of a check of a trace, likewise
+pub record AnswersTrace (opened : List Bool) (answer : Result (Unit {0}) TextFault) (before after old new : Option (List ℕ)) : Type 0 where
+  pub every_reader : (bytes : List ℕ) × Checks opened answer before after old new bytes
+  pub telling_reader : IfSome before (λ bytes. IsCheck opened answer bytes old new)
+
+-- The answer of a work: a text of the deck that was read, or what stands in its way; or the check
+-- of the trace that was read. Z is the allocator's type, of which a report is made.
+abbrev pub IsDone : Type 0 → Work → Result (Unit {0}) TextFault → Option (List ℕ) → Option (List ℕ)
+    → Option (List ℕ) → Option (List ℕ) → Type 0
+IsDone Z (works.Barrel profile turns) = AnswersDeck profile Never (IsBarrelText turns)
+IsDone Z (works.Threads profile limits) = AnswersDeck profile Never (IsThreadsText Z limits)
+IsDone Z (works.List profile) = AnswersDeck profile Never IsListText
+IsDone Z (works.Dump profile turns) =
+    AnswersDeck profile (HindersDump turns) (IsDumpText turns)
+IsDone Z (works.State profile turns) = AnswersDeck profile Never (IsStateText turns)
+IsDone Z (works.Sessions profile turns) = AnswersDeck profile Never (IsSessionsText turns)
+IsDone Z (works.Steps profile turns only from) =
+    AnswersDeck profile Never (IsStepsText turns only from)
+IsDone Z (works.Check opened) = AnswersTrace opened
 
 -- the status of a work that was done, or failed
 abbrev pub status_of : Result (Unit {0}) TextFault → ℕ
 status_of (Ok done) = 0
 status_of (Err (fault.Deck f)) = 1
 status_of (Err (fault.NotBetweenPrograms going_on)) = 1
+status_of (Err (fault.Trace f)) = 1
 status_of (Err fault.Read) = 3
 status_of (Err fault.Write) = 3
 status_of (Err fault.Memory) = 4
@@ -99,6 +90,7 @@ IsWritten (Err fault.Memory) text old new = Keeps old new
 IsWritten (Err fault.Read) text old new = ⊥
 IsWritten (Err (fault.Deck f)) text old new = ⊥
 IsWritten (Err (fault.NotBetweenPrograms going_on)) text old new = ⊥
+IsWritten (Err (fault.Trace f)) text old new = ⊥
 
 -- a text was printed, or could not be, and the status is that of the answer
 abbrev pub IsPrinted : List ℕ → ℕ → Option (List ℕ) → Option (List ℕ) → Type 0

@@ -45,6 +45,7 @@ IsAnswerUnless profile Hinders IsDeckText (Err (fault.NotBetweenPrograms going_o
     IsHindered profile Hinders bytes going_on × Keeps old new
 IsAnswerUnless profile Hinders IsDeckText (Err (fault.Deck f)) bytes old new =
     IsFaultOf profile bytes f × Keeps old new
+IsAnswerUnless profile Hinders IsDeckText (Err (fault.Trace f)) bytes old new = ⊥
 IsAnswerUnless profile Hinders IsDeckText (Err fault.Read) bytes old new = Keeps old new
 IsAnswerUnless profile Hinders IsDeckText (Err fault.Memory) bytes old new = Keeps old new
 
@@ -78,6 +79,7 @@ IsReadFault fault.Memory = Unit {0}
 IsReadFault fault.Write = ⊥
 IsReadFault (fault.Deck f) = ⊥
 IsReadFault (fault.NotBetweenPrograms going_on) = ⊥
+IsReadFault (fault.Trace f) = ⊥
 
 -- making a text fails by the deck, by what stands in its way, or for lack of memory
 abbrev pub IsRunFaultUnless : Profile → (LoadedDeck → GoingOn → Type 0) → List ℕ → TextFault
@@ -86,6 +88,7 @@ IsRunFaultUnless profile Hinders bytes (fault.Deck f) = IsFaultOf profile bytes 
 IsRunFaultUnless profile Hinders bytes (fault.NotBetweenPrograms going_on) =
     IsHindered profile Hinders bytes going_on
 IsRunFaultUnless profile Hinders bytes fault.Memory = Unit {0}
+IsRunFaultUnless profile Hinders bytes (fault.Trace f) = ⊥
 IsRunFaultUnless profile Hinders bytes fault.Read = ⊥
 IsRunFaultUnless profile Hinders bytes fault.Write = ⊥
 

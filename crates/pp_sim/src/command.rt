@@ -3,7 +3,7 @@
 ghost use Rattle.std.specs.Prelude.{◌≡◌, false, IfOk};
 ghost use Rattle.clap.specs.Words.{app_of, rule_of, with_rule};
 ghost use Rattle.clap.specs.declared.builder.command.Command.TheViews.{out-Command as fields_of};
-ghost use Rattle.pp_sim.specs.CommandLine.{bare, barrel, dump, list, number_option, optional_number, processors_option, ppsim, sessions, state, steps, threads};
+ghost use Rattle.pp_sim.specs.CommandLine.{bare, barrel, check, dump, list, number_option, optional_value, processors_option, ppsim, sessions, state, steps, threads};
 
 use crate::number_range::{FROM, NumberRange, PATIENCE, STEPS, TURNS};
 use clap::{Arg, ArgAction, Command};
@@ -36,8 +36,8 @@ A deck with a fault is refused, as in 'ppsim: deck fault 4 at line 3':
   9  out of memory, printed as 'ppsim: out of memory'
 
 The exit status is 0 when the work is done or help was asked for, 1 when the deck is refused or
-can't be dumped as it stands, 2 when the command line is refused, 3 after a read or write fault, and
-4 when memory runs out.
+can't be dumped as it stands, or when a trace is not lawful, 2 when the command line is refused, 3
+after a read or write fault, and 4 when memory runs out.
 
 The pages TUTORIAL.md, docs/MACHINE.md (the instructions), docs/DECK.md, docs/OUTPUT.md and
 docs/VIEWS.md of the repository say more.
@@ -230,6 +230,33 @@ where four.deck has the lines
   0100 1405 1603 3450 0300
   START 0100";
 
+const CHECK_ABOUT: &str = "Reads a channel trace, and says whether it is lawful";
+
+const CHECK_LONG_ABOUT: &str = "\
+Reads a channel trace, and says whether it is lawful: whether on each channel its events, in order,
+may be those of one channel, on which in every session the words taken are the first of the words
+put. No deck is read, and nothing is run.
+
+Reads from standard input, to its end, a text in the lines that barrel or threads print, whoever
+made it. Events with turns are in order of turns; events with numbers count the events of their
+channel from 0, or from 1 where it was open before. Lines of processors, blank lines and comments,
+from a * on, are passed over; a line that says how a channel stands has to agree with the events
+before it.
+
+Prints to standard output how many events, channels and sessions there are. Where the trace is not
+lawful, nothing is printed there, and the first line at which it is not is told on standard error,
+with what is wrong, as in 'ppsim: line 7: TAK 0007 on CH05, which is empty'; the exit status is 1.";
+
+const OPENED_HELP: &str = "The channels that were open before the trace (octal)";
+
+const CHECK_EXAMPLE: &str = "\
+Example:
+  ppsim check < handoff.trace
+where handoff.trace has the lines
+  000000 PP00 CH05 ACN
+  000020 PP00 CH05 PUT 0007
+  000021 PP01 CH05 TAK 0007";
+
 /// A required option whose value is a number.
 fn number_option<'a>(alloc: Global, id: &'a str, help: &'a str) -> Arg<'a>
     ensures rule { rule_of result ≡ number_option id.entry.now }
@@ -243,15 +270,15 @@ fn number_option<'a>(alloc: Global, id: &'a str, help: &'a str) -> Arg<'a>
         .help(help)
 }
 
-/// An option that may be left out, whose value is a number.
-fn optional_number<'a>(alloc: Global, id: &'a str, help: &'a str) -> Arg<'a>
-    ensures rule { rule_of result ≡ optional_number id.entry.now }
+/// An option that may be left out, with one value, which the help calls so.
+fn optional_value<'a>(alloc: Global, id: &'a str, value: &'a str, help: &'a str) -> Arg<'a>
+    ensures rule { rule_of result ≡ optional_value id.entry.now }
     ensures local { result.global ≡ false }
 {
     Arg::new(alloc, id)
         .long(id)
         .action(ArgAction::Set)
-        .value_name("N")
+        .value_name(value)
         .help(help)
 }
 
@@ -260,7 +287,7 @@ fn processors_option<'a>(alloc: Global) -> Arg<'a>
     ensures rule { rule_of result ≡ processors_option }
     ensures local { result.global ≡ false }
 {
-    optional_number(alloc, "processors", PROCESSORS_HELP)
+    optional_value(alloc, "processors", "N", PROCESSORS_HELP)
 }
 
 /// A command with one more required option, whose value is a number of this range.
@@ -287,10 +314,10 @@ fn with_optional_number<'a>(
 ) -> Result<Command<'a>, AllocError>
     requires { (fields_of command).has_globals ≡ false }
     ensures app { IfOk result (λ c. app_of c
-        ≡ with_rule (app_of command.entry) (optional_number id.entry.now)) }
+        ≡ with_rule (app_of command.entry) (optional_value id.entry.now)) }
     ensures local { IfOk result (λ c. (fields_of c).has_globals ≡ false) }
 {
-    command.arg(optional_number(alloc, id, help))
+    command.arg(optional_value(alloc, id, "N", help))
 }
 
 /// `barrel --turns N [--processors N]`
@@ -386,6 +413,18 @@ fn steps_command<'a>(alloc: Global) -> Result<Command<'a>, AllocError>
     command.arg(processors_option(alloc))
 }
 
+/// `check [--opened N,N,..]`
+fn check_command<'a>(alloc: Global) -> Result<Command<'a>, AllocError>
+    ensures app { IfOk result (λ c. app_of c ≡ check) }
+    ensures local { IfOk result (λ c. (fields_of c).has_globals ≡ false) }
+{
+    let command = Command::new(alloc, "check")
+        .about(CHECK_ABOUT)
+        .long_about(CHECK_LONG_ABOUT)
+        .after_help(CHECK_EXAMPLE);
+    command.arg(optional_value(alloc, "opened", "N,N,..", OPENED_HELP))
+}
+
 /// The program's name, its version and its help, without a command.
 fn bare_command<'a>(alloc: Global) -> Command<'a>
     ensures app { app_of result ≡ bare }
@@ -411,12 +450,14 @@ pub(crate) fn command<'a>(alloc: Global) -> Result<Command<'a>, AllocError>
     let steps = steps_command(alloc)?;
     let state = state_command(alloc)?;
     let sessions = sessions_command(alloc)?;
+    let check = check_command(alloc)?;
     let bare = bare_command(alloc);
     let runs = bare.subcommand(barrel)?.subcommand(threads)?;
     let texts = runs.subcommand(list)?;
     let decks = texts.subcommand(dump)?;
     let with_steps = decks.subcommand(steps)?;
     let with_state = with_steps.subcommand(state)?;
-    let whole = with_state.subcommand(sessions)?;
+    let with_sessions = with_state.subcommand(sessions)?;
+    let whole = with_sessions.subcommand(check)?;
     Ok(whole)
 }

@@ -1,10 +1,10 @@
 //! Reading the words of a command line.
 
-ghost use Rattle.std.specs.Prelude.{◌≡◌, ◌≤◌, ◌↔◌, ℕ, [], codes, map, Option, IfOk, IfErr, IfSome, IsSome, OnOk, MatchOption};
+ghost use Rattle.std.specs.Prelude.{◌≡◌, ◌≤◌, ◌↔◌, ℕ, [], codes, map, Bool, List, Option, IfOk, IfErr, IfSome, IsSome, OnOk, MatchOption};
 ghost use Rattle.clap.specs.Words.{first_value, found_of};
 ghost use Rattle.pp_machine.specs.declared.profile.Profile.{Profile};
 ghost use Rattle.pp_runner.specs.RunLimits.{AreLimits};
-ghost use Rattle.pp_sim.specs.CommandLine.{AskFor, IsFaultBy, IsOutOfRange, IsRefused, IsWorkOf, ReadsNumber, ReadsProcessor, ReadsProfile, ReadsTurn, refusals};
+ghost use Rattle.pp_sim.specs.CommandLine.{AskFor, IsFaultBy, IsOutOfRange, IsRefused, IsWorkOf, ReadsChannels, ReadsNumber, ReadsProcessor, ReadsProfile, ReadsTurn, refusals};
 ghost use Rattle.pp_sim.specs.declared.work.Work.{Work};
 
 use crate::command::command;
@@ -13,6 +13,8 @@ use crate::number_range::{FROM, PATIENCE, STEPS, TURNS};
 use crate::work::Work;
 use clap::error::ErrorKind;
 use clap::{ArgMatches, Error};
+use pp_channel::CHANNELS;
+use pp_check::listed_channels;
 use pp_machine::{PpNo, Profile};
 use pp_runner::Limits;
 use std::alloc::Global;
@@ -111,6 +113,19 @@ fn from_of(matches: &ArgMatches<'_>) -> Option<u32>
     }
 }
 
+/// The channels that the options say to be open, by flags in the order of their places, if they are
+/// channels; none where the options do not say any.
+fn opened_of(matches: &ArgMatches<'_>) -> Option<[bool; CHANNELS]>
+    ensures { MatchOption result ((flags : List Bool) → ¬ ReadsChannels
+        (first_value (found_of matches.now) (codes "opened")) flags)
+        (ReadsChannels (first_value (found_of matches.now) (codes "opened"))) }
+{
+    match matches.get_str("opened") {
+        Some(text) => listed_channels(text.as_bytes()),
+        None => Some([false; CHANNELS]),
+    }
+}
+
 /// The work that a command asks for, if its numbers are in range.
 fn work_of(name: &str, matches: &ArgMatches<'_>) -> Option<Work>
     ensures { MatchOption result ((work : Work)
@@ -153,6 +168,9 @@ fn work_of(name: &str, matches: &ArgMatches<'_>) -> Option<Work>
             only,
             from,
         })
+    } else if name == "check" {
+        let opened = opened_of(matches)?;
+        Some(Work::Check { opened })
     } else {
         None
     }

@@ -1,15 +1,21 @@
 //! Laws of the texts of runs. These functions do nothing: their contracts say what is proved of the
 //! definitions.
 
-ghost use Rattle.std.specs.Prelude.{◌≡◌, ℕ, List};
-ghost use Rattle.pp_deck.specs.DeckMeaning.{LoadedDeck};
+ghost use Rattle.std.specs.Prelude.{◌≡◌, ℕ, ◌<◌, ◌^◌, IsTrue, List, Ok, length};
+ghost use Rattle.pp_channel.specs.ChannelNumber.{names_channel};
+ghost use Rattle.pp_channel.specs.Merge.{history_on};
+ghost use Rattle.pp_check.specs.LawfulTrace.{AreLawful};
+ghost use Rattle.pp_deck.specs.DeckMeaning.{LoadedDeck, deck_meaning};
+ghost use Rattle.pp_deck.specs.DeckText.{lines_of};
 ghost use Rattle.pp_machine.specs.Run.{barrel, run};
+ghost use Rattle.pp_machine.specs.declared.profile.Profile.{Profile};
 ghost use Rattle.pp_runner.specs.RunLimits.{RunLimits};
 ghost use Rattle.pp_sim.specs.BarrelText.{IsBarrelText};
 ghost use Rattle.pp_sim.specs.ThreadsText.{IsThreadsText};
 ghost use Rattle.pp_text.specs.ReportLaw.{AgreeOnReport, HaveSameHistories};
 ghost use Rattle.pp_text.specs.TextLaw.{AgreeOnText, AreSameHistories, NameAlike};
 
+use pp_check::{barrel_law, printed_report_law};
 use pp_text::{report_law, text_law};
 use std::alloc::Allocator;
 
@@ -39,4 +45,22 @@ pub fn threads_text_law<A: Allocator>()
         × HaveSameHistories one.report also.report }
 {
     report_law::<A>();
+}
+
+/// What `barrel_text` and `threads_text` write is a lawful trace, which `check_text` accepts where
+/// the channels that it takes as open are those that dead start opened: of every deck after any
+/// turns, and of every run by threads in which no channel has 10^19 events.
+pub fn checked_text_law<A: Allocator>()
+    ensures barrel { (profile : Profile) (bytes text : List ℕ) (deck : LoadedDeck) (turns : ℕ)
+        → deck_meaning profile bytes ≡ Ok deck → turns < 10 ^ 19 → IsBarrelText turns deck text
+        → AreLawful (run (barrel deck.machine.profile turns) deck.machine).opened
+        (lines_of text) }
+    ensures threads { (deck : LoadedDeck) (limits : RunLimits) (text : List ℕ)
+        (is : IsThreadsText A limits deck text)
+        → ((c : ℕ) → IsTrue (names_channel c)
+        → length (history_on c is.report.channels) < 10 ^ 19)
+        → AreLawful deck.machine.opened (lines_of text) }
+{
+    barrel_law();
+    printed_report_law::<A>();
 }

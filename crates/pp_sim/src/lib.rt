@@ -1,6 +1,7 @@
 //! Runs of decks, the texts of these runs, listings and dumps, and the program that writes them.
 #![tactic(auto)]
 
+mod checked_trace;
 mod command;
 mod command_words;
 mod dumped_text;
@@ -21,13 +22,18 @@ mod text_by_threads;
 mod text_fault;
 mod work;
 
+pub use checked_trace::check_text;
 pub use command_words::read_words;
 pub use dumped_text::dump_text;
 pub use entry::run_main;
-pub use laws::{barrel_text_law, threads_text_law};
+pub use laws::{barrel_text_law, checked_text_law, threads_text_law};
 pub use line_fault::LineFault;
 pub use listing_text::list_text;
 pub use numeral::numeral_law;
+pub use pp_check::{
+    ChannelState, TraceFault, TraceFlaw, Verdict, barrel_law, check_trace, fault_law,
+    listed_channels, printed_law, printed_report_law, push_verdict, trace_law,
+};
 pub use pp_deck::{Deck, DeckCode, DeckFault, deck_law, headline_law, read_deck, reading_law};
 pub use pp_listing::{DumpFault, GoingOn, dump, dump_law, listing, listing_law};
 pub use pp_sessions::{

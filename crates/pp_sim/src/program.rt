@@ -4,6 +4,7 @@ ghost use Rattle.std.specs.Prelude.{◌≡◌, map};
 ghost use Rattle.pp_runner.specs.Report.{ReportFitsInMemory};
 ghost use Rattle.pp_sim.specs.Program.{IsDone, IsPrinted, IsRun, IsTold, status_of};
 
+use crate::checked_trace::check_text;
 use crate::command_words::read_words;
 use crate::dumped_text::dump_text;
 use crate::line_fault::LineFault;
@@ -24,8 +25,8 @@ use std::thread::Threads;
 
 /// It is done, or help was asked for.
 const DONE: u8 = 0;
-/// The deck was refused, or can't be dumped as it stands.
-const DECK_REFUSED: u8 = 1;
+/// The deck was refused, or can't be dumped as it stands; or a trace is not lawful.
+const INPUT_REFUSED: u8 = 1;
 /// The command line was refused.
 const LINE_REFUSED: u8 = 2;
 /// The input or the output failed.
@@ -83,6 +84,7 @@ fn do_work<T: Threads + Wait + Sync, I: Read, A: Allocator + Copy + Send + Sync,
             only,
             from,
         } => steps_text(alloc, profile, input, output, turns, only, from),
+        Work::Check { opened } => check_text(alloc, &opened, input, output),
     }
 }
 
@@ -143,7 +145,9 @@ fn tell_answer<E: Write>(answer: Result<(), TextFault>, error: &mut E) -> u8
     };
     let _ = writeln!(error, "ppsim: {fault}");
     match fault {
-        TextFault::Deck(_) | TextFault::NotBetweenPrograms(_) => DECK_REFUSED,
+        TextFault::Deck(_) | TextFault::NotBetweenPrograms(_) | TextFault::Trace(_) => {
+            INPUT_REFUSED
+        }
         TextFault::Read | TextFault::Write => DEVICE_FAILED,
         TextFault::Memory => NO_MEMORY,
     }

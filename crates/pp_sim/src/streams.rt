@@ -1,4 +1,5 @@
-//! Reading up to a limit, and writing all of a text. No error is tried again.
+//! Reading up to a limit or to the end, and writing all of a text. No error is tried again, except
+//! that a reader which is read to its end may be interrupted.
 
 ghost use Rattle.std.specs.Prelude.{◌≡◌, ◌≢◌, ◌≤◌, ◌<◌, ℕ, List, length, OnOk, OnErr, IfOk, IfErr};
 ghost use Rattle.std.specs.Io.KnownBytes.{Appends, Consumes, IsAtEnd};
@@ -8,7 +9,7 @@ ghost use Rattle.pp_text.specs.Written.{AppendsFront};
 use crate::text_fault::TextFault;
 use pp_text::write_bytes;
 use std::alloc::Allocator;
-use std::io::{Read, Write};
+use std::io::{ErrorKind, Read, Write};
 
 /// How many bytes are read at most (decimal): one more than a deck may have.
 const MOST_BYTES: usize = 1_048_577;
@@ -40,6 +41,26 @@ pub(crate) fn read_front<A: Allocator, R: Read>(
         }
     }
     Ok(front)
+}
+
+/// All bytes of a reader.
+pub(crate) fn read_all<A: Allocator, R: Read>(
+    alloc: A,
+    reader: &mut R,
+) -> Result<Vec<u8, A>, TextFault>
+    ensures read { IfOk result (λ all. Consumes (R.remaining reader.old)
+        (R.remaining reader.new) all.items) }
+    ensures end { OnOk result (IsAtEnd (R.remaining reader.new)) }
+    ensures fault { IfErr result IsReadFault }
+    ensures some { (bytes : List ℕ) × Consumes (R.remaining reader.old)
+        (R.remaining reader.new) bytes }
+{
+    let mut all = Vec::new(alloc);
+    match reader.read_to_end(&mut all) {
+        Ok(_) => Ok(all),
+        Err(fault) if fault.kind() == ErrorKind::OutOfMemory => Err(TextFault::Memory),
+        Err(_) => Err(TextFault::Read),
+    }
 }
 
 /// Writes all of a text, and flushes the writer. An error ends it, and so does a write that takes

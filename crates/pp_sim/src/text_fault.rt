@@ -1,11 +1,12 @@
 //! Why a text was not written.
 
+use pp_check::TraceFault;
 use pp_deck::DeckFault;
 use pp_listing::GoingOn;
 use thiserror::Error;
 
-/// Why the text of a deck was not written. Every fault but `Write` comes before the first
-/// byte is written.
+/// Why a text of a deck or of a trace was not written. Every fault but `Write` comes before the
+/// first byte is written.
 #[derive(Clone, Copy, Debug, PartialEq, Eq, Error)]
 pub enum TextFault {
     /// The reader failed.
@@ -17,6 +18,9 @@ pub enum TextFault {
     /// The run left a machine that a dump can't show, since this goes on in it.
     #[error("not between programs: {0}")]
     NotBetweenPrograms(GoingOn),
+    /// A trace is not lawful.
+    #[error(transparent)]
+    Trace(TraceFault),
     /// A growth was refused.
     #[error("out of memory")]
     Memory,

@@ -1,5 +1,6 @@
 //! What a command line asks for.
 
+use pp_channel::CHANNELS;
 use pp_machine::{PpNo, Profile};
 use pp_runner::Limits;
 
@@ -47,5 +48,10 @@ pub enum Work {
         turns: u32,
         only: Option<PpNo>,
         from: u32,
+    },
+    /// The check of a channel trace, where the channels that are flagged, in the order of their
+    /// places, were open before it.
+    Check {
+        opened: [bool; CHANNELS],
     },
 }

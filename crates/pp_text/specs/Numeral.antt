@@ -20,6 +20,11 @@ abbrev pub unpadded : ℕ → ℕ → List ℕ
 unpadded zero n = []
 unpadded (suc most) n = if n == 0 then [] else unpadded most (n / 10) ++ digit (n % 10)
 
+-- a count in decimal digits, without zeros in front: one digit at least. Twenty digits are enough
+-- for every count of 64 bits.
+unfoldable pub short_decimal : ℕ → List ℕ
+short_decimal n = unpadded 19 (n / 10) ++ digit (n % 10)
+
 -- a count in decimal: six digits, with leading zeros, and more digits only where it needs more.
 -- Twenty digits are enough for every count of 64 bits.
 unfoldable pub decimal : ℕ → List ℕ

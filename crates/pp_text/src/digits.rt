@@ -1,7 +1,7 @@
 //! Numbers in octal and decimal digits.
 
 ghost use Rattle.std.specs.Prelude.{◌≡◌, ◌+◌, ◌<◌, ◌≤◌, ◌/◌, ◌%◌, ◌^◌, ◌++◌, length};
-ghost use Rattle.pp_text.specs.Numeral.{digits, octal, unpadded};
+ghost use Rattle.pp_text.specs.Numeral.{digits, octal, short_decimal, unpadded};
 ghost use Rattle.pp_text.specs.Pairs.{decimal_pairs};
 ghost use Rattle.pp_text.specs.Piece.{HasRoom};
 
@@ -99,6 +99,17 @@ pub fn push_unpadded(piece: &mut Piece, n: u64, most: u32)
         return;
     }
     push_unpadded(piece, n / 10, most - 1);
+    piece.push(&[b'0' + (n % 10) as u8]);
+}
+
+/// Adds a count in decimal digits, without zeros in front, one digit at least.
+#[tactic(auto, unfolding(crate::specs::Numeral::short_decimal))]
+pub fn push_short_decimal(piece: &mut Piece, n: u64)
+    requires { HasRoom 20 piece.old }
+    ensures text { piece.new ≡ piece.old ++ short_decimal n }
+    ensures room { length piece.new ≤ length piece.old + 20 }
+{
+    push_unpadded(piece, n / 10, 19);
     piece.push(&[b'0' + (n % 10) as u8]);
 }
 

@@ -12,7 +12,9 @@ mod report_text;
 mod text_writer;
 mod write_fault;
 
-pub use digits::{decimal6, octal1, octal2, octal4, octal6, push_unpadded, push_upper_digits};
+pub use digits::{
+    decimal6, octal1, octal2, octal4, octal6, push_short_decimal, push_unpadded, push_upper_digits,
+};
 pub use laws::{author_law, report_law, text_law};
 pub use machine_text::write_text;
 pub use piece::Piece;

@@ -121,6 +121,16 @@ fn long_texts_refused(rt: HostRuntime) -> Result<(), Fail> {
 }
 
 #[test]
+fn checks_refused(rt: HostRuntime) {
+    let words = ["ppsim", "check"];
+    let verdict = "lawful: 3 events on 1 channels, 1 sessions\n";
+    assert!(rt; program_refused(&rt, (&words, HANDOFF_TEXT), 0, verdict, "") > 1);
+    let fault = "ppsim: line 1: TAK 0007 on CH05, which is inactive\n";
+    let trace = "000000 PP00 CH05 TAK 0007\n";
+    assert!(rt; program_refused(&rt, (&words, trace), 1, "", fault) > 1);
+}
+
+#[test]
 fn programs_of_twenty_refused(rt: HostRuntime) {
     let words = WORDS_OF_TWENTY.as_slice();
     assert!(rt; program_refused(&rt, (words, HANDOFF), 0, HANDOFF_ON_TWENTY, "") > 5);

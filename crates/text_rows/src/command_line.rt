@@ -176,6 +176,60 @@ fn words_of_steps_shown(rt: HostRuntime) -> Result<(), Fail> {
     Ok(())
 }
 
+/// Options of `check`, and the numbers (octal) of the channels that they open, if they are taken.
+const OPENED: [(&[&str], Option<&[u8]>); 15] = [
+    (&[], Some(&[])),
+    (&["--opened", "5"], Some(&[0o5])),
+    (&["--opened", "05"], Some(&[0o5])),
+    (&["--opened", "0,13,20,33"], Some(&[0, 0o13, 0o20, 0o33])),
+    (&["--opened=33,1,1"], Some(&[0o1, 0o33])),
+    (&["--opened", ""], None),
+    (&["--opened", "5,"], None),
+    (&["--opened", ",5"], None),
+    (&["--opened", "1, 5"], None),
+    (&["--opened", "14"], None),
+    (&["--opened", "34"], None),
+    (&["--opened", "8"], None),
+    (&["--opened", "005"], None),
+    (&["--opened", "+5"], None),
+    (&["--opened", "5;6"], None),
+];
+
+/// The words that ask for a check with these options.
+fn words_of_check(
+    alloc: Global,
+    options: &'static [&'static str],
+) -> Result<Vec<&'static str>, Fail> {
+    let mut words = Vec::new(alloc);
+    words.extend_from_slice(&["ppsim", "check"])?;
+    words.extend_from_slice(options)?;
+    Ok(words)
+}
+
+/// Whether a check is asked for on which just these channels are open.
+fn opens(asked: Result<Work, Refused>, numbers: &[u8]) -> bool {
+    match asked {
+        Ok(Work::Check { opened }) => opened.iter().enumerate().all(|(place, is_open)| {
+            let number = if place < 12 { place } else { place + 4 };
+            *is_open == numbers.iter().any(|open| usize::from(*open) == number)
+        }),
+        _ => false,
+    }
+}
+
+#[test]
+fn words_of_open_channels(rt: HostRuntime) -> Result<(), Fail> {
+    for (options, numbers) in OPENED {
+        let words = words_of_check(rt.alloc(), options)?;
+        let asked = asked(rt.alloc(), &words);
+        match numbers {
+            Some(numbers) => assert!(rt; opens(asked, numbers), "{options:?}"),
+            None => assert_eq!(rt; asked, Err(Refused::Number), "{options:?}"),
+        }
+    }
+    Ok(())
+}
+
 /// The texts of the two numbers, and the numbers where they are taken.
 const LIMITS: [(&str, &str, Option<(u32, u32)>); 9] = [
     ("100", "5", Some((100, 5))),
@@ -212,7 +266,8 @@ fn limits_in(work: Work) -> Option<(u32, u32)> {
         | Work::Dump { .. }
         | Work::State { .. }
         | Work::Sessions { .. }
-        | Work::Steps { .. } => None,
+        | Work::Steps { .. }
+        | Work::Check { .. } => None,
     }
 }
 

@@ -30,7 +30,7 @@ fn words_in(alloc: Global, help: &str) -> Result<Vec<&str>, Fail> {
     Ok(words)
 }
 
-/// The deck in an example: the lines behind the one that tells of them, without the blanks in
+/// The deck or trace in an example: the lines behind the one that tells of them, without the blanks in
 /// front.
 fn deck_in(alloc: Global, help: &str) -> Result<Vec<u8>, Fail> {
     let (_, lines) = help.split_once("has the lines\n").ok_or("no deck")?;
@@ -55,7 +55,7 @@ fn example_of<R: AllocGlobal + Threads + Wait + Sync>(
 }
 
 /// Calls for help, each with what the example in it prints.
-const EXAMPLES: [(&[&str], &str); 8] = [
+const EXAMPLES: [(&[&str], &str); 9] = [
     (&["ppsim", "--help"], HANDOFF_TEXT),
     (&["ppsim", "barrel", "--help"], HANDOFF_TEXT),
     (&["ppsim", "threads", "--help"], HANDOFF_BY_THREADS),
@@ -64,6 +64,10 @@ const EXAMPLES: [(&[&str], &str); 8] = [
     (&["ppsim", "steps", "--help"], STEPS_OF_FOUR),
     (&["ppsim", "state", "--help"], STATE_OF_FOUR),
     (&["ppsim", "sessions", "--help"], SESSIONS_OF_HANDOFF),
+    (
+        &["ppsim", "check", "--help"],
+        "lawful: 3 events on 1 channels, 1 sessions\n",
+    ),
 ];
 
 const HANDOFF_BY_THREADS: &str = "\

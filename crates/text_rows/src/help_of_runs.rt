@@ -13,6 +13,7 @@ Commands:
   steps     Runs a deck in the barrel, and prints each step
   state     Runs a deck in the barrel, and prints how things stand then
   sessions  Runs a deck in the barrel, and prints the sessions of its channels
+  check     Reads a channel trace, and says whether it is lawful
   help      Print this message or the help of the given subcommand(s)
 
 Options:
@@ -43,8 +44,8 @@ A deck with a fault is refused, as in 'ppsim: deck fault 4 at line 3':
   9  out of memory, printed as 'ppsim: out of memory'
 
 The exit status is 0 when the work is done or help was asked for, 1 when the deck is refused or
-can't be dumped as it stands, 2 when the command line is refused, 3 after a read or write fault, and
-4 when memory runs out.
+can't be dumped as it stands, or when a trace is not lawful, 2 when the command line is refused, 3
+after a read or write fault, and 4 when memory runs out.
 
 The pages TUTORIAL.md, docs/MACHINE.md (the instructions), docs/DECK.md, docs/OUTPUT.md and
 docs/VIEWS.md of the repository say more.
@@ -73,6 +74,7 @@ Commands:
   steps     Runs a deck in the barrel, and prints each step
   state     Runs a deck in the barrel, and prints how things stand then
   sessions  Runs a deck in the barrel, and prints the sessions of its channels
+  check     Reads a channel trace, and says whether it is lawful
   help      Print this message or the help of the given subcommand(s)
 
 Options:

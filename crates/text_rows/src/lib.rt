@@ -3,6 +3,8 @@
 #![tactic(auto)]
 
 #[cfg(test)]
+mod checks;
+#[cfg(test)]
 mod command_line;
 #[cfg(test)]
 mod entry;
@@ -14,6 +16,8 @@ mod help;
 mod help_examples;
 #[cfg(test)]
 mod help_of_runs;
+#[cfg(test)]
+mod help_of_traces;
 #[cfg(test)]
 mod help_of_views;
 #[cfg(test)]

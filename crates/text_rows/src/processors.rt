@@ -39,6 +39,7 @@ fn kind_of(work: Work) -> Kind {
         | Work::State { profile, .. }
         | Work::Sessions { profile, .. }
         | Work::Steps { profile, .. } => (profile, false),
+        Work::Check { .. } => return Kind::Other,
     };
     if is_this {
         Kind::Run(profile)

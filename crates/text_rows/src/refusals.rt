@@ -4,12 +4,12 @@ use crate::program::{ending, handoff};
 
 const OUT_OF_RANGE: &str = "ppsim: number out of range\n";
 
-const REFUSED: [(&[&str], &str); 25] = [
+const REFUSED: [(&[&str], &str); 27] = [
     (
         &["ppsim"],
         "\
 error: 'ppsim' requires a subcommand but one was not provided
-  [subcommands: barrel, threads, list, dump, steps, state, sessions, help]
+  [subcommands: barrel, threads, list, dump, steps, state, sessions, check, help]
 
 Usage: ppsim <COMMAND>
 
@@ -144,6 +144,17 @@ For more information, try '--help'.
     ),
     (&["ppsim", "state", "--turns", "1000000"], OUT_OF_RANGE),
     (&["ppsim", "sessions", "--turns", "1000000"], OUT_OF_RANGE),
+    (&["ppsim", "check", "--opened", "5,14"], OUT_OF_RANGE),
+    (
+        &["ppsim", "check", "--turns", "40"],
+        "\
+error: unexpected argument '--turns' found
+
+Usage: ppsim check [OPTIONS]
+
+For more information, try '--help'.
+",
+    ),
     (
         &["ppsim", "steps"],
         "\

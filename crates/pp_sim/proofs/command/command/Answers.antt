@@ -18,4 +18,6 @@ returns c =
     c.in_ok-with_steps.ensures.shape c.in_ok-steps.ensures.local ∙ ap₂ with_subcommand decks_are (ap (λ (a : App). a.top) c.in_ok-steps.ensures.app) in
     let states_are : app_of c.in_ok-with_state.with_state ≡ with_subcommand (with_subcommand (with_subcommand (with_subcommand (with_subcommand (with_subcommand bare _) _) _) _) _) _ =
     c.in_ok-with_state.ensures.shape c.in_ok-state.ensures.local ∙ ap₂ with_subcommand steps_are (ap (λ (a : App). a.top) c.in_ok-state.ensures.app) in
-    c.in_ok-whole.ensures.shape c.in_ok-sessions.ensures.local ∙ ap₂ with_subcommand states_are (ap (λ (a : App). a.top) c.in_ok-sessions.ensures.app)
+    let sessions_are : app_of c.in_ok-with_sessions.with_sessions ≡ with_subcommand (with_subcommand (with_subcommand (with_subcommand (with_subcommand (with_subcommand (with_subcommand bare _) _) _) _) _) _) _ =
+    c.in_ok-with_sessions.ensures.shape c.in_ok-sessions.ensures.local ∙ ap₂ with_subcommand states_are (ap (λ (a : App). a.top) c.in_ok-sessions.ensures.app) in
+    c.in_ok-whole.ensures.shape c.in_ok-check.ensures.local ∙ ap₂ with_subcommand sessions_are (ap (λ (a : App). a.top) c.in_ok-check.ensures.app)

@@ -1,0 +1,55 @@
+//! Reading a channel trace and writing what is counted in it, if it is lawful.
+
+ghost use Rattle.std.specs.Prelude.{◌≢◌, ℕ, List, IfErr, IfSome};
+ghost use Rattle.std.specs.Io.KnownBytes.{Keeps};
+ghost use Rattle.pp_sim.specs.CheckText.{Checks, IsCheck};
+
+use crate::streams::{read_all, write_whole};
+use crate::text_fault::TextFault;
+use pp_channel::CHANNELS;
+use pp_check::{check_trace, push_verdict};
+use pp_text::Piece;
+use std::alloc::Allocator;
+use std::io::{Read, Write};
+
+/// Reads a channel trace to its end, and writes what is counted in it, if it is lawful. The
+/// channels that are flagged, in the order of their places, were open before it.
+pub fn check_text<A: Allocator, R: Read, W: Write>(
+    alloc: A,
+    opened: &[bool; CHANNELS],
+    reader: &mut R,
+    writer: &mut W,
+) -> Result<(), TextFault>
+    // For every reader, whatever it knows.
+    ensures every_reader { (bytes : List ℕ) × Checks opened.now result
+        (R.remaining reader.old) (R.remaining reader.new)
+        (W.contents writer.old) (W.contents writer.new) bytes }
+    // For a reader that knows the bytes that it has.
+    ensures telling_reader { IfSome (R.remaining reader.old) (λ bytes.
+        IsCheck opened.now result bytes (W.contents writer.old) (W.contents writer.new)) }
+    // Every fault but Write comes before the first byte is written.
+    ensures unwritten { IfErr result (λ fault. fault ≢ TextFault.Write
+        → Keeps (W.contents writer.old) (W.contents writer.new)) }
+{
+    let trace = read_all(alloc, reader)?;
+    write_verdict(trace.as_slice(), opened, writer)
+}
+
+/// Writes what is counted in a trace, if it is lawful.
+fn write_verdict<W: Write>(
+    trace: &[u8],
+    opened: &[bool; CHANNELS],
+    writer: &mut W,
+) -> Result<(), TextFault>
+    ensures { IsCheck opened.now result trace.now
+        (W.contents writer.old) (W.contents writer.new) }
+{
+    match check_trace(trace, opened) {
+        Ok(verdict) => {
+            let mut line = Piece::new();
+            push_verdict(&mut line, &verdict);
+            write_whole(writer, line.as_slice())
+        }
+        Err(fault) => Err(TextFault::Trace(fault)),
+    }
+}
