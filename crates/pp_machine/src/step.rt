@@ -30,6 +30,7 @@ impl<A: Allocator> Machine<A> {
     ghost use Rattle.pp_machine.specs.MachineStep.{answer_to, counted, event_for, served, stepped, step_event, step_outcome};
 
     /// One step of a processor; a step that makes no event takes no memory.
+    #[inline(always)]
     #[tactic(auto, using(crate::proofs::MachineStepLemmas::stepped_at_rest, crate::proofs::MachineStepLemmas::outcome_at_rest, crate::proofs::MachineStepLemmas::held_step, crate::proofs::MachineStepLemmas::fault_step))]
     pub fn step(&mut self, n: PpNo) -> Result<Outcome, Memory>
         ensures ok { OnOk result (self.new ≡ stepped n self.old) }
@@ -63,6 +64,7 @@ impl<A: Allocator> Machine<A> {
     }
 
     /// The step of a processor that is running.
+    #[inline(always)]
     #[tactic(auto, using(crate::proofs::MachineStepLemmas::stepped_alone, crate::proofs::MachineStepLemmas::outcome_alone))]
     fn go_on(&mut self, n: PpNo) -> Result<Outcome, Memory>
         requires { (processor_of n self.old).state ≡ PpState.Running }
@@ -110,6 +112,7 @@ impl<A: Allocator> Machine<A> {
     }
 
     /// The step of a processor with the answer to its need.
+    #[inline(always)]
     #[tactic(auto, unfolding(crate::specs::MachineStep::stepped, crate::specs::MachineStep::step_event, crate::specs::MachineStep::step_outcome))]
     fn step_with_answer(
         &mut self,

@@ -3,3 +3,4 @@ pub mod BitPlaces
 pub mod CentralWord
 pub mod OnesComplement
 pub mod OperationCodes
+pub mod Word60Halves
