@@ -1,0 +1,2 @@
+pub mod RowLemmas
+pub mod LaneLemmas
