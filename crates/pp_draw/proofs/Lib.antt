@@ -1,2 +1,3 @@
 pub mod RowLemmas
 pub mod LaneLemmas
+pub mod SeenLemmas

@@ -1,6 +1,6 @@
 //! The rows of lanes, channels before processors.
 
-ghost use Rattle.std.specs.Prelude.{◌≡◌, ◌+◌, ◌≤◌, ◌<◌, ◌↔◌, IfSome, IsSome, IsTrue};
+ghost use Rattle.std.specs.Prelude.{◌≡◌, ◌+◌, ◌≤◌, ◌<◌, ◌↔◌, IfSome, IsSome, IsTrue, if◌then◌else◌};
 ghost use Rattle.pp_text.specs.PrintedText.{each_below, is_named};
 ghost use Rattle.pp_text.specs.TextWriter.{Prints};
 ghost use Rattle.pp_draw.specs.DrawingText.{channel_lane, count_below, is_used, processor_lane, used_channels};
@@ -46,9 +46,7 @@ pub(crate) fn used_channels<A: Allocator>(machine: &Machine<A>) -> u64
 {
     let mut count = 0;
     for number in 0..NUMBERS {
-        if used_channel(machine, number).is_some() {
-            count += 1;
-        }
+        count += u64::from(used_channel(machine, number).is_some());
     }
     count
 }
@@ -60,9 +58,7 @@ pub(crate) fn named_processors(named: &[bool; PROCESSORS]) -> u64
 {
     let mut count = 0;
     for number in 0..NUMBERS {
-        if named_processor(named, number).is_some() {
-            count += 1;
-        }
+        count += u64::from(named_processor(named, number).is_some());
     }
     count
 }
@@ -79,11 +75,30 @@ pub(crate) fn print_channel_lanes<A: Allocator, W: Write>(
 {
     let mut row = 0;
     for number in 0..NUMBERS {
-        if let Some(c) = used_channel(machine, number) {
-            print_channel_lane(text, line, window, machine, c, row);
-            row += 1;
-        }
+        row = print_numbered_channel(text, line, window, machine, number, row);
     }
+}
+
+/// Prints the lane of the channel with this number, if it is used, and gives the row of the next.
+#[tactic(auto, unfolding(crate::specs::DrawingText::channel_lane))]
+fn print_numbered_channel<A: Allocator, W: Write>(
+    text: &mut TextWriter<W>,
+    line: &mut Piece,
+    window: Window,
+    machine: &Machine<A>,
+    number: u8,
+    row: u64,
+) -> u64
+    requires row { row ≡ count_below number (is_used machine.now) }
+    requires most { row ≤ 64 }
+    ensures lane { Prints W.contents text.old text.new (channel_lane window machine.now number) }
+    ensures row { result ≡ row + (if is_used machine.now number then 1 else 0) }
+{
+    if let Some(c) = used_channel(machine, number) {
+        print_channel_lane(text, line, window, machine, c, row);
+        return row + 1;
+    }
+    row
 }
 
 /// Prints the lanes of the processors named, below those of this many channels.
@@ -103,9 +118,32 @@ pub(crate) fn print_processor_lanes<A: Allocator, W: Write>(
 {
     let mut row = channels;
     for number in 0..NUMBERS {
-        if let Some(n) = named_processor(named, number) {
-            print_processor_lane(text, line, window, steps, n, machine.pp(n).state(), row);
-            row += 1;
-        }
+        row = print_numbered_processor(text, line, window, named, machine, steps, number, row);
     }
+}
+
+/// Prints the lane of the processor with this number, if the deck names it, and gives the row of
+/// the next.
+#[tactic(auto, unfolding(crate::specs::DrawingText::processor_lane))]
+fn print_numbered_processor<A: Allocator, W: Write>(
+    text: &mut TextWriter<W>,
+    line: &mut Piece,
+    window: Window,
+    named: &[bool; PROCESSORS],
+    machine: &Machine<A>,
+    steps: &[SeenStep],
+    number: u8,
+    row: u64,
+) -> u64
+    requires row { row ≡ used_channels machine.now + count_below number (is_named named.now) }
+    requires most { row ≤ 128 }
+    ensures lane { Prints W.contents text.old text.new
+        (processor_lane window named.now machine.now steps.now number) }
+    ensures row { result ≡ row + (if is_named named.now number then 1 else 0) }
+{
+    if let Some(n) = named_processor(named, number) {
+        print_processor_lane(text, line, window, steps, n, machine.pp(n).state(), row);
+        return row + 1;
+    }
+    row
 }
