@@ -7,3 +7,4 @@ pub mod Elements
 pub mod Lane
 pub mod Frame
 pub mod DrawingText
+pub mod DrawingLaw

@@ -1,9 +1,10 @@
 -- How the steps of a run found their processors.
-use Rattle.std.specs.Prelude.{ℕ, Bool, nat_le, List, [], ◌∷◌, Option, None, Some}
+use Rattle.std.specs.Prelude.{ℕ, ◌-◌, Bool, nat_le, List, [], ◌∷◌, Option, None, Some}
 use Rattle.std.specs.List.{filter}
 use Rattle.pp_machine.specs.MachineState.{MachineState, processor_of}
 use Rattle.pp_machine.specs.MachineStep.{step_outcome, stepped}
 use Rattle.pp_machine.specs.NeedAndEffect.{need}
+use Rattle.pp_machine.specs.ProcessorNumber.{processor_count}
 use Rattle.pp_machine.specs.Run.{barrel}
 use Rattle.pp_machine.specs.declared.block.Block.{Block}
 use Rattle.pp_machine.specs.declared.need.Need.{Need}
@@ -57,10 +58,11 @@ unfoldable pub seen_steps : List ℕ → MachineState → List SeenStep
 seen_steps [] m = []
 seen_steps (n ∷ steps) m = seen_step n m ∷ seen_steps steps (stepped n m)
 
--- whether a step is shown: of a turn in the window, which the run does not go past
+-- whether a step is shown: of a turn in the window, which the run does not go past, or in the round
+-- before it, whose steps say how the processors stand where the window begins
 abbrev pub is_shown : Window → SeenStep → Bool
-is_shown w step = nat_le w.from step.turn
+is_shown w step = nat_le (w.from - processor_count) step.turn
 
--- the steps that are shown of a run of a machine to the end of the window
+-- the steps that are shown, of a run of a machine to the end of the window
 abbrev pub seen_in_window : Window → MachineState → List SeenStep
 seen_in_window w m = filter (is_shown w) (seen_steps (barrel m.profile w.to) m)

@@ -14,6 +14,7 @@ mod elements;
 mod frame;
 mod lane;
 mod lanes;
+mod laws;
 mod part;
 mod rows;
 mod seen_step;
@@ -21,5 +22,6 @@ mod window;
 
 pub use condition::Condition;
 pub use drawing::write_drawing;
+pub use laws::drawing_law;
 pub use seen_step::{SeenStep, run_seeing_steps};
 pub use window::{MOST_TURNS, Window};

@@ -7,7 +7,7 @@ use crate::condition::Condition;
 use crate::window::Window;
 
 /// How a channel or a processor stands from a turn on (decimal), until its next phase.
-#[derive(Clone, Copy, Debug, PartialEq, Eq)]
+#[derive(Clone, Copy)]
 pub(crate) struct Phase {
     pub(crate) since: u64,
     pub(crate) condition: Condition,
@@ -15,7 +15,7 @@ pub(crate) struct Phase {
 
 /// What is drawn of a phase: a band from a place to another, for the turns from one on and before
 /// another (decimal); and whether a Disconnect lost its word.
-#[derive(Clone, Copy, Debug, PartialEq, Eq)]
+#[derive(Clone, Copy)]
 pub(crate) struct Part {
     pub(crate) start: u64,
     pub(crate) end: u64,

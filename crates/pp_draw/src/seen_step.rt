@@ -10,7 +10,7 @@ ghost use Rattle.pp_draw.specs.SeenSteps.{condition_by, held_by, is_shown, movin
 use crate::condition::Condition;
 use crate::window::Window;
 use pp_channel::Memory;
-use pp_machine::{Block, Cut, Machine, Need, Outcome, PpNo, PpState};
+use pp_machine::{Block, Cut, Machine, Need, Outcome, PROCESSORS, PpNo, PpState};
 use std::alloc::Allocator;
 
 /// A step of a run.
@@ -25,7 +25,7 @@ pub struct SeenStep {
 }
 
 /// Runs the turns of the barrel before the end of a window, as `Machine::run_barrel` does, and says
-/// how each step in the window found its processor.
+/// how each step in the window, and in the round before it, found its processor.
 pub fn run_seeing_steps<A: Allocator>(
     alloc: A,
     machine: &mut Machine<A>,
@@ -77,7 +77,7 @@ fn see_step<A: Allocator>(machine: &mut Machine<A>, n: PpNo) -> Result<SeenStep,
     })
 }
 
-/// Keeps a step that is shown.
+/// Keeps a step that is shown, where it is: in the window, or in the round before it.
 fn keep_step<A: Allocator>(
     steps: &mut Vec<SeenStep, A>,
     window: Window,
@@ -86,7 +86,7 @@ fn keep_step<A: Allocator>(
     ensures { OnOk result
         (steps.new.items ≡ steps.old.items ++ filter (is_shown window) (step ∷ [])) }
 {
-    if step.turn >= u64::from(window.from) {
+    if u64::from(window.from).saturating_sub(PROCESSORS as u64) <= step.turn {
         steps.push(step)?;
     }
     Ok(())
