@@ -1,0 +1,4 @@
+pub mod RowLemmas
+pub mod LaneLemmas
+pub mod SeenLemmas
+pub mod LawLemmas

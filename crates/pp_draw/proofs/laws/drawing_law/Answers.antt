@@ -1,0 +1,8 @@
+use Rattle.pp_draw.proofs.LawLemmas.{phase_for_event, seen_are_steps}
+use Rattle.pp_draw.proofs.laws.drawing_law.Goals as goal
+
+pub returns-clause-steps : goal.returns-clause-steps
+returns-clause-steps c = seen_are_steps
+
+pub returns-clause-history : goal.returns-clause-history
+returns-clause-history c = phase_for_event

@@ -1,0 +1,10 @@
+pub mod Window
+pub mod Condition
+pub mod SeenSteps
+pub mod Phases
+pub mod Part
+pub mod Elements
+pub mod Lane
+pub mod Frame
+pub mod DrawingText
+pub mod DrawingLaw
