@@ -2,7 +2,7 @@
 use Rattle.std.proofs.Common.{◌≡◌, ◌∙◌, ℕ, true, List, [], Option, Some, None, option_map, sym, subst, refl, inl, inr, codes}
 use Rattle.std.specs.Prelude.{Box, ◌≢◌, is_some}
 use Rattle.std.specs.Box.{box_value}
-use Rattle.clap.specs.Words.{App, HasKind, IsAmong, Kinds, Text, Row, HasMatchesOf, fault_of, is_simple, is_simple_and_free, first_value, found_of, kind_of, rows_of, subcommand_of, subcommand_rows, subcommand_rows_of, subcommand_name_of}
+use Rattle.clap.specs.Words.{App, HasKind, IsAmong, Kinds, Text, Row, HasMatchesOf, fault_of, is_simple, is_simple_and_free, first_value, first_of, found_of, kind_of, rows_of, subcommand_of, subcommand_rows, subcommand_rows_of, subcommand_name_of}
 use Rattle.clap.specs.declared.error.Error.{Error}
 use Rattle.clap.specs.declared.error.kind.ErrorKind.TheVariants.{OutOfMemory}
 use Rattle.clap.specs.declared.parser.matches.Found.{Found}
@@ -11,11 +11,12 @@ use Rattle.clap.specs.declared.parser.matches.ArgMatches.{ArgMatches}
 use Rattle.clap.specs.declared.parser.matches.ArgMatches.TheViews.{out-ArgMatches, out-SubCommand}
 use Rattle.clap.proofs.WalkLemmas.{first_value-rows}
 use Rattle.clap.proofs.OnLiterals.{clap_on_literals}
+use Rattle.pp_draw.specs.declared.window.Window.{Window}
 use Rattle.pp_machine.specs.Profile.{processors_in}
 use Rattle.pp_machine.specs.declared.profile.Profile.{Profile}
-use Rattle.pp_sim.specs.CommandLine.{IsFaultBy, IsOutOfRange, IsRefused, IsWorkAmong, IsWorkOf, ReadsNumber, ReadsProfile, ppsim, refusals}
+use Rattle.pp_sim.specs.CommandLine.{IsFaultBy, IsOutOfRange, IsRefused, IsWorkAmong, IsWorkOf, AsksForMore, AsksForMoreAmong, ReadsNumber, ReadsProfile, ReadsWindow, ppsim, refusals}
 use Rattle.pp_sim.specs.declared.line_fault.LineFault.{LineFault}
-use Rattle.pp_sim.specs.declared.line_fault.LineFault.TheVariants.{Memory, Refused, Number}
+use Rattle.pp_sim.specs.declared.line_fault.LineFault.TheVariants.{Memory, Refused, Number, Picture}
 use Rattle.pp_sim.specs.declared.work.Work.{Work}
 use Rattle.pp_sim.specs.declared.work.Work.TheVariants as works
 
@@ -45,11 +46,13 @@ refused_words words app error (Refused told) e h by =
     let kinds = subst (λ a. is_simple_and_free a ≡ true → HasKind (fault_of a words) error) e h simple_and_free in
     rw (by.0) (among (fault_of ppsim words) error kinds by.1, by.1)
 refused_words words app error Number e h by = absurd by
+refused_words words app error Picture e h by = absurd by
 
 pub by_no_number : (words : List Text) (error : Error) (fault : LineFault) → IsFaultBy error fault → IsOutOfRange words fault
 by_no_number words error Memory by = tt
 by_no_number words error (Refused told) by = tt
 by_no_number words error Number by = absurd by
+by_no_number words error Picture by = absurd by
 
 pair_of : {Z : Type 0} (o : Option (Box SubCommand Z)) (name : Text) (rows : List Row) → Some name ≡ option_map (λ b. (out-SubCommand (box_value b)).name.now) o → Some rows ≡ option_map (λ p. p.1) (subcommand_rows o) → subcommand_rows o ≡ Some (name, rows)
 pair_of None name rows e h = cc
@@ -77,6 +80,29 @@ met_none words app m is h e =
     sym (met simple).1 ∙ none_of (out-ArgMatches m).subcommand e
 
 -- an option's text is the same by its matches and by its rows
+window_by_rows : (f : Found) (w : Window) → ReadsWindow (first_value f) w → ReadsWindow (λ id. first_of id (rows_of f)) w
+window_by_rows f w k = (
+  k.0,
+  rw (← first_value-rows f (codes "turns")) k.1,
+  k.2,
+  rw (← first_value-rows f (codes "to")) k.3,
+  rw (← first_value-rows f (codes "from")) k.4,
+  k.5,
+)
+
+window_by_values : (f : Found) (w : Window) → ReadsWindow (λ id. first_of id (rows_of f)) w → ReadsWindow (first_value f) w
+window_by_values f w k = (
+  k.0,
+  rw (first_value-rows f (codes "turns")) k.1,
+  k.2,
+  rw (first_value-rows f (codes "to")) k.3,
+  rw (first_value-rows f (codes "from")) k.4,
+  k.5,
+)
+
+pub more_by_rows : (name : Text) (f : Found) → AsksForMore name (first_value f) → AsksForMoreAmong (Some (name, rows_of f))
+more_by_rows name f k = (k.0, (k.1, window_by_rows f k.1 k.2, k.3))
+
 pub work_by_rows : (name : Text) (f : Found) (work : Work) → IsWorkOf name (first_value f) work → IsWorkAmong (Some (name, rows_of f)) work
 work_by_rows name f (works.Barrel profile turns) k =
     (k.0, rw (← first_value-rows f (codes "processors")) k.1, rw (← first_value-rows f (codes "turns")) k.2, k.3)
@@ -101,6 +127,12 @@ work_by_rows name f (works.Steps profile turns only from) k = (
   k.3,
   rw (← first_value-rows f (codes "pp")) k.4,
   rw (← first_value-rows f (codes "from")) k.5,
+)
+work_by_rows name f (works.Draw profile window) k = (
+  k.0,
+  rw (← first_value-rows f (codes "processors")) k.1,
+  window_by_rows f window k.2,
+  k.3,
 )
 work_by_rows name f (works.Check opened) k = (k.0, rw (← first_value-rows f (codes "opened")) k.1)
 
@@ -128,6 +160,12 @@ work_by_values name f (works.Steps profile turns only from) k = (
   k.3,
   rw (first_value-rows f (codes "pp")) k.4,
   rw (first_value-rows f (codes "from")) k.5,
+)
+work_by_values name f (works.Draw profile window) k = (
+  k.0,
+  rw (first_value-rows f (codes "processors")) k.1,
+  window_by_values f window k.2,
+  k.3,
 )
 work_by_values name f (works.Check opened) k = (k.0, rw (first_value-rows f (codes "opened")) k.1)
 

@@ -1,5 +1,5 @@
 -- What a command line asks for, by the words that stand in it.
-use Rattle.std.specs.Prelude.{◌≡◌, ◌≢◌, ℕ, ◌≤◌, Bool, true, false, IsTrue, List, [], replicate, Option, Some, None, Ok, codes}
+use Rattle.std.specs.Prelude.{◌≡◌, ◌≢◌, ℕ, ◌-◌, ◌<◌, ◌≤◌, Bool, true, false, IsTrue, List, [], replicate, Option, Some, None, Ok, codes}
 use Rattle.std.specs.Str.Parse.{ParsesUnsigned}
 use Rattle.clap.specs.Words.{App, IsAmong, Kinds, Row, Rule, Text, fault_of, first_of, kind_of, new_app, new_rule, subcommand_of, with_rule, with_subcommand}
 use Rattle.clap.specs.declared.builder.action.ArgAction.TheVariants.{Set}
@@ -7,20 +7,22 @@ use Rattle.clap.specs.declared.error.Error.{Error}
 use Rattle.clap.specs.declared.error.kind.ErrorKind.TheVariants.{OutOfMemory}
 use Rattle.pp_channel.specs.ChannelNumber.{channel_count}
 use Rattle.pp_check.specs.ChannelList.{AreListed}
+use Rattle.pp_draw.specs.declared.window.Window.{Window}
 use Rattle.pp_machine.specs.Profile.{has_processor, processors_in}
 use Rattle.pp_machine.specs.declared.profile.Profile.{Profile}
 use Rattle.pp_machine.specs.declared.profile.Profile.TheVariants.{Ten}
 use Rattle.pp_runner.specs.RunLimits.{AreLimits}
 use Rattle.pp_sim.specs.declared.line_fault.LineFault.{LineFault}
-use Rattle.pp_sim.specs.declared.line_fault.LineFault.TheVariants.{Memory, Refused, Number}
+use Rattle.pp_sim.specs.declared.line_fault.LineFault.TheVariants.{Memory, Refused, Number, Picture}
 use Rattle.pp_sim.specs.declared.work.Work.{Work}
 use Rattle.pp_sim.specs.declared.work.Work.TheVariants as works
 
 -- THE COMMAND LINE, as clap sees it: `ppsim barrel --turns N`, `ppsim threads --steps N --patience
 -- N`, `ppsim list`, `ppsim dump --turns N`, `ppsim steps --turns N`, `ppsim state --turns N`,
--- `ppsim sessions --turns N` or `ppsim check`, the command and these options required; for each but
--- `check` also `--processors N`, for `steps` `--pp N` and `--from N`, for `check`
--- `--opened N,N,..`, which may be left out; or `ppsim --version`
+-- `ppsim sessions --turns N`, `ppsim draw --turns N` or `ppsim check`, the command and these options
+-- required; for each but `check` also `--processors N`, for `steps` `--pp N` and `--from N`, for
+-- `draw` `--from N` and `--to N`, for `check` `--opened N,N,..`, which may be left out; or
+-- `ppsim --version`
 
 -- a required option whose value is a number
 abbrev pub number_option : Text → Rule
@@ -71,6 +73,13 @@ sessions =
     with_rule (with_rule (new_app (codes "sessions"))
     (number_option (codes "turns"))) processors_option
 
+abbrev pub draw : App
+draw =
+    with_rule (with_rule (with_rule (with_rule (new_app (codes "draw"))
+    (number_option (codes "turns"))) (optional_value (codes "from")))
+    (optional_value (codes "to")))
+    processors_option
+
 abbrev pub check : App
 check = with_rule (new_app (codes "check")) (optional_value (codes "opened"))
 
@@ -83,10 +92,10 @@ bare =
 
 unfoldable pub ppsim : App
 ppsim =
-    with_subcommand (with_subcommand
+    with_subcommand (with_subcommand (with_subcommand
     (with_subcommand (with_subcommand (with_subcommand (with_subcommand (with_subcommand
     (with_subcommand bare barrel.top) threads.top) list.top) dump.top) steps.top) state.top)
-    sessions.top) check.top
+    sessions.top) draw.top) check.top
 
 -- the kinds of refusal that clap's parse may give to the words: none where they are a command line
 unfoldable pub refusals : List Text → Kinds
@@ -115,6 +124,23 @@ ReadsProcessor profile (Some text) (Some n) =
 abbrev pub ReadsTurn : Option Text → ℕ → Type 0
 ReadsTurn None turn = turn ≡ 0
 ReadsTurn (Some text) turn = ReadsNumber (Some text) turn × (turn ≤ 999999)
+
+-- the end of the turns to draw, that of the run where none is said
+abbrev pub ReadsEnd : ℕ → Option Text → ℕ → Type 0
+ReadsEnd turns None to = to ≡ turns
+ReadsEnd turns (Some text) to = ReadsNumber (Some text) to × (to ≤ turns)
+
+-- the turns to draw of a run of so many turns: from one on, and before another
+abbrev pub ReadsTurns : ℕ → (Text → Option Text) → Window → Type 0
+ReadsTurns turns text_of w =
+    ReadsEnd turns (text_of (codes "to")) w.to × ReadsTurn (text_of (codes "from")) w.from
+    × (w.from ≤ w.to)
+
+-- the same by the options of the command
+abbrev pub ReadsWindow : (Text → Option Text) → Window → Type 0
+ReadsWindow text_of w =
+    (turns : ℕ) × ReadsNumber (text_of (codes "turns")) turns × (turns ≤ 999999)
+    × ReadsTurns turns text_of w
 
 -- the channels of a list as `1,5,13`, by flags in the order of their places; none if none is said
 abbrev pub ReadsChannels : Option Text → List Bool → Type 0
@@ -149,12 +175,24 @@ IsWorkOf name text_of (works.Steps profile turns only from) =
     × ReadsNumber (text_of (codes "turns")) turns × (turns ≤ 999999)
     × ReadsProcessor profile (text_of (codes "pp")) only
     × ReadsTurn (text_of (codes "from")) from
+IsWorkOf name text_of (works.Draw profile window) =
+    (name ≡ codes "draw") × ReadsProfile (text_of (codes "processors")) profile
+    × ReadsWindow text_of window × (window.to - window.from ≤ 2000)
 IsWorkOf name text_of (works.Check opened) =
     (name ≡ codes "check") × ReadsChannels (text_of (codes "opened")) opened
 
 abbrev pub IsWorkAmong : Option (Text × List Row) → Work → Type 0
 IsWorkAmong None work = ⊥
 IsWorkAmong (Some (name, rows)) work = IsWorkOf name (λ id. first_of id rows) work
+
+-- the command of this name, with these texts of its options, asks for more turns than a picture has
+abbrev pub AsksForMore : Text → (Text → Option Text) → Type 0
+AsksForMore name text_of =
+    (name ≡ codes "draw") × ((w : Window) × ReadsWindow text_of w × (2000 < w.to - w.from))
+
+abbrev pub AsksForMoreAmong : Option (Text × List Row) → Type 0
+AsksForMoreAmong None = ⊥
+AsksForMoreAmong (Some (name, rows)) = AsksForMore name (λ id. first_of id rows)
 
 -- the words ask for this work
 abbrev pub AskFor : List Text → Work → Type 0
@@ -166,14 +204,19 @@ IsRefused words Memory = Unit {0}
 IsRefused words (Refused error) =
     IsAmong (kind_of error) (refusals words) × (kind_of error ≢ OutOfMemory)
 IsRefused words Number = Unit {0}
+IsRefused words Picture = Unit {0}
 
 abbrev pub IsOutOfRange : List Text → LineFault → Type 0
 IsOutOfRange words Memory = Unit {0}
 IsOutOfRange words (Refused error) = Unit {0}
 IsOutOfRange words Number = (refusals words ≡ []) × ((work : Work) → ¬ AskFor words work)
+IsOutOfRange words Picture =
+    (refusals words ≡ []) × ((work : Work) → ¬ AskFor words work)
+    × AsksForMoreAmong (subcommand_of ppsim words)
 
 -- the fault that clap's error makes: want of memory is told as such
 abbrev pub IsFaultBy : Error → LineFault → Type 0
 IsFaultBy error Memory = kind_of error ≡ OutOfMemory
 IsFaultBy error (Refused told) = (told ≡ error) × (kind_of error ≢ OutOfMemory)
 IsFaultBy error Number = ⊥
+IsFaultBy error Picture = ⊥

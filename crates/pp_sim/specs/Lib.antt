@@ -7,5 +7,6 @@ pub mod DumpText
 pub mod StateOfRun
 pub mod SessionsOfRun
 pub mod StepsOfRun
+pub mod DrawingOfRun
 pub mod CommandLine
 pub mod Program

@@ -9,6 +9,7 @@ use Rattle.pp_machine.specs.declared.profile.Profile.{Profile}
 use Rattle.pp_sim.specs.BarrelText.{IsBarrelText}
 use Rattle.pp_sim.specs.CheckText.{Checks, IsCheck}
 use Rattle.pp_sim.specs.CommandLine.{AskFor, IsOutOfRange, IsRefused, refusals}
+use Rattle.pp_sim.specs.DrawingOfRun.{IsDrawing}
 use Rattle.pp_sim.specs.DumpText.{HindersDump, IsDumpText}
 use Rattle.pp_sim.specs.ListText.{IsListText}
 use Rattle.pp_sim.specs.SessionsOfRun.{IsSessionsText}
@@ -54,6 +55,7 @@ IsDone Z (works.State profile turns) = AnswersDeck profile Never (IsStateText tu
 IsDone Z (works.Sessions profile turns) = AnswersDeck profile Never (IsSessionsText turns)
 IsDone Z (works.Steps profile turns only from) =
     AnswersDeck profile Never (IsStepsText turns only from)
+IsDone Z (works.Draw profile window) = AnswersDeck profile Never (IsDrawing window)
 IsDone Z (works.Check opened) = AnswersTrace opened
 
 -- the status of a work that was done, or failed
@@ -103,6 +105,7 @@ IsPrinted text status old new =
 abbrev pub IsTold : LineFault → ℕ → Option (List ℕ) → Option (List ℕ) → Type 0
 IsTold line.Memory status old new = (status ≡ 4) × Keeps old new
 IsTold line.Number status old new = (status ≡ 2) × Keeps old new
+IsTold line.Picture status old new = (status ≡ 2) × Keeps old new
 IsTold (line.Refused error) status old new =
     (IsHelp error × ((text : List ℕ) × IsPrinted text status old new))
     ⊎ (¬ IsHelp error × (status ≡ 2) × Keeps old new)

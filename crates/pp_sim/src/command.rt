@@ -3,9 +3,9 @@
 ghost use Rattle.std.specs.Prelude.{◌≡◌, false, IfOk};
 ghost use Rattle.clap.specs.Words.{app_of, rule_of, with_rule};
 ghost use Rattle.clap.specs.declared.builder.command.Command.TheViews.{out-Command as fields_of};
-ghost use Rattle.pp_sim.specs.CommandLine.{bare, barrel, check, dump, list, number_option, optional_value, processors_option, ppsim, sessions, state, steps, threads};
+ghost use Rattle.pp_sim.specs.CommandLine.{bare, barrel, check, draw, dump, list, number_option, optional_value, processors_option, ppsim, sessions, state, steps, threads};
 
-use crate::number_range::{FROM, NumberRange, PATIENCE, STEPS, TURNS};
+use crate::number_range::{DRAWN_FROM, DRAWN_TO, FROM, NumberRange, PATIENCE, STEPS, TURNS};
 use clap::{Arg, ArgAction, Command};
 use std::alloc::{AllocError, Global};
 
@@ -230,6 +230,31 @@ where four.deck has the lines
   0100 1405 1603 3450 0300
   START 0100";
 
+const DRAW_ABOUT: &str = "Runs a deck in the barrel, and draws what happened";
+
+const DRAW_LONG_ABOUT: &str = "\
+Runs a deck in the barrel, and draws what happened, as an SVG for a browser.
+
+Reads the deck from standard input. Prints to standard output a picture with a lane for each channel
+that was used, where it was active and full, with its words and function codes, and with the words
+that were lost; and a lane for each processor that the deck names, where it was running, held and by
+which channel, in a block, stopped or at fault. Turns go from left to right. What goes wrong is one
+line on standard error.
+
+A picture has at most 2000 turns. Of a longer run, give the first turn to draw and the one before
+which the picture ends: --turns 999999 --from 5000 --to 6000.";
+
+const DRAW_EXAMPLE: &str = "\
+Example:
+  ppsim draw --turns 40 < handoff.deck
+where handoff.deck has the lines
+  PP 0
+  0100 7405 1407 7205 0300
+  START 0100
+  PP 1
+  0200 7005 0300
+  START 0200";
+
 const CHECK_ABOUT: &str = "Reads a channel trace, and says whether it is lawful";
 
 const CHECK_LONG_ABOUT: &str = "\
@@ -413,6 +438,21 @@ fn steps_command<'a>(alloc: Global) -> Result<Command<'a>, AllocError>
     command.arg(processors_option(alloc))
 }
 
+/// `draw --turns N [--from N] [--to N] [--processors N]`
+fn draw_command<'a>(alloc: Global) -> Result<Command<'a>, AllocError>
+    ensures app { IfOk result (λ c. app_of c ≡ draw) }
+    ensures local { IfOk result (λ c. (fields_of c).has_globals ≡ false) }
+{
+    let command = Command::new(alloc, "draw")
+        .about(DRAW_ABOUT)
+        .long_about(DRAW_LONG_ABOUT)
+        .after_help(DRAW_EXAMPLE);
+    let command = with_number(alloc, command, "turns", TURNS)?;
+    let command = with_optional_number(alloc, command, "from", DRAWN_FROM.help)?;
+    let command = with_optional_number(alloc, command, "to", DRAWN_TO.help)?;
+    command.arg(processors_option(alloc))
+}
+
 /// `check [--opened N,N,..]`
 fn check_command<'a>(alloc: Global) -> Result<Command<'a>, AllocError>
     ensures app { IfOk result (λ c. app_of c ≡ check) }
@@ -450,6 +490,7 @@ pub(crate) fn command<'a>(alloc: Global) -> Result<Command<'a>, AllocError>
     let steps = steps_command(alloc)?;
     let state = state_command(alloc)?;
     let sessions = sessions_command(alloc)?;
+    let draw = draw_command(alloc)?;
     let check = check_command(alloc)?;
     let bare = bare_command(alloc);
     let runs = bare.subcommand(barrel)?.subcommand(threads)?;
@@ -458,6 +499,7 @@ pub(crate) fn command<'a>(alloc: Global) -> Result<Command<'a>, AllocError>
     let with_steps = decks.subcommand(steps)?;
     let with_state = with_steps.subcommand(state)?;
     let with_sessions = with_state.subcommand(sessions)?;
-    let whole = with_sessions.subcommand(check)?;
+    let with_draw = with_sessions.subcommand(draw)?;
+    let whole = with_draw.subcommand(check)?;
     Ok(whole)
 }

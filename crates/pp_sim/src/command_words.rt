@@ -1,10 +1,11 @@
 //! Reading the words of a command line.
 
-ghost use Rattle.std.specs.Prelude.{◌≡◌, ◌≤◌, ◌↔◌, ℕ, [], codes, map, Bool, List, Option, IfOk, IfErr, IfSome, IsSome, OnOk, MatchOption};
+ghost use Rattle.std.specs.Prelude.{◌≡◌, ◌-◌, ◌≤◌, ◌↔◌, ℕ, [], IsTrue, codes, map, Bool, List, Option, IfOk, IfErr, IfSome, IsSome, OnOk, MatchOption};
 ghost use Rattle.clap.specs.Words.{first_value, found_of};
+ghost use Rattle.pp_draw.specs.declared.window.Window.{Window};
 ghost use Rattle.pp_machine.specs.declared.profile.Profile.{Profile};
 ghost use Rattle.pp_runner.specs.RunLimits.{AreLimits};
-ghost use Rattle.pp_sim.specs.CommandLine.{AskFor, IsFaultBy, IsOutOfRange, IsRefused, IsWorkOf, ReadsChannels, ReadsNumber, ReadsProcessor, ReadsProfile, ReadsTurn, refusals};
+ghost use Rattle.pp_sim.specs.CommandLine.{AskFor, AsksForMore, IsFaultBy, IsOutOfRange, IsRefused, IsWorkOf, ReadsChannels, ReadsEnd, ReadsNumber, ReadsProcessor, ReadsProfile, ReadsTurn, ReadsWindow, refusals};
 ghost use Rattle.pp_sim.specs.declared.work.Work.{Work};
 
 use crate::command::command;
@@ -15,6 +16,7 @@ use clap::error::ErrorKind;
 use clap::{ArgMatches, Error};
 use pp_channel::CHANNELS;
 use pp_check::listed_channels;
+use pp_draw::{MOST_TURNS, Window};
 use pp_machine::{PpNo, Profile};
 use pp_runner::Limits;
 use std::alloc::Global;
@@ -113,6 +115,57 @@ fn from_of(matches: &ArgMatches<'_>) -> Option<u32>
     }
 }
 
+/// The turn before which a picture of a run of so many turns ends, if it is in range; that of the
+/// run where the options do not say it.
+fn end_of(matches: &ArgMatches<'_>, turns: u32) -> Option<u32>
+    ensures { MatchOption result
+        ((n : ℕ) → ¬ ReadsEnd turns (first_value (found_of matches.now) (codes "to")) n)
+        (ReadsEnd turns (first_value (found_of matches.now) (codes "to"))) }
+{
+    if matches.get_str("to").is_none() {
+        return Some(turns);
+    }
+    match number_of(matches, "to") {
+        Some(to) if to <= turns => Some(to),
+        _ => None,
+    }
+}
+
+/// The turns that the options say to be drawn, if they are in range, however many they are.
+fn window_of(matches: &ArgMatches<'_>) -> Option<Window>
+    ensures { MatchOption result
+        ((w : Window) → ¬ ReadsWindow (first_value (found_of matches.now)) w)
+        (ReadsWindow (first_value (found_of matches.now))) }
+{
+    let turns = turns_of(matches)?;
+    let to = end_of(matches, turns)?;
+    let from = from_of(matches)?;
+    if to < from {
+        return None;
+    }
+    Some(Window { from, to })
+}
+
+/// Whether turns are no more than a picture has.
+fn fits_a_picture(window: Window) -> bool
+    ensures { IsTrue result ↔ (window.to - window.from ≤ 2000) }
+{
+    window.to.saturating_sub(window.from) <= MOST_TURNS
+}
+
+/// Whether a command asks for a picture of more turns than it has.
+fn asks_for_more(name: &str, matches: &ArgMatches<'_>) -> bool
+    ensures { IsTrue result → AsksForMore name.now (first_value (found_of matches.now)) }
+{
+    if name != "draw" {
+        return false;
+    }
+    match window_of(matches) {
+        Some(window) => !fits_a_picture(window),
+        None => false,
+    }
+}
+
 /// The channels that the options say to be open, by flags in the order of their places, if they are
 /// channels; none where the options do not say any.
 fn opened_of(matches: &ArgMatches<'_>) -> Option<[bool; CHANNELS]>
@@ -168,6 +221,13 @@ fn work_of(name: &str, matches: &ArgMatches<'_>) -> Option<Work>
             only,
             from,
         })
+    } else if name == "draw" {
+        let profile = profile_of(matches)?;
+        let window = window_of(matches)?;
+        if !fits_a_picture(window) {
+            return None;
+        }
+        Some(Work::Draw { profile, window })
     } else if name == "check" {
         let opened = opened_of(matches)?;
         Some(Work::Check { opened })
@@ -205,6 +265,7 @@ pub fn read_words<'a>(alloc: Global, words: &'a [&'a str]) -> Result<Work, LineF
     match matches.subcommand() {
         Some((name, inner)) => match work_of(name, inner) {
             Some(work) => Ok(work),
+            None if asks_for_more(name, inner) => Err(LineFault::Picture),
             None => Err(LineFault::Number),
         },
         None => Err(LineFault::Number),

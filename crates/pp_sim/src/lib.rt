@@ -4,6 +4,7 @@
 mod checked_trace;
 mod command;
 mod command_words;
+mod drawing_of_run;
 mod dumped_text;
 mod entry;
 mod laws;
@@ -24,6 +25,7 @@ mod work;
 
 pub use checked_trace::check_text;
 pub use command_words::read_words;
+pub use drawing_of_run::drawing_text;
 pub use dumped_text::dump_text;
 pub use entry::run_main;
 pub use laws::{barrel_text_law, checked_text_law, threads_text_law};
@@ -35,6 +37,9 @@ pub use pp_check::{
     listed_channels, printed_law, printed_report_law, push_verdict, trace_law,
 };
 pub use pp_deck::{Deck, DeckCode, DeckFault, deck_law, headline_law, read_deck, reading_law};
+pub use pp_draw::{
+    Condition, MOST_TURNS, SeenStep, Window, drawing_law, run_seeing_steps, write_drawing,
+};
 pub use pp_listing::{DumpFault, GoingOn, dump, dump_law, listing, listing_law};
 pub use pp_sessions::{
     StepCounts, counts_law, course_law, run_counting_steps, sessions_law, write_sessions,

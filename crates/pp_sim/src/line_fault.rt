@@ -15,4 +15,7 @@ pub enum LineFault {
     /// The text of a number is missing, is not a number, or is out of its range.
     #[error("number out of range")]
     Number,
+    /// More turns are to be drawn than a picture has.
+    #[error("a picture has at most 2000 turns: give --from and --to")]
+    Picture,
 }

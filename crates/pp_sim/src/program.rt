@@ -6,6 +6,7 @@ ghost use Rattle.pp_sim.specs.Program.{IsDone, IsPrinted, IsRun, IsTold, status_
 
 use crate::checked_trace::check_text;
 use crate::command_words::read_words;
+use crate::drawing_of_run::drawing_text;
 use crate::dumped_text::dump_text;
 use crate::line_fault::LineFault;
 use crate::listing_text::list_text;
@@ -84,6 +85,7 @@ fn do_work<T: Threads + Wait + Sync, I: Read, A: Allocator + Copy + Send + Sync,
             only,
             from,
         } => steps_text(alloc, profile, input, output, turns, only, from),
+        Work::Draw { profile, window } => drawing_text(alloc, profile, input, output, window),
         Work::Check { opened } => check_text(alloc, &opened, input, output),
     }
 }
@@ -98,7 +100,7 @@ fn tell_line_fault<O: Write, E: Write>(
 {
     match fault {
         LineFault::Refused(refusal) => show_refusal(alloc, refusal, output, error),
-        LineFault::Number => {
+        LineFault::Number | LineFault::Picture => {
             let _ = writeln!(error, "ppsim: {fault}");
             LINE_REFUSED
         }

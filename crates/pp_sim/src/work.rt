@@ -1,6 +1,7 @@
 //! What a command line asks for.
 
 use pp_channel::CHANNELS;
+use pp_draw::Window;
 use pp_machine::{PpNo, Profile};
 use pp_runner::Limits;
 
@@ -48,6 +49,12 @@ pub enum Work {
         turns: u32,
         only: Option<PpNo>,
         from: u32,
+    },
+    /// The drawing of a deck that has run in the barrel of a machine of this profile, in a window
+    /// of at most 2,000 turns (decimal), which ends at turn 999,999 at the latest.
+    Draw {
+        profile: Profile,
+        window: Window,
     },
     /// The check of a channel trace, where the channels that are flagged, in the order of their
     /// places, were open before it.

@@ -68,6 +68,13 @@ CH31 ACTIVE EMPTY
     ),
 ];
 
+/// The examples that are drawn, and their turns.
+const DRAWN: [(&str, &str); 3] = [
+    ("handoff", "40"),
+    ("lost_word", "80"),
+    ("token_ring", "300"),
+];
+
 /// The examples of twenty processors that run in the barrel, and their turns.
 const OF_TWENTY: [(&str, &str); 2] = [("far_processors", "80"), ("relay", "1200")];
 
@@ -135,6 +142,11 @@ fn main(rt: HostRuntime) -> anyhow::Result<()> {
         show(&rt, name, words.as_slice(), "text")?;
     }
     show(&rt, "relay", THREADS_OF_TWENTY.as_slice(), "threads")?;
+    for (name, turns) in DRAWN {
+        let words = ["ppsim", "draw", "--turns", turns];
+        let is_expected = run(&rt, name, words.as_slice())? == read(&rt, name, "svg")?;
+        println!(rt; "{name} drawn: {}", verdict(is_expected))?;
+    }
     Ok(())
 }
 

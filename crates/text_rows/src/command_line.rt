@@ -11,6 +11,7 @@ enum Refused {
     Memory,
     Words,
     Number,
+    Picture,
 }
 
 /// What a command line asks for, or why it is refused.
@@ -20,6 +21,7 @@ fn asked(alloc: Global, words: &[&str]) -> Result<Work, Refused> {
         Err(LineFault::Memory) => Err(Refused::Memory),
         Err(LineFault::Refused(_)) => Err(Refused::Words),
         Err(LineFault::Number) => Err(Refused::Number),
+        Err(LineFault::Picture) => Err(Refused::Picture),
     }
 }
 
@@ -176,6 +178,58 @@ fn words_of_steps_shown(rt: HostRuntime) -> Result<(), Fail> {
     Ok(())
 }
 
+/// The turns of `draw` and its options behind them, and the first turn and the end of the picture,
+/// or why there is none.
+const DRAWN: [(&str, &[&str], Result<(u32, u32), Refused>); 14] = [
+    ("40", &[], Ok((0, 40))),
+    ("2000", &[], Ok((0, 2000))),
+    ("2001", &[], Err(Refused::Picture)),
+    ("2001", &["--from", "1"], Ok((1, 2001))),
+    ("999999", &["--to", "2000"], Ok((0, 2000))),
+    ("999999", &["--from", "5000", "--to", "6000"], Ok((5000, 6000))),
+    ("999999", &["--from", "5000", "--to", "7001"], Err(Refused::Picture)),
+    ("999999", &["--from", "999999"], Ok((999_999, 999_999))),
+    ("40", &["--from", "40", "--to", "40"], Ok((40, 40))),
+    ("40", &["--to", "41"], Err(Refused::Number)),
+    ("40", &["--from", "21", "--to", "20"], Err(Refused::Number)),
+    ("40", &["--from", "41"], Err(Refused::Number)),
+    ("1000000", &["--to", "20"], Err(Refused::Number)),
+    ("40", &["--to", "x"], Err(Refused::Number)),
+];
+
+/// The words that draw a run of so many turns with these options.
+fn words_of_drawing(
+    alloc: Global,
+    turns: &'static str,
+    options: &'static [&'static str],
+) -> Result<Vec<&'static str>, Fail> {
+    let mut words = Vec::new(alloc);
+    words.extend_from_slice(&["ppsim", "draw", "--turns", turns])?;
+    words.extend_from_slice(options)?;
+    Ok(words)
+}
+
+/// The first turn and the end of the picture that is asked for.
+fn window_in(work: Work) -> (u32, u32) {
+    match work {
+        Work::Draw { window, .. } => (window.from, window.to),
+        _ => (1, 0),
+    }
+}
+
+#[test]
+fn words_of_drawings(rt: HostRuntime) -> Result<(), Fail> {
+    for (turns, options, expected) in DRAWN {
+        let words = words_of_drawing(rt.alloc(), turns, options)?;
+        let drawn = match asked(rt.alloc(), &words) {
+            Ok(work) => Ok(window_in(work)),
+            Err(refused) => Err(refused),
+        };
+        assert_eq!(rt; drawn, expected, "{turns} {options:?}");
+    }
+    Ok(())
+}
+
 /// Options of `check`, and the numbers (octal) of the channels that they open, if they are taken.
 const OPENED: [(&[&str], Option<&[u8]>); 15] = [
     (&[], Some(&[])),
@@ -267,6 +321,7 @@ fn limits_in(work: Work) -> Option<(u32, u32)> {
         | Work::State { .. }
         | Work::Sessions { .. }
         | Work::Steps { .. }
+        | Work::Draw { .. }
         | Work::Check { .. } => None,
     }
 }

@@ -48,6 +48,11 @@ fn other_faults(rt: HostRuntime) -> Result<(), Fail> {
     expect_text(&rt, &TextFault::Write, "write fault")?;
     expect_text(&rt, &LineFault::Memory, "out of memory")?;
     expect_text(&rt, &LineFault::Number, "number out of range")?;
+    expect_text(
+        &rt,
+        &LineFault::Picture,
+        "a picture has at most 2000 turns: give --from and --to",
+    )?;
     expect_text(&rt, &RunFault::Memory, "out of memory")?;
     expect_text(&rt, &CentralFault::Memory, "out of memory")?;
     expect_text(&rt, &CentralFault::BadSize, "central size out of range")?;

@@ -5,7 +5,7 @@ use crate::help_of_runs::{
 };
 use crate::help_of_traces::{CHECK, CHECK_IN_SHORT};
 use crate::help_of_views::{
-    DUMP, DUMP_IN_SHORT, LIST, LIST_IN_SHORT, SESSIONS, SESSIONS_IN_SHORT, STATE, STATE_IN_SHORT,
+    DRAW, DRAW_IN_SHORT, DUMP, DUMP_IN_SHORT, LIST, LIST_IN_SHORT, SESSIONS, SESSIONS_IN_SHORT, STATE, STATE_IN_SHORT,
     STEPS, STEPS_IN_SHORT,
 };
 use crate::program::{ending, handoff};
@@ -13,7 +13,7 @@ use crate::program::{ending, handoff};
 const VERSION: &str = "ppsim 1.0 (rattle-kit-13b logic dac8208d650f15bf)\n";
 
 /// Words that ask for help or for the version, each with its text.
-const HELP: [(&[&str], &str); 29] = [
+const HELP: [(&[&str], &str); 32] = [
     (&["ppsim", "--help"], PROGRAM),
     (&["ppsim", "-h"], PROGRAM_IN_SHORT),
     (&["ppsim", "help"], PROGRAM),
@@ -40,6 +40,9 @@ const HELP: [(&[&str], &str); 29] = [
     (&["ppsim", "sessions", "--help"], SESSIONS),
     (&["ppsim", "help", "sessions"], SESSIONS),
     (&["ppsim", "sessions", "-h"], SESSIONS_IN_SHORT),
+    (&["ppsim", "draw", "--help"], DRAW),
+    (&["ppsim", "help", "draw"], DRAW),
+    (&["ppsim", "draw", "-h"], DRAW_IN_SHORT),
     (&["ppsim", "check", "--help"], CHECK),
     (&["ppsim", "help", "check"], CHECK),
     (&["ppsim", "check", "-h"], CHECK_IN_SHORT),

@@ -13,6 +13,7 @@ Commands:
   steps     Runs a deck in the barrel, and prints each step
   state     Runs a deck in the barrel, and prints how things stand then
   sessions  Runs a deck in the barrel, and prints the sessions of its channels
+  draw      Runs a deck in the barrel, and draws what happened
   check     Reads a channel trace, and says whether it is lawful
   help      Print this message or the help of the given subcommand(s)
 
@@ -74,6 +75,7 @@ Commands:
   steps     Runs a deck in the barrel, and prints each step
   state     Runs a deck in the barrel, and prints how things stand then
   sessions  Runs a deck in the barrel, and prints the sessions of its channels
+  draw      Runs a deck in the barrel, and draws what happened
   check     Reads a channel trace, and says whether it is lawful
   help      Print this message or the help of the given subcommand(s)
 

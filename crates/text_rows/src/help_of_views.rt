@@ -258,3 +258,69 @@ where handoff.deck has the lines
   0200 7005 0300
   START 0200
 ";
+
+pub(crate) const DRAW: &str = "\
+Runs a deck in the barrel, and draws what happened, as an SVG for a browser.
+
+Reads the deck from standard input. Prints to standard output a picture with a lane for each channel
+that was used, where it was active and full, with its words and function codes, and with the words
+that were lost; and a lane for each processor that the deck names, where it was running, held and by
+which channel, in a block, stopped or at fault. Turns go from left to right. What goes wrong is one
+line on standard error.
+
+A picture has at most 2000 turns. Of a longer run, give the first turn to draw and the one before
+which the picture ends: --turns 999999 --from 5000 --to 6000.
+
+Usage: ppsim draw [OPTIONS] --turns <N>
+
+Options:
+      --turns <N>
+          How many turns to run, 0 to 999999 (decimal)
+
+      --from <N>
+          The first turn to draw (0 if not given), 0 to 999999 (decimal)
+
+      --to <N>
+          The turn before which the picture ends (that of --turns if not given), 0 to 999999
+          (decimal)
+
+      --processors <N>
+          How many processors the machine has, 10 or 20 (decimal); 10 if not given
+
+  -h, --help
+          Print help (see a summary with '-h')
+
+Example:
+  ppsim draw --turns 40 < handoff.deck
+where handoff.deck has the lines
+  PP 0
+  0100 7405 1407 7205 0300
+  START 0100
+  PP 1
+  0200 7005 0300
+  START 0200
+";
+
+pub(crate) const DRAW_IN_SHORT: &str = "\
+Runs a deck in the barrel, and draws what happened
+
+Usage: ppsim draw [OPTIONS] --turns <N>
+
+Options:
+      --turns <N>       How many turns to run, 0 to 999999 (decimal)
+      --from <N>        The first turn to draw (0 if not given), 0 to 999999 (decimal)
+      --to <N>          The turn before which the picture ends (that of --turns if not given), 0 to
+                        999999 (decimal)
+      --processors <N>  How many processors the machine has, 10 or 20 (decimal); 10 if not given
+  -h, --help            Print help (see more with '--help')
+
+Example:
+  ppsim draw --turns 40 < handoff.deck
+where handoff.deck has the lines
+  PP 0
+  0100 7405 1407 7205 0300
+  START 0100
+  PP 1
+  0200 7005 0300
+  START 0200
+";

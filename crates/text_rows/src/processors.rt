@@ -24,7 +24,7 @@ fn asked(alloc: Global, words: &[&str]) -> Kind {
         Ok(work) => kind_of(work),
         Err(LineFault::Memory) => Kind::Other,
         Err(LineFault::Refused(_)) => Kind::Words,
-        Err(LineFault::Number) => Kind::Number,
+        Err(LineFault::Number | LineFault::Picture) => Kind::Number,
     }
 }
 
@@ -38,7 +38,8 @@ fn kind_of(work: Work) -> Kind {
         | Work::Dump { profile, .. }
         | Work::State { profile, .. }
         | Work::Sessions { profile, .. }
-        | Work::Steps { profile, .. } => (profile, false),
+        | Work::Steps { profile, .. }
+        | Work::Draw { profile, .. } => (profile, false),
         Work::Check { .. } => return Kind::Other,
     };
     if is_this {

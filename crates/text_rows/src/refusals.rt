@@ -4,12 +4,12 @@ use crate::program::{ending, handoff};
 
 const OUT_OF_RANGE: &str = "ppsim: number out of range\n";
 
-const REFUSED: [(&[&str], &str); 27] = [
+const REFUSED: [(&[&str], &str); 28] = [
     (
         &["ppsim"],
         "\
 error: 'ppsim' requires a subcommand but one was not provided
-  [subcommands: barrel, threads, list, dump, steps, state, sessions, check, help]
+  [subcommands: barrel, threads, list, dump, steps, state, sessions, draw, check, help]
 
 Usage: ppsim <COMMAND>
 
@@ -145,6 +145,10 @@ For more information, try '--help'.
     (&["ppsim", "state", "--turns", "1000000"], OUT_OF_RANGE),
     (&["ppsim", "sessions", "--turns", "1000000"], OUT_OF_RANGE),
     (&["ppsim", "check", "--opened", "5,14"], OUT_OF_RANGE),
+    (
+        &["ppsim", "draw", "--turns", "2001"],
+        "ppsim: a picture has at most 2000 turns: give --from and --to\n",
+    ),
     (
         &["ppsim", "check", "--turns", "40"],
         "\

@@ -20,4 +20,6 @@ returns c =
     c.in_ok-with_state.ensures.shape c.in_ok-state.ensures.local ∙ ap₂ with_subcommand steps_are (ap (λ (a : App). a.top) c.in_ok-state.ensures.app) in
     let sessions_are : app_of c.in_ok-with_sessions.with_sessions ≡ with_subcommand (with_subcommand (with_subcommand (with_subcommand (with_subcommand (with_subcommand (with_subcommand bare _) _) _) _) _) _) _ =
     c.in_ok-with_sessions.ensures.shape c.in_ok-sessions.ensures.local ∙ ap₂ with_subcommand states_are (ap (λ (a : App). a.top) c.in_ok-sessions.ensures.app) in
-    c.in_ok-whole.ensures.shape c.in_ok-check.ensures.local ∙ ap₂ with_subcommand sessions_are (ap (λ (a : App). a.top) c.in_ok-check.ensures.app)
+    let drawn_are : app_of c.in_ok-with_draw.with_draw ≡ with_subcommand (with_subcommand (with_subcommand (with_subcommand (with_subcommand (with_subcommand (with_subcommand (with_subcommand bare _) _) _) _) _) _) _) _ =
+    c.in_ok-with_draw.ensures.shape c.in_ok-draw.ensures.local ∙ ap₂ with_subcommand sessions_are (ap (λ (a : App). a.top) c.in_ok-draw.ensures.app) in
+    c.in_ok-whole.ensures.shape c.in_ok-check.ensures.local ∙ ap₂ with_subcommand drawn_are (ap (λ (a : App). a.top) c.in_ok-check.ensures.app)

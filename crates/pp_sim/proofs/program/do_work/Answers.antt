@@ -47,3 +47,9 @@ returns-in-Check g c = rw c.in-Check.is (record {
   every_reader = c.check_text.ensures.every_reader;
   telling_reader = c.check_text.ensures.telling_reader;
 })
+
+pub returns-in-Draw : goal.returns-in-Draw
+returns-in-Draw g c = rw c.in-Draw.is (record {
+  every_reader = c.drawing_text.ensures.every_reader;
+  telling_reader = c.drawing_text.ensures.telling_reader;
+})
