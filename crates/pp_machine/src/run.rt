@@ -232,7 +232,7 @@ impl<A: Allocator> Machine<A> {
                 return Ok(());
             }
             self.pass_to(place, running);
-            let Ok(_outcome) = self.step(PpNo::at(running)) else {
+            let Ok(_outcome) = self.step_in_barrel(PpNo::at(running)) else {
                 return Err(running);
             };
             place = running + 1;

@@ -30,7 +30,6 @@ impl<A: Allocator> Machine<A> {
     ghost use Rattle.pp_machine.specs.MachineStep.{answer_to, counted, event_for, served, stepped, step_event, step_outcome};
 
     /// One step of a processor; a step that makes no event takes no memory.
-    #[inline(always)]
     #[tactic(auto, using(crate::proofs::MachineStepLemmas::stepped_at_rest, crate::proofs::MachineStepLemmas::outcome_at_rest, crate::proofs::MachineStepLemmas::held_step, crate::proofs::MachineStepLemmas::fault_step))]
     pub fn step(&mut self, n: PpNo) -> Result<Outcome, Memory>
         ensures ok { OnOk result (self.new ≡ stepped n self.old) }
@@ -44,6 +43,58 @@ impl<A: Allocator> Machine<A> {
         ensures fault_keeps { (processor_of n self.old).state ≡ PpState.Running
             → IsAtFault (processor_of n self.new)
             → KeepsMemoryAndRegisters (processor_of n self.old) (processor_of n self.new) }
+        ensures headline { HoldsOnEachChannel self.new }
+    {
+        match self.processors[n.index()].state() {
+            PpState::Running => self.step_by_need(n),
+            PpState::Stopped | PpState::Fault(_) => {
+                self.count_turn();
+                Ok(Outcome::AtRest)
+            }
+        }
+    }
+
+    /// One step of a processor: what it needs is asked, answered and given.
+    #[tactic(auto, unfolding(crate::specs::MachineStep::stepped, crate::specs::MachineStep::step_event, crate::specs::MachineStep::step_outcome))]
+    fn step_by_need(&mut self, n: PpNo) -> Result<Outcome, Memory>
+        ensures ok { OnOk result (self.new ≡ stepped n self.old) }
+        ensures outcome { IfOk result (λ o. o ≡ step_outcome n self.old) }
+        ensures unchanged_after_memory { OnErr result (self.new ≡ self.old) }
+        ensures no_event { IsNone (step_event n self.old) → IsOk result }
+        ensures headline { HoldsOnEachChannel self.new }
+    {
+        let i = n.index();
+        let need = self.processors[i].wants();
+        let answer = self.serve(n, need)?;
+        let outcome = self.processors[i].give(answer);
+        self.count_turn();
+        Ok(outcome)
+    }
+
+    /// What the channels and central memory answer to a need of a processor.
+    fn serve(&mut self, n: PpNo, asked: Need) -> Result<Answer, Memory>
+        ensures answer { IfOk result (λ x. x ≡ answer_to asked self.old) }
+        ensures ok { OnOk result (self.new ≡ served n asked self.old) }
+        ensures unchanged_after_memory { OnErr result (self.new ≡ self.old) }
+        ensures no_event { IsNone (event_for asked self.old) → IsOk result }
+    {
+        Ok(match asked {
+            Need::Nothing | Need::Local => Answer::Local,
+            Need::Channel(channel, op) => Answer::Channel(self.exchange(n, channel, op)?),
+            Need::Read(address) => Answer::Read(self.central.read(address)),
+            Need::Write(address, word) => Answer::Wrote(self.central.write(address, word)),
+        })
+    }
+
+    /// One step of a processor in the barrel, as `step` makes it. What a step needs is asked of its
+    /// instruction alone here, and the barrel has the only call, so that it is compiled in place: a
+    /// turn then costs half as much.
+    #[tactic(auto, using(crate::proofs::MachineStepLemmas::stepped_at_rest, crate::proofs::MachineStepLemmas::outcome_at_rest))]
+    pub(crate) fn step_in_barrel(&mut self, n: PpNo) -> Result<Outcome, Memory>
+        ensures ok { OnOk result (self.new ≡ stepped n self.old) }
+        ensures outcome { IfOk result (λ o. o ≡ step_outcome n self.old) }
+        ensures unchanged_after_memory { OnErr result (self.new ≡ self.old) }
+        ensures no_event { IsNone (step_event n self.old) → IsOk result }
         ensures headline { HoldsOnEachChannel self.new }
     {
         match self.processors[n.index()].state() {
@@ -64,7 +115,6 @@ impl<A: Allocator> Machine<A> {
     }
 
     /// The step of a processor that is running.
-    #[inline(always)]
     #[tactic(auto, using(crate::proofs::MachineStepLemmas::stepped_alone, crate::proofs::MachineStepLemmas::outcome_alone))]
     fn go_on(&mut self, n: PpNo) -> Result<Outcome, Memory>
         requires { (processor_of n self.old).state ≡ PpState.Running }
@@ -112,7 +162,6 @@ impl<A: Allocator> Machine<A> {
     }
 
     /// The step of a processor with the answer to its need.
-    #[inline(always)]
     #[tactic(auto, unfolding(crate::specs::MachineStep::stepped, crate::specs::MachineStep::step_event, crate::specs::MachineStep::step_outcome))]
     fn step_with_answer(
         &mut self,

@@ -11,7 +11,6 @@ use Rattle.pp_machine.specs.Processor.{Processor}
 use Rattle.pp_machine.specs.Profile.{has_channel}
 use Rattle.pp_machine.specs.Quiet.{IsAhead}
 use Rattle.pp_machine.specs.declared.need.Need.TheVariants as needs
-use Rattle.pp_machine.specs.declared.pp_state.PpState.TheVariants.{Running}
 use Rattle.pp_machine.proofs.QuietLemmas.{none_ahead, local_ahead, probe_ahead}
 use Rattle.pp_machine.proofs.quiet.run_free_steps.Goals as goal
 

@@ -14,12 +14,12 @@ loop-self-preserved g c =
     let running = get_or c.args.next.now c.loop-self.place 0 in
     let p = c.args.self.now.profile in
     let turn : processor_in_turn p running ≡ c.at.result = in_turn_at p running (omega arith) ∙ sym c.at.ensures.number in
-    let ok : c.step.new.self ≡ stepped (processor_in_turn p running) c.pass_to-in-loop-self.new.self = c.in-Ok.ensures.ok ∙ ap (λ n. stepped n c.pass_to-in-loop-self.new.self) (sym turn) in
+    let ok : c.step_in_barrel.new.self ≡ stepped (processor_in_turn p running) c.pass_to-in-loop-self.new.self = c.in-Ok.ensures.ok ∙ ap (λ n. stepped n c.pass_to-in-loop-self.new.self) (sym turn) in
     let passed : c.pass_to-in-loop-self.new.self ≡ run (barrel p running) c.args.self.now = c.pass_to-in-loop-self.ensures.ran p c.args.self.now (omega arith) c.loop-self.invariant.ran in
     let P : MachineState → Type 0 = λ m. PassesOverRest c.args.next.now m.processors in
     record {
       ran = ok ∙ ap (stepped (processor_in_turn p running)) passed ∙ sym (barrel_more p running c.args.self.now);
       within = omega arith;
       passes = subst P (sym ok) (passes_over_stepped c.args.next.now (processor_in_turn p running) c.pass_to-in-loop-self.new.self (subst (λ pps. PassesOverRest c.args.next.now pps) (sym c.pass_to-in-loop-self.ensures.processors) c.loop-self.invariant.passes));
-      headline = c.step.ensures.headline;
+      headline = c.step_in_barrel.ensures.headline;
     }
