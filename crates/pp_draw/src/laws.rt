@@ -1,17 +1,21 @@
 //! Laws of drawings. This function does nothing: its contract says what is proved of the
 //! definitions.
 
-ghost use Rattle.std.specs.Prelude.{◌≡◌, ℕ, IsTrue, List, map};
+ghost use Rattle.std.specs.Prelude.{◌≡◌, ℕ, Bool, IsTrue, List, map};
 ghost use Rattle.pp_channel.specs.ChannelNumber.{names_channel};
 ghost use Rattle.pp_machine.specs.Headline.{HoldsOnEachChannel};
 ghost use Rattle.pp_machine.specs.MachineState.{MachineState, history_of};
 ghost use Rattle.pp_steps.specs.StepsText.{run_steps};
 ghost use Rattle.pp_draw.specs.Condition.{condition_after};
+ghost use Rattle.pp_draw.specs.DrawingText.{drawing};
 ghost use Rattle.pp_draw.specs.DrawingLaw.{condition_in, seen};
 ghost use Rattle.pp_draw.specs.Phases.{channel_phases};
 ghost use Rattle.pp_draw.specs.SeenSteps.{seen_steps};
+ghost use Rattle.pp_draw.specs.WellFormed.{IsWellFormed};
+ghost use Rattle.pp_draw.specs.declared.seen_step.SeenStep.{SeenStep};
+ghost use Rattle.pp_draw.specs.declared.window.Window.{Window};
 
-/// What is drawn of processors is seen in the very steps of the run that the text of steps tells;
+/// Every drawing is well-formed XML. What is drawn of processors is seen in the very steps of the run that the text of steps tells;
 /// and a channel has a phase for each event of its history, in order.
 pub fn drawing_law()
     ensures steps { (steps : List ℕ) (m : MachineState)
@@ -19,4 +23,6 @@ pub fn drawing_law()
     ensures history { (c : ℕ) (m : MachineState) → IsTrue (names_channel c)
         → HoldsOnEachChannel m
         → map condition_in (channel_phases c m) ≡ map condition_after (history_of c m) }
+    ensures well_formed { (w : Window) (named : List Bool) (m : MachineState)
+        (steps : List SeenStep) → IsWellFormed (drawing w named m steps) }
 {}
