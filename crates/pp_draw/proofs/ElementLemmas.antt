@@ -9,7 +9,7 @@ use Rattle.pp_draw.specs.Elements.{band_element, band_place, channel_name, condi
 use Rattle.pp_draw.specs.Frame.{caption_text, classes_text, colours_text, foot_text, lane_top, legend_text, processor_legend_text, size_text, tick_element, tick_line, tick_number, view_text}
 use Rattle.pp_draw.specs.Part.{is_labelled, is_visible}
 use Rattle.pp_draw.specs.Window.{place}
-use Rattle.pp_draw.specs.WellFormed.{Reader, at, between, inside, quoted, read, read_on}
+use Rattle.pp_draw.specs.WellFormed.{Reader, at, before, behind, between, inside, quoted, read, read_on}
 use Rattle.pp_draw.specs.declared.condition.Condition.{Condition}
 use Rattle.pp_draw.specs.declared.condition.Condition.TheVariants.{Inactive, Empty, Full, Sent, Running, InBlock, HeldBy, Stopped, Faulted}
 use Rattle.pp_draw.specs.declared.part.Part.{Part}
@@ -89,62 +89,62 @@ plain_title name part plain =
 -- ---- elements, as a reader comes through them
 
 -- a label
-pub label_read : (part : Part) (within : List (List ℕ)) → read (at within between) (label_element part) ≡ at within between
+pub label_read : (part : Part) (outer : List ℕ) (others : List (List ℕ)) → read (at (outer ∷ others) between) (label_element part) ≡ at (outer ∷ others) between
 unfolding label_element
-label_read part within = through (at within between) (codes "<text class='")
+label_read part outer others = through (at (outer ∷ others) between) (codes "<text class='")
     (told (part_class part) ∷ literal (codes "' x='") ∷ told (short_decimal (part.start)) ∷ literal (codes "' y='10'>") ∷ told (label part.condition) ∷ literal (codes "</text>\n") ∷ [])
     (plain_part part, (plain_decimal (part.start), (plain_label part.condition, tt)))
 
 -- where a band lies
-pub band_read : (part : Part) (within : List (List ℕ)) → read (at within between) (band_place part) ≡ at (codes "tcer" ∷ within) between
+pub band_read : (part : Part) (outer : List ℕ) (others : List (List ℕ)) → read (at (outer ∷ others) between) (band_place part) ≡ at (codes "tcer" ∷ (outer ∷ others)) between
 unfolding band_place
-band_read part within = through (at within between) (codes "<rect class='")
+band_read part outer others = through (at (outer ∷ others) between) (codes "<rect class='")
     (told (part_class part) ∷ literal (codes "' x='") ∷ told (short_decimal (part.start)) ∷ literal (codes "' y='14' width='") ∷ told (short_decimal (part.end - part.start)) ∷ literal (codes "' height='16'>") ∷ [])
     (plain_part part, (plain_decimal (part.start), (plain_decimal (part.end - part.start), tt)))
 
 -- a band
-pub element_read : (name : List ℕ) (part : Part) → is_plain name ≡ true → (within : List (List ℕ)) → read (at within between) (band_element name part) ≡ at within between
-element_read name part plain within =
-    let there = codes "tcer" ∷ within in
+pub element_read : (name : List ℕ) (part : Part) → is_plain name ≡ true → (outer : List ℕ) (others : List (List ℕ)) → read (at (outer ∷ others) between) (band_element name part) ≡ at (outer ∷ others) between
+element_read name part plain outer others =
+    let there = codes "tcer" ∷ (outer ∷ others) in
     let title = codes "eltit" ∷ there in
-    reads (at within between) (at title between) (at within between) (band_place part ++ codes "<title>" ++ title_text name part) (codes "</title></rect>\n")
-    (reads (at within between) (at title between) (at title between) (band_place part ++ codes "<title>") (title_text name part)
-    (reads (at within between) (at there between) (at title between) (band_place part) (codes "<title>") (band_read part within) refl)
+    reads (at (outer ∷ others) between) (at title between) (at (outer ∷ others) between) (band_place part ++ codes "<title>" ++ title_text name part) (codes "</title></rect>\n")
+    (reads (at (outer ∷ others) between) (at title between) (at title between) (band_place part ++ codes "<title>") (title_text name part)
+    (reads (at (outer ∷ others) between) (at there between) (at title between) (band_place part) (codes "<title>") (band_read part outer others) refl)
     (in_text title (title_text name part) (plain_title name part plain)))
     refl
 
 -- how a lane begins
-pub lane_head_read : (top : ℕ) (name : List ℕ) (width : ℕ) → is_plain name ≡ true → (within : List (List ℕ)) → read (at within between) (lane_head top name width) ≡ at (codes "g" ∷ within) between
+pub lane_head_read : (top : ℕ) (name : List ℕ) (width : ℕ) → is_plain name ≡ true → (outer : List ℕ) (others : List (List ℕ)) → read (at (outer ∷ others) between) (lane_head top name width) ≡ at (codes "g" ∷ (outer ∷ others)) between
 unfolding lane_head
-lane_head_read top name width plain within = through (at within between) (codes "<g transform='translate(80,")
+lane_head_read top name width plain outer others = through (at (outer ∷ others) between) (codes "<g transform='translate(80,")
     (told (short_decimal (top)) ∷ literal (codes ")'>\n<text x='-72' y='26'>") ∷ told (name) ∷ literal (codes "</text>\n<rect class='u' y='30' width='") ∷ told (short_decimal (width)) ∷ literal (codes "' height='1'/>\n") ∷ [])
     (plain_decimal (top), (plain, (plain_decimal (width), tt)))
 
 -- and ends
-pub lane_foot_read : (width : ℕ) (standing : List ℕ) → is_plain standing ≡ true → (within : List (List ℕ)) → read (at (codes "g" ∷ within) between) (lane_foot width standing) ≡ at within between
+pub lane_foot_read : (width : ℕ) (standing : List ℕ) → is_plain standing ≡ true → (outer : List ℕ) (others : List (List ℕ)) → read (at (codes "g" ∷ (outer ∷ others)) between) (lane_foot width standing) ≡ at (outer ∷ others) between
 unfolding lane_foot
-lane_foot_read width standing plain within = through (at (codes "g" ∷ within) between) (codes "<text class='e' x='")
+lane_foot_read width standing plain outer others = through (at (codes "g" ∷ (outer ∷ others)) between) (codes "<text class='e' x='")
     (told (short_decimal (width + 8)) ∷ literal (codes "' y='26'>") ∷ told (standing) ∷ literal (codes "</text>\n</g>\n") ∷ [])
     (plain_decimal (width + 8), (plain, tt))
 
 -- the line of a turn
-pub tick_line_read : (w : Window) (rows turn : ℕ) → (within : List (List ℕ)) → read (at within between) (tick_line w rows turn) ≡ at within between
+pub tick_line_read : (w : Window) (rows turn : ℕ) → (outer : List ℕ) (others : List (List ℕ)) → read (at (outer ∷ others) between) (tick_line w rows turn) ≡ at (outer ∷ others) between
 unfolding tick_line
-tick_line_read w rows turn within = through (at within between) (codes "<rect class='g' x='")
+tick_line_read w rows turn outer others = through (at (outer ∷ others) between) (codes "<rect class='g' x='")
     (told (short_decimal (place w turn + 80)) ∷ literal (codes "' y='32' width='1' height='") ∷ told (short_decimal (36 * rows + 8)) ∷ literal (codes "'/>\n") ∷ [])
     (plain_decimal (place w turn + 80), (plain_decimal (36 * rows + 8), tt))
 
 -- and its number
-pub tick_number_read : (w : Window) (rows turn : ℕ) → (within : List (List ℕ)) → read (at within between) (tick_number w rows turn) ≡ at within between
+pub tick_number_read : (w : Window) (rows turn : ℕ) → (outer : List ℕ) (others : List (List ℕ)) → read (at (outer ∷ others) between) (tick_number w rows turn) ≡ at (outer ∷ others) between
 unfolding tick_number
-tick_number_read w rows turn within = through (at within between) (codes "<text class='t' x='")
+tick_number_read w rows turn outer others = through (at (outer ∷ others) between) (codes "<text class='t' x='")
     (told (short_decimal (place w turn + 80)) ∷ literal (codes "' y='") ∷ told (short_decimal (lane_top rows + 18)) ∷ literal (codes "'>") ∷ told (short_decimal (turn)) ∷ literal (codes "</text>\n") ∷ [])
     (plain_decimal (place w turn + 80), (plain_decimal (lane_top rows + 18), (plain_decimal (turn), tt)))
 
 -- the size of the picture
-pub size_read : (width height : ℕ) → (within : List (List ℕ)) → read (at within between) (size_text width height) ≡ at within (quoted (codes "gvs"))
+pub size_read : (width height : ℕ) → read (at [] before) (size_text width height) ≡ at [] (quoted (codes "gvs"))
 unfolding size_text
-size_read width height within = through (at within between) (codes "<svg xmlns='http://www.w3.org/2000/svg' width='")
+size_read width height = through (at [] before) (codes "<svg xmlns='http://www.w3.org/2000/svg' width='")
     (told (short_decimal (width)) ∷ literal (codes "' height='") ∷ told (short_decimal (height)) ∷ [])
     (plain_decimal (width), (plain_decimal (height), tt))
 
@@ -156,31 +156,31 @@ view_read width height within = through (at within (quoted (codes "gvs"))) (code
     (plain_decimal (width), (plain_decimal (height), tt))
 
 -- its title
-pub caption_read : (w : Window) → (within : List (List ℕ)) → read (at within between) (caption_text w) ≡ at within between
+pub caption_read : (w : Window) → (outer : List ℕ) (others : List (List ℕ)) → read (at (outer ∷ others) between) (caption_text w) ≡ at (outer ∷ others) between
 unfolding caption_text
-caption_read w within = through (at within between) (codes "<title>Channels and processors, turns ")
+caption_read w outer others = through (at (outer ∷ others) between) (codes "<title>Channels and processors, turns ")
     (told (short_decimal (w.from)) ∷ literal (codes " to ") ∷ told (short_decimal (w.to)) ∷ literal (codes "</title>\n") ∷ [])
     (plain_decimal (w.from), (plain_decimal (w.to), tt))
 
 -- its end
-pub foot_read : (rows : ℕ) → (within : List (List ℕ)) → read (at (codes "gvs" ∷ within) between) (foot_text rows) ≡ at within between
+pub foot_read : (rows : ℕ) → read (at (codes "gvs" ∷ []) between) (foot_text rows) ≡ at [] behind
 unfolding foot_text
-foot_read rows within = through (at (codes "gvs" ∷ within) between) (codes "<text class='e' x='8' y='")
+foot_read rows = through (at (codes "gvs" ∷ []) between) (codes "<text class='e' x='8' y='")
     (told (short_decimal (lane_top rows + 18)) ∷ literal (codes "'>turn</text>\n</svg>\n") ∷ [])
     (plain_decimal (lane_top rows + 18), tt)
 
-pub colours_read : (within : List (List ℕ)) → read (at within between) colours_text ≡ at (codes "elyts" ∷ within) between
+pub colours_read : (outer : List ℕ) (others : List (List ℕ)) → read (at (outer ∷ others) between) colours_text ≡ at (codes "elyts" ∷ (outer ∷ others)) between
 unfolding colours_text
-colours_read within = refl
+colours_read outer others = refl
 
-pub classes_read : (within : List (List ℕ)) → read (at (codes "elyts" ∷ within) between) classes_text ≡ at within between
+pub classes_read : (outer : List ℕ) (others : List (List ℕ)) → read (at (codes "elyts" ∷ (outer ∷ others)) between) classes_text ≡ at (outer ∷ others) between
 unfolding classes_text
-classes_read within = refl
+classes_read outer others = refl
 
-pub legend_read : (within : List (List ℕ)) → read (at within between) legend_text ≡ at (codes "g" ∷ within) between
+pub legend_read : (outer : List ℕ) (others : List (List ℕ)) → read (at (outer ∷ others) between) legend_text ≡ at (codes "g" ∷ (outer ∷ others)) between
 unfolding legend_text
-legend_read within = refl
+legend_read outer others = refl
 
-pub processor_legend_read : (within : List (List ℕ)) → read (at (codes "g" ∷ within) between) processor_legend_text ≡ at within between
+pub processor_legend_read : (outer : List ℕ) (others : List (List ℕ)) → read (at (codes "g" ∷ (outer ∷ others)) between) processor_legend_text ≡ at (outer ∷ others) between
 unfolding processor_legend_text
-processor_legend_read within = refl
+processor_legend_read outer others = refl

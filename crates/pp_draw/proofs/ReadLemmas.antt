@@ -5,7 +5,7 @@ use Rattle.std.proofs.lemmas.Bool.{cond-false, ne_eqb}
 use Rattle.std.proofs.lemmas.List.Sums.{fold-append}
 use Rattle.pp_sessions.specs.SessionsText.{short_decimal}
 use Rattle.pp_text.specs.Numeral.{digit, digits, octal, unpadded}
-use Rattle.pp_draw.specs.WellFormed.{Place, Reader, Sign, at, between, opening, closing, inside, quoted, slashed, less, greater, quote, ampersand, slash, space, other, read, read_at, read_between, read_on, read_quoted, sign_of}
+use Rattle.pp_draw.specs.WellFormed.{Place, Reader, Sign, at, before, behind, between, opening, closing, inside, quoted, slashed, less, greater, quote, ampersand, slash, space, line_feed, other, read, read_at, read_between, read_on, read_quoted, sign_of}
 
 -- ---- plain characters
 
@@ -38,6 +38,7 @@ digit_sign n low =
     ∙ cond-false (eqb (48 + n) 38) _ _ (ne_eqb (48 + n) 38 (omega (arith, low)))
     ∙ cond-false (eqb (48 + n) 47) _ _ (ne_eqb (48 + n) 47 (omega (arith, low)))
     ∙ cond-false (eqb (48 + n) 32) _ _ (ne_eqb (48 + n) 32 (omega (arith, low)))
+    ∙ cond-false (eqb (48 + n) 10) _ _ (ne_eqb (48 + n) 10 (omega (arith, low)))
 
 plain_digit : (n : ℕ) → n < 10 → is_plain (digit n) ≡ true
 plain_digit n low = ap (λ (s : Sign). is_plain_sign s && true) (digit_sign n low)
@@ -68,6 +69,7 @@ text_sign greater within h = absurd (cc)
 text_sign quote within h = absurd (cc)
 text_sign ampersand within h = absurd (cc)
 text_sign slash within h = absurd (cc)
+text_sign line_feed within h = absurd (cc)
 
 quoted_sign : (s : Sign) (name : List ℕ) (within : List (List ℕ)) → is_plain_sign s ≡ true → read_quoted s name within ≡ at within (quoted name)
 quoted_sign other name within h = refl
@@ -77,6 +79,7 @@ quoted_sign greater name within h = absurd (cc)
 quoted_sign quote name within h = absurd (cc)
 quoted_sign ampersand name within h = absurd (cc)
 quoted_sign slash name within h = absurd (cc)
+quoted_sign line_feed name within h = absurd (cc)
 
 -- through plain text between tags
 pub in_text : (within : List (List ℕ)) (text : List ℕ) → is_plain text ≡ true → read (at within between) text ≡ at within between
@@ -123,6 +126,8 @@ stays_at (opening name) within text = read (at within (opening name)) text
 stays_at (closing name) within text = read (at within (closing name)) text
 stays_at (inside name) within text = read (at within (inside name)) text
 stays_at slashed within text = read (at within slashed) text
+stays_at before within text = read (at within before) text
+stays_at behind within text = read (at within behind) text
 
 abbrev pub stays : Option Reader → List ℕ → Option Reader
 stays None text = read None text
@@ -135,6 +140,8 @@ stays_there (opening name) within text h = refl
 stays_there (closing name) within text h = refl
 stays_there (inside name) within text h = refl
 stays_there slashed within text h = refl
+stays_there before within text h = refl
+stays_there behind within text h = refl
 
 told_read : (reader : Option Reader) (text : List ℕ) → is_plain text ≡ true → read reader text ≡ stays reader text
 told_read None text h = refl
@@ -155,16 +162,18 @@ through reader text (told more ∷ pieces) plain =
     through reader (text ++ more) pieces plain.1
     ∙ ap (λ (r : Option Reader). read_pieces r pieces) (fold-append read_on reader text more ∙ told_read (read reader text) more plain.0)
 
--- ---- texts that may stand between tags, whatever is open
+-- ---- texts that may stand within an element
 
 abbrev pub IsBalanced : List ℕ → Type 0
-IsBalanced text = (within : List (List ℕ)) → read (at within between) text ≡ at within between
+IsBalanced text = (outer : List ℕ) (others : List (List ℕ)) → read (at (outer ∷ others) between) text ≡ at (outer ∷ others) between
 
 pub balanced-append : (a b : List ℕ) → IsBalanced a → IsBalanced b → IsBalanced (a ++ b)
-balanced-append a b first more = λ within. reads (at within between) (at within between) (at within between) a b (first within) (more within)
+balanced-append a b first more = λ outer others.
+    let here = at (outer ∷ others) between in
+    reads here here here a b (first outer others) (more outer others)
 
 pub balanced-nil : IsBalanced []
-balanced-nil = λ within. refl
+balanced-nil = λ outer others. refl
 
 pub balanced-if : (b : Bool) (text : List ℕ) → IsBalanced text → IsBalanced (cond b text [])
 balanced-if true text h = h

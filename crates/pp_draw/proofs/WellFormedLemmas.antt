@@ -13,7 +13,7 @@ use Rattle.pp_draw.specs.Frame.{caption_text, classes_text, colours_text, first_
 use Rattle.pp_draw.specs.Lane.{drawn, drawn_from, next_in}
 use Rattle.pp_draw.specs.Part.{is_labelled, is_visible, part_of}
 use Rattle.pp_draw.specs.Phases.{channel_phases, phases_from, processor_phases}
-use Rattle.pp_draw.specs.WellFormed.{IsWellFormed, at, between, quoted, read}
+use Rattle.pp_draw.specs.WellFormed.{IsWellFormed, at, before, behind, between, quoted, read}
 use Rattle.pp_draw.specs.Window.{band_width}
 use Rattle.pp_draw.specs.declared.part.Part.{Part}
 use Rattle.pp_draw.specs.declared.part.Phase.{Phase}
@@ -38,13 +38,14 @@ balanced_phases w name free (phase ∷ more) plain =
 
 balanced_lane : (w : Window) (row : ℕ) (name : List ℕ) (phases : List Phase) (standing : List ℕ) → is_plain name ≡ true → is_plain standing ≡ true → IsBalanced (lane_text w row name phases standing)
 unfolding lane_text
-balanced_lane w row name phases standing plain stands = λ within.
-    let inner : List (List ℕ) = codes "g" ∷ within in
-    reads (at within between) (at inner between) (at within between) (lane_head (lane_top row) name (band_width w) ++ drawn w name phases) (lane_foot (band_width w) standing)
-    (reads (at within between) (at inner between) (at inner between) (lane_head (lane_top row) name (band_width w)) (drawn w name phases)
-    (lane_head_read (lane_top row) name (band_width w) plain within)
-    (balanced_phases w name 0 (phases_from None phases) plain inner))
-    (lane_foot_read (band_width w) standing stands within)
+balanced_lane w row name phases standing plain stands = λ outer others.
+    let here = at (outer ∷ others) between in
+    let inner = at (codes "g" ∷ (outer ∷ others)) between in
+    reads here inner here (lane_head (lane_top row) name (band_width w) ++ drawn w name phases) (lane_foot (band_width w) standing)
+    (reads here inner inner (lane_head (lane_top row) name (band_width w)) (drawn w name phases)
+    (lane_head_read (lane_top row) name (band_width w) plain outer others)
+    (balanced_phases w name 0 (phases_from None phases) plain (codes "g") (outer ∷ others)))
+    (lane_foot_read (band_width w) standing stands outer others)
 
 plain_standing : (is_active : Bool) (word : Option ℕ) → is_plain (channel_text is_active word) ≡ true
 plain_standing is_active (Some word) = plain-append (codes "ACTIVE FULL ") (octal 4 word) refl (plain_octal 4 word)
@@ -85,24 +86,28 @@ balanced_ticks w rows =
     balanced_each (tick_count w) (λ (i : ℕ). tick_element w rows (tick_turns w * (first_tick w + i)))
     (λ i. balanced_tick w rows (tick_turns w * (first_tick w + i)))
 
--- the head, which leaves the picture open
-head_read : (w : Window) (rows : ℕ) → read (at [] between) (head_text w rows) ≡ at (codes "gvs" ∷ []) between
+-- the name of the outermost element, the last character first
+abbrev svg : List ℕ
+svg = codes "gvs"
+
+-- the head, which leaves it open
+head_read : (w : Window) (rows : ℕ) → read (at [] before) (head_text w rows) ≡ at (svg ∷ []) between
 head_read w rows =
     let width = picture_width w in
     let height = picture_height rows in
-    reads (at [] between) (at (codes "gvs" ∷ []) between) (at (codes "gvs" ∷ []) between) (size_text width height ++ view_text width height) (caption_text w)
-    (reads (at [] between) (at [] (quoted (codes "gvs"))) (at (codes "gvs" ∷ []) between) (size_text width height) (view_text width height) (size_read width height []) (view_read width height []))
-    (caption_read w (codes "gvs" ∷ []))
+    let here = at (svg ∷ []) between in
+    reads (at [] before) here here (size_text width height ++ view_text width height) (caption_text w)
+    (reads (at [] before) (at [] (quoted svg)) here (size_text width height) (view_text width height) (size_read width height) (view_read width height []))
+    (caption_read w svg [])
 
 pub drawing_read : (w : Window) (named : List Bool) (m : MachineState) (steps : List SeenStep) → IsWellFormed (drawing w named m steps)
 unfolding drawing
 drawing_read w named m steps =
     let rows = lanes named m in
-    let svg : List (List ℕ) = codes "gvs" ∷ [] in
-    let here = at svg between in
-    let legend = at (codes "g" ∷ svg) between in
-    let style = at (codes "elyts" ∷ svg) between in
-    let start = at [] between in
+    let here = at (svg ∷ []) between in
+    let legend = at (codes "g" ∷ svg ∷ []) between in
+    let style = at (codes "elyts" ∷ svg ∷ []) between in
+    let start = at [] before in
     let t1 = head_text w rows ++ colours_text in
     let t2 = t1 ++ classes_text in
     let t3 = t2 ++ legend_text in
@@ -110,11 +115,11 @@ drawing_read w named m steps =
     let t5 = t4 ++ ticks_text w rows in
     let t6 = t5 ++ each_below 0o100 (channel_lane w m) in
     let t7 = t6 ++ each_below 0o100 (processor_lane w named m steps) in
-    let r1 = reads start here style (head_text w rows) colours_text (head_read w rows) (colours_read svg) in
-    let r2 = reads start style here t1 classes_text r1 (classes_read svg) in
-    let r3 = reads start here legend t2 legend_text r2 (legend_read svg) in
-    let r4 = reads start legend here t3 processor_legend_text r3 (processor_legend_read svg) in
-    let r5 = reads start here here t4 (ticks_text w rows) r4 (balanced_ticks w rows svg) in
-    let r6 = reads start here here t5 (each_below 0o100 (channel_lane w m)) r5 (balanced_each 0o100 (channel_lane w m) (balanced_channel w m) svg) in
-    let r7 = reads start here here t6 (each_below 0o100 (processor_lane w named m steps)) r6 (balanced_each 0o100 (processor_lane w named m steps) (balanced_processor w named m steps) svg) in
-    reads start here start t7 (foot_text rows) r7 (foot_read rows [])
+    let r1 = reads start here style (head_text w rows) colours_text (head_read w rows) (colours_read svg []) in
+    let r2 = reads start style here t1 classes_text r1 (classes_read svg []) in
+    let r3 = reads start here legend t2 legend_text r2 (legend_read svg []) in
+    let r4 = reads start legend here t3 processor_legend_text r3 (processor_legend_read svg []) in
+    let r5 = reads start here here t4 (ticks_text w rows) r4 (balanced_ticks w rows svg []) in
+    let r6 = reads start here here t5 (each_below 0o100 (channel_lane w m)) r5 (balanced_each 0o100 (channel_lane w m) (balanced_channel w m) svg []) in
+    let r7 = reads start here here t6 (each_below 0o100 (processor_lane w named m steps)) r6 (balanced_each 0o100 (processor_lane w named m steps) (balanced_processor w named m steps) svg []) in
+    reads start here (at [] behind) t7 (foot_text rows) r7 (foot_read rows)

@@ -1,7 +1,7 @@
 //! Laws of drawings. This function does nothing: its contract says what is proved of the
 //! definitions.
 
-ghost use Rattle.std.specs.Prelude.{◌≡◌, ℕ, Bool, IsTrue, List, map};
+ghost use Rattle.std.specs.Prelude.{◌≡◌, ℕ, Bool, IsTrue, List, codes, map};
 ghost use Rattle.pp_channel.specs.ChannelNumber.{names_channel};
 ghost use Rattle.pp_machine.specs.Headline.{HoldsOnEachChannel};
 ghost use Rattle.pp_machine.specs.MachineState.{MachineState, history_of};
@@ -25,4 +25,9 @@ pub fn drawing_law()
         → map condition_in (channel_phases c m) ≡ map condition_after (history_of c m) }
     ensures well_formed { (w : Window) (named : List Bool) (m : MachineState)
         (steps : List SeenStep) → IsWellFormed (drawing w named m steps) }
+    // Texts that are not.
+    ensures unclosed { ¬ IsWellFormed (codes "<svg><g></g>") }
+    ensures crossed { ¬ IsWellFormed (codes "<svg><g><text></g></text></svg>") }
+    ensures unquoted { ¬ IsWellFormed (codes "<svg><g x='></g></svg>") }
+    ensures twofold { ¬ IsWellFormed (codes "<svg></svg><svg></svg>") }
 {}
