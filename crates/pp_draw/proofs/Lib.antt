@@ -5,3 +5,4 @@ pub mod LawLemmas
 pub mod ReadLemmas
 pub mod ElementLemmas
 pub mod WellFormedLemmas
+pub mod ConditionLemmas
