@@ -1,15 +1,11 @@
 -- The elements of a drawing are balanced.
-use Rattle.std.proofs.Common.{◌≡◌, ℕ, ◌+◌, ◌-◌, ◌*◌, Bool, true, false, cond, List, [], ◌∷◌, ◌++◌, Option, None, Some, refl, sym, ap, ◌∙◌, codes}
-use Rattle.std.specs.Prelude.{fold}
-use Rattle.std.proofs.lemmas.List.{append-nil}
-use Rattle.std.proofs.lemmas.List.Sums.{fold-append}
+use Rattle.std.proofs.Common.{◌≡◌, ℕ, ◌+◌, ◌-◌, ◌*◌, Bool, true, false, cond, List, [], ◌∷◌, ◌++◌, refl, codes}
 use Rattle.pp_sessions.specs.SessionsText.{short_decimal}
 use Rattle.pp_text.specs.Numeral.{octal}
-use Rattle.pp_draw.specs.Elements.{band_element, band_place, channel_name, condition_class, condition_text, label, label_element, lane_foot, lane_head, lost_text, part_class, part_elements, processor_name, title_text}
-use Rattle.pp_draw.specs.Frame.{caption_text, classes_text, colours_text, foot_text, lane_top, legend_text, processor_legend_text, size_text, tick_element, tick_line, tick_number, view_text}
-use Rattle.pp_draw.specs.Part.{is_labelled, is_visible}
+use Rattle.pp_draw.specs.Elements.{band_element, band_place, channel_name, condition_class, condition_text, label, label_element, lane_foot, lane_head, lost_text, part_class, processor_name, title_text}
+use Rattle.pp_draw.specs.Frame.{caption_text, classes_text, colours_text, foot_text, lane_top, legend_text, processor_legend_text, size_text, tick_line, tick_number, view_text}
 use Rattle.pp_draw.specs.Window.{place}
-use Rattle.pp_draw.specs.WellFormed.{Reader, at, before, behind, between, inside, quoted, read, read_on}
+use Rattle.pp_draw.specs.WellFormed.{at, before, behind, between, quoted, read}
 use Rattle.pp_draw.specs.declared.condition.Condition.{Condition}
 use Rattle.pp_draw.specs.declared.condition.Condition.TheVariants.{Inactive, Empty, Full, Sent, Running, InBlock, HeldBy, Stopped, Faulted}
 use Rattle.pp_draw.specs.declared.part.Part.{Part}

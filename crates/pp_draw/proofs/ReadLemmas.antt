@@ -1,11 +1,10 @@
 -- Reading a drawing.
-use Rattle.std.proofs.Common.{◌≡◌, ◌≢◌, ℕ, zero, suc, ◌+◌, ◌<◌, ◌≤◌, ◌%◌, ◌/◌, ◌&&◌, Bool, true, false, cond, eqb, List, [], ◌∷◌, ◌++◌, Option, None, Some, refl, sym, ap, subst, ◌∙◌, arith, codes}
-use Rattle.std.specs.Prelude.{fold}
+use Rattle.std.proofs.Common.{◌≡◌, ℕ, zero, suc, ◌+◌, ◌<◌, ◌%◌, ◌/◌, ◌&&◌, Bool, true, false, cond, eqb, List, [], ◌∷◌, ◌++◌, Option, None, Some, refl, ap, ◌∙◌, arith}
 use Rattle.std.proofs.lemmas.Bool.{cond-false, ne_eqb}
 use Rattle.std.proofs.lemmas.List.Sums.{fold-append}
 use Rattle.pp_sessions.specs.SessionsText.{short_decimal}
-use Rattle.pp_text.specs.Numeral.{digit, digits, octal, unpadded}
-use Rattle.pp_draw.specs.WellFormed.{Place, Reader, Sign, at, before, behind, between, opening, closing, inside, quoted, slashed, less, greater, quote, ampersand, slash, space, line_feed, other, read, read_at, read_between, read_on, read_quoted, sign_of}
+use Rattle.pp_text.specs.Numeral.{digit, octal, unpadded}
+use Rattle.pp_draw.specs.WellFormed.{Place, Reader, Sign, at, before, behind, between, opening, closing, inside, quoted, slashed, less, greater, quote, ampersand, slash, space, line_feed, other, read, read_between, read_on, read_quoted, sign_of}
 
 -- ---- plain characters
 

@@ -1,7 +1,7 @@
 -- When a text is well-formed XML, without comments, references and double quotes: read character by
 -- character, it is one element; each tag and each quote ends, and each element is closed by its own
 -- name, the innermost first.
-use Rattle.std.specs.Prelude.{◌≡◌, ℕ, ◌==◌, Bool, List, [], ◌∷◌, Option, None, Some, fold, if◌then◌else◌}
+use Rattle.std.specs.Prelude.{◌≡◌, ℕ, ◌==◌, List, [], ◌∷◌, Option, None, Some, fold, if◌then◌else◌}
 use Rattle.std.specs.Str.{bytes_eq}
 
 -- what a character is to XML: `<`, `>`, `'`, `&`, `/`, a space, a line feed, or any other
