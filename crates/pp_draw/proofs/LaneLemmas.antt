@@ -1,7 +1,7 @@
 -- A lane, phase by phase.
 use Rattle.std.proofs.Common.{◌≡◌, ℕ, ◌+◌, ◌<◌, Bool, true, false, cond, eqb, List, [], ◌∷◌, ◌++◌, length, take, get_or, Option, None, Some, refl, sym, ap, subst, ◌∙◌, append_assoc}
-use Rattle.std.specs.List.{cons_option, filter_map}
-use Rattle.std.proofs.lemmas.Bool.{eq-eqb, cond-true, cond-false}
+use Rattle.std.specs.List.{cons_option}
+use Rattle.std.proofs.lemmas.Bool.{eq-eqb}
 use Rattle.std.proofs.lemmas.List.{append-nil, take_more}
 use Rattle.std.proofs.lemmas.List.Elements.{filter_map-append}
 use Rattle.pp_machine.specs.declared.trace.Trace.{Trace}
@@ -18,11 +18,11 @@ use Rattle.pp_draw.specs.declared.window.Window.{Window}
 
 -- ---- a phase comes
 
-changes_none : (current next : Phase) (more : List Phase) → goes_on current.condition next.condition ≡ true → changes current (next ∷ more) ≡ changes current more
+pub changes_none : (current next : Phase) (more : List Phase) → goes_on current.condition next.condition ≡ true → changes current (next ∷ more) ≡ changes current more
 unfolding changes
 changes_none current next more is = ap (λ (b : Bool). cond b (changes current more) (next ∷ changes next more)) is
 
-changes_next : (current next : Phase) (more : List Phase) → goes_on current.condition next.condition ≡ false → changes current (next ∷ more) ≡ next ∷ changes next more
+pub changes_next : (current next : Phase) (more : List Phase) → goes_on current.condition next.condition ≡ false → changes current (next ∷ more) ≡ next ∷ changes next more
 unfolding changes
 changes_next current next more is = ap (λ (b : Bool). cond b (changes current more) (next ∷ changes next more)) is
 
@@ -77,7 +77,7 @@ pub takes_all : (w : Window) (name : List ℕ) (phases : List Phase) (printed : 
     → printed ++ drawn_from w name lane.free (phases_from lane.current []) ≡ drawn w name phases
 takes_all w name phases printed lane takes = sym (takes []) ∙ ap (λ (ps : List Phase). drawn w name ps) (append-nil phases)
 
-no_changes : (phase : Phase) → changes phase [] ≡ []
+pub no_changes : (phase : Phase) → changes phase [] ≡ []
 unfolding changes
 no_changes phase = refl
 

@@ -8,11 +8,10 @@ use Rattle.pp_channel.specs.declared.event.Event.{Event}
 use Rattle.pp_channel.specs.declared.event.Event.TheVariants.{Activate}
 use Rattle.pp_machine.specs.Headline.{HoldsOnEachChannel, events_on, opening_history}
 use Rattle.pp_machine.specs.MachineState.{MachineState, history_of, is_opened}
-use Rattle.pp_machine.specs.MachineStep.{stepped}
 use Rattle.pp_machine.specs.Run.{run}
 use Rattle.pp_machine.specs.declared.trace.Trace.{Trace}
 use Rattle.pp_machine.proofs.RunLemmas.{run-append}
-use Rattle.pp_steps.specs.StepsText.{RunStep, run_steps, steps_from}
+use Rattle.pp_steps.specs.StepsText.{run_steps, steps_from}
 use Rattle.pp_draw.specs.Condition.{condition_after}
 use Rattle.pp_draw.specs.DrawingLaw.{condition_in, seen}
 use Rattle.pp_draw.specs.Phases.{channel_phases, opening_phases, phase_after, phases_on}

@@ -41,21 +41,45 @@ head_text w rows =
 -- colours, light and dark
 unfoldable pub colours_text : List ℕ
 colours_text =
-    codes "<style>\n:root{--ink:#1b1f24;--soft:#5c6570;--line:#d5d9de;--ground:#fff;--full:#2f6fb3;--empty:#cfe1f4;--lost:#c0392b;--code:#7d4fa8;--run:#9bb8a0;--block:#4f8159;--held:#e3a63b}\n@media(prefers-color-scheme:dark){:root{--ink:#e6e9ed;--soft:#9aa3ad;--line:#3a414a;--ground:#15181c;--full:#5b9bdc;--empty:#22384f;--lost:#e06757;--code:#b48ad6;--run:#4f7257;--block:#7fb38a;--held:#c98d2a}}\n"
+    codes "<style>\n:root{--ink:#1b1f24;--soft:#5c6570;--line:#d5d9de;--ground:#fff;"
+    ++ codes "--full:#2f6fb3;--empty:#cfe1f4;--lost:#c0392b;--code:#7d4fa8;--run:#9bb8a0;"
+    ++ codes "--block:#4f8159;--held:#e3a63b}\n"
+    ++ codes "@media(prefers-color-scheme:dark){:root{--ink:#e6e9ed;--soft:#9aa3ad;--line:#3a414a;"
+    ++ codes "--ground:#15181c;--full:#5b9bdc;--empty:#22384f;--lost:#e06757;--code:#b48ad6;"
+    ++ codes "--run:#4f7257;--block:#7fb38a;--held:#c98d2a}}\n"
 
 -- and the classes that have them
 unfoldable pub classes_text : List ℕ
 classes_text =
-    codes "text{font:11px ui-monospace,Menlo,Consolas,monospace;fill:var(--ink)}\nrect.z{fill:var(--ground)}rect.g{fill:var(--line)}rect.u{fill:var(--soft)}rect.i,rect.s{fill:transparent}rect.a{fill:var(--empty)}rect.f{fill:var(--full)}rect.l,rect.x{fill:var(--lost)}rect.c{fill:var(--code)}rect.r{fill:var(--run)}rect.b{fill:var(--block)}rect.h{fill:var(--held)}\ntext.e,text.t{fill:var(--soft)}text.t{text-anchor:middle}text.l{fill:var(--lost);text-decoration:line-through}\n</style>\n<rect class='z' width='100%' height='100%'/>\n"
+    codes "text{font:11px ui-monospace,Menlo,Consolas,monospace;fill:var(--ink)}\n"
+    ++ codes "rect.z{fill:var(--ground)}rect.g{fill:var(--line)}rect.u{fill:var(--soft)}"
+    ++ codes "rect.i,rect.s{fill:transparent}rect.a{fill:var(--empty)}rect.f{fill:var(--full)}"
+    ++ codes "rect.l,rect.x{fill:var(--lost)}rect.c{fill:var(--code)}rect.r{fill:var(--run)}"
+    ++ codes "rect.b{fill:var(--block)}rect.h{fill:var(--held)}\n"
+    ++ codes "text.e,text.t{fill:var(--soft)}text.t{text-anchor:middle}text.l{fill:var(--lost);"
+    ++ codes "text-decoration:line-through}\n</style>\n"
+    ++ codes "<rect class='z' width='100%' height='100%'/>\n"
 
 -- what the colours mean
 unfoldable pub legend_text : List ℕ
 legend_text =
-    codes "<g transform='translate(8,8)'>\n<rect class='a' width='12' height='12'/><text class='e' x='16' y='10'>active</text>\n<rect class='f' x='72' width='12' height='12'/><text class='e' x='88' y='10'>full</text>\n<rect class='l' x='131' width='12' height='12'/><text class='e' x='147' y='10'>lost</text>\n<rect class='c' x='190' width='12' height='12'/><text class='e' x='206' y='10'>function code</text>\n"
+    codes "<g transform='translate(8,8)'>\n<rect class='a' width='12' height='12'/>"
+    ++ codes "<text class='e' x='16' y='10'>active</text>\n"
+    ++ codes "<rect class='f' x='72' width='12' height='12'/><text class='e' x='88' y='10'>"
+    ++ codes "full</text>\n<rect class='l' x='131' width='12' height='12'/>"
+    ++ codes "<text class='e' x='147' y='10'>lost</text>\n"
+    ++ codes "<rect class='c' x='190' width='12' height='12'/><text class='e' x='206' y='10'>"
+    ++ codes "function code</text>\n"
 
 unfoldable pub processor_legend_text : List ℕ
 processor_legend_text =
-    codes "<rect class='r' x='308' width='12' height='12'/><text class='e' x='324' y='10'>running</text>\n<rect class='b' x='387' width='12' height='12'/><text class='e' x='403' y='10'>in a block</text>\n<rect class='h' x='485' width='12' height='12'/><text class='e' x='501' y='10'>held</text>\n<rect class='x' x='544' width='12' height='12'/><text class='e' x='560' y='10'>fault</text>\n</g>\n"
+    codes "<rect class='r' x='308' width='12' height='12'/><text class='e' x='324' y='10'>"
+    ++ codes "running</text>\n<rect class='b' x='387' width='12' height='12'/>"
+    ++ codes "<text class='e' x='403' y='10'>in a block</text>\n"
+    ++ codes "<rect class='h' x='485' width='12' height='12'/><text class='e' x='501' y='10'>"
+    ++ codes "held</text>\n<rect class='x' x='544' width='12' height='12'/>"
+    ++ codes "<text class='e' x='560' y='10'>fault</text>\n"
+    ++ codes "</g>\n"
 
 -- turns with a line: each tenth, or each twentieth where turns are narrow
 abbrev pub tick_turns : Window → ℕ

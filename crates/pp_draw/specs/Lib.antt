@@ -8,3 +8,4 @@ pub mod Lane
 pub mod Frame
 pub mod DrawingText
 pub mod DrawingLaw
+pub mod WellFormed

@@ -52,10 +52,8 @@ impl Condition {
             Condition::HeldBy(c) => next.is_held_by(*c),
             Condition::Stopped => next.is_stopped(),
             Condition::Faulted => next.is_faulted(),
-            Condition::Inactive
-            | Condition::Empty
-            | Condition::Full(_)
-            | Condition::Sent(_) => false,
+            Condition::Inactive | Condition::Empty | Condition::Full(_) | Condition::Sent(_) =>
+                false,
         }
     }
 

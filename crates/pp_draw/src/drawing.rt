@@ -35,7 +35,9 @@ pub fn write_drawing<A: Allocator, W: Write>(
     print_head(&mut text, &mut line, window, rows);
     print_ticks(&mut text, &mut line, window, rows);
     print_channel_lanes(&mut text, &mut line, window, machine);
-    print_processor_lanes(&mut text, &mut line, window, named, machine, steps, channels);
+    print_processor_lanes(
+        &mut text, &mut line, window, named, machine, steps, channels,
+    );
     print_foot(&mut text, &mut line, rows);
     text.finish()
 }

@@ -91,11 +91,7 @@ pub(crate) fn push_lane_head(line: &mut Piece, top: u64, name: &[u8; 4], width: 
 
 /// Adds how the lane of a channel ends: with how it stands behind the last turn.
 #[tactic(auto, unfolding(crate::specs::Elements::lane_foot))]
-pub(crate) fn push_channel_foot<A: Allocator>(
-    line: &mut Piece,
-    width: u64,
-    channel: &Channel<A>,
-)
+pub(crate) fn push_channel_foot<A: Allocator>(line: &mut Piece, width: u64, channel: &Channel<A>)
     requires room { HasRoom 200 line.old }
     requires width { width < 2 ^ 40 }
     ensures { line.new

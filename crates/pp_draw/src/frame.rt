@@ -105,7 +105,14 @@ fn push_colours(line: &mut Piece)
     ensures text { line.new ≡ line.old ++ colours_text }
     ensures room { length line.new ≤ length line.old + 500 }
 {
-    line.push(b"<style>\n:root{--ink:#1b1f24;--soft:#5c6570;--line:#d5d9de;--ground:#fff;--full:#2f6fb3;--empty:#cfe1f4;--lost:#c0392b;--code:#7d4fa8;--run:#9bb8a0;--block:#4f8159;--held:#e3a63b}\n@media(prefers-color-scheme:dark){:root{--ink:#e6e9ed;--soft:#9aa3ad;--line:#3a414a;--ground:#15181c;--full:#5b9bdc;--empty:#22384f;--lost:#e06757;--code:#b48ad6;--run:#4f7257;--block:#7fb38a;--held:#c98d2a}}\n");
+    line.push(
+        b"<style>\n:root{--ink:#1b1f24;--soft:#5c6570;--line:#d5d9de;--ground:#fff;\
+          --full:#2f6fb3;--empty:#cfe1f4;--lost:#c0392b;--code:#7d4fa8;--run:#9bb8a0;\
+          --block:#4f8159;--held:#e3a63b}\n\
+          @media(prefers-color-scheme:dark){:root{--ink:#e6e9ed;--soft:#9aa3ad;--line:#3a414a;\
+          --ground:#15181c;--full:#5b9bdc;--empty:#22384f;--lost:#e06757;--code:#b48ad6;\
+          --run:#4f7257;--block:#7fb38a;--held:#c98d2a}}\n",
+    );
 }
 
 /// Adds its classes, which end it, and the ground.
@@ -115,7 +122,16 @@ fn push_classes(line: &mut Piece)
     ensures text { line.new ≡ line.old ++ classes_text }
     ensures room { length line.new ≤ length line.old + 700 }
 {
-    line.push(b"text{font:11px ui-monospace,Menlo,Consolas,monospace;fill:var(--ink)}\nrect.z{fill:var(--ground)}rect.g{fill:var(--line)}rect.u{fill:var(--soft)}rect.i,rect.s{fill:transparent}rect.a{fill:var(--empty)}rect.f{fill:var(--full)}rect.l,rect.x{fill:var(--lost)}rect.c{fill:var(--code)}rect.r{fill:var(--run)}rect.b{fill:var(--block)}rect.h{fill:var(--held)}\ntext.e,text.t{fill:var(--soft)}text.t{text-anchor:middle}text.l{fill:var(--lost);text-decoration:line-through}\n</style>\n<rect class='z' width='100%' height='100%'/>\n");
+    line.push(
+        b"text{font:11px ui-monospace,Menlo,Consolas,monospace;fill:var(--ink)}\n\
+          rect.z{fill:var(--ground)}rect.g{fill:var(--line)}rect.u{fill:var(--soft)}\
+          rect.i,rect.s{fill:transparent}rect.a{fill:var(--empty)}rect.f{fill:var(--full)}\
+          rect.l,rect.x{fill:var(--lost)}rect.c{fill:var(--code)}rect.r{fill:var(--run)}\
+          rect.b{fill:var(--block)}rect.h{fill:var(--held)}\n\
+          text.e,text.t{fill:var(--soft)}text.t{text-anchor:middle}text.l{fill:var(--lost);\
+          text-decoration:line-through}\n</style>\n\
+          <rect class='z' width='100%' height='100%'/>\n",
+    );
 }
 
 /// Adds what the colours of channels mean.
@@ -125,7 +141,15 @@ fn push_legend(line: &mut Piece)
     ensures text { line.new ≡ line.old ++ legend_text }
     ensures room { length line.new ≤ length line.old + 500 }
 {
-    line.push(b"<g transform='translate(8,8)'>\n<rect class='a' width='12' height='12'/><text class='e' x='16' y='10'>active</text>\n<rect class='f' x='72' width='12' height='12'/><text class='e' x='88' y='10'>full</text>\n<rect class='l' x='131' width='12' height='12'/><text class='e' x='147' y='10'>lost</text>\n<rect class='c' x='190' width='12' height='12'/><text class='e' x='206' y='10'>function code</text>\n");
+    line.push(
+        b"<g transform='translate(8,8)'>\n<rect class='a' width='12' height='12'/>\
+          <text class='e' x='16' y='10'>active</text>\n\
+          <rect class='f' x='72' width='12' height='12'/><text class='e' x='88' y='10'>\
+          full</text>\n<rect class='l' x='131' width='12' height='12'/>\
+          <text class='e' x='147' y='10'>lost</text>\n\
+          <rect class='c' x='190' width='12' height='12'/><text class='e' x='206' y='10'>\
+          function code</text>\n",
+    );
 }
 
 /// Adds what those of processors mean.
@@ -135,7 +159,15 @@ fn push_processor_legend(line: &mut Piece)
     ensures text { line.new ≡ line.old ++ processor_legend_text }
     ensures room { length line.new ≤ length line.old + 500 }
 {
-    line.push(b"<rect class='r' x='308' width='12' height='12'/><text class='e' x='324' y='10'>running</text>\n<rect class='b' x='387' width='12' height='12'/><text class='e' x='403' y='10'>in a block</text>\n<rect class='h' x='485' width='12' height='12'/><text class='e' x='501' y='10'>held</text>\n<rect class='x' x='544' width='12' height='12'/><text class='e' x='560' y='10'>fault</text>\n</g>\n");
+    line.push(
+        b"<rect class='r' x='308' width='12' height='12'/><text class='e' x='324' y='10'>\
+          running</text>\n<rect class='b' x='387' width='12' height='12'/>\
+          <text class='e' x='403' y='10'>in a block</text>\n\
+          <rect class='h' x='485' width='12' height='12'/><text class='e' x='501' y='10'>\
+          held</text>\n<rect class='x' x='544' width='12' height='12'/>\
+          <text class='e' x='560' y='10'>fault</text>\n\
+          </g>\n",
+    );
 }
 
 /// Prints the lines of the scale.

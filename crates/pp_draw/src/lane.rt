@@ -39,7 +39,8 @@ impl Lane {
 
     /// Of a channel, after what dead start made.
     pub(crate) fn opening<A: Allocator>(machine: &Machine<A>, c: ChannelNo) -> Lane
-        ensures { (w : Window) (name : List ℕ) → TakesIn w name (record { current = None; free = 0 })
+        ensures { (w : Window) (name : List ℕ)
+            → TakesIn w name (record { current = None; free = 0 })
             (opening_phases c machine.now) [] result }
     {
         if !machine.opened(c) {
@@ -119,12 +120,7 @@ fn print_part<W: Write>(
 }
 
 /// Prints the band of a part, where some of it falls into the window.
-fn print_band<W: Write>(
-    text: &mut TextWriter<W>,
-    line: &mut Piece,
-    name: &[u8; 4],
-    part: &Part,
-)
+fn print_band<W: Write>(text: &mut TextWriter<W>, line: &mut Piece, name: &[u8; 4], part: &Part)
     ensures { Prints W.contents text.old text.new
         (if is_visible part.now then band_element name.now part.now else []) }
 {

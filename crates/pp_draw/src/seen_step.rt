@@ -94,12 +94,7 @@ fn keep_step<A: Allocator>(
 
 /// How a step with this outcome and this need found a processor in this state, and perhaps in a
 /// block.
-fn condition_by(
-    state: PpState,
-    outcome: Outcome,
-    need: &Need,
-    block: &Option<Block>,
-) -> Condition
+fn condition_by(state: PpState, outcome: Outcome, need: &Need, block: &Option<Block>) -> Condition
     ensures { result ≡ condition_by state outcome need.now block.now }
 {
     match state {

@@ -1,11 +1,9 @@
-use Rattle.std.proofs.Common.{◌≡◌, List, ℕ, ◌+◌, ◌*◌, ap, ◌++◌, ◌∙◌}
+use Rattle.std.proofs.Common.{ℕ, ◌+◌, ◌*◌, ap, ◌++◌, ◌∙◌}
 use Rattle.pp_text.specs.PrintedText.{each_below}
 use Rattle.pp_text.proofs.TextLemmas.{nothing_said, said_goes_on}
 use Rattle.pp_text.proofs.TextWriterLemmas.{prints_nothing, prints_on}
 use Rattle.pp_draw.specs.Frame.{first_tick, tick_element, tick_turns}
-use Rattle.pp_draw.specs.declared.window.Window.{Window}
 use Rattle.pp_draw.proofs.frame.print_ticks.Goals as goal
-
 
 pub loop-i-init : goal.loop-i-init
 loop-i-init g c = rw (nothing_said (λ (i : ℕ). tick_element c.args.window c.args.rows (tick_turns c.args.window * (first_tick c.args.window + i)))) (prints_nothing _ _)

@@ -25,8 +25,7 @@ loop-entry-preserved g c =
     let (printed, prints, takes) = c.loop-entry.invariant in
     let (more, out, further) = c.take_in_entry.ensures in
     let phases : (made ++ phases_on n (take i trace)) ++ phases_on n (entry ∷ []) ≡ made ++ phases_on n (take (i + 1) trace) =
-    append_assoc made (phases_on n (take i trace)) (phases_on n (entry ∷ [])) ∙ ap (λ (ps : List Phase). made ++ ps) (sym (entries_more n trace i entry within c.entry-item.is)) in
-    (
+    append_assoc made (phases_on n (take i trace)) (phases_on n (entry ∷ [])) ∙ ap (λ (ps : List Phase). made ++ ps) (sym (entries_more n trace i entry within c.entry-item.is)) in (
       printed ++ more,
       prints_then _ _ _ _ printed more prints out,
       takes_these w name nothing_drawn c.take_in_entry.new.lane _ _ (printed ++ more) phases

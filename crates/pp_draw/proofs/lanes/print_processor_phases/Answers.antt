@@ -1,4 +1,4 @@
-use Rattle.std.proofs.Common.{◌≡◌, ◌<◌, ◌+◌, ◌∷◌, ◌++◌, [], List, length, take, sym, ap, ◌∙◌, arith, refl, subst}
+use Rattle.std.proofs.Common.{◌≡◌, ◌<◌, ◌∷◌, ◌++◌, [], List, length, take, sym, ap, arith, subst}
 use Rattle.std.proofs.lemmas.List.{take_all}
 use Rattle.pp_text.proofs.TextWriterLemmas.{prints_nothing, prints_on, prints_then}
 use Rattle.pp_draw.specs.Phases.{processor_phases}
@@ -22,8 +22,7 @@ loop-step-preserved g c =
     let step = c.step-item.result in
     let within : i < length steps = omega arith in
     let (printed, prints, takes) = c.loop-step.invariant in
-    let (more, out, further) = c.take_in_step.ensures in
-    (
+    let (more, out, further) = c.take_in_step.ensures in (
       printed ++ more,
       prints_then _ _ _ _ printed more prints out,
       takes_these w name nothing_drawn c.take_in_step.new.lane _ _ (printed ++ more) (sym (steps_more n steps i step within c.step-item.is))

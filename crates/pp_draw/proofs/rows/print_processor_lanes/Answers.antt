@@ -1,8 +1,8 @@
-use Rattle.std.proofs.Common.{◌≡◌, ℕ, ◌+◌, cond, sym, ◌∙◌, ap, arith}
+use Rattle.std.proofs.Common.{arith}
 use Rattle.pp_text.specs.PrintedText.{is_named}
 use Rattle.pp_text.proofs.TextLemmas.{nothing_said, said_goes_on}
 use Rattle.pp_text.proofs.TextWriterLemmas.{prints_nothing, prints_on}
-use Rattle.pp_draw.specs.DrawingText.{count_below, processor_lane}
+use Rattle.pp_draw.specs.DrawingText.{processor_lane}
 use Rattle.pp_draw.proofs.RowLemmas.{cond_at_most, none_below, one_more}
 use Rattle.pp_draw.proofs.rows.print_processor_lanes.Goals as goal
 
