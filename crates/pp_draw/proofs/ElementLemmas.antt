@@ -1,7 +1,6 @@
 -- The elements of a drawing are balanced.
 use Rattle.std.proofs.Common.{◌≡◌, ℕ, ◌+◌, ◌-◌, ◌*◌, Bool, true, false, cond, List, [], ◌∷◌, ◌++◌, refl, codes}
-use Rattle.pp_sessions.specs.SessionsText.{short_decimal}
-use Rattle.pp_text.specs.Numeral.{octal}
+use Rattle.pp_text.specs.Numeral.{octal, short_decimal}
 use Rattle.pp_draw.specs.Elements.{band_element, band_place, channel_name, condition_class, condition_text, label, label_element, lane_foot, lane_head, lost_text, part_class, processor_name, title_text}
 use Rattle.pp_draw.specs.Frame.{caption_text, classes_text, colours_text, foot_text, lane_top, legend_text, processor_legend_text, size_text, tick_line, tick_number, view_text}
 use Rattle.pp_draw.specs.Window.{place}

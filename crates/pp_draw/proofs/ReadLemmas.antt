@@ -2,8 +2,7 @@
 use Rattle.std.proofs.Common.{◌≡◌, ℕ, zero, suc, ◌+◌, ◌<◌, ◌%◌, ◌/◌, ◌&&◌, Bool, true, false, cond, eqb, List, [], ◌∷◌, ◌++◌, Option, None, Some, refl, ap, ◌∙◌, arith}
 use Rattle.std.proofs.lemmas.Bool.{cond-false, ne_eqb}
 use Rattle.std.proofs.lemmas.List.Sums.{fold-append}
-use Rattle.pp_sessions.specs.SessionsText.{short_decimal}
-use Rattle.pp_text.specs.Numeral.{digit, octal, unpadded}
+use Rattle.pp_text.specs.Numeral.{digit, octal, short_decimal, unpadded}
 use Rattle.pp_draw.specs.WellFormed.{Place, Reader, Sign, at, before, behind, between, opening, closing, inside, quoted, slashed, less, greater, quote, ampersand, slash, space, line_feed, other, read, read_between, read_on, read_quoted, sign_of}
 
 -- ---- plain characters

@@ -1,7 +1,6 @@
 -- The elements of the picture. What a run decides stands in them as digits alone.
 use Rattle.std.specs.Prelude.{ℕ, ◌+◌, ◌-◌, Bool, List, [], ◌++◌, codes, if◌then◌else◌}
-use Rattle.pp_sessions.specs.SessionsText.{short_decimal}
-use Rattle.pp_text.specs.Numeral.{octal}
+use Rattle.pp_text.specs.Numeral.{octal, short_decimal}
 use Rattle.pp_draw.specs.Part.{is_labelled, is_visible}
 use Rattle.pp_draw.specs.declared.condition.Condition.{Condition}
 use Rattle.pp_draw.specs.declared.condition.Condition.TheVariants.{Inactive, Empty, Full, Sent, Running, InBlock, HeldBy, Stopped, Faulted}

@@ -1,7 +1,7 @@
 -- What stands round the lanes: the head of the picture with its style sheet, the legend, the scale
 -- of turns.
 use Rattle.std.specs.Prelude.{ℕ, ◌+◌, ◌-◌, ◌*◌, ◌/◌, List, ◌++◌, codes, max, nat_le, if◌then◌else◌}
-use Rattle.pp_sessions.specs.SessionsText.{short_decimal}
+use Rattle.pp_text.specs.Numeral.{short_decimal}
 use Rattle.pp_text.specs.PrintedText.{each_below}
 use Rattle.pp_draw.specs.Window.{band_width, place}
 use Rattle.pp_draw.specs.declared.window.Window.{Window}

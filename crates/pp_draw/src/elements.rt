@@ -2,7 +2,6 @@
 
 ghost use Rattle.std.specs.Prelude.{◌≡◌, ◌+◌, ◌<◌, ◌≤◌, ◌^◌, ◌++◌, codes, length};
 ghost use Rattle.pp_channel.specs.History.{active, waiting};
-ghost use Rattle.pp_sessions.specs.SessionsText.{short_decimal};
 ghost use Rattle.pp_text.specs.Numeral.{octal};
 ghost use Rattle.pp_text.specs.Piece.{HasRoom};
 ghost use Rattle.pp_text.specs.PrintedText.{channel_text, state_text};
@@ -12,7 +11,7 @@ use crate::condition::Condition;
 use crate::part::Part;
 use pp_channel::{Channel, ChannelNo};
 use pp_machine::{PpNo, PpState};
-use pp_text::{Piece, octal1, octal2, octal4, push_unpadded};
+use pp_text::{Piece, octal1, octal2, octal4, push_short_decimal};
 use pp_word::Word12;
 use std::alloc::Allocator;
 
@@ -275,15 +274,4 @@ fn push_label_text(line: &mut Piece, condition: &Condition)
         | Condition::Stopped
         | Condition::Faulted => {}
     }
-}
-
-/// Adds a count in decimal digits, without zeros in front.
-#[tactic(auto, unfolding(pp_sessions::specs::SessionsText::short_decimal))]
-pub(crate) fn push_short_decimal(line: &mut Piece, n: u64)
-    requires { HasRoom 20 line.old }
-    ensures text { line.new ≡ line.old ++ short_decimal n }
-    ensures room { length line.new ≤ length line.old + 20 }
-{
-    push_unpadded(line, n / 10, 19);
-    line.push(&[b'0' + (n % 10) as u8]);
 }

@@ -6,9 +6,8 @@ ghost use Rattle.pp_text.specs.PrintedText.{each_below};
 ghost use Rattle.pp_text.specs.TextWriter.{Prints};
 ghost use Rattle.pp_draw.specs.Frame.{caption_text, classes_text, colours_text, first_tick, foot_text, head_text, lane_top, legend_text, picture_width, processor_legend_text, size_text, tick_count, tick_element, tick_line, tick_number, tick_turns, ticks_text, view_text};
 
-use crate::elements::push_short_decimal;
 use crate::window::Window;
-use pp_text::{Piece, TextWriter};
+use pp_text::{Piece, TextWriter, push_short_decimal};
 use std::io::Write;
 
 /// The upper edge of the lane with this many lanes above it.
