@@ -1,5 +1,5 @@
 -- From what clap ensures of a parse to what the words ask for.
-use Rattle.std.proofs.Common.{◌≡◌, ◌∙◌, ℕ, true, List, [], Option, Some, None, option_map, sym, subst, refl, inl, inr, codes}
+use Rattle.std.proofs.Common.{◌≡◌, ◌∙◌, ℕ, ◌-◌, ◌<◌, ap, ap₂, arith, slice_index, true, List, [], Option, Some, None, option_map, sym, subst, refl, inl, inr, codes}
 use Rattle.std.specs.Prelude.{Box, ◌≢◌, is_some}
 use Rattle.std.specs.Box.{box_value}
 use Rattle.clap.specs.Words.{App, HasKind, IsAmong, Kinds, Text, Row, HasMatchesOf, fault_of, is_simple, is_simple_and_free, first_value, first_of, found_of, kind_of, rows_of, subcommand_of, subcommand_rows, subcommand_rows_of, subcommand_name_of}
@@ -14,7 +14,7 @@ use Rattle.clap.proofs.OnLiterals.{clap_on_literals}
 use Rattle.pp_draw.specs.declared.window.Window.{Window}
 use Rattle.pp_machine.specs.Profile.{processors_in}
 use Rattle.pp_machine.specs.declared.profile.Profile.{Profile}
-use Rattle.pp_sim.specs.CommandLine.{IsFaultBy, IsOutOfRange, IsRefused, IsWorkAmong, IsWorkOf, AsksForMore, AsksForMoreAmong, ReadsNumber, ReadsProfile, ReadsWindow, ppsim, refusals}
+use Rattle.pp_sim.specs.CommandLine.{IsFaultBy, IsOutOfRange, IsRefused, IsWorkAmong, IsWorkOf, AsksForMore, AsksForMoreAmong, ReadsEnd, ReadsNumber, ReadsProfile, ReadsTurn, ReadsWindow, ppsim, refusals}
 use Rattle.pp_sim.specs.declared.line_fault.LineFault.{LineFault}
 use Rattle.pp_sim.specs.declared.line_fault.LineFault.TheVariants.{Memory, Refused, Number, Picture}
 use Rattle.pp_sim.specs.declared.work.Work.{Work}
@@ -81,27 +81,68 @@ met_none words app m is h e =
 
 -- an option's text is the same by its matches and by its rows
 window_by_rows : (f : Found) (w : Window) → ReadsWindow (first_value f) w → ReadsWindow (λ id. first_of id (rows_of f)) w
+unfolding ReadsWindow
 window_by_rows f w k = (
   k.0,
   rw (← first_value-rows f (codes "turns")) k.1,
   k.2,
-  rw (← first_value-rows f (codes "to")) k.3,
-  rw (← first_value-rows f (codes "from")) k.4,
-  k.5,
+  (rw (← first_value-rows f (codes "to")) k.3.0, rw (← first_value-rows f (codes "from")) k.3.1, k.3.2),
 )
 
 window_by_values : (f : Found) (w : Window) → ReadsWindow (λ id. first_of id (rows_of f)) w → ReadsWindow (first_value f) w
+unfolding ReadsWindow
 window_by_values f w k = (
   k.0,
   rw (first_value-rows f (codes "turns")) k.1,
   k.2,
-  rw (first_value-rows f (codes "to")) k.3,
-  rw (first_value-rows f (codes "from")) k.4,
-  k.5,
+  (rw (first_value-rows f (codes "to")) k.3.0, rw (first_value-rows f (codes "from")) k.3.1, k.3.2),
 )
 
 pub more_by_rows : (name : Text) (f : Found) → AsksForMore name (first_value f) → AsksForMoreAmong (Some (name, rows_of f))
-more_by_rows name f k = (k.0, (k.1, window_by_rows f k.1 k.2, k.3))
+more_by_rows name f k = (k.0, (k.1.0, window_by_rows f k.1.0 k.1.1, k.1.2))
+
+-- ---- options that say one window alone
+
+one_number : (text : Option Text) (n m : ℕ) → ReadsNumber text n → ReadsNumber text m → n ≡ m
+one_number None n m one also = absurd one
+one_number (Some text) n m one also = one.1 ∙ sym also.1
+
+one_turn : (text : Option Text) (n m : ℕ) → ReadsTurn text n → ReadsTurn text m → n ≡ m
+one_turn None n m one also = one ∙ sym also
+one_turn (Some text) n m one also = one_number (Some text) n m one.0 also.0
+
+one_end : (text : Option Text) (turns others n m : ℕ) → turns ≡ others → ReadsEnd turns text n → ReadsEnd others text m → n ≡ m
+one_end None turns others n m same one also = one ∙ same ∙ sym also
+one_end (Some text) turns others n m same one also = one_number (Some text) n m one.0 also.0
+
+one_length : (text_of : Text → Option Text) (v w : Window) → ReadsWindow text_of v → ReadsWindow text_of w → v.to - v.from ≡ w.to - w.from
+unfolding ReadsWindow
+one_length text_of v w one also =
+    let turns = one_number (text_of (codes "turns")) one.0 also.0 one.1 also.1 in
+    let to = one_end (text_of (codes "to")) one.0 also.0 v.to w.to turns one.3.0 also.3.0 in
+    let from = one_turn (text_of (codes "from")) v.from w.from one.3.1 also.3.1 in
+    ap₂ (λ (t f : ℕ). t - f) to from
+
+-- a drawing of more turns than a picture has is no work
+pub no_picture : (name : Text) (text_of : Text → Option Text) (w : Window) → name ≡ codes "draw" → ReadsWindow text_of w → 2000 < w.to - w.from → (work : Work) → IsWorkOf name text_of work → ⊥
+no_picture name text_of w draw reads long (works.Barrel profile turns) k =
+    let bad : 98 ≡ 100 = ap (λ (t : Text). slice_index t 0) (sym k.0 ∙ draw) in absurd (omega (arith, bad))
+no_picture name text_of w draw reads long (works.Threads profile limits) k =
+    let bad : 116 ≡ 100 = ap (λ (t : Text). slice_index t 0) (sym k.0 ∙ draw) in absurd (omega (arith, bad))
+no_picture name text_of w draw reads long (works.List profile) k =
+    let bad : 108 ≡ 100 = ap (λ (t : Text). slice_index t 0) (sym k.0 ∙ draw) in absurd (omega (arith, bad))
+no_picture name text_of w draw reads long (works.Dump profile turns) k =
+    let bad : 117 ≡ 114 = ap (λ (t : Text). slice_index t 1) (sym k.0 ∙ draw) in absurd (omega (arith, bad))
+no_picture name text_of w draw reads long (works.State profile turns) k =
+    let bad : 115 ≡ 100 = ap (λ (t : Text). slice_index t 0) (sym k.0 ∙ draw) in absurd (omega (arith, bad))
+no_picture name text_of w draw reads long (works.Sessions profile turns) k =
+    let bad : 115 ≡ 100 = ap (λ (t : Text). slice_index t 0) (sym k.0 ∙ draw) in absurd (omega (arith, bad))
+no_picture name text_of w draw reads long (works.Steps profile turns only from) k =
+    let bad : 115 ≡ 100 = ap (λ (t : Text). slice_index t 0) (sym k.0 ∙ draw) in absurd (omega (arith, bad))
+no_picture name text_of w draw reads long (works.Check opened) k =
+    let bad : 99 ≡ 100 = ap (λ (t : Text). slice_index t 0) (sym k.0 ∙ draw) in absurd (omega (arith, bad))
+no_picture name text_of w draw reads long (works.Draw profile window) k =
+    omega (arith, long, k.3, one_length text_of w window reads k.2)
 
 pub work_by_rows : (name : Text) (f : Found) (work : Work) → IsWorkOf name (first_value f) work → IsWorkAmong (Some (name, rows_of f)) work
 work_by_rows name f (works.Barrel profile turns) k =

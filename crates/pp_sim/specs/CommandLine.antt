@@ -137,7 +137,7 @@ ReadsTurns turns text_of w =
     × (w.from ≤ w.to)
 
 -- the same by the options of the command
-abbrev pub ReadsWindow : (Text → Option Text) → Window → Type 0
+unfoldable pub ReadsWindow : (Text → Option Text) → Window → Type 0
 ReadsWindow text_of w =
     (turns : ℕ) × ReadsNumber (text_of (codes "turns")) turns × (turns ≤ 999999)
     × ReadsTurns turns text_of w

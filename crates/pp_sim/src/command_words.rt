@@ -122,16 +122,17 @@ fn end_of(matches: &ArgMatches<'_>, turns: u32) -> Option<u32>
         ((n : ℕ) → ¬ ReadsEnd turns (first_value (found_of matches.now) (codes "to")) n)
         (ReadsEnd turns (first_value (found_of matches.now) (codes "to"))) }
 {
-    if matches.get_str("to").is_none() {
+    let Some(text) = matches.get_str("to") else {
         return Some(turns);
-    }
-    match number_of(matches, "to") {
-        Some(to) if to <= turns => Some(to),
-        _ => None,
+    };
+    match text.parse::<u32>() {
+        Ok(to) if to <= turns => Some(to),
+        Ok(_) | Err(_) => None,
     }
 }
 
 /// The turns that the options say to be drawn, if they are in range, however many they are.
+#[tactic(auto, unfolding(crate::specs::CommandLine::ReadsWindow))]
 fn window_of(matches: &ArgMatches<'_>) -> Option<Window>
     ensures { MatchOption result
         ((w : Window) → ¬ ReadsWindow (first_value (found_of matches.now)) w)
