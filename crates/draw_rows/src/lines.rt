@@ -1,7 +1,7 @@
 //! Lines that are in a drawing, and lines that are not.
 
 use crate::frames::drawing_of;
-use pp_draw::Window;
+use pp_draw::{MOST_TURNS, Window};
 use pp_machine::Profile;
 use std::alloc::Global;
 use std::test::Fail;
@@ -16,7 +16,7 @@ struct Row {
     others: &'static [&'static str],
 }
 
-const ROWS: [Row; 6] = [
+const ROWS: [Row; 7] = [
     // Two words two turns apart, put by two processors: the second has no room.
     Row {
         deck: "\
@@ -102,6 +102,19 @@ START 0100
             "<text class='t' x='180' y='126'>1010</text>",
         ],
         others: &["<rect class='a' x='0' y", "<rect class='r' x='0' y"],
+    },
+    // As many turns as a picture has at most.
+    Row {
+        deck: "PP 0\n0100 0300\nSTART 0100\n",
+        from: 0,
+        to: MOST_TURNS,
+        lines: &[
+            "<svg xmlns='http://www.w3.org/2000/svg' width='8220' height='100' viewBox='0 0 8220 100'>",
+            "<rect class='r' x='0' y='14' width='40' height='16'><title>PP00 running from 0 to 10</title></rect>",
+            "<rect class='s' x='40' y='14' width='7960' height='16'><title>PP00 stopped from 10 to 2000</title></rect>",
+            "<text class='t' x='8080' y='90'>2000</text>",
+        ],
+        others: &["<text class='t' x='8160'"],
     },
     // A window with its ends exchanged has no turns.
     Row {

@@ -1,11 +1,11 @@
 -- What a drawing tells of a run.
 use Rattle.std.proofs.Common.{◌≡◌, ℕ, Bool, true, false, cond, eqb, List, [], ◌∷◌, ◌++◌, map, Some, None, refl, sym, ap, ◌∙◌}
-use Rattle.std.specs.Prelude.{IsTrue}
+use Rattle.std.specs.Prelude.{◌↔◌, IsTrue}
 use Rattle.std.specs.List.{cons_option}
 use Rattle.std.proofs.lemmas.List.{map-append}
 use Rattle.pp_channel.specs.ChannelNumber.{names_channel}
 use Rattle.pp_channel.specs.declared.event.Event.{Event}
-use Rattle.pp_channel.specs.declared.event.Event.TheVariants.{Activate}
+use Rattle.pp_channel.specs.declared.event.Event.TheVariants.{Activate, Disconnect, Function, Put, Take}
 use Rattle.pp_machine.specs.Headline.{HoldsOnEachChannel, events_on, opening_history}
 use Rattle.pp_machine.specs.MachineState.{MachineState, history_of, is_opened}
 use Rattle.pp_machine.specs.Run.{run}
@@ -14,6 +14,7 @@ use Rattle.pp_machine.proofs.RunLemmas.{run-append}
 use Rattle.pp_steps.specs.StepsText.{run_steps, steps_from}
 use Rattle.pp_draw.specs.Condition.{condition_after}
 use Rattle.pp_draw.specs.DrawingLaw.{condition_in, seen}
+use Rattle.pp_draw.specs.Part.{is_lost}
 use Rattle.pp_draw.specs.Phases.{channel_phases, opening_phases, phase_after, phases_on}
 use Rattle.pp_draw.specs.SeenSteps.{seen_step, seen_steps}
 use Rattle.pp_draw.specs.declared.condition.Condition.{Condition}
@@ -55,3 +56,16 @@ phase_for_event c m names h =
     ∙ ap (λ (cs : List Condition). map condition_after (opening_history c m) ++ cs) (traced c m.trace)
     ∙ sym (map-append condition_after (opening_history c m) (events_on c m.trace))
     ∙ ap (map condition_after) (sym (h c names).traced)
+
+-- ---- lost words
+
+pub lost_where : (e next : Event) (turn : ℕ) → IsTrue (is_lost (condition_after e) (Some (record { since = turn; condition = condition_after next }))) ↔ (((word : ℕ) × (e ≡ Put word)) × (next ≡ Disconnect))
+lost_where (Put w) Disconnect turn = (λ h. ((w, refl), refl), λ h. refl)
+lost_where (Put w) Activate turn = (λ h. absurd (cc), λ h. let (put, is) = h in absurd (cc))
+lost_where (Put w) (Put v) turn = (λ h. absurd (cc), λ h. let (put, is) = h in absurd (cc))
+lost_where (Put w) (Take v) turn = (λ h. absurd (cc), λ h. let (put, is) = h in absurd (cc))
+lost_where (Put w) (Function v) turn = (λ h. absurd (cc), λ h. let (put, is) = h in absurd (cc))
+lost_where Activate next turn = (λ h. absurd (cc), λ h. let ((w, put), is) = h in absurd (cc))
+lost_where Disconnect next turn = (λ h. absurd (cc), λ h. let ((w, put), is) = h in absurd (cc))
+lost_where (Take v) next turn = (λ h. absurd (cc), λ h. let ((w, put), is) = h in absurd (cc))
+lost_where (Function v) next turn = (λ h. absurd (cc), λ h. let ((w, put), is) = h in absurd (cc))

@@ -1,5 +1,5 @@
 use Rattle.pp_draw.proofs.ConditionLemmas.{last_is_drawn}
-use Rattle.pp_draw.proofs.LawLemmas.{phase_for_event, seen_are_steps}
+use Rattle.pp_draw.proofs.LawLemmas.{lost_where, phase_for_event, seen_are_steps}
 use Rattle.pp_draw.proofs.WellFormedLemmas.{drawing_read}
 use Rattle.pp_draw.proofs.laws.drawing_law.Goals as goal
 
@@ -8,6 +8,9 @@ returns-clause-steps c = seen_are_steps
 
 pub returns-clause-history : goal.returns-clause-history
 returns-clause-history c = phase_for_event
+
+pub returns-clause-lost : goal.returns-clause-lost
+returns-clause-lost c = lost_where
 
 pub returns-clause-last : goal.returns-clause-last
 returns-clause-last c = last_is_drawn
