@@ -30,7 +30,7 @@ pub(crate) const DRAWN_FROM: NumberRange =
     range!("The first turn to draw (0 if not given)", 0 to 999_999);
 
 pub(crate) const DRAWN_TO: NumberRange =
-    range!("The turn before which the picture ends (that of --turns if not given)", 0 to 999_999);
+    range!("The turn to end before (that of --turns if not given)", 0 to 999_999);
 
 /// The range of `Limits`, as is the next.
 pub(crate) const STEPS: NumberRange = range!("How many steps each processor may do", 1 to 100_000);

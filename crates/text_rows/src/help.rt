@@ -5,8 +5,8 @@ use crate::help_of_runs::{
 };
 use crate::help_of_traces::{CHECK, CHECK_IN_SHORT};
 use crate::help_of_views::{
-    DRAW, DRAW_IN_SHORT, DUMP, DUMP_IN_SHORT, LIST, LIST_IN_SHORT, SESSIONS, SESSIONS_IN_SHORT, STATE, STATE_IN_SHORT,
-    STEPS, STEPS_IN_SHORT,
+    DRAW, DRAW_IN_SHORT, DUMP, DUMP_IN_SHORT, LIST, LIST_IN_SHORT, SESSIONS, SESSIONS_IN_SHORT,
+    STATE, STATE_IN_SHORT, STEPS, STEPS_IN_SHORT,
 };
 use crate::program::{ending, handoff};
 

@@ -281,8 +281,7 @@ Options:
           The first turn to draw (0 if not given), 0 to 999999 (decimal)
 
       --to <N>
-          The turn before which the picture ends (that of --turns if not given), 0 to 999999
-          (decimal)
+          The turn to end before (that of --turns if not given), 0 to 999999 (decimal)
 
       --processors <N>
           How many processors the machine has, 10 or 20 (decimal); 10 if not given
@@ -309,8 +308,7 @@ Usage: ppsim draw [OPTIONS] --turns <N>
 Options:
       --turns <N>       How many turns to run, 0 to 999999 (decimal)
       --from <N>        The first turn to draw (0 if not given), 0 to 999999 (decimal)
-      --to <N>          The turn before which the picture ends (that of --turns if not given), 0 to
-                        999999 (decimal)
+      --to <N>          The turn to end before (that of --turns if not given), 0 to 999999 (decimal)
       --processors <N>  How many processors the machine has, 10 or 20 (decimal); 10 if not given
   -h, --help            Print help (see more with '--help')
 
