@@ -7,27 +7,10 @@ use pp_check::check_trace;
 use std::alloc::{AllocError, Global};
 use std::process::Abort;
 use std::test::Fail;
-use test_bench::word;
+use test_bench::{Chance, word};
 
 /// How many changed traces are to be refused.
 const REFUSED: u32 = 1000;
-
-/// Numbers one after another, of which none tells the next at a glance.
-#[derive(Drop)]
-struct Chance {
-    state: u32,
-}
-
-impl Chance {
-    /// A number below 1024.
-    fn next(&mut self) -> u16 {
-        self.state = self
-            .state
-            .wrapping_mul(1_664_525)
-            .wrapping_add(1_013_904_223);
-        (self.state >> 22) as u16
-    }
-}
 
 /// An event that may come where a channel stands so.
 fn some_event(chance: &mut Chance, stand: Stand) -> Event {
@@ -143,7 +126,7 @@ fn is_refused(rt: &impl Abort, alloc: Global, lines: &[Told], form: Form) -> Res
 
 #[test]
 fn changed_traces(rt: HostRuntime) -> Result<(), Fail> {
-    let mut chance = Chance { state: 6600 };
+    let mut chance = Chance::new(6600);
     let mut refused = 0;
     for round in 0..4 * REFUSED {
         if refused >= REFUSED {

@@ -4,23 +4,15 @@ use crate::frames::{FRAME, drawing_of, joined};
 use pp_draw::Window;
 use pp_machine::Profile;
 use std::test::Fail;
-
-/// Processor 0 activates channel 5 in turn 0 and puts a word in turn 20; processor 1 is held in
-/// turns 1 and 11, and takes the word in turn 21. Both stop in their fourth round.
-const HANDOFF: &str = "\
-PP 0
-0100 7405 1407 7205 0300   * ACN 5, LDN 7, OAN 5, stop
-START 0100
-PP 1
-0200 7005 0300             * IAN 5, stop
-START 0200
-";
+use test_bench::{FUNCTION_CODES, HANDOFF};
 
 const HANDOFF_HEAD: &str = "\
 <svg xmlns='http://www.w3.org/2000/svg' width='640' height='172' viewBox='0 0 640 172'>
 <title>Channels and processors, turns 0 to 40</title>
 ";
 
+/// Processor 0 activates channel 5 in turn 0 and puts a word in turn 20; processor 1 is held in
+/// turns 1 and 11, and takes the word in turn 21. Both stop in their fourth round.
 const HANDOFF_LANES: &str = "\
 <rect class='g' x='80' y='32' width='1' height='116'/>
 <text class='t' x='80' y='162'>0</text>
@@ -59,30 +51,15 @@ const HANDOFF_LANES: &str = "\
 </svg>
 ";
 
-/// On twenty processors: function codes before and between sessions, of which one loses its word.
-/// Processor 20 steps in turns 10, 30 and so on, processor 31 in turns 19, 39 and so on.
-const ON_TWENTY: &str = "\
-PP 20
-0100 7733 0021 7633     * FNC 0021,33, FAN 33
-0103 7433 1407 7233 7533        * ACN 33, LDN 07, OAN 33, DCN 33
-0107 7733 0022          * FNC 0022,33
-0111 7433 7233 0300     * ACN 33, OAN 33
-START 0100
-PP 31
-0100 7705 0003          * FNC 0003,05
-0102 1400 1400 1400 1400        * four times LDN 00
-0106 7033 0300          * IAN 33
-START 0100
-";
-
 const TWENTY_HEAD: &str = "\
 <svg xmlns='http://www.w3.org/2000/svg' width='1120' height='208' viewBox='0 0 1120 208'>
 <title>Channels and processors, turns 100 to 190</title>
 ";
 
-/// From turn 100 on: the word that is in the register from turn 90 to turn 110 is lost; code 0022
-/// goes out in turn 130; the next word waits from turn 170 to turn 179. What was in turns 19 and 30
-/// is not drawn.
+/// `FUNCTION_CODES` from turn 100 on. Processor 20 steps in turns 10, 30 and so on, processor 31 in
+/// turns 19, 39 and so on: the word that is in the register from turn 90 to turn 110 is lost; code
+/// 0022 goes out in turn 130; the next word waits from turn 170 to turn 179. What was in turns 19
+/// and 30 is not drawn.
 const TWENTY_LANES: &str = "\
 <rect class='g' x='80' y='32' width='1' height='152'/>
 <text class='t' x='80' y='198'>100</text>
@@ -154,7 +131,7 @@ fn drawing_of_a_handoff(rt: HostRuntime) -> Result<(), Fail> {
 #[test]
 fn drawing_on_twenty(rt: HostRuntime) -> Result<(), Fail> {
     let window = Window { from: 100, to: 190 };
-    let text = drawing_of(rt.alloc(), Profile::Twenty, window, ON_TWENTY)?;
+    let text = drawing_of(rt.alloc(), Profile::Twenty, window, FUNCTION_CODES)?;
     let whole = joined(rt.alloc(), &[TWENTY_HEAD, FRAME, TWENTY_LANES])?;
     assert_eq!(rt; text.as_slice(), whole.as_slice());
     Ok(())

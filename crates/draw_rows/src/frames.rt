@@ -1,6 +1,6 @@
 //! What each drawing has, and drawings of decks.
 
-use pp_deck::{Deck, read_deck};
+use pp_deck::read_deck;
 use pp_draw::{Window, run_seeing_steps, write_drawing};
 use pp_machine::Profile;
 use std::alloc::{AllocError, Global};
@@ -35,9 +35,7 @@ pub(crate) fn drawing_of(
     window: Window,
     text: &str,
 ) -> Result<Vec<u8>, Fail> {
-    let Ok(mut deck) = read_deck(alloc, profile, text.as_bytes()) else {
-        return Err("a deck without faults".into());
-    };
+    let mut deck = read_deck(alloc, profile, text.as_bytes())?;
     let steps = run_seeing_steps(alloc, &mut deck.machine, window)?;
     let mut written = Vec::new(alloc);
     write_drawing(

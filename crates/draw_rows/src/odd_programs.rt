@@ -5,7 +5,7 @@ use pp_draw::{Window, run_seeing_steps, write_drawing};
 use pp_machine::{Machine, PROCESSORS, PpNo, Profile};
 use std::alloc::Global;
 use std::test::Fail;
-use test_bench::put_program;
+use test_bench::{Chance, put_program};
 
 /// How many runs are drawn.
 const RUNS: u32 = 300;
@@ -13,35 +13,18 @@ const RUNS: u32 = 300;
 /// How many processors have a program.
 const PROGRAMS: usize = 6;
 
-/// Numbers one after another, of which none tells the next at a glance.
-#[derive(Drop)]
-struct Chance {
-    state: u32,
-}
-
-impl Chance {
-    /// A number below 4096.
-    fn next(&mut self) -> u16 {
-        self.state = self
-            .state
-            .wrapping_mul(1_664_525)
-            .wrapping_add(1_013_904_223);
-        (self.state >> 20) as u16
-    }
-
-    /// A word: mostly an instruction on one of four channels, else any.
-    fn word(&mut self) -> u16 {
-        let kind = self.next() % 10;
-        let c = self.next() % 4;
-        match kind {
-            0 | 1 => 0o7400 + c,
-            2 | 3 => 0o7200 + c,
-            4 | 5 => 0o7000 + c,
-            6 => 0o7500 + c,
-            7 => 0o7600 + c,
-            8 => 0o1400 + self.next() % 64,
-            _ => self.next(),
-        }
+/// A word: mostly an instruction on one of four channels, else any.
+fn odd_word(chance: &mut Chance) -> u16 {
+    let kind = chance.next() % 10;
+    let c = chance.next() % 4;
+    match kind {
+        0 | 1 => 0o7400 + c,
+        2 | 3 => 0o7200 + c,
+        4 | 5 => 0o7000 + c,
+        6 => 0o7500 + c,
+        7 => 0o7600 + c,
+        8 => 0o1400 + chance.next() % 64,
+        _ => chance.next(),
     }
 }
 
@@ -51,7 +34,7 @@ fn odd_drawing(alloc: Global, chance: &mut Chance) -> Result<Vec<u8>, Fail> {
     for place in 0..PROGRAMS {
         let mut words = [0; 32];
         for word in &mut words {
-            *word = chance.word();
+            *word = odd_word(chance);
         }
         put_program(machine.pp_mut(PpNo::at(place)), 0o100, &words);
     }
@@ -74,7 +57,7 @@ fn odd_drawing(alloc: Global, chance: &mut Chance) -> Result<Vec<u8>, Fail> {
 
 #[test]
 fn odd_programs_are_drawn(rt: HostRuntime) -> Result<(), Fail> {
-    let mut chance = Chance { state: 1 };
+    let mut chance = Chance::new(1);
     let mut loses_words = false;
     for run in 0..RUNS {
         let drawing = String::from_utf8(odd_drawing(rt.alloc(), &mut chance)?)?;

@@ -26,8 +26,8 @@ const KINDS: [ErrorKind; 12] = [
     ErrorKind::Other,
 ];
 
-/// A run on what a reader gives: the status, whether the standard error is this line, whether the output
-/// is empty, and how many errors the reader gave.
+/// A run on what a reader gives: the status, whether the standard error is this line, whether the
+/// output is empty, and how many errors the reader gave.
 fn run_on<R: AllocGlobal + Threads + Wait + Sync>(
     rt: &R,
     words: &[&str],
@@ -45,8 +45,8 @@ fn run_on<R: AllocGlobal + Threads + Wait + Sync>(
     )
 }
 
-/// A fault of the reader comes before every fault of the deck that it gave the first part of, and no error is
-/// tried again.
+/// A fault of the reader comes before every fault of the deck that it gave the first part of, and
+/// no error is tried again.
 #[test]
 fn readers_that_give_up(rt: HostRuntime) {
     for kind in KINDS {
@@ -82,8 +82,8 @@ const RUNS: [Run; 2] = [
     (&WORDS_OF_TWENTY, HANDOFF_ON_TWENTY),
 ];
 
-/// A run into a writer: the status, whether the standard error is this line, whether the writer took as
-/// much of the text as it has room for, and how often it failed.
+/// A run into a writer: the status, whether the standard error is this line, whether the writer
+/// took as much of the text as it has room for, and how often it failed.
 fn run_into<R: AllocGlobal + Threads + Wait + Sync>(
     rt: &R,
     (words, text): Run,
@@ -155,7 +155,8 @@ const UNTOLD: [(&str, &str, usize, u8); 5] = [
     ("40", HANDOFF, 100, 3),
 ];
 
-/// A run whose standard error fails: the status, and how often the output and the standard error failed.
+/// A run whose standard error fails: the status, and how often the output and the standard error
+/// failed.
 fn run_untold<R: AllocGlobal + Threads + Wait + Sync>(
     rt: &R,
     turns: &str,

@@ -7,8 +7,8 @@ use std::process::Abort;
 use std::test::Fail;
 use test_bench::HANDOFF;
 
-/// First fields that are no keyword and begin with no digit; keywords that come too late; fields that
-/// are missing, or too many.
+/// First fields that are no keyword and begin with no digit; keywords that come too late; fields
+/// that are missing, or too many.
 const UNKNOWN_LINES: &[(u32, &str)] = &[
     (1, "PP"),
     (2, "PP 0\nSTART 0100 0 0"),
@@ -337,8 +337,8 @@ fn foreign_bytes(rt: HostRuntime) {
     }
 }
 
-/// The deck `HANDOFF` cut after each of its bytes: where it ends within a keyword, or before the fields
-/// that have to follow, this line is at fault.
+/// The deck `HANDOFF` cut after each of its bytes: where it ends within a keyword, or before the
+/// fields that have to follow, this line is at fault.
 #[test]
 fn cut_decks(rt: HostRuntime) {
     assert_eq!(rt; HANDOFF.len(), 72);

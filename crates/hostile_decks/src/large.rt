@@ -1,5 +1,5 @@
-//! Decks as long as allowed, and longer: lines, fields and comments of a million characters, and lines
-//! by the hundred thousand.
+//! Decks as long as allowed, and longer: lines, fields and comments of a million characters, and
+//! lines by the hundred thousand.
 
 use crate::loaded::Loaded::{self, Named, Started, Word};
 use crate::loaded::expect_loaded;

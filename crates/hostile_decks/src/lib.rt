@@ -1,5 +1,5 @@
-//! What comes of decks that are odd, malformed or as long as allowed, and of devices that fail: tests
-//! whose answers are worked by hand from the rules of decks.
+//! What comes of decks that are odd, malformed or as long as allowed, and of devices that fail:
+//! tests whose answers are worked by hand from the rules of decks.
 #![tactic(auto)]
 
 #[cfg(test)]

@@ -1,4 +1,5 @@
-//! A run with everything at its limit: the longest deck, the largest central memory and the most turns.
+//! A run with everything at its limit: the longest deck, the largest central memory and the most
+//! turns.
 
 use pp_machine::Profile;
 use pp_sim::barrel_text;
@@ -43,8 +44,8 @@ START 0100
 /// How long a deck may be.
 const LONGEST: usize = 1_048_576;
 
-/// What comes after the events. Each taker's memory has become a copy of its partner's, so both stop
-/// at the same place.
+/// What comes after the events. Each taker's memory has become a copy of its partner's, so both
+/// stop at the same place.
 const END: &str = "\
 PP00 P=0105 A=000000 STOPPED
 PP01 P=0105 A=000000 STOPPED

@@ -9,8 +9,8 @@ use std::process::Abort;
 use std::test::Fail;
 use test_bench::first;
 
-/// What a deck loads. All else is as in the empty deck: no processor is named, all are stopped, every
-/// word is 0, no channel is opened, and central memory has 10000 words (octal).
+/// What a deck loads. All else is as in the empty deck: no processor is named, all are stopped,
+/// every word is 0, no channel is opened, and central memory has 10000 words (octal).
 #[derive(Clone, Copy)]
 pub(crate) enum Loaded {
     /// The number of central words.

@@ -73,8 +73,8 @@ fn texts_in_pieces(rt: HostRuntime) -> Result<(), Fail> {
     Ok(())
 }
 
-/// How many bytes a writer takes before it fails: none, most of a first piece, what is about a piece,
-/// and more.
+/// How many bytes a writer takes before it fails: none, most of a first piece, what is about a
+/// piece, and more.
 const ROOMS: [usize; 11] = [
     0, 1, 8151, 8168, 8169, 8170, 8192, 8193, 16_338, 40_000, 42_040,
 ];

@@ -1,25 +1,20 @@
 //! Listings of decks, worked out by hand or by an independent program, and read again.
 
-use pp_deck::{Deck, read_deck};
+use pp_deck::read_deck;
 use pp_listing::listing;
 use pp_machine::Profile;
-use std::alloc::Global;
 use std::test::Fail;
+use test_bench::{
+    BLOCK_FROM_CENTRAL, DEAD_START, LOST_WORD, PLACE_AND_INDEX, SENT_PROGRAM, SHORT_BLOCK,
+    THREE_CHANNELS,
+};
 
 /// Decks and their listings.
 const LISTINGS: [(Profile, &str, &str); 10] = [
     // Central words, and an instruction whose d is 00.
     (
         Profile::Ten,
-        "\
-CENTRAL 7
-CM 5 00010002000300040005 00060007001000110012
-PP 0
-0000 0002
-0100 1405 6100 0300
-0103 6060 0300
-START 0100
-",
+        BLOCK_FROM_CENTRAL,
         "\
 CENTRAL 7
 CM 5 00010002000300040005
@@ -36,16 +31,7 @@ START 0100 000000
     // A place with an index, and one without.
     (
         Profile::Ten,
-        "\
-PP 0
-0001 0001
-7777 0042
-0100 5001 7777
-0102 5100 7777
-0104 0200 0177
-0200 0300
-START 0100
-",
+        PLACE_AND_INDEX,
         "\
 CENTRAL 10000
 PP 0
@@ -61,32 +47,7 @@ START 0100 000000
     // Jumps forward and backward, and to their own place; a program that is only data so far.
     (
         Profile::Ten,
-        "\
-PP 0
-0051 0012
-0100 7403
-0101 5050 0200
-0103 7203
-0104 3650 3251
-0106 0572
-0107 6603 0107
-0111 7503 0300
-START 0100
-0200 1412 3460
-0202 1400 3461
-0204 3060 3561
-0206 3760 0574
-0210 3061 0300
-PP 1
-0100 6503 0100
-0102 6603 0107
-0104 6503 0114
-0106 0373
-0107 7003 5450 0200
-0112 3650 0366
-0114 0100 0200
-START 0100
-",
+        SENT_PROGRAM,
         "\
 CENTRAL 10000
 PP 0
@@ -127,15 +88,7 @@ START 0100 000000
     // Code 24 does nothing, as 00 does.
     (
         Profile::Ten,
-        "\
-PP 0
-0100 7405 1407 7205 7505
-0104 7405 1403 7205 0300
-START 0100
-PP 1
-0200 2400 2400 2400 7005 0300
-START 0200
-",
+        LOST_WORD,
         "\
 CENTRAL 10000
 PP 0
@@ -160,17 +113,7 @@ START 0200 000000
     // Words that are no program are listed as one.
     (
         Profile::Ten,
-        "\
-PP 0
-0100 7405 1401 7205 1402 7205
-0105 6605 0105
-0107 7505 0300
-START 0100
-PP 1
-0200 1405 7105 0300 0300
-0300 7777 7777 7777
-START 0200
-",
+        SHORT_BLOCK,
         "\
 CENTRAL 10000
 PP 0
@@ -195,13 +138,7 @@ START 0200 000000
     // Dead start, with nine processors that wait and are not named.
     (
         Profile::Ten,
-        "\
-DEAD
-PP 0
-0100 1403 7301 0200 6601 0103 7501 0300
-0200 0000 1405 0300
-START 0100
-",
+        DEAD_START,
         "\
 CENTRAL 10000
 DEAD
@@ -219,32 +156,7 @@ START 0100 000000
     // A second word that is 0 stands on the line of its instruction.
     (
         Profile::Ten,
-        "\
-PP 0
-0050 0011
-0060 0000
-0100 6601 0110
-0102 6602 0113
-0104 6603 0116
-0106 0371
-0110 7001 0306
-0113 7001 0303
-0116 7003
-0117 3560
-0120 3750
-0121 0556
-0122 3060 0300
-START 0100
-PP 1
-0100 7401 1401 7201 1402 7201 1403 7201 0300
-START 0100
-PP 2
-0100 7402 1410 7202 1420 7202 1430 7202 0300
-START 0100
-PP 3
-0100 7403 2400 2400 2001 0000 7203 7203 7203 0300
-START 0100
-",
+        THREE_CHANNELS,
         "\
 CENTRAL 10000
 PP 0
@@ -377,17 +289,13 @@ START 0100 000000
     ),
 ];
 
-fn deck_of(alloc: Global, profile: Profile, text: &[u8]) -> Result<Deck<Global>, Fail> {
-    read_deck(alloc, profile, text).map_err(|_| "a deck without faults".into())
-}
-
 #[test]
 fn listings(rt: HostRuntime) -> Result<(), Fail> {
     let alloc = rt.alloc();
     for (profile, deck, listed) in LISTINGS {
-        let text = listing(alloc, &deck_of(alloc, profile, deck.as_bytes())?)?;
+        let text = listing(alloc, &read_deck(alloc, profile, deck.as_bytes())?)?;
         assert_eq!(rt; text.as_slice(), listed.as_bytes(), "{deck}");
-        let again = listing(alloc, &deck_of(alloc, profile, text.as_slice())?)?;
+        let again = listing(alloc, &read_deck(alloc, profile, text.as_slice())?)?;
         assert_eq!(rt; again.as_slice(), listed.as_bytes(), "{listed}");
     }
     Ok(())

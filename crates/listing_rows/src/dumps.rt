@@ -5,6 +5,7 @@ use pp_listing::{DumpFault, dump};
 use pp_machine::Profile;
 use std::alloc::Global;
 use std::test::Fail;
+use test_bench::SHORT_BLOCK;
 
 /// A profile, a deck, the turns that it runs (decimal), and its dump.
 type Row = (Profile, &'static str, u32, &'static str);
@@ -25,17 +26,7 @@ const DUMPS: [Row; 7] = [
     // Both have stopped: their A and P are gone, and the words that came stay.
     (
         Profile::Ten,
-        "\
-PP 0
-0100 7405 1401 7205 1402 7205
-0105 6605 0105
-0107 7505 0300
-START 0100
-PP 1
-0200 1405 7105 0300 0300
-0300 7777 7777 7777
-START 0200
-",
+        SHORT_BLOCK,
         90,
         "\
 CENTRAL 10000
@@ -180,7 +171,7 @@ START 0102 000003
 
 /// The deck of a text after this many turns.
 fn after(alloc: Global, profile: Profile, text: &[u8], turns: u32) -> Result<Deck<Global>, Fail> {
-    let mut deck = read_deck(alloc, profile, text).map_err(|_| "a deck without faults")?;
+    let mut deck = read_deck(alloc, profile, text)?;
     deck.machine.run_barrel(turns).map_err(|_| "ample memory")?;
     Ok(deck)
 }

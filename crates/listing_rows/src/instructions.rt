@@ -1,5 +1,5 @@
-//! The text of each instruction, in the order of the octal codes, and of those at the ends of the ranges
-//! of d: worked out by the table of operands alone.
+//! The text of each instruction, in the order of the octal codes, and of those at the ends of the
+//! ranges of d: worked out by the table of operands alone.
 
 use pp_deck::read_deck;
 use pp_listing::listing;

@@ -1,5 +1,5 @@
-//! Listings and dumps of decks: their texts, the text of each instruction, the program's commands, and
-//! each growth refused in turn.
+//! Listings and dumps of decks: their texts, the text of each instruction, the program's commands,
+//! and each growth refused in turn.
 #![tactic(auto)]
 
 #[cfg(test)]

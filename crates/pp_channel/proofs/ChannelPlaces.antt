@@ -3,7 +3,7 @@ use Rattle.std.proofs.Common.{◌≡◌, ℕ, ◌<◌, ◌≤◌, arith}
 use mathlib.Core.Logic.{dite}
 use native.Mathlib.Decide.{dec_lt}
 use Rattle.std.specs.Prelude.{IsTrue}
-use Rattle.pp_channel.specs.ChannelNumber.{channel_count, names_channel, channel_index, channel_number}
+use Rattle.pp_channel.specs.ChannelNo.{channel_count, names_channel, channel_index, channel_number}
 
 -- a channel's place is one of the list
 pub place_below : (c : ℕ) → IsTrue (names_channel c) → channel_index c < channel_count

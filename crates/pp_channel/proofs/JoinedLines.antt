@@ -7,11 +7,11 @@ use Rattle.std.proofs.lemmas.List.Elements.{All-push, All-weaker}
 use Rattle.std.proofs.lemmas.List.Sums.{fold-append}
 use Rattle.pp_channel.specs.declared.entry.Entry.{Entry}
 use Rattle.pp_channel.specs.declared.rule.LineView.{LineView}
-use Rattle.pp_channel.specs.ChannelNumber.{channel_index}
+use Rattle.pp_channel.specs.ChannelNo.{channel_index}
 use Rattle.pp_channel.specs.LineState.{LineState, joined, all_joined, ForgetsNothing, AreClosed}
 use Rattle.pp_channel.specs.LineSteps.{IsLogOf, Tells}
 use Rattle.pp_channel.specs.LineView.{Knows}
-use Rattle.pp_channel.specs.ToldHistory.{IsToldBy}
+use Rattle.pp_channel.specs.RecordedHistory.{IsRecordedBy}
 use Rattle.pp_channel.proofs.LineAnswers.{told_whole, closed_by}
 use Rattle.pp_channel.proofs.LineKnowledge.{knows_by_log}
 use Rattle.pp_channel.proofs.LineKeeping.{log_of_same, log_of_joined}
@@ -54,7 +54,7 @@ same_parts f h xs ys same = flat_of_parts f xs ∙ (ap (flat_map (λ part. part)
 
 -- a line with every share, at a moment at which a step tells the histories
 pub joined_told : {c word : ℕ} (line : LineState) (v : LineView) (log : List Entry) (seen : List ℕ) → (t : Tells v c word) → v ≡ line.view → IsLogOf line.view line.log.entries → line.view.shares ≡ line.view.whole
-    → log ≡ line.log.entries → seen ≡ line.view.seen → IsToldBy log seen t.histories
+    → log ≡ line.log.entries → seen ≡ line.view.seen → IsRecordedBy log seen t.histories
 joined_told line v log seen t view is all log_is seen_is =
     let of_view : IsLogOf v line.log.entries = subst (λ (w : LineView). IsLogOf w line.log.entries) (sym view) is in
     rw (log_is, seen_is, ← view) (told_whole of_view t (ap (λ w. w.shares) view ∙ (all ∙ sym (ap (λ w. w.whole) view))))

@@ -5,6 +5,7 @@ pub mod CourseLemmas
 pub mod HistoryLemmas
 pub mod LawLemmas
 pub mod AnswerLemmas
+pub mod ChannelStateLemmas
 pub mod FrontLemmas
 pub mod ChannelWordLemmas
 pub mod KeptLemmas
@@ -15,10 +16,10 @@ pub mod ViewLemmas
 pub mod RuleLemmas
 pub mod StepLemmas
 pub mod ShareLemmas
-pub mod ToldLemmas
+pub mod RecordedLemmas
 pub mod LineKnowledge
 pub mod LineKeeping
 pub mod LineAnswers
-pub mod RisingLemmas
+pub mod MonotoneLemmas
 pub mod OpeningLemmas
 pub mod JoinedLines

@@ -15,19 +15,20 @@ use Rattle.pp_channel.specs.declared.flags.Flags.{Flags as FlagPair}
 use Rattle.pp_channel.specs.declared.entry.Entry.{Entry}
 use Rattle.pp_channel.specs.declared.rule.LineView.{LineView}
 use Rattle.pp_channel.specs.declared.word_step.WordStep.{WordStep}
-use Rattle.pp_channel.specs.Answer.{IsAnswer, IsReady, operation_of, reply_made}
-use Rattle.pp_channel.specs.ChannelNumber.{channel_count, channel_index}
+use Rattle.pp_channel.specs.Answer.{IsAnswer, IsReady, operation_of, reply_made, event_answered}
+use Rattle.pp_channel.specs.ChannelNo.{channel_count, channel_index}
 use Rattle.pp_channel.specs.ChannelWord.{number_in, flags_in, greatest_number}
 use Rattle.pp_channel.specs.History.{IsLawful, HasTwelveBitWords}
 use Rattle.pp_channel.specs.Law.{KeepsLaw}
-use Rattle.pp_channel.specs.LineLog.{LogState, appended, looked, event_answered, with_answer, with_made, event_entry, look_entry}
+use Rattle.pp_channel.specs.LineLog.{LogState, appended, looked, with_answer, with_made, event_entry, look_entry}
 use Rattle.pp_channel.specs.LineState.{LineState, number_after, IsActed, IsWornOut, AreClosed}
 use Rattle.pp_channel.specs.LineSteps.{IsLogOf, Tells, IsLoad, IsWonExchange, IsLostExchange}
 use Rattle.pp_channel.specs.LineView.{finds, makes, Knows}
-use Rattle.pp_channel.specs.Merge.{history_on, Merges, no_opening}
-use Rattle.pp_channel.specs.RisingLog.{seen_on}
+use Rattle.pp_channel.specs.Merge.{Merges, no_opening}
+use Rattle.pp_channel.specs.Histories.{history_on}
+use Rattle.pp_channel.specs.MonotoneLog.{seen_on}
 use Rattle.pp_channel.specs.SharedWords.{IsFound}
-use Rattle.pp_channel.specs.ToldHistory.{IsToldBy}
+use Rattle.pp_channel.specs.RecordedHistory.{IsRecordedBy}
 use Rattle.pp_channel.specs.WordStep.{event_in, step_from}
 use Rattle.pp_channel.proofs.ChannelPlaces.{place_below}
 use Rattle.pp_channel.proofs.ChannelWordLemmas.{looks_by_table, worn_by_table, held_by_table, next_by_event, ready_at_word, answer_made, answer_held, answer_looked, number_of_word}
@@ -316,7 +317,7 @@ number_later line after c op r acted =
     ]
 
 -- a line that holds every share tells the histories whole
-pub told_whole : {v : LineView} {log : List Entry} {c word : ℕ} → IsLogOf v log → (t : Tells v c word) → v.shares ≡ v.whole → IsToldBy log v.seen t.histories
+pub told_whole : {v : LineView} {log : List Entry} {c word : ℕ} → IsLogOf v log → (t : Tells v c word) → v.shares ≡ v.whole → IsRecordedBy log v.seen t.histories
 told_whole is tells all =
     let known = knows_by_log is tells.known in
     record { sound = known.sound; merged = (known.all_known all).merged; counted = (known.all_known all).seen }

@@ -10,20 +10,20 @@ use Rattle.pp_channel.specs.declared.entry.Seen.{Seen}
 use Rattle.pp_channel.specs.declared.entry.Seen.TheVariants.{Did, Saw}
 use Rattle.pp_channel.specs.declared.rule.FoundWord.{FoundWord}
 use Rattle.pp_channel.specs.declared.rule.LineView.{LineView}
-use Rattle.pp_channel.specs.ChannelNumber.{channel_count, channel_index}
+use Rattle.pp_channel.specs.ChannelNo.{channel_count, channel_index}
 use Rattle.pp_channel.specs.ChannelWord.{number_in, flags_in}
 use Rattle.pp_channel.specs.LineLog.{LogState, looked, event_entry, look_entry}
-use Rattle.pp_channel.specs.LineSteps.{IsBackedBy, IsBacked, IsLogOf, IsLoad, IsWonExchange, IsLostExchange, IsExchange}
+use Rattle.pp_channel.specs.LineSteps.{IsJustified, IsBacked, IsLogOf, IsLoad, IsWonExchange, IsLostExchange, IsExchange}
 use Rattle.pp_channel.specs.LineView.{greater_of_each, joined_view, finds, makes}
-use Rattle.pp_channel.specs.Merge.{times_told}
-use Rattle.pp_channel.specs.RisingLog.{known_after, seen_on}
+use Rattle.pp_channel.specs.Merge.{times_logged}
+use Rattle.pp_channel.specs.MonotoneLog.{known_after, seen_on}
 use Rattle.pp_channel.proofs.ChannelPlaces.{place_below}
 use Rattle.pp_channel.proofs.LineKnowledge.{not_older_told, told_looked, all_looked}
 use Rattle.pp_channel.proofs.MergeLemmas.{told_by, times_told-append, times_told_push}
 use Rattle.pp_channel.proofs.SeenLemmas.{set_raises, within_more, greater_left, greater_right, length-greater}
 
 -- what backs an entry backs it where the view has more
-backed_more : (v w : LineView) → ((x : Entry) → Contains v.events x → Contains w.events x) → ((x : FoundWord) → Contains v.found x → Contains w.found x) → (c number : ℕ) (what : Seen) → IsBackedBy v c number what → IsBackedBy w c number what
+backed_more : (v w : LineView) → ((x : Entry) → Contains v.events x → Contains w.events x) → ((x : FoundWord) → Contains v.found x → Contains w.found x) → (c number : ℕ) (what : Seen) → IsJustified v c number what → IsJustified w c number what
 backed_more v w events found c number (Did e) b = events (event_entry c number e) b
 backed_more v w events found c number (Saw f) b = (b.0, found (record { channel = c; word = b.0 }) b.1, b.2, b.3)
 
@@ -34,7 +34,7 @@ all_backed_more v w events found log b = All-weaker (IsBacked v) (IsBacked w) (�
 pub log_of_same : {v : LineView} {log : List Entry} (w : LineView) → IsLogOf v log → w.events ≡ v.events → w.found ≡ v.found → w.seen ≡ v.seen → IsLogOf w log
 log_of_same {v} {log} w is events found seen = record {
   each_channel = ap length seen ∙ is.each_channel;
-  told = λ c n. is.told c n ∙ ap (λ es. times_told c n es) (sym events);
+  told = λ c n. is.told c n ∙ ap (λ es. times_logged c n es) (sym events);
   backed = all_backed_more v w (λ x b. subst (λ es. Contains es x) (sym events) b) (λ x b. subst (λ es. Contains es x) (sym found) b) log is.backed;
   within = rw seen is.within;
 }

@@ -13,14 +13,15 @@ use Rattle.pp_channel.specs.declared.entry.Seen.{Seen}
 use Rattle.pp_channel.specs.declared.entry.Seen.TheVariants.{Did, Saw}
 use Rattle.pp_channel.specs.declared.rule.LineView.{LineView}
 use Rattle.pp_channel.specs.Answer.{flags_of}
-use Rattle.pp_channel.specs.ChannelNumber.{channel_index}
+use Rattle.pp_channel.specs.ChannelNo.{channel_index}
 use Rattle.pp_channel.specs.ChannelWord.{number_in, flags_in}
 use Rattle.pp_channel.specs.History.{IsLawful, HasTwelveBitWords}
 use Rattle.pp_channel.specs.LineLog.{LogState, event_entry, looked, is_event, is_look_at, ends_in_look_at}
-use Rattle.pp_channel.specs.LineSteps.{IsBackedBy, IsBacked, IsLogOf, Tells}
+use Rattle.pp_channel.specs.LineSteps.{IsJustified, IsBacked, IsLogOf, Tells}
 use Rattle.pp_channel.specs.LineView.{Knows}
-use Rattle.pp_channel.specs.Merge.{history_on, IsTrueAt, IsTrueOf, times_told, Merges, no_opening}
-use Rattle.pp_channel.specs.RisingLog.{seen_on}
+use Rattle.pp_channel.specs.Merge.{IsTrueAt, IsTrueOf, times_logged, Merges, no_opening}
+use Rattle.pp_channel.specs.Histories.{history_on}
+use Rattle.pp_channel.specs.MonotoneLog.{seen_on}
 use Rattle.pp_channel.specs.SharedWords.{IsFound}
 use Rattle.pp_channel.proofs.ChannelWordLemmas.{number_of_word, flags_of_word}
 use Rattle.pp_channel.proofs.FrontLemmas.{twelve_bits_take}
@@ -93,8 +94,8 @@ pub looked_either : (P : List Entry → Type 0) (log : LogState) (entry : Entry)
     → P (looked log entry).entries
 looked_either P log entry replaced added = looked_by P log entry replaced added (ends_in_look_at entry.channel log) refl
 
-pub told_looked : (log : LogState) (entry : Entry) → is_event entry.what ≡ false → (c number : ℕ) → times_told c number (looked log entry).entries ≡ times_told c number log.entries
-told_looked log entry look c number = looked_either (λ entries. times_told c number entries ≡ times_told c number log.entries) log entry
+pub told_looked : (log : LogState) (entry : Entry) → is_event entry.what ≡ false → (c number : ℕ) → times_logged c number (looked log entry).entries ≡ times_logged c number log.entries
+told_looked log entry look c number = looked_either (λ entries. times_logged c number entries ≡ times_logged c number log.entries) log entry
     (λ ends.
     let last = last_replaced log entry.channel ends in
     let sum = sum_by-set (told_by c number) log.entries (length log.entries - 1) entry last.0 last.1 in
@@ -107,7 +108,7 @@ pub all_looked : (P : Entry → Type 0) (log : LogState) (entry : Entry) → P e
 all_looked P log entry new old = looked_either (λ entries. All P entries) log entry (λ ends. All-set P log.entries (length log.entries - 1) entry new old) (All-push P log.entries entry old new)
 
 -- a log that tells the same events merges to the same histories
-pub merges_same : {histories : List (List Event)} {log : List Entry} → (other : List Entry) → Merges no_opening histories log → ((c number : ℕ) → times_told c number other ≡ times_told c number log) → All (IsTrueOf histories) other → Merges no_opening histories other
+pub merges_same : {histories : List (List Event)} {log : List Entry} → (other : List Entry) → Merges no_opening histories log → ((c number : ℕ) → times_logged c number other ≡ times_logged c number log) → All (IsTrueOf histories) other → Merges no_opening histories other
 merges_same other m same true_of = record {
   once = λ c number low high. same c number ∙ m.once c number low high;
   no_other = λ c number past. same c number ∙ m.no_other c number past;
@@ -116,7 +117,7 @@ merges_same other m same true_of = record {
 }
 
 -- a log that a view backs is true of the histories that the view knows
-backed_true : (v : LineView) (histories : List (List Event)) → Knows v v.events histories → (c number : ℕ) (what : Seen) → IsBackedBy v c number what → IsTrueAt (history_on c histories) number what
+backed_true : (v : LineView) (histories : List (List Event)) → Knows v v.events histories → (c number : ℕ) (what : Seen) → IsJustified v c number what → IsTrueAt (history_on c histories) number what
 backed_true v histories known c number (Did e) backed = All-contains (IsTrueOf histories) v.events (event_entry c number e) known.log_true backed
 backed_true v histories known c number (Saw f) backed =
     let h = history_on c histories in

@@ -14,11 +14,12 @@ use Rattle.pp_channel.specs.declared.entry.Entry.{Entry}
 use Rattle.pp_channel.specs.declared.entry.Seen.{Seen}
 use Rattle.pp_channel.specs.declared.entry.Seen.TheVariants.{Did, Saw}
 use Rattle.pp_channel.specs.Answer.{flags_of}
-use Rattle.pp_channel.specs.ChannelNumber.{channel_index, names_channel}
+use Rattle.pp_channel.specs.ChannelNo.{channel_index, names_channel}
 use Rattle.pp_channel.specs.Law.{IsPrefix}
 use Rattle.pp_channel.specs.LineLog.{event_entry, is_event}
-use Rattle.pp_channel.specs.Merge.{history_on, IsTrueAt, IsTrueOf, tells_event, times_told, Merges, no_opening}
-use Rattle.pp_channel.specs.RisingLog.{known_after, seen_on, IsWithin}
+use Rattle.pp_channel.specs.Merge.{IsTrueAt, IsTrueOf, logs_event, times_logged, Merges, no_opening}
+use Rattle.pp_channel.specs.Histories.{history_on}
+use Rattle.pp_channel.specs.MonotoneLog.{known_after, seen_on, IsWithin}
 use Rattle.pp_channel.proofs.ChannelPlaces.{one_place}
 
 -- 1 for a number below the end, else 0
@@ -33,7 +34,7 @@ once_past number end l = ap (λ b. cond b 1 0) (le-ltb number end l)
 
 -- how often each event is told
 abbrev pub TellsOnce : List (List Event) → List Entry → Type 0
-TellsOnce histories log = (c number : ℕ) → times_told c number log ≡ once_below number (length (history_on c histories))
+TellsOnce histories log = (c number : ℕ) → times_logged c number log ≡ once_below number (length (history_on c histories))
 
 pub tells_once : (histories : List (List Event)) (log : List Entry) → Merges no_opening histories log → TellsOnce histories log
 tells_once histories log m c number =
@@ -50,12 +51,12 @@ merges_by histories log once true_of = record {
 
 -- one entry, counted
 abbrev pub told_by : ℕ → ℕ → Entry → ℕ
-told_by c number entry = cond (tells_event c number entry) 1 0
+told_by c number entry = cond (logs_event c number entry) 1 0
 
-pub times_told-append : (c number : ℕ) (log more : List Entry) → times_told c number (log ++ more) ≡ times_told c number log + times_told c number more
+pub times_told-append : (c number : ℕ) (log more : List Entry) → times_logged c number (log ++ more) ≡ times_logged c number log + times_logged c number more
 times_told-append c number log more = sum_by-append (told_by c number) log more
 
-pub times_told_push : (c number : ℕ) (log : List Entry) (entry : Entry) → times_told c number (log ++ entry ∷ []) ≡ times_told c number log + told_by c number entry
+pub times_told_push : (c number : ℕ) (log : List Entry) (entry : Entry) → times_logged c number (log ++ entry ∷ []) ≡ times_logged c number log + told_by c number entry
 times_told_push c number log entry = sum_by_push (told_by c number) log entry
 
 pub told_not : (c number d n : ℕ) (e : Event) → (d ≢ c) ⊎ (n ≢ number) → told_by c number (event_entry d n e) ≡ 0
@@ -87,13 +88,13 @@ told_within c number seen d n (Did e) t l =
     omega arith
 told_within c number seen d n (Saw f) t l = absurd (false≢true t)
 
-pub times_within : (c number : ℕ) (seen : List ℕ) (log : List Entry) → IsWithin seen log → 0 < times_told c number log → number < seen_on c seen
+pub times_within : (c number : ℕ) (seen : List ℕ) (log : List Entry) → IsWithin seen log → 0 < times_logged c number log → number < seen_on c seen
 times_within c number seen [] w l = absurd (omega arith)
 times_within c number seen (entry ∷ log) w l =
     let P : Entry → Type 0 = λ x. known_after x.what x.number ≤ seen_on x.channel seen in
-    let sum : times_told c number (entry ∷ log) ≡ told_by c number entry + times_told c number log = sum_by-cons (told_by c number) entry log in
-    ⊎_elim (λ (t : tells_event c number entry ≡ true). told_within c number seen entry.channel entry.number entry.what t (All-head P entry log w))
-    (λ (t : tells_event c number entry ≡ false). let none : told_by c number entry ≡ 0 = ap (λ b. cond b 1 0) t in times_within c number seen log (All-tail P entry log w) (omega arith)) (cases_Bool (tells_event c number entry))
+    let sum : times_logged c number (entry ∷ log) ≡ told_by c number entry + times_logged c number log = sum_by-cons (told_by c number) entry log in
+    ⊎_elim (λ (t : logs_event c number entry ≡ true). told_within c number seen entry.channel entry.number entry.what t (All-head P entry log w))
+    (λ (t : logs_event c number entry ≡ false). let none : told_by c number entry ≡ 0 = ap (λ b. cond b 1 0) t in times_within c number seen log (All-tail P entry log w) (omega arith)) (cases_Bool (logs_event c number entry))
 
 -- where the histories grow
 abbrev pub Grow : List (List Event) → List (List Event) → Type 0

@@ -18,11 +18,12 @@ use Rattle.pp_channel.specs.declared.entry.Seen.TheVariants.{Did, Saw}
 use Rattle.pp_channel.specs.declared.numbered.Numbered.{Numbered}
 use Rattle.pp_channel.specs.declared.reply.Reply.{Reply}
 use Rattle.pp_channel.specs.Answer.{IsAnswer}
-use Rattle.pp_channel.specs.ChannelNumber.{channel_count, channel_index}
+use Rattle.pp_channel.specs.ChannelNo.{channel_count, channel_index}
 use Rattle.pp_channel.specs.Law.{IsPrefix}
 use Rattle.pp_channel.specs.LineLog.{is_event, appended, with_answer, event_entry}
 use Rattle.pp_channel.specs.LineState.{LineState, IsActed, IsWornOut, number_after}
-use Rattle.pp_channel.specs.Merge.{history_on, IsTrueAt, IsTrueOf, tells_event, times_told, Merges, IsOpeningLog, no_opening}
+use Rattle.pp_channel.specs.Merge.{IsTrueAt, IsTrueOf, logs_event, times_logged, Merges, IsOpeningLog, no_opening}
+use Rattle.pp_channel.specs.Histories.{history_on}
 use Rattle.pp_channel.proofs.AnswerLemmas.{answer_by_table}
 use Rattle.pp_channel.proofs.HistoryLemmas.{lawful_empty}
 use Rattle.pp_channel.proofs.ListFacts.{All-front, All-back}
@@ -43,14 +44,14 @@ same_by_entry c number g h d n (Did e) t p q =
 same_by_entry c number g h d n (Saw f) t p q = absurd (false≢true t)
 
 -- so does a log that tells it
-same_by_log : (c number : ℕ) (g h : ℕ → List Event) (log : List Entry) → 0 < times_told c number log → All (IsTrueIn g) log → All (IsTrueIn h) log → slice_get (g c) number ≡ slice_get (h c) number
+same_by_log : (c number : ℕ) (g h : ℕ → List Event) (log : List Entry) → 0 < times_logged c number log → All (IsTrueIn g) log → All (IsTrueIn h) log → slice_get (g c) number ≡ slice_get (h c) number
 same_by_log c number g h [] l p q = absurd (omega arith)
 same_by_log c number g h (entry ∷ log) l p q =
-    let sum : times_told c number (entry ∷ log) ≡ told_by c number entry + times_told c number log = sum_by-cons (told_by c number) entry log in
-    ⊎_elim (λ (t : tells_event c number entry ≡ true). same_by_entry c number g h entry.channel entry.number entry.what t (All-head (IsTrueIn g) entry log p) (All-head (IsTrueIn h) entry log q))
-    (λ (t : tells_event c number entry ≡ false).
+    let sum : times_logged c number (entry ∷ log) ≡ told_by c number entry + times_logged c number log = sum_by-cons (told_by c number) entry log in
+    ⊎_elim (λ (t : logs_event c number entry ≡ true). same_by_entry c number g h entry.channel entry.number entry.what t (All-head (IsTrueIn g) entry log p) (All-head (IsTrueIn h) entry log q))
+    (λ (t : logs_event c number entry ≡ false).
     let none : told_by c number entry ≡ 0 = ap (λ b. cond b 1 0) t in
-    same_by_log c number g h log (omega arith) (All-tail (IsTrueIn g) entry log p) (All-tail (IsTrueIn h) entry log q)) (cases_Bool (tells_event c number entry))
+    same_by_log c number g h log (omega arith) (All-tail (IsTrueIn g) entry log p) (All-tail (IsTrueIn h) entry log q)) (cases_Bool (logs_event c number entry))
 
 -- a list whose elements stand at the same places of another is its front
 prefix_by_places : {X : Type 0} (some all : List X) → ((n : ℕ) → n < length some → slice_get some n ≡ slice_get all n) → IsPrefix some all
@@ -65,7 +66,7 @@ prefix_by_places (x ∷ some) (y ∷ all) same =
 -- one log beside another that is taken out
 merges_by_counts : (opening : ℕ → List Event) (histories : List (List Event)) (first log whole : List Entry)
     → IsOpeningLog opening first → Merges no_opening histories whole
-    → ((c number : ℕ) → times_told c number whole ≡ times_told c number first + times_told c number log)
+    → ((c number : ℕ) → times_logged c number whole ≡ times_logged c number first + times_logged c number log)
     → All (IsTrueOf histories) first → All (IsTrueOf histories) log → Merges opening histories log
 merges_by_counts opening histories first log whole is m sum first_true log_true =
     let counted = tells_once histories whole m in
@@ -104,7 +105,7 @@ opening_more before after c log none one same is =
     let empty : length (before c) ≡ 0 = ap length none in
     let single : length (after c) ≡ 1 = ap length one in
     let at_c : (d : ℕ) → d ≡ c → length (after d) ≡ 1 = λ d e. ap (λ x. length (after x)) e ∙ single in
-    let was_c : (d number : ℕ) → d ≡ c → times_told d number log ≡ 0 = λ d number e. ap (λ x. times_told x number log) e ∙ is.no_other c number (omega (arith, empty)) in
+    let was_c : (d number : ℕ) → d ≡ c → times_logged d number log ≡ 0 = λ d number e. ap (λ x. times_logged x number log) e ∙ is.no_other c number (omega (arith, empty)) in
     let elsewhere : (d : ℕ) → d ≢ c → length (after d) ≡ length (before d) = λ d other. ap length (same d other) in
     let grows : (d : ℕ) → IsPrefix (before d) (after d) = λ d. dite (ℕ_discrete d c)
     (λ (e : d ≡ c). (Activate ∷ [], ap (λ h. h ++ Activate ∷ []) (ap before e ∙ none) ∙ sym (ap after e ∙ one)))
@@ -151,12 +152,12 @@ pub record HasActivated (line : LineState) (c : ℕ) (r : Numbered) (after : Lin
   pub done : r.reply ≡ Reply.Done
   pub written : after.log ≡ appended line.log (event_entry c 0 Activate)
 
-untold_is_empty : (c : ℕ) (histories : List (List Event)) (log : List Entry) → Merges no_opening histories log → times_told c 0 log ≡ 0 → history_on c histories ≡ []
+untold_is_empty : (c : ℕ) (histories : List (List Event)) (log : List Entry) → Merges no_opening histories log → times_logged c 0 log ≡ 0 → history_on c histories ≡ []
 untold_is_empty c histories log m none =
     nil_from_length (history_on c histories)
     (⊎_elim (λ (l : 0 < length (history_on c histories)). let one = m.once c 0 (omega arith) l in absurd (omega (arith, one, none))) (λ (l : length (history_on c histories) ≤ 0). omega arith) (cases_lt 0 (length (history_on c histories))))
 
-pub activated : (line after : LineState) (c : ℕ) (r : Numbered) → channel_index c < channel_count → line.view.shares ≡ line.view.whole → times_told c 0 line.log.entries ≡ 0 → IsActed line c ChanOp.Activate r after → HasActivated line c r after
+pub activated : (line after : LineState) (c : ℕ) (r : Numbered) → channel_index c < channel_count → line.view.shares ≡ line.view.whole → times_logged c 0 line.log.entries ≡ 0 → IsActed line c ChanOp.Activate r after → HasActivated line c r after
 activated line after c r named all none acted =
     let h : List Event = history_on c acted.histories in
     let alone = acted.alone all in
@@ -178,10 +179,10 @@ activated line after c r named all none acted =
     }
 
 -- it is never worn
-pub never_worn : (line after : LineState) (c : ℕ) (op : ChanOp) → line.view.shares ≡ line.view.whole → times_told c 0 line.log.entries ≡ 0 → IsWornOut line c op after → ⊥
+pub never_worn : (line after : LineState) (c : ℕ) (op : ChanOp) → line.view.shares ≡ line.view.whole → times_logged c 0 line.log.entries ≡ 0 → IsWornOut line c op after → ⊥
 never_worn line after c op all none worn =
     let log : after.log.entries ≡ line.log.entries = ap (λ l. l.log.entries) worn.after_is in
     let merged = (worn.known.all_known (ap (λ l. l.view.shares) worn.after_is ∙ (all ∙ ap (λ l. l.view.whole) (sym worn.after_is)))).merged in
-    let told : times_told c 0 after.log.entries ≡ 0 = ap (λ l. times_told c 0 l) log ∙ none in
+    let told : times_logged c 0 after.log.entries ≡ 0 = ap (λ l. times_logged c 0 l) log ∙ none in
     let empty : length (history_on c worn.histories) ≡ 0 = ap length (untold_is_empty c worn.histories after.log.entries merged told) in
     omega (arith, empty, worn.worn)

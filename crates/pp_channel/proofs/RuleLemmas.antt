@@ -10,12 +10,13 @@ use Rattle.std.proofs.lemmas.List.Elements.{All-set, All-weaker}
 use Rattle.pp_channel.specs.declared.event.Event.{Event}
 use Rattle.pp_channel.specs.declared.entry.Entry.{Entry}
 use Rattle.pp_channel.specs.declared.rule.LineView.{LineView}
-use Rattle.pp_channel.specs.ChannelNumber.{channel_index, names_channel}
+use Rattle.pp_channel.specs.ChannelNo.{channel_index, names_channel}
 use Rattle.pp_channel.specs.ChannelWord.{number_in}
 use Rattle.pp_channel.specs.History.{IsLawful, HasTwelveBitWords}
 use Rattle.pp_channel.specs.LineSteps.{Tells}
 use Rattle.pp_channel.specs.LineView.{finds, weighs_once, KnowsAll, Knows}
-use Rattle.pp_channel.specs.Merge.{IsTrueOf, Merges, no_opening, history_on, tells_event, times_told}
+use Rattle.pp_channel.specs.Merge.{IsTrueOf, Merges, no_opening, logs_event, times_logged}
+use Rattle.pp_channel.specs.Histories.{history_on}
 use Rattle.pp_channel.specs.SharedWords.{word_place, IsViewOf, KeepsRule}
 use Rattle.pp_channel.proofs.ChannelPlaces.{place_below}
 use Rattle.pp_channel.proofs.ListFacts.{All-read, All-part, flat_map-set_same, count_by-parts, sum_by-write, sum_by-sole}
@@ -31,16 +32,16 @@ abbrev pub all_events : List LineView → List Entry
 all_events views = flat_map events_in views
 
 abbrev pub times_in : ℕ → ℕ → LineView → ℕ
-times_in c number v = times_told c number v.events
+times_in c number v = times_logged c number v.events
 
 abbrev pub shares_in : LineView → ℕ
 shares_in v = v.shares
 
-pub times-parts : (c number : ℕ) (views : List LineView) → times_told c number (all_events views) ≡ sum_by (times_in c number) views
-times-parts c number views = count_by-parts events_in (tells_event c number) views
+pub times-parts : (c number : ℕ) (views : List LineView) → times_logged c number (all_events views) ≡ sum_by (times_in c number) views
+times-parts c number views = count_by-parts events_in (logs_event c number) views
 
 pub times-write : (c number : ℕ) (views : List LineView) (id : ℕ) (v w : LineView) → get_elem? views id ≡ some v
-    → times_told c number (all_events (set views id w)) + times_in c number v ≡ times_told c number (all_events views) + times_in c number w
+    → times_logged c number (all_events (set views id w)) + times_in c number v ≡ times_logged c number (all_events views) + times_in c number w
 times-write c number views id v w at =
     let a = times-parts c number views in
     let b = times-parts c number (set views id w) in
@@ -80,7 +81,7 @@ module _ (whole : ℕ) (words : List ℕ) (views : List LineView) (histories : L
       let f = view_at id v at in
       let once : TellsOnce histories v.events = λ c number.
       sym (sum_by-sole (times_in c number) shares_in views id v at (k.shares ∙ sym has)
-      (All-weaker (IsViewOf histories whole) (λ w. w.shares ≡ 0 → times_in c number w ≡ 0) (λ w g z. ap (times_told c number) (g.spent z)) views k.views_are))
+      (All-weaker (IsViewOf histories whole) (λ w. w.shares ≡ 0 → times_in c number w ≡ 0) (λ w g z. ap (times_logged c number) (g.spent z)) views k.views_are))
       ∙ (sym (times-parts c number views) ∙ tells_once histories (all_events views) k.merged c number) in
       record {
         merged = merges_by histories v.events once (events_at id v at);

@@ -3,9 +3,9 @@ use Rattle.std.proofs.Common.{◌≡◌, ℕ, zero, suc, ◌<◌, ◌≤◌, max
 use Rattle.std.proofs.lemmas.List.{ext_get_or}
 use Rattle.std.proofs.lemmas.List.Elements.{All-weaker}
 use Rattle.pp_channel.specs.declared.entry.Entry.{Entry}
-use Rattle.pp_channel.specs.ChannelNumber.{channel_index}
+use Rattle.pp_channel.specs.ChannelNo.{channel_index}
 use Rattle.pp_channel.specs.LineView.{greater_of_each}
-use Rattle.pp_channel.specs.RisingLog.{known_after, seen_on, IsWithin}
+use Rattle.pp_channel.specs.MonotoneLog.{known_after, seen_on, IsWithin}
 
 -- one of the numbers is written
 pub set_at_each : (P : ℕ → Type 0) (xs : List ℕ) (c n d : ℕ) → P (get_or xs d 0) → (d ≡ c → P n) → P (get_or (set xs c n) d 0)

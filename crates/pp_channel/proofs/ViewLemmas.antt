@@ -10,12 +10,12 @@ use Rattle.pp_channel.specs.declared.event.Event.{Event}
 use Rattle.pp_channel.specs.declared.entry.Entry.{Entry}
 use Rattle.pp_channel.specs.declared.rule.FoundWord.{FoundWord}
 use Rattle.pp_channel.specs.declared.rule.LineView.{LineView}
-use Rattle.pp_channel.specs.ChannelNumber.{channel_count, channel_index, names_channel}
+use Rattle.pp_channel.specs.ChannelNo.{channel_count, channel_index, names_channel}
 use Rattle.pp_channel.specs.ChannelWord.{history_word, number_in}
 use Rattle.pp_channel.specs.History.{HasTwelveBitWords}
 use Rattle.pp_channel.specs.LineView.{parent_view, child_view, greater_of_each, joined_view, spent_view, finds, makes, weighs_once}
-use Rattle.pp_channel.specs.Merge.{history_on}
-use Rattle.pp_channel.specs.RisingLog.{known_after, seen_on}
+use Rattle.pp_channel.specs.Histories.{history_on}
+use Rattle.pp_channel.specs.MonotoneLog.{known_after, seen_on}
 use Rattle.pp_channel.specs.LineLog.{event_entry}
 use Rattle.pp_channel.specs.SharedWords.{IsFound, IsViewOf}
 use Rattle.pp_channel.proofs.ChannelPlaces.{place_below}

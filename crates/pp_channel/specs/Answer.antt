@@ -47,10 +47,11 @@ pub record IsMade (h : List Event) (op : ChanOp) (reply : Reply) (after : List E
   pub recorded : after ≡ h ++ e ∷ []
 
 -- the operation is not ready: the flags are shown, and the history stays
-pub record IsShown (h : List Event) (op : ChanOp) (reply : Reply) (after : List Event) : Type 0 where
-  pub not_ready : (e : Event) → ¬ IsReady h op e
-  pub answered : reply ≡ reply_shown op h
-  pub unchanged : after ≡ h
+pub record IsShown (h : List Event) (op : ChanOp) (reply : Reply) (after : List Event) : Type 0
+  where
+    pub not_ready : (e : Event) → ¬ IsReady h op e
+    pub answered : reply ≡ reply_shown op h
+    pub unchanged : after ≡ h
 
 -- The answer of a channel with the history h to an operation: its reply, and its history after it.
 abbrev pub IsAnswer : List Event → ChanOp → Reply → List Event → Type 0
@@ -73,6 +74,12 @@ event_with ChanOp.Disconnect word = Some Event.Disconnect
 event_with (ChanOp.Put w) word = Some (Event.Put w)
 event_with ChanOp.Take word = option_map (λ w. Event.Take w) word
 event_with (ChanOp.Function w) word = Some (Event.Function w)
+
+-- the event that an operation made, by its answer
+abbrev pub event_answered : ChanOp → Reply → Option Event
+event_answered ChanOp.Take (Reply.Word w) = Some (Event.Take w)
+event_answered op Reply.Done = event_with op None
+event_answered op reply = None
 
 -- the flags after an event
 abbrev pub flags_after : Event → Flags

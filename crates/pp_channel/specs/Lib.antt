@@ -1,17 +1,20 @@
-pub mod ChannelNumber
+pub mod ChannelNo
 pub mod Session
 pub mod History
+pub mod Histories
 pub mod Answer
-pub mod Kept
 pub mod Law
+pub mod ChannelState
 pub mod ChannelWord
 pub mod WordStep
 pub mod Locked
 pub mod LineLog
 pub mod Merge
-pub mod RisingLog
+pub mod MonotoneLog
 pub mod SharedWords
 pub mod LineView
-pub mod LineSteps
 pub mod LineState
-pub mod ToldHistory
+-- cited by private contracts alone: nobody has to read these to believe what the crate promises
+pub mod Kept
+pub mod LineSteps
+pub mod RecordedHistory

@@ -8,7 +8,7 @@ use Rattle.pp_channel.specs.declared.reply.Reply.{Reply}
 use Rattle.pp_channel.specs.declared.entry.Entry.{Entry}
 use Rattle.pp_channel.specs.declared.entry.Seen.{Seen}
 use Rattle.pp_channel.specs.declared.numbered.Numbered.{Numbered}
-use Rattle.pp_channel.specs.Answer.{event_with}
+use Rattle.pp_channel.specs.Answer.{event_answered}
 
 -- A log: its entries in order, how many more it has room for, and whether its last entry is kept
 -- when a look at the same channel follows.
@@ -57,12 +57,6 @@ looked log entry =
       kept = false;
     }
     else appended log entry
-
--- the event that an operation made, by its answer
-abbrev pub event_answered : ChanOp → Reply → Option Event
-event_answered ChanOp.Take (Reply.Word w) = Some (Event.Take w)
-event_answered op Reply.Done = event_with op None
-event_answered op reply = None
 
 -- an event gets an entry of its own; Flags and Held are looks
 abbrev pub with_event : LogState → ℕ → ℕ → Option Event → LogState

@@ -10,13 +10,14 @@ use Rattle.pp_channel.specs.declared.reply.Reply.{Reply}
 use Rattle.pp_channel.specs.declared.rule.FoundWord.{FoundWord}
 use Rattle.pp_channel.specs.declared.rule.LineView.{LineView}
 use Rattle.pp_channel.specs.Answer.{IsAnswer, IsReady, flags_of}
-use Rattle.pp_channel.specs.ChannelNumber.{channel_index}
+use Rattle.pp_channel.specs.ChannelNo.{channel_index}
 use Rattle.pp_channel.specs.ChannelWord.{number_in, greatest_number}
 use Rattle.pp_channel.specs.Law.{KeepsLaw}
 use Rattle.pp_channel.specs.LineLog.{LogState, empty_log, log_after, events_after}
 use Rattle.pp_channel.specs.LineView.{first_view, child_view, joined_view, weighs_once, finds, Knows}
-use Rattle.pp_channel.specs.Merge.{Merges, no_opening, history_on}
-use Rattle.pp_channel.specs.RisingLog.{seen_on}
+use Rattle.pp_channel.specs.Merge.{Merges, no_opening}
+use Rattle.pp_channel.specs.Histories.{history_on}
+use Rattle.pp_channel.specs.MonotoneLog.{seen_on}
 
 -- Lines that were split from one another are a family, and share one table of words. A line has its
 -- log; its view, which is what it knows: its shares, of how many in its family, the events that it
@@ -111,7 +112,8 @@ answered line c op r words = record line {
 
 -- What a call answers: the line afterwards knows histories of which the history of channel c gave
 -- this answer.
-pub record IsActed (line : LineState) (c : ℕ) (op : ChanOp) (r : Numbered) (after : LineState) : Type 0 where
+pub record IsActed (line : LineState) (c : ℕ) (op : ChanOp) (r : Numbered) (after : LineState)
+    : Type 0 where
   pub words : List ℕ
   pub words_found : AreFoundBy r words
   pub after_is : after ≡ answered line c op r words

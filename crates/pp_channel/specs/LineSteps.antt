@@ -1,5 +1,6 @@
 -- The atomic steps of a line on the shared words: what each makes of the line's view, and what it
 -- tells; and how the line's log goes with its view.
+-- (Private contracts alone cite this.)
 use Rattle.std.specs.Prelude.{◌≡◌, ◌≢◌, ℕ, ◌<◌, ◌≤◌, ◌==◌, MatchBool, IsTrue, List, [], ◌∷◌, ◌++◌, length, All, Contains, slice_set}
 use mathlib.Core.Option.{Option, none, some}
 use Rattle.atomic_table.specs.Table.{Me, Step}
@@ -8,28 +9,29 @@ use Rattle.pp_channel.specs.declared.entry.Seen.{Seen}
 use Rattle.pp_channel.specs.declared.entry.Seen.TheVariants.{Did, Saw}
 use Rattle.pp_channel.specs.declared.event.Event.{Event}
 use Rattle.pp_channel.specs.declared.rule.LineView.{LineView}
-use Rattle.pp_channel.specs.ChannelNumber.{channel_count, channel_index, names_channel}
+use Rattle.pp_channel.specs.ChannelNo.{channel_count, channel_index, names_channel}
 use Rattle.pp_channel.specs.ChannelWord.{history_word, number_in, flags_in}
 use Rattle.pp_channel.specs.LineLog.{event_entry}
 use Rattle.pp_channel.specs.LineView.{finds, makes, weighs_once, Knows}
-use Rattle.pp_channel.specs.Merge.{times_told, history_on}
-use Rattle.pp_channel.specs.RisingLog.{IsWithin}
+use Rattle.pp_channel.specs.Merge.{times_logged}
+use Rattle.pp_channel.specs.Histories.{history_on}
+use Rattle.pp_channel.specs.MonotoneLog.{IsWithin}
 use Rattle.pp_channel.specs.SharedWords.{word_place}
 
 -- An event in a log is one that the view has; a look was read off a word that the view found.
-abbrev pub IsBackedBy : LineView → ℕ → ℕ → Seen → Type 0
-IsBackedBy v c number (Did e) = Contains v.events (event_entry c number e)
-IsBackedBy v c number (Saw f) = (word : ℕ) × Contains v.found (record { channel = c; word = word })
+abbrev pub IsJustified : LineView → ℕ → ℕ → Seen → Type 0
+IsJustified v c number (Did e) = Contains v.events (event_entry c number e)
+IsJustified v c number (Saw f) = (word : ℕ) × Contains v.found (record { channel = c; word = word })
     × (number_in word ≡ number) × (flags_in word ≡ f)
 
 abbrev pub IsBacked : LineView → Entry → Type 0
-IsBacked v entry = IsBackedBy v entry.channel entry.number entry.what
+IsBacked v entry = IsJustified v entry.channel entry.number entry.what
 
 -- The log of a line with this view: it has each event of the view, as often as the view has it, and
 -- no other, and lies within what the line has seen.
 pub record IsLogOf (v : LineView) (log : List Entry) : Type 0 where
   pub each_channel : length v.seen ≡ channel_count
-  pub told : (c number : ℕ) → times_told c number log ≡ times_told c number v.events
+  pub told : (c number : ℕ) → times_logged c number log ≡ times_logged c number v.events
   pub backed : All (IsBacked v) log
   pub within : IsWithin v.seen log
 
@@ -56,7 +58,8 @@ loads step before word after = (after.1 ≡ before.1)
     × ((c : ℕ) → IsOn c step → 0 < before.0.shares → IsLoad c before.0 word after.0)
 
 -- An exchange that was won: the event was made, and is the next of its channel.
-pub record IsWonExchange (c : ℕ) (before : LineView) (word : ℕ) (e : Event) (after : LineView) : Type 0 where
+pub record IsWonExchange (c : ℕ) (before : LineView) (word : ℕ) (e : Event) (after : LineView)
+    : Type 0 where
   pub after_is : after ≡ makes before c (number_in word) e
   pub tells : Tells before c word
   pub known_after : Knows after after.events
@@ -64,7 +67,8 @@ pub record IsWonExchange (c : ℕ) (before : LineView) (word : ℕ) (e : Event) 
 
 -- An exchange that was lost is a load: more events had come than were known, so there are other
 -- lines.
-pub record IsLostExchange (c expected : ℕ) (before : LineView) (word : ℕ) (after : LineView) : Type 0 where
+pub record IsLostExchange (c expected : ℕ) (before : LineView) (word : ℕ) (after : LineView)
+    : Type 0 where
   pub load : IsLoad c before word after
   pub later : number_in expected < number_in word
   pub others : before.shares ≢ before.whole

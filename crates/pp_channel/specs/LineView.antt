@@ -3,11 +3,12 @@ use Rattle.std.specs.Prelude.{◌≡◌, ℕ, ◌+◌, ◌-◌, ◌≤◌, max, 
 use Rattle.pp_channel.specs.declared.entry.Entry.{Entry}
 use Rattle.pp_channel.specs.declared.event.Event.{Event}
 use Rattle.pp_channel.specs.declared.rule.LineView.{LineView}
-use Rattle.pp_channel.specs.ChannelNumber.{channel_count, channel_index}
+use Rattle.pp_channel.specs.ChannelNo.{channel_count, channel_index}
 use Rattle.pp_channel.specs.ChannelWord.{number_in}
 use Rattle.pp_channel.specs.LineLog.{event_entry}
-use Rattle.pp_channel.specs.Merge.{AreHistories, IsTrueOf, Merges, no_opening, history_on}
-use Rattle.pp_channel.specs.RisingLog.{seen_on}
+use Rattle.pp_channel.specs.Merge.{IsTrueOf, Merges, no_opening}
+use Rattle.pp_channel.specs.Histories.{AreHistories, history_on}
+use Rattle.pp_channel.specs.MonotoneLog.{seen_on}
 use Rattle.pp_channel.specs.SharedWords.{IsFound}
 
 -- the view of the first line, which has all shares

@@ -5,10 +5,11 @@ use Rattle.atomic_table.specs.Table.{State}
 use Rattle.pp_channel.specs.declared.event.Event.{Event}
 use Rattle.pp_channel.specs.declared.rule.FoundWord.{FoundWord}
 use Rattle.pp_channel.specs.declared.rule.LineView.{LineView}
-use Rattle.pp_channel.specs.ChannelNumber.{channel_count, channel_index, names_channel}
+use Rattle.pp_channel.specs.ChannelNo.{channel_count, channel_index, names_channel}
 use Rattle.pp_channel.specs.ChannelWord.{history_word}
-use Rattle.pp_channel.specs.Merge.{AreHistories, Merges, no_opening, history_on}
-use Rattle.pp_channel.specs.RisingLog.{IsWithin, seen_on}
+use Rattle.pp_channel.specs.Merge.{Merges, no_opening}
+use Rattle.pp_channel.specs.Histories.{AreHistories, history_on}
+use Rattle.pp_channel.specs.MonotoneLog.{IsWithin, seen_on}
 
 -- The words lie 16 apart, so that no two channels share a cache line.
 abbrev pub word_place : ℕ → ℕ
@@ -36,7 +37,8 @@ pub record IsViewOf (histories : List (List Event)) (whole : ℕ) (v : LineView)
 
 -- The rule: the events of all lines merge to lawful histories, the word of each channel is that of
 -- its history, and the shares of all lines add up to the whole.
-pub record KeepsRule (whole : ℕ) (words : List ℕ) (views : List LineView) (histories : List (List Event)) : Type 0 where
+pub record KeepsRule (whole : ℕ) (words : List ℕ) (views : List LineView)
+    (histories : List (List Event)) : Type 0 where
   pub sound : AreHistories histories
   pub merged : Merges no_opening histories (flat_map (λ v. v.events) views)
   pub places : length words ≡ place_count

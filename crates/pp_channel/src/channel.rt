@@ -157,6 +157,7 @@ impl<A: Allocator> Channel<A> {
         ensures lawful { IsLawful self.new }
         ensures unchanged_after_memory { OnErr result (self.new ≡ self.old) }
     {
+        // The call says to the proof that the history is lawful.
         let _lawful = self.history();
         self.record(event)?;
         Ok(reply_made(&event))

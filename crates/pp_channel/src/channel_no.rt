@@ -1,7 +1,7 @@
 //! The number of a data channel.
 
 ghost use Rattle.std.specs.Prelude.{◌≡◌, ℕ, ◌<◌, ◌↔◌, IsTrue, IsSome, IfSome};
-ghost use Rattle.pp_channel.specs.ChannelNumber.{channel_count, names_channel, channel_index, channel_number};
+ghost use Rattle.pp_channel.specs.ChannelNo.{channel_count, names_channel, channel_index, channel_number};
 
 use std::marker::Model;
 
@@ -18,7 +18,7 @@ pub struct ChannelNo {
 impl Model for ChannelNo {
     ghost use Rattle.std.specs.Prelude.{ℕ, IsTrue};
     ghost use Rattle.std.proofs.Common.{ap};
-    ghost use Rattle.pp_channel.specs.ChannelNumber.{names_channel, channel_index, channel_number, place_again};
+    ghost use Rattle.pp_channel.specs.ChannelNo.{names_channel, channel_index, channel_number, place_again};
 
     ghost Value = { ℕ };
 
@@ -33,7 +33,7 @@ impl Model for ChannelNo {
 
 impl ChannelNo {
     /// The channel of this number, or nothing from 14 to 17 (octal) and from 34 on.
-    #[tactic(auto, unfolding(crate::specs::ChannelNumber::names_channel, crate::specs::ChannelNumber::channel_number))]
+    #[tactic(auto, unfolding(crate::specs::ChannelNo::names_channel, crate::specs::ChannelNo::channel_number))]
     pub fn new(number: u8) -> Option<Self>
         ensures exists { IsSome result ↔ IsTrue (names_channel number) }
         ensures value { IfSome result (λ c. c ≡ number) }
@@ -47,7 +47,7 @@ impl ChannelNo {
     }
 
     /// Its number.
-    #[tactic(auto, unfolding(crate::specs::ChannelNumber::names_channel, crate::specs::ChannelNumber::channel_number))]
+    #[tactic(auto, unfolding(crate::specs::ChannelNo::names_channel, crate::specs::ChannelNo::channel_number))]
     pub fn get(self) -> u8
         ensures value { result ≡ self }
         ensures names { IsTrue (names_channel result) }
@@ -60,7 +60,7 @@ impl ChannelNo {
     }
 
     /// Its place in a list of all channels in order of number.
-    #[tactic(auto, using(crate::proofs::ChannelPlaces::one_place, crate::proofs::ChannelPlaces::place_below, crate::specs::ChannelNumber::place_again))]
+    #[tactic(auto, using(crate::proofs::ChannelPlaces::one_place, crate::proofs::ChannelPlaces::place_below, crate::specs::ChannelNo::place_again))]
     pub fn index(self) -> usize
         ensures place { result ≡ channel_index self }
         ensures below { result < channel_count }

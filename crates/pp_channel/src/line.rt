@@ -4,8 +4,8 @@ mod closing;
 
 ghost use Rattle.std.specs.Prelude.{◌≡◌, ◌≤◌, ◌+◌, ◌-◌, List, [], ◌∷◌, ◌++◌, Contains, true, IfOk, OnOk, OnErr, IfErr, length};
 ghost use Rattle.pp_channel.specs.declared.event.Event.{Event};
-ghost use Rattle.pp_channel.specs.ChannelNumber.{channel_count};
-ghost use Rattle.pp_channel.specs.RisingLog.{IsRising, IsWithin, seen_on};
+ghost use Rattle.pp_channel.specs.ChannelNo.{channel_count};
+ghost use Rattle.pp_channel.specs.MonotoneLog.{IsMonotone, IsWithin, seen_on};
 ghost use Rattle.pp_channel.specs.declared.rule.LineView.{LineView};
 ghost use Rattle.pp_channel.specs.LineLog.{event_entry, look_entry, appended, looked};
 ghost use Rattle.pp_channel.specs.LineState.{LineState, IsOpened, IsSplitFrom, joined, ForgetsNothing, IsActed, IsWornOut, AreClosed};
@@ -22,9 +22,9 @@ use crate::event::Event;
 use crate::line_log::LineLog;
 use crate::memory::Memory;
 use crate::numbered::Numbered;
+use crate::recorded_history::recorded_channels;
 use crate::reply::Reply;
 use crate::shared_words::SharedWords;
-use crate::told_history::told_channels;
 use crate::word_step::{WordStep, advance, flags_in, next_event_in, number_in};
 use crate::worn::Worn;
 pub use closing::Closed;
@@ -50,7 +50,11 @@ impl<A: Allocator> Model for Line<A> {
 
     ghost Value = { LineState };
 
-    ghost view = { λ line. record { log = line.log; view = line.words.seat.me.0; table = line.words.seat.table_id } };
+    ghost view = { λ line. record {
+      log = line.log;
+      view = line.words.seat.me.0;
+      table = line.words.seat.table_id;
+    } };
 
     ghost invariant = { λ line. (line.seen ≡ line.words.seat.me.0.seen)
         × (line.shares ≡ line.words.seat.me.0.shares)
@@ -157,7 +161,8 @@ impl<A: Allocator + Copy> Line<A> {
     }
 
     /// Makes the operation if the channel is ready for it, and looks if not: one load of the
-    /// channel's word, and at most one exchange. It needs room for 1 entry, takes no memory and never waits.
+    /// channel's word, and at most one exchange. It needs room for 1 entry, takes no memory and
+    /// never waits.
     ///
     /// `loaded` is how many events the load found. `number` is the same, and for an event its place
     /// in the history; but an operation whose exchange was lost to another line is held with the
@@ -170,7 +175,7 @@ impl<A: Allocator + Copy> Line<A> {
         requires { 1 ≤ self.old.log.room }
         ensures ok { IfOk result (λ r. IsActed self.old channel op r self.new) }
         ensures worn { OnErr result (IsWornOut self.old channel op self.new) }
-        ensures rising { IsRising self.old.log.entries → IsRising self.new.log.entries }
+        ensures monotone { IsMonotone self.old.log.entries → IsMonotone self.new.log.entries }
         ensures shares { self.new.view.shares ≡ self.old.view.shares }
         ensures whole { self.new.view.whole ≡ self.old.view.whole }
         ensures table { self.new.table ≡ self.old.table }
@@ -255,7 +260,8 @@ impl<A: Allocator + Copy> Line<A> {
         requires room { 1 ≤ self.old.log.room }
         requires loaded { (v : LineView) × (self.old.view ≡ finds v channel word) }
         requires next { (h : List Event) → IsLawful h → HasTwelveBitWords h → history_word h ≡ word
-            → IsLawful (h ++ event ∷ []) × HasTwelveBitWord event × (history_word (h ++ event ∷ []) ≡ next) }
+            → IsLawful (h ++ event ∷ []) × HasTwelveBitWord event
+            × (history_word (h ++ event ∷ []) ≡ next) }
         ensures won { OnOk result (IsWonExchange channel self.old.view word event self.new.view) }
         ensures event_written { OnOk result (self.new.log
             ≡ appended self.old.log (event_entry channel (number_in word) event)) }
@@ -281,7 +287,8 @@ impl<A: Allocator + Copy> Line<A> {
 
     /// This line and another of its family (from the same `open_lines`) as one: the log has this
     /// line's entries and then the other's, the room is this line's, shares add up, and `seen` is
-    /// the greater of the two for each channel. It makes one load. After `Memory` both come back unchanged.
+    /// the greater of the two for each channel. It makes one load. After `Memory` both come back
+    /// unchanged.
     pub fn join(mut self, other: Line<A>) -> Result<Line<A>, (Line<A>, Line<A>, Memory)>
         requires { other.table ≡ self.table }
         ensures ok { IfOk result (λ line. line ≡ joined self other) }
@@ -320,7 +327,7 @@ impl<A: Allocator + Copy> Line<A> {
         self.words.weigh(ChannelNo::at(0));
         let line = &self;
         let others = Vec::new(line.alloc);
-        match told_channels(
+        match recorded_channels(
             line.alloc,
             line.log.entries(),
             others.as_slice(),

@@ -25,7 +25,11 @@ impl<A: Allocator> Model for LineLog<A> {
 
     ghost Value = { LogState };
 
-    ghost view = { λ log. record { entries = log.entries.items; room = log.room; kept = log.kept } };
+    ghost view = { λ log. record {
+      entries = log.entries.items;
+      room = log.room;
+      kept = log.kept;
+    } };
 
     ghost invariant = { λ log. vec_len log.entries + log.room ≤ vec_capacity log.entries };
 }

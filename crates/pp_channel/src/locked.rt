@@ -50,6 +50,7 @@ impl<A: Allocator> Locked<A> {
     {
         let Locked { channel } = self;
         let channel = channel.into_inner();
+        // The call says to the proof that the history is lawful.
         let _history = channel.history();
         channel
     }

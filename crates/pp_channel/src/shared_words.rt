@@ -4,7 +4,7 @@ ghost use Rattle.std.specs.Prelude.{◌≡◌, ◌≢◌, ◌+◌, ◌-◌, ◌<
 ghost use Rattle.std.specs.Arc.{arc_value};
 ghost use Rattle.pp_channel.specs.declared.event.Event.{Event};
 ghost use Rattle.pp_channel.specs.declared.rule.LineView.{LineView};
-ghost use Rattle.pp_channel.specs.ChannelNumber.{names_channel};
+ghost use Rattle.pp_channel.specs.ChannelNo.{names_channel};
 ghost use Rattle.pp_channel.specs.ChannelWord.{history_word, number_in};
 ghost use Rattle.pp_channel.specs.History.{IsLawful, HasTwelveBitWords, HasTwelveBitWord};
 ghost use Rattle.pp_channel.specs.SharedWords.{place_count, word_place};
@@ -89,9 +89,11 @@ impl<A: Allocator + Copy> SharedWords<A> {
         requires loaded { (v : LineView) × (self.old.seat.me.0 ≡ finds v channel expected) }
         requires next { (h : List Event) → IsLawful h → HasTwelveBitWords h
             → history_word h ≡ expected
-            → IsLawful (h ++ event.now ∷ []) × HasTwelveBitWord event.now × (history_word (h ++ event.now ∷ []) ≡ new) }
+            → IsLawful (h ++ event.now ∷ []) × HasTwelveBitWord event.now
+            × (history_word (h ++ event.now ∷ []) ≡ new) }
         ensures table { self.new.seat.table_id ≡ self.old.seat.table_id }
-        ensures exchange { IsExchange channel expected event.now self.old.seat.me.0 result self.new.seat.me.0 }
+        ensures exchange { IsExchange channel expected event.now self.old.seat.me.0 result
+            self.new.seat.me.0 }
     {
         self.table
             .shared

@@ -6,12 +6,13 @@ use Rattle.std.specs.List.Sorted.{IsStrictlyIncreasing}
 use Rattle.std.proofs.lemmas.Bool.{cases_eq, cases_lt}
 use Rattle.std.proofs.lemmas.List.{get_or_append_left, get_or_push, length_push, take_all, take_more}
 use Rattle.std.proofs.lemmas.Option.{slice_get-get_or}
+use Rattle.pp_channel.specs.ChannelState.{channel_state}
+use Rattle.pp_channel.specs.declared.channel_state.ChannelState.{ChannelState}
 use Rattle.pp_channel.proofs.LastElements.{last_or_at}
 use Rattle.pp_channel.specs.declared.event.Event.{Event}
-use Rattle.pp_check.specs.LawfulTrace.{AreLawful, Fits, IsLawfulTrace, channel_state, event_on, history, last_turn, lines_said, turn_of, turns}
+use Rattle.pp_check.specs.LawfulTrace.{AreLawful, Fits, IsLawfulTrace, event_on, history, last_turn, lines_said, turn_of, turns}
 use Rattle.pp_check.specs.TraceFault.{IsFault, IsFlaw, IsFlawOf}
 use Rattle.pp_check.specs.TraceLine.{line_said}
-use Rattle.pp_check.specs.declared.channel_state.ChannelState.{ChannelState}
 use Rattle.pp_check.specs.declared.trace_fault.TraceFault.{TraceFault}
 use Rattle.pp_check.specs.declared.trace_fault.TraceFlaw.{TraceFlaw}
 use Rattle.pp_check.specs.declared.trace_fault.TraceFlaw.TheVariants.{Malformed, TurnNotRising, WrongNumber, UnlawfulEvent, WrongState}

@@ -6,13 +6,14 @@ use Rattle.std.proofs.lemmas.List.{append-nil, get_or-replicate, get_or-set_othe
 use Rattle.pp_channel.proofs.AnswerLemmas.{lawful_with_event}
 use Rattle.pp_channel.proofs.ChannelPlaces.{place_below}
 use Rattle.pp_channel.proofs.HistoryLemmas.{lawful_empty}
-use Rattle.pp_channel.specs.ChannelNumber.{channel_count, channel_index, names_channel}
+use Rattle.pp_channel.specs.ChannelNo.{channel_count, channel_index, names_channel}
+use Rattle.pp_channel.specs.ChannelState.{channel_state}
 use Rattle.pp_channel.specs.History.{IsLawful}
 use Rattle.pp_channel.specs.declared.chan_op.ChanOp.TheVariants as operations
 use Rattle.pp_channel.specs.declared.event.Event.{Event}
 use Rattle.pp_channel.specs.declared.event.Event.TheVariants.{Activate}
 use Rattle.pp_check.specs.Judge.{Keeps, new_standing, standing, standing_of}
-use Rattle.pp_check.specs.LawfulTrace.{IsLawfulTrace, channel_state, events_on, history, is_opened, last_turn, opening, turns}
+use Rattle.pp_check.specs.LawfulTrace.{IsLawfulTrace, events_on, history, is_opened, last_turn, opening, turns}
 use Rattle.pp_check.specs.TraceLine.{empty}
 use Rattle.pp_check.specs.declared.standing.Standing.{Standing}
 

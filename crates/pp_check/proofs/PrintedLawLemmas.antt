@@ -9,9 +9,11 @@ use Rattle.std.proofs.lemmas.List.Elements.{All-head, All-tail, filter_map-appen
 use Rattle.pp_channel.proofs.HistoryLemmas.{Fits as FitsState, active_at, full_at, held_word, is_active, state_at, waiting_at}
 use Rattle.pp_channel.proofs.HistoryWalk.{State, Inactive, Empty, Holding}
 use Rattle.pp_channel.proofs.LastElements.{last_or-push}
-use Rattle.pp_channel.specs.ChannelNumber.{names_channel}
+use Rattle.pp_channel.specs.ChannelNo.{names_channel}
+use Rattle.pp_channel.specs.ChannelState.{channel_state}
 use Rattle.pp_channel.specs.History.{IsLawful, active, full, waiting}
-use Rattle.pp_channel.specs.Merge.{history_on}
+use Rattle.pp_channel.specs.Histories.{history_on}
+use Rattle.pp_channel.specs.declared.channel_state.ChannelState.{ChannelState}
 use Rattle.pp_channel.specs.declared.event.Event.{Event}
 use Rattle.pp_channel.specs.declared.event.Event.TheVariants.{Activate}
 use Rattle.pp_machine.specs.Headline as headline
@@ -20,9 +22,8 @@ use Rattle.pp_machine.specs.declared.trace.Trace.{Trace}
 use Rattle.pp_deck.specs.DeckText.{lines_of}
 use Rattle.pp_text.specs.PrintedText.{is_named, printed}
 use Rattle.pp_text.specs.TextLaw.{IsTold}
-use Rattle.pp_check.specs.LawfulTrace.{AreLawful, Fits, IsLawfulTrace, channel_state, event_on, events_on, history, is_opened, last_turn, lines_said, opening, turn_of, turns}
+use Rattle.pp_check.specs.LawfulTrace.{AreLawful, Fits, IsLawfulTrace, event_on, events_on, history, is_opened, last_turn, lines_said, opening, turn_of, turns}
 use Rattle.pp_check.specs.PrintedTrace.{AreOpenedBy, IsPrintable}
-use Rattle.pp_check.specs.declared.channel_state.ChannelState.{ChannelState}
 use Rattle.pp_check.specs.declared.trace_line.TraceLine.{TraceLine}
 use Rattle.pp_check.specs.declared.trace_line.TraceLine.TheVariants.{AtTurn, Numbered, Standing, Other}
 use Rattle.pp_check.proofs.KeepsLemmas.{TellsNone, nothing_told, state_told}

@@ -6,14 +6,15 @@ use Rattle.std.specs.Str.{bytes_eq}
 use Rattle.std.proofs.lemmas.Bool.{leb-true, le-leb, ltb-true, ne_eqb}
 use Rattle.std.proofs.lemmas.List.Folds.{list_all-append}
 use Rattle.pp_channel.proofs.ChannelPlaces as channel_places
-use Rattle.pp_channel.specs.ChannelNumber.{names_channel}
+use Rattle.pp_channel.specs.ChannelNo.{names_channel}
 use Rattle.pp_channel.specs.History.{HasTwelveBitWord, active, waiting}
+use Rattle.pp_channel.specs.declared.channel_state.ChannelState.{ChannelState}
 use Rattle.pp_channel.specs.declared.event.Event.{Event}
 use Rattle.pp_channel.specs.declared.event.Event.TheVariants.{Activate, Disconnect, Put, Take, Function}
 use Rattle.pp_deck.proofs.FieldTextLemmas.{IsField, IsTail, and_both, and_left, and_right, fields_of_plain, is_ink, is_plain, tail_blank, tail_field, tail_last}
 use Rattle.pp_deck.specs.DeckText.{fields_of}
 use Rattle.pp_machine.proofs.ProcessorPlaces as processor_places
-use Rattle.pp_machine.specs.ProcessorNumber.{names_processor, processor_number}
+use Rattle.pp_machine.specs.PpNo.{names_processor, processor_number}
 use Rattle.pp_machine.specs.Processor.{Processor}
 use Rattle.pp_machine.specs.declared.pp_state.PpState.{PpState}
 use Rattle.pp_machine.specs.declared.pp_state.PpState.TheVariants.{Running, Stopped, Fault}
@@ -25,7 +26,6 @@ use Rattle.pp_text.specs.TextLaw.{IsTold}
 use Rattle.pp_runner.specs.declared.end.End.{End}
 use Rattle.pp_runner.specs.declared.end.End.TheVariants as ends
 use Rattle.pp_check.specs.TraceLine.{channel_in, channel_line, empty, event_said, full_with, inactive, is_digit, is_processor, line_said, number_behind, numbered_line, numeral, state_said, turn_line}
-use Rattle.pp_check.specs.declared.channel_state.ChannelState.{ChannelState}
 use Rattle.pp_check.specs.declared.trace_line.TraceLine.TheVariants.{AtTurn, Numbered, Other, Standing}
 use Rattle.pp_check.proofs.NumeralTextLemmas.{decimal_are, decimal_field, decimal_read, octal_field, octal_ink, octal_read}
 

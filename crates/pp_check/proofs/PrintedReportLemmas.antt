@@ -8,16 +8,17 @@ use Rattle.std.proofs.lemmas.List.Elements.{All-head, All-tail}
 use Rattle.pp_channel.proofs.ChannelPlaces as channel_places
 use Rattle.pp_channel.proofs.FrontLemmas.{lawful_front}
 use Rattle.pp_channel.proofs.LineKnowledge.{lawful_on}
-use Rattle.pp_channel.specs.ChannelNumber.{names_channel}
+use Rattle.pp_channel.specs.ChannelNo.{names_channel}
 use Rattle.pp_channel.specs.History.{IsLawful}
-use Rattle.pp_channel.specs.Merge.{Merges, history_on}
+use Rattle.pp_channel.specs.Merge.{Merges}
+use Rattle.pp_channel.specs.Histories.{history_on}
 use Rattle.pp_channel.specs.declared.event.Event.{Event}
 use Rattle.pp_channel.specs.declared.event.Event.TheVariants.{Activate}
 use Rattle.pp_deck.specs.DeckText.{lines_of}
 use Rattle.pp_machine.specs.Headline.{opening_history}
 use Rattle.pp_machine.specs.MachineState.{MachineState}
-use Rattle.pp_machine.specs.ProcessorNumber.{names_processor, processor_index, processor_number}
-use Rattle.pp_runner.specs.RunLimits.{RunLimits}
+use Rattle.pp_machine.specs.PpNo.{names_processor, processor_index, processor_number}
+use Rattle.pp_runner.specs.Limits.{RunLimits}
 use Rattle.pp_runner.specs.WorkerReport.{logs_of}
 use Rattle.pp_runner.specs.declared.report.Report.{Report}
 use Rattle.pp_runner.specs.declared.worker.Worker.{Worker}

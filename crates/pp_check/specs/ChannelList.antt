@@ -1,7 +1,7 @@
 -- Lists of channels, as `1,5,13`: numbers in one or two octal digits, with a comma between them.
 use Rattle.std.specs.Prelude.{◌≡◌, ℕ, ◌==◌, All, Bool, IsSome, IsTrue, List, length, Option, None, Some, if◌then◌else◌}
 use Rattle.std.specs.List.{filter_map, list_any, slice_split}
-use Rattle.pp_channel.specs.ChannelNumber.{channel_count, names_channel}
+use Rattle.pp_channel.specs.ChannelNo.{channel_count, names_channel}
 use Rattle.pp_deck.specs.DeckText.{Field, Fields}
 use Rattle.pp_check.specs.LawfulTrace.{is_opened}
 use Rattle.pp_check.specs.TraceLine.{◌>>=◌, numeral}

@@ -1,20 +1,15 @@
 -- Which traces are lawful, stated on all their lines.
 use Rattle.std.specs.Prelude.{◌≡◌, ℕ, ◌<◌, ◌==◌, Bool, false, List, [], ◌∷◌, ◌++◌, length, take, All, IsSome, IfSome, Option, None, Some, slice_index_or, if◌then◌else◌}
 use Rattle.std.specs.List.{filter_map, last_or}
-use Rattle.pp_channel.specs.Answer.{flags_of}
-use Rattle.pp_channel.specs.ChannelNumber.{channel_index}
-use Rattle.pp_channel.specs.History.{IsLawful, waiting}
+use Rattle.pp_channel.specs.ChannelNo.{channel_index}
+use Rattle.pp_channel.specs.ChannelState.{channel_state}
+use Rattle.pp_channel.specs.History.{IsLawful}
 use Rattle.pp_channel.specs.declared.event.Event.{Event}
 use Rattle.pp_channel.specs.declared.event.Event.TheVariants.{Activate}
 use Rattle.pp_deck.specs.DeckText.{Fields}
 use Rattle.pp_check.specs.TraceLine.{line_said}
-use Rattle.pp_check.specs.declared.channel_state.ChannelState.{ChannelState}
 use Rattle.pp_check.specs.declared.trace_line.TraceLine.{TraceLine}
 use Rattle.pp_check.specs.declared.trace_line.TraceLine.TheVariants.{AtTurn, Numbered, Standing, Other}
-
--- how a channel with the history h stands
-abbrev pub channel_state : List Event → ChannelState
-channel_state h = record { flags = flags_of h; register = waiting h }
 
 -- ---- events
 

@@ -1,13 +1,13 @@
 -- Traces that the barrel and threads print.
 use Rattle.std.specs.Prelude.{◌≡◌, ℕ, ◌<◌, ◌^◌, All, Bool, IsTrue, List, length, map}
 use Rattle.std.specs.List.Sorted.{IsStrictlyIncreasing}
-use Rattle.pp_channel.specs.ChannelNumber.{names_channel}
-use Rattle.pp_channel.specs.Merge.{history_on}
+use Rattle.pp_channel.specs.ChannelNo.{names_channel}
+use Rattle.pp_channel.specs.Histories.{history_on}
 use Rattle.pp_machine.specs.Headline.{HoldsOnEachChannel}
 use Rattle.pp_machine.specs.MachineState as machine_state
 use Rattle.pp_machine.specs.MachineState.{MachineState}
 use Rattle.pp_runner.specs.Report.{IsReportOf}
-use Rattle.pp_runner.specs.RunLimits.{RunLimits}
+use Rattle.pp_runner.specs.Limits.{RunLimits}
 use Rattle.pp_runner.specs.declared.report.Report.{Report}
 use Rattle.pp_text.specs.ReportLaw.{FitsItsReport}
 use Rattle.pp_text.specs.TextLaw.{FitsItsText}

@@ -1,9 +1,10 @@
 -- Where a trace stops being lawful, and why.
 use Rattle.std.specs.Prelude.{◌≡◌, ◌≢◌, ◌-◌, ◌<◌, ◌≤◌, Bool, List, [], ◌∷◌, ◌++◌, length, take, Option, None, Some, slice_index_or}
+use Rattle.pp_channel.specs.ChannelState.{channel_state}
 use Rattle.pp_channel.specs.History.{IsLawful}
 use Rattle.pp_channel.specs.declared.event.Event.{Event}
 use Rattle.pp_deck.specs.DeckText.{Fields}
-use Rattle.pp_check.specs.LawfulTrace.{AreLawful, Fits, channel_state, event_on, history, last_turn, lines_said, turn_of}
+use Rattle.pp_check.specs.LawfulTrace.{AreLawful, Fits, event_on, history, last_turn, lines_said, turn_of}
 use Rattle.pp_check.specs.TraceLine.{line_said}
 use Rattle.pp_check.specs.declared.trace_fault.TraceFault.{TraceFault}
 use Rattle.pp_check.specs.declared.trace_fault.TraceFlaw.{TraceFlaw}

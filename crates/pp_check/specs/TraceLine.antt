@@ -5,13 +5,13 @@ use Rattle.std.specs.Prelude.{ℕ, ◌+◌, ◌&&◌, Bool, true, false, List, [
 use Rattle.std.specs.List.{list_all}
 use Rattle.std.specs.Option.{option_map}
 use Rattle.std.specs.Str.{bytes_eq}
-use Rattle.pp_channel.specs.ChannelNumber.{names_channel}
+use Rattle.pp_channel.specs.ChannelNo.{names_channel}
+use Rattle.pp_channel.specs.declared.channel_state.ChannelState.{ChannelState}
 use Rattle.pp_channel.specs.declared.event.Event.{Event}
 use Rattle.pp_channel.specs.declared.event.Event.TheVariants.{Activate, Disconnect, Put, Take, Function}
 use Rattle.pp_deck.specs.DeckText.{Field, Fields}
-use Rattle.pp_machine.specs.ProcessorNumber.{names_processor}
+use Rattle.pp_machine.specs.PpNo.{names_processor}
 use Rattle.pp_text.specs.Numeral.{value_of}
-use Rattle.pp_check.specs.declared.channel_state.ChannelState.{ChannelState}
 use Rattle.pp_check.specs.declared.trace_line.TraceLine.{TraceLine}
 use Rattle.pp_check.specs.declared.trace_line.TraceLine.TheVariants.{AtTurn, Numbered, Standing, Other}
 

@@ -3,16 +3,16 @@
 
 ghost use Rattle.std.specs.Prelude.{ℕ, ◌≡◌, ◌<◌, ◌≤◌, ◌↔◌, ◌^◌, Bool, IsTrue, List, Ok, length, take};
 ghost use Rattle.std.specs.List.Sorted.{IsStrictlyIncreasing};
-ghost use Rattle.pp_channel.specs.ChannelNumber.{names_channel};
+ghost use Rattle.pp_channel.specs.ChannelNo.{names_channel};
 ghost use Rattle.pp_channel.specs.Law.{KeepsLaw};
-ghost use Rattle.pp_channel.specs.Merge.{history_on};
+ghost use Rattle.pp_channel.specs.Histories.{history_on};
 ghost use Rattle.pp_deck.specs.DeckMeaning.{LoadedDeck, deck_meaning};
 ghost use Rattle.pp_deck.specs.DeckText.{Fields, lines_of};
 ghost use Rattle.pp_machine.specs.Headline.{events_on as trace_events_on};
 ghost use Rattle.pp_machine.specs.MachineState.{MachineState};
 ghost use Rattle.pp_machine.specs.Run.{run};
 ghost use Rattle.pp_machine.specs.declared.profile.Profile.{Profile};
-ghost use Rattle.pp_runner.specs.RunLimits.{RunLimits};
+ghost use Rattle.pp_runner.specs.Limits.{RunLimits};
 ghost use Rattle.pp_runner.specs.declared.report.Report.{Report};
 ghost use Rattle.pp_text.specs.PrintedReport.{printed_report};
 ghost use Rattle.pp_text.specs.PrintedText.{printed};
@@ -70,8 +70,8 @@ pub fn printed_law()
 /// the text of the machine, which fits it as each that is printed does (`write_text`), where the
 /// channels said to be open are those that dead start opened.
 pub fn barrel_law()
-    ensures { (profile : Profile) (text : List ℕ) (deck : LoadedDeck) (steps : List ℕ) (opened : List Bool)
-        → deck_meaning profile text ≡ Ok deck → length steps < 10 ^ 19
+    ensures { (profile : Profile) (text : List ℕ) (deck : LoadedDeck) (steps : List ℕ)
+        (opened : List Bool) → deck_meaning profile text ≡ Ok deck → length steps < 10 ^ 19
         → (let m = run steps deck.machine in FitsItsText deck.named m → AreOpenedBy m opened
         → AreLawful opened (lines_of (printed deck.named m))) }
 {
@@ -85,10 +85,12 @@ pub fn barrel_law()
 /// each channel the events that are read, behind what was open, are the history that the run made.
 pub fn printed_report_law<A: Allocator>()
     ensures lawful { (named : List Bool) (limits : RunLimits) (m : MachineState)
-        (report : Report A) (opened : List Bool) → IsPrintableReport named limits m report → AreOpenedBy m opened
+        (report : Report A) (opened : List Bool) → IsPrintableReport named limits m report
+        → AreOpenedBy m opened
         → AreLawful opened (lines_of (printed_report named report)) }
     ensures histories { (named : List Bool) (limits : RunLimits) (m : MachineState)
-        (report : Report A) (opened : List Bool) → IsPrintableReport named limits m report → AreOpenedBy m opened
+        (report : Report A) (opened : List Bool) → IsPrintableReport named limits m report
+        → AreOpenedBy m opened
         → (c : ℕ) → IsTrue (names_channel c)
         → history opened (lines_said (lines_of (printed_report named report))) c
         ≡ history_on c report.channels }

@@ -3,7 +3,6 @@
 #![tactic(auto)]
 
 mod channel_list;
-mod channel_state;
 mod check;
 mod judge;
 mod laws;
@@ -15,8 +14,8 @@ mod unlawful;
 mod verdict;
 
 pub use channel_list::listed_channels;
-pub use channel_state::ChannelState;
 pub use check::check_trace;
 pub use laws::{barrel_law, fault_law, printed_law, printed_report_law, trace_law};
+pub use pp_channel::ChannelState;
 pub use trace_fault::{TraceFault, TraceFlaw};
 pub use verdict::{Verdict, push_verdict};

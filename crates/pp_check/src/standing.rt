@@ -3,7 +3,7 @@
 ghost use Rattle.std.specs.Prelude.{◌≡◌, ◌<◌, ◌^◌};
 ghost use Rattle.pp_check.specs.Judge.{next_number};
 
-use crate::channel_state::ChannelState;
+use pp_channel::ChannelState;
 
 /// How a channel stands, how many events of it were told, and whether it was opened before them.
 #[derive(Clone, Copy, Debug, PartialEq, Eq)]

@@ -1,8 +1,7 @@
 //! Why a trace is not lawful.
 
-use crate::channel_state::ChannelState;
 use crate::unlawful::Unlawful;
-use pp_channel::{ChannelNo, Event};
+use pp_channel::{ChannelNo, ChannelState, Event};
 use thiserror::Error;
 
 /// What is wrong with a line of a trace. Printed, channels and words are octal, turns and numbers

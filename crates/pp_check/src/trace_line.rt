@@ -4,9 +4,8 @@ ghost use Rattle.std.specs.Prelude.{◌≡◌, ◌∷◌, ◌<◌, ◌^◌, Some
 ghost use Rattle.std.specs.Str.{bytes_eq};
 ghost use Rattle.pp_check.specs.TraceLine.{active_said, are_over, behind_channel, behind_processor, channel_in, channel_line, event_said, is_processor, last_word, line_said, number_behind, numbered_line, state_said, turn_line};
 
-use crate::channel_state::ChannelState;
 use crate::numeral::numeral;
-use pp_channel::{ChannelNo, Event, Flags};
+use pp_channel::{ChannelNo, ChannelState, Event, Flags};
 use pp_deck::Fields;
 use pp_machine::PpNo;
 use pp_word::Word12;

@@ -1,7 +1,6 @@
 //! Events that may not come, as they are reported.
 
-use crate::channel_state::ChannelState;
-use pp_channel::{ChannelNo, Event};
+use pp_channel::{ChannelNo, ChannelState, Event};
 use std::fmt::{self, Display, Formatter, Write};
 
 /// A channel, an event that may not come on it, and how the channel stands.

@@ -2,13 +2,13 @@
 use Rattle.std.proofs.Common.{◌≡◌, ℕ, ◌<◌, Bool, true, false, cond, IsTrue, List, [], ◌∷◌, length, replicate, get_or, Option, Some, None, Ok, Err, if◌then◌else◌, refl, sym, ap, subst, ◌∙◌}
 use Rattle.std.specs.Prelude.{option_map, position, slice_index}
 use Rattle.std.proofs.lemmas.List.{length-replicate}
-use Rattle.pp_channel.specs.ChannelNumber.{channel_count}
+use Rattle.pp_channel.specs.ChannelNo.{channel_count}
 use Rattle.pp_channel.specs.declared.event.Event.{Event}
 use Rattle.pp_channel.specs.declared.event.Event.TheVariants.{Activate}
 use Rattle.pp_machine.specs.DeadStart.{waiting_on}
 use Rattle.pp_machine.specs.MachineState.{processor_of}
 use Rattle.pp_machine.specs.Processor.{Processor, word_at}
-use Rattle.pp_machine.specs.ProcessorNumber.{names_processor, processor_count, processor_index, processor_number}
+use Rattle.pp_machine.specs.PpNo.{names_processor, processor_count, processor_index, processor_number}
 use Rattle.pp_machine.proofs.ProfileLemmas.{processor_named}
 use Rattle.pp_deck.specs.DeckLaw.{NamesWithin, SetsWord, SetsCentralWord, Starts, registers_of, at_rest, HoldsLast, Waits, KeepsDeckLaw, line_of}
 use Rattle.pp_deck.specs.DeckLine.{Line}

@@ -39,14 +39,14 @@ unfolding fields_in
 blank_first x xs e =
     ap (λ (pieces : List (List ℕ)). take_while (λ field. not (is_comment field)) (filter is_nonempty pieces)) (slice_split-cons_yes is_blank x xs e)
 
-behind_blank : (x n : ℕ) (xs : List ℕ) (b : Bool) → is_blank x ≡ b → fields_in (drop n xs) ≡ fields_in xs → fields_in (drop (cond (not (not b)) (1 + n) 0) (x ∷ xs)) ≡ fields_in (x ∷ xs)
-behind_blank x n xs true e h = ap (λ (i : ℕ). fields_in (drop i (x ∷ xs))) (one_more n) ∙ h ∙ sym (blank_first x xs e)
-behind_blank x n xs false e h = refl
+after_blank : (x n : ℕ) (xs : List ℕ) (b : Bool) → is_blank x ≡ b → fields_in (drop n xs) ≡ fields_in xs → fields_in (drop (cond (not (not b)) (1 + n) 0) (x ∷ xs)) ≡ fields_in (x ∷ xs)
+after_blank x n xs true e h = ap (λ (i : ℕ). fields_in (drop i (x ∷ xs))) (one_more n) ∙ h ∙ sym (blank_first x xs e)
+after_blank x n xs false e h = refl
 
 -- blanks before a field say nothing
 behind_blanks : (xs : List ℕ) → fields_in (drop (position_or_len (λ byte. not (is_blank byte)) xs) xs) ≡ fields_in xs
 behind_blanks [] = refl
-behind_blanks (x ∷ xs) = behind_blank x (position_or_len (λ byte. not (is_blank byte)) xs) xs (is_blank x) refl (behind_blanks xs)
+behind_blanks (x ∷ xs) = after_blank x (position_or_len (λ byte. not (is_blank byte)) xs) xs (is_blank x) refl (behind_blanks xs)
 
 no_fields : fields_in [] ≡ []
 unfolding fields_in

@@ -2,9 +2,9 @@
 use Rattle.std.proofs.Common.{◌≡◌, ℕ, Bool, true, false, cond, List, [], ◌∷◌, Option, Some, None, Result, Ok, Err, refl, ap, subst, ◌∙◌}
 use Rattle.std.specs.Prelude.{is_some, ◌||◌}
 use Rattle.pp_deck.specs.OctalNumber.{number}
-use Rattle.pp_deck.specs.DeckLine.{Line, nothing, central_size, central_words, section, start, words, dead_start, keyword_of, line_by, number_then, ends_with, start_from, words_in, central_line, central_words_line, section_line, start_line, words_line, ◌>>=◌, misplaced, unless_misplaced, line_behind}
+use Rattle.pp_deck.specs.DeckLine.{Line, nothing, central_size, central_words, section, start, words, dead_start, keyword_of, line_by, number_then, ends_with, start_from, words_in, central_line, central_words_line, section_line, start_line, words_line, ◌>>=◌, misplaced, unless_misplaced, line_after}
 use Rattle.pp_deck.specs.DeckMeaning.{begins_section, is_processor_keyword}
-use Rattle.pp_deck.specs.DeckProgress.{current_after}
+use Rattle.pp_deck.specs.Reading.{current_after}
 use Rattle.pp_deck.specs.declared.flaw.Flaw.{Flaw}
 use Rattle.pp_deck.specs.declared.flaw.Flaw.TheVariants.{PastEnd}
 use Rattle.pp_deck.specs.declared.keyword.Keyword.{Keyword}
@@ -120,12 +120,12 @@ module _ (profile : Profile) where
   line_begins size keywords.Words field fields = words_begin field fields
   line_begins size keywords.Unknown field fields = tt
 
-  behind_begins : (size : ℕ) (is_behind_fields is_in_section : Bool) (fields : List (List ℕ)) → OnRead (line_behind profile size is_behind_fields is_in_section fields) (Begins (begins_section fields))
-  unfolding line_behind
+  behind_begins : (size : ℕ) (is_after_fields is_in_section : Bool) (fields : List (List ℕ)) → OnRead (line_after profile size is_after_fields is_in_section fields) (Begins (begins_section fields))
+  unfolding line_after
   behind_begins size b s [] = nothing_begins
   behind_begins size b s (field ∷ fields) = unless_begins (misplaced b s (keyword_of field)) _ _ (line_begins size (keyword_of field) field fields)
 
   -- after a line there is a current processor where there was one, or where the line begins with `PP`
-  pub section_after : (size : ℕ) (is_behind_fields is_in_section : Bool) (fields : List (List ℕ)) (line : Line) (current : Option ℕ) → line_behind profile size is_behind_fields is_in_section fields ≡ Ok line → is_some (current_after line current) ≡ (is_some current || begins_section fields)
+  pub section_after : (size : ℕ) (is_after_fields is_in_section : Bool) (fields : List (List ℕ)) (line : Line) (current : Option ℕ) → line_after profile size is_after_fields is_in_section fields ≡ Ok line → is_some (current_after line current) ≡ (is_some current || begins_section fields)
   section_after size b s fields line current e =
-      current_is_some line (begins_section fields) current (of_line (line_behind profile size b s fields) line (Begins (begins_section fields)) (behind_begins size b s fields) e)
+      current_is_some line (begins_section fields) current (of_line (line_after profile size b s fields) line (Begins (begins_section fields)) (behind_begins size b s fields) e)

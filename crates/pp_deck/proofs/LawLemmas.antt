@@ -11,13 +11,13 @@ use Rattle.std.proofs.lemmas.Option.{slice_get-map}
 use Rattle.pp_word.specs.Address.{place_count}
 use Rattle.pp_machine.specs.MachineState.{processor_of}
 use Rattle.pp_machine.specs.Processor.{no_processor, word_at}
-use Rattle.pp_machine.specs.ProcessorNumber.{processor_count, names_processor, processor_number, processor_index}
+use Rattle.pp_machine.specs.PpNo.{processor_count, names_processor, processor_number, processor_index}
 use Rattle.pp_machine.proofs.ProcessorPlaces.{place_below, number_of_place}
 use Rattle.pp_deck.specs.DeckLaw.{IsFor, StandsAt, SetsWord, SetsCentralWord, Starts, Registers, registers_of, at_rest, started_at, HoldsLast, IsNamed, line_of}
 use Rattle.pp_deck.specs.DeckLine.{Line, nothing, central_size, central_words, section, start, words, dead_start}
 use Rattle.pp_deck.specs.DeckLoad.{last_of, word_among, word_for, central_word_for, start_in, is_for, section_of, lines_for, names, is_named, memory_of, processor_with, processor_loaded, central_loaded}
 use Rattle.pp_deck.specs.DeckMeaning.{set_by}
-use Rattle.pp_deck.specs.DeckProgress.{current_after}
+use Rattle.pp_deck.specs.Reading.{current_after}
 use Rattle.pp_deck.proofs.ListLemmas.{range_append, range_more, last_of_more, filter_map_more, length-tabulate, get_or-tabulate}
 use Rattle.pp_deck.proofs.SectionLemmas.{section_more}
 use Rattle.pp_machine.specs.declared.profile.Profile.{Profile}

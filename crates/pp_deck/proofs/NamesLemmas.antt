@@ -7,7 +7,7 @@ use Rattle.pp_machine.specs.Profile.{has_processor}
 use Rattle.pp_machine.specs.declared.profile.Profile.{Profile}
 use Rattle.pp_deck.specs.OctalNumber.{number}
 use Rattle.pp_deck.specs.DeckLaw.{IsNamed}
-use Rattle.pp_deck.specs.DeckLine.{Line, nothing, central_size, central_words, section, start, words, dead_start, keyword_of, line_by, ends_with, start_from, words_in, central_line, central_words_line, section_line, start_line, words_line, ◌>>=◌, misplaced, unless_misplaced, line_behind}
+use Rattle.pp_deck.specs.DeckLine.{Line, nothing, central_size, central_words, section, start, words, dead_start, keyword_of, line_by, ends_with, start_from, words_in, central_line, central_words_line, section_line, start_line, words_line, ◌>>=◌, misplaced, unless_misplaced, line_after}
 use Rattle.pp_deck.specs.DeckMeaning.{line_at, line_in, lines_said, size_of}
 use Rattle.pp_deck.specs.DeckText.{Fields}
 use Rattle.pp_deck.specs.declared.flaw.Flaw.{Flaw}
@@ -83,8 +83,8 @@ module _ (profile : Profile) where
   line_within size keywords.Words field fields = words_within field fields
   line_within size keywords.Unknown field fields = tt
 
-  behind_within : (size : ℕ) (b s : Bool) (fields : Fields) → OnRead (line_behind profile size b s fields) Within
-  unfolding line_behind
+  behind_within : (size : ℕ) (b s : Bool) (fields : Fields) → OnRead (line_after profile size b s fields) Within
+  unfolding line_after
   behind_within size b s [] = tt
   behind_within size b s (field ∷ fields) = unless_misplaced_says (misplaced b s (keyword_of field)) _ Within (line_within size (keyword_of field) field fields)
 

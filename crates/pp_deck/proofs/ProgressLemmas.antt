@@ -6,12 +6,12 @@ use Rattle.std.proofs.lemmas.List.Folds.{list_any-append}
 use Rattle.pp_word.specs.Address.{place_count}
 use Rattle.pp_machine.specs.MachineState.{MachineState, new_machine}
 use Rattle.pp_machine.specs.PpMemory.{empty_memory}
-use Rattle.pp_machine.specs.Processor.{Processor, new_processor, no_processor}
-use Rattle.pp_machine.specs.ProcessorNumber.{processor_count, processor_number, processor_index}
+use Rattle.pp_machine.specs.Processor.{Processor, new_processor, no_processor, runs_from}
+use Rattle.pp_machine.specs.PpNo.{processor_count, processor_number, processor_index}
 use Rattle.pp_machine.proofs.ProcessorPlaces.{number_at}
 use Rattle.pp_deck.specs.DeckLine.{Line, nothing, central_size, central_words, section, start, words, dead_start}
 use Rattle.pp_deck.specs.DeckLoad.{last_of, section_of, is_dead_start, asks_dead_start, is_for, lines_for, start_in, memory_of, central_loaded, processor_with, processor_loaded, is_named, names, each_processor}
-use Rattle.pp_deck.specs.DeckProgress.{Progress, before_lines, with_words, loaded_from, started, with_processor, machine_after, named_after, current_after, asked_after, after_line, after_lines, progress_of}
+use Rattle.pp_deck.specs.Reading.{Progress, before_lines, with_words, loaded_from, with_processor, machine_after, named_after, current_after, asked_after, after_line, after_lines, progress_of}
 use Rattle.pp_deck.proofs.ListLemmas.{or_else, last_of_more, filter_map_more, get_or-tabulate, tabulate_same, tabulate_const, set-tabulate}
 use Rattle.pp_deck.proofs.MemoryLemmas.{memory_none, memory_set, memory_kept, central_none, central_set, central_kept}
 use Rattle.pp_deck.proofs.SectionLemmas.{own, lines_for_more, section_more}
@@ -26,7 +26,7 @@ module _ (profile : Profile) where
   -- what a line changes in its processor
   abbrev pub own_after : Line → Processor → Processor
   own_after (words x ws) pp = loaded_from x ws pp
-  own_after (start p a) pp = started p a pp
+  own_after (start p a) pp = runs_from p a pp
   own_after line pp = pp
 
   starts_more : (lines : List Line) (line : Line) → last_of (filter_map start_in (lines ++ line ∷ [])) ≡ or_else (start_in line) (last_of (filter_map start_in lines))
@@ -39,7 +39,7 @@ module _ (profile : Profile) where
   words_with x ws memory None = refl
   words_with x ws memory (Some s) = refl
 
-  start_with : (p a : ℕ) (memory : List ℕ) (s : Option (ℕ × ℕ)) → processor_with profile memory (Some (p, a)) ≡ started p a (processor_with profile memory s)
+  start_with : (p a : ℕ) (memory : List ℕ) (s : Option (ℕ × ℕ)) → processor_with profile memory (Some (p, a)) ≡ runs_from p a (processor_with profile memory s)
   start_with p a memory None = refl
   start_with p a memory (Some s) = refl
 
@@ -176,7 +176,7 @@ module _ (profile : Profile) where
   machine_more size lines (section n) = machine_kept size lines (section n) (λ pp. refl) (central_kept size lines (section n) (λ address. refl))
   machine_more size lines (central_words a ws) = sym (both_built size _ _ _ _ (all_kept lines (central_words a ws) (λ pp. refl)) (central_set size lines a ws))
   machine_more size lines (start p a) =
-      changed_machine size (section_of lines) (started p a) (all_of lines) (central_loaded size lines)
+      changed_machine size (section_of lines) (runs_from p a) (all_of lines) (central_loaded size lines)
       ∙ both_built size _ _ _ _ (all_changed lines (start p a) (section_of lines) refl) (sym (central_kept size lines (start p a) (λ address. refl)))
   machine_more size lines (words x ws) =
       changed_machine size (section_of lines) (loaded_from x ws) (all_of lines) (central_loaded size lines)

@@ -9,7 +9,7 @@ use Rattle.std.proofs.lemmas.List.Elements.{All-cons, All-nil}
 use Rattle.pp_word.specs.Address.{place_count}
 use Rattle.pp_machine.specs.declared.profile.Profile.{Profile}
 use Rattle.pp_deck.specs.OctalNumber.{number, octal_value, is_octal_digit}
-use Rattle.pp_deck.specs.DeckLine.{Line, nothing, central_size, central_words, section, start, words, dead_start, is_digit, keyword_of, line_by, number_then, ends_with, start_from, words_in, central_line, central_words_line, section_line, start_line, words_line, ◌>>=◌, unless_misplaced, line_behind}
+use Rattle.pp_deck.specs.DeckLine.{Line, nothing, central_size, central_words, section, start, words, dead_start, is_digit, keyword_of, line_by, number_then, ends_with, start_from, words_in, central_line, central_words_line, section_line, start_line, words_line, ◌>>=◌, unless_misplaced, line_after}
 use Rattle.pp_deck.specs.DeckMeaning.{has_fields, size_said, size_by, size_in, size_of}
 use Rattle.pp_deck.proofs.FieldTextLemmas.{and_left, and_right}
 
@@ -130,8 +130,8 @@ unless_holds : (P : Line → Type 0) (o : Option _) (r : Result Line _) → Hold
 unless_holds P None r h = h
 unless_holds P (Some flaw) r h = tt
 
-pub line_holds : (profile : Profile) (size : ℕ) (b s : Bool) (fields : List (List ℕ)) → Holds InRange (line_behind profile size b s fields)
-unfolding line_behind
+pub line_holds : (profile : Profile) (size : ℕ) (b s : Bool) (fields : List (List ℕ)) → Holds InRange (line_after profile size b s fields)
+unfolding line_after
 line_holds profile size b s [] = tt
 line_holds profile size b s (field ∷ fields) = unless_holds InRange _ _ (by_holds profile size field fields)
 

@@ -6,14 +6,14 @@ use Rattle.std.proofs.lemmas.List.{append-nil, get_or-replicate}
 use Rattle.std.proofs.lemmas.List.Elements.{filter_map-append}
 use Rattle.std.proofs.lemmas.List.Folds.{list_any_more}
 use Rattle.std.proofs.lemmas.List.Sums.{fold-append}
-use Rattle.pp_channel.specs.ChannelNumber.{channel_count, channel_index}
+use Rattle.pp_channel.specs.ChannelNo.{channel_count, channel_index}
 use Rattle.pp_channel.proofs.ChannelPlaces.{place_below}
 use Rattle.pp_machine.specs.DeadStart.{IsBeforeFirstTurn}
 use Rattle.pp_machine.specs.MachineState.{history_of}
-use Rattle.pp_deck.specs.FlawCode.{code_of}
-use Rattle.pp_deck.specs.DeckLine.{Line, nothing, line_behind}
+use Rattle.pp_deck.specs.Flaw.{code_of}
+use Rattle.pp_deck.specs.DeckLine.{Line, nothing, line_after}
 use Rattle.pp_deck.specs.DeckMeaning.{with_dead_start, has_fields, begins_section, line_at, size_of, fault_in, faults_in, line_in, lines_said, loaded, unless_faulty, meaning_of_lines}
-use Rattle.pp_deck.specs.DeckProgress.{Progress, before_lines, after_line, after_lines, progress_of, deck_so_far, on_read}
+use Rattle.pp_deck.specs.Reading.{Progress, before_lines, after_line, after_lines, progress_of, deck_so_far, on_read}
 use Rattle.pp_deck.specs.declared.deck_fault.DeckFault.{DeckFault}
 use Rattle.pp_deck.specs.declared.flaw.Flaw.{Flaw}
 use Rattle.pp_deck.proofs.KeywordLemmas.{section_after}
@@ -30,10 +30,10 @@ module _ (profile : Profile) where
   said_at lines k = line_in (line_at profile (size_of lines) lines k)
 
   -- the first k lines have no fault, and this is the progress behind them
-  pub record ReadTo (lines : List (List (List ℕ))) (k : ℕ) (progress : Progress) (is_behind_fields : Bool) : Type 0 where
+  pub record ReadTo (lines : List (List (List ℕ))) (k : ℕ) (progress : Progress) (is_after_fields : Bool) : Type 0 where
     pub faultless : filter_map (fault_at lines) (range_with_len 0 k) ≡ []
     pub progress_is : progress ≡ after_lines profile (size_of lines) (filter_map (said_at lines) (range_with_len 0 k))
-    pub behind : is_behind_fields ≡ list_any has_fields (take k lines)
+    pub behind : is_after_fields ≡ list_any has_fields (take k lines)
     pub in_section : is_some progress.current ≡ list_any begins_section (take k lines)
 
   pub read_none : (lines : List (List (List ℕ))) (progress : Progress) → progress ≡ before_lines profile (size_of lines) → ReadTo lines 0 progress false
@@ -60,11 +60,11 @@ module _ (profile : Profile) where
   one_first n = omega arith
 
   -- what the next line is
-  line_is : (lines : List (List (List ℕ))) (k : ℕ) (progress : Progress) (b : Bool) → ReadTo lines k progress b → line_at profile (size_of lines) lines k ≡ line_behind profile (size_of lines) b (is_some progress.current) (get_or lines k [])
+  line_is : (lines : List (List (List ℕ))) (k : ℕ) (progress : Progress) (b : Bool) → ReadTo lines k progress b → line_at profile (size_of lines) lines k ≡ line_after profile (size_of lines) b (is_some progress.current) (get_or lines k [])
   unfolding line_at
   line_is lines k progress b h =
-      ap (λ (t : Bool). line_behind profile (size_of lines) t (list_any begins_section (take k lines)) (get_or lines k [])) (sym h.behind)
-      ∙ ap (λ (t : Bool). line_behind profile (size_of lines) b t (get_or lines k [])) (sym h.in_section)
+      ap (λ (t : Bool). line_after profile (size_of lines) t (list_any begins_section (take k lines)) (get_or lines k [])) (sym h.behind)
+      ∙ ap (λ (t : Bool). line_after profile (size_of lines) b t (get_or lines k [])) (sym h.in_section)
 
   from_zero : (k : ℕ) → 0 + k ≡ k
   from_zero k = omega arith
@@ -75,7 +75,7 @@ module _ (profile : Profile) where
       ∙ ap (λ (i : ℕ). filter_map f (range_with_len 0 k) ++ option_to_list (f i)) (from_zero k)
 
   -- a line more, without a fault
-  pub read_more : (lines : List (List (List ℕ))) (k : ℕ) (progress : Progress) (b : Bool) (line : Line) → ReadTo lines k progress b → k < length lines → line_behind profile (size_of lines) b (is_some progress.current) (get_or lines k []) ≡ Ok line → ReadTo lines (k + 1) (after_line progress line) (b || has_fields (get_or lines k []))
+  pub read_more : (lines : List (List (List ℕ))) (k : ℕ) (progress : Progress) (b : Bool) (line : Line) → ReadTo lines k progress b → k < length lines → line_after profile (size_of lines) b (is_some progress.current) (get_or lines k []) ≡ Ok line → ReadTo lines (k + 1) (after_line progress line) (b || has_fields (get_or lines k []))
   unfolding fault_at said_at after_lines after_line
   read_more lines k progress b line h lt e =
       let there : line_at profile (size_of lines) lines k ≡ Ok line = line_is lines k progress b h ∙ e in
@@ -96,9 +96,9 @@ module _ (profile : Profile) where
 
   -- a line without fields
   pub read_blank : (lines : List (List (List ℕ))) (k : ℕ) (progress : Progress) (b : Bool) → ReadTo lines k progress b → k < length lines → get_or lines k [] ≡ [] → ReadTo lines (k + 1) progress b
-  unfolding line_behind after_line
+  unfolding line_after after_line
   read_blank lines k progress b h lt e =
-      let next = read_more lines k progress b nothing h lt (ap (line_behind profile (size_of lines) b (is_some progress.current)) e) in
+      let next = read_more lines k progress b nothing h lt (ap (line_after profile (size_of lines) b (is_some progress.current)) e) in
       let same : (b || has_fields (get_or lines k [])) ≡ b = ap (λ (fields : List (List ℕ)). b || has_fields fields) e ∙ or_false b in
       record { faultless = next.faultless; progress_is = next.progress_is; behind = sym same ∙ next.behind; in_section = next.in_section }
 
@@ -117,13 +117,13 @@ module _ (profile : Profile) where
       ap (λ (p : Progress). p.machine.profile) (h.progress_is ∙ after_lines_is profile (size_of lines) said)
 
   -- what a line says, with the profile of the machine and the size that central memory has
-  line_here : (lines : List (List (List ℕ))) (k : ℕ) (progress : Progress) (b : Bool) (line fields : List (List ℕ)) → ReadTo lines k progress b → line ≡ fields → line_behind profile (size_of lines) b (is_some progress.current) line ≡ line_behind progress.machine.profile (length progress.machine.central) b (is_some progress.current) fields
+  line_here : (lines : List (List (List ℕ))) (k : ℕ) (progress : Progress) (b : Bool) (line fields : List (List ℕ)) → ReadTo lines k progress b → line ≡ fields → line_after profile (size_of lines) b (is_some progress.current) line ≡ line_after progress.machine.profile (length progress.machine.central) b (is_some progress.current) fields
   line_here lines k progress b line fields h e =
-      ap (line_behind profile (size_of lines) b (is_some progress.current)) e
-      ∙ ap (λ (size : ℕ). line_behind profile size b (is_some progress.current) fields) (sym (central_length lines k progress b h))
-      ∙ ap (λ p. line_behind p (length progress.machine.central) b (is_some progress.current) fields) (sym (keeps_profile lines k progress b h))
+      ap (line_after profile (size_of lines) b (is_some progress.current)) e
+      ∙ ap (λ (size : ℕ). line_after profile size b (is_some progress.current) fields) (sym (central_length lines k progress b h))
+      ∙ ap (λ p. line_after p (length progress.machine.central) b (is_some progress.current) fields) (sym (keeps_profile lines k progress b h))
 
-  read_as : (lines : List (List (List ℕ))) (k : ℕ) (progress new : Progress) (b : Bool) (r : Result Line Flaw) → ReadTo lines k progress b → k < length lines → has_fields (get_or lines k []) ≡ true → line_behind profile (size_of lines) b (is_some progress.current) (get_or lines k []) ≡ r → on_read (after_line progress) r ≡ Ok new → ReadTo lines (k + 1) new true
+  read_as : (lines : List (List (List ℕ))) (k : ℕ) (progress new : Progress) (b : Bool) (r : Result Line Flaw) → ReadTo lines k progress b → k < length lines → has_fields (get_or lines k []) ≡ true → line_after profile (size_of lines) b (is_some progress.current) (get_or lines k []) ≡ r → on_read (after_line progress) r ≡ Ok new → ReadTo lines (k + 1) new true
   read_as lines k progress new b (Ok line) h lt some is e =
       let next = read_more lines k progress b line h lt is in
       let same : after_line progress line ≡ new = cc in
@@ -137,9 +137,9 @@ module _ (profile : Profile) where
   read_as lines k progress new b (Err flaw) h lt some is e = absurd (cc)
 
   -- a line with fields
-  pub read_fields : (lines : List (List (List ℕ))) (k : ℕ) (progress new : Progress) (b : Bool) (first : List ℕ) (fields : List (List ℕ)) → ReadTo lines k progress b → k < length lines → get_or lines k [] ≡ first ∷ fields → on_read (after_line progress) (line_behind progress.machine.profile (length progress.machine.central) b (is_some progress.current) (first ∷ fields)) ≡ Ok new → ReadTo lines (k + 1) new true
+  pub read_fields : (lines : List (List (List ℕ))) (k : ℕ) (progress new : Progress) (b : Bool) (first : List ℕ) (fields : List (List ℕ)) → ReadTo lines k progress b → k < length lines → get_or lines k [] ≡ first ∷ fields → on_read (after_line progress) (line_after progress.machine.profile (length progress.machine.central) b (is_some progress.current) (first ∷ fields)) ≡ Ok new → ReadTo lines (k + 1) new true
   read_fields lines k progress new b first fields h lt e read =
-      read_as lines k progress new b (line_behind profile (size_of lines) b (is_some progress.current) (get_or lines k [])) h lt (ap has_fields e ∙ some_fields (length fields)) refl
+      read_as lines k progress new b (line_after profile (size_of lines) b (is_some progress.current) (get_or lines k [])) h lt (ap has_fields e ∙ some_fields (length fields)) refl
       (ap (on_read (after_line progress)) (line_here lines k progress b (get_or lines k []) (first ∷ fields) h e) ∙ read)
 
   flaw_of : {A : Type 0} (use_of : Line → A) (r : Result Line Flaw) (flaw : Flaw) → on_read use_of r ≡ Err flaw → r ≡ Err flaw
@@ -147,7 +147,7 @@ module _ (profile : Profile) where
   flaw_of use_of (Err other) flaw e = cc
 
   -- a faulty line is the first one
-  pub read_flaw : (lines : List (List (List ℕ))) (k : ℕ) (progress : Progress) (b : Bool) (first : List ℕ) (fields : List (List ℕ)) (flaw : Flaw) → ReadTo lines k progress b → k < length lines → get_or lines k [] ≡ first ∷ fields → on_read (after_line progress) (line_behind progress.machine.profile (length progress.machine.central) b (is_some progress.current) (first ∷ fields)) ≡ Err flaw → meaning_of_lines profile lines ≡ Err (record { line = k + 1; code = code_of flaw })
+  pub read_flaw : (lines : List (List (List ℕ))) (k : ℕ) (progress : Progress) (b : Bool) (first : List ℕ) (fields : List (List ℕ)) (flaw : Flaw) → ReadTo lines k progress b → k < length lines → get_or lines k [] ≡ first ∷ fields → on_read (after_line progress) (line_after progress.machine.profile (length progress.machine.central) b (is_some progress.current) (first ∷ fields)) ≡ Err flaw → meaning_of_lines profile lines ≡ Err (record { line = k + 1; code = code_of flaw })
   unfolding meaning_of_lines faults_in fault_at
   read_flaw lines k progress b first fields flaw h lt e read =
       let there : line_at profile (size_of lines) lines k ≡ Err flaw = line_is lines k progress b h ∙ flaw_of (after_line progress) _ flaw (ap (on_read (after_line progress)) (line_here lines k progress b (get_or lines k []) (first ∷ fields) h e) ∙ read) in

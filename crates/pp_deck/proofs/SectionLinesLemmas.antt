@@ -7,7 +7,7 @@ use Rattle.std.proofs.lemmas.List.Elements.{filter_map-append}
 use Rattle.std.proofs.lemmas.List.Folds.{list_any-append, list_any_at}
 use Rattle.pp_deck.specs.DeckLine.{Line, nothing, section}
 use Rattle.pp_deck.specs.DeckLoad.{is_for, section_of, lines_for, names}
-use Rattle.pp_deck.specs.DeckProgress.{current_after}
+use Rattle.pp_deck.specs.Reading.{current_after}
 use Rattle.pp_deck.proofs.LawLemmas.{heading_of}
 use Rattle.pp_deck.proofs.SectionLemmas.{section_more, lines_for_more, own}
 

@@ -2,7 +2,7 @@
 use Rattle.std.proofs.Common.{sym, ◌∙◌, ◌≡◌, ℕ, ◌+◌, ◌<◌, ◌≤◌, true, false, List, [], ◌∷◌, Result, Ok, Err, refl, ltb, lt-ltb, le-ltb}
 use Rattle.pp_deck.specs.OctalNumber.{number}
 use Rattle.pp_deck.specs.DeckLine.{words_in, ◌>>=◌}
-use Rattle.pp_deck.specs.DeckProgress.{on_read}
+use Rattle.pp_deck.specs.Reading.{on_read}
 use Rattle.pp_deck.specs.declared.flaw.Flaw.{Flaw}
 
 onto : {A : Type 0} (use_of : List ℕ → A) (word : ℕ) (r : Result (List ℕ) Flaw) → on_read use_of (r >>= λ more. Ok (word ∷ more)) ≡ on_read (λ ws. use_of (word ∷ ws)) r

@@ -2,12 +2,12 @@
 -- holds.
 use Rattle.std.specs.Prelude.{◌≡◌, ℕ, ◌+◌, ◌<◌, ◌↔◌, IsTrue, Bool, true, false, List, [], length, None, Some, slice_get, slice_index, slice_index_or}
 use Rattle.pp_word.specs.Address.{place_count}
-use Rattle.pp_channel.specs.ChannelNumber.{channel_count, names_channel}
+use Rattle.pp_channel.specs.ChannelNo.{channel_count, names_channel}
 use Rattle.pp_machine.specs.DeadStart.{waiting_on}
 use Rattle.pp_machine.specs.Headline.{opening_history}
 use Rattle.pp_machine.specs.MachineState.{processor_of, history_of, is_opened}
 use Rattle.pp_machine.specs.Processor.{Processor, word_at}
-use Rattle.pp_machine.specs.ProcessorNumber.{names_processor, processor_count, processor_index}
+use Rattle.pp_machine.specs.PpNo.{names_processor, processor_count, processor_index}
 use Rattle.pp_machine.specs.Profile.{has_processor}
 use Rattle.pp_machine.specs.declared.pp_state.PpState.{PpState}
 use Rattle.pp_machine.specs.declared.pp_state.PpState.TheVariants.{Running, Stopped}
@@ -62,7 +62,8 @@ Starts (start p a) registers = registers ≡ started_at p a
 Starts line registers = ⊥
 
 -- a value is what the last line sets that sets it, and `otherwise` where no line does
-pub record HoldsLast {A : Type 0} (lines : List Line) (Sets : ℕ → A → Type 0) (otherwise value : A) : Type 0 where
+pub record HoldsLast {A : Type 0} (lines : List Line) (Sets : ℕ → A → Type 0) (otherwise value : A)
+    : Type 0 where
   pub last : (k : ℕ) (x : A) → k < length lines → Sets k x
       → ((j : ℕ) (y : A) → k < j → j < length lines → Sets j y → ⊥) → value ≡ x
   pub none : ((k : ℕ) (x : A) → k < length lines → Sets k x → ⊥) → value ≡ otherwise

@@ -114,11 +114,11 @@ line_by profile size Unknown field fields = Err UnknownLine
 -- with `PP`: `CENTRAL` comes before every line with fields, and starts and words belong to the
 -- section of a processor
 abbrev pub misplaced : Bool → Bool → Keyword → Option Flaw
-misplaced is_behind_fields is_in_section Central =
-    if is_behind_fields then Some UnknownLine else None
-misplaced is_behind_fields is_in_section Start = if is_in_section then None else Some NoProcessor
-misplaced is_behind_fields is_in_section Words = if is_in_section then None else Some NoProcessor
-misplaced is_behind_fields is_in_section keyword = None
+misplaced is_after_fields is_in_section Central =
+    if is_after_fields then Some UnknownLine else None
+misplaced is_after_fields is_in_section Start = if is_in_section then None else Some NoProcessor
+misplaced is_after_fields is_in_section Words = if is_in_section then None else Some NoProcessor
+misplaced is_after_fields is_in_section keyword = None
 
 -- a misplaced line has that flaw before all others
 abbrev pub unless_misplaced : Option Flaw → Result Line Flaw → Result Line Flaw
@@ -127,8 +127,8 @@ unless_misplaced None line = line
 
 -- what a line says after such lines, for a machine of this profile with a central memory of this
 -- size
-unfoldable pub line_behind : Profile → ℕ → Bool → Bool → Fields → Result Line Flaw
-line_behind profile size is_behind_fields is_in_section [] = Ok nothing
-line_behind profile size is_behind_fields is_in_section (field ∷ fields) =
-    unless_misplaced (misplaced is_behind_fields is_in_section (keyword_of field))
+unfoldable pub line_after : Profile → ℕ → Bool → Bool → Fields → Result Line Flaw
+line_after profile size is_after_fields is_in_section [] = Ok nothing
+line_after profile size is_after_fields is_in_section (field ∷ fields) =
+    unless_misplaced (misplaced is_after_fields is_in_section (keyword_of field))
     (line_by profile size (keyword_of field) field fields)

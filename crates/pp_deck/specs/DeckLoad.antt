@@ -3,9 +3,8 @@ use Rattle.std.specs.Prelude.{ℕ, ◌-◌, ◌==◌, Bool, true, false, List, l
 use Rattle.std.specs.List.{list_any, range_with_len}
 use Rattle.pp_word.specs.Address.{place_count}
 use Rattle.pp_machine.specs.MachineState.{MachineState, new_machine}
-use Rattle.pp_machine.specs.Processor.{Processor, new_processor}
-use Rattle.pp_machine.specs.ProcessorNumber.{processor_count, processor_number}
-use Rattle.pp_machine.specs.declared.pp_state.PpState.TheVariants.{Running}
+use Rattle.pp_machine.specs.Processor.{Processor, new_processor, runs_from}
+use Rattle.pp_machine.specs.PpNo.{processor_count, processor_number}
 use Rattle.pp_machine.specs.declared.profile.Profile.{Profile}
 use Rattle.pp_deck.specs.DeckLine.{Line, nothing, central_words, section, start, words, dead_start}
 
@@ -67,7 +66,7 @@ memory_of lines =
 abbrev pub processor_with : Profile → List ℕ → Option (ℕ × ℕ) → Processor
 processor_with profile memory None = record (new_processor profile) { memory = memory }
 processor_with profile memory (Some s) =
-    record (new_processor profile) { memory = memory; p = s.0; a = s.1; state = Running }
+    runs_from s.0 s.1 (record (new_processor profile) { memory = memory })
 
 -- processor n as the lines for it leave it: the last start holds
 unfoldable pub processor_loaded : Profile → List Line → ℕ → Processor

@@ -4,13 +4,13 @@ use Rattle.std.specs.Prelude.{ℕ, ◌+◌, ◌&&◌, Bool, true, false, not, Li
 use Rattle.std.specs.List.{list_any, range_with_len}
 use Rattle.pp_machine.specs.DeadStart.{dead_started}
 use Rattle.pp_machine.specs.MachineState.{MachineState}
-use Rattle.pp_machine.specs.ProcessorNumber.{processor_index}
+use Rattle.pp_machine.specs.PpNo.{processor_index}
 use Rattle.pp_machine.specs.Profile.{has_processor}
 use Rattle.pp_machine.specs.declared.profile.Profile.{Profile}
-use Rattle.pp_deck.specs.DeckLine.{Line, central_size, keyword_of, central_line, line_behind}
+use Rattle.pp_deck.specs.DeckLine.{Line, central_size, keyword_of, central_line, line_after}
 use Rattle.pp_deck.specs.DeckLoad.{machine_loaded, is_named, asks_dead_start, each_processor}
 use Rattle.pp_deck.specs.DeckText.{Fields, is_line_feed, lines_of}
-use Rattle.pp_deck.specs.FlawCode.{code_of}
+use Rattle.pp_deck.specs.Flaw.{code_of}
 use Rattle.pp_deck.specs.declared.deck_fault.DeckCode.TheVariants.{TooLong, NotAscii}
 use Rattle.pp_deck.specs.declared.deck_fault.DeckFault.{DeckFault}
 use Rattle.pp_deck.specs.declared.flaw.Flaw.{Flaw}
@@ -63,10 +63,11 @@ begins_section (field ∷ fields) = is_processor_keyword (keyword_of field)
 -- what line k says
 unfoldable pub line_at : Profile → ℕ → List Fields → ℕ → Result Line Flaw
 line_at profile size lines k =
-    line_behind profile size (list_any has_fields (take k lines))
+    line_after profile size (list_any has_fields (take k lines))
     (list_any begins_section (take k lines)) (slice_index_or lines k [])
 
--- ---- the size of central memory: n of a line `CENTRAL n` that is the first with fields, else 10000 (octal)
+-- ---- the size of central memory: n of a line `CENTRAL n` that is the first with fields, else
+-- 10000 (octal)
 
 abbrev pub size_said : Result Line Flaw → ℕ
 size_said (Ok (central_size n)) = n

@@ -1,8 +1,8 @@
-pub mod FlawCode
+pub mod Flaw
 pub mod DeckText
 pub mod OctalNumber
 pub mod DeckLine
 pub mod DeckLoad
 pub mod DeckMeaning
-pub mod DeckProgress
+pub mod Reading
 pub mod DeckLaw

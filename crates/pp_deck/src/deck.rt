@@ -4,7 +4,7 @@ ghost use Rattle.std.specs.Prelude.{ℕ, ◌≡◌, ◌≢◌, ◌≤◌, ◌<�
 ghost use Rattle.pp_deck.specs.DeckText.{lines_of};
 ghost use Rattle.pp_machine.specs.DeadStart.{IsBeforeFirstTurn};
 ghost use Rattle.pp_deck.specs.DeckMeaning.{deck_meaning, meaning_of_lines, size_of, is_foreign, line_of_byte, with_dead_start};
-ghost use Rattle.pp_deck.specs.DeckProgress.{before_lines, deck_so_far};
+ghost use Rattle.pp_deck.specs.Reading.{before_lines, deck_so_far};
 
 use crate::central_size::central_size;
 use crate::deck_fault::{DeckCode, DeckFault};
@@ -104,17 +104,17 @@ fn read_lines<A: Allocator>(reading: &mut Reading<A>, text: &[u8]) -> Result<(),
 {
     let mut lines = Lines::of(text);
     let mut number = 0;
-    let mut is_behind_fields = false;
+    let mut is_after_fields = false;
     while let Some(mut fields) = lines.next_line() {
         number += 1;
         if let Some(first) = fields.next_field() {
-            if let Err(flaw) = reading.read_line(is_behind_fields, first, &mut fields) {
+            if let Err(flaw) = reading.read_line(is_after_fields, first, &mut fields) {
                 return Err(DeckFault {
                     line: number,
                     code: flaw.code(),
                 });
             }
-            is_behind_fields = true;
+            is_after_fields = true;
         }
     }
     Ok(())

@@ -4,7 +4,7 @@ ghost use Rattle.std.specs.Prelude.{ℕ, ◌≡◌, ◌≢◌, ◌≤◌, ◌^�
 ghost use Rattle.pp_word.specs.Address.{place_count};
 ghost use Rattle.pp_machine.specs.Central.{IsCentralSize};
 ghost use Rattle.pp_deck.specs.DeckLine.{words_in, start, start_from, central_size, central_line};
-ghost use Rattle.pp_deck.specs.DeckProgress.{loaded_from, with_central_words, on_read, Leaves};
+ghost use Rattle.pp_deck.specs.Reading.{loaded_from, with_central_words, on_read, Leaves};
 
 use crate::fields::Fields;
 use crate::flaw::Flaw;

@@ -1,7 +1,7 @@
 //! What may be wrong with one line of a deck.
 
 ghost use Rattle.std.specs.Prelude.{◌≡◌};
-ghost use Rattle.pp_deck.specs.FlawCode.{code_of};
+ghost use Rattle.pp_deck.specs.Flaw.{code_of};
 
 use crate::deck_fault::DeckCode;
 

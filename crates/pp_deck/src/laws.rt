@@ -5,7 +5,7 @@ ghost use Rattle.std.specs.Prelude.{ℕ, ◌≡◌, List, length, Ok};
 ghost use Rattle.pp_deck.specs.DeckLaw.{KeepsDeckLaw, NamesWithin};
 ghost use Rattle.pp_deck.specs.DeckLine.{Line};
 ghost use Rattle.pp_deck.specs.DeckMeaning.{LoadedDeck, deck_meaning, lines_said, size_of};
-ghost use Rattle.pp_deck.specs.DeckProgress.{after_lines, progress_of};
+ghost use Rattle.pp_deck.specs.Reading.{after_lines, progress_of};
 ghost use Rattle.pp_deck.specs.DeckText.{lines_of};
 ghost use Rattle.pp_machine.specs.Headline.{HoldsOnEachChannel};
 ghost use Rattle.pp_machine.specs.Run.{run};
@@ -45,7 +45,8 @@ pub fn reading_law()
 /// taken are the first of the words put, all but at most one, which is lost only where a disconnect
 /// finds the channel full; and no word passes outside a session.
 pub fn headline_law()
-    ensures { (profile : Profile) (text : List ℕ) (deck : LoadedDeck) (steps : List ℕ) → deck_meaning profile text ≡ Ok deck → HoldsOnEachChannel (run steps deck.machine) }
+    ensures { (profile : Profile) (text : List ℕ) (deck : LoadedDeck) (steps : List ℕ)
+        → deck_meaning profile text ≡ Ok deck → HoldsOnEachChannel (run steps deck.machine) }
 {
     deck_law();
     run_law();

@@ -2,10 +2,10 @@
 
 ghost use Rattle.std.specs.Prelude.{◌≡◌, ◌≤◌, ◌∷◌, ◌^◌, length, is_some, None, Some, IfOk, IsErrOf, ◌↔◌, if◌then◌else◌};
 ghost use Rattle.pp_machine.specs.Central.{IsCentralSize};
-ghost use Rattle.pp_deck.specs.DeckLine.{section_line, start_line, words_line, central_words_line, line_behind, unless_misplaced};
+ghost use Rattle.pp_deck.specs.DeckLine.{section_line, start_line, words_line, central_words_line, line_after, unless_misplaced};
 ghost use Rattle.pp_machine.specs.DeadStart.{IsBeforeFirstTurn};
 ghost use Rattle.pp_deck.specs.DeckMeaning.{unnamed_in, with_dead_start};
-ghost use Rattle.pp_deck.specs.DeckProgress.{before_lines, after_line, deck_so_far, on_read, Leaves};
+ghost use Rattle.pp_deck.specs.Reading.{before_lines, after_line, deck_so_far, on_read, Leaves};
 
 use crate::deck::Deck;
 use crate::deck_line::{central_size_in, end_line, set_central_words, set_words, start_a};
@@ -28,16 +28,21 @@ pub(crate) struct Reading<A: Allocator> {
 }
 
 impl<A: Allocator> Model for Reading<A> {
-    ghost use Rattle.pp_deck.specs.DeckProgress.{Progress};
+    ghost use Rattle.pp_deck.specs.Reading.{Progress};
 
     ghost Value = { Progress };
 
-    ghost view = { λ r. record { machine = r.machine; named = r.named; current = r.current; asks_dead_start = r.asks_dead_start } };
+    ghost view = { λ r. record {
+      machine = r.machine;
+      named = r.named;
+      current = r.current;
+      asks_dead_start = r.asks_dead_start;
+    } };
 }
 
 impl<A: Allocator> Reading<A> {
     /// Nothing is read yet, for a machine of this profile whose central memory has this size.
-    #[tactic(auto, unfolding(crate::specs::DeckProgress::before_lines))]
+    #[tactic(auto, unfolding(crate::specs::Reading::before_lines))]
     pub(crate) fn new(alloc: A, profile: Profile, size: u32) -> Result<Self, CentralFault>
     where
         A: Copy,
@@ -75,24 +80,24 @@ impl<A: Allocator> Reading<A> {
         Ok(Deck { machine, named })
     }
 
-    /// Reads a line with this first field and these after it. `is_behind_fields` says whether a
+    /// Reads a line with this first field and these after it. `is_after_fields` says whether a
     /// line with fields stands before it.
-    #[tactic(auto, unfolding(crate::specs::DeckLine::line_behind, crate::specs::DeckProgress::after_line))]
+    #[tactic(auto, unfolding(crate::specs::DeckLine::line_after, crate::specs::Reading::after_line))]
     pub(crate) fn read_line(
         &mut self,
-        is_behind_fields: bool,
+        is_after_fields: bool,
         first: &[u8],
         fields: &mut Fields,
     ) -> Result<(), Flaw>
         requires { length self.old.machine.central ≤ 2 ^ 17 }
         ensures { Leaves self.new result (on_read (after_line self.old)
-            (line_behind self.old.machine.profile
-            (length self.old.machine.central) is_behind_fields (is_some self.old.current)
+            (line_after self.old.machine.profile
+            (length self.old.machine.central) is_after_fields (is_some self.old.current)
             (first.now ∷ fields.old))) }
     {
         match Keyword::of(first) {
             Keyword::Central => {
-                if is_behind_fields {
+                if is_after_fields {
                     return Err(Flaw::UnknownLine);
                 }
                 central_size_in(fields)?;
@@ -112,7 +117,7 @@ impl<A: Allocator> Reading<A> {
     }
 
     /// `CM a w w ..`, after its keyword.
-    #[tactic(auto, unfolding(crate::specs::DeckLine::central_words_line, crate::specs::DeckProgress::after_line))]
+    #[tactic(auto, unfolding(crate::specs::DeckLine::central_words_line, crate::specs::Reading::after_line))]
     fn read_central_words(&mut self, fields: &mut Fields) -> Result<(), Flaw>
         requires { length self.old.machine.central ≤ 2 ^ 17 }
         ensures { Leaves self.new result (on_read (after_line self.old)
@@ -123,7 +128,7 @@ impl<A: Allocator> Reading<A> {
     }
 
     /// `PP n`, after its keyword.
-    #[tactic(auto, unfolding(crate::specs::DeckLine::section_line, crate::specs::DeckProgress::after_line))]
+    #[tactic(auto, unfolding(crate::specs::DeckLine::section_line, crate::specs::Reading::after_line))]
     fn read_section(&mut self, fields: &mut Fields) -> Result<(), Flaw>
         ensures { Leaves self.new result (on_read (after_line self.old)
             (section_line self.old.machine.profile fields.old)) }
@@ -138,7 +143,7 @@ impl<A: Allocator> Reading<A> {
     }
 
     /// `START p` or `START p a`, after its keyword.
-    #[tactic(auto, unfolding(crate::specs::DeckLine::start_line, crate::specs::DeckProgress::after_line))]
+    #[tactic(auto, unfolding(crate::specs::DeckLine::start_line, crate::specs::Reading::after_line))]
     fn read_start(&mut self, fields: &mut Fields) -> Result<(), Flaw>
         ensures { Leaves self.new result (on_read (after_line self.old)
             (unless_misplaced (if is_some self.old.current then None else Some Flaw.NoProcessor)
@@ -152,7 +157,7 @@ impl<A: Allocator> Reading<A> {
     }
 
     /// `x w w ..`: its first field, and the words after it.
-    #[tactic(auto, unfolding(crate::specs::DeckLine::words_line, crate::specs::DeckProgress::after_line))]
+    #[tactic(auto, unfolding(crate::specs::DeckLine::words_line, crate::specs::Reading::after_line))]
     fn read_words(&mut self, first: &[u8], fields: &mut Fields) -> Result<(), Flaw>
         ensures { Leaves self.new result (on_read (after_line self.old)
             (unless_misplaced (if is_some self.old.current then None else Some Flaw.NoProcessor)

@@ -4,7 +4,7 @@ use Rattle.pp_text.specs.Numeral.{octal, short_decimal}
 use Rattle.pp_draw.specs.Elements.{band_element, band_place, channel_name, condition_class, condition_text, label, label_element, lane_foot, lane_head, lost_text, part_class, processor_name, title_text}
 use Rattle.pp_draw.specs.Frame.{caption_text, classes_text, colours_text, foot_text, lane_top, legend_text, processor_legend_text, size_text, tick_line, tick_number, view_text}
 use Rattle.pp_draw.specs.Window.{place}
-use Rattle.pp_draw.specs.WellFormed.{at, before, behind, between, quoted, read}
+use Rattle.pp_draw.specs.WellFormed.{Tag, at, before, behind, between, quoted, read}
 use Rattle.pp_draw.specs.declared.condition.Condition.{Condition}
 use Rattle.pp_draw.specs.declared.condition.Condition.TheVariants.{Inactive, Empty, Full, Sent, Running, InBlock, HeldBy, Stopped, Faulted}
 use Rattle.pp_draw.specs.declared.part.Part.{Part}
@@ -136,17 +136,22 @@ tick_number_read w rows turn outer others = through (at (outer ∷ others) betwe
     (told (short_decimal (place w turn + 80)) ∷ literal (codes "' y='") ∷ told (short_decimal (lane_top rows + 18)) ∷ literal (codes "'>") ∷ told (short_decimal (turn)) ∷ literal (codes "</text>\n") ∷ [])
     (plain_decimal (place w turn + 80), (plain_decimal (lane_top rows + 18), (plain_decimal (turn), tt)))
 
+-- the tag of the whole picture, before its last attribute
+abbrev pub picture_tag : Tag
+picture_tag =
+    record { name = codes "gvs"; attributes = codes "thgieh" ∷ codes "htdiw" ∷ codes "snlmx" ∷ [] }
+
 -- the size of the picture
-pub size_read : (width height : ℕ) → read (at [] before) (size_text width height) ≡ at [] (quoted (codes "gvs"))
+pub size_read : (width height : ℕ) → read (at [] before) (size_text width height) ≡ at [] (quoted picture_tag)
 unfolding size_text
 size_read width height = through (at [] before) (codes "<svg xmlns='http://www.w3.org/2000/svg' width='")
     (told (short_decimal (width)) ∷ literal (codes "' height='") ∷ told (short_decimal (height)) ∷ [])
     (plain_decimal (width), (plain_decimal (height), tt))
 
 -- the same once more
-pub view_read : (width height : ℕ) → (within : List (List ℕ)) → read (at within (quoted (codes "gvs"))) (view_text width height) ≡ at (codes "gvs" ∷ within) between
+pub view_read : (width height : ℕ) → (within : List (List ℕ)) → read (at within (quoted picture_tag)) (view_text width height) ≡ at (codes "gvs" ∷ within) between
 unfolding view_text
-view_read width height within = through (at within (quoted (codes "gvs"))) (codes "' viewBox='0 0 ")
+view_read width height within = through (at within (quoted picture_tag)) (codes "' viewBox='0 0 ")
     (told (short_decimal (width)) ∷ literal (codes " ") ∷ told (short_decimal (height)) ∷ literal (codes "'>\n") ∷ [])
     (plain_decimal (width), (plain_decimal (height), tt))
 

@@ -26,7 +26,7 @@ pub changes_next : (current next : Phase) (more : List Phase) → goes_on curren
 unfolding changes
 changes_next current next more is = ap (λ (b : Bool). cond b (changes current more) (next ∷ changes next more)) is
 
-drawn_more : (w : Window) (name : List ℕ) (free : ℕ) (phase : Phase) (more : List Phase)
+pub drawn_more : (w : Window) (name : List ℕ) (free : ℕ) (phase : Phase) (more : List Phase)
     → drawn_from w name free (phase ∷ more) ≡ part_elements name free (part_of w phase (next_in more)) ++ drawn_from w name (free_after free (part_of w phase (next_in more))) more
 unfolding drawn_from
 drawn_more w name free phase more = refl

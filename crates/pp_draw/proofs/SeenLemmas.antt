@@ -7,7 +7,7 @@ use Rattle.pp_machine.specs.MachineStep.{stepped}
 use Rattle.pp_machine.specs.Profile.{processor_in_turn}
 use Rattle.pp_machine.specs.Run.{barrel, run}
 use Rattle.pp_machine.specs.declared.profile.Profile.{Profile}
-use Rattle.pp_draw.specs.SeenSteps.{is_shown, seen_step, seen_steps}
+use Rattle.pp_draw.specs.SeenStep.{is_shown, seen_step, seen_steps}
 use Rattle.pp_draw.specs.declared.seen_step.SeenStep.{SeenStep}
 use Rattle.pp_draw.specs.declared.window.Window.{Window}
 

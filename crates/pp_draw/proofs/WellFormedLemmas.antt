@@ -18,7 +18,7 @@ use Rattle.pp_draw.specs.declared.part.Part.{Part}
 use Rattle.pp_draw.specs.declared.part.Phase.{Phase}
 use Rattle.pp_draw.specs.declared.seen_step.SeenStep.{SeenStep}
 use Rattle.pp_draw.specs.declared.window.Window.{Window}
-use Rattle.pp_draw.proofs.ElementLemmas.{caption_read, classes_read, colours_read, element_read, foot_read, label_read, lane_foot_read, lane_head_read, legend_read, plain_channel, plain_processor, processor_legend_read, size_read, tick_line_read, tick_number_read, view_read}
+use Rattle.pp_draw.proofs.ElementLemmas.{caption_read, classes_read, colours_read, element_read, foot_read, label_read, lane_foot_read, lane_head_read, legend_read, picture_tag, plain_channel, plain_processor, processor_legend_read, size_read, tick_line_read, tick_number_read, view_read}
 use Rattle.pp_draw.proofs.ReadLemmas.{IsBalanced, balanced-append, balanced-if, balanced-nil, is_plain, plain-append, plain_octal, reads}
 
 balanced_part : (name : List ℕ) (free : ℕ) (part : Part) → is_plain name ≡ true → IsBalanced (part_elements name free part)
@@ -96,7 +96,7 @@ head_read w rows =
     let height = picture_height rows in
     let here = at (svg ∷ []) between in
     reads (at [] before) here here (size_text width height ++ view_text width height) (caption_text w)
-    (reads (at [] before) (at [] (quoted svg)) here (size_text width height) (view_text width height) (size_read width height) (view_read width height []))
+    (reads (at [] before) (at [] (quoted picture_tag)) here (size_text width height) (view_text width height) (size_read width height) (view_read width height []))
     (caption_read w svg [])
 
 pub drawing_read : (w : Window) (named : List Bool) (m : MachineState) (steps : List SeenStep) → IsWellFormed (drawing w named m steps)

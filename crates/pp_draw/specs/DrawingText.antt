@@ -1,7 +1,7 @@
 -- The drawing of a run: a lane for each channel used and for each processor named, in order of
 -- number, between a legend and a scale of turns.
 use Rattle.std.specs.Prelude.{ℕ, zero, suc, ◌+◌, ◌==◌, ◌&&◌, Bool, not, List, [], ◌++◌, length, if◌then◌else◌}
-use Rattle.pp_channel.specs.ChannelNumber.{names_channel}
+use Rattle.pp_channel.specs.ChannelNo.{names_channel}
 use Rattle.pp_channel.specs.History.{active, waiting}
 use Rattle.pp_machine.specs.MachineState.{MachineState, history_of, processor_of}
 use Rattle.pp_machine.specs.Run.{barrel, run}
@@ -11,7 +11,7 @@ use Rattle.pp_draw.specs.Elements.{channel_name, lane_foot, lane_head, processor
 use Rattle.pp_draw.specs.Frame.{classes_text, colours_text, foot_text, head_text, lane_top, legend_text, processor_legend_text, ticks_text}
 use Rattle.pp_draw.specs.Lane.{drawn}
 use Rattle.pp_draw.specs.Phases.{channel_phases, processor_phases}
-use Rattle.pp_draw.specs.SeenSteps.{seen_in_window}
+use Rattle.pp_draw.specs.SeenStep.{seen_in_window}
 use Rattle.pp_draw.specs.Window.{band_width}
 use Rattle.pp_draw.specs.declared.part.Phase.{Phase}
 use Rattle.pp_draw.specs.declared.seen_step.SeenStep.{SeenStep}

@@ -1,6 +1,6 @@
 pub mod Window
 pub mod Condition
-pub mod SeenSteps
+pub mod SeenStep
 pub mod Phases
 pub mod Part
 pub mod Elements

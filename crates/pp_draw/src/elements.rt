@@ -11,7 +11,7 @@ use crate::condition::Condition;
 use crate::part::Part;
 use pp_channel::{Channel, ChannelNo};
 use pp_machine::{PpNo, PpState};
-use pp_text::{Piece, octal1, octal2, octal4, push_short_decimal};
+use pp_text::{Piece, octal2, octal4, push_channel_text, push_short_decimal, push_state_text};
 use pp_word::Word12;
 use std::alloc::Allocator;
 
@@ -99,7 +99,7 @@ pub(crate) fn push_channel_foot<A: Allocator>(line: &mut Piece, width: u64, chan
     line.push(b"<text class='e' x='");
     push_short_decimal(line, width + 8);
     line.push(b"' y='26'>");
-    push_channel(line, channel);
+    push_channel_text(line, channel);
     line.push(b"</text>\n</g>\n");
 }
 
@@ -113,41 +113,8 @@ pub(crate) fn push_processor_foot(line: &mut Piece, width: u64, state: PpState)
     line.push(b"<text class='e' x='");
     push_short_decimal(line, width + 8);
     line.push(b"' y='26'>");
-    push_state(line, state);
+    push_state_text(line, state);
     line.push(b"</text>\n</g>\n");
-}
-
-/// Adds `ACTIVE FULL 0007`.
-fn push_channel<A: Allocator>(line: &mut Piece, channel: &Channel<A>)
-    requires { HasRoom 20 line.old }
-    ensures text { line.new
-        ≡ line.old ++ channel_text (active channel.now) (waiting channel.now) }
-    ensures room { length line.new ≤ length line.old + 20 }
-{
-    match channel.waiting() {
-        Some(word) => {
-            line.push(b"ACTIVE FULL ");
-            line.push(&octal4(word.get()));
-        }
-        None if channel.flags().active => line.push(b"ACTIVE EMPTY"),
-        None => line.push(b"INACTIVE"),
-    }
-}
-
-/// Adds `STOPPED`.
-fn push_state(line: &mut Piece, state: PpState)
-    requires { HasRoom 20 line.old }
-    ensures text { line.new ≡ line.old ++ state_text state }
-    ensures room { length line.new ≤ length line.old + 20 }
-{
-    match state {
-        PpState::Running => line.push(b"RUNNING"),
-        PpState::Stopped => line.push(b"STOPPED"),
-        PpState::Fault(number) => {
-            line.push(b"FAULT ");
-            line.push(&octal1(number));
-        }
-    }
 }
 
 /// Adds `CH05 full 0007 lost from 20 to 30`.

@@ -1,43 +1,97 @@
 //! Laws of drawings. This function does nothing: its contract says what is proved of the
 //! definitions.
 
-ghost use Rattle.std.specs.Prelude.{◌≡◌, ◌↔◌, ℕ, Bool, IsTrue, List, None, Some, codes, map};
+ghost use Rattle.std.specs.Prelude.{◌≡◌, ◌↔◌, ◌+◌, ◌<◌, ◌≤◌, ◌^◌, ℕ, Bool, IfSome, IsFalse, IsTrue, List, [], ◌∷◌, ◌++◌, Option, None, Some, codes, map, if◌then◌else◌};
 ghost use Rattle.std.specs.List.{last_or};
 ghost use Rattle.std.specs.Option.{option_map};
-ghost use Rattle.pp_channel.specs.ChannelNumber.{names_channel};
+ghost use Rattle.pp_channel.specs.ChannelNo.{names_channel};
 ghost use Rattle.pp_channel.specs.declared.event.Event.{Event};
 ghost use Rattle.pp_channel.specs.declared.event.Event.TheVariants.{Disconnect, Put};
 ghost use Rattle.pp_machine.specs.Headline.{HoldsOnEachChannel};
 ghost use Rattle.pp_machine.specs.MachineState.{MachineState, history_of};
+ghost use Rattle.pp_machine.specs.MachineStep.{counted};
+ghost use Rattle.pp_machine.specs.PpNo.{processor_count};
+ghost use Rattle.pp_machine.specs.Run.{barrel};
 ghost use Rattle.pp_steps.specs.StepsText.{run_steps};
-ghost use Rattle.pp_draw.specs.Condition.{condition_after};
-ghost use Rattle.pp_draw.specs.DrawingText.{drawing};
-ghost use Rattle.pp_draw.specs.DrawingLaw.{condition_in, seen};
-ghost use Rattle.pp_draw.specs.Part.{is_lost};
-ghost use Rattle.pp_draw.specs.Phases.{channel_phases, phases_from};
-ghost use Rattle.pp_draw.specs.SeenSteps.{seen_steps};
+ghost use Rattle.pp_draw.specs.Condition.{condition_after, goes_on, is_sent};
+ghost use Rattle.pp_draw.specs.DrawingText.{channel_lane, count_below, drawing, processor_lane};
+ghost use Rattle.pp_draw.specs.DrawingLaw.{Adjoin, GoesToEnd, IsTurnOf, StandsWithin, condition_at, condition_in, first_turn, goes_on_from, last_step, opening_turns, seen, turns_on};
+ghost use Rattle.pp_draw.specs.Elements.{band_element};
+ghost use Rattle.pp_draw.specs.Lane.{drawn_from, next_in};
+ghost use Rattle.pp_draw.specs.Part.{is_lost, is_visible, part_of};
+ghost use Rattle.pp_draw.specs.Phases.{channel_phases, phases_from, processor_phases};
+ghost use Rattle.pp_draw.specs.SeenStep.{condition_of, is_shown, seen_in_window, seen_steps};
 ghost use Rattle.pp_draw.specs.WellFormed.{IsWellFormed};
+ghost use Rattle.pp_draw.specs.declared.condition.Condition.{Condition};
 ghost use Rattle.pp_draw.specs.declared.part.Phase.{Phase};
 ghost use Rattle.pp_draw.specs.declared.seen_step.SeenStep.{SeenStep};
 ghost use Rattle.pp_draw.specs.declared.window.Window.{Window};
 
-/// What is drawn of processors is seen in the very steps of the run that the text of steps tells. A
-/// channel has a phase for each event of its history, in order, and a word is drawn as lost where a
-/// Disconnect comes next after its Put. Phases of a processor in a row under one condition are one:
-/// whatever has come, the last that is drawn is under the condition of the last that came. And every
-/// drawing is well-formed XML.
+/// What is drawn of processors is seen in the very steps of the run that the text of steps tells.
+/// A channel has a phase for each event of its history, in order and from the turn of the event on,
+/// and each is drawn. A phase of a processor is drawn just where it does not go on under the
+/// condition of the one before: only phases under one condition are one, and all that are in a row.
+/// In each turn the lane shows how the last step of the run found the processor. A phase that has a
+/// turn in the window has its band, which goes to where the next begins, or else to the end. A word
+/// is drawn as lost where a Disconnect comes next after its Put. And every drawing is well-formed
+/// XML.
 pub fn drawing_law()
     ensures steps { (steps : List ℕ) (m : MachineState)
         → seen_steps steps m ≡ map seen (run_steps steps m) }
     ensures history { (c : ℕ) (m : MachineState) → IsTrue (names_channel c)
         → HoldsOnEachChannel m
         → map condition_in (channel_phases c m) ≡ map condition_after (history_of c m) }
-    ensures lost { (e next : Event) (turn : ℕ) → IsTrue (is_lost (condition_after e)
-        (Some (record { since = turn; condition = condition_after next })))
-        ↔ (((word : ℕ) × (e ≡ Put word)) × (next ≡ Disconnect)) }
+    ensures turns { (c : ℕ) (m : MachineState)
+        → map first_turn (channel_phases c m) ≡ opening_turns c m ++ turns_on c m.trace }
+    ensures each_event { (c : ℕ) (m : MachineState)
+        → phases_from None (channel_phases c m) ≡ channel_phases c m }
+    ensures one_more { (phases : List Phase) (next : Phase)
+        → phases_from None (phases ++ next ∷ []) ≡ phases_from None phases
+        ++ (if goes_on_from (last_or None phases) next then [] else next ∷ []) }
+    ensures alike { (condition next : Condition) → IsTrue (goes_on condition next)
+        → condition ≡ next }
+    ensures joined { (n : ℕ) (m : MachineState)
+        → IsTrue (goes_on (condition_of n m) (condition_of n m)) }
     ensures last { (phases : List Phase)
         → option_map condition_in (last_or None (phases_from None phases))
         ≡ option_map condition_in (last_or None phases) }
+    // A step of a turn in the window, or in the round before it, is shown.
+    ensures shown { (w : Window) (step : SeenStep)
+        → IsTrue (is_shown w step) ↔ (w.from ≤ step.turn + processor_count) }
+    // What is drawn in a turn is how the last step up to then found the processor.
+    ensures at_turn { (w : Window) (n : ℕ) (m : MachineState) (turn : ℕ) → m.turns < 2 ^ 64
+        → IfSome (last_step n turn (run_steps (barrel m.profile w.to) m)) (λ step.
+        w.from ≤ step.before.turns + processor_count
+        → condition_at turn (phases_from None (processor_phases n (seen_in_window w m)))
+        ≡ Some (seen step).condition) }
+    ensures adjoin { (w : Window) (phase next : Phase) (after : Option Phase)
+        → IsFalse (is_sent phase.condition)
+        → Adjoin (part_of w phase (Some next)) (part_of w next after) }
+    ensures to_end { (w : Window) (phase : Phase) → IsFalse (is_sent phase.condition)
+        → GoesToEnd w (part_of w phase None) }
+    // A function code is drawn in its turn alone.
+    ensures code { (w : Window) (phase : Phase) (next : Option Phase)
+        → IsTrue (is_sent phase.condition)
+        → (part_of w phase next).until ≡ counted phase.since }
+    ensures visible { (w : Window) (phase : Phase) (next : Option Phase)
+        → IsTrue (is_visible (part_of w phase next))
+        ↔ ((turn : ℕ) × IsTurnOf w (part_of w phase next) turn) }
+    ensures band { (w : Window) (name : List ℕ) (free : ℕ) (before : List Phase) (phase : Phase)
+        (more : List Phase) → IsTrue (is_visible (part_of w phase (next_in more)))
+        → StandsWithin (band_element name (part_of w phase (next_in more)))
+        (drawn_from w name free (before ++ phase ∷ more)) }
+    // Numbers have two octal digits. The lane of a channel that is not used is empty, and so is that
+    // of a processor that is not named.
+    ensures each_lane { (w : Window) (named : List Bool) (m : MachineState)
+        (steps : List SeenStep) (k : ℕ) → k < 0o100
+        → StandsWithin (channel_lane w m k) (drawing w named m steps)
+        × StandsWithin (processor_lane w named m steps k) (drawing w named m steps) }
+    // The lane of a higher number lies lower.
+    ensures rows { (test : ℕ → Bool) (a b : ℕ) → IsTrue (test a) → a < b
+        → count_below a test < count_below b test }
+    ensures lost { (e next : Event) (turn : ℕ) → IsTrue (is_lost (condition_after e)
+        (Some (record { since = turn; condition = condition_after next })))
+        ↔ (((word : ℕ) × (e ≡ Put word)) × (next ≡ Disconnect)) }
     ensures well_formed { (w : Window) (named : List Bool) (m : MachineState)
         (steps : List SeenStep) → IsWellFormed (drawing w named m steps) }
     // Texts that are not.
@@ -45,4 +99,10 @@ pub fn drawing_law()
     ensures crossed { ¬ IsWellFormed (codes "<svg><g><text></g></text></svg>") }
     ensures unquoted { ¬ IsWellFormed (codes "<svg><g x='></g></svg>") }
     ensures twofold { ¬ IsWellFormed (codes "<svg></svg><svg></svg>") }
+    ensures unnamed { ¬ IsWellFormed (codes "<></>") }
+    ensures nameless { ¬ IsWellFormed (codes "<svg ='8'/>") }
+    ensures valueless { ¬ IsWellFormed (codes "<svg x=/>") }
+    ensures unassigned { ¬ IsWellFormed (codes "<svg x/>") }
+    ensures unseparated { ¬ IsWellFormed (codes "<svg x='8'y='8'/>") }
+    ensures repeated { ¬ IsWellFormed (codes "<svg x='8' x='8'/>") }
 {}

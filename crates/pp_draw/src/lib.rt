@@ -7,7 +7,7 @@
 //! events, those of a processor with the steps that find it under another condition than the step
 //! before (specs/Phases). A phase that falls into the window is drawn as a band (specs/Part), with
 //! its word, its function code or its channel above it where there is room (specs/Lane), and with a
-//! title that tells it. Behind the last turn stands how the lane ends.
+//! title that tells it. After the last turn stands how the lane ends.
 //!
 //! The text is well-formed XML (specs/WellFormed, by `drawing_law`), and a run decides nothing of it
 //! but digits, classes and which elements there are. It has no script and no reference, and its

@@ -10,12 +10,9 @@ use crate::seen_step::SeenStep;
 use crate::window::Window;
 use pp_channel::ChannelNo;
 use pp_machine::{Machine, PROCESSORS, PpNo};
-use pp_text::{Piece, TextWriter};
+use pp_text::{NUMBERS, Piece, TextWriter};
 use std::alloc::Allocator;
 use std::io::Write;
-
-/// How many numbers two octal digits can show.
-const NUMBERS: u8 = 0o100;
 
 /// The channel with this number, where there is one and something has happened on it.
 fn used_channel<A: Allocator>(machine: &Machine<A>, number: u8) -> Option<ChannelNo>

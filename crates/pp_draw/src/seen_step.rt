@@ -1,11 +1,11 @@
 //! Runs that see how each step found its processor.
 
-ghost use Rattle.std.specs.Prelude.{◌≡◌, ◌≤◌, ◌++◌, ◌∷◌, [], IfErr, IfOk, OnErr, OnOk};
+ghost use Rattle.std.specs.Prelude.{◌≡◌, ◌≤◌, ◌++◌, ◌∷◌, [], IfErr, IfOk, IsSome, IsTrue, OnErr, OnOk};
 ghost use Rattle.std.specs.List.{filter};
 ghost use Rattle.pp_machine.specs.Headline.{HoldsOnEachChannel};
-ghost use Rattle.pp_machine.specs.MachineStep.{stepped};
+ghost use Rattle.pp_machine.specs.MachineStep.{step_event, stepped};
 ghost use Rattle.pp_machine.specs.Run.{barrel, run};
-ghost use Rattle.pp_draw.specs.SeenSteps.{condition_by, held_by, is_shown, moving, running, seen_in_window, seen_step};
+ghost use Rattle.pp_draw.specs.SeenStep.{IsCutAtGrowth, condition_by, held_by, is_shown, moving, running, seen_in_window, seen_step};
 
 use crate::condition::Condition;
 use crate::window::Window;
@@ -37,8 +37,11 @@ pub fn run_seeing_steps<A: Allocator>(
     ensures cut { IfErr result (λ c.
         machine.new ≡ run (barrel machine.old.profile c.done) machine.old) }
     ensures within { IfErr result (λ c. c.done ≤ window.to) }
+    // A run is cut only where an event or a step had to be kept.
+    ensures cut_at_growth { IfErr result (λ c. IsCutAtGrowth window machine.old c.done) }
     ensures headline { HoldsOnEachChannel machine.new }
 {
+    // The call says to the proof that the machine is sound.
     let _sound = machine.turns();
     let round = machine.profile().processors() as u32;
     let mut steps = Vec::new(alloc);
@@ -63,6 +66,7 @@ fn see_step<A: Allocator>(machine: &mut Machine<A>, n: PpNo) -> Result<SeenStep,
     ensures stepped { OnOk result (machine.new ≡ stepped n machine.old) }
     ensures seen { IfOk result (λ step. step ≡ seen_step n machine.old) }
     ensures unchanged_after_memory { OnErr result (machine.new ≡ machine.old) }
+    ensures cut_at_event { OnErr result (IsSome (step_event n machine.old)) }
     ensures headline { HoldsOnEachChannel machine.new }
 {
     let turn = machine.turns();
@@ -83,8 +87,9 @@ fn keep_step<A: Allocator>(
     window: Window,
     step: SeenStep,
 ) -> Result<(), Memory>
-    ensures { OnOk result
+    ensures kept { OnOk result
         (steps.new.items ≡ steps.old.items ++ filter (is_shown window) (step ∷ [])) }
+    ensures cut_where_shown { OnErr result (IsTrue (is_shown window step)) }
 {
     if u64::from(window.from).saturating_sub(PROCESSORS as u64) <= step.turn {
         steps.push(step)?;

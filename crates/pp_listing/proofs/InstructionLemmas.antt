@@ -8,9 +8,9 @@ use Rattle.pp_word.specs.Address.{place_count}
 use Rattle.pp_machine.specs.declared.pp_state.PpState.{PpState}
 use Rattle.pp_machine.specs.declared.pp_state.PpState.TheVariants.{Running, Stopped, Fault}
 use Rattle.pp_machine.specs.declared.profile.Profile.{Profile}
-use Rattle.pp_deck.specs.DeckLine.{Line, nothing, central_size, central_words, section, start, words, dead_start, line_behind}
+use Rattle.pp_deck.specs.DeckLine.{Line, nothing, central_size, central_words, section, start, words, dead_start, line_after}
 use Rattle.pp_deck.specs.DeckLoad.{last_of, word_among, word_for, central_word_for, start_in, names, is_dead_start}
-use Rattle.pp_deck.specs.DeckProgress.{current_after}
+use Rattle.pp_deck.specs.Reading.{current_after}
 use Rattle.pp_listing.specs.InstructionText.{is_long}
 use Rattle.pp_listing.specs.ListedLine.{ListedLine, one_word, two_words, says}
 use Rattle.pp_listing.specs.Listing.{instruction_lines, start_line}
@@ -121,7 +121,7 @@ all_no_request (line ∷ lines) h = let one : is_dead_start line ≡ false = own
 
 -- a line is read as it is inside a section
 abbrev pub IsReadInSection : Profile → ℕ → Line → Type 0
-IsReadInSection profile size line = (b : Bool) → line_behind profile size b true (fields_said line) ≡ Ok line
+IsReadInSection profile size line = (b : Bool) → line_after profile size b true (fields_said line) ≡ Ok line
 
 one_word_read : (profile : Profile) (size x w : ℕ) → w < 8 ^ 4 → x + 1 ≤ place_count → IsReadInSection profile size (words x (w ∷ []))
 one_word_read profile size x w small le = λ b. words_line_read profile size x (w ∷ []) b (omega (arith, le)) (All-cons (λ v. v < 8 ^ 4) w [] small (All-nil (λ v. v < 8 ^ 4))) le

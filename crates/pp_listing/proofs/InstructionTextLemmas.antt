@@ -3,7 +3,7 @@ use Rattle.std.proofs.Common.{◌≡◌, ℕ, ◌/◌, ◌%◌, ◌^◌, Bool, t
 use Rattle.std.specs.Prelude.{codes}
 use Rattle.std.specs.List.{list_all}
 use Rattle.std.proofs.lemmas.List.Folds.{list_all-append}
-use Rattle.pp_word.specs.OperationCodes.{opcode_at, mnemonic_of}
+use Rattle.pp_word.specs.Opcode.{opcode_at, mnemonic_of}
 use Rattle.pp_word.specs.declared.opcode.Opcode.{Opcode}
 use Rattle.pp_word.specs.declared.opcode.Opcode.TheVariants.{PSN, LJM, RJM, UJN, ZJN, NJN, PJN, MJN, SHN, LMN, LPN, SCN, LDN, LCN, ADN, SBN, LDC, ADC, LPC, LMC, PSN24, PSN25, EXN, RPN, LDD, ADD, SBD, LMD, STD, RAD, AOD, SOD, LDI, ADI, SBI, LMI, STI, RAI, AOI, SOI, LDM, ADM, SBM, LMM, STM, RAM, AOM, SOM, CRD, CRM, CWD, CWM, AJM, IJM, FJM, EJM, IAN, IAM, OAN, OAM, ACN, DCN, FAN, FNC}
 use Rattle.pp_word.specs.Address.{relative_to}

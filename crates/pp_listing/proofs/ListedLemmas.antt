@@ -8,7 +8,7 @@ use Rattle.std.proofs.lemmas.List.Folds.{list_any-append}
 use Rattle.pp_word.specs.Address.{place_count}
 use Rattle.pp_machine.specs.MachineState.{new_machine}
 use Rattle.pp_machine.specs.Processor.{Processor, no_processor}
-use Rattle.pp_machine.specs.ProcessorNumber.{names_processor, processor_count, processor_number}
+use Rattle.pp_machine.specs.PpNo.{names_processor, processor_count, processor_number}
 use Rattle.pp_machine.proofs.ProcessorPlaces.{number_named}
 use Rattle.pp_machine.specs.declared.profile.Profile.{Profile}
 use Rattle.pp_deck.specs.DeckLine.{Line, central_size, central_words, section, dead_start}

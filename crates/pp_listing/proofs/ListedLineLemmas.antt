@@ -7,14 +7,14 @@ use Rattle.pp_deck.specs.DeckLine.{Line, nothing, central_size, central_words, s
 use Rattle.pp_deck.specs.DeckText.{fields_in}
 use Rattle.pp_deck.proofs.FieldTextLemmas.{is_ink, IsField, IsTail, tail_none, tail_field, tail_last, tail_comment, no_fields, fields_last}
 use Rattle.pp_listing.specs.InstructionText.{instruction_text}
-use Rattle.pp_listing.specs.ListedLine.{ListedLine, bare, one_word, two_words, behind_blank, line_text, says, listed_text}
+use Rattle.pp_listing.specs.ListedLine.{ListedLine, bare, one_word, two_words, after_blank, line_text, says, listed_text}
 use Rattle.pp_listing.specs.OctalDigits.{octal, short_octal}
 use Rattle.pp_listing.proofs.InstructionTextLemmas.{IsPlain, plain_append, instruction_plain}
 use Rattle.pp_listing.proofs.OctalDigitLemmas.{octal_is_field, octal_plain, short_is_field, short_plain}
 
-words_plain : (width : ℕ) (ws : List ℕ) → IsPlain (flat_map (behind_blank width) ws)
+words_plain : (width : ℕ) (ws : List ℕ) → IsPlain (flat_map (after_blank width) ws)
 words_plain width [] = refl
-words_plain width (w ∷ ws) = plain_append (behind_blank width w) (flat_map (behind_blank width) ws) (octal_plain width w) (words_plain width ws)
+words_plain width (w ∷ ws) = plain_append (after_blank width w) (flat_map (after_blank width) ws) (octal_plain width w) (words_plain width ws)
 
 -- ---- the fields of a line
 
@@ -28,17 +28,17 @@ fields_said (start p a) = codes "START" ∷ octal 4 p ∷ octal 6 a ∷ []
 fields_said (words x ws) = octal 4 x ∷ map (octal 4) ws
 fields_said dead_start = codes "DEAD" ∷ []
 
-tail_words : (width : ℕ) → 0 < width → (ws text : List ℕ) → IsTail text [] → IsTail (flat_map (behind_blank width) ws ++ text) (map (octal width) ws)
+tail_words : (width : ℕ) → 0 < width → (ws text : List ℕ) → IsTail text [] → IsTail (flat_map (after_blank width) ws ++ text) (map (octal width) ws)
 tail_words width some [] text h = h
 tail_words width some (w ∷ ws) text h =
     let P : List ℕ → Type 0 = λ l. IsTail (32 ∷ l) (octal width w ∷ map (octal width) ws) in
-    subst P (sym (append_assoc (octal width w) (flat_map (behind_blank width) ws) text))
-    (tail_field (octal width w) (flat_map (behind_blank width) ws ++ text) (map (octal width) ws) (octal_is_field width w some) (tail_words width some ws text h))
+    subst P (sym (append_assoc (octal width w) (flat_map (after_blank width) ws) text))
+    (tail_field (octal width w) (flat_map (after_blank width) ws ++ text) (map (octal width) ws) (octal_is_field width w some) (tail_words width some ws text h))
 
-tail_words_last : (width : ℕ) → 0 < width → (ws : List ℕ) → IsTail (flat_map (behind_blank width) ws) (map (octal width) ws)
+tail_words_last : (width : ℕ) → 0 < width → (ws : List ℕ) → IsTail (flat_map (after_blank width) ws) (map (octal width) ws)
 tail_words_last width some ws =
     let P : List ℕ → Type 0 = λ l. IsTail l (map (octal width) ws) in
-    subst P (append-nil (flat_map (behind_blank width) ws)) (tail_words width some ws [] tail_none)
+    subst P (append-nil (flat_map (after_blank width) ws)) (tail_words width some ws [] tail_none)
 
 keyword_field : (field : List ℕ) → 0 < length field → list_all is_ink field ≡ true → IsField field
 keyword_field field some ink = record { some = some; ink = ink }
@@ -47,17 +47,17 @@ bare_fields : (line : Line) → fields_in (line_text line) ≡ fields_said line
 bare_fields nothing = no_fields
 bare_fields (central_size n) = tail_last (short_octal 6 n) (short_is_field 6 n (omega arith)) (codes "CENTRAL") (keyword_field (codes "CENTRAL") (omega arith) refl)
 bare_fields (central_words a ws) =
-    tail_field (short_octal 6 a) (flat_map (behind_blank 20) ws) (map (octal 20) ws) (short_is_field 6 a (omega arith)) (tail_words_last 20 (omega arith) ws)
+    tail_field (short_octal 6 a) (flat_map (after_blank 20) ws) (map (octal 20) ws) (short_is_field 6 a (omega arith)) (tail_words_last 20 (omega arith) ws)
     (codes "CM") (keyword_field (codes "CM") (omega arith) refl)
 bare_fields (section n) = tail_last (short_octal 2 n) (short_is_field 2 n (omega arith)) (codes "PP") (keyword_field (codes "PP") (omega arith) refl)
 bare_fields (start p a) =
-    tail_field (octal 4 p) (behind_blank 6 a) (octal 6 a ∷ []) (octal_is_field 4 p (omega arith)) (tail_last (octal 6 a) (octal_is_field 6 a (omega arith)))
+    tail_field (octal 4 p) (after_blank 6 a) (octal 6 a ∷ []) (octal_is_field 4 p (omega arith)) (tail_last (octal 6 a) (octal_is_field 6 a (omega arith)))
     (codes "START") (keyword_field (codes "START") (omega arith) refl)
 bare_fields (words x ws) = tail_words_last 4 (omega arith) ws (octal 4 x) (octal_is_field 4 x (omega arith))
 bare_fields dead_start = fields_last (codes "DEAD") (keyword_field (codes "DEAD") (omega arith) refl)
 
 -- `0100 7405` and some blanks before a comment
-commented_fields : (x : ℕ) (ws : List ℕ) (blanks : ℕ) (instruction : List ℕ) → fields_in (octal 4 x ++ (flat_map (behind_blank 4) ws ++ (32 ∷ (replicate blanks 32 ++ (42 ∷ 32 ∷ instruction))))) ≡ fields_said (words x ws)
+commented_fields : (x : ℕ) (ws : List ℕ) (blanks : ℕ) (instruction : List ℕ) → fields_in (octal 4 x ++ (flat_map (after_blank 4) ws ++ (32 ∷ (replicate blanks 32 ++ (42 ∷ 32 ∷ instruction))))) ≡ fields_said (words x ws)
 commented_fields x ws blanks instruction =
     tail_words 4 (omega arith) ws (32 ∷ (replicate blanks 32 ++ (42 ∷ 32 ∷ instruction))) (tail_comment blanks (32 ∷ instruction)) (octal 4 x) (octal_is_field 4 x (omega arith))
 
@@ -70,17 +70,17 @@ bare_plain : (line : Line) → IsPlain (line_text line)
 bare_plain nothing = refl
 bare_plain (central_size n) = plain_append (codes "CENTRAL ") (short_octal 6 n) refl (short_plain 6 n)
 bare_plain (central_words a ws) =
-    plain_append (codes "CM " ++ short_octal 6 a) (flat_map (behind_blank 20) ws) (plain_append (codes "CM ") (short_octal 6 a) refl (short_plain 6 a)) (words_plain 20 ws)
+    plain_append (codes "CM " ++ short_octal 6 a) (flat_map (after_blank 20) ws) (plain_append (codes "CM ") (short_octal 6 a) refl (short_plain 6 a)) (words_plain 20 ws)
 bare_plain (section n) = plain_append (codes "PP ") (short_octal 2 n) refl (short_plain 2 n)
 bare_plain (start p a) =
-    plain_append (codes "START" ++ behind_blank 4 p) (behind_blank 6 a) (plain_append (codes "START") (behind_blank 4 p) refl (octal_plain 4 p)) (octal_plain 6 a)
-bare_plain (words x ws) = plain_append (octal 4 x) (flat_map (behind_blank 4) ws) (octal_plain 4 x) (words_plain 4 ws)
+    plain_append (codes "START" ++ after_blank 4 p) (after_blank 6 a) (plain_append (codes "START") (after_blank 4 p) refl (octal_plain 4 p)) (octal_plain 6 a)
+bare_plain (words x ws) = plain_append (octal 4 x) (flat_map (after_blank 4) ws) (octal_plain 4 x) (words_plain 4 ws)
 bare_plain dead_start = refl
 
-commented_plain : (x : ℕ) (ws blanks instruction : List ℕ) → IsPlain blanks → IsPlain instruction → IsPlain (octal 4 x ++ (flat_map (behind_blank 4) ws ++ (blanks ++ instruction)))
+commented_plain : (x : ℕ) (ws blanks instruction : List ℕ) → IsPlain blanks → IsPlain instruction → IsPlain (octal 4 x ++ (flat_map (after_blank 4) ws ++ (blanks ++ instruction)))
 commented_plain x ws blanks instruction h k =
-    plain_append (octal 4 x) (flat_map (behind_blank 4) ws ++ (blanks ++ instruction)) (octal_plain 4 x)
-    (plain_append (flat_map (behind_blank 4) ws) (blanks ++ instruction) (words_plain 4 ws) (plain_append blanks instruction h k))
+    plain_append (octal 4 x) (flat_map (after_blank 4) ws ++ (blanks ++ instruction)) (octal_plain 4 x)
+    (plain_append (flat_map (after_blank 4) ws) (blanks ++ instruction) (words_plain 4 ws) (plain_append blanks instruction h k))
 
 pub line_plain : (line : ListedLine) → IsPlain (listed_text line)
 line_plain (bare line) = bare_plain line

@@ -4,18 +4,18 @@ use Rattle.std.specs.Prelude.{IsTrue, ◌&&◌, not, All, position, is_some, nat
 use Rattle.std.specs.List.{flat_map, list_any, range_with_len}
 use Rattle.std.proofs.lemmas.List.{map-append}
 use Rattle.std.proofs.lemmas.List.Elements.{All-cons, All-nil}
-use Rattle.pp_channel.specs.ChannelNumber.{names_channel}
+use Rattle.pp_channel.specs.ChannelNo.{names_channel}
 use Rattle.pp_machine.specs.MachineState.{MachineState, processor_of, is_opened}
 use Rattle.pp_machine.specs.DeadStart.{waiting_on}
 use Rattle.pp_machine.specs.Processor.{Processor, word_at}
-use Rattle.pp_machine.specs.ProcessorNumber.{names_processor, processor_index}
+use Rattle.pp_machine.specs.PpNo.{names_processor, processor_index}
 use Rattle.pp_machine.specs.Profile.{has_processor}
 use Rattle.pp_machine.specs.declared.profile.Profile.{Profile}
 use Rattle.pp_deck.specs.DeckLine.{Line, nothing, central_size, central_words, section, start, words, dead_start}
 use Rattle.pp_deck.specs.DeckLoad.{processor_loaded, central_loaded, asks_dead_start}
 use Rattle.pp_deck.specs.DeckLoad as load
 use Rattle.pp_deck.specs.DeckMeaning.{LoadedDeck, set_by, with_dead_start, loaded, deck_meaning, meaning_of_lines, faults_in, lines_said, size_of, unless_faulty, unless_foreign, is_foreign}
-use Rattle.pp_deck.specs.DeckProgress.{current_after}
+use Rattle.pp_deck.specs.Reading.{current_after}
 use Rattle.pp_deck.specs.DeckText.{lines_of}
 use Rattle.pp_deck.proofs.DeadStartLemmas as dead
 use Rattle.pp_deck.proofs.LawLemmas as law

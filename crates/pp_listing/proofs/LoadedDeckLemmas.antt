@@ -4,7 +4,7 @@ use Rattle.std.specs.Prelude.{IsTrue, ◌||◌, filter_map}
 use Rattle.pp_machine.specs.DeadStart.{waiting_on}
 use Rattle.pp_machine.specs.MachineState.{processor_of, is_opened}
 use Rattle.pp_machine.specs.Processor.{Processor, new_processor}
-use Rattle.pp_machine.specs.ProcessorNumber.{names_processor, processor_count, processor_number}
+use Rattle.pp_machine.specs.PpNo.{names_processor, processor_count, processor_number}
 use Rattle.pp_machine.specs.Profile.{has_processor}
 use Rattle.pp_machine.specs.declared.profile.Profile.{Profile}
 use Rattle.pp_machine.proofs.ProcessorPlaces.{channel_of_processor}

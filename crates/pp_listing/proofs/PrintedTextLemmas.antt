@@ -9,9 +9,9 @@ use Rattle.std.proofs.lemmas.List.Sums.{AllPass-from_list_all}
 use Rattle.std.proofs.lemmas.List.Splits.{slice_split_at}
 use Rattle.std.proofs.lemmas.List.Quantifiers.{position-Some}
 use Rattle.pp_machine.specs.declared.profile.Profile.{Profile}
-use Rattle.pp_deck.specs.DeckLine.{Line, line_behind, central_size}
+use Rattle.pp_deck.specs.DeckLine.{Line, line_after, central_size}
 use Rattle.pp_deck.specs.DeckMeaning.{LoadedDeck, deck_meaning, meaning_of_lines, is_foreign, unless_foreign, size_of, loaded, with_dead_start}
-use Rattle.pp_deck.specs.DeckProgress.{Progress, before_lines, after_line, after_lines, current_after, deck_so_far, progress_of}
+use Rattle.pp_deck.specs.Reading.{Progress, before_lines, after_line, after_lines, current_after, deck_so_far, progress_of}
 use Rattle.pp_deck.specs.DeckText.{is_line_feed, fields_of, lines_of}
 use Rattle.pp_deck.proofs.LinesLemmas.{next_line}
 use Rattle.pp_deck.proofs.ProgressLemmas.{after_lines_is}
@@ -99,7 +99,7 @@ module _ (profile : Profile) where
   -- each line is read as it is, behind those before it, where this is the section before the first
   abbrev pub IsReady : ℕ → Option ℕ → List Line → Type 0
   IsReady size current [] = Unit {0}
-  IsReady size current (line ∷ lines) = ((b : Bool) → line_behind profile size b (is_some current) (fields_said line) ≡ Ok line) × IsReady size (current_after line current) lines
+  IsReady size current (line ∷ lines) = ((b : Bool) → line_after profile size b (is_some current) (fields_said line) ≡ Ok line) × IsReady size (current_after line current) lines
 
   read_rest : (size : ℕ) (all : List (List (List ℕ))) (lines : List Line) (k : ℕ) (progress : Progress) (b : Bool) → size_of all ≡ size → ReadTo profile all k progress b → map fields_said lines ++ [] ∷ [] ≡ drop k all → IsReady size progress.current lines → meaning_of_lines profile all ≡ Ok (deck_after (fold after_line progress lines))
   read_rest size all [] k progress b is h e ready =
@@ -115,8 +115,8 @@ module _ (profile : Profile) where
       at_end k n le lt = omega (arith, le, lt)
   read_rest size all (line ∷ lines) k progress b is h e ready =
       let next = next_line all (fields_said line ∷ (map fields_said lines ++ [] ∷ [])) (map fields_said lines ++ [] ∷ []) k (fields_said line) e refl in
-      let reads : line_behind profile (size_of all) b (is_some progress.current) (get_or all k []) ≡ Ok line =
-      ap (λ (n : ℕ). line_behind profile n b (is_some progress.current) (get_or all k [])) is ∙ ap (line_behind profile size b (is_some progress.current)) next.here ∙ ready.0 b in
+      let reads : line_after profile (size_of all) b (is_some progress.current) (get_or all k []) ≡ Ok line =
+      ap (λ (n : ℕ). line_after profile n b (is_some progress.current) (get_or all k [])) is ∙ ap (line_after profile size b (is_some progress.current)) next.here ∙ ready.0 b in
       let more = read_more profile all k progress b line h next.within reads in
       let Q : Option ℕ → Type 0 = λ c. IsReady size c lines in
       read_rest size all lines (k + 1) (after_line progress line) _ is more next.behind (subst Q (sym (after_current progress line)) ready.1)
@@ -128,7 +128,7 @@ module _ (profile : Profile) where
       let all = fields_said (central_size n) ∷ (map fields_said lines ++ [] ∷ []) in
       let is : size_of all ≡ n = size_read n (map fields_said lines ++ [] ∷ []) least most in
       let start = read_none profile all (before_lines profile (size_of all)) refl in
-      let reads : line_behind profile (size_of all) false false (fields_said (central_size n)) ≡ Ok (central_size n) = central_size_read profile (size_of all) n false least most in
+      let reads : line_after profile (size_of all) false false (fields_said (central_size n)) ≡ Ok (central_size n) = central_size_read profile (size_of all) n false least most in
       let first = read_more profile all 0 (before_lines profile (size_of all)) false (central_size n) start (omega arith) reads in
       read_rest n all lines 1 (after_line (before_lines profile (size_of all)) (central_size n)) _ is first refl ready
       ∙ ap (λ (size : ℕ). Ok (deck_after (fold after_line (before_lines profile size) (central_size n ∷ lines)))) is

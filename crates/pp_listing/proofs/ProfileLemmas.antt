@@ -6,11 +6,11 @@ use Rattle.pp_word.specs.declared.opcode.Opcode.{Opcode}
 use Rattle.pp_word.specs.declared.opcode.Opcode.TheVariants.{UJN, ZJN, NJN, PJN, MJN, CRM, CWM, AJM, IJM, FJM, EJM, IAN, IAM, OAM, CRD}
 use Rattle.pp_channel.specs.declared.flags.Flags.{Flags}
 use Rattle.pp_channel.specs.declared.reply.Reply.TheVariants as replies
-use Rattle.pp_machine.specs.Blocks.{held, cut_short, block_word, starts, counts_down, counts_up, receives, stores_at}
-use Rattle.pp_machine.specs.Effects.{faults, stops, goes_to, jumps_where, branches_where, leads_to_itself, is_negative}
+use Rattle.pp_machine.specs.Block.{held, cut_short, block_word, starts, counts_down, counts_up, receives, stores_at}
+use Rattle.pp_machine.specs.Effect.{faults, stops, goes_to, jumps_where, branches_where, leads_to_itself, is_negative}
 use Rattle.pp_machine.specs.InstructionTable.{row, works_on_channel}
 use Rattle.pp_machine.specs.NeedAndEffect.{answered, step_of, next_step, processor_after, after_in}
-use Rattle.pp_machine.specs.OperandAndPlace.{operation, lower_six}
+use Rattle.pp_machine.specs.Operand.{operation, lower_six}
 use Rattle.pp_machine.specs.Processor.{Processor}
 use Rattle.pp_machine.specs.Profile.{has_channel}
 use Rattle.pp_machine.specs.Step.{Step, local, probes, takes, does, reads, writes}
@@ -42,11 +42,11 @@ either_step : (test : Bool) (pp : Processor) (step other : Step) → StepKeeps p
 either_step true pp step other k l = k
 either_step false pp step other k l = l
 
-jumps_keep : (test : Bool) (pp : Processor) (d : ℕ) → Keeps pp (jumps_where test pp d)
+jumps_keep : (test : Bool) (pp : Processor) (d : ℕ) → Keeps pp (jumps_where test pp d 1)
 jumps_keep true pp d = either (leads_to_itself d) pp pp (goes_to pp (relative_to pp.p d)) refl refl
 jumps_keep false pp d = refl
 
-branches_keep : (test : Bool) (pp : Processor) → Keeps pp (branches_where test pp)
+branches_keep : (test : Bool) (pp : Processor) → Keeps pp (branches_where test pp 2)
 branches_keep true pp = refl
 branches_keep false pp = refl
 
@@ -109,12 +109,8 @@ answered_keeps (reads address after) pp (answers.Read (Some word)) k = k word
 answered_keeps (reads address after) pp (answers.Read None) k = refl
 answered_keeps (writes address word after) pp (answers.Wrote true) k = k
 answered_keeps (writes address word after) pp (answers.Wrote false) k = refl
-answered_keeps (local after) pp (answers.Channel (replies.Held flags)) k = held_keeps pp.block pp flags
-answered_keeps (probes channel after) pp (answers.Channel (replies.Held flags)) k = held_keeps pp.block pp flags
 answered_keeps (takes channel after) pp (answers.Channel (replies.Held flags)) k = held_keeps pp.block pp flags
 answered_keeps (does channel op after) pp (answers.Channel (replies.Held flags)) k = held_keeps pp.block pp flags
-answered_keeps (reads address after) pp (answers.Channel (replies.Held flags)) k = held_keeps pp.block pp flags
-answered_keeps (writes address word after) pp (answers.Channel (replies.Held flags)) k = held_keeps pp.block pp flags
 answered_keeps step pp answer k = refl
 
 after_in_keeps : (state : PpState) (pp : Processor) (answer : Answer) → Keeps pp (after_in state pp answer)

@@ -7,7 +7,7 @@ use Rattle.pp_machine.specs.MachineState.{MachineState, processor_of}
 use Rattle.pp_machine.specs.MachineStep.{answer_to, stepped}
 use Rattle.pp_machine.specs.NeedAndEffect.{need, processor_after}
 use Rattle.pp_machine.specs.Processor.{Processor, new_processor, no_processor}
-use Rattle.pp_machine.specs.ProcessorNumber.{names_processor, processor_count, processor_index}
+use Rattle.pp_machine.specs.PpNo.{names_processor, processor_count, processor_index}
 use Rattle.pp_machine.specs.Profile.{has_processor}
 use Rattle.pp_machine.specs.StepLaws.{IsAtRest}
 use Rattle.pp_machine.specs.declared.profile.Profile.{Profile}

@@ -6,7 +6,7 @@ use Rattle.std.proofs.lemmas.Bool.{cases_lt}
 use Rattle.std.proofs.lemmas.List.{length-replicate, length-set, get_or_past}
 use Rattle.std.proofs.lemmas.List.Elements.{All-cons, All-nil, All-push}
 use Rattle.pp_channel.specs.Answer.{event_of, event_with, flags_of, history_after, ready_at, reply_by}
-use Rattle.pp_channel.specs.ChannelNumber.{channel_count, channel_index, channel_number}
+use Rattle.pp_channel.specs.ChannelNo.{channel_count, channel_index, channel_number}
 use Rattle.pp_channel.specs.History.{HasTwelveBitWord, HasTwelveBitWords, waiting}
 use Rattle.pp_channel.specs.declared.chan_op.ChanOp.{ChanOp}
 use Rattle.pp_channel.specs.declared.chan_op.ChanOp.TheVariants as operations
@@ -21,7 +21,7 @@ use Rattle.pp_machine.specs.MachineStep.{answer_to, histories_after, central_aft
 use Rattle.pp_machine.specs.NeedAndEffect.{need, need_in, next_step, processor_after}
 use Rattle.pp_machine.specs.PpMemory.{empty_memory}
 use Rattle.pp_machine.specs.Processor.{Processor, IsProcessor, no_processor}
-use Rattle.pp_machine.specs.ProcessorNumber.{processor_count, processor_index, processor_number}
+use Rattle.pp_machine.specs.PpNo.{processor_count, processor_index, processor_number}
 use Rattle.pp_machine.specs.Run.{run}
 use Rattle.pp_machine.specs.Step.{Step, need_of, local, probes, takes, does, reads, writes}
 use Rattle.pp_machine.specs.declared.need.Need.{Need}

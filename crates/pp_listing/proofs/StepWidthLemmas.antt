@@ -11,11 +11,11 @@ use Rattle.pp_channel.specs.declared.chan_op.ChanOp.TheVariants as operations
 use Rattle.pp_channel.specs.declared.flags.Flags.{Flags}
 use Rattle.pp_channel.specs.declared.reply.Reply.{Reply}
 use Rattle.pp_channel.specs.declared.reply.Reply.TheVariants as replies
-use Rattle.pp_machine.specs.Blocks.{stored_from, receives, central_from, held, cut_short, block_word, starts, ends, counts_down, counts_up, stores_at}
-use Rattle.pp_machine.specs.Effects.{goes_on, goes_to, faults, jumps_or_stops, jumps_where, branches_where, calls, leads_to_itself, is_negative, low_of, loads, stores_word, replaces}
+use Rattle.pp_machine.specs.Block.{stored_from, receives, central_from, held, cut_short, block_word, starts, ends, counts_down, counts_up, stores_at}
+use Rattle.pp_machine.specs.Effect.{goes_on, goes_to, faults, jumps_or_stops, jumps_where, branches_where, calls, leads_to_itself, is_negative, low_of, loads, stores_word, replaces}
 use Rattle.pp_machine.specs.InstructionTable.{row, works_on_channel}
 use Rattle.pp_machine.specs.NeedAndEffect.{answered, step_of, next_step, processor_after, after_in}
-use Rattle.pp_machine.specs.OperandAndPlace.{Operand, behind_p, operation, lower_six, second_word, index, constant, direct, indirect, at_index}
+use Rattle.pp_machine.specs.Operand.{place_after_p, operation, lower_six, second_word, index, constant, indirect}
 use Rattle.pp_machine.specs.PpMemory.{IsMemory}
 use Rattle.pp_machine.specs.Processor.{Processor, IsProcessor, word_at}
 use Rattle.pp_machine.specs.Profile.{has_channel}
@@ -62,11 +62,11 @@ module _ (pp : Processor) (h : IsProcessor pp) where
   at_p : (p : ℕ) → p < 2 ^ 12 → IsProcessor (goes_to pp p)
   at_p p small = record { memory = h.memory; a = h.a; p = small }
 
-  behind_small : (n : ℕ) → behind_p pp n < 2 ^ 12
+  behind_small : (n : ℕ) → place_after_p pp n < 2 ^ 12
   behind_small n = omega arith
 
   on : (n : ℕ) → IsProcessor (goes_on pp n)
-  on n = at_p (behind_p pp n) (behind_small n)
+  on n = at_p (place_after_p pp n) (behind_small n)
 
   at_rest : (state : PpState) (block : Option Block) → IsProcessor (record pp { state = state; block = block })
   at_rest state block = record { memory = h.memory; a = h.a; p = h.p }
@@ -78,34 +78,34 @@ module _ (pp : Processor) (h : IsProcessor pp) where
   either true one other k l = k
   either false one other k l = l
 
-  jumped : (test : Bool) (d : ℕ) → IsProcessor (jumps_where test pp d)
+  jumped : (test : Bool) (d : ℕ) → IsProcessor (jumps_where test pp d 1)
   jumped true d = either (leads_to_itself d) pp (goes_to pp (relative_to pp.p d)) h (at_p (relative_to pp.p d) (relative_small pp.p d))
   jumped false d = on 1
 
   jumped_or_stopped : (d : ℕ) → IsProcessor (jumps_or_stops pp d)
   jumped_or_stopped d = either (leads_to_itself d) _ (goes_to pp (relative_to pp.p d)) (at_rest Stopped pp.block) (at_p (relative_to pp.p d) (relative_small pp.p d))
 
-  branched : (test : Bool) → IsProcessor (branches_where test pp)
-  branched true = at_p (second_word pp) (word_small (behind_p pp 1))
+  branched : (test : Bool) → IsProcessor (branches_where test pp 2)
+  branched true = at_p (second_word pp) (word_small (place_after_p pp 1))
   branched false = on 2
 
   index_small : (d : ℕ) → index pp d < 2 ^ 12
-  index_small d = one_of (d == 0) (second_word pp) _ (2 ^ 12) (word_small (behind_p pp 1)) (indexed_small (second_word pp) (word_at pp d) (word_small (behind_p pp 1)) (word_small d))
+  index_small d = one_of (d == 0) (second_word pp) _ (2 ^ 12) (word_small (place_after_p pp 1)) (indexed_small (second_word pp) (word_at pp d) (word_small (place_after_p pp 1)) (word_small d))
 
-  called : (target : ℕ) → IsProcessor (calls pp target)
-  called target = record { memory = stored pp.memory target (behind_p pp 2) h.memory (behind_small 2); a = h.a; p = next_small target }
+  called : (target : ℕ) → IsProcessor (calls pp target 2)
+  called target = record { memory = stored pp.memory target (place_after_p pp 2) h.memory (behind_small 2); a = h.a; p = next_small target }
 
-  word_stored : (x : Operand) → IsProcessor (stores_word pp x)
-  word_stored x = record { memory = stored pp.memory x.place (low_of pp.a) h.memory (omega arith); a = h.a; p = behind_small x.words }
+  word_stored : (place n : ℕ) → IsProcessor (stores_word pp place n)
+  word_stored place n = record { memory = stored pp.memory place (low_of pp.a) h.memory (omega arith); a = h.a; p = behind_small n }
 
-  replaced : (x : Operand) (value : ℕ) → value < 2 ^ 18 → IsProcessor (replaces pp x value)
-  replaced x value small = record { memory = stored pp.memory x.place (low_of value) h.memory (omega arith); a = small; p = behind_small x.words }
+  replaced : (place value n : ℕ) → value < 2 ^ 18 → IsProcessor (replaces pp place value n)
+  replaced place value n small = record { memory = stored pp.memory place (low_of value) h.memory (omega arith); a = small; p = behind_small n }
 
   wide : (place : ℕ) → word_at pp place < 2 ^ 18
   wide place = omega (arith, word_small place)
 
   constant_small : (d : ℕ) → d < 0o100 → constant pp d < 2 ^ 18
-  constant_small d lt = omega (arith, lt, word_small (behind_p pp 1))
+  constant_small d lt = omega (arith, lt, word_small (place_after_p pp 1))
 
   put_at : (place word : ℕ) → word < 2 ^ 12 → IsProcessor (stores_at pp place word)
   put_at place word small = record { memory = stored pp.memory place word h.memory small; a = h.a; p = h.p }
@@ -192,26 +192,26 @@ row_keeps LDD pp d h lt = loaded pp h _ 1 (wide pp h d)
 row_keeps ADD pp d h lt = loaded pp h _ 1 (sum_small pp.a (word_at pp d))
 row_keeps SBD pp d h lt = loaded pp h _ 1 (difference_small pp.a (word_at pp d))
 row_keeps LMD pp d h lt = loaded pp h _ 1 (exclusive_or_small pp.a (word_at pp d))
-row_keeps STD pp d h lt = word_stored pp h (direct pp d)
-row_keeps RAD pp d h lt = replaced pp h (direct pp d) _ (sum_small pp.a (word_at pp d))
-row_keeps AOD pp d h lt = replaced pp h (direct pp d) _ (sum_small (word_at pp d) 1)
-row_keeps SOD pp d h lt = replaced pp h (direct pp d) _ (difference_small (word_at pp d) 1)
-row_keeps LDI pp d h lt = loaded pp h _ 1 (wide pp h (indirect pp d).place)
-row_keeps ADI pp d h lt = loaded pp h _ 1 (sum_small pp.a (word_at pp (indirect pp d).place))
-row_keeps SBI pp d h lt = loaded pp h _ 1 (difference_small pp.a (word_at pp (indirect pp d).place))
-row_keeps LMI pp d h lt = loaded pp h _ 1 (exclusive_or_small pp.a (word_at pp (indirect pp d).place))
-row_keeps STI pp d h lt = word_stored pp h (indirect pp d)
-row_keeps RAI pp d h lt = replaced pp h (indirect pp d) _ (sum_small pp.a (word_at pp (indirect pp d).place))
-row_keeps AOI pp d h lt = replaced pp h (indirect pp d) _ (sum_small (word_at pp (indirect pp d).place) 1)
-row_keeps SOI pp d h lt = replaced pp h (indirect pp d) _ (difference_small (word_at pp (indirect pp d).place) 1)
-row_keeps LDM pp d h lt = loaded pp h _ 2 (wide pp h (at_index pp d).place)
-row_keeps ADM pp d h lt = loaded pp h _ 2 (sum_small pp.a (word_at pp (at_index pp d).place))
-row_keeps SBM pp d h lt = loaded pp h _ 2 (difference_small pp.a (word_at pp (at_index pp d).place))
-row_keeps LMM pp d h lt = loaded pp h _ 2 (exclusive_or_small pp.a (word_at pp (at_index pp d).place))
-row_keeps STM pp d h lt = word_stored pp h (at_index pp d)
-row_keeps RAM pp d h lt = replaced pp h (at_index pp d) _ (sum_small pp.a (word_at pp (at_index pp d).place))
-row_keeps AOM pp d h lt = replaced pp h (at_index pp d) _ (sum_small (word_at pp (at_index pp d).place) 1)
-row_keeps SOM pp d h lt = replaced pp h (at_index pp d) _ (difference_small (word_at pp (at_index pp d).place) 1)
+row_keeps STD pp d h lt = word_stored pp h d 1
+row_keeps RAD pp d h lt = replaced pp h d _ 1 (sum_small pp.a (word_at pp d))
+row_keeps AOD pp d h lt = replaced pp h d _ 1 (sum_small (word_at pp d) 1)
+row_keeps SOD pp d h lt = replaced pp h d _ 1 (difference_small (word_at pp d) 1)
+row_keeps LDI pp d h lt = loaded pp h _ 1 (wide pp h (indirect pp d))
+row_keeps ADI pp d h lt = loaded pp h _ 1 (sum_small pp.a (word_at pp (indirect pp d)))
+row_keeps SBI pp d h lt = loaded pp h _ 1 (difference_small pp.a (word_at pp (indirect pp d)))
+row_keeps LMI pp d h lt = loaded pp h _ 1 (exclusive_or_small pp.a (word_at pp (indirect pp d)))
+row_keeps STI pp d h lt = word_stored pp h (indirect pp d) 1
+row_keeps RAI pp d h lt = replaced pp h (indirect pp d) _ 1 (sum_small pp.a (word_at pp (indirect pp d)))
+row_keeps AOI pp d h lt = replaced pp h (indirect pp d) _ 1 (sum_small (word_at pp (indirect pp d)) 1)
+row_keeps SOI pp d h lt = replaced pp h (indirect pp d) _ 1 (difference_small (word_at pp (indirect pp d)) 1)
+row_keeps LDM pp d h lt = loaded pp h _ 2 (wide pp h (index pp d))
+row_keeps ADM pp d h lt = loaded pp h _ 2 (sum_small pp.a (word_at pp (index pp d)))
+row_keeps SBM pp d h lt = loaded pp h _ 2 (difference_small pp.a (word_at pp (index pp d)))
+row_keeps LMM pp d h lt = loaded pp h _ 2 (exclusive_or_small pp.a (word_at pp (index pp d)))
+row_keeps STM pp d h lt = word_stored pp h (index pp d) 2
+row_keeps RAM pp d h lt = replaced pp h (index pp d) _ 2 (sum_small pp.a (word_at pp (index pp d)))
+row_keeps AOM pp d h lt = replaced pp h (index pp d) _ 2 (sum_small (word_at pp (index pp d)) 1)
+row_keeps SOM pp d h lt = replaced pp h (index pp d) _ 2 (difference_small (word_at pp (index pp d)) 1)
 row_keeps CRD pp d h lt = λ central. on (receives pp d central) (received pp h d central) 1
 row_keeps CRM pp d h lt = started pp h _ _
 row_keeps CWD pp d h lt = (central_small pp h d, on pp h 1)
@@ -227,7 +227,7 @@ row_keeps OAM pp d h lt = started pp h _ _
 row_keeps ACN pp d h lt = (tt, on pp h 1)
 row_keeps DCN pp d h lt = (tt, on pp h 1)
 row_keeps FAN pp d h lt = (low_small pp.a, on pp h 1)
-row_keeps FNC pp d h lt = (word_small pp h (behind_p pp 1), on pp h 2)
+row_keeps FNC pp d h lt = (word_small pp h (place_after_p pp 1), on pp h 2)
 
 block_keeps : (kind : BlockKind) (place : ℕ) (pp : Processor) → IsProcessor pp → StepKeeps (block_word kind place pp)
 block_keeps (CentralIn left) place pp h = λ central. counted_up (receives pp place central) (received pp h place central) (left - 1) (CentralIn (left - 1)) place
@@ -277,12 +277,8 @@ answered_keeps (reads address after) pp (answers.Read (Some word)) h k small = k
 answered_keeps (reads address after) pp (answers.Read None) h k small = at_rest pp h (Fault 4) None
 answered_keeps (writes address word after) pp (answers.Wrote true) h k small = k.1
 answered_keeps (writes address word after) pp (answers.Wrote false) h k small = at_rest pp h (Fault 4) None
-answered_keeps (local after) pp (answers.Channel (replies.Held flags)) h k small = held_keeps pp.block pp flags h
-answered_keeps (probes channel after) pp (answers.Channel (replies.Held flags)) h k small = held_keeps pp.block pp flags h
 answered_keeps (takes channel after) pp (answers.Channel (replies.Held flags)) h k small = held_keeps pp.block pp flags h
 answered_keeps (does channel op after) pp (answers.Channel (replies.Held flags)) h k small = held_keeps pp.block pp flags h
-answered_keeps (reads address after) pp (answers.Channel (replies.Held flags)) h k small = held_keeps pp.block pp flags h
-answered_keeps (writes address word after) pp (answers.Channel (replies.Held flags)) h k small = held_keeps pp.block pp flags h
 answered_keeps step pp answer h k small = h
 
 after_in_keeps : (state : PpState) (pp : Processor) (answer : Answer) → IsProcessor pp → IsSmallAnswer answer → IsProcessor (after_in state pp answer)

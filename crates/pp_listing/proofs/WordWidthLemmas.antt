@@ -6,9 +6,9 @@ use Rattle.std.proofs.Math.Nat.{pow-le-pow_right, pow-suc, pow-zero}
 use Rattle.std.proofs.lemmas.Bool.{ltb-true}
 use Rattle.std.proofs.lemmas.List.{length-drop, length-map, length-replicate}
 use Rattle.pp_word.specs.Address.{place_count, next_place, indexed, relative_to}
-use Rattle.pp_word.specs.BitPlaces.{number_of, places_of, rotated, shifted_right, shifted, complemented, place_by_place, combined, conjunction, exclusive_or, without}
+use Rattle.pp_word.specs.Bits.{number_of, bits_of, rotation, right_shift, shift, complement, bit_by_bit, combination, logical_product, logical_difference, selective_clear}
 use Rattle.pp_word.specs.OnesComplement.{all_ones, sum, difference}
-use Rattle.pp_word.proofs.PlacesLemmas.{length-lowest_places}
+use Rattle.pp_word.proofs.BitsLemmas.{length-lowest_bits}
 
 one_more : (r power : ℕ) → r < power → 1 + 2 * r < power * 2
 one_more r power lt = omega (arith, lt)
@@ -25,25 +25,25 @@ number_small (false ∷ bs) = rw (pow-suc 2 (length bs)) (none_more (number_of b
 number_fits : (bs : List Bool) → length bs ≤ 18 → number_of bs < 2 ^ 18
 number_fits bs short = omega (arith, number_small bs, pow-le-pow_right {n = 2} (lit< tt) {i = length bs} {j = 18} short)
 
-by_place : (f : Bool → Bool → Bool) (xs ys : List Bool) → length (place_by_place f xs ys) ≤ length xs
+by_place : (f : Bool → Bool → Bool) (xs ys : List Bool) → length (bit_by_bit f xs ys) ≤ length xs
 by_place f [] ys = omega arith
 by_place f (x ∷ xs) [] = omega arith
 by_place f (x ∷ xs) (y ∷ ys) = omega (arith, by_place f xs ys)
 
-combined_small : (f : Bool → Bool → Bool) (a b : ℕ) → combined f a b < 2 ^ 18
-combined_small f a b = number_fits (place_by_place f (places_of a) (places_of b)) (omega (arith, by_place f (places_of a) (places_of b), length-lowest_places 18 a))
+combined_small : (f : Bool → Bool → Bool) (a b : ℕ) → combination f a b < 2 ^ 18
+combined_small f a b = number_fits (bit_by_bit f (bits_of a) (bits_of b)) (omega (arith, by_place f (bits_of a) (bits_of b), length-lowest_bits 18 a))
 
-pub conjunction_small : (a b : ℕ) → conjunction a b < 2 ^ 18
+pub conjunction_small : (a b : ℕ) → logical_product a b < 2 ^ 18
 conjunction_small a b = combined_small (λ x y. x && y) a b
 
-pub exclusive_or_small : (a b : ℕ) → exclusive_or a b < 2 ^ 18
+pub exclusive_or_small : (a b : ℕ) → logical_difference a b < 2 ^ 18
 exclusive_or_small a b = combined_small (λ x y. if x then not y else y) a b
 
-pub without_small : (a b : ℕ) → without a b < 2 ^ 18
+pub without_small : (a b : ℕ) → selective_clear a b < 2 ^ 18
 without_small a b = combined_small (λ x y. x && not y) a b
 
-pub complemented_small : (a : ℕ) → complemented a < 2 ^ 18
-complemented_small a = number_fits (map not (places_of a)) (omega (arith, length-map (places_of a) not, length-lowest_places 18 a))
+pub complemented_small : (a : ℕ) → complement a < 2 ^ 18
+complemented_small a = number_fits (map not (bits_of a)) (omega (arith, length-map (bits_of a) not, length-lowest_bits 18 a))
 
 pub one_of : (b : Bool) (x y most : ℕ) → x < most → y < most → (if b then x else y) < most
 one_of true x y most h k = h
@@ -52,14 +52,14 @@ one_of false x y most h k = k
 rotated_short : (k : ℕ) (bs : List Bool) → length bs ≡ 18 → length (drop k bs ++ take k bs) ≤ 18
 rotated_short k bs long = omega (arith, long, length-append (drop k bs) (take k bs), length-drop k bs, length-take k bs)
 
-shifted_short : (k : ℕ) (bs : List Bool) → length bs ≡ 18 → length (shifted_right k bs) ≤ 18
+shifted_short : (k : ℕ) (bs : List Bool) → length bs ≡ 18 → length (right_shift k bs) ≤ 18
 shifted_short k bs long = omega (arith, long, length-append (drop k bs) (replicate (min k 18) false), length-drop k bs, length-replicate {A = Bool} (min k 18) false)
 
-pub shifted_small : (a d : ℕ) → shifted a d < 2 ^ 18
+pub shifted_small : (a d : ℕ) → shift a d < 2 ^ 18
 shifted_small a d =
-    one_of (nat_lt d 0o40) (number_of (rotated d (places_of a))) (number_of (shifted_right (0o77 - d) (places_of a))) (2 ^ 18)
-    (number_fits (rotated d (places_of a)) (rotated_short (18 - d % 18) (places_of a) (length-lowest_places 18 a)))
-    (number_fits (shifted_right (0o77 - d) (places_of a)) (shifted_short (0o77 - d) (places_of a) (length-lowest_places 18 a)))
+    one_of (nat_lt d 0o40) (number_of (rotation d (bits_of a))) (number_of (right_shift (0o77 - d) (bits_of a))) (2 ^ 18)
+    (number_fits (rotation d (bits_of a)) (rotated_short (18 - d % 18) (bits_of a) (length-lowest_bits 18 a)))
+    (number_fits (right_shift (0o77 - d) (bits_of a)) (shifted_short (0o77 - d) (bits_of a) (length-lowest_bits 18 a)))
 
 pub sum_small : (a b : ℕ) → sum a b < 2 ^ 18
 sum_small a b = one_of _ all_ones ((a + b) % all_ones) (2 ^ 18) (omega arith) (omega arith)

@@ -1,10 +1,10 @@
 -- The dump of a deck that has run: the listing of a deck to go on from.
 use Rattle.std.specs.Prelude.{◌≡◌, ◌≤◌, Ok, ℕ, Bool, ◌&&◌, ◌||◌, List, ◌++◌, length, map, Option, Some, None, slice_get, filter_map, if◌then◌else◌}
-use Rattle.pp_channel.specs.ChannelNumber.{names_channel}
+use Rattle.pp_channel.specs.ChannelNo.{names_channel}
 use Rattle.pp_channel.specs.History.{active}
 use Rattle.pp_machine.specs.MachineState.{MachineState, new_machine, processor_of, history_of, is_opened}
 use Rattle.pp_machine.specs.Processor.{Processor, new_processor}
-use Rattle.pp_machine.specs.ProcessorNumber.{names_processor}
+use Rattle.pp_machine.specs.PpNo.{names_processor}
 use Rattle.pp_machine.specs.Run.{run}
 use Rattle.pp_machine.specs.declared.block.Block.{Block}
 use Rattle.pp_machine.specs.declared.pp_state.PpState.{PpState}

@@ -7,18 +7,18 @@ use Rattle.pp_listing.specs.InstructionText.{instruction_text}
 use Rattle.pp_listing.specs.OctalDigits.{octal, short_octal}
 
 -- a number in exactly this many digits, after a blank
-abbrev pub behind_blank : ℕ → ℕ → List ℕ
-behind_blank width n = 32 ∷ octal width n
+abbrev pub after_blank : ℕ → ℕ → List ℕ
+after_blank width n = 32 ∷ octal width n
 
 -- what a line of a deck says, printed: places, words and starts in all their digits, other numbers
 -- without leading zeros
 abbrev pub line_text : Line → List ℕ
 line_text nothing = []
 line_text (central_size n) = codes "CENTRAL " ++ short_octal 6 n
-line_text (central_words a ws) = codes "CM " ++ short_octal 6 a ++ flat_map (behind_blank 20) ws
+line_text (central_words a ws) = codes "CM " ++ short_octal 6 a ++ flat_map (after_blank 20) ws
 line_text (section n) = codes "PP " ++ short_octal 2 n
-line_text (start p a) = codes "START" ++ behind_blank 4 p ++ behind_blank 6 a
-line_text (words x ws) = octal 4 x ++ flat_map (behind_blank 4) ws
+line_text (start p a) = codes "START" ++ after_blank 4 p ++ after_blank 6 a
+line_text (words x ws) = octal 4 x ++ flat_map (after_blank 4) ws
 line_text dead_start = codes "DEAD"
 
 -- a text, padded with spaces to this many columns

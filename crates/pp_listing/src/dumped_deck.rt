@@ -67,7 +67,10 @@ fn dump_between<A: Allocator + Copy, B: Allocator>(
 /// Which processors are in use, in the barrel's order.
 fn in_use<B: Allocator>(deck: &Deck<B>) -> [bool; PROCESSORS]
     ensures { result
-        ≡ each_processor (is_in_use (record { machine = deck.now.machine; named = deck.now.named })) }
+        ≡ each_processor (is_in_use (record {
+          machine = deck.now.machine;
+          named = deck.now.named;
+        })) }
 {
     let mut named = [false; PROCESSORS];
     for place in 0..PROCESSORS {

@@ -1,11 +1,11 @@
 //! The kinds of operands that instructions have.
 
 ghost use Rattle.std.specs.Prelude.{◌≡◌};
-ghost use Rattle.pp_word.specs.OperationCodes.{code_of};
+ghost use Rattle.pp_word.specs.Opcode.{code_of};
 
 use pp_word::Opcode;
 
-/// What stands behind the mnemonic of an instruction, of which d is the lower six bits and m the
+/// What comes after the mnemonic of an instruction, of which d is the lower six bits and m the
 /// second word.
 #[derive(Clone, Copy, Debug, PartialEq, Eq)]
 pub enum Operands {

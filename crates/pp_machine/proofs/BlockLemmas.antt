@@ -1,13 +1,13 @@
 -- Block transfers, a word at a time: what several words leave.
 use Rattle.std.proofs.Common.{◌≡◌, ℕ, zero, suc, ◌+◌, ◌-◌, ◌*◌, ◌%◌, ◌^◌, ◌<◌, ◌≤◌, ◌==◌, Bool, true, false, List, [], ◌∷◌, None, Some, map, replicate, length, slice_index, slice_set, refl, ap, ◌∙◌, sym, arith, if◌then◌else◌}
 use Rattle.std.proofs.lemmas.Grind.{common_steps}
-use Rattle.pp_word.specs.Address.{place_count, next_place}
+use Rattle.pp_word.specs.Address.{place_count, place_after, next_place}
 use Rattle.pp_word.specs.CentralWord.{parts_of}
 use Rattle.pp_word.specs.OnesComplement.{all_ones, sum, difference}
 use Rattle.pp_channel.specs.declared.chan_op.ChanOp.TheVariants.{Put, Take}
 use Rattle.pp_channel.specs.declared.reply.Reply.TheVariants.{Done, Word}
-use Rattle.pp_machine.specs.Blocks.{central_from, stored_from}
-use Rattle.pp_machine.specs.BlockResults.{place_from, inactive, five_from, address_of}
+use Rattle.pp_machine.specs.Block.{central_from, stored_from}
+use Rattle.pp_machine.specs.BlockResults.{inactive, five_from, address_of}
 use Rattle.pp_machine.specs.NeedAndEffect.{need, processor_after}
 use Rattle.pp_machine.specs.Processor.{Processor}
 use Rattle.pp_machine.specs.Replay.{fits}
@@ -48,7 +48,7 @@ address_of-more (suc n) a h =
     let next : suc n + 1 ≡ suc (suc n) = omega arith in
     address_of-some (sum a 1) (suc n) (omega arith) ∙ sum-sum a (suc n) (omega arith) h ∙ ap (λ x. sum a x) next ∙ sym (address_of-some a (suc (suc n)) (omega arith))
 
-five_on : (m i : ℕ) → (place_from m i + 5) % place_count ≡ place_from m (i + 5)
+five_on : (m i : ℕ) → (place_after m i + 5) % place_count ≡ place_after m (i + 5)
 five_on m i = omega arith
 
 module _ (profile : Profile) where
@@ -84,23 +84,23 @@ module _ (profile : Profile) where
 
   -- words that come in, up to as many as A says
   pub inputs : (words memory : List ℕ) (a p channel m i : ℕ) → length words ≤ a → a < 2 ^ 18 →
-      Gives (position a memory a p (Input channel) (place_from m i)) (map (λ word. Channel (Word word)) words) (position (a - length words) (stored memory m i words) (a - length words) p (Input channel) (place_from m (i + length words)))
+      Gives (position a memory a p (Input channel) (place_after m i)) (map (λ word. Channel (Word word)) words) (position (a - length words) (stored memory m i words) (a - length words) p (Input channel) (place_after m (i + length words)))
   inputs [] memory a p channel m i h k =
       let same : a - 0 ≡ a = omega arith in
       let here : i + 0 ≡ i = omega arith in
       rw (same, here, stored-nil) refl
   inputs (word ∷ words) memory a p channel m i h k =
-      let place = place_from m i in
+      let place = place_after m i in
       let memory' = slice_set memory place word in
       let some : 0 < a = omega arith in
-      let middle = position (a - 1) memory' (a - 1) p (Input channel) (place_from m (i + 1)) in
+      let middle = position (a - 1) memory' (a - 1) p (Input channel) (place_after m (i + 1)) in
       let after : processor_after (midway memory a p (Input channel) place) (Channel (Word word)) ≡ middle = input_word memory a p channel place word some k ∙ ap (λ x. position (a - 1) memory' (a - 1) p (Input channel) x) (next-place_from m i) in
       let rest = inputs words memory' (a - 1) p channel m (i + 1) (omega arith) (omega arith) in
       let fewer : a - 1 - length words ≡ a - length (word ∷ words) = omega arith in
       let further : i + 1 + length words ≡ i + length (word ∷ words) = omega arith in
-      let same = ap (λ n. position n (stored memory' m (i + 1) words) n p (Input channel) (place_from m (i + 1 + length words))) fewer
-      ∙ ap (λ n. position (a - length (word ∷ words)) (stored memory' m (i + 1) words) (a - length (word ∷ words)) p (Input channel) (place_from m n)) further
-      ∙ ap (λ new. position (a - length (word ∷ words)) new (a - length (word ∷ words)) p (Input channel) (place_from m (i + length (word ∷ words)))) (sym (stored-cons memory m i word words)) in
+      let same = ap (λ n. position n (stored memory' m (i + 1) words) n p (Input channel) (place_after m (i + 1 + length words))) fewer
+      ∙ ap (λ n. position (a - length (word ∷ words)) (stored memory' m (i + 1) words) (a - length (word ∷ words)) p (Input channel) (place_after m n)) further
+      ∙ ap (λ new. position (a - length (word ∷ words)) new (a - length (word ∷ words)) p (Input channel) (place_after m (i + length (word ∷ words)))) (sym (stored-cons memory m i word words)) in
       rw (position-some a memory a p (Input channel) place some)
       (Gives-cons (midway memory a p (Input channel) place) middle _ (Channel (Word word)) (map (λ w. Channel (Word w)) words) (input_fits memory a p channel place word) after (Gives-to middle _ _ (map (λ w. Channel (Word w)) words) rest same))
 
@@ -127,21 +127,21 @@ module _ (profile : Profile) where
 
   -- words that go out, up to as many as A says
   pub outputs : (count : ℕ) (memory : List ℕ) (a p channel m i : ℕ) → count ≤ a → a < 2 ^ 18 →
-      Gives (position a memory a p (Output channel) (place_from m i)) (replicate count (Channel Done)) (position (a - count) memory (a - count) p (Output channel) (place_from m (i + count)))
+      Gives (position a memory a p (Output channel) (place_after m i)) (replicate count (Channel Done)) (position (a - count) memory (a - count) p (Output channel) (place_after m (i + count)))
   outputs zero memory a p channel m i h k =
       let same : a - 0 ≡ a = omega arith in
       let here : i + 0 ≡ i = omega arith in
       rw (same, here) refl
   outputs (suc count) memory a p channel m i h k =
-      let place = place_from m i in
+      let place = place_after m i in
       let some : 0 < a = omega arith in
-      let middle = position (a - 1) memory (a - 1) p (Output channel) (place_from m (i + 1)) in
+      let middle = position (a - 1) memory (a - 1) p (Output channel) (place_after m (i + 1)) in
       let after : processor_after (midway memory a p (Output channel) place) (Channel Done) ≡ middle = output_word memory a p channel place some k ∙ ap (λ x. position (a - 1) memory (a - 1) p (Output channel) x) (next-place_from m i) in
       let rest = outputs count memory (a - 1) p channel m (i + 1) (omega arith) (omega arith) in
       let fewer : a - 1 - count ≡ a - suc count = omega arith in
       let further : i + 1 + count ≡ i + suc count = omega arith in
-      let same = ap (λ n. position n memory n p (Output channel) (place_from m (i + 1 + count))) fewer
-      ∙ ap (λ n. position (a - suc count) memory (a - suc count) p (Output channel) (place_from m n)) further in
+      let same = ap (λ n. position n memory n p (Output channel) (place_after m (i + 1 + count))) fewer
+      ∙ ap (λ n. position (a - suc count) memory (a - suc count) p (Output channel) (place_after m n)) further in
       rw (position-some a memory a p (Output channel) place some)
       (Gives-cons (midway memory a p (Output channel) place) middle _ (Channel Done) (replicate count (Channel Done)) (output_fits memory a p channel place) after (Gives-to middle _ _ (replicate count (Channel Done)) rest same))
 
@@ -158,25 +158,25 @@ module _ (profile : Profile) where
   -- central words that come in, up to as many as are left
   pub centrals_in : (centrals : List ℕ) (left : ℕ) (memory : List ℕ) (a p m i : ℕ) → length centrals ≤ left →
       length centrals < 2 ^ 12 →
-      Gives (position left memory a p (CentralIn left) (place_from m i)) (map (λ central. Read (Some central)) centrals) (position (left - length centrals) (stored memory m i (parts_of_all centrals)) (address_of a (length centrals)) p (CentralIn (left - length centrals)) (place_from m (i + 5 * length centrals)))
+      Gives (position left memory a p (CentralIn left) (place_after m i)) (map (λ central. Read (Some central)) centrals) (position (left - length centrals) (stored memory m i (parts_of_all centrals)) (address_of a (length centrals)) p (CentralIn (left - length centrals)) (place_after m (i + 5 * length centrals)))
   centrals_in [] left memory a p m i h k =
       let same : left - 0 ≡ left = omega arith in
       let here : i + 5 * 0 ≡ i = omega arith in
       rw (same, here, stored-no_parts) refl
   centrals_in (central ∷ centrals) left memory a p m i h k =
-      let place = place_from m i in
+      let place = place_after m i in
       let n = length centrals in
       let memory' = stored_from memory place (parts_of central) in
       let some : 0 < left = omega arith in
-      let middle = position (left - 1) memory' (sum a 1) p (CentralIn (left - 1)) (place_from m (i + 5)) in
+      let middle = position (left - 1) memory' (sum a 1) p (CentralIn (left - 1)) (place_after m (i + 5)) in
       let after : processor_after (midway memory a p (CentralIn left) place) (Read (Some central)) ≡ middle = central_in_word left memory a p place central ∙ ap (λ x. position (left - 1) memory' (sum a 1) p (CentralIn (left - 1)) x) (five_on m i) in
       let rest = centrals_in centrals (left - 1) memory' (sum a 1) p m (i + 5) (omega arith) (omega arith) in
       let fewer : left - 1 - n ≡ left - suc n = omega arith in
       let further : i + 5 + 5 * n ≡ i + 5 * suc n = omega arith in
-      let same = ap (λ x. position x (stored memory' m (i + 5) (parts_of_all centrals)) (address_of (sum a 1) n) p (CentralIn x) (place_from m (i + 5 + 5 * n))) fewer
-      ∙ ap (λ x. position (left - suc n) (stored memory' m (i + 5) (parts_of_all centrals)) (address_of (sum a 1) n) p (CentralIn (left - suc n)) (place_from m x)) further
-      ∙ ap (λ x. position (left - suc n) (stored memory' m (i + 5) (parts_of_all centrals)) x p (CentralIn (left - suc n)) (place_from m (i + 5 * suc n))) (address_of-more n a (omega arith))
-      ∙ ap (λ x. position (left - suc n) x (address_of a (suc n)) p (CentralIn (left - suc n)) (place_from m (i + 5 * suc n))) (sym (stored-parts central centrals memory m i)) in
+      let same = ap (λ x. position x (stored memory' m (i + 5) (parts_of_all centrals)) (address_of (sum a 1) n) p (CentralIn x) (place_after m (i + 5 + 5 * n))) fewer
+      ∙ ap (λ x. position (left - suc n) (stored memory' m (i + 5) (parts_of_all centrals)) (address_of (sum a 1) n) p (CentralIn (left - suc n)) (place_after m x)) further
+      ∙ ap (λ x. position (left - suc n) (stored memory' m (i + 5) (parts_of_all centrals)) x p (CentralIn (left - suc n)) (place_after m (i + 5 * suc n))) (address_of-more n a (omega arith))
+      ∙ ap (λ x. position (left - suc n) x (address_of a (suc n)) p (CentralIn (left - suc n)) (place_after m (i + 5 * suc n))) (sym (stored-parts central centrals memory m i)) in
       rw (position-some left memory a p (CentralIn left) place some)
       (Gives-cons (midway memory a p (CentralIn left) place) middle _ (Read (Some central)) (map (λ x. Read (Some x)) centrals) (central_in_fits left memory a p place central) after (Gives-to middle _ _ (map (λ x. Read (Some x)) centrals) rest same))
 
@@ -192,22 +192,22 @@ module _ (profile : Profile) where
 
   -- central words that go out, up to as many as are left
   pub centrals_out : (count left : ℕ) (memory : List ℕ) (a p m i : ℕ) → count ≤ left → count < 2 ^ 12 →
-      Gives (position left memory a p (CentralOut left) (place_from m i)) (replicate count (Wrote true)) (position (left - count) memory (address_of a count) p (CentralOut (left - count)) (place_from m (i + 5 * count)))
+      Gives (position left memory a p (CentralOut left) (place_after m i)) (replicate count (Wrote true)) (position (left - count) memory (address_of a count) p (CentralOut (left - count)) (place_after m (i + 5 * count)))
   centrals_out zero left memory a p m i h k =
       let same : left - 0 ≡ left = omega arith in
       let here : i + 5 * 0 ≡ i = omega arith in
       rw (same, here) refl
   centrals_out (suc n) left memory a p m i h k =
-      let place = place_from m i in
+      let place = place_after m i in
       let some : 0 < left = omega arith in
-      let middle = position (left - 1) memory (sum a 1) p (CentralOut (left - 1)) (place_from m (i + 5)) in
+      let middle = position (left - 1) memory (sum a 1) p (CentralOut (left - 1)) (place_after m (i + 5)) in
       let after : processor_after (midway memory a p (CentralOut left) place) (Wrote true) ≡ middle = central_out_word left memory a p place ∙ ap (λ x. position (left - 1) memory (sum a 1) p (CentralOut (left - 1)) x) (five_on m i) in
       let rest = centrals_out n (left - 1) memory (sum a 1) p m (i + 5) (omega arith) (omega arith) in
       let fewer : left - 1 - n ≡ left - suc n = omega arith in
       let further : i + 5 + 5 * n ≡ i + 5 * suc n = omega arith in
-      let same = ap (λ x. position x memory (address_of (sum a 1) n) p (CentralOut x) (place_from m (i + 5 + 5 * n))) fewer
-      ∙ ap (λ x. position (left - suc n) memory (address_of (sum a 1) n) p (CentralOut (left - suc n)) (place_from m x)) further
-      ∙ ap (λ x. position (left - suc n) memory x p (CentralOut (left - suc n)) (place_from m (i + 5 * suc n))) (address_of-more n a (omega arith)) in
+      let same = ap (λ x. position x memory (address_of (sum a 1) n) p (CentralOut x) (place_after m (i + 5 + 5 * n))) fewer
+      ∙ ap (λ x. position (left - suc n) memory (address_of (sum a 1) n) p (CentralOut (left - suc n)) (place_after m x)) further
+      ∙ ap (λ x. position (left - suc n) memory x p (CentralOut (left - suc n)) (place_after m (i + 5 * suc n))) (address_of-more n a (omega arith)) in
       rw (position-some left memory a p (CentralOut left) place some)
       (Gives-cons (midway memory a p (CentralOut left) place) middle _ (Wrote true) (replicate n (Wrote true)) (central_out_fits left memory a p place) after (Gives-to middle _ _ (replicate n (Wrote true)) rest same))
 
@@ -228,12 +228,12 @@ module _ (profile : Profile) where
   central_in_need left memory a p place h = rw (position-some left memory a p (CentralIn left) place h) refl
 
   central_from-place_from : (memory : List ℕ) (a p : ℕ) (kind : BlockKind) (m j : ℕ) →
-      central_from (midway memory a p kind (place_from m j)) (place_from m j) ≡ five_from memory m j
+      central_from (midway memory a p kind (place_after m j)) (place_after m j) ≡ five_from memory m j
   central_from-place_from memory a p kind m j =
-      let one : (place_from m j + 1) % place_count ≡ place_from m (j + 1) = omega arith in
-      let two : (place_from m j + 2) % place_count ≡ place_from m (j + 2) = omega arith in
-      let three : (place_from m j + 3) % place_count ≡ place_from m (j + 3) = omega arith in
-      let four : (place_from m j + 4) % place_count ≡ place_from m (j + 4) = omega arith in
+      let one : (place_after m j + 1) % place_count ≡ place_after m (j + 1) = omega arith in
+      let two : (place_after m j + 2) % place_count ≡ place_after m (j + 2) = omega arith in
+      let three : (place_after m j + 3) % place_count ≡ place_after m (j + 3) = omega arith in
+      let four : (place_after m j + 4) % place_count ≡ place_after m (j + 4) = omega arith in
       rw (one, two, three, four) refl
 
   central_out_need_midway : (left : ℕ) (memory : List ℕ) (a p place : ℕ) →
@@ -242,8 +242,8 @@ module _ (profile : Profile) where
   central_out_need_midway left memory a p place = refl
 
   pub central_out_need : (left : ℕ) (memory : List ℕ) (a p m j : ℕ) → 0 < left →
-      need (position left memory a p (CentralOut left) (place_from m j)) ≡ needs.Write a (five_from memory m j)
+      need (position left memory a p (CentralOut left) (place_after m j)) ≡ needs.Write a (five_from memory m j)
   central_out_need left memory a p m j h =
-      ap (λ t. need t) (position-some left memory a p (CentralOut left) (place_from m j) h)
-      ∙ central_out_need_midway left memory a p (place_from m j)
+      ap (λ t. need t) (position-some left memory a p (CentralOut left) (place_after m j) h)
+      ∙ central_out_need_midway left memory a p (place_after m j)
       ∙ ap (λ word. needs.Write a word) (central_from-place_from memory a p (CentralOut left) m j)

@@ -2,16 +2,16 @@
 use Rattle.std.proofs.Common.{◌≡◌, ℕ, ◌+◌, ◌-◌, ◌*◌, ◌%◌, ◌^◌, ◌<◌, ◌≤◌, Bool, true, List, [], ◌∷◌, ◌++◌, None, Some, map, replicate, take, length, slice_index, slice_set, refl, ap, ◌∙◌, sym, subst, arith, add-one}
 use Rattle.std.proofs.lemmas.Grind.{common_steps}
 use Rattle.std.proofs.lemmas.List.{take-map, take-replicate, length-take-le, take-append-le, length-map, length-replicate}
-use Rattle.pp_word.specs.Address.{place_count}
+use Rattle.pp_word.specs.Address.{place_count, place_after}
 use Rattle.pp_word.specs.OnesComplement.{sum}
 use Rattle.pp_word.specs.declared.opcode.Opcode.TheVariants.{IAM, OAM, CRM, CWM}
 use Rattle.pp_channel.specs.declared.chan_op.ChanOp.TheVariants.{Put, Take}
 use Rattle.pp_channel.specs.declared.reply.Reply.TheVariants.{Done, Word}
-use Rattle.pp_machine.specs.Blocks.{starts}
-use Rattle.pp_machine.specs.BlockResults.{place_from, kept_memory, BringsWords, EndsBlock, need_met, inactive, words_given, words_taken, centrals_given, centrals_taken, TakesWords, PutsWords, ReadsCentrals, WritesCentrals, WholeInput, ClosedInput, WholeOutput, CutOutput, CentralInput, CentralOutput, address_of, five_from}
+use Rattle.pp_machine.specs.Block.{starts}
+use Rattle.pp_machine.specs.BlockResults.{kept_memory, BringsWords, EndsBlock, need_before_answer, inactive, input_answers, output_answers, read_answers, write_answers, TakesWords, PutsWords, ReadsCentrals, WritesCentrals, CompleteInput, ShortInput, CompleteOutput, ShortOutput, CentralRead, CentralWrite, address_of, five_from}
 use Rattle.pp_machine.specs.InstructionTable.{instruction}
 use Rattle.pp_machine.specs.NeedAndEffect.{need, processor_after}
-use Rattle.pp_machine.specs.OperandAndPlace.{operation, lower_six, second_word}
+use Rattle.pp_machine.specs.Operand.{operation, lower_six, second_word}
 use Rattle.pp_machine.specs.PpMemory.{IsMemory}
 use Rattle.pp_machine.specs.Processor.{Processor, IsProcessor, word_at}
 use Rattle.pp_machine.specs.Profile.{has_channel}
@@ -42,17 +42,17 @@ module _ (profile : Profile) where
 
   -- place m is place 0 of the places from m on
   place_from-zero : (memory : List ℕ) (a p : ℕ) → IsMemory memory →
-      place_from (second_word (idle profile memory a p)) 0 ≡ second_word (idle profile memory a p)
+      place_after (second_word (idle profile memory a p)) 0 ≡ second_word (idle profile memory a p)
   place_from-zero memory a p is_memory = let small = is_memory.each_word ((p + 1) % place_count) in omega arith
 
   -- a block gives its start, and then what its words give
   pub started : (memory : List ℕ) (a p count : ℕ) (kind : BlockKind) (xs : List Answer) (new : Processor) →
       IsMemory memory →
-      instruction (operation (idle profile memory a p)) (idle profile memory a p) (lower_six (idle profile memory a p)) ≡ local (starts (idle profile memory a p) count kind) → Gives (position profile count (kept_memory (idle profile memory a p)) a p kind (place_from (second_word (idle profile memory a p)) 0)) xs new → Gives (idle profile memory a p) (Local ∷ xs) new
+      instruction (operation (idle profile memory a p)) (idle profile memory a p) (lower_six (idle profile memory a p)) ≡ local (starts (idle profile memory a p) count kind) → Gives (position profile count (kept_memory (idle profile memory a p)) a p kind (place_after (second_word (idle profile memory a p)) 0)) xs new → Gives (idle profile memory a p) (Local ∷ xs) new
   started memory a p count kind xs new is_memory e g =
       let kept = kept_memory (idle profile memory a p) in
       let here = ap (λ x. position profile count kept a p kind x) (sym (place_from-zero memory a p is_memory)) in
-      Gives-cons (idle profile memory a p) (position profile count kept a p kind (place_from (second_word (idle profile memory a p)) 0)) new Local xs (start_fits memory a p count kind e) (start_after memory a p count kind e ∙ here) g
+      Gives-cons (idle profile memory a p) (position profile count kept a p kind (place_after (second_word (idle profile memory a p)) 0)) new Local xs (start_fits memory a p count kind e) (start_after memory a p count kind e ∙ here) g
 
   input_row : (memory : List ℕ) (a p : ℕ) → operation (idle profile memory a p) ≡ IAM →
       has_channel profile (lower_six (idle profile memory a p)) ≡ true →
@@ -90,7 +90,7 @@ module _ (profile : Profile) where
 
   -- the need that answer i meets is that of the processor after those before it
   met : (pp middle : Processor) (x : Answer) (xs front : List Answer) (i : ℕ) → take i xs ≡ front →
-      Gives pp (x ∷ front) middle → need_met pp (x ∷ xs) i ≡ need middle
+      Gives pp (x ∷ front) middle → need_before_answer pp (x ∷ xs) i ≡ need middle
   met pp middle x xs front i e g =
       let more : take (i + 1) (x ∷ xs) ≡ x ∷ front = rw add-one (ap (λ zs. x ∷ zs) e) in
       rw more (ap (λ t. need t) (replayed-Gives (x ∷ front) pp middle g))
@@ -99,7 +99,7 @@ module _ (profile : Profile) where
 
   input_gives : (memory : List ℕ) (a p : ℕ) (words : List ℕ) → IsProcessor (idle profile memory a p) →
       operation (idle profile memory a p) ≡ IAM → has_channel profile (lower_six (idle profile memory a p)) ≡ true → length words ≤ a →
-      Gives (idle profile memory a p) (words_given words) (position profile (a - length words) (stored (kept_memory (idle profile memory a p)) (second_word (idle profile memory a p)) 0 words) (a - length words) p (Input (lower_six (idle profile memory a p))) (place_from (second_word (idle profile memory a p)) (0 + length words)))
+      Gives (idle profile memory a p) (input_answers words) (position profile (a - length words) (stored (kept_memory (idle profile memory a p)) (second_word (idle profile memory a p)) 0 words) (a - length words) p (Input (lower_six (idle profile memory a p))) (place_after (second_word (idle profile memory a p)) (0 + length words)))
   input_gives memory a p words ok code named h =
       started memory a p a (Input (lower_six (idle profile memory a p))) (map (λ word. Channel (Word word)) words) _ ok.memory (input_row memory a p code named)
       (inputs profile words (kept_memory (idle profile memory a p)) a p (lower_six (idle profile memory a p)) (second_word (idle profile memory a p)) 0 h ok.a)
@@ -108,45 +108,45 @@ module _ (profile : Profile) where
       IsProcessor (idle profile memory a p) → operation (idle profile memory a p) ≡ IAM →
       has_channel profile (lower_six (idle profile memory a p)) ≡ true → length words ≤ a → i < length words →
       take i xs ≡ map (λ word. Channel (Word word)) (take i words) →
-      need_met (idle profile memory a p) (Local ∷ xs) i ≡ needs.Channel (lower_six (idle profile memory a p)) Take
+      need_before_answer (idle profile memory a p) (Local ∷ xs) i ≡ needs.Channel (lower_six (idle profile memory a p)) Take
   input_takes memory a p words xs i ok code named h k e =
       let front : length (take i words) ≡ i = length-take-le i words (omega arith) in
       let gives = input_gives memory a p (take i words) ok code named (omega arith) in
       met (idle profile memory a p) _ Local xs (map (λ word. Channel (Word word)) (take i words)) i e gives
       ∙ input_need profile (a - length (take i words)) _ _ p (lower_six (idle profile memory a p)) _ (omega arith)
 
-  whole_input_idle : (memory : List ℕ) (a p : ℕ) (words : List ℕ) → IsProcessor (idle profile memory a p) →
+  complete_input_idle : (memory : List ℕ) (a p : ℕ) (words : List ℕ) → IsProcessor (idle profile memory a p) →
       operation (idle profile memory a p) ≡ IAM → has_channel profile (lower_six (idle profile memory a p)) ≡ true → length words ≡ a →
-      length words ≤ place_count → EndsBlock (idle profile memory a p) (words_given words) 0
-      × TakesWords (idle profile memory a p) (words_given words) (length words) words
-  whole_input_idle memory a p words ok code named e h =
+      length words ≤ place_count → EndsBlock (idle profile memory a p) (input_answers words) 0
+      × TakesWords (idle profile memory a p) (input_answers words) (length words) words
+  complete_input_idle memory a p words ok code named e h =
       let m = second_word (idle profile memory a p) in
       let kept = kept_memory (idle profile memory a p) in
       let new = stored kept m 0 words in
       let none : a - length words ≡ 0 = omega arith in
-      let gives : Gives (idle profile memory a p) (words_given words) (over profile new 0) = Gives-to (idle profile memory a p) _ (over profile new 0) (words_given words) (input_gives memory a p words ok code named (omega arith)) (rw none refl) in (
-        ends_over (idle profile memory a p) (words_given words) new 0 gives,
+      let gives : Gives (idle profile memory a p) (input_answers words) (over profile new 0) = Gives-to (idle profile memory a p) _ (over profile new 0) (input_answers words) (input_gives memory a p words ok code named (omega arith)) (rw none refl) in (
+        ends_over (idle profile memory a p) (input_answers words) new 0 gives,
         record {
           takes = λ i k. input_takes memory a p words (map (λ word. Channel (Word word)) words) i ok code named (omega arith) k (take-map (λ word. Channel (Word word)) i words);
-          memory = rw (memory_over (idle profile memory a p) (words_given words) new 0 gives) (BringsWords-stored words kept m h (length-kept memory a p ok.memory));
+          memory = rw (memory_over (idle profile memory a p) (input_answers words) new 0 gives) (BringsWords-stored words kept m h (length-kept memory a p ok.memory));
         },
       )
 
-  closed_input_idle : (memory : List ℕ) (a p : ℕ) (words : List ℕ) (full : Bool) → IsProcessor (idle profile memory a p) →
+  short_input_idle : (memory : List ℕ) (a p : ℕ) (words : List ℕ) (full : Bool) → IsProcessor (idle profile memory a p) →
       operation (idle profile memory a p) ≡ IAM → has_channel profile (lower_six (idle profile memory a p)) ≡ true → length words < a →
       length words < place_count →
-      EndsBlock (idle profile memory a p) (words_given words ++ inactive full ∷ []) (a - length words)
-      × TakesWords (idle profile memory a p) (words_given words ++ inactive full ∷ []) (length words) (words ++ 0 ∷ [])
-  closed_input_idle memory a p words full ok code named h k =
+      EndsBlock (idle profile memory a p) (input_answers words ++ inactive full ∷ []) (a - length words)
+      × TakesWords (idle profile memory a p) (input_answers words ++ inactive full ∷ []) (length words) (words ++ 0 ∷ [])
+  short_input_idle memory a p words full ok code named h k =
       let pp = idle profile memory a p in
       let m = second_word pp in
       let kept = kept_memory pp in
       let left = a - length words in
-      let answers = words_given words ++ inactive full ∷ [] in
+      let answers = input_answers words ++ inactive full ∷ [] in
       let new = stored kept m 0 (words ++ 0 ∷ []) in
-      let closing : slice_set (stored kept m 0 words) (place_from m (0 + length words)) 0 ≡ new = sym (stored-append words (0 ∷ []) kept m 0 ∙ stored-cons (stored kept m 0 words) m (0 + length words) 0 [] ∙ stored-nil _ m (0 + length words + 1)) in
-      let last = input_closed profile left (stored kept m 0 words) left p (lower_six pp) (place_from m (0 + length words)) full (omega arith) in
-      let gives : Gives pp answers (over profile new left) = Gives-to pp _ (over profile new left) answers (Gives-append (words_given words) (inactive full ∷ []) pp _ _ (input_gives memory a p words ok code named (omega arith)) last) (ap (λ x. over profile x left) closing) in
+      let closing : slice_set (stored kept m 0 words) (place_after m (0 + length words)) 0 ≡ new = sym (stored-append words (0 ∷ []) kept m 0 ∙ stored-cons (stored kept m 0 words) m (0 + length words) 0 [] ∙ stored-nil _ m (0 + length words + 1)) in
+      let last = input_closed profile left (stored kept m 0 words) left p (lower_six pp) (place_after m (0 + length words)) full (omega arith) in
+      let gives : Gives pp answers (over profile new left) = Gives-to pp _ (over profile new left) answers (Gives-append (input_answers words) (inactive full ∷ []) pp _ _ (input_gives memory a p words ok code named (omega arith)) last) (ap (λ x. over profile x left) closing) in
       let fits_in : length (words ++ 0 ∷ []) ≤ place_count = grind (arith, common_steps) in
       let front : (i : ℕ) → i < length words → take i (map (λ word. Channel (Word word)) words ++ inactive full ∷ []) ≡ map (λ word. Channel (Word word)) (take i words) = λ i n. let long : length (map (λ word. Channel (Word word)) words) ≡ length words = length-map words (λ word. Channel (Word word)) in take-append-le i (map (λ word. Channel (Word word)) words) (inactive full ∷ []) (omega arith) ∙ take-map (λ word. Channel (Word word)) i words in (
         ends_over pp answers new left gives,
@@ -160,7 +160,7 @@ module _ (profile : Profile) where
 
   output_gives : (memory : List ℕ) (a p count : ℕ) → IsProcessor (idle profile memory a p) →
       operation (idle profile memory a p) ≡ OAM → has_channel profile (lower_six (idle profile memory a p)) ≡ true → count ≤ a →
-      Gives (idle profile memory a p) (words_taken count) (position profile (a - count) (kept_memory (idle profile memory a p)) (a - count) p (Output (lower_six (idle profile memory a p))) (place_from (second_word (idle profile memory a p)) (0 + count)))
+      Gives (idle profile memory a p) (output_answers count) (position profile (a - count) (kept_memory (idle profile memory a p)) (a - count) p (Output (lower_six (idle profile memory a p))) (place_after (second_word (idle profile memory a p)) (0 + count)))
   output_gives memory a p count ok code named h =
       started memory a p a (Output (lower_six (idle profile memory a p))) (replicate count (Channel Done)) _ ok.memory (output_row memory a p code named)
       (outputs profile count (kept_memory (idle profile memory a p)) a p (lower_six (idle profile memory a p)) (second_word (idle profile memory a p)) 0 h ok.a)
@@ -168,39 +168,39 @@ module _ (profile : Profile) where
   output_puts : (memory : List ℕ) (a p count : ℕ) (xs : List Answer) (i : ℕ) → IsProcessor (idle profile memory a p) →
       operation (idle profile memory a p) ≡ OAM → has_channel profile (lower_six (idle profile memory a p)) ≡ true → count ≤ a →
       i < count → take i xs ≡ replicate i (Channel Done) →
-      need_met (idle profile memory a p) (Local ∷ xs) i ≡ needs.Channel (lower_six (idle profile memory a p)) (Put (slice_index (kept_memory (idle profile memory a p)) (place_from (second_word (idle profile memory a p)) i)))
+      need_before_answer (idle profile memory a p) (Local ∷ xs) i ≡ needs.Channel (lower_six (idle profile memory a p)) (Put (slice_index (kept_memory (idle profile memory a p)) (place_after (second_word (idle profile memory a p)) i)))
   output_puts memory a p count xs i ok code named h k e =
       let pp = idle profile memory a p in
       let here : 0 + i ≡ i = omega arith in
       met pp _ Local xs (replicate i (Channel Done)) i e (output_gives memory a p i ok code named (omega arith))
-      ∙ output_need profile (a - i) (kept_memory pp) (a - i) p (lower_six pp) (place_from (second_word pp) (0 + i)) (omega arith)
-      ∙ ap (λ x. needs.Channel (lower_six pp) (Put (slice_index (kept_memory pp) (place_from (second_word pp) x)))) here
+      ∙ output_need profile (a - i) (kept_memory pp) (a - i) p (lower_six pp) (place_after (second_word pp) (0 + i)) (omega arith)
+      ∙ ap (λ x. needs.Channel (lower_six pp) (Put (slice_index (kept_memory pp) (place_after (second_word pp) x)))) here
 
-  whole_output_idle : (memory : List ℕ) (a p : ℕ) → IsProcessor (idle profile memory a p) →
+  complete_output_idle : (memory : List ℕ) (a p : ℕ) → IsProcessor (idle profile memory a p) →
       operation (idle profile memory a p) ≡ OAM → has_channel profile (lower_six (idle profile memory a p)) ≡ true →
-      EndsBlock (idle profile memory a p) (words_taken a) 0 × PutsWords (idle profile memory a p) (words_taken a) a
-  whole_output_idle memory a p ok code named =
+      EndsBlock (idle profile memory a p) (output_answers a) 0 × PutsWords (idle profile memory a p) (output_answers a) a
+  complete_output_idle memory a p ok code named =
       let pp = idle profile memory a p in
       let kept = kept_memory pp in
       let none : a - a ≡ 0 = omega arith in
-      let gives : Gives pp (words_taken a) (over profile kept 0) = Gives-to pp _ (over profile kept 0) (words_taken a) (output_gives memory a p a ok code named (omega arith)) (rw none refl) in (
-        ends_over pp (words_taken a) kept 0 gives,
+      let gives : Gives pp (output_answers a) (over profile kept 0) = Gives-to pp _ (over profile kept 0) (output_answers a) (output_gives memory a p a ok code named (omega arith)) (rw none refl) in (
+        ends_over pp (output_answers a) kept 0 gives,
         record {
           puts = λ i k. output_puts memory a p a (replicate a (Channel Done)) i ok code named (omega arith) k (take-replicate i a (Channel Done) (omega arith));
-          memory = memory_over pp (words_taken a) kept 0 gives;
+          memory = memory_over pp (output_answers a) kept 0 gives;
         },
       )
 
-  cut_output_idle : (memory : List ℕ) (a p count : ℕ) (full : Bool) → IsProcessor (idle profile memory a p) →
+  short_output_idle : (memory : List ℕ) (a p count : ℕ) (full : Bool) → IsProcessor (idle profile memory a p) →
       operation (idle profile memory a p) ≡ OAM → has_channel profile (lower_six (idle profile memory a p)) ≡ true → count < a →
-      EndsBlock (idle profile memory a p) (words_taken count ++ inactive full ∷ []) (a - count)
-      × PutsWords (idle profile memory a p) (words_taken count ++ inactive full ∷ []) count
-  cut_output_idle memory a p count full ok code named h =
+      EndsBlock (idle profile memory a p) (output_answers count ++ inactive full ∷ []) (a - count)
+      × PutsWords (idle profile memory a p) (output_answers count ++ inactive full ∷ []) count
+  short_output_idle memory a p count full ok code named h =
       let pp = idle profile memory a p in
       let kept = kept_memory pp in
-      let answers = words_taken count ++ inactive full ∷ [] in
-      let last = output_cut profile (a - count) kept (a - count) p (lower_six pp) (place_from (second_word pp) (0 + count)) full (omega arith) in
-      let gives : Gives pp answers (over profile kept (a - count)) = Gives-append (words_taken count) (inactive full ∷ []) pp _ _ (output_gives memory a p count ok code named (omega arith)) last in
+      let answers = output_answers count ++ inactive full ∷ [] in
+      let last = output_cut profile (a - count) kept (a - count) p (lower_six pp) (place_after (second_word pp) (0 + count)) full (omega arith) in
+      let gives : Gives pp answers (over profile kept (a - count)) = Gives-append (output_answers count) (inactive full ∷ []) pp _ _ (output_gives memory a p count ok code named (omega arith)) last in
       let front : (i : ℕ) → i < count → take i (replicate count (Channel Done) ++ inactive full ∷ []) ≡ replicate i (Channel Done) = λ i n. let long : length (replicate count (Channel Done)) ≡ count = length-replicate count (Channel Done) in take-append-le i (replicate count (Channel Done)) (inactive full ∷ []) (omega arith) ∙ take-replicate i count (Channel Done) (omega arith) in (
         ends_over pp answers kept (a - count) gives,
         record {
@@ -214,7 +214,7 @@ module _ (profile : Profile) where
   central_in_gives : (memory : List ℕ) (a p left : ℕ) (centrals : List ℕ) → IsProcessor (idle profile memory a p) →
       operation (idle profile memory a p) ≡ CRM → left ≡ word_at (idle profile memory a p) (lower_six (idle profile memory a p)) →
       length centrals ≤ left →
-      Gives (idle profile memory a p) (centrals_given centrals) (position profile (left - length centrals) (stored (kept_memory (idle profile memory a p)) (second_word (idle profile memory a p)) 0 (parts_of_all centrals)) (address_of a (length centrals)) p (CentralIn (left - length centrals)) (place_from (second_word (idle profile memory a p)) (0 + 5 * length centrals)))
+      Gives (idle profile memory a p) (read_answers centrals) (position profile (left - length centrals) (stored (kept_memory (idle profile memory a p)) (second_word (idle profile memory a p)) 0 (parts_of_all centrals)) (address_of a (length centrals)) p (CentralIn (left - length centrals)) (place_after (second_word (idle profile memory a p)) (0 + 5 * length centrals)))
   central_in_gives memory a p left centrals ok code e h =
       let pp = idle profile memory a p in
       let small : word_at pp (lower_six pp) < 2 ^ 12 = ok.memory.each_word (lower_six pp) in
@@ -224,7 +224,7 @@ module _ (profile : Profile) where
   central_in_reads : (memory : List ℕ) (a p left : ℕ) (centrals : List ℕ) (i : ℕ) → IsProcessor (idle profile memory a p) →
       operation (idle profile memory a p) ≡ CRM → left ≡ word_at (idle profile memory a p) (lower_six (idle profile memory a p)) →
       length centrals ≤ left → i < length centrals →
-      need_met (idle profile memory a p) (centrals_given centrals) i ≡ needs.Read (address_of a i)
+      need_before_answer (idle profile memory a p) (read_answers centrals) i ≡ needs.Read (address_of a i)
   central_in_reads memory a p left centrals i ok code e h k =
       let pp = idle profile memory a p in
       let front : length (take i centrals) ≡ i = length-take-le i centrals (omega arith) in
@@ -232,12 +232,12 @@ module _ (profile : Profile) where
       ∙ central_in_need profile (left - length (take i centrals)) _ (address_of a (length (take i centrals))) p _ (omega arith)
       ∙ ap (λ n. needs.Read (address_of a n)) front
 
-  central_input_idle : (memory : List ℕ) (a p : ℕ) (centrals : List ℕ) → IsProcessor (idle profile memory a p) →
+  central_read_idle : (memory : List ℕ) (a p : ℕ) (centrals : List ℕ) → IsProcessor (idle profile memory a p) →
       operation (idle profile memory a p) ≡ CRM → 0 < length centrals → length centrals ≤ 819 →
       length centrals ≡ word_at (idle profile memory a p) (lower_six (idle profile memory a p)) →
-      EndsBlock (idle profile memory a p) (centrals_given centrals) (sum a (length centrals))
-      × ReadsCentrals (idle profile memory a p) (centrals_given centrals) centrals
-  central_input_idle memory a p centrals ok code some few e =
+      EndsBlock (idle profile memory a p) (read_answers centrals) (sum a (length centrals))
+      × ReadsCentrals (idle profile memory a p) (read_answers centrals) centrals
+  central_read_idle memory a p centrals ok code some few e =
       let pp = idle profile memory a p in
       let m = second_word pp in
       let kept = kept_memory pp in
@@ -245,13 +245,13 @@ module _ (profile : Profile) where
       let parts = parts_of_all centrals in
       let new = stored kept m 0 parts in
       let none : n - n ≡ 0 = omega arith in
-      let gives : Gives pp (centrals_given centrals) (over profile new (sum a n)) = Gives-to pp _ (over profile new (sum a n)) (centrals_given centrals) (central_in_gives memory a p n centrals ok code e (omega arith)) (rw (none, address_of-some a n some) refl) in
+      let gives : Gives pp (read_answers centrals) (over profile new (sum a n)) = Gives-to pp _ (over profile new (sum a n)) (read_answers centrals) (central_in_gives memory a p n centrals ok code e (omega arith)) (rw (none, address_of-some a n some) refl) in
       let long : length parts ≡ 5 * n = length-parts_of_all centrals in
       let brings : BringsWords kept new m (length parts) (λ j. slice_index parts j) = BringsWords-stored parts kept m (omega arith) (length-kept memory a p ok.memory) in (
-        ends_over pp (centrals_given centrals) new (sum a n) gives,
+        ends_over pp (read_answers centrals) new (sum a n) gives,
         record {
           reads = λ i k. central_in_reads memory a p n centrals i ok code e (omega arith) k;
-          memory = rw (memory_over pp (centrals_given centrals) new (sum a n) gives) (record {
+          memory = rw (memory_over pp (read_answers centrals) new (sum a n) gives) (record {
             words = λ j k. brings.words j (omega arith) ∙ slice_index-parts_of_all centrals j k;
             others = λ place k apart. brings.others place k (λ j l. apart j (omega arith));
             each_place = brings.each_place;
@@ -264,7 +264,7 @@ module _ (profile : Profile) where
   central_out_gives : (memory : List ℕ) (a p left count : ℕ) → IsProcessor (idle profile memory a p) →
       operation (idle profile memory a p) ≡ CWM → left ≡ word_at (idle profile memory a p) (lower_six (idle profile memory a p)) →
       count ≤ left →
-      Gives (idle profile memory a p) (centrals_taken count) (position profile (left - count) (kept_memory (idle profile memory a p)) (address_of a count) p (CentralOut (left - count)) (place_from (second_word (idle profile memory a p)) (0 + 5 * count)))
+      Gives (idle profile memory a p) (write_answers count) (position profile (left - count) (kept_memory (idle profile memory a p)) (address_of a count) p (CentralOut (left - count)) (place_after (second_word (idle profile memory a p)) (0 + 5 * count)))
   central_out_gives memory a p left count ok code e h =
       let pp = idle profile memory a p in
       let small : word_at pp (lower_six pp) < 2 ^ 12 = ok.memory.each_word (lower_six pp) in
@@ -274,7 +274,7 @@ module _ (profile : Profile) where
   central_out_writes : (memory : List ℕ) (a p count i : ℕ) → IsProcessor (idle profile memory a p) →
       operation (idle profile memory a p) ≡ CWM → count ≡ word_at (idle profile memory a p) (lower_six (idle profile memory a p)) →
       i < count →
-      need_met (idle profile memory a p) (centrals_taken count) i ≡ needs.Write (address_of a i) (five_from (kept_memory (idle profile memory a p)) (second_word (idle profile memory a p)) (5 * i))
+      need_before_answer (idle profile memory a p) (write_answers count) i ≡ needs.Write (address_of a i) (five_from (kept_memory (idle profile memory a p)) (second_word (idle profile memory a p)) (5 * i))
   central_out_writes memory a p count i ok code e k =
       let pp = idle profile memory a p in
       let here : 0 + 5 * i ≡ 5 * i = omega arith in
@@ -282,20 +282,20 @@ module _ (profile : Profile) where
       ∙ central_out_need profile (count - i) (kept_memory pp) (address_of a i) p (second_word pp) (0 + 5 * i) (omega arith)
       ∙ ap (λ j. needs.Write (address_of a i) (five_from (kept_memory pp) (second_word pp) j)) here
 
-  central_output_idle : (memory : List ℕ) (a p count : ℕ) → IsProcessor (idle profile memory a p) →
+  central_write_idle : (memory : List ℕ) (a p count : ℕ) → IsProcessor (idle profile memory a p) →
       operation (idle profile memory a p) ≡ CWM → 0 < count →
       count ≡ word_at (idle profile memory a p) (lower_six (idle profile memory a p)) →
-      EndsBlock (idle profile memory a p) (centrals_taken count) (sum a count)
-      × WritesCentrals (idle profile memory a p) (centrals_taken count) count
-  central_output_idle memory a p count ok code some e =
+      EndsBlock (idle profile memory a p) (write_answers count) (sum a count)
+      × WritesCentrals (idle profile memory a p) (write_answers count) count
+  central_write_idle memory a p count ok code some e =
       let pp = idle profile memory a p in
       let kept = kept_memory pp in
       let none : count - count ≡ 0 = omega arith in
-      let gives : Gives pp (centrals_taken count) (over profile kept (sum a count)) = Gives-to pp _ (over profile kept (sum a count)) (centrals_taken count) (central_out_gives memory a p count count ok code e (omega arith)) (rw (none, address_of-some a count some) refl) in (
-        ends_over pp (centrals_taken count) kept (sum a count) gives,
+      let gives : Gives pp (write_answers count) (over profile kept (sum a count)) = Gives-to pp _ (over profile kept (sum a count)) (write_answers count) (central_out_gives memory a p count count ok code e (omega arith)) (rw (none, address_of-some a count some) refl) in (
+        ends_over pp (write_answers count) kept (sum a count) gives,
         record {
           writes = λ i k. central_out_writes memory a p count i ok code e k;
-          memory = memory_over pp (centrals_taken count) kept (sum a count) gives;
+          memory = memory_over pp (write_answers count) kept (sum a count) gives;
         },
       )
 
@@ -303,32 +303,32 @@ module _ (profile : Profile) where
 idle-is : (pp : Processor) → pp.state ≡ Running → pp.block ≡ None → idle pp.profile pp.memory pp.a pp.p ≡ pp
 idle-is pp running free = ap (λ x. record pp { state = x; block = None }) (sym running) ∙ ap (λ x. record pp { block = x }) (sym free)
 
-pub whole_input : (pp : Processor) → IsProcessor pp → WholeInput pp
-whole_input pp ok words begins named some e h =
-    subst (λ t. EndsBlock t (words_given words) 0 × TakesWords t (words_given words) (length words) words) (idle-is pp begins.running begins.free)
-    (whole_input_idle pp.profile pp.memory pp.a pp.p words (record { memory = ok.memory; a = ok.a; p = ok.p }) begins.code named e h)
+pub complete_input : (pp : Processor) → IsProcessor pp → CompleteInput pp
+complete_input pp ok words begins named some e h =
+    subst (λ t. EndsBlock t (input_answers words) 0 × TakesWords t (input_answers words) (length words) words) (idle-is pp begins.running begins.free)
+    (complete_input_idle pp.profile pp.memory pp.a pp.p words (record { memory = ok.memory; a = ok.a; p = ok.p }) begins.code named e h)
 
-pub closed_input : (pp : Processor) → IsProcessor pp → ClosedInput pp
-closed_input pp ok words full begins named h k =
-    subst (λ t. EndsBlock t (words_given words ++ inactive full ∷ []) (t.a - length words) × TakesWords t (words_given words ++ inactive full ∷ []) (length words) (words ++ 0 ∷ [])) (idle-is pp begins.running begins.free)
-    (closed_input_idle pp.profile pp.memory pp.a pp.p words full (record { memory = ok.memory; a = ok.a; p = ok.p }) begins.code named h k)
+pub short_input : (pp : Processor) → IsProcessor pp → ShortInput pp
+short_input pp ok words full begins named h k =
+    subst (λ t. EndsBlock t (input_answers words ++ inactive full ∷ []) (t.a - length words) × TakesWords t (input_answers words ++ inactive full ∷ []) (length words) (words ++ 0 ∷ [])) (idle-is pp begins.running begins.free)
+    (short_input_idle pp.profile pp.memory pp.a pp.p words full (record { memory = ok.memory; a = ok.a; p = ok.p }) begins.code named h k)
 
-pub whole_output : (pp : Processor) → IsProcessor pp → WholeOutput pp
-whole_output pp ok begins named some =
-    subst (λ t. EndsBlock t (words_taken t.a) 0 × PutsWords t (words_taken t.a) t.a) (idle-is pp begins.running begins.free)
-    (whole_output_idle pp.profile pp.memory pp.a pp.p (record { memory = ok.memory; a = ok.a; p = ok.p }) begins.code named)
+pub complete_output : (pp : Processor) → IsProcessor pp → CompleteOutput pp
+complete_output pp ok begins named some =
+    subst (λ t. EndsBlock t (output_answers t.a) 0 × PutsWords t (output_answers t.a) t.a) (idle-is pp begins.running begins.free)
+    (complete_output_idle pp.profile pp.memory pp.a pp.p (record { memory = ok.memory; a = ok.a; p = ok.p }) begins.code named)
 
-pub cut_output : (pp : Processor) → IsProcessor pp → CutOutput pp
-cut_output pp ok count full begins named h =
-    subst (λ t. EndsBlock t (words_taken count ++ inactive full ∷ []) (t.a - count) × PutsWords t (words_taken count ++ inactive full ∷ []) count) (idle-is pp begins.running begins.free)
-    (cut_output_idle pp.profile pp.memory pp.a pp.p count full (record { memory = ok.memory; a = ok.a; p = ok.p }) begins.code named h)
+pub short_output : (pp : Processor) → IsProcessor pp → ShortOutput pp
+short_output pp ok count full begins named h =
+    subst (λ t. EndsBlock t (output_answers count ++ inactive full ∷ []) (t.a - count) × PutsWords t (output_answers count ++ inactive full ∷ []) count) (idle-is pp begins.running begins.free)
+    (short_output_idle pp.profile pp.memory pp.a pp.p count full (record { memory = ok.memory; a = ok.a; p = ok.p }) begins.code named h)
 
-pub central_input : (pp : Processor) → IsProcessor pp → CentralInput pp
-central_input pp ok centrals begins some few e =
-    subst (λ t. EndsBlock t (centrals_given centrals) (sum t.a (length centrals)) × ReadsCentrals t (centrals_given centrals) centrals) (idle-is pp begins.running begins.free)
-    (central_input_idle pp.profile pp.memory pp.a pp.p centrals (record { memory = ok.memory; a = ok.a; p = ok.p }) begins.code some few e)
+pub central_read : (pp : Processor) → IsProcessor pp → CentralRead pp
+central_read pp ok centrals begins some few e =
+    subst (λ t. EndsBlock t (read_answers centrals) (sum t.a (length centrals)) × ReadsCentrals t (read_answers centrals) centrals) (idle-is pp begins.running begins.free)
+    (central_read_idle pp.profile pp.memory pp.a pp.p centrals (record { memory = ok.memory; a = ok.a; p = ok.p }) begins.code some few e)
 
-pub central_output : (pp : Processor) → IsProcessor pp → CentralOutput pp
-central_output pp ok count begins some e =
-    subst (λ t. EndsBlock t (centrals_taken count) (sum t.a count) × WritesCentrals t (centrals_taken count) count) (idle-is pp begins.running begins.free)
-    (central_output_idle pp.profile pp.memory pp.a pp.p count (record { memory = ok.memory; a = ok.a; p = ok.p }) begins.code some e)
+pub central_write : (pp : Processor) → IsProcessor pp → CentralWrite pp
+central_write pp ok count begins some e =
+    subst (λ t. EndsBlock t (write_answers count) (sum t.a count) × WritesCentrals t (write_answers count) count) (idle-is pp begins.running begins.free)
+    (central_write_idle pp.profile pp.memory pp.a pp.p count (record { memory = ok.memory; a = ok.a; p = ok.p }) begins.code some e)

@@ -4,9 +4,9 @@ use mathlib.Core.Logic.{dite}
 use native.Mathlib.Decide.{dec_lt}
 use Rattle.std.specs.Prelude.{IsTrue}
 use Rattle.std.proofs.lemmas.Bool.{cases_eq, eq-eqb, ne_eqb}
-use Rattle.pp_channel.specs.ChannelNumber.{names_channel}
+use Rattle.pp_channel.specs.ChannelNo.{names_channel}
 use Rattle.pp_channel.proofs.ChannelPlaces as channel_places
-use Rattle.pp_machine.specs.ProcessorNumber.{processor_count, names_processor, processor_index, processor_number}
+use Rattle.pp_machine.specs.PpNo.{processor_count, names_processor, processor_index, processor_number}
 
 -- a processor's place is one of the list
 pub place_below : (n : ℕ) → IsTrue (names_processor n) → processor_index n < processor_count

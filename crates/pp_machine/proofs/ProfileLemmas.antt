@@ -2,9 +2,9 @@
 use Rattle.std.proofs.Common.{◌≡◌, ℕ, suc, ◌+◌, ◌*◌, ◌/◌, ◌%◌, ◌<◌, ◌≤◌, Bool, true, false, refl, ap, sym, ◌∙◌, arith}
 use Rattle.std.specs.Prelude.{◌↔◌, IsTrue, nat_lt}
 use Rattle.std.proofs.lemmas.Bool.{false≢true}
-use Rattle.pp_channel.specs.ChannelNumber.{channel_count, names_channel}
+use Rattle.pp_channel.specs.ChannelNo.{channel_count, names_channel}
 use Rattle.pp_channel.proofs.ChannelPlaces as channels
-use Rattle.pp_machine.specs.ProcessorNumber.{processor_count, processor_index, processor_number, names_processor}
+use Rattle.pp_machine.specs.PpNo.{processor_count, processor_index, processor_number, names_processor}
 use Rattle.pp_machine.specs.Profile.{processors_in, channels_in, has_processor, has_channel, processor_in_turn}
 use Rattle.pp_machine.specs.declared.profile.Profile.{Profile}
 use Rattle.pp_machine.specs.declared.profile.Profile.TheVariants.{Ten, Twenty}

@@ -5,7 +5,7 @@ use Rattle.std.proofs.lemmas.Bool.{false≢true}
 use Rattle.std.proofs.lemmas.Bool.Decides.{eqb_tells, leb_tells}
 use Rattle.std.proofs.lemmas.List.{set-get_or, length-set, ext_get_or}
 use Rattle.pp_channel.specs.Answer.{event_of, reply_to, flags_of}
-use Rattle.pp_channel.specs.ChannelNumber.{channel_index}
+use Rattle.pp_channel.specs.ChannelNo.{channel_index}
 use Rattle.pp_channel.specs.declared.chan_op.ChanOp.{ChanOp}
 use Rattle.pp_channel.specs.declared.chan_op.ChanOp.TheVariants.{Probe}
 use Rattle.pp_channel.specs.declared.event.Event.{Event}
@@ -18,7 +18,7 @@ use Rattle.pp_machine.specs.MachineState.{MachineState, processor_of, history_of
 use Rattle.pp_machine.specs.MachineStep.{answer_to, counted, served, taken, stepped}
 use Rattle.pp_machine.specs.NeedAndEffect.{need, processor_after}
 use Rattle.pp_machine.specs.Processor.{Processor, no_processor}
-use Rattle.pp_machine.specs.ProcessorNumber.{processor_index, processor_number}
+use Rattle.pp_machine.specs.PpNo.{processor_index, processor_number}
 use Rattle.pp_machine.specs.Profile.{processors_in, processor_in_turn}
 use Rattle.pp_machine.specs.Quiet.{is_none, is_quiet, step_beside, steps_beside, IsAhead, AreAhead}
 use Rattle.pp_machine.specs.Rounds.{whole_rounds}

@@ -6,7 +6,7 @@ use Rattle.std.proofs.lemmas.Bool.{ne_eqb}
 use Rattle.std.proofs.lemmas.List.{set-get_or, length-set, set_past}
 use Rattle.std.proofs.lemmas.List.Elements.{filter_map-append}
 use Rattle.pp_channel.specs.Answer.{event_of}
-use Rattle.pp_channel.specs.ChannelNumber.{channel_count, channel_index, names_channel}
+use Rattle.pp_channel.specs.ChannelNo.{channel_count, channel_index, names_channel}
 use Rattle.pp_channel.specs.History.{IsLawful}
 use Rattle.pp_channel.specs.declared.chan_op.ChanOp.{ChanOp}
 use Rattle.pp_channel.specs.declared.event.Event.{Event}

@@ -6,11 +6,11 @@ use Rattle.pp_word.specs.declared.opcode.Opcode.{Opcode}
 use Rattle.pp_word.specs.declared.opcode.Opcode.TheVariants.{UJN, ZJN, NJN, PJN, MJN, EXN, RPN, CRM, CWM, AJM, IJM, FJM, EJM, IAN, IAM, OAM, CRD}
 use Rattle.pp_channel.specs.declared.flags.Flags.{Flags}
 use Rattle.pp_channel.specs.declared.reply.Reply.TheVariants as replies
-use Rattle.pp_machine.specs.Blocks.{held, cut_short, block_word, starts, counts_down, counts_up, receives, stores_at}
-use Rattle.pp_machine.specs.Effects.{faults, stops, goes_to, jumps_where, branches_where, leads_to_itself, is_negative}
+use Rattle.pp_machine.specs.Block.{held, cut_short, block_word, starts, counts_down, counts_up, receives, stores_at}
+use Rattle.pp_machine.specs.Effect.{faults, stops, goes_to, jumps_where, branches_where, leads_to_itself, is_negative}
 use Rattle.pp_machine.specs.InstructionTable.{row, works_on_channel}
 use Rattle.pp_machine.specs.NeedAndEffect.{answered, step_of, next_step, is_held, need, processor_after, outcome, need_in, after_in, outcome_in}
-use Rattle.pp_machine.specs.OperandAndPlace.{operation, lower_six}
+use Rattle.pp_machine.specs.Operand.{operation, lower_six}
 use Rattle.pp_machine.specs.Processor.{Processor}
 use Rattle.pp_machine.specs.Profile.{has_channel}
 use Rattle.pp_machine.specs.Step.{Step, need_of, local, probes, takes, does, reads, writes}
@@ -24,16 +24,6 @@ use Rattle.pp_machine.specs.declared.need.Need.TheVariants as needs
 use Rattle.pp_machine.specs.declared.outcome.Outcome.TheVariants as outcomes
 use Rattle.pp_machine.specs.declared.pp_state.PpState.{PpState}
 use Rattle.pp_machine.specs.declared.pp_state.PpState.TheVariants.{Running, Stopped, Fault}
-
--- whatever a step is, a channel that was not ready does the same
-answered-held : (step : Step) (pp : Processor) (flags : Flags) →
-    answered step pp (answers.Channel (replies.Held flags)) ≡ held pp.block pp flags
-answered-held (local after) pp flags = refl
-answered-held (probes channel after) pp flags = refl
-answered-held (takes channel after) pp flags = refl
-answered-held (does channel op after) pp flags = refl
-answered-held (reads address after) pp flags = refl
-answered-held (writes address word after) pp flags = refl
 
 -- a fault leaves memory and registers
 abbrev Keeps : Processor → Processor → Type 0
@@ -69,11 +59,11 @@ either_step true pp step other k l = k
 either_step false pp step other k l = l
 
 -- the words of the table that make a choice
-jumps_keep : (test : Bool) (pp : Processor) (d : ℕ) → pp.state ≡ Running → Keeps pp (jumps_where test pp d)
+jumps_keep : (test : Bool) (pp : Processor) (d : ℕ) → pp.state ≡ Running → Keeps pp (jumps_where test pp d 1)
 jumps_keep true pp d h = either (leads_to_itself d) pp pp (goes_to pp (relative_to pp.p d)) (runs_on pp pp h refl) (runs_on pp _ h refl)
 jumps_keep false pp d h = runs_on pp _ h refl
 
-branches_keep : (test : Bool) (pp : Processor) → pp.state ≡ Running → Keeps pp (branches_where test pp)
+branches_keep : (test : Bool) (pp : Processor) → pp.state ≡ Running → Keeps pp (branches_where test pp 2)
 branches_keep true pp h = runs_on pp _ h refl
 branches_keep false pp h = runs_on pp _ h refl
 
@@ -140,7 +130,8 @@ held_keeps (Some block) pp flags h = either flags.active pp pp (cut_short block.
 
 answered_keeps : (step : Step) (pp : Processor) (answer : Answer) → pp.state ≡ Running → StepKeeps pp step →
     Keeps pp (answered step pp answer)
-answered_keeps step pp (answers.Channel (replies.Held flags)) h k = rw (answered-held step pp flags) (held_keeps pp.block pp flags h)
+answered_keeps (takes channel after) pp (answers.Channel (replies.Held flags)) h k = held_keeps pp.block pp flags h
+answered_keeps (does channel op after) pp (answers.Channel (replies.Held flags)) h k = held_keeps pp.block pp flags h
 answered_keeps (local after) pp answers.Local h k = k
 answered_keeps (probes channel after) pp (answers.Channel (replies.Flags flags)) h k = k flags
 answered_keeps (takes channel after) pp (answers.Channel (replies.Word word)) h k = k word
@@ -163,11 +154,18 @@ pub fault_keeps : (pp : Processor) (answer : Answer) → pp.state ≡ Running �
 unfolding processor_after
 fault_keeps pp answer h fault = after_in_keeps pp.state pp answer h h fault.0 fault.1
 
+-- where a block is held and stays as it is, so does each step
+held_stays : (step : Step) (pp : Processor) (flags : Flags) → held pp.block pp flags ≡ pp →
+    answered step pp (answers.Channel (replies.Held flags)) ≡ pp
+held_stays (takes channel after) pp flags stays = stays
+held_stays (does channel op after) pp flags stays = stays
+held_stays step pp flags stays = refl
+
 -- a held step changes nothing
 held_same : (block : Option Block) (pp : Processor) (step : Step) (answer : Answer) → pp.block ≡ block →
     is_held block answer ≡ true → answered step pp answer ≡ pp
-held_same None pp step (answers.Channel (replies.Held flags)) e h = answered-held step pp flags ∙ rw e refl
-held_same (Some block) pp step (answers.Channel (replies.Held flags)) e h = answered-held step pp flags ∙ rw (e, h) refl
+held_same None pp step (answers.Channel (replies.Held flags)) e h = held_stays step pp flags (rw e refl)
+held_same (Some block) pp step (answers.Channel (replies.Held flags)) e h = held_stays step pp flags (rw (e, h) refl)
 held_same block pp step answer e h = cc
 
 outcome_held : (state : PpState) (pp : Processor) (answer : Answer) → outcome_in state pp answer ≡ outcomes.Held →

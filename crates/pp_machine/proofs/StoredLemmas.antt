@@ -1,35 +1,35 @@
 -- Words stored from a place on.
 use Rattle.std.proofs.Common.{◌≡◌, ◌≢◌, ℕ, zero, suc, ◌+◌, ◌*◌, ◌/◌, ◌%◌, ◌<◌, ◌≤◌, List, [], ◌∷◌, ◌++◌, length, slice_index, slice_set, refl, ap, ◌∙◌, sym, arith, get_or-set_same, get_or-set_other}
 use Rattle.std.proofs.lemmas.Grind.{common_steps}
-use Rattle.pp_word.specs.Address.{place_count, next_place}
+use Rattle.pp_word.specs.Address.{place_count, place_after, next_place}
 use Rattle.pp_word.specs.CentralWord.{parts_of}
-use Rattle.pp_machine.specs.Blocks.{stored_from}
-use Rattle.pp_machine.specs.BlockResults.{place_from, BringsWords, part_of}
+use Rattle.pp_machine.specs.Block.{stored_from}
+use Rattle.pp_machine.specs.BlockResults.{BringsWords, part_of}
 
 -- the words stored from place i of the places from m on
 pub stored : List ℕ → ℕ → ℕ → List ℕ → List ℕ
 stored memory m i [] = memory
-stored memory m i (word ∷ words) = stored (slice_set memory (place_from m i) word) m (i + 1) words
+stored memory m i (word ∷ words) = stored (slice_set memory (place_after m i) word) m (i + 1) words
 
 pub stored-nil : (memory : List ℕ) (m i : ℕ) → stored memory m i [] ≡ memory
 unfolding stored
 stored-nil memory m i = refl
 
 pub stored-cons : (memory : List ℕ) (m i word : ℕ) (words : List ℕ) →
-    stored memory m i (word ∷ words) ≡ stored (slice_set memory (place_from m i) word) m (i + 1) words
+    stored memory m i (word ∷ words) ≡ stored (slice_set memory (place_after m i) word) m (i + 1) words
 unfolding stored
 stored-cons memory m i word words = refl
 
-pub next-place_from : (m i : ℕ) → next_place (place_from m i) ≡ place_from m (i + 1)
+pub next-place_from : (m i : ℕ) → next_place (place_after m i) ≡ place_after m (i + 1)
 next-place_from m i = omega arith
 
 pub stored_from-place_from : (words memory : List ℕ) (m i : ℕ) →
-    stored_from memory (place_from m i) words ≡ stored memory m i words
+    stored_from memory (place_after m i) words ≡ stored memory m i words
 unfolding stored
 stored_from-place_from [] memory m i = refl
 stored_from-place_from (word ∷ words) memory m i =
-    ap (λ place. stored_from (slice_set memory (place_from m i) word) place words) (next-place_from m i)
-    ∙ stored_from-place_from words (slice_set memory (place_from m i) word) m (i + 1)
+    ap (λ place. stored_from (slice_set memory (place_after m i) word) place words) (next-place_from m i)
+    ∙ stored_from-place_from words (slice_set memory (place_after m i) word) m (i + 1)
 
 pub stored-append : (words more memory : List ℕ) (m i : ℕ) →
     stored memory m i (words ++ more) ≡ stored (stored memory m i words) m (i + length words) more
@@ -37,47 +37,47 @@ unfolding stored
 stored-append [] more memory m i = let here : i + 0 ≡ i = omega arith in rw here refl
 stored-append (word ∷ words) more memory m i =
     let further : i + 1 + length words ≡ i + length (word ∷ words) = omega arith in
-    stored-append words more (slice_set memory (place_from m i) word) m (i + 1) ∙ rw further refl
+    stored-append words more (slice_set memory (place_after m i) word) m (i + 1) ∙ rw further refl
 
 length-stored : (words memory : List ℕ) (m i : ℕ) → length (stored memory m i words) ≡ length memory
 unfolding stored
 length-stored [] memory m i = refl
 length-stored (word ∷ words) memory m i =
-    length-stored words (slice_set memory (place_from m i) word) m (i + 1) ∙ grind (arith, common_steps)
+    length-stored words (slice_set memory (place_after m i) word) m (i + 1) ∙ grind (arith, common_steps)
 
 stored_others : (words memory : List ℕ) (m i place : ℕ) → ((j : ℕ) → j < length words →
-    place ≢ place_from m (i + j)) → slice_index (stored memory m i words) place ≡ slice_index memory place
+    place ≢ place_after m (i + j)) → slice_index (stored memory m i words) place ≡ slice_index memory place
 unfolding stored
 stored_others [] memory m i place apart = refl
 stored_others (word ∷ words) memory m i place apart =
     let here : i + 0 ≡ i = omega arith in
-    let not_here : place ≢ place_from m i = rw (← here) (apart 0 (omega arith)) in
-    stored_others words (slice_set memory (place_from m i) word) m (i + 1) place (λ j k. let further : i + 1 + j ≡ i + suc j = omega arith in rw further (apart (suc j) (omega arith)))
-    ∙ get_or-set_other memory (place_from m i) place word 0 not_here
+    let not_here : place ≢ place_after m i = rw (← here) (apart 0 (omega arith)) in
+    stored_others words (slice_set memory (place_after m i) word) m (i + 1) place (λ j k. let further : i + 1 + j ≡ i + suc j = omega arith in rw further (apart (suc j) (omega arith)))
+    ∙ get_or-set_other memory (place_after m i) place word 0 not_here
 
-apart_places : (m i j : ℕ) → i + 1 + j < place_count → place_from m i ≢ place_from m (i + 1 + j)
+apart_places : (m i j : ℕ) → i + 1 + j < place_count → place_after m i ≢ place_after m (i + 1 + j)
 apart_places m i j h = λ e. omega arith
 
 stored_words : (words memory : List ℕ) (m i j : ℕ) → i + length words ≤ place_count → length memory ≡ place_count →
-    j < length words → slice_index (stored memory m i words) (place_from m (i + j)) ≡ slice_index words j
+    j < length words → slice_index (stored memory m i words) (place_after m (i + j)) ≡ slice_index words j
 unfolding stored
 stored_words [] memory m i j h l k = absurd (omega arith)
 stored_words (word ∷ words) memory m i zero h l k =
     let here : i + 0 ≡ i = omega arith in
-    let inside : place_from m i < length memory = omega arith in
-    rw here (stored_others words (slice_set memory (place_from m i) word) m (i + 1) (place_from m i) (λ j n. apart_places m i j (omega arith))
-    ∙ get_or-set_same memory (place_from m i) word 0 inside)
+    let inside : place_after m i < length memory = omega arith in
+    rw here (stored_others words (slice_set memory (place_after m i) word) m (i + 1) (place_after m i) (λ j n. apart_places m i j (omega arith))
+    ∙ get_or-set_same memory (place_after m i) word 0 inside)
 stored_words (word ∷ words) memory m i (suc j) h l k =
     let further : i + suc j ≡ i + 1 + j = omega arith in
-    let long : length (slice_set memory (place_from m i) word) ≡ place_count = grind (arith, common_steps) in
-    rw further (stored_words words (slice_set memory (place_from m i) word) m (i + 1) j (omega arith) long (omega arith))
+    let long : length (slice_set memory (place_after m i) word) ≡ place_count = grind (arith, common_steps) in
+    rw further (stored_words words (slice_set memory (place_after m i) word) m (i + 1) j (omega arith) long (omega arith))
 
 -- they stand in their places, and all else is as before
 pub BringsWords-stored : (words memory : List ℕ) (m : ℕ) → length words ≤ place_count →
     length memory ≡ place_count →
     BringsWords memory (stored memory m 0 words) m (length words) (λ i. slice_index words i)
 BringsWords-stored words memory m h l = record {
-  words = λ i k. let here : i ≡ 0 + i = omega arith in ap (λ j. slice_index (stored memory m 0 words) (place_from m j)) here ∙ stored_words words memory m 0 i (omega arith) l k;
+  words = λ i k. let here : i ≡ 0 + i = omega arith in ap (λ j. slice_index (stored memory m 0 words) (place_after m j)) here ∙ stored_words words memory m 0 i (omega arith) l k;
   others = λ place k apart. stored_others words memory m 0 place (λ j n. let here : 0 + j ≡ j = omega arith in rw here (apart j n));
   each_place = length-stored words memory m 0;
 }
@@ -88,7 +88,7 @@ parts_of_all [] = []
 parts_of_all (central ∷ centrals) = parts_of central ++ parts_of_all centrals
 
 pub stored-parts : (central : ℕ) (centrals memory : List ℕ) (m i : ℕ) →
-    stored memory m i (parts_of_all (central ∷ centrals)) ≡ stored (stored_from memory (place_from m i) (parts_of central)) m (i + 5) (parts_of_all centrals)
+    stored memory m i (parts_of_all (central ∷ centrals)) ≡ stored (stored_from memory (place_after m i) (parts_of central)) m (i + 5) (parts_of_all centrals)
 unfolding parts_of_all
 stored-parts central centrals memory m i =
     stored-append (parts_of central) (parts_of_all centrals) memory m i

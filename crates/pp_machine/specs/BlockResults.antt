@@ -1,16 +1,17 @@
 -- Whole block transfers, stated without their single steps: which place holds which word, and A, P
 -- and the state after. Codes are octal; d is the lower six bits of the instruction, m its second
 -- word. (Manual 60100000, peripheral processors: CRM, CWM, IAM, OAM.)
-use Rattle.std.specs.Prelude.{ℕ, ◌≡◌, ◌≢◌, ◌+◌, ◌-◌, ◌*◌, ◌/◌, ◌%◌, ◌<◌, ◌≤◌, ◌==◌, Bool, true, false, List, [], ◌∷◌, ◌++◌, None, Some, if◌then◌else◌, length, map, replicate, take, slice_index, slice_set}
-use Rattle.pp_word.specs.Address.{place_count, next_place}
+use Rattle.std.specs.Prelude.{ℕ, ◌≡◌, ◌≢◌, ◌+◌, ◌-◌, ◌*◌, ◌/◌, ◌%◌, ◌<◌, ◌≤◌, ◌==◌, Bool, true, false, List, [], ◌∷◌, ◌++◌, None, Some, if◌then◌else◌, length, map, replicate, take, slice_index}
+use Rattle.pp_word.specs.Address.{place_count, place_after, next_place}
 use Rattle.pp_word.specs.CentralWord.{parts_of, joined}
 use Rattle.pp_word.specs.OnesComplement.{sum}
 use Rattle.pp_word.specs.declared.opcode.Opcode.{Opcode}
 use Rattle.pp_word.specs.declared.opcode.Opcode.TheVariants.{IAM, OAM, CRM, CWM}
 use Rattle.pp_channel.specs.declared.chan_op.ChanOp.TheVariants.{Put, Take}
 use Rattle.pp_channel.specs.declared.reply.Reply.TheVariants.{Done, Word, Held}
+use Rattle.pp_machine.specs.Block.{keeps_place}
 use Rattle.pp_machine.specs.NeedAndEffect.{need}
-use Rattle.pp_machine.specs.OperandAndPlace.{operation, lower_six, second_word}
+use Rattle.pp_machine.specs.Operand.{operation, lower_six, second_word}
 use Rattle.pp_machine.specs.Profile.{has_channel}
 use Rattle.pp_machine.specs.Processor.{Processor, word_at}
 use Rattle.pp_machine.specs.Replay.{replayed, given_count}
@@ -20,18 +21,14 @@ use Rattle.pp_machine.specs.declared.need.Need.{Need}
 use Rattle.pp_machine.specs.declared.need.Need.TheVariants as needs
 use Rattle.pp_machine.specs.declared.pp_state.PpState.TheVariants.{Running}
 
--- place i of the places from m on; 0000 follows 7777 (octal)
-abbrev pub place_from : ℕ → ℕ → ℕ
-place_from m i = (m + i) % place_count
-
 -- the memory with the place of the second word in place 0000
 abbrev pub kept_memory : Processor → List ℕ
-kept_memory pp = slice_set pp.memory 0 (next_place pp.p)
+kept_memory pp = (keeps_place pp).memory
 
 -- word i of this many comes to place i from m on, and all other places are as before
 pub record BringsWords (old new : List ℕ) (m count : ℕ) (word : ℕ → ℕ) : Type 0 where
-  pub words : (i : ℕ) → i < count → slice_index new (place_from m i) ≡ word i
-  pub others : (place : ℕ) → place < place_count → ((i : ℕ) → i < count → place ≢ place_from m i) →
+  pub words : (i : ℕ) → i < count → slice_index new (place_after m i) ≡ word i
+  pub others : (place : ℕ) → place < place_count → ((i : ℕ) → i < count → place ≢ place_after m i) →
       slice_index new place ≡ slice_index old place
   pub each_place : length new ≡ length old
 
@@ -51,73 +48,75 @@ pub record EndsBlock (pp : Processor) (answers : List Answer) (accumulator : ℕ
   pub free : (replayed pp answers).block ≡ None
 
 -- the need that answer i meets, counted from the answer after the Local that starts the block
-abbrev pub need_met : Processor → List Answer → ℕ → Need
-need_met pp answers i = need (replayed pp (take (i + 1) answers))
+abbrev pub need_before_answer : Processor → List Answer → ℕ → Need
+need_before_answer pp answers i = need (replayed pp (take (i + 1) answers))
 
 -- the channel was not ready, and was inactive
 abbrev pub inactive : Bool → Answer
 inactive full = Channel (Held (record { active = false; full = full }))
 
 -- IAM: the start, and these words
-abbrev pub words_given : List ℕ → List Answer
-words_given words = Local ∷ map (λ word. Channel (Word word)) words
+abbrev pub input_answers : List ℕ → List Answer
+input_answers words = Local ∷ map (λ word. Channel (Word word)) words
 
 -- OAM: the start, and this many words put
-abbrev pub words_taken : ℕ → List Answer
-words_taken count = Local ∷ replicate count (Channel Done)
+abbrev pub output_answers : ℕ → List Answer
+output_answers count = Local ∷ replicate count (Channel Done)
 
 -- CRM: the start, and these central words
-abbrev pub centrals_given : List ℕ → List Answer
-centrals_given centrals = Local ∷ map (λ central. Read (Some central)) centrals
+abbrev pub read_answers : List ℕ → List Answer
+read_answers centrals = Local ∷ map (λ central. Read (Some central)) centrals
 
 -- CWM: the start, and this many central words written
-abbrev pub centrals_taken : ℕ → List Answer
-centrals_taken count = Local ∷ replicate count (Wrote true)
+abbrev pub write_answers : ℕ → List Answer
+write_answers count = Local ∷ replicate count (Wrote true)
 
 -- 71: words are taken from channel d, and come to the places from m on
-pub record TakesWords (pp : Processor) (answers : List Answer) (count : ℕ) (words : List ℕ) : Type 0 where
-  pub takes : (i : ℕ) → i < count → need_met pp answers i ≡ needs.Channel (lower_six pp) Take
-  pub memory : BringsWords (kept_memory pp) (replayed pp answers).memory (second_word pp)
-      (length words) (λ i. slice_index words i)
+pub record TakesWords (pp : Processor) (answers : List Answer) (count : ℕ) (words : List ℕ) : Type 0
+  where
+    pub takes : (i : ℕ) → i < count → need_before_answer pp answers i
+        ≡ needs.Channel (lower_six pp) Take
+    pub memory : BringsWords (kept_memory pp) (replayed pp answers).memory (second_word pp)
+        (length words) (λ i. slice_index words i)
 
 -- 71: as many words as A says
-abbrev pub WholeInput : Processor → Type 0
-WholeInput pp =
+abbrev pub CompleteInput : Processor → Type 0
+CompleteInput pp =
     (words : List ℕ) → BeginsAt IAM pp → has_channel pp.profile (lower_six pp) ≡ true → 0 < pp.a
     → length words ≡ pp.a →
     length words ≤ place_count →
-    let answers = words_given words in EndsBlock pp answers 0
+    let answers = input_answers words in EndsBlock pp answers 0
     × TakesWords pp answers (length words) words
 
 -- 71: fewer words, and then the channel was inactive: a word 0 closes them, and A is what was left
-abbrev pub ClosedInput : Processor → Type 0
-ClosedInput pp =
+abbrev pub ShortInput : Processor → Type 0
+ShortInput pp =
     (words : List ℕ) (full : Bool) → BeginsAt IAM pp → has_channel pp.profile (lower_six pp) ≡ true
     → length words < pp.a →
     length words < place_count →
-    let answers = words_given words ++ inactive full ∷ [] in
+    let answers = input_answers words ++ inactive full ∷ [] in
     EndsBlock pp answers (pp.a - length words)
     × TakesWords pp answers (length words) (words ++ 0 ∷ [])
 
 -- 73: the words from place m on are put, and no place but 0000 changes
 pub record PutsWords (pp : Processor) (answers : List Answer) (count : ℕ) : Type 0 where
   pub puts : (i : ℕ) → i < count →
-      need_met pp answers i ≡ needs.Channel (lower_six pp)
-      (Put (slice_index (kept_memory pp) (place_from (second_word pp) i)))
+      need_before_answer pp answers i ≡ needs.Channel (lower_six pp)
+      (Put (slice_index (kept_memory pp) (place_after (second_word pp) i)))
   pub memory : (replayed pp answers).memory ≡ kept_memory pp
 
 -- 73: as many words as A says
-abbrev pub WholeOutput : Processor → Type 0
-WholeOutput pp =
+abbrev pub CompleteOutput : Processor → Type 0
+CompleteOutput pp =
     BeginsAt OAM pp → has_channel pp.profile (lower_six pp) ≡ true → 0 < pp.a →
-    let answers = words_taken pp.a in EndsBlock pp answers 0 × PutsWords pp answers pp.a
+    let answers = output_answers pp.a in EndsBlock pp answers 0 × PutsWords pp answers pp.a
 
 -- 73: fewer words, and then the channel was inactive
-abbrev pub CutOutput : Processor → Type 0
-CutOutput pp =
+abbrev pub ShortOutput : Processor → Type 0
+ShortOutput pp =
     (count : ℕ) (full : Bool) → BeginsAt OAM pp → has_channel pp.profile (lower_six pp) ≡ true
     → count < pp.a →
-    let answers = words_taken count ++ inactive full ∷ [] in
+    let answers = output_answers count ++ inactive full ∷ [] in
     EndsBlock pp answers (pp.a - count) × PutsWords pp answers count
 
 -- the address of central word i of a block that begins with A = a
@@ -130,36 +129,37 @@ part_of centrals j = slice_index (parts_of (slice_index centrals (j / 5))) (j % 
 
 -- 61: central words are read, and their parts come to the places from m on
 pub record ReadsCentrals (pp : Processor) (answers : List Answer) (centrals : List ℕ) : Type 0 where
-  pub reads : (i : ℕ) → i < length centrals → need_met pp answers i ≡ needs.Read (address_of pp.a i)
+  pub reads : (i : ℕ) → i < length centrals → need_before_answer pp answers i
+      ≡ needs.Read (address_of pp.a i)
   pub memory : BringsWords (kept_memory pp) (replayed pp answers).memory (second_word pp)
       (5 * length centrals) (part_of centrals)
 
 -- 61: as many central words as place d says, from 1 to 819 (decimal)
-abbrev pub CentralInput : Processor → Type 0
-CentralInput pp =
+abbrev pub CentralRead : Processor → Type 0
+CentralRead pp =
     (centrals : List ℕ) → BeginsAt CRM pp → 0 < length centrals → length centrals ≤ 819 →
     length centrals ≡ word_at pp (lower_six pp) →
-    let answers = centrals_given centrals in
+    let answers = read_answers centrals in
     EndsBlock pp answers (sum pp.a (length centrals)) × ReadsCentrals pp answers centrals
 
 -- the central word of places j to j + 4 from m on
 abbrev pub five_from : List ℕ → ℕ → ℕ → ℕ
 five_from memory m j =
-    joined (slice_index memory (place_from m j) ∷ slice_index memory (place_from m (j + 1))
-    ∷ slice_index memory (place_from m (j + 2)) ∷
-    slice_index memory (place_from m (j + 3)) ∷ slice_index memory (place_from m (j + 4)) ∷ [])
+    joined (slice_index memory (place_after m j) ∷ slice_index memory (place_after m (j + 1))
+    ∷ slice_index memory (place_after m (j + 2)) ∷
+    slice_index memory (place_after m (j + 3)) ∷ slice_index memory (place_after m (j + 4)) ∷ [])
 
 -- 63: central words are written from the words from place m on, five each, and no place but 0000
 -- changes
 pub record WritesCentrals (pp : Processor) (answers : List Answer) (count : ℕ) : Type 0 where
   pub writes : (i : ℕ) → i < count →
-      need_met pp answers i ≡ needs.Write (address_of pp.a i)
+      need_before_answer pp answers i ≡ needs.Write (address_of pp.a i)
       (five_from (kept_memory pp) (second_word pp) (5 * i))
   pub memory : (replayed pp answers).memory ≡ kept_memory pp
 
 -- 63: as many central words as place d says
-abbrev pub CentralOutput : Processor → Type 0
-CentralOutput pp =
+abbrev pub CentralWrite : Processor → Type 0
+CentralWrite pp =
     (count : ℕ) → BeginsAt CWM pp → 0 < count → count ≡ word_at pp (lower_six pp) →
-    let answers = centrals_taken count in EndsBlock pp answers (sum pp.a count)
+    let answers = write_answers count in EndsBlock pp answers (sum pp.a count)
     × WritesCentrals pp answers count

@@ -3,12 +3,12 @@
 -- from place 0000 on, from the channel of its own number, which is active and empty.)
 use Rattle.std.specs.Prelude.{◌≡◌, ℕ, ◌≤◌, ◌&&◌, Bool, false, true, IsTrue, List, [], ◌∷◌, Some, map, if◌then◌else◌, slice_index_or, slice_set}
 use Rattle.std.specs.List.{range_with_len}
-use Rattle.pp_channel.specs.ChannelNumber.{channel_count, channel_index, channel_number, names_channel}
+use Rattle.pp_channel.specs.ChannelNo.{channel_count, channel_index, channel_number, names_channel}
 use Rattle.pp_channel.specs.declared.event.Event.{Event}
 use Rattle.pp_channel.specs.declared.event.Event.TheVariants.{Activate}
 use Rattle.pp_machine.specs.MachineState.{MachineState, processor_of, history_of}
 use Rattle.pp_machine.specs.Processor.{Processor}
-use Rattle.pp_machine.specs.ProcessorNumber.{names_processor, processor_count, processor_index, processor_number}
+use Rattle.pp_machine.specs.PpNo.{names_processor, processor_count, processor_index, processor_number}
 use Rattle.pp_machine.specs.Profile.{processors_in}
 use Rattle.pp_machine.specs.declared.block.BlockKind.TheVariants.{Input}
 use Rattle.pp_machine.specs.declared.pp_state.PpState.TheVariants.{Running}

@@ -1,11 +1,11 @@
-pub mod ProcessorNumber
+pub mod PpNo
 pub mod Profile
 pub mod PpMemory
 pub mod Processor
-pub mod OperandAndPlace
+pub mod Operand
 pub mod Step
-pub mod Effects
-pub mod Blocks
+pub mod Effect
+pub mod Block
 pub mod InstructionTable
 pub mod NeedAndEffect
 pub mod Replay
@@ -17,8 +17,9 @@ pub mod MachineStep
 pub mod Run
 pub mod Headline
 pub mod DeadStart
-pub mod MachineInvariant
 pub mod Lending
+pub mod MachineInvariant
+-- cited by private contracts alone: nobody has to read these to believe what the crate promises
 pub mod Rounds
-pub mod Direct
+pub mod NextStep
 pub mod Quiet

@@ -2,10 +2,11 @@
 -- (Manual 60100000, part on peripheral and control processors: the processors have memories of
 -- their own and share central memory and the data channels.)
 use Rattle.std.specs.Prelude.{ℕ, Bool, false, List, [], slice_index_or, replicate}
-use Rattle.pp_channel.specs.ChannelNumber.{channel_count, channel_index}
+use Rattle.pp_channel.specs.ChannelNo.{channel_count, channel_index}
+use Rattle.pp_channel.specs.Histories.{history_on}
 use Rattle.pp_channel.specs.declared.event.Event.{Event}
 use Rattle.pp_machine.specs.Processor.{Processor, new_processor, no_processor}
-use Rattle.pp_machine.specs.ProcessorNumber.{processor_count, processor_index}
+use Rattle.pp_machine.specs.PpNo.{processor_count, processor_index}
 use Rattle.pp_machine.specs.declared.profile.Profile.{Profile}
 use Rattle.pp_machine.specs.declared.trace.Trace.{Trace}
 
@@ -27,7 +28,7 @@ processor_of n m = slice_index_or m.processors (processor_index n) no_processor
 
 -- the history of channel c
 abbrev pub history_of : ℕ → MachineState → List Event
-history_of c m = slice_index_or m.histories (channel_index c) []
+history_of c m = history_on c m.histories
 
 -- whether dead start opened channel c
 abbrev pub is_opened : ℕ → MachineState → Bool

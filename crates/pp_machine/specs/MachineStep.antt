@@ -5,12 +5,12 @@
 use Rattle.std.specs.Prelude.{ℕ, ◌+◌, ◌-◌, ◌^◌, min, List, ◌++◌, length, map, nat_lt, Option, None, slice_set}
 use Rattle.std.specs.Option.{option_to_list}
 use Rattle.pp_channel.specs.Answer.{event_of, reply_to, history_after}
-use Rattle.pp_channel.specs.ChannelNumber.{channel_index}
+use Rattle.pp_channel.specs.ChannelNo.{channel_index}
 use Rattle.pp_channel.specs.declared.event.Event.{Event}
 use Rattle.pp_machine.specs.Central.{central_word, with_central_word}
 use Rattle.pp_machine.specs.MachineState.{MachineState, processor_of, history_of}
 use Rattle.pp_machine.specs.NeedAndEffect.{need, processor_after, outcome}
-use Rattle.pp_machine.specs.ProcessorNumber.{processor_index}
+use Rattle.pp_machine.specs.PpNo.{processor_index}
 use Rattle.pp_machine.specs.declared.answer.Answer.{Answer}
 use Rattle.pp_machine.specs.declared.answer.Answer.TheVariants as answers
 use Rattle.pp_machine.specs.declared.need.Need.{Need}

@@ -2,11 +2,11 @@
 -- outcome.
 use Rattle.std.specs.Prelude.{Bool, true, false, Option, None, Some, if◌then◌else◌}
 use Rattle.pp_channel.specs.declared.reply.Reply.TheVariants.{Flags, Done, Word, Held}
-use Rattle.pp_machine.specs.Blocks.{block_word, held}
-use Rattle.pp_machine.specs.Effects.{faults}
+use Rattle.pp_machine.specs.Block.{block_word, held}
+use Rattle.pp_machine.specs.Effect.{faults}
 use Rattle.pp_machine.specs.InstructionTable.{instruction}
-use Rattle.pp_machine.specs.OperandAndPlace.{operation, lower_six}
-use Rattle.pp_machine.specs.Processor.{Processor}
+use Rattle.pp_machine.specs.Operand.{operation, lower_six}
+use Rattle.pp_machine.specs.Processor.{Processor, past_central_memory}
 use Rattle.pp_machine.specs.Step.{Step, need_of, local, probes, takes, does, reads, writes}
 use Rattle.pp_machine.specs.declared.answer.Answer.{Answer}
 use Rattle.pp_machine.specs.declared.answer.Answer.TheVariants.{Local, Channel, Read, Wrote}
@@ -26,18 +26,19 @@ step_of (Some block) pp = block_word block.kind block.place pp
 abbrev pub next_step : Processor → Step
 next_step pp = step_of pp.block pp
 
--- the processor after an answer to a step: fault 4 where central memory has no such address,
--- and a channel that was not ready holds it; no other answer fits
+-- the processor after an answer to a step: a fault where central memory has no such address, and a
+-- channel that was not ready holds what it was to give, take or do; no other answer fits
 abbrev pub answered : Step → Processor → Answer → Processor
 answered (local after) pp Local = after
 answered (probes channel after) pp (Channel (Flags flags)) = after flags
 answered (takes channel after) pp (Channel (Word word)) = after word
 answered (does channel operation after) pp (Channel Done) = after
 answered (reads address after) pp (Read (Some central)) = after central
-answered (reads address after) pp (Read None) = faults pp 4
+answered (reads address after) pp (Read None) = faults pp past_central_memory
 answered (writes address word after) pp (Wrote true) = after
-answered (writes address word after) pp (Wrote false) = faults pp 4
-answered step pp (Channel (Held flags)) = held pp.block pp flags
+answered (writes address word after) pp (Wrote false) = faults pp past_central_memory
+answered (takes channel after) pp (Channel (Held flags)) = held pp.block pp flags
+answered (does channel operation after) pp (Channel (Held flags)) = held pp.block pp flags
 answered step pp answer = pp
 
 -- a channel that was not ready holds an instruction, and a block only where it is active

@@ -29,17 +29,34 @@ abbrev pub new_processor : Profile → Processor
 new_processor profile =
     record { profile = profile; memory = empty_memory; a = 0; p = 0; state = Stopped; block = None }
 
+-- a processor that runs on from p with A = a, in no block
+abbrev pub runs_from : ℕ → ℕ → Processor → Processor
+runs_from p a pp = record pp { p = p; a = a; state = Running; block = None }
+
 -- what stands for a processor past the end of a list
 abbrev pub no_processor : Processor
 no_processor = new_processor Ten
 
--- the faults: 1 exchange jump, 2 no central processor, 3 no such channel, 4 central address at or
--- past the size
+-- the faults: an exchange jump, the program address of a central processor that is not there, a
+-- channel that is not there, and a central address at or past the size
+abbrev pub exchange_jump : ℕ
+exchange_jump = 1
+
+abbrev pub no_central_processor : ℕ
+no_central_processor = 2
+
+abbrev pub no_such_channel : ℕ
+no_such_channel = 3
+
+abbrev pub past_central_memory : ℕ
+past_central_memory = 4
+
+-- the number of a fault is one of these
 pub record IsFaultNumber (number : ℕ) : Type 0 where
   pub first : 1 ≤ number
   pub last : number ≤ 4
 
--- a fault is one of these
+-- a fault has such a number
 abbrev pub HasFaultNumber : PpState → Type 0
 HasFaultNumber (Fault number) = IsFaultNumber number
 HasFaultNumber state = Unit {0}

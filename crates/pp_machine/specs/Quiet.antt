@@ -1,6 +1,7 @@
 -- Quiet steps: they make no event and write no central word, so they change nothing but their own
 -- processor. Where all steps of some rounds of the barrel are quiet, those of different processors
 -- can change places.
+-- (Private contracts alone cite this.)
 use Rattle.std.specs.Prelude.{◌≡◌, ℕ, zero, suc, ◌<◌, ◌≤◌, Bool, true, false, IsTrue, List, Option, Some, None, length, slice_index_or}
 use Rattle.pp_channel.specs.Answer.{event_of}
 use Rattle.pp_channel.specs.declared.event.Event.{Event}
@@ -42,11 +43,12 @@ pub record IsAhead (steps : ℕ) (m : MachineState) (old new : Processor) : Type
 
 -- the processors of a round from a place of the barrel on went this many quiet steps ahead, and all
 -- others stand where they stood
-pub record AreAhead (steps round place : ℕ) (m : MachineState) (old new : List Processor) : Type 0 where
-  pub as_many : length new ≡ length old
-  pub before : (k : ℕ) → k < place → slice_index_or new k no_processor
-      ≡ slice_index_or old k no_processor
-  pub behind : (k : ℕ) → round ≤ k → slice_index_or new k no_processor
-      ≡ slice_index_or old k no_processor
-  pub ahead : (k : ℕ) → place ≤ k → k < round
-      → IsAhead steps m (slice_index_or old k no_processor) (slice_index_or new k no_processor)
+pub record AreAhead (steps round place : ℕ) (m : MachineState) (old new : List Processor) : Type 0
+  where
+    pub as_many : length new ≡ length old
+    pub before : (k : ℕ) → k < place → slice_index_or new k no_processor
+        ≡ slice_index_or old k no_processor
+    pub behind : (k : ℕ) → round ≤ k → slice_index_or new k no_processor
+        ≡ slice_index_or old k no_processor
+    pub ahead : (k : ℕ) → place ≤ k → k < round
+        → IsAhead steps m (slice_index_or old k no_processor) (slice_index_or new k no_processor)

@@ -1,7 +1,7 @@
 -- A replay: a processor is given answers in order, up to the first that does not fit its need.
 use Rattle.std.specs.Prelude.{ℕ, ◌+◌, Bool, true, false, List, [], ◌∷◌, ◌++◌, map, Option, Some, if◌then◌else◌}
 use Rattle.std.specs.Option.{option_map, option_to_list}
-use Rattle.pp_channel.specs.LineLog.{event_answered}
+use Rattle.pp_channel.specs.Answer.{event_answered}
 use Rattle.pp_channel.specs.declared.chan_op.ChanOp.{ChanOp}
 use Rattle.pp_channel.specs.declared.chan_op.ChanOp.TheVariants as operations
 use Rattle.pp_channel.specs.declared.entry.Seen.{Seen}

@@ -93,6 +93,7 @@ impl<A: Allocator> Central<A> {
         ensures refused { OnFalse result (self.new ≡ self.old) }
         ensures sound { IsCentral self.new }
     {
+        // The call says to the proof that the word has sixty bits.
         let _small = w.get();
         match self.words.get_mut(a.get() as usize) {
             Some(word) => {

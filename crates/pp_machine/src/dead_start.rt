@@ -2,7 +2,7 @@
 
 ghost use Rattle.std.specs.Prelude.{◌≡◌, ◌≤◌, ◌<◌, [], ◌∷◌, take, vec_len, slice_set, IsTrue, IfOk, OnOk, OnErr};
 ghost use Rattle.pp_channel.specs.declared.event.Event.TheVariants.{Activate};
-ghost use Rattle.pp_machine.specs.ProcessorNumber.{processor_count, names_processor};
+ghost use Rattle.pp_machine.specs.PpNo.{processor_count, names_processor};
 
 use crate::machine::Machine;
 use crate::pp_no::{PROCESSORS, PpNo};
@@ -73,6 +73,7 @@ impl<A: Allocator> Machine<A> {
     {
         let own = own_channel(n);
         let i = own.index();
+        // The call says to the proof that the history is lawful.
         let _history = channel.history();
         self.processors[n.index()].wait_load(own);
         put_channel(&mut self.channels, i, channel);

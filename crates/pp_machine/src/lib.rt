@@ -33,7 +33,9 @@ pub use need::Need;
 pub use outcome::Outcome;
 pub use pp::Pp;
 pub use pp_no::{PROCESSORS, PpNo};
-pub use pp_state::PpState;
+pub use pp_state::{
+    EXCHANGE_JUMP, NO_CENTRAL_PROCESSOR, NO_SUCH_CHANNEL, PAST_CENTRAL_MEMORY, PpState,
+};
 pub use profile::Profile;
 pub use replay::fits;
 pub use trace::Trace;

@@ -2,12 +2,12 @@
 
 ghost use Rattle.std.specs.Prelude.{◌≡◌, ◌<◌, ℕ, ◌++◌, [], length, replicate, slice_index_or, IfOk, OnOk, OnErr, IsErrOf, IsTrue, ◌↔◌};
 ghost use Rattle.std.specs.Bool.{OnFalse};
-ghost use Rattle.pp_channel.specs.ChannelNumber.{channel_count};
+ghost use Rattle.pp_channel.specs.ChannelNo.{channel_count};
 ghost use Rattle.pp_channel.specs.History.{IsLawful};
 ghost use Rattle.pp_channel.specs.Law.{KeepsLaw};
 ghost use Rattle.pp_machine.specs.Headline.{HoldsOnChannel};
 ghost use Rattle.pp_machine.specs.Processor.{new_processor};
-ghost use Rattle.pp_machine.specs.ProcessorNumber.{processor_count};
+ghost use Rattle.pp_machine.specs.PpNo.{processor_count};
 
 use crate::central::{Central, CentralFault};
 use crate::pp::Pp;
@@ -37,9 +37,25 @@ impl<A: Allocator> Model for Machine<A> {
 
     ghost Value = { MachineState };
 
-    ghost view = { λ m. record { profile = m.profile; processors = m.processors.items; histories = m.channels.items; central = m.central; turns = m.turns; trace = m.trace.items; opened = m.opened } };
+    ghost view = { λ m. record {
+      profile = m.profile;
+      processors = m.processors.items;
+      histories = m.channels.items;
+      central = m.central;
+      turns = m.turns;
+      trace = m.trace.items;
+      opened = m.opened;
+    } };
 
-    ghost invariant = { λ m. IsMachine (record { profile = m.profile; processors = m.processors.items; histories = m.channels.items; central = m.central; turns = m.turns; trace = m.trace.items; opened = m.opened }) };
+    ghost invariant = { λ m. IsMachine (record {
+      profile = m.profile;
+      processors = m.processors.items;
+      histories = m.channels.items;
+      central = m.central;
+      turns = m.turns;
+      trace = m.trace.items;
+      opened = m.opened;
+    }) };
 }
 
 impl<A: Allocator> Machine<A> {
@@ -165,6 +181,7 @@ fn new_channels<A: Allocator + Copy>(alloc: A) -> Result<Vec<Channel<A>, A>, Cen
     let mut channels = Vec::with_capacity(alloc, CHANNELS)?;
     for _ in 0..CHANNELS {
         let channel = Channel::new(alloc);
+        // The call says to the proof that the history is lawful.
         let _history = channel.history();
         channels.push(channel)?;
     }

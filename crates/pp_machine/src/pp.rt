@@ -2,10 +2,10 @@
 
 mod block;
 mod block_law;
-mod direct;
 mod effect;
 mod load;
 mod local;
+mod next_step;
 mod operand;
 mod reply;
 mod step;
@@ -19,7 +19,7 @@ use crate::pp_memory::PpMemory;
 use crate::pp_state::PpState;
 use crate::profile::Profile;
 pub(crate) use block_law::block_results;
-pub(crate) use direct::ends;
+pub(crate) use next_step::ends;
 use pp_channel::ChannelNo;
 use pp_word::{Word6, Word12, Word18};
 use std::marker::Model;
@@ -42,7 +42,14 @@ impl Model for Pp {
 
     ghost Value = { Processor };
 
-    ghost view = { λ pp. record { profile = pp.profile; memory = pp.memory; a = pp.a; p = pp.p; state = pp.state; block = pp.block } };
+    ghost view = { λ pp. record {
+      profile = pp.profile;
+      memory = pp.memory;
+      a = pp.a;
+      p = pp.p;
+      state = pp.state;
+      block = pp.block;
+    } };
 
     ghost invariant = { λ pp. HasFaultNumber pp.state × IsBlockIn pp.state pp.block };
 }

@@ -49,6 +49,7 @@ impl PpMemory {
     pub fn set(&mut self, place: Word12, word: Word12)
         ensures { self.new ≡ slice_set self.old place word }
     {
+        // The call says to the proof that the word has twelve bits.
         let _in_range = word.get();
         self.words[usize::from(place.get())] = word;
     }
@@ -64,6 +65,7 @@ impl PpMemory {
     pub fn has_widths(&self)
         ensures { IsMemory self.now }
     {
+        // To look at the words says to the proof that there are 4096, of twelve bits.
         let _words = &self.words;
     }
 }

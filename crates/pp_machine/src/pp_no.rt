@@ -1,7 +1,7 @@
 //! The number of a peripheral processor.
 
 ghost use Rattle.std.specs.Prelude.{◌≡◌, ℕ, ◌+◌, ◌%◌, ◌<◌, ◌↔◌, IsTrue, IsSome, IfSome};
-ghost use Rattle.pp_machine.specs.ProcessorNumber.{processor_count, names_processor, processor_index, processor_number};
+ghost use Rattle.pp_machine.specs.PpNo.{processor_count, names_processor, processor_index, processor_number};
 
 use std::marker::Model;
 
@@ -18,7 +18,7 @@ pub struct PpNo {
 impl Model for PpNo {
     ghost use Rattle.std.specs.Prelude.{ℕ, IsTrue};
     ghost use Rattle.std.proofs.Common.{ap};
-    ghost use Rattle.pp_machine.specs.ProcessorNumber.{names_processor, processor_index, processor_number, place_again};
+    ghost use Rattle.pp_machine.specs.PpNo.{names_processor, processor_index, processor_number, place_again};
 
     ghost Value = { ℕ };
 
@@ -33,7 +33,7 @@ impl Model for PpNo {
 
 impl PpNo {
     /// The processor of this number, or nothing from 12 to 17 (octal) and from 32 on.
-    #[tactic(auto, unfolding(crate::specs::ProcessorNumber::names_processor, crate::specs::ProcessorNumber::processor_number))]
+    #[tactic(auto, unfolding(crate::specs::PpNo::names_processor, crate::specs::PpNo::processor_number))]
     pub fn new(number: u8) -> Option<Self>
         ensures exists { IsSome result ↔ IsTrue (names_processor number) }
         ensures value { IfSome result (λ n. n ≡ number) }
@@ -47,7 +47,7 @@ impl PpNo {
     }
 
     /// Its number.
-    #[tactic(auto, unfolding(crate::specs::ProcessorNumber::names_processor, crate::specs::ProcessorNumber::processor_number))]
+    #[tactic(auto, unfolding(crate::specs::PpNo::names_processor, crate::specs::PpNo::processor_number))]
     pub fn get(self) -> u8
         ensures value { result ≡ self }
         ensures names { IsTrue (names_processor result) }
@@ -60,7 +60,7 @@ impl PpNo {
     }
 
     /// Its place in a list of all processors in the barrel's order.
-    #[tactic(auto, using(crate::proofs::ProcessorPlaces::one_place, crate::proofs::ProcessorPlaces::place_below, crate::specs::ProcessorNumber::place_again))]
+    #[tactic(auto, using(crate::proofs::ProcessorPlaces::one_place, crate::proofs::ProcessorPlaces::place_below, crate::specs::PpNo::place_again))]
     pub fn index(self) -> usize
         ensures place { result ≡ processor_index self }
         ensures below { result < processor_count }

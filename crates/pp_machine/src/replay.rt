@@ -1,7 +1,7 @@
 //! Which answers fit a need, and a processor's replay of answers.
 
 ghost use Rattle.std.specs.Prelude.{◌≡◌};
-ghost use Rattle.pp_machine.specs.BlockResults.{WholeInput, ClosedInput, WholeOutput, CutOutput, CentralInput, CentralOutput};
+ghost use Rattle.pp_machine.specs.BlockResults.{CompleteInput, ShortInput, CompleteOutput, ShortOutput, CentralRead, CentralWrite};
 ghost use Rattle.pp_machine.specs.Replay.{fits, reply_fits, replayed, given_count};
 ghost use Rattle.pp_machine.specs.StepLaws.{IsAtRest};
 
@@ -48,12 +48,12 @@ impl Pp {
         ensures rest_changes_nothing { IsAtRest self.old → self.new ≡ self.old }
 
         // What a whole block transfer leaves, without its single steps.
-        ensures whole_input { WholeInput self.old }
-        ensures closed_input { ClosedInput self.old }
-        ensures whole_output { WholeOutput self.old }
-        ensures cut_output { CutOutput self.old }
-        ensures central_input { CentralInput self.old }
-        ensures central_output { CentralOutput self.old }
+        ensures complete_input { CompleteInput self.old }
+        ensures short_input { ShortInput self.old }
+        ensures complete_output { CompleteOutput self.old }
+        ensures short_output { ShortOutput self.old }
+        ensures central_read { CentralRead self.old }
+        ensures central_write { CentralWrite self.old }
     {
         block_results(self);
         for (i, answer) in answers.iter().enumerate() {

@@ -1,7 +1,7 @@
 //! Lists of steps.
 
 ghost use Rattle.std.specs.Prelude.{◌≡◌, ◌*◌, ◌<◌, ◌≤◌, length, take, slice_index, IfErr, IsSome, OnOk, vec_len};
-ghost use Rattle.pp_machine.specs.ProcessorNumber.{processor_count};
+ghost use Rattle.pp_machine.specs.PpNo.{processor_count};
 ghost use Rattle.pp_machine.specs.Rounds.{RestBetween, PassesOverRest};
 
 use crate::cut::Cut;
@@ -50,6 +50,7 @@ impl<A: Allocator> Machine<A> {
             IsSome (step_event (slice_index turns.now c.done) self.new)) }
         ensures headline { HoldsOnEachChannel self.new }
     {
+        // To look at the machine says to the proof that it is sound.
         let _sound = &self.turns;
         for (i, n) in turns.iter().enumerate() {
             if self.step(*n).is_err() {
@@ -70,6 +71,7 @@ impl<A: Allocator> Machine<A> {
             IsSome (step_event (processor_in_turn self.old.profile c.done) self.new)) }
         ensures headline { HoldsOnEachChannel self.new }
     {
+        // To look at the machine says to the proof that it is sound.
         let _sound = &self.turns;
         let round = self.round();
         let whole = turns / round;

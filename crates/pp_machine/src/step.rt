@@ -3,10 +3,10 @@
 ghost use Rattle.std.specs.Prelude.{◌≡◌, ◌++◌, [], None, Some, IsTrue, vec_len, map, slice_set, slice_index_or, if◌then◌else◌, IfOk, IsOk, IsNone, OnOk, OnErr};
 ghost use Rattle.std.specs.Option.{option_to_list};
 ghost use Rattle.pp_channel.specs.Answer.{event_of, reply_to, history_after};
-ghost use Rattle.pp_channel.specs.ChannelNumber.{channel_count, channel_index};
+ghost use Rattle.pp_channel.specs.ChannelNo.{channel_count, channel_index};
 ghost use Rattle.pp_channel.specs.History.{IsLawful, HasTwelveBitWord};
 ghost use Rattle.pp_channel.specs.Law.{KeepsLaw};
-ghost use Rattle.pp_machine.specs.Direct.{IsAtInstruction, IsNext};
+ghost use Rattle.pp_machine.specs.NextStep.{IsAtInstruction, IsNext};
 ghost use Rattle.pp_machine.specs.NeedAndEffect.{need};
 ghost use Rattle.pp_machine.specs.Profile.{has_channel};
 ghost use Rattle.pp_machine.specs.Replay.{fits};
@@ -152,7 +152,7 @@ impl<A: Allocator> Machine<A> {
         ensures headline { HoldsOnEachChannel self.new }
     {
         let Some(channel) = profile.channel(d.get()) else {
-            let _fault = self.processors[n.index()].give_local();
+            let _fault = self.processors[n.index()].give_local(&Some(op), d);
             self.count_turn();
             return;
         };
@@ -179,7 +179,7 @@ impl<A: Allocator> Machine<A> {
         let i = n.index();
         match self.processors[i].wants_next(next, d) {
             Need::Nothing | Need::Local => {
-                let outcome = self.processors[i].give_local();
+                let outcome = self.processors[i].give_local(next, d);
                 self.count_turn();
                 Ok(outcome)
             }
@@ -233,6 +233,7 @@ impl<A: Allocator> Machine<A> {
         ensures unchanged_after_memory { OnErr result (self.new ≡ self.old) }
         ensures no_event { IsNone (event_for (Need.Channel channel op) self.old) → IsOk result }
     {
+        // The call says to the proof that the number is one of a channel.
         let _named = channel.get();
         let i = channel.index();
         let made = self.channels[i].next_event(&op);
@@ -287,6 +288,7 @@ fn make_on<A: Allocator>(
 {
     let channel = &mut channels[channel.index()];
     let reply = channel.make(op, event);
+    // The call says to the proof that the history is lawful.
     let _history = channel.history();
     reply
 }

@@ -5,16 +5,16 @@ use Rattle.std.proofs.lemmas.List.{take_more, length-append}
 use Rattle.std.proofs.lemmas.List.Elements.{All-pop, All-push, All-weaker}
 use Rattle.pp_channel.specs.LineState.{LineState, IsSplitFrom}
 use Rattle.pp_channel.specs.LineView.{parent_view}
-use Rattle.pp_channel.specs.RisingLog.{seen_on}
+use Rattle.pp_channel.specs.MonotoneLog.{seen_on}
 use Rattle.pp_machine.specs.MachineState.{MachineState, processor_of}
 use Rattle.pp_machine.specs.Processor.{Processor, no_processor}
-use Rattle.pp_machine.specs.ProcessorNumber.{processor_count, processor_index, processor_number}
+use Rattle.pp_machine.specs.PpNo.{processor_count, processor_index, processor_number}
 use Rattle.pp_machine.proofs.ProcessorPlaces.{place_of_number}
 use Rattle.pp_runner.proofs.LogLemmas.{settles, stands_settled}
 use Rattle.pp_runner.proofs.LineLemmas.{operated_least, same_line_still, same_line_twice}
 use Rattle.pp_runner.specs.Crew.{AreReady, IsEnded, HasEnded, AreEnded}
 use Rattle.pp_runner.specs.Labour.{IsAtWork, HasSeen, IsSameLine, HasOperated, GaveUpWithCause}
-use Rattle.pp_runner.specs.WorkerEnd.{IsEnd, WornWithCause}
+use Rattle.pp_runner.specs.End.{IsEnd, WornWithCause}
 use Rattle.pp_runner.specs.WorkerReport.{AreWorkers}
 use Rattle.pp_runner.specs.declared.crew.Crew.{Crew}
 use Rattle.pp_runner.specs.declared.end.End.{End}
@@ -51,7 +51,7 @@ work_ended load size steps line w work few finish worn =
         by_size = work.by_size;
         events = work.events;
         sights = stands_settled line.log _ s work.sights;
-        rising = work.rising;
+        monotone = work.monotone;
         few_answers = few;
         few_entries = omega (arith, s.few, work.few_entries);
         finish = finish;

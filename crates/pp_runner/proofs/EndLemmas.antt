@@ -6,7 +6,7 @@ use Rattle.pp_machine.specs.NeedAndEffect.{need}
 use Rattle.pp_machine.specs.Processor.{Processor, IsFaultNumber}
 use Rattle.pp_machine.specs.declared.answer.Answer.{Answer}
 use Rattle.pp_machine.specs.declared.pp_state.PpState.TheVariants as states
-use Rattle.pp_runner.specs.WorkerEnd.{IsEnd, NeedsWornChannel, WornWithCause, WasHeld}
+use Rattle.pp_runner.specs.End.{IsEnd, NeedsWornChannel, WornWithCause, WasHeld}
 use Rattle.pp_runner.specs.declared.end.End.{End}
 use Rattle.pp_runner.specs.declared.end.End.TheVariants as ends
 

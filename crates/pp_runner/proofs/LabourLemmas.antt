@@ -9,8 +9,9 @@ use Rattle.std.proofs.lemmas.Option.{slice_get_within, slice_get-get_or}
 use Rattle.std.proofs.Math.ListN.{get_or-append}
 use Rattle.std.proofs.Math.Seq.{take-append_seam, get_or-append_seam}
 use Rattle.pp_channel.proofs.LastElements.{last_or-push}
-use Rattle.pp_channel.specs.LineLog.{LogState, empty_log, appended, looked, is_look_at, event_answered}
-use Rattle.pp_channel.specs.RisingLog.{IsRising}
+use Rattle.pp_channel.specs.LineLog.{LogState, empty_log, appended, looked, is_look_at}
+use Rattle.pp_channel.specs.Answer.{event_answered}
+use Rattle.pp_channel.specs.MonotoneLog.{IsMonotone}
 use Rattle.pp_channel.specs.declared.chan_op.ChanOp.{ChanOp}
 use Rattle.pp_channel.specs.declared.chan_op.ChanOp.TheVariants as operations
 use Rattle.pp_channel.specs.declared.entry.Entry.{Entry}
@@ -34,8 +35,8 @@ use Rattle.pp_runner.proofs.LogLemmas.{looked_at, settled_kept, settled_look, Is
 use Rattle.pp_runner.proofs.ReplyLemmas.{sight_of, reply_to_channel}
 use Rattle.pp_runner.specs.AnswersGiven.{OfEachAnswer, IsBySize}
 use Rattle.pp_runner.specs.Labour.{IsAtWork, IsAnswered, IsNoted, noted_as, settled}
-use Rattle.pp_runner.specs.WorkerEnd.{WasHeld, NeedsChannel}
-use Rattle.pp_runner.specs.WorkerLog.{event_in, events_in, sights_in, StandsIn}
+use Rattle.pp_runner.specs.End.{WasHeld, NeedsChannel}
+use Rattle.pp_runner.specs.WorkerLog.{event_in, events_in, sights_in, IsSubsequence}
 
 -- what is true of each answer is true of each of one more
 each_front : (P : Processor → Answer → Type 0) (load : Processor) (xs : List Answer) (x : Answer) (i : ℕ) (y : Answer) → OfEachAnswer P load xs →
@@ -109,7 +110,7 @@ among_sights (needs.Write a w) x = refl
 -- a log after the sights of an answer
 record IsLogged (ss : List ChannelSight) (before after : LogState) : Type 0 where
   pub events : events_in after.entries ≡ events_in before.entries ++ events_among ss
-  pub sights : (old : List ChannelSight) → StandsIn old (sights_in (settled before)) → StandsIn (old ++ ss) (sights_in after.entries)
+  pub sights : (old : List ChannelSight) → IsSubsequence old (sights_in (settled before)) → IsSubsequence (old ++ ss) (sights_in after.entries)
   pub few : length after.entries ≤ length (settled before) + 2 * length ss
   pub room : after.room + length after.entries ≡ before.room + length before.entries
 
@@ -128,7 +129,7 @@ logged_did c number what before after room s is =
     let n : length after.entries ≡ length before.entries + 1 = ap length entries ∙ length-append before.entries (entry ∷ []) in
     let left : after.room ≡ before.room - 1 = ap (λ l. l.room) is in record {
       events = ap events_in entries ∙ events_in-push before.entries (entry ∷ []);
-      sights = λ old h. subst (λ (l : List ChannelSight). StandsIn (old ++ record { channel = c; what = what } ∷ []) l) (sym (ap sights_in entries ∙ sights_in-push before.entries (entry ∷ []))) (stands_push old (sights_in before.entries) (record { channel = c; what = what }) (stands_settled before old s h));
+      sights = λ old h. subst (λ (l : List ChannelSight). IsSubsequence (old ++ record { channel = c; what = what } ∷ []) l) (sym (ap sights_in entries ∙ sights_in-push before.entries (entry ∷ []))) (stands_push old (sights_in before.entries) (record { channel = c; what = what }) (stands_settled before old s h));
       few = omega (arith, s.few, n);
       room = omega (arith, n, left);
     }
@@ -140,7 +141,7 @@ logged_saw c number what before after room s held is =
     let look = looked_at before entry held in
     let entries : after.entries ≡ settled before ++ entry ∷ [] = ap (λ l. l.entries) is ∙ look.entries in record {
       events = ap events_in entries ∙ (events_in-push (settled before) (entry ∷ []) ∙ ap (λ l. l ++ events_in (entry ∷ [])) (events_settled before s));
-      sights = λ old h. subst (λ (l : List ChannelSight). StandsIn (old ++ record { channel = c; what = what } ∷ []) l) (sym (ap sights_in entries ∙ sights_in-push (settled before) (entry ∷ []))) (stands_push old (sights_in (settled before)) (record { channel = c; what = what }) h);
+      sights = λ old h. subst (λ (l : List ChannelSight). IsSubsequence (old ++ record { channel = c; what = what } ∷ []) l) (sym (ap sights_in entries ∙ sights_in-push (settled before) (entry ∷ []))) (stands_push old (sights_in (settled before)) (record { channel = c; what = what }) h);
       few = omega (arith, ap length entries, length-append (settled before) (entry ∷ []));
       room = ap (λ l. l.room + length l.entries) is ∙ look.room room;
     }
@@ -164,7 +165,7 @@ logged_none before after k is =
     let whole : settled before ≡ before.entries = settled_kept before k in
     let entries : after.entries ≡ before.entries = ap (λ l. l.entries) is in record {
       events = ap events_in entries ∙ sym (append-nil (events_in before.entries));
-      sights = λ old h. subst (λ (l : List ChannelSight). StandsIn l (sights_in after.entries)) (sym (append-nil old)) (subst (λ (l : List Entry). StandsIn old (sights_in l)) (whole ∙ sym entries) h);
+      sights = λ old h. subst (λ (l : List ChannelSight). IsSubsequence l (sights_in after.entries)) (sym (append-nil old)) (subst (λ (l : List Entry). IsSubsequence old (sights_in l)) (whole ∙ sym entries) h);
       few = omega (arith, ap length entries, ap length whole);
       room = ap (λ l. l.room + length l.entries) is;
     }
@@ -233,9 +234,9 @@ work_moved load size steps pp new xs x before after kept work fewer told moved n
       all_moved = each_push (λ q y. outcome q y ≡ Moved) load xs x work.all_moved (ap (λ q. outcome q x) (sym same) ∙ moved);
       by_size = each_push (λ q y. IsBySize size (need q) y) load xs x work.by_size (subst (λ (q : Processor). IsBySize size (need q) x) same told.by_size);
       events = ap (λ l. events_in l.entries) kept_is ∙ (log.events ∙ ((λ i. work.events i ++ among_sights (need pp) x i) ∙ (ap (λ q. events_given load xs ++ events_of (need q) x) same ∙ sym (told_along-push events_of xs load x work.all_given fit))));
-      sights = subst (λ (ss : List ChannelSight). StandsIn ss (sights_in (settled kept))) (sym more)
-          (subst (λ (l : List Entry). StandsIn (sights_given load xs ++ sights_of (need pp) x) (sights_in l)) (sym stays) (log.sights (sights_given load xs) work.sights));
-      rising = subst (λ (l : List Entry). IsRising l) (sym (ap (λ l. l.entries) kept_is)) (told.rising work.rising);
+      sights = subst (λ (ss : List ChannelSight). IsSubsequence ss (sights_in (settled kept))) (sym more)
+          (subst (λ (l : List Entry). IsSubsequence (sights_given load xs ++ sights_of (need pp) x) (sights_in l)) (sym stays) (log.sights (sights_given load xs) work.sights));
+      monotone = subst (λ (l : List Entry). IsMonotone l) (sym (ap (λ l. l.entries) kept_is)) (told.monotone work.monotone);
       few_entries = omega (arith, ap length stays, log.few, work.few_entries, count);
       few_sights = omega (arith, work.few_sights, count, one_sight (need pp) x told.fits, n);
       held = λ k. absurd (true_kept kept after kept_is k);
@@ -293,8 +294,8 @@ work_held load size steps pp new xs x before after work fewer told held new_is =
       all_moved = work.all_moved;
       by_size = work.by_size;
       events = log.events ∙ (append-nil (events_in before.entries) ∙ work.events);
-      sights = subst (λ (l : List Entry). StandsIn (sights_given load xs) (sights_in l)) (sym stays) work.sights;
-      rising = told.rising work.rising;
+      sights = subst (λ (l : List Entry). IsSubsequence (sights_given load xs) (sights_in l)) (sym stays) work.sights;
+      monotone = told.monotone work.monotone;
       few_entries = omega (arith, ap length stays, work.few_entries);
       few_sights = work.few_sights;
       held = λ k. new_was;
@@ -314,7 +315,7 @@ work_begins load pp size steps xs log pp_is none is =
       by_size = rw none (λ i x e. absurd cc);
       events = rw (none, entries) refl;
       sights = rw none tt;
-      rising = rw entries (λ i j d below within. absurd (omega arith));
+      monotone = rw entries (λ i j d below within. absurd (omega arith));
       few_entries = omega (arith, ap length stays);
       few_sights = rw none (omega arith);
       held = λ k. absurd (both_ways log.kept k (ap (λ l. l.kept) is));

@@ -9,11 +9,11 @@ use Rattle.std.proofs.Math.Nat.{suc-mul, mul-one, zero-mul}
 use Rattle.pp_channel.proofs.LineAnswers.{number_later}
 use Rattle.pp_channel.proofs.LineKnowledge.{all_looked}
 use Rattle.pp_channel.proofs.SeenLemmas.{set_raises}
-use Rattle.pp_channel.specs.ChannelNumber.{channel_index}
+use Rattle.pp_channel.specs.ChannelNo.{channel_index}
 use Rattle.pp_channel.specs.LineLog.{LogState}
 use Rattle.pp_channel.specs.LineState.{LineState, AreFoundBy, IsActed, IsAnsweredBy, IsWornOut, found_on, number_after}
-use Rattle.pp_channel.specs.Merge.{history_on}
-use Rattle.pp_channel.specs.RisingLog.{seen_on}
+use Rattle.pp_channel.specs.Histories.{history_on}
+use Rattle.pp_channel.specs.MonotoneLog.{seen_on}
 use Rattle.pp_channel.specs.declared.chan_op.ChanOp.{ChanOp}
 use Rattle.pp_channel.specs.declared.entry.Entry.{Entry}
 use Rattle.pp_channel.specs.declared.event.Event.{Event}
@@ -27,7 +27,7 @@ use Rattle.pp_machine.specs.NeedAndEffect.{need}
 use Rattle.pp_machine.specs.Processor.{Processor}
 use Rattle.pp_runner.proofs.ReplyLemmas.{line_reply_fits, sight_of}
 use Rattle.pp_runner.specs.Labour.{AreFoundByOne, NoneOlder, IsSameLine, HasOperated, operations, noted_as}
-use Rattle.pp_runner.specs.WorkerEnd.{WasHeld}
+use Rattle.pp_runner.specs.End.{WasHeld}
 
 -- nothing came
 pub same_line_still : (line : LineState) → IsSameLine line line

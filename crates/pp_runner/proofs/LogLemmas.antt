@@ -13,7 +13,7 @@ use Rattle.pp_channel.specs.declared.entry.Seen.{Seen}
 use Rattle.pp_channel.specs.declared.entry.Seen.TheVariants.{Did, Saw}
 use Rattle.pp_machine.specs.Replay.{ChannelSight}
 use Rattle.pp_runner.specs.Labour.{settled}
-use Rattle.pp_runner.specs.WorkerLog.{event_in, events_in, sights_in, StandsIn}
+use Rattle.pp_runner.specs.WorkerLog.{event_in, events_in, sights_in, IsSubsequence}
 
 -- a list that is not empty ends in an element
 pub record IsPushed {X : Type 0} (xs : List X) : Type 0 where
@@ -145,13 +145,13 @@ pub sights_in-push : (xs ys : List Entry) → sights_in (xs ++ ys) ≡ sights_in
 sights_in-push xs ys = map-append (λ entry. record { channel = entry.channel; what = entry.what }) xs ys
 
 -- what stands in a list stands in it with more behind, and with the same element behind both
-pub stands_more : {X : Type 0} (xs ys zs : List X) → StandsIn xs ys → StandsIn xs (ys ++ zs)
+pub stands_more : {X : Type 0} (xs ys zs : List X) → IsSubsequence xs ys → IsSubsequence xs (ys ++ zs)
 stands_more [] ys zs h = tt
 stands_more (x ∷ xs) [] zs h = absurd h
 stands_more (x ∷ xs) (y ∷ ys) zs h =
     elim h [ inl p ↦ inl (p.0, stands_more xs ys zs p.1) | inr q ↦ inr (stands_more (x ∷ xs) ys zs q) ]
 
-pub stands_push : {X : Type 0} (xs ys : List X) (z : X) → StandsIn xs ys → StandsIn (xs ++ z ∷ []) (ys ++ z ∷ [])
+pub stands_push : {X : Type 0} (xs ys : List X) (z : X) → IsSubsequence xs ys → IsSubsequence (xs ++ z ∷ []) (ys ++ z ∷ [])
 stands_push [] [] z h = inl (refl, tt)
 stands_push [] (y ∷ ys) z h = inr (stands_push [] ys z tt)
 stands_push (x ∷ xs) [] z h = absurd h
@@ -159,6 +159,6 @@ stands_push (x ∷ xs) (y ∷ ys) z h =
     elim h [ inl p ↦ inl (p.0, stands_push xs ys z p.1) | inr q ↦ inr (stands_push (x ∷ xs) ys z q) ]
 
 -- what stays of a log stands in it
-pub stands_settled : (log : LogState) (xs : List ChannelSight) → IsSettled log → StandsIn xs (sights_in (settled log)) → StandsIn xs (sights_in log.entries)
+pub stands_settled : (log : LogState) (xs : List ChannelSight) → IsSettled log → IsSubsequence xs (sights_in (settled log)) → IsSubsequence xs (sights_in log.entries)
 stands_settled log xs s h =
-    subst (λ (l : List ChannelSight). StandsIn xs l) (sym (ap sights_in s.is ∙ sights_in-push (settled log) s.rest)) (stands_more xs (sights_in (settled log)) (sights_in s.rest) h)
+    subst (λ (l : List ChannelSight). IsSubsequence xs l) (sym (ap sights_in s.is ∙ sights_in-push (settled log) s.rest)) (stands_more xs (sights_in (settled log)) (sights_in s.rest) h)

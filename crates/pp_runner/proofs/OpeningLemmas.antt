@@ -6,10 +6,10 @@ use Rattle.std.specs.Prelude.{if◌then◌else◌, nat_lt}
 use Rattle.std.proofs.lemmas.Bool.{cases_lt, lt-ltb, le-ltb}
 use Rattle.std.proofs.lemmas.List.{get_or_past}
 use Rattle.pp_channel.proofs.ChannelPlaces.{one_place, place_of_number, number_named}
-use Rattle.pp_channel.specs.ChannelNumber.{channel_count, channel_index, channel_number}
+use Rattle.pp_channel.specs.ChannelNo.{channel_count, channel_index, channel_number}
 use Rattle.pp_channel.specs.LineState.{LineState}
-use Rattle.pp_channel.specs.Merge.{IsOpeningLog, times_told}
-use Rattle.pp_channel.specs.RisingLog.{IsWithin}
+use Rattle.pp_channel.specs.Merge.{IsOpeningLog, times_logged}
+use Rattle.pp_channel.specs.MonotoneLog.{IsWithin}
 use Rattle.pp_channel.specs.declared.entry.Entry.{Entry}
 use Rattle.pp_channel.specs.declared.event.Event.{Event}
 use Rattle.pp_channel.specs.LineLog.{event_entry}
@@ -46,7 +46,7 @@ pub nothing_before : (m : MachineState) (log : List Entry) → log ≡ [] → Is
 nothing_before m log none = opening_none (opened_before 0 m) log (λ c. not_before_it 0 m c (omega arith)) none
 
 -- the channel at a place has not been told of before
-pub untold : (place : ℕ) (m : MachineState) (log : List Entry) → place < channel_count → IsOpeningLog (opened_before place m) log → times_told (channel_number place) 0 log ≡ 0
+pub untold : (place : ℕ) (m : MachineState) (log : List Entry) → place < channel_count → IsOpeningLog (opened_before place m) log → times_logged (channel_number place) 0 log ≡ 0
 untold place m log below is =
     let here = place_of_number place below in
     let none : length (opened_before place m (channel_number place)) ≡ 0 = ap length (not_before_it place m (channel_number place) (omega (arith, here))) in

@@ -5,8 +5,8 @@ use Rattle.std.proofs.lemmas.Bool.{cases_eq}
 use Rattle.pp_channel.specs.Answer.{IsAnswer, operation_of, reply_made, reply_shown}
 use Rattle.pp_channel.specs.LineLog.{LogState, with_answer}
 use Rattle.pp_channel.specs.LineState.{LineState, IsActed, IsAnsweredBy, IsLost}
-use Rattle.pp_channel.specs.Merge.{history_on}
-use Rattle.pp_channel.specs.RisingLog.{IsRising}
+use Rattle.pp_channel.specs.Histories.{history_on}
+use Rattle.pp_channel.specs.MonotoneLog.{IsMonotone}
 use Rattle.pp_channel.specs.declared.chan_op.ChanOp.{ChanOp}
 use Rattle.pp_channel.specs.declared.chan_op.ChanOp.TheVariants as operations
 use Rattle.pp_channel.specs.declared.entry.Seen.{Seen}
@@ -108,14 +108,14 @@ reply_to_channel c op (answers.Read word) fit = absurd cc
 reply_to_channel c op (answers.Wrote written) fit = absurd cc
 
 -- what a line answers, as the answer to the need
-pub acted_answer : (size c : ℕ) (op : ChanOp) (r : Numbered) (before after : LineState) → IsActed before c op r after → (IsRising before.log.entries → IsRising after.log.entries)
+pub acted_answer : (size c : ℕ) (op : ChanOp) (r : Numbered) (before after : LineState) → IsActed before c op r after → (IsMonotone before.log.entries → IsMonotone after.log.entries)
     → IsAnswered size (needs.Channel c op) (answers.Channel r.reply) before.log after.log
-acted_answer size c op r before after acted rising =
+acted_answer size c op r before after acted monotone =
     let fit : reply_fits op r.reply ≡ true = line_reply_fits (history_on c acted.histories) op r acted.answer in
     let s = sight_of c op r.reply fit in
     let log : after.log ≡ noted_as before.log c r.number s.what = ap (λ l. l.log) acted.after_is ∙ s.noted before.log r.number in record {
       fits = fit;
       by_size = tt;
       noted = subst (λ (ss : List ChannelSight). IsNoted ss before.log after.log) (sym s.is) (r.number, log);
-      rising = rising;
+      monotone = monotone;
     }

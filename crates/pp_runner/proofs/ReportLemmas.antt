@@ -6,14 +6,14 @@ use Rattle.std.specs.declared.vec.Vec.{Vec}
 use Rattle.std.proofs.lemmas.List.Elements.{All-append, All-cons, All-head, All-nil, All-tail}
 use Rattle.std.proofs.lemmas.Option.{slice_get_within}
 use Rattle.pp_channel.specs.LineState.{LineState, joined, all_joined}
-use Rattle.pp_channel.specs.RisingLog.{seen_on}
+use Rattle.pp_channel.specs.MonotoneLog.{seen_on}
 use Rattle.pp_channel.specs.declared.entry.Entry.{Entry}
 use Rattle.pp_machine.specs.Processor.{Processor}
 use Rattle.pp_runner.proofs.CrewLemmas.{same_seen}
 use Rattle.pp_runner.proofs.EndLemmas.{worn_later}
 use Rattle.pp_runner.specs.Crew.{HasEnded, AreEnded}
 use Rattle.pp_runner.specs.Labour.{HasSeen, NoneOlder}
-use Rattle.pp_runner.specs.WorkerEnd.{WornWithCause}
+use Rattle.pp_runner.specs.End.{WornWithCause}
 use Rattle.pp_runner.specs.WorkerReport.{IsLoggedWorker, AreWorkers, logs_of, with_logs}
 use Rattle.pp_runner.specs.declared.worker.Worker.{Worker}
 
@@ -70,7 +70,7 @@ logged load size steps log entries w is one =
       by_size = h.by_size;
       events = h.events;
       sights = h.sights;
-      rising = h.rising;
+      monotone = h.monotone;
       few_answers = h.few_answers;
       few_entries = h.few_entries;
       finish = h.finish;

@@ -1,5 +1,6 @@
 -- The banks of central memory under locks: 32 of them with 4,096 words each (decimal), which have
 -- room for central memory of any size.
+-- (Private contracts alone cite this.)
 use Rattle.std.specs.Prelude.{◌≡◌, ◌<◌, ◌+◌, ◌*◌, ℕ, List, length, slice_index}
 use Rattle.pp_machine.specs.Central.{IsCentralSize}
 

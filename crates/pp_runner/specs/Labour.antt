@@ -1,10 +1,11 @@
 -- What holds of a worker between any two tries of a step.
+-- (Private contracts alone cite this.)
 use Rattle.std.specs.Prelude.{◌≡◌, ◌<◌, ◌≤◌, ◌+◌, ◌-◌, ◌*◌, ℕ, true, false, List, [], ◌∷◌, ◌++◌, length, take, All, if◌then◌else◌}
 use Rattle.std.specs.List.{flat_map}
 use Rattle.pp_channel.specs.ChannelWord.{greatest_number, number_in}
 use Rattle.pp_channel.specs.LineLog.{LogState, appended, looked}
 use Rattle.pp_channel.specs.LineState.{LineState, IsActed}
-use Rattle.pp_channel.specs.RisingLog.{IsRising, seen_on}
+use Rattle.pp_channel.specs.MonotoneLog.{IsMonotone, seen_on}
 use Rattle.pp_channel.specs.declared.entry.Entry.{Entry}
 use Rattle.pp_channel.specs.declared.entry.Seen.{Seen}
 use Rattle.pp_channel.specs.declared.entry.Seen.TheVariants.{Did, Saw}
@@ -19,8 +20,8 @@ use Rattle.pp_machine.specs.declared.need.Need.TheVariants as needs
 use Rattle.pp_runner.specs.declared.end.End.{End}
 use Rattle.pp_runner.specs.declared.end.End.TheVariants.{Patience}
 use Rattle.pp_runner.specs.AnswersGiven.{AllMoved, AllBySize, IsBySize}
-use Rattle.pp_runner.specs.WorkerEnd.{WasHeld}
-use Rattle.pp_runner.specs.WorkerLog.{events_in, sights_in, StandsIn}
+use Rattle.pp_runner.specs.End.{WasHeld}
+use Rattle.pp_runner.specs.WorkerLog.{events_in, sights_in, IsSubsequence}
 
 -- the entries that stay whatever follows: all but a last look that held the processor
 abbrev pub settled : LogState → List Entry
@@ -29,14 +30,15 @@ settled log = if log.kept then log.entries else take (length log.entries - 1) lo
 -- The processor is the replay of its answers, and the log tells what that replay did and saw. Each
 -- event and each look of the replay has two entries at most, and there is one more while the
 -- processor is held; the log has room for the rest.
-pub record IsAtWork (load : Processor) (size steps : ℕ) (pp : Processor) (answers : List Answer) (log : LogState) : Type 0 where
+pub record IsAtWork (load : Processor) (size steps : ℕ) (pp : Processor) (answers : List Answer)
+    (log : LogState) : Type 0 where
   pub pp_is : pp ≡ replayed load answers
   pub all_given : given_count load answers ≡ length answers
   pub all_moved : AllMoved load answers
   pub by_size : AllBySize size load answers
   pub events : events_in log.entries ≡ events_given load answers
-  pub sights : StandsIn (sights_given load answers) (sights_in (settled log))
-  pub rising : IsRising log.entries
+  pub sights : IsSubsequence (sights_given load answers) (sights_in (settled log))
+  pub monotone : IsMonotone log.entries
   pub few_entries : length (settled log) ≤ 2 * length (sights_given load answers)
   pub few_sights : length (sights_given load answers) ≤ length answers
   pub held : log.kept ≡ false → WasHeld pp log.entries
@@ -57,11 +59,12 @@ IsNoted (sight ∷ []) before after =
 IsNoted (sight ∷ other ∷ more) before after = ⊥
 
 -- An answer to a need, and the log before and after it.
-pub record IsAnswered (size : ℕ) (needed : Need) (answer : Answer) (before after : LogState) : Type 0 where
+pub record IsAnswered (size : ℕ) (needed : Need) (answer : Answer) (before after : LogState)
+    : Type 0 where
   pub fits : fits needed answer ≡ true
   pub by_size : IsBySize size needed answer
   pub noted : IsNoted (sights_of needed answer) before after
-  pub rising : IsRising before.entries → IsRising after.entries
+  pub monotone : IsMonotone before.entries → IsMonotone after.entries
 
 -- What the operation of a step did to the line: it gave this answer. A step without one leaves the
 -- line as it was.

@@ -1,9 +1,10 @@
-pub mod RunLimits
-pub mod Banks
+pub mod Limits
 pub mod WorkerLog
 pub mod AnswersGiven
-pub mod WorkerEnd
+pub mod End
 pub mod WorkerReport
+pub mod Report
+-- cited by private contracts alone: nobody has to read these to believe what the crate promises
+pub mod Banks
 pub mod Labour
 pub mod Crew
-pub mod Report

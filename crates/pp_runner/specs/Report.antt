@@ -5,12 +5,13 @@ use Rattle.std.specs.Mem.{FitsInMemory}
 use Rattle.std.specs.declared.alloc.Allocator.{Ghosts}
 use Rattle.pp_channel.specs.History.{IsLawful, HasTwelveBitWords}
 use Rattle.pp_channel.specs.Law.{KeepsLaw}
-use Rattle.pp_channel.specs.Merge.{Merges, history_on}
+use Rattle.pp_channel.specs.Merge.{Merges}
+use Rattle.pp_channel.specs.Histories.{history_on}
 use Rattle.pp_machine.specs.Headline.{opening_history}
 use Rattle.pp_machine.specs.MachineState.{MachineState}
 use Rattle.pp_machine.specs.Profile.{processors_in}
-use Rattle.pp_runner.specs.RunLimits.{RunLimits}
-use Rattle.pp_runner.specs.WorkerEnd.{WornWithCause}
+use Rattle.pp_runner.specs.Limits.{RunLimits}
+use Rattle.pp_runner.specs.End.{WornWithCause}
 use Rattle.pp_runner.specs.WorkerReport.{AreWorkers, logs_of}
 use Rattle.pp_runner.specs.contracts.report.Report.{the_row}
 use Rattle.pp_runner.specs.declared.report.Report.{Report}
@@ -21,7 +22,8 @@ use Rattle.pp_runner.specs.declared.report.Report.{Report}
 -- nothing that one did or saw is older than the opening history of its channel. A worker ended as
 -- worn only at a channel whose history has as many events as its word can count. No report shows
 -- how often a worker was held, so the patience is not stated.
-pub record IsReportOf {A : Type 0} (limits : RunLimits) (machine : MachineState) (report : Report A) : Type 0 where
+pub record IsReportOf {A : Type 0} (limits : RunLimits) (machine : MachineState) (report : Report A)
+    : Type 0 where
   pub each_processor : length report.ends.items ≡ processors_in machine.profile
   pub workers : AreWorkers (take (processors_in machine.profile) machine.processors)
       (length machine.central) limits.steps report.ends.items

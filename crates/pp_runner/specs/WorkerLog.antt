@@ -20,7 +20,7 @@ abbrev pub sights_in : List Entry → List ChannelSight
 sights_in log = map (λ entry. record { channel = entry.channel; what = entry.what }) log
 
 -- The first list stands in the second: in its order, each item at a place of its own.
-abbrev pub StandsIn : {X : Type 0} → List X → List X → Type 0
-StandsIn [] ys = Unit {0}
-StandsIn (x ∷ xs) [] = ⊥
-StandsIn (x ∷ xs) (y ∷ ys) = ((x ≡ y) × StandsIn xs ys) ⊎ StandsIn (x ∷ xs) ys
+abbrev pub IsSubsequence : {X : Type 0} → List X → List X → Type 0
+IsSubsequence [] ys = Unit {0}
+IsSubsequence (x ∷ xs) [] = ⊥
+IsSubsequence (x ∷ xs) (y ∷ ys) = ((x ≡ y) × IsSubsequence xs ys) ⊎ IsSubsequence (x ∷ xs) ys

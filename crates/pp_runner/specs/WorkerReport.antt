@@ -2,19 +2,20 @@
 use Rattle.std.specs.Prelude.{◌≡◌, ◌≤◌, ◌+◌, ◌*◌, ℕ, List, [], ◌∷◌, length}
 use Rattle.std.specs.List.{AllZip, flat_map}
 use Rattle.std.specs.declared.vec.Vec.{Vec}
-use Rattle.pp_channel.specs.RisingLog.{IsRising}
+use Rattle.pp_channel.specs.MonotoneLog.{IsMonotone}
 use Rattle.pp_channel.specs.declared.entry.Entry.{Entry}
 use Rattle.pp_machine.specs.Processor.{Processor}
 use Rattle.pp_machine.specs.Replay.{replayed, given_count, events_given, sights_given}
 use Rattle.pp_runner.specs.AnswersGiven.{AllMoved, AllBySize}
-use Rattle.pp_runner.specs.WorkerEnd.{IsEnd}
-use Rattle.pp_runner.specs.WorkerLog.{events_in, sights_in, StandsIn}
+use Rattle.pp_runner.specs.End.{IsEnd}
+use Rattle.pp_runner.specs.WorkerLog.{events_in, sights_in, IsSubsequence}
 use Rattle.pp_runner.specs.declared.worker.Worker.{Worker}
 
 -- A worker that began with this processor, beside central memory of this size, and was to make this
 -- many steps at most: what it leaves is the replay of its answers, and this log records what that
 -- replay did and saw.
-pub record IsLoggedWorker {A : Type 0} (load : Processor) (size steps : ℕ) (log : List Entry) (w : Worker A) : Type 0 where
+pub record IsLoggedWorker {A : Type 0} (load : Processor) (size steps : ℕ) (log : List Entry)
+    (w : Worker A) : Type 0 where
   pub pp : w.pp ≡ replayed load w.answers.items
   pub all_given : given_count load w.answers.items ≡ length w.answers.items
   pub all_moved : AllMoved load w.answers.items
@@ -22,8 +23,8 @@ pub record IsLoggedWorker {A : Type 0} (load : Processor) (size steps : ℕ) (lo
   -- the events that it made are those of the replay, each look that moved its processor stands in
   -- its log
   pub events : events_in log ≡ events_given load w.answers.items
-  pub sights : StandsIn (sights_given load w.answers.items) (sights_in log)
-  pub rising : IsRising log
+  pub sights : IsSubsequence (sights_given load w.answers.items) (sights_in log)
+  pub monotone : IsMonotone log
   pub few_answers : length w.answers.items ≤ steps
   -- two entries at most for each event and each look of the replay, and one more
   pub few_entries : length log ≤ 2 * length (sights_given load w.answers.items) + 1

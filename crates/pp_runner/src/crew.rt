@@ -37,7 +37,8 @@ struct EndOf<A: Allocator> {
 impl<A: Allocator> Promise<Ended<A>> for EndOf<A> {
     ghost use Rattle.pp_runner.specs.Crew.{IsEnded};
 
-    ghost kept_by = { λ p ended. IsEnded p.load.value p.size p.steps p.line.value ended.worker ended.line };
+    ghost kept_by = { λ p ended. IsEnded p.load.value p.size p.steps p.line.value ended.worker
+        ended.line };
 }
 
 /// A worker after the others.
@@ -110,7 +111,10 @@ fn beside<R: Threads + Wait + Sync, G: Gate + Sync, A: Allocator + Copy + Send +
             requires { IsSync R.row × IsSync G.row × IsSend A.row × IsSync A.row
                 × Frees A.Allocator A.dealloc_token × (1 < vec_len lines)
                 × AreReady machine.now (2 * site.now.limits.steps + 1) family.value lines.items }
-            ensures { IfOk result (λ crew. AreEnded (take (vec_len lines) machine.entry.now.processors) site.entry.now.central site.entry.now.limits.steps (2 * site.entry.now.limits.steps + 1) family.value crew.workers.items crew.lines.items) }
+            ensures { IfOk result (λ crew. AreEnded
+                (take (vec_len lines) machine.entry.now.processors) site.entry.now.central
+                site.entry.now.limits.steps (2 * site.entry.now.limits.steps + 1) family.value
+                crew.workers.items crew.lines.items) }
         {
             let mut others = lines;
             let Some(line) = others.pop() else {
@@ -128,7 +132,8 @@ fn beside<R: Threads + Wait + Sync, G: Gate + Sync, A: Allocator + Copy + Send +
                 promise,
                 move || -> Ended<A>
                     requires { line.log ≡ empty_log (2 * site.now.limits.steps + 1) }
-                    ensures { IsEnded load.entry.now site.entry.now.central site.entry.now.limits.steps line result.worker result.line }
+                    ensures { IsEnded load.entry.now site.entry.now.central
+                        site.entry.now.limits.steps line result.worker result.line }
                 { work(rt, site, gate, number, load, line) },
             )?;
             let others = run_first(rt, site, gate, machine, family, others);

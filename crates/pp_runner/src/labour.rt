@@ -2,13 +2,13 @@
 
 ghost use Rattle.std.specs.Prelude.{◌≡◌, ◌<◌, ◌≤◌, ◌+◌, ◌-◌, ◌*◌, ◌^◌, ◌++◌, ◌∷◌, [], true, ℕ, List, vec_len, vec_capacity, IfOk, IfErr, IfSome, IfNone, OnErr};
 ghost use Rattle.pp_channel.specs.LineLog.{empty_log};
-ghost use Rattle.pp_channel.specs.RisingLog.{seen_on};
+ghost use Rattle.pp_channel.specs.MonotoneLog.{seen_on};
 ghost use Rattle.pp_channel.specs.declared.entry.Entry.{Entry};
 ghost use Rattle.pp_machine.specs.NeedAndEffect.{need};
 ghost use Rattle.pp_machine.specs.declared.answer.Answer.{Answer};
 ghost use Rattle.pp_runner.specs.Crew.{IsEnded};
 ghost use Rattle.pp_runner.specs.Labour.{IsAtWork, IsAnswered, IsSameLine, HasActed, HasOperated, GaveUpWithCause, operations};
-ghost use Rattle.pp_runner.specs.WorkerEnd.{IsEnd, NeedsWornChannel, WornWithCause, WasHeld};
+ghost use Rattle.pp_runner.specs.End.{IsEnd, NeedsWornChannel, WornWithCause, WasHeld};
 
 use crate::end::End;
 use crate::gate::Gate;
@@ -92,8 +92,10 @@ impl<A: Allocator + Copy> Labour<A> {
         requires running { self.old.pp.state ≡ PpState.Running }
         requires steps_left { vec_len self.old.answers < site.now.limits.steps }
         requires place { vec_len self.old.answers < vec_capacity self.old.answers }
-        requires work { IsAtWork load.now site.now.central site.now.limits.steps self.old.pp self.old.answers.items self.old.line.log }
-        ensures work { IsAtWork load.now site.now.central site.now.limits.steps self.new.pp self.new.answers.items self.new.line.log }
+        requires work { IsAtWork load.now site.now.central site.now.limits.steps self.old.pp
+            self.old.answers.items self.old.line.log }
+        ensures work { IsAtWork load.now site.now.central site.now.limits.steps self.new.pp
+            self.new.answers.items self.new.line.log }
         ensures same_line { IsSameLine self.old.line self.new.line }
         ensures operated { HasOperated (operations (need self.old.pp)) self.old.line self.new.line }
         ensures tries { self.new.tries ≡ self.old.tries }
@@ -131,9 +133,11 @@ impl<A: Allocator + Copy> Labour<A> {
     ) -> Option<End>
         requires running { self.old.pp.state ≡ PpState.Running }
         requires steps_left { vec_len self.old.answers < site.now.limits.steps }
-        requires work { IsAtWork load.now site.now.central site.now.limits.steps self.old.pp self.old.answers.items self.old.line.log }
+        requires work { IsAtWork load.now site.now.central site.now.limits.steps self.old.pp
+            self.old.answers.items self.old.line.log }
         requires countable { self.old.tries + site.now.limits.patience < 2 ^ 64 }
-        ensures work { IsAtWork load.now site.now.central site.now.limits.steps self.new.pp self.new.answers.items self.new.line.log }
+        ensures work { IsAtWork load.now site.now.central site.now.limits.steps self.new.pp
+            self.new.answers.items self.new.line.log }
         ensures same_line { IsSameLine self.old.line self.new.line }
         ensures operated { HasOperated ((self.new.tries - self.old.tries)
             * operations (need self.old.pp)) self.old.line self.new.line }
@@ -146,7 +150,8 @@ impl<A: Allocator + Copy> Labour<A> {
             × HasOperated site.now.limits.patience self.old.line self.new.line) }
         ensures moved { IfNone result (vec_len self.new.answers ≡ vec_len self.old.answers + 1) }
         ensures few { IfSome result (λ _. vec_len self.new.answers ≤ site.now.limits.steps) }
-        ensures ended { IfSome result (λ finish. IsEnd site.now.limits.steps finish self.new.pp self.new.answers.items self.new.line.log.entries) }
+        ensures ended { IfSome result (λ finish. IsEnd site.now.limits.steps finish self.new.pp
+            self.new.answers.items self.new.line.log.entries) }
         ensures worn { IfSome result (λ finish.
             WornWithCause (λ c. seen_on c self.new.line.view.seen) finish self.new.pp) }
     {
@@ -167,11 +172,14 @@ impl<A: Allocator + Copy> Labour<A> {
 
     /// What is left when no further step is made. The log stays with the line.
     fn ended(self, site: &Site<A>, load: &Pp, finish: End) -> Ended<A>
-        requires work { IsAtWork load.now site.now.central site.now.limits.steps self.pp self.answers.items self.line.log }
+        requires work { IsAtWork load.now site.now.central site.now.limits.steps self.pp
+            self.answers.items self.line.log }
         requires few { vec_len self.answers ≤ site.now.limits.steps }
-        requires finish { IsEnd site.now.limits.steps finish self.pp self.answers.items self.line.log.entries }
+        requires finish { IsEnd site.now.limits.steps finish self.pp self.answers.items
+            self.line.log.entries }
         requires worn { WornWithCause (λ c. seen_on c self.line.view.seen) finish self.pp }
-        ensures ended { IsEnded load.now site.now.central site.now.limits.steps self.line result.worker result.line }
+        ensures ended { IsEnded load.now site.now.central site.now.limits.steps self.line
+            result.worker result.line }
         ensures line { result.line ≡ self.line }
         ensures finish { result.worker.finish ≡ finish }
     {
@@ -215,8 +223,10 @@ pub fn work<R: Wait, G: Gate, A: Allocator + Copy>(
     line: Line<A>,
 ) -> Ended<A>
     requires { line.log ≡ empty_log (2 * site.now.limits.steps + 1) }
-    ensures ended { IsEnded load.now site.now.central site.now.limits.steps line result.worker result.line }
-    ensures patience { GaveUpWithCause site.now.limits.patience line result.worker.finish result.line }
+    ensures ended { IsEnded load.now site.now.central site.now.limits.steps line result.worker
+        result.line }
+    ensures patience { GaveUpWithCause site.now.limits.patience line result.worker.finish
+        result.line }
 {
     // This call tells the proof that the patience has 32 bits, so that tries can be counted.
     let _patience = site.limits.patience();

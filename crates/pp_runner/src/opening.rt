@@ -2,8 +2,8 @@
 
 ghost use Rattle.std.specs.Prelude.{◌≡◌, ◌≤◌, IfOk, length};
 ghost use Rattle.pp_channel.specs.LineLog.{appended};
-ghost use Rattle.pp_channel.specs.Merge.{IsOpeningLog, times_told};
-ghost use Rattle.pp_channel.specs.RisingLog.{IsWithin};
+ghost use Rattle.pp_channel.specs.Merge.{IsOpeningLog, times_logged};
+ghost use Rattle.pp_channel.specs.MonotoneLog.{IsWithin};
 ghost use Rattle.pp_channel.specs.declared.entry.Seen.TheVariants.{Did};
 ghost use Rattle.pp_channel.specs.declared.event.Event.TheVariants.{Activate};
 ghost use Rattle.pp_machine.specs.Headline.{opening_history};
@@ -45,13 +45,14 @@ pub fn opening_line<A: Allocator + Copy>(
 fn activate<A: Allocator + Copy>(line: &mut Line<A>, channel: ChannelNo)
     requires room { 1 ≤ line.old.log.room }
     requires alone { line.old.view.shares ≡ line.old.view.whole }
-    requires untold { times_told channel 0 line.old.log.entries ≡ 0 }
+    requires untold { times_logged channel 0 line.old.log.entries ≡ 0 }
     ensures written { line.new.log ≡ appended line.old.log
         (record { channel = channel; number = 0; what = Did Activate }) }
     ensures within { IsWithin line.new.view.seen line.new.log.entries }
     ensures shares { line.new.view.shares ≡ line.old.view.shares }
     ensures whole { line.new.view.whole ≡ line.old.view.whole }
 {
+    // The call says to the proof where the channel stands among the twelve.
     let _index = channel.index();
     let Ok(_done) = line.act(channel, ChanOp::Activate) else {
         unreachable!()

@@ -2,5 +2,6 @@ pub mod TimedEvents
 pub mod Stretches
 pub mod StepCounts
 pub mod SessionsText
-pub mod OpenStretch
 pub mod SessionsLaw
+-- cited by private contracts alone: nobody has to read these to believe what the crate promises
+pub mod OpenStretch

@@ -39,7 +39,8 @@ pub record TellsSession (session : Session) (ended : Bool) (told : Tally) : Type
   pub untaken : told.untaken ≡ session.lone
 
 -- the line of a stretch tells when its first event was, and when its last
-pub record TellsMoments (first : TimedEvent) (others : List TimedEvent) (told : Tally) : Type 0 where
+pub record TellsMoments (first : TimedEvent) (others : List TimedEvent) (told : Tally)
+    : Type 0 where
   pub from : told.from ≡ first.moment
   pub to : Some told.to ≡ option_map (λ (e : TimedEvent). e.moment) (last_or (Some first) others)
 

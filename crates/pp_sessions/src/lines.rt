@@ -1,9 +1,7 @@
 //! The lines of stretches and of processors.
 
-ghost use Rattle.std.specs.Prelude.{◌≡◌, ◌+◌, ◌≤◌, ◌++◌, codes, length};
-ghost use Rattle.pp_text.specs.Numeral.{decimal, octal};
+ghost use Rattle.std.specs.Prelude.{◌≡◌, ◌+◌, ◌≤◌, ◌++◌, length};
 ghost use Rattle.pp_text.specs.Piece.{HasRoom};
-ghost use Rattle.pp_text.specs.PrintedText.{line_end};
 ghost use Rattle.pp_sessions.specs.SessionsText.{counts_line, end_text, idle_line, moment_text, session_line, tally_line, word_text};
 
 use crate::moment::Moment;
@@ -11,7 +9,7 @@ use crate::step_counts::StepCounts;
 use crate::tally::Tally;
 use pp_channel::ChannelNo;
 use pp_machine::PpNo;
-use pp_text::{Piece, decimal6, octal2, octal4, push_short_decimal, push_upper_digits};
+use pp_text::{Piece, channel_name, octal4, processor_name, push_decimal, push_short_decimal};
 use pp_word::Word12;
 
 /// Adds the line of a stretch of a channel and a line feed; where it is a session, it has this
@@ -33,7 +31,7 @@ fn push_session(line: &mut Piece, c: ChannelNo, number: u64, session: &Tally)
     requires { HasRoom 160 line.old }
     ensures { line.new ≡ line.old ++ session_line c number session.now }
 {
-    line.push(&channel_heading(c));
+    line.push(&channel_name(c));
     line.push(b" SESSION ");
     push_short_decimal(line, number);
     line.push(b" FROM ");
@@ -53,7 +51,7 @@ fn push_idle(line: &mut Piece, c: ChannelNo, idle: &Tally)
     requires { HasRoom 160 line.old }
     ensures { line.new ≡ line.old ++ idle_line c idle.now }
 {
-    line.push(&channel_heading(c));
+    line.push(&channel_name(c));
     line.push(b" IDLE FUNCTIONS ");
     push_short_decimal(line, idle.events);
     line.push(b" FROM ");
@@ -69,7 +67,7 @@ pub(crate) fn push_counts(line: &mut Piece, n: PpNo, counts: &StepCounts)
     requires { HasRoom 160 line.old }
     ensures { line.new ≡ line.old ++ counts_line n counts.now }
 {
-    line.push(&processor_heading(n));
+    line.push(&processor_name(n));
     line.push(b" MOVED ");
     push_short_decimal(line, u64::from(counts.moved));
     line.push(b" HELD ");
@@ -77,22 +75,6 @@ pub(crate) fn push_counts(line: &mut Piece, n: PpNo, counts: &StepCounts)
     line.push(b" REST ");
     push_short_decimal(line, u64::from(counts.at_rest));
     line.push(b"\n");
-}
-
-/// `CH05`
-fn channel_heading(c: ChannelNo) -> [u8; 4]
-    ensures { result ≡ codes "CH" ++ octal 2 c }
-{
-    let [c0, c1] = octal2(c.get());
-    [b'C', b'H', c0, c1]
-}
-
-/// `PP00`
-fn processor_heading(n: PpNo) -> [u8; 4]
-    ensures { result ≡ codes "PP" ++ octal 2 n }
-{
-    let [n0, n1] = octal2(n.get());
-    [b'P', b'P', n0, n1]
 }
 
 /// Adds `000060`, or `DEAD START`.
@@ -103,19 +85,8 @@ fn push_moment(line: &mut Piece, moment: Moment)
 {
     match moment {
         Moment::DeadStart => line.push(b"DEAD START"),
-        Moment::Turn(turn) => push_turn(line, turn),
+        Moment::Turn(turn) => push_decimal(line, turn),
     }
-}
-
-/// Adds `000060`.
-#[tactic(auto, unfolding(pp_text::specs::Numeral::decimal))]
-fn push_turn(line: &mut Piece, turn: u64)
-    requires { HasRoom 20 line.old }
-    ensures text { line.new ≡ line.old ++ decimal turn }
-    ensures room { length line.new ≤ length line.old + 20 }
-{
-    let lower = push_upper_digits(line, turn);
-    line.push(&decimal6(lower));
 }
 
 /// Adds ` TO 000030`, where a session has ended, else ` GOING ON`.

@@ -13,12 +13,9 @@ use crate::open_stretch::{OpenStretch, print_stretch, take_in_entry};
 use crate::step_counts::StepCounts;
 use pp_channel::ChannelNo;
 use pp_machine::{Machine, PROCESSORS, PpNo};
-use pp_text::{Piece, TextWriter, WriteFault};
+use pp_text::{NUMBERS, Piece, TextWriter, WriteFault};
 use std::alloc::Allocator;
 use std::io::Write;
-
-/// How many numbers two octal digits can show.
-const NUMBERS: u8 = 0o100;
 
 /// Writes the sessions of a machine, channel by channel, with the idle stretches between them; and
 /// for each processor named how many of its steps did what, by these counts of each processor in

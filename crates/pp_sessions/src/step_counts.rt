@@ -66,6 +66,7 @@ pub fn run_counting_steps<A: Allocator>(
         IsSome (step_event (processor_in_turn machine.old.profile c.done) machine.new)) }
     ensures headline { HoldsOnEachChannel machine.new }
 {
+    // The call says to the proof that the machine is sound.
     let _sound = machine.turns();
     let round = machine.profile().processors() as u32;
     let mut counts = [StepCounts::NONE; PROCESSORS];

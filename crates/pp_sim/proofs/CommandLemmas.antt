@@ -1,5 +1,5 @@
 -- From what clap ensures of a parse to what the words ask for.
-use Rattle.std.proofs.Common.{◌≡◌, ◌∙◌, ℕ, ◌-◌, ◌<◌, ap, ap₂, arith, slice_index, true, List, [], Option, Some, None, option_map, sym, subst, refl, inl, inr, codes}
+use Rattle.std.proofs.Common.{◌≡◌, ◌∙◌, ℕ, ◌-◌, ◌<◌, ◌≤◌, ap, ap₂, arith, slice_index, Bool, true, false, not, IsTrue, List, [], Option, Some, None, option_map, sym, subst, refl, inl, inr, codes}
 use Rattle.std.specs.Prelude.{Box, ◌≢◌, is_some}
 use Rattle.std.specs.Box.{box_value}
 use Rattle.clap.specs.Words.{App, HasKind, IsAmong, Kinds, Text, Row, HasMatchesOf, fault_of, is_simple, is_simple_and_free, first_value, first_of, found_of, kind_of, rows_of, subcommand_of, subcommand_rows, subcommand_rows_of, subcommand_name_of}
@@ -101,6 +101,9 @@ window_by_values f w k = (
 pub more_by_rows : (name : Text) (f : Found) → AsksForMore name (first_value f) → AsksForMoreAmong (Some (name, rows_of f))
 more_by_rows name f k = (k.0, (k.1.0, window_by_rows f k.1.0 k.1.1, k.1.2))
 
+pub more_by_values : (name : Text) (f : Found) → AsksForMoreAmong (Some (name, rows_of f)) → AsksForMore name (first_value f)
+more_by_values name f k = (k.0, (k.1.0, window_by_values f k.1.0 k.1.1, k.1.2))
+
 -- ---- options that say one window alone
 
 one_number : (text : Option Text) (n m : ℕ) → ReadsNumber text n → ReadsNumber text m → n ≡ m
@@ -122,6 +125,11 @@ one_length text_of v w one also =
     let to = one_end (text_of (codes "to")) one.0 also.0 v.to w.to turns one.3.0 also.3.0 in
     let from = one_turn (text_of (codes "from")) v.from w.from one.3.1 also.3.1 in
     ap₂ (λ (t f : ℕ). t - f) to from
+
+-- where the options say a window and more turns than a picture has, the window does not fit one
+pub no_fit : (fits : Bool) (name : Text) (text_of : Text → Option Text) (w : Window) → ReadsWindow text_of w → (IsTrue fits → w.to - w.from ≤ 2000) → AsksForMore name text_of → IsTrue (not fits)
+no_fit true name text_of w reads short k = absurd (omega (arith, short refl, k.1.2, one_length text_of w k.1.0 reads k.1.1))
+no_fit false name text_of w reads short k = refl
 
 -- a drawing of more turns than a picture has is no work
 pub no_picture : (name : Text) (text_of : Text → Option Text) (w : Window) → name ≡ codes "draw" → ReadsWindow text_of w → 2000 < w.to - w.from → (work : Work) → IsWorkOf name text_of work → ⊥

@@ -40,7 +40,8 @@ IsAtEndIfJudged (Err (fault.NotBetweenPrograms going_on)) after = Unit {0}
 
 -- One call, whatever its reader is: these bytes were consumed; the answer is that to the trace that
 -- they spell; and where it was judged, they were all that the reader had.
-pub record Checks (opened : List Bool) (answer : Result (Unit {0}) TextFault) (before after old new : Option (List ℕ)) (bytes : List ℕ) : Type 0 where
+pub record Checks (opened : List Bool) (answer : Result (Unit {0}) TextFault)
+    (before after old new : Option (List ℕ)) (bytes : List ℕ) : Type 0 where
   pub consumed : Consumes before after bytes
   pub answered : IsCheck opened answer bytes old new
   pub whole : IsAtEndIfJudged answer after

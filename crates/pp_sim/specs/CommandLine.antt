@@ -5,13 +5,13 @@ use Rattle.clap.specs.Words.{App, IsAmong, Kinds, Row, Rule, Text, fault_of, fir
 use Rattle.clap.specs.declared.builder.action.ArgAction.TheVariants.{Set}
 use Rattle.clap.specs.declared.error.Error.{Error}
 use Rattle.clap.specs.declared.error.kind.ErrorKind.TheVariants.{OutOfMemory}
-use Rattle.pp_channel.specs.ChannelNumber.{channel_count}
+use Rattle.pp_channel.specs.ChannelNo.{channel_count}
 use Rattle.pp_check.specs.ChannelList.{AreListed}
 use Rattle.pp_draw.specs.declared.window.Window.{Window}
 use Rattle.pp_machine.specs.Profile.{has_processor, processors_in}
 use Rattle.pp_machine.specs.declared.profile.Profile.{Profile}
 use Rattle.pp_machine.specs.declared.profile.Profile.TheVariants.{Ten}
-use Rattle.pp_runner.specs.RunLimits.{AreLimits}
+use Rattle.pp_runner.specs.Limits.{AreLimits}
 use Rattle.pp_sim.specs.declared.line_fault.LineFault.{LineFault}
 use Rattle.pp_sim.specs.declared.line_fault.LineFault.TheVariants.{Memory, Refused, Number, Picture}
 use Rattle.pp_sim.specs.declared.work.Work.{Work}
@@ -38,10 +38,13 @@ optional_value id =
 abbrev pub processors_option : Rule
 processors_option = optional_value (codes "processors")
 
+-- a command that makes a run of so many turns
+abbrev pub turns_command : Text → App
+turns_command name =
+    with_rule (with_rule (new_app name) (number_option (codes "turns"))) processors_option
+
 abbrev pub barrel : App
-barrel =
-    with_rule (with_rule (new_app (codes "barrel"))
-    (number_option (codes "turns"))) processors_option
+barrel = turns_command (codes "barrel")
 
 abbrev pub threads : App
 threads =
@@ -53,13 +56,10 @@ abbrev pub list : App
 list = with_rule (new_app (codes "list")) processors_option
 
 abbrev pub dump : App
-dump =
-    with_rule (with_rule (new_app (codes "dump")) (number_option (codes "turns"))) processors_option
+dump = turns_command (codes "dump")
 
 abbrev pub state : App
-state =
-    with_rule (with_rule (new_app (codes "state"))
-    (number_option (codes "turns"))) processors_option
+state = turns_command (codes "state")
 
 abbrev pub steps : App
 steps =
@@ -69,9 +69,7 @@ steps =
     processors_option
 
 abbrev pub sessions : App
-sessions =
-    with_rule (with_rule (new_app (codes "sessions"))
-    (number_option (codes "turns"))) processors_option
+sessions = turns_command (codes "sessions")
 
 abbrev pub draw : App
 draw =
@@ -209,7 +207,9 @@ IsRefused words Picture = Unit {0}
 abbrev pub IsOutOfRange : List Text → LineFault → Type 0
 IsOutOfRange words Memory = Unit {0}
 IsOutOfRange words (Refused error) = Unit {0}
-IsOutOfRange words Number = (refusals words ≡ []) × ((work : Work) → ¬ AskFor words work)
+IsOutOfRange words Number =
+    (refusals words ≡ []) × ((work : Work) → ¬ AskFor words work)
+    × ¬ AsksForMoreAmong (subcommand_of ppsim words)
 IsOutOfRange words Picture =
     (refusals words ≡ []) × ((work : Work) → ¬ AskFor words work)
     × AsksForMoreAmong (subcommand_of ppsim words)

@@ -4,9 +4,9 @@ pub mod ThreadsText
 pub mod ListText
 pub mod CheckText
 pub mod DumpText
-pub mod StateOfRun
-pub mod SessionsOfRun
-pub mod StepsOfRun
-pub mod DrawingOfRun
+pub mod StateText
+pub mod SessionsText
+pub mod StepsText
+pub mod DrawingText
 pub mod CommandLine
 pub mod Program

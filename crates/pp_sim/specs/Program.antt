@@ -9,12 +9,12 @@ use Rattle.pp_machine.specs.declared.profile.Profile.{Profile}
 use Rattle.pp_sim.specs.BarrelText.{IsBarrelText}
 use Rattle.pp_sim.specs.CheckText.{Checks, IsCheck}
 use Rattle.pp_sim.specs.CommandLine.{AskFor, IsOutOfRange, IsRefused, refusals}
-use Rattle.pp_sim.specs.DrawingOfRun.{IsDrawing}
+use Rattle.pp_sim.specs.DrawingText.{IsDrawing}
 use Rattle.pp_sim.specs.DumpText.{HindersDump, IsDumpText}
 use Rattle.pp_sim.specs.ListText.{IsListText}
-use Rattle.pp_sim.specs.SessionsOfRun.{IsSessionsText}
-use Rattle.pp_sim.specs.StateOfRun.{IsStateText}
-use Rattle.pp_sim.specs.StepsOfRun.{IsStepsText}
+use Rattle.pp_sim.specs.SessionsText.{IsSessionsText}
+use Rattle.pp_sim.specs.StateText.{IsStateText}
+use Rattle.pp_sim.specs.StepsText.{IsStepsText}
 use Rattle.pp_deck.specs.DeckMeaning.{LoadedDeck}
 use Rattle.pp_listing.specs.declared.going_on.GoingOn.{GoingOn}
 use Rattle.pp_sim.specs.TextAnswer.{AnswersUnless, IsAnswerUnless, Never, most_bytes}
@@ -31,14 +31,17 @@ use Rattle.pp_sim.specs.declared.work.Work.TheVariants as works
 
 -- the answer of a work on a deck for a machine of this profile: to the bytes that were read, and to
 -- the first bytes of a reader that tells what it has
-pub record AnswersDeck (profile : Profile) (Hinders : LoadedDeck → GoingOn → Type 0) (IsDeckText : LoadedDeck → List ℕ → Type 0) (answer : Result (Unit {0}) TextFault) (before after old new : Option (List ℕ)) : Type 0 where
+pub record AnswersDeck (profile : Profile) (Hinders : LoadedDeck → GoingOn → Type 0)
+    (IsDeckText : LoadedDeck → List ℕ → Type 0) (answer : Result (Unit {0}) TextFault)
+    (before after old new : Option (List ℕ)) : Type 0 where
   pub every_reader : (bytes : List ℕ) × AnswersUnless profile Hinders IsDeckText answer before after
       old new bytes
   pub telling_reader : IfSome before (λ bytes.
       IsAnswerUnless profile Hinders IsDeckText answer (take most_bytes bytes) old new)
 
 -- the answer of a check of a trace, likewise
-pub record AnswersTrace (opened : List Bool) (answer : Result (Unit {0}) TextFault) (before after old new : Option (List ℕ)) : Type 0 where
+pub record AnswersTrace (opened : List Bool) (answer : Result (Unit {0}) TextFault)
+    (before after old new : Option (List ℕ)) : Type 0 where
   pub every_reader : (bytes : List ℕ) × Checks opened answer before after old new bytes
   pub telling_reader : IfSome before (λ bytes. IsCheck opened answer bytes old new)
 
@@ -69,7 +72,8 @@ status_of (Err fault.Write) = 3
 status_of (Err fault.Memory) = 4
 
 -- the words are a command line that asks for a work, and the status is that of its answer
-pub record HasWorked (Z : Type 0) (words : List Text) (status : ℕ) (before after old new : Option (List ℕ)) : Type 0 where
+pub record HasWorked (Z : Type 0) (words : List Text) (status : ℕ)
+    (before after old new : Option (List ℕ)) : Type 0 where
   pub taken : refusals words ≡ []
   pub work : Work
   pub asked : AskFor words work
@@ -111,7 +115,8 @@ IsTold (line.Refused error) status old new =
     ⊎ (¬ IsHelp error × (status ≡ 2) × Keeps old new)
 
 -- the words are refused, nothing is read, and the status tells why
-pub record HasRefused (words : List Text) (status : ℕ) (before after old new : Option (List ℕ)) : Type 0 where
+pub record HasRefused (words : List Text) (status : ℕ) (before after old new : Option (List ℕ)) :
+    Type 0 where
   pub why : LineFault
   pub refused : IsRefused words why
   pub number : IsOutOfRange words why

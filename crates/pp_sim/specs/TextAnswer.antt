@@ -21,13 +21,15 @@ pub record IsFaultOf (profile : Profile) (bytes : List ℕ) (f : DeckFault) : Ty
   pub no_memory : f.code ≢ code.Memory
 
 -- the bytes are a deck for such a machine, and this is a text that a work prints of it
-pub record IsTextOf (profile : Profile) (IsDeckText : LoadedDeck → List ℕ → Type 0) (bytes text : List ℕ) : Type 0 where
+pub record IsTextOf (profile : Profile) (IsDeckText : LoadedDeck → List ℕ → Type 0)
+    (bytes text : List ℕ) : Type 0 where
   pub deck : LoadedDeck
   pub meant : deck_meaning profile bytes ≡ Ok deck
   pub run : IsDeckText deck text
 
 -- the bytes are a deck for such a machine, and this stands in the way of a text of it
-pub record IsHindered (profile : Profile) (Hinders : LoadedDeck → GoingOn → Type 0) (bytes : List ℕ) (going_on : GoingOn) : Type 0 where
+pub record IsHindered (profile : Profile) (Hinders : LoadedDeck → GoingOn → Type 0) (bytes : List ℕ)
+    (going_on : GoingOn) : Type 0 where
   pub deck : LoadedDeck
   pub meant : deck_meaning profile bytes ≡ Ok deck
   pub hinders : Hinders deck going_on
@@ -52,7 +54,9 @@ IsAnswerUnless profile Hinders IsDeckText (Err fault.Memory) bytes old new = Kee
 -- One call, whatever its reader is: these bytes were consumed, no more than a deck may have and
 -- one; the answer is that to the deck that they spell; and where it is Ok, they were all that the
 -- reader had.
-pub record AnswersUnless (profile : Profile) (Hinders : LoadedDeck → GoingOn → Type 0) (IsDeckText : LoadedDeck → List ℕ → Type 0) (answer : Result (Unit {0}) TextFault) (before after old new : Option (List ℕ)) (bytes : List ℕ) : Type 0 where
+pub record AnswersUnless (profile : Profile) (Hinders : LoadedDeck → GoingOn → Type 0)
+    (IsDeckText : LoadedDeck → List ℕ → Type 0) (answer : Result (Unit {0}) TextFault)
+    (before after old new : Option (List ℕ)) (bytes : List ℕ) : Type 0 where
   pub consumed : Consumes before after bytes
   pub bounded : length bytes ≤ most_bytes
   pub answered : IsAnswerUnless profile Hinders IsDeckText answer bytes old new

@@ -1,286 +1,20 @@
 //! The command line that the program takes, by clap.
 
 ghost use Rattle.std.specs.Prelude.{◌≡◌, false, IfOk};
-ghost use Rattle.clap.specs.Words.{app_of, rule_of, with_rule};
+ghost use Rattle.clap.specs.Words.{app_of, new_app, rule_of, with_rule};
 ghost use Rattle.clap.specs.declared.builder.command.Command.TheViews.{out-Command as fields_of};
-ghost use Rattle.pp_sim.specs.CommandLine.{bare, barrel, check, draw, dump, list, number_option, optional_value, processors_option, ppsim, sessions, state, steps, threads};
+ghost use Rattle.pp_sim.specs.CommandLine.{bare, barrel, check, draw, dump, list, number_option, optional_value, processors_option, ppsim, sessions, state, steps, threads, turns_command};
 
+use crate::help::{
+    ABOUT, BARREL_HELP, CHECK_HELP, DRAW_HELP, DUMP_HELP, EXAMPLE, Help, LIST_HELP, MANUAL,
+    OPENED_HELP, PP_HELP, PROCESSORS_HELP, SESSIONS_HELP, STATE_HELP, STEPS_HELP, THREADS_HELP,
+};
 use crate::number_range::{DRAWN_FROM, DRAWN_TO, FROM, NumberRange, PATIENCE, STEPS, TURNS};
 use clap::{Arg, ArgAction, Command};
 use std::alloc::{AllocError, Global};
 
-const ABOUT: &str = "Simulates the peripheral processors and data channels of a Control Data 6600";
-
 /// The version of the program, and the toolchain with which it is proved and built.
 const VERSION: &str = "1.0 (rattle-kit-13b logic dac8208d650f15bf)";
-
-const MANUAL: &str = "\
-A deck has these lines. All its numbers are octal:
-  CENTRAL 10000     the size of central memory; only as the first line
-  PP 0              what follows is for processor 0
-  0100 1405 0300    stores these words from address 0100 on
-  START 0100        the processor starts at 0100, with A = 0; START 0100 7 starts it with A = 7
-  CM 20 1 2         stores these central words from address 20 on
-  DEAD              the processors without a section wait for their programs
-  * and the rest of a line is a comment
-
-A deck with a fault is refused, as in 'ppsim: deck fault 4 at line 3':
-  1  it is longer than 1048576 bytes (decimal)
-  2  a byte is not ASCII
-  3  no such line, or too few or too many fields
-  4  not a number of that many octal digits
-  5  no such processor
-  6  words or START before the first PP line
-  7  a word past address 7777
-  8  the size of central memory, or a central word, is out of range
-  9  out of memory, printed as 'ppsim: out of memory'
-
-The exit status is 0 when the work is done or help was asked for, 1 when the deck is refused or
-can't be dumped as it stands, or when a trace is not lawful, 2 when the command line is refused, 3
-after a read or write fault, and 4 when memory runs out.
-
-The pages TUTORIAL.md, docs/MACHINE.md (the instructions), docs/DECK.md, docs/OUTPUT.md and
-docs/VIEWS.md of the repository say more.
-
-Example:
-  ppsim barrel --turns 40 < handoff.deck
-where handoff.deck has the lines
-  PP 0
-  0100 7405 1407 7205 0300
-  START 0100
-  PP 1
-  0200 7005 0300
-  START 0200";
-
-const EXAMPLE: &str = "\
-Example:
-  ppsim barrel --turns 40 < handoff.deck
-where handoff.deck has the lines
-  PP 0
-  0100 7405 1407 7205 0300
-  START 0100
-  PP 1
-  0200 7005 0300
-  START 0200";
-
-const BARREL_ABOUT: &str = "Runs a deck in the barrel, one step a turn, and prints what happened";
-
-const BARREL_LONG_ABOUT: &str = "\
-Runs a deck in the barrel: processors 0, 1, .. and 11 (octal) take one step a turn, again and again;
-of twenty processors, 20, 21, .. and 31 follow them in each round.
-
-Reads the deck from standard input. Prints to standard output a line for each channel event, in
-order; the P, the A and the state of each processor that the deck names; and the state of each
-channel that has a history. What goes wrong is one line on standard error.
-
-FAULT 1 is an exchange jump, FAULT 2 a request to the central processor, FAULT 3 a channel that the
-machine does not have, and FAULT 4 an address past the end of central memory.
-
-Where the deck has a line DEAD, the processors without a section wait for their programs, each on
-the channel of its own number, as at a dead start.";
-
-const PROCESSORS_HELP: &str =
-    "How many processors the machine has, 10 or 20 (decimal); 10 if not given";
-
-const THREADS_ABOUT: &str = "Runs a deck with one thread per processor, and prints what happened";
-
-const THREADS_LONG_ABOUT: &str = "\
-Runs a deck with one thread per processor, all at once. Each goes on at its own speed, so the
-order of events on different channels, and sometimes the events themselves, differ from run to run.
-
-A processor ends when its program stops or faults, when its steps are done (STEPS), or when a
-channel has held one step too often in a row (PATIENCE). 1000000 is a good patience. A processor
-that waits for ever makes all these tries, in about a second; at the greatest patience in hours.
-It also ends where it is refused memory for one more answer (MEMORY), and where a channel has had
-2^50 - 1 events (WORN).
-
-FAULT 1 is an exchange jump, FAULT 2 a request to the central processor, FAULT 3 a channel that the
-machine does not have, and FAULT 4 an address past the end of central memory.
-
-Reads the deck from standard input. Prints to standard output, channel by channel, a line for each
-event in order; the P, the A and the end of each processor that the deck names; and the state of
-each channel that has a history. What goes wrong is one line on standard error.
-
-Where the deck has a line DEAD, the processors without a section wait for their programs, each on
-the channel of its own number, as at a dead start.";
-
-const THREADS_EXAMPLE: &str = "\
-Example:
-  ppsim threads --steps 100 --patience 1000000 < handoff.deck
-where handoff.deck has the lines
-  PP 0
-  0100 7405 1407 7205 0300
-  START 0100
-  PP 1
-  0200 7005 0300
-  START 0200";
-
-const LIST_ABOUT: &str =
-    "Prints the listing of a deck, one instruction a line, which is itself a deck";
-
-const LIST_LONG_ABOUT: &str = "\
-Prints the listing of a deck: the words of each processor that are not 0, one instruction a line,
-with its mnemonic and operands behind it as a comment. Nothing is run.
-
-Reads the deck from standard input. Prints to standard output the size of central memory and its
-words; DEAD, where processors wait for their programs; and the section of each processor that the
-deck names. What goes wrong is one line on standard error.
-
-The listing is itself a deck, and loads the same machine, where it is no longer than a deck may be,
-1048576 bytes (decimal).";
-
-const LIST_EXAMPLE: &str = "\
-Example:
-  ppsim list < four.deck
-where four.deck has the lines
-  PP 0
-  0100 1405 1603 3450 0300
-  START 0100";
-
-const DUMP_EXAMPLE: &str = "\
-Example:
-  ppsim dump --turns 40 < four.deck
-where four.deck has the lines
-  PP 0
-  0100 1405 1603 3450 0300
-  START 0100";
-
-const DUMP_ABOUT: &str = "Runs a deck in the barrel, and prints a deck to go on from";
-
-const DUMP_LONG_ABOUT: &str = "\
-Runs a deck in the barrel, and prints what is in the machine then, in the form of a listing: central
-memory, and the words of each processor that the deck names or that was loaded at dead start. Those
-that are running start where they are; the others keep their memory alone.
-
-Reads the deck from standard input. What is printed to standard output is a deck to go on from,
-where it is no longer than a deck may be, 1048576 bytes (decimal): histories and turns are gone.
-Where a processor is within a block or at fault, or a channel is active, nothing is printed, and the
-first of these is told on standard error. Any other fault is one line there too.";
-
-const STATE_ABOUT: &str = "Runs a deck in the barrel, and prints how things stand then";
-
-const STATE_LONG_ABOUT: &str = "\
-Runs a deck in the barrel, and prints how things stand then: where each processor is and what holds
-it, what the run has changed in the memories, and the state of the channels.
-
-Reads the deck from standard input. Prints to standard output, for each processor that the deck
-names, its P, its A and its state, the instruction at P, the next place of a block in progress, and,
-where its next step is held, by which channel and how many of its last steps in a row were; then the
-words of processors and of central memory that differ from those loaded, as lines of a deck; and the
-state of each channel that has a history. What goes wrong is one line on standard error.
-
-FAULT 1 is an exchange jump, FAULT 2 a request to the central processor, FAULT 3 a channel that the
-machine does not have, and FAULT 4 an address past the end of central memory.";
-
-const STATE_EXAMPLE: &str = "\
-Example:
-  ppsim state --turns 40 < four.deck
-where four.deck has the lines
-  PP 0
-  0100 1405 1603 3450 0300
-  START 0100";
-
-const SESSIONS_ABOUT: &str = "Runs a deck in the barrel, and prints the sessions of its channels";
-
-const SESSIONS_LONG_ABOUT: &str = "\
-Runs a deck in the barrel, and prints the sessions of its channels, each from an activate to the
-disconnect after it.
-
-Reads the deck from standard input. Prints to standard output, channel by channel, a line for each
-session: the turns of its activate and its disconnect (DEAD START, where it was open before the
-first turn; GOING ON, where it still is), how many words were put and taken, and the word that was
-put and not taken, which was LOST by the disconnect or is WAITING; and a line for each idle stretch
-with function codes. Then, for each processor that the deck names, how many of its turns MOVED it,
-were HELD, and found it at REST. Turns and counts are decimal, words octal. What goes wrong is one
-line on standard error.";
-
-const SESSIONS_EXAMPLE: &str = "\
-Example:
-  ppsim sessions --turns 40 < handoff.deck
-where handoff.deck has the lines
-  PP 0
-  0100 7405 1407 7205 0300
-  START 0100
-  PP 1
-  0200 7005 0300
-  START 0200";
-
-const STEPS_ABOUT: &str = "Runs a deck in the barrel, and prints each step";
-
-const STEPS_LONG_ABOUT: &str = "\
-Runs a deck in the barrel, and prints each step: what the instruction is, and what it did.
-
-Reads the deck from standard input. Prints to standard output a line for each step of the processors
-that the deck names: the turn, the processor, P, the word or two at P, the instruction that they
-are, and A after it; then each place and each central word that the step changed; the channel event,
-or the flags that were seen; and STOPPED or FAULT with its number. Steps of a processor that are
-held in a row, with the same flags, are one line, at the first of them: HELD, the channel with its
-flags, and how many there are. What goes wrong is one line on standard error.
-
-FAULT 1 is an exchange jump, FAULT 2 a request to the central processor, FAULT 3 a channel that the
-machine does not have, and FAULT 4 an address past the end of central memory.";
-
-const PP_HELP: &str = "Print the steps of this processor only (octal)";
-
-const STEPS_EXAMPLE: &str = "\
-Example:
-  ppsim steps --turns 40 --pp 0 < four.deck
-where four.deck has the lines
-  PP 0
-  0100 1405 1603 3450 0300
-  START 0100";
-
-const DRAW_ABOUT: &str = "Runs a deck in the barrel, and draws what happened";
-
-const DRAW_LONG_ABOUT: &str = "\
-Runs a deck in the barrel, and draws what happened, as an SVG for a browser.
-
-Reads the deck from standard input. Prints to standard output a picture with a lane for each channel
-that was used, where it was active and full, with its words and function codes, and with the words
-that were lost; and a lane for each processor that the deck names, where it was running, held and by
-which channel, in a block, stopped or at fault. Turns go from left to right. What goes wrong is one
-line on standard error.
-
-A picture has at most 2000 turns. Of a longer run, give the first turn to draw and the one before
-which the picture ends: --turns 999999 --from 5000 --to 6000.";
-
-const DRAW_EXAMPLE: &str = "\
-Example:
-  ppsim draw --turns 40 < handoff.deck
-where handoff.deck has the lines
-  PP 0
-  0100 7405 1407 7205 0300
-  START 0100
-  PP 1
-  0200 7005 0300
-  START 0200";
-
-const CHECK_ABOUT: &str = "Reads a channel trace, and says whether it is lawful";
-
-const CHECK_LONG_ABOUT: &str = "\
-Reads a channel trace, and says whether it is lawful: whether on each channel its events, in order,
-may be those of one channel, on which in every session the words taken are the first of the words
-put. No deck is read, and nothing is run.
-
-Reads from standard input, to its end, a text in the lines that barrel or threads print, whoever
-made it. Events with turns are in order of turns; events with numbers count the events of their
-channel from 0, or from 1 where it was open before. Lines of processors, blank lines and comments,
-from a * on, are passed over; a line that says how a channel stands has to agree with the events
-before it.
-
-Prints to standard output how many events, channels and sessions there are. Where the trace is not
-lawful, nothing is printed there, and the first line at which it is not is told on standard error,
-with what is wrong, as in 'ppsim: line 7: TAK 0007 on CH05, which is empty'; the exit status is 1.";
-
-const OPENED_HELP: &str = "The channels that were open before the trace (octal)";
-
-const CHECK_EXAMPLE: &str = "\
-Example:
-  ppsim check < handoff.trace
-where handoff.trace has the lines
-  000000 PP00 CH05 ACN
-  000020 PP00 CH05 PUT 0007
-  000021 PP01 CH05 TAK 0007";
 
 /// A required option whose value is a number.
 fn number_option<'a>(alloc: Global, id: &'a str, help: &'a str) -> Arg<'a>
@@ -345,17 +79,33 @@ fn with_optional_number<'a>(
     command.arg(optional_value(alloc, id, "N", help))
 }
 
+/// A command of this name, with its help and without options.
+fn with_help<'a>(alloc: Global, name: &'a str, help: Help) -> Command<'a>
+    ensures app { app_of result ≡ new_app name.entry.now }
+    ensures local { (fields_of result).has_globals ≡ false }
+{
+    Command::new(alloc, name)
+        .about(help.about)
+        .long_about(help.long_about)
+        .after_help(help.example)
+}
+
+/// `NAME --turns N [--processors N]`
+fn turns_command<'a>(alloc: Global, name: &'a str, help: Help) -> Result<Command<'a>, AllocError>
+    ensures app { IfOk result (λ c. app_of c ≡ turns_command name.entry.now) }
+    ensures local { IfOk result (λ c. (fields_of c).has_globals ≡ false) }
+{
+    let command = with_help(alloc, name, help);
+    let command = with_number(alloc, command, "turns", TURNS)?;
+    command.arg(processors_option(alloc))
+}
+
 /// `barrel --turns N [--processors N]`
 fn barrel_command<'a>(alloc: Global) -> Result<Command<'a>, AllocError>
     ensures app { IfOk result (λ c. app_of c ≡ barrel) }
     ensures local { IfOk result (λ c. (fields_of c).has_globals ≡ false) }
 {
-    let command = Command::new(alloc, "barrel")
-        .about(BARREL_ABOUT)
-        .long_about(BARREL_LONG_ABOUT)
-        .after_help(EXAMPLE);
-    let command = with_number(alloc, command, "turns", TURNS)?;
-    command.arg(processors_option(alloc))
+    turns_command(alloc, "barrel", BARREL_HELP)
 }
 
 /// `threads --steps N --patience N [--processors N]`
@@ -363,10 +113,7 @@ fn threads_command<'a>(alloc: Global) -> Result<Command<'a>, AllocError>
     ensures app { IfOk result (λ c. app_of c ≡ threads) }
     ensures local { IfOk result (λ c. (fields_of c).has_globals ≡ false) }
 {
-    let command = Command::new(alloc, "threads")
-        .about(THREADS_ABOUT)
-        .long_about(THREADS_LONG_ABOUT)
-        .after_help(THREADS_EXAMPLE);
+    let command = with_help(alloc, "threads", THREADS_HELP);
     let command = with_number(alloc, command, "steps", STEPS)?;
     let command = with_number(alloc, command, "patience", PATIENCE)?;
     command.arg(processors_option(alloc))
@@ -377,10 +124,7 @@ fn list_command<'a>(alloc: Global) -> Result<Command<'a>, AllocError>
     ensures app { IfOk result (λ c. app_of c ≡ list) }
     ensures local { IfOk result (λ c. (fields_of c).has_globals ≡ false) }
 {
-    let command = Command::new(alloc, "list")
-        .about(LIST_ABOUT)
-        .long_about(LIST_LONG_ABOUT)
-        .after_help(LIST_EXAMPLE);
+    let command = with_help(alloc, "list", LIST_HELP);
     command.arg(processors_option(alloc))
 }
 
@@ -389,12 +133,7 @@ fn dump_command<'a>(alloc: Global) -> Result<Command<'a>, AllocError>
     ensures app { IfOk result (λ c. app_of c ≡ dump) }
     ensures local { IfOk result (λ c. (fields_of c).has_globals ≡ false) }
 {
-    let command = Command::new(alloc, "dump")
-        .about(DUMP_ABOUT)
-        .long_about(DUMP_LONG_ABOUT)
-        .after_help(DUMP_EXAMPLE);
-    let command = with_number(alloc, command, "turns", TURNS)?;
-    command.arg(processors_option(alloc))
+    turns_command(alloc, "dump", DUMP_HELP)
 }
 
 /// `state --turns N [--processors N]`
@@ -402,11 +141,18 @@ fn state_command<'a>(alloc: Global) -> Result<Command<'a>, AllocError>
     ensures app { IfOk result (λ c. app_of c ≡ state) }
     ensures local { IfOk result (λ c. (fields_of c).has_globals ≡ false) }
 {
-    let command = Command::new(alloc, "state")
-        .about(STATE_ABOUT)
-        .long_about(STATE_LONG_ABOUT)
-        .after_help(STATE_EXAMPLE);
+    turns_command(alloc, "state", STATE_HELP)
+}
+
+/// `steps --turns N [--pp N] [--from N] [--processors N]`
+fn steps_command<'a>(alloc: Global) -> Result<Command<'a>, AllocError>
+    ensures app { IfOk result (λ c. app_of c ≡ steps) }
+    ensures local { IfOk result (λ c. (fields_of c).has_globals ≡ false) }
+{
+    let command = with_help(alloc, "steps", STEPS_HELP);
     let command = with_number(alloc, command, "turns", TURNS)?;
+    let command = with_optional_number(alloc, command, "pp", PP_HELP)?;
+    let command = with_optional_number(alloc, command, "from", FROM.help)?;
     command.arg(processors_option(alloc))
 }
 
@@ -415,27 +161,7 @@ fn sessions_command<'a>(alloc: Global) -> Result<Command<'a>, AllocError>
     ensures app { IfOk result (λ c. app_of c ≡ sessions) }
     ensures local { IfOk result (λ c. (fields_of c).has_globals ≡ false) }
 {
-    let command = Command::new(alloc, "sessions")
-        .about(SESSIONS_ABOUT)
-        .long_about(SESSIONS_LONG_ABOUT)
-        .after_help(SESSIONS_EXAMPLE);
-    let command = with_number(alloc, command, "turns", TURNS)?;
-    command.arg(processors_option(alloc))
-}
-
-/// `steps --turns N [--pp N] [--from N] [--processors N]`
-fn steps_command<'a>(alloc: Global) -> Result<Command<'a>, AllocError>
-    ensures app { IfOk result (λ c. app_of c ≡ steps) }
-    ensures local { IfOk result (λ c. (fields_of c).has_globals ≡ false) }
-{
-    let command = Command::new(alloc, "steps")
-        .about(STEPS_ABOUT)
-        .long_about(STEPS_LONG_ABOUT)
-        .after_help(STEPS_EXAMPLE);
-    let command = with_number(alloc, command, "turns", TURNS)?;
-    let command = with_optional_number(alloc, command, "pp", PP_HELP)?;
-    let command = with_optional_number(alloc, command, "from", FROM.help)?;
-    command.arg(processors_option(alloc))
+    turns_command(alloc, "sessions", SESSIONS_HELP)
 }
 
 /// `draw --turns N [--from N] [--to N] [--processors N]`
@@ -443,10 +169,7 @@ fn draw_command<'a>(alloc: Global) -> Result<Command<'a>, AllocError>
     ensures app { IfOk result (λ c. app_of c ≡ draw) }
     ensures local { IfOk result (λ c. (fields_of c).has_globals ≡ false) }
 {
-    let command = Command::new(alloc, "draw")
-        .about(DRAW_ABOUT)
-        .long_about(DRAW_LONG_ABOUT)
-        .after_help(DRAW_EXAMPLE);
+    let command = with_help(alloc, "draw", DRAW_HELP);
     let command = with_number(alloc, command, "turns", TURNS)?;
     let command = with_optional_number(alloc, command, "from", DRAWN_FROM.help)?;
     let command = with_optional_number(alloc, command, "to", DRAWN_TO.help)?;
@@ -458,10 +181,7 @@ fn check_command<'a>(alloc: Global) -> Result<Command<'a>, AllocError>
     ensures app { IfOk result (λ c. app_of c ≡ check) }
     ensures local { IfOk result (λ c. (fields_of c).has_globals ≡ false) }
 {
-    let command = Command::new(alloc, "check")
-        .about(CHECK_ABOUT)
-        .long_about(CHECK_LONG_ABOUT)
-        .after_help(CHECK_EXAMPLE);
+    let command = with_help(alloc, "check", CHECK_HELP);
     command.arg(optional_value(alloc, "opened", "N,N,..", OPENED_HELP))
 }
 

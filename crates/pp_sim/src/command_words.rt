@@ -4,7 +4,7 @@ ghost use Rattle.std.specs.Prelude.{◌≡◌, ◌-◌, ◌≤◌, ◌↔◌, �
 ghost use Rattle.clap.specs.Words.{first_value, found_of};
 ghost use Rattle.pp_draw.specs.declared.window.Window.{Window};
 ghost use Rattle.pp_machine.specs.declared.profile.Profile.{Profile};
-ghost use Rattle.pp_runner.specs.RunLimits.{AreLimits};
+ghost use Rattle.pp_runner.specs.Limits.{AreLimits};
 ghost use Rattle.pp_sim.specs.CommandLine.{AskFor, AsksForMore, IsFaultBy, IsOutOfRange, IsRefused, IsWorkOf, ReadsChannels, ReadsEnd, ReadsNumber, ReadsProcessor, ReadsProfile, ReadsTurn, ReadsWindow, refusals};
 ghost use Rattle.pp_sim.specs.declared.work.Work.{Work};
 
@@ -71,7 +71,8 @@ fn limits_of(steps: u32, patience: u32) -> Option<Limits>
 /// The number of turns that the options say, if it is in range.
 fn turns_of(matches: &ArgMatches<'_>) -> Option<u32>
     ensures { MatchOption result
-        ((n : ℕ) → ¬ (ReadsNumber (first_value (found_of matches.now) (codes "turns")) n × (n ≤ 999999)))
+        ((n : ℕ)
+        → ¬ (ReadsNumber (first_value (found_of matches.now) (codes "turns")) n × (n ≤ 999999)))
         (λ n. ReadsNumber (first_value (found_of matches.now) (codes "turns")) n × (n ≤ 999999)) }
 {
     let turns = number_of(matches, "turns")?;
@@ -156,7 +157,7 @@ fn fits_a_picture(window: Window) -> bool
 
 /// Whether a command asks for a picture of more turns than it has.
 fn asks_for_more(name: &str, matches: &ArgMatches<'_>) -> bool
-    ensures { IsTrue result → AsksForMore name.now (first_value (found_of matches.now)) }
+    ensures { IsTrue result ↔ AsksForMore name.now (first_value (found_of matches.now)) }
 {
     if name != "draw" {
         return false;
@@ -180,60 +181,132 @@ fn opened_of(matches: &ArgMatches<'_>) -> Option<[bool; CHANNELS]>
     }
 }
 
+/// The work that `barrel` asks for.
+fn barrel_work(matches: &ArgMatches<'_>) -> Option<Work>
+    ensures { MatchOption result
+        ((work : Work) → ¬ IsWorkOf (codes "barrel") (first_value (found_of matches.now)) work)
+        (IsWorkOf (codes "barrel") (first_value (found_of matches.now))) }
+{
+    let profile = profile_of(matches)?;
+    let turns = turns_of(matches)?;
+    Some(Work::Barrel { profile, turns })
+}
+
+/// The work that `threads` asks for.
+fn threads_work(matches: &ArgMatches<'_>) -> Option<Work>
+    ensures { MatchOption result
+        ((work : Work) → ¬ IsWorkOf (codes "threads") (first_value (found_of matches.now)) work)
+        (IsWorkOf (codes "threads") (first_value (found_of matches.now))) }
+{
+    let profile = profile_of(matches)?;
+    let steps = number_of(matches, "steps")?;
+    let patience = number_of(matches, "patience")?;
+    let limits = limits_of(steps, patience)?;
+    Some(Work::Threads { profile, limits })
+}
+
+/// The work that `list` asks for.
+fn list_work(matches: &ArgMatches<'_>) -> Option<Work>
+    ensures { MatchOption result
+        ((work : Work) → ¬ IsWorkOf (codes "list") (first_value (found_of matches.now)) work)
+        (IsWorkOf (codes "list") (first_value (found_of matches.now))) }
+{
+    let profile = profile_of(matches)?;
+    Some(Work::List { profile })
+}
+
+/// The work that `dump` asks for.
+fn dump_work(matches: &ArgMatches<'_>) -> Option<Work>
+    ensures { MatchOption result
+        ((work : Work) → ¬ IsWorkOf (codes "dump") (first_value (found_of matches.now)) work)
+        (IsWorkOf (codes "dump") (first_value (found_of matches.now))) }
+{
+    let profile = profile_of(matches)?;
+    let turns = turns_of(matches)?;
+    Some(Work::Dump { profile, turns })
+}
+
+/// The work that `state` asks for.
+fn state_work(matches: &ArgMatches<'_>) -> Option<Work>
+    ensures { MatchOption result
+        ((work : Work) → ¬ IsWorkOf (codes "state") (first_value (found_of matches.now)) work)
+        (IsWorkOf (codes "state") (first_value (found_of matches.now))) }
+{
+    let profile = profile_of(matches)?;
+    let turns = turns_of(matches)?;
+    Some(Work::State { profile, turns })
+}
+
+/// The work that `sessions` asks for.
+fn sessions_work(matches: &ArgMatches<'_>) -> Option<Work>
+    ensures { MatchOption result
+        ((work : Work) → ¬ IsWorkOf (codes "sessions") (first_value (found_of matches.now)) work)
+        (IsWorkOf (codes "sessions") (first_value (found_of matches.now))) }
+{
+    let profile = profile_of(matches)?;
+    let turns = turns_of(matches)?;
+    Some(Work::Sessions { profile, turns })
+}
+
+/// The work that `steps` asks for.
+fn steps_work(matches: &ArgMatches<'_>) -> Option<Work>
+    ensures { MatchOption result
+        ((work : Work) → ¬ IsWorkOf (codes "steps") (first_value (found_of matches.now)) work)
+        (IsWorkOf (codes "steps") (first_value (found_of matches.now))) }
+{
+    let profile = profile_of(matches)?;
+    let turns = turns_of(matches)?;
+    let only = only_of(matches, profile)?;
+    let from = from_of(matches)?;
+    Some(Work::Steps {
+        profile,
+        turns,
+        only,
+        from,
+    })
+}
+
+/// The work that `draw` asks for.
+fn draw_work(matches: &ArgMatches<'_>) -> Option<Work>
+    ensures { MatchOption result
+        ((work : Work) → ¬ IsWorkOf (codes "draw") (first_value (found_of matches.now)) work)
+        (IsWorkOf (codes "draw") (first_value (found_of matches.now))) }
+{
+    let profile = profile_of(matches)?;
+    let window = window_of(matches)?;
+    if !fits_a_picture(window) {
+        return None;
+    }
+    Some(Work::Draw { profile, window })
+}
+
+/// The work that `check` asks for.
+fn check_work(matches: &ArgMatches<'_>) -> Option<Work>
+    ensures { MatchOption result
+        ((work : Work) → ¬ IsWorkOf (codes "check") (first_value (found_of matches.now)) work)
+        (IsWorkOf (codes "check") (first_value (found_of matches.now))) }
+{
+    let opened = opened_of(matches)?;
+    Some(Work::Check { opened })
+}
+
 /// The work that a command asks for, if its numbers are in range.
 fn work_of(name: &str, matches: &ArgMatches<'_>) -> Option<Work>
     ensures { MatchOption result ((work : Work)
         → ¬ IsWorkOf name.now (first_value (found_of matches.now)) work)
         (IsWorkOf name.now (first_value (found_of matches.now))) }
 {
-    if name == "barrel" {
-        let profile = profile_of(matches)?;
-        let turns = turns_of(matches)?;
-        Some(Work::Barrel { profile, turns })
-    } else if name == "threads" {
-        let profile = profile_of(matches)?;
-        let steps = number_of(matches, "steps")?;
-        let patience = number_of(matches, "patience")?;
-        let limits = limits_of(steps, patience)?;
-        Some(Work::Threads { profile, limits })
-    } else if name == "list" {
-        let profile = profile_of(matches)?;
-        Some(Work::List { profile })
-    } else if name == "dump" {
-        let profile = profile_of(matches)?;
-        let turns = turns_of(matches)?;
-        Some(Work::Dump { profile, turns })
-    } else if name == "state" {
-        let profile = profile_of(matches)?;
-        let turns = turns_of(matches)?;
-        Some(Work::State { profile, turns })
-    } else if name == "sessions" {
-        let profile = profile_of(matches)?;
-        let turns = turns_of(matches)?;
-        Some(Work::Sessions { profile, turns })
-    } else if name == "steps" {
-        let profile = profile_of(matches)?;
-        let turns = turns_of(matches)?;
-        let only = only_of(matches, profile)?;
-        let from = from_of(matches)?;
-        Some(Work::Steps {
-            profile,
-            turns,
-            only,
-            from,
-        })
-    } else if name == "draw" {
-        let profile = profile_of(matches)?;
-        let window = window_of(matches)?;
-        if !fits_a_picture(window) {
-            return None;
-        }
-        Some(Work::Draw { profile, window })
-    } else if name == "check" {
-        let opened = opened_of(matches)?;
-        Some(Work::Check { opened })
-    } else {
-        None
+    match name {
+        "barrel" => barrel_work(matches),
+        "threads" => threads_work(matches),
+        "list" => list_work(matches),
+        "dump" => dump_work(matches),
+        "state" => state_work(matches),
+        "sessions" => sessions_work(matches),
+        "steps" => steps_work(matches),
+        "draw" => draw_work(matches),
+        "check" => check_work(matches),
+        _ => None,
     }
 }
 
@@ -253,7 +326,8 @@ pub fn read_words<'a>(alloc: Global, words: &'a [&'a str]) -> Result<Work, LineF
     ensures taken { OnOk result (refusals (map (λ s. s.now) words.entry.now) ≡ []) }
     // One of clap's refusals of these words, and not for want of memory.
     ensures refused { IfErr result (IsRefused (map (λ s. s.now) words.entry.now)) }
-    // The words are a command line, and no work is asked for within the ranges.
+    // The words are a command line, and no work is asked for within the ranges; a picture of more
+    // turns than it has is told as that, and nothing else is.
     ensures number { IfErr result (IsOutOfRange (map (λ s. s.now) words.entry.now)) }
 {
     let Ok(command) = command(alloc) else {

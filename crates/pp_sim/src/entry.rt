@@ -17,8 +17,8 @@ const LINE_REFUSED: u8 = 2;
 const NO_MEMORY: u8 = 4;
 
 /// Does what the words of the command line ask for, over these three streams, and answers the
-/// status to exit with: 0 done, 1 deck or trace refused, 2 command line refused, 3 a device failed, 4 out of
-/// memory.
+/// status to exit with: 0 done, 1 deck or trace refused, 2 command line refused, 3 a device failed,
+/// 4 out of memory.
 pub fn run_main<R: Env + Alloc<A = Global> + Threads + Wait + Sync, I: Read, O: Write, E: Write>(
     rt: &R,
     input: &mut I,

@@ -2,14 +2,14 @@
 //! definitions.
 
 ghost use Rattle.std.specs.Prelude.{◌≡◌, ℕ, ◌<◌, ◌^◌, IsTrue, List, Ok, length};
-ghost use Rattle.pp_channel.specs.ChannelNumber.{names_channel};
-ghost use Rattle.pp_channel.specs.Merge.{history_on};
+ghost use Rattle.pp_channel.specs.ChannelNo.{names_channel};
+ghost use Rattle.pp_channel.specs.Histories.{history_on};
 ghost use Rattle.pp_check.specs.LawfulTrace.{AreLawful};
 ghost use Rattle.pp_deck.specs.DeckMeaning.{LoadedDeck, deck_meaning};
 ghost use Rattle.pp_deck.specs.DeckText.{lines_of};
 ghost use Rattle.pp_machine.specs.Run.{barrel, run};
 ghost use Rattle.pp_machine.specs.declared.profile.Profile.{Profile};
-ghost use Rattle.pp_runner.specs.RunLimits.{RunLimits};
+ghost use Rattle.pp_runner.specs.Limits.{RunLimits};
 ghost use Rattle.pp_sim.specs.BarrelText.{IsBarrelText};
 ghost use Rattle.pp_sim.specs.ThreadsText.{IsThreadsText};
 ghost use Rattle.pp_text.specs.ReportLaw.{AgreeOnReport, HaveSameHistories};

@@ -4,7 +4,7 @@ use Rattle.std.specs.Prelude.{Result, Ok, Err, OnOk}
 use Rattle.std.specs.List.{flat_map}
 use Rattle.std.proofs.lemmas.Bool.{cond-true, cond-false}
 use Rattle.std.proofs.lemmas.List.{append-nil}
-use Rattle.pp_listing.specs.ListedLine.{behind_blank}
+use Rattle.pp_listing.specs.ListedLine.{after_blank}
 use Rattle.pp_listing.specs.OctalDigits.{octal}
 use Rattle.pp_state.specs.Changes.{differs, neighbours, words_in_front}
 
@@ -37,25 +37,25 @@ one_neighbour before after most place e = cond-true (differs before after place)
 -- ---- printed
 
 print_words : List ℕ → List ℕ
-print_words ws = flat_map (behind_blank 4) ws
+print_words ws = flat_map (after_blank 4) ws
 
-pub nothing_printed : (text before after : List ℕ) (most place : ℕ) → neighbours before after most place ≡ [] → text ≡ text ++ flat_map (behind_blank 4) (neighbours before after most place)
+pub nothing_printed : (text before after : List ℕ) (most place : ℕ) → neighbours before after most place ≡ [] → text ≡ text ++ flat_map (after_blank 4) (neighbours before after most place)
 nothing_printed text before after most place e = rw e (sym (append-nil text))
 
 word_pieces : (t a b c : List ℕ) → ((t ++ a) ++ b) ++ c ≡ t ++ ((a ++ b) ++ c)
 word_pieces t a b c = simp append_assoc refl
 
 pub word_printed : (t t1 t2 t3 before after : List ℕ) (most place word : ℕ) → 0 < most → differs before after place ≡ true → word ≡ get_or after place 0
-    → t1 ≡ t ++ 32 ∷ [] → t2 ≡ t1 ++ octal 4 word → t3 ≡ t2 ++ flat_map (behind_blank 4) (neighbours before after (most - 1) (place + 1))
-    → t3 ≡ t ++ flat_map (behind_blank 4) (neighbours before after most place)
+    → t1 ≡ t ++ 32 ∷ [] → t2 ≡ t1 ++ octal 4 word → t3 ≡ t2 ++ flat_map (after_blank 4) (neighbours before after (most - 1) (place + 1))
+    → t3 ≡ t ++ flat_map (after_blank 4) (neighbours before after most place)
 word_printed t t1 t2 t3 before after zero place word some differs is e1 e2 e3 = absurd (omega arith)
 word_printed t t1 t2 t3 before after (suc most) place word some differs is e1 e2 e3 =
     let less : suc most - 1 ≡ most = omega arith in
     let first : t2 ≡ (t ++ 32 ∷ []) ++ octal 4 (get_or after place 0) = rw (e2, e1, is) refl in
-    e3 ∙ ap (λ (k : ℕ). t2 ++ flat_map (behind_blank 4) (neighbours before after k (place + 1))) less
-    ∙ ap (λ (x : List ℕ). x ++ flat_map (behind_blank 4) (neighbours before after most (place + 1))) first
-    ∙ word_pieces t (32 ∷ []) (octal 4 (get_or after place 0)) (flat_map (behind_blank 4) (neighbours before after most (place + 1)))
-    ∙ ap (λ (ws : List ℕ). t ++ flat_map (behind_blank 4) ws) (sym (one_neighbour before after most place differs))
+    e3 ∙ ap (λ (k : ℕ). t2 ++ flat_map (after_blank 4) (neighbours before after k (place + 1))) less
+    ∙ ap (λ (x : List ℕ). x ++ flat_map (after_blank 4) (neighbours before after most (place + 1))) first
+    ∙ word_pieces t (32 ∷ []) (octal 4 (get_or after place 0)) (flat_map (after_blank 4) (neighbours before after most (place + 1)))
+    ∙ ap (λ (ws : List ℕ). t ++ flat_map (after_blank 4) ws) (sym (one_neighbour before after most place differs))
 
 -- what holds of a call that comes last holds of the whole
 pub where_ok : {T E P Q : Type 0} (answer : Result T E) → (P → Q) → OnOk answer P → OnOk answer Q

@@ -1,5 +1,5 @@
 -- Steps of what prints.
-use Rattle.std.proofs.Common.{◌≡◌, ◌≢◌, ℕ, ◌+◌, ◌-◌, ◌/◌, ◌%◌, ◌<◌, zero, suc, true, false, eqb, List, [], ◌∷◌, ◌++◌, codes, get_or, Option, refl, sym, ap, ◌∙◌, add-one, append_assoc, arith}
+use Rattle.std.proofs.Common.{◌≡◌, ◌≢◌, ℕ, ◌+◌, zero, suc, true, false, eqb, List, [], ◌∷◌, ◌++◌, codes, get_or, Option, None, slice_get, refl, sym, ap, ◌∙◌, add-one, append_assoc, arith}
 use Rattle.std.specs.List.{flat_map, range_with_len}
 use Rattle.std.proofs.lemmas.Bool.{eq-eqb, ne_eqb}
 use Rattle.std.proofs.lemmas.List.{append-nil}
@@ -8,7 +8,6 @@ use Rattle.pp_word.specs.Address.{place_count}
 use Rattle.pp_deck.proofs.ListLemmas.{range_more}
 use Rattle.pp_listing.specs.Listing.{numbers}
 use Rattle.pp_listing.specs.OctalDigits.{octal, short_octal}
-use Rattle.pp_text.specs.Numeral.{digit, unpadded}
 use Rattle.pp_text.specs.PrintedText.{each_below}
 use Rattle.pp_state.specs.Changes.{central_line, places}
 use Rattle.pp_text.specs.PrintedText.{processor_line}
@@ -64,14 +63,13 @@ pub all_places : {X : Type 0} (print : X → List ℕ) (first text : List ℕ) (
 unfolding places
 all_places print first text k f all h = h ∙ ap (λ (n : ℕ). first ++ flat_map print (flat_map f (range_with_len 0 n))) all
 
--- ---- digits
-
--- a number that is not 0 ends with its last digit
-pub unpadded_more : (most n : ℕ) → 0 < most → n ≢ 0 → unpadded most n ≡ unpadded (most - 1) (n / 10) ++ digit (n % 10)
-unpadded_more zero n h k = absurd (omega arith)
-unpadded_more (suc most) n h k = grind arith
-
 -- ---- the line of a central word
+
+-- past the end of central memory stands nothing
+pub no_central_word : (central : List ℕ) (a : ℕ) → None ≡ slice_get central a → get_or central a 0 ≡ 0
+no_central_word [] a e = refl
+no_central_word (w ∷ ws) zero e = absurd (cc)
+no_central_word (w ∷ ws) (suc a) e = no_central_word ws a e
 
 pub central_same : (text before after : List ℕ) (a : ℕ) → get_or after a 0 ≡ get_or before a 0 → text ≡ text ++ flat_map deck_line (central_line before after a)
 central_same text before after a e = let is : eqb (get_or before a 0) (get_or after a 0) ≡ true = eq-eqb (get_or before a 0) (get_or after a 0) (sym e) in rw is (sym (append-nil text))
@@ -88,17 +86,18 @@ central_in_pieces t t1 t2 t3 t4 t5 before after a first w old is was differs is_
 
 -- ---- the line of a processor
 
-line_pieces : (t a b c d e f g h i j k l z : List ℕ) → ((((((((((((t ++ a) ++ b) ++ c) ++ d) ++ e) ++ f) ++ g) ++ h) ++ i) ++ j) ++ k) ++ l) ++ z
+line_pieces : (t a b c d e f g h i j k l z : List ℕ) → ((((t ++ (((a ++ b ++ c ++ d ++ e ++ f ++ g) ++ h) ++ i)) ++ j) ++ k) ++ l) ++ z
     ≡ t ++ (a ++ b ++ c ++ d ++ e ++ f ++ g ++ (h ++ i ++ j ++ k ++ l) ++ z)
 line_pieces t a b c d e f g h i j k l z = simp append_assoc refl
 
-pub line_in_pieces : (t t1 t2 t3 t4 t5 t6 t7 t8 t9 t10 t11 t12 t13 : List ℕ) (n count : ℕ) (m : MachineState) (pp : Processor) (number p a : ℕ) (state : PpState) (block : Option Block)
-    → pp ≡ processor_of n m → number ≡ n → p ≡ pp.p → a ≡ pp.a → state ≡ pp.state → block ≡ pp.block
-    → t1 ≡ t ++ codes "PP" → t2 ≡ t1 ++ octal 2 number → t3 ≡ t2 ++ codes " P=" → t4 ≡ t3 ++ octal 4 p → t5 ≡ t4 ++ codes " A=" → t6 ≡ t5 ++ octal 6 a → t7 ≡ t6 ++ 32 ∷ []
-    → t8 ≡ t7 ++ running_or_not state → t9 ≡ t8 ++ 32 ∷ [] → t10 ≡ t9 ++ next_instruction pp → t11 ≡ t10 ++ block_text block
-    → t12 ≡ t11 ++ held_text (need (processor_of n m)) (step_outcome n m) m count → t13 ≡ t12 ++ 10 ∷ []
-    → t13 ≡ t ++ processor_line n (processor_of n m) (standing n m count)
+pub line_in_pieces : (heading p p1 p2 p3 start t t1 t2 t3 t4 t5 : List ℕ) (n count : ℕ) (m : MachineState) (pp : Processor) (state : PpState) (block : Option Block)
+    → pp ≡ processor_of n m → state ≡ pp.state → block ≡ pp.block
+    → heading ≡ codes "PP" ++ octal 2 n ++ codes " P=" ++ octal 4 pp.p ++ codes " A=" ++ octal 6 pp.a ++ codes " "
+    → p ≡ [] → p1 ≡ p ++ heading → p2 ≡ p1 ++ running_or_not state → p3 ≡ p2 ++ 32 ∷ [] → start ≡ p3
+    → t1 ≡ t ++ start → t2 ≡ t1 ++ next_instruction pp → t3 ≡ t2 ++ block_text block
+    → t4 ≡ t3 ++ held_text (need (processor_of n m)) (step_outcome n m) m count → t5 ≡ t4 ++ 10 ∷ []
+    → t5 ≡ t ++ processor_line n (processor_of n m) (standing n m count)
 unfolding processor_line
-line_in_pieces t t1 t2 t3 t4 t5 t6 t7 t8 t9 t10 t11 t12 t13 n count m pp number p a state block is is_number is_p is_a is_state is_block e1 e2 e3 e4 e5 e6 e7 e8 e9 e10 e11 e12 e13 =
-    rw (e13, e12, e11, e10, e9, e8, e7, e6, e5, e4, e3, e2, e1, is_number, is_p, is_a, is_state, is_block, is)
+line_in_pieces heading p p1 p2 p3 start t t1 t2 t3 t4 t5 n count m pp state block is is_state is_block is_heading q q1 q2 q3 same e1 e2 e3 e4 e5 =
+    rw (e5, e4, e3, e2, e1, same, q3, q2, q1, q, is_heading, is_state, is_block, is)
     (line_pieces t (codes "PP") (octal 2 n) (codes " P=") (octal 4 (processor_of n m).p) (codes " A=") (octal 6 (processor_of n m).a) (32 ∷ []) (running_or_not (processor_of n m).state) (32 ∷ []) (next_instruction (processor_of n m)) (block_text (processor_of n m).block) (held_text (need (processor_of n m)) (step_outcome n m) m count) (10 ∷ []))

@@ -4,7 +4,7 @@ use Rattle.std.specs.Prelude.{ℕ, zero, suc, ◌+◌, ◌%◌, ◌==◌, ◌&&�
 use Rattle.std.specs.List.{flat_map, list_any, range_with_len}
 use Rattle.pp_word.specs.Address.{place_count}
 use Rattle.pp_machine.specs.MachineState.{MachineState, processor_of}
-use Rattle.pp_machine.specs.ProcessorNumber.{names_processor}
+use Rattle.pp_machine.specs.PpNo.{names_processor}
 use Rattle.pp_deck.specs.DeckLine.{Line, central_words, section, words}
 use Rattle.pp_listing.specs.Listing.{numbers}
 

@@ -9,7 +9,7 @@ use Rattle.pp_machine.specs.MachineState.{MachineState, history_of, processor_of
 use Rattle.pp_machine.specs.MachineStep.{step_outcome}
 use Rattle.pp_machine.specs.NeedAndEffect.{need}
 use Rattle.pp_machine.specs.Processor.{Processor, word_at}
-use Rattle.pp_machine.specs.ProcessorNumber.{processor_index}
+use Rattle.pp_machine.specs.PpNo.{processor_index}
 use Rattle.pp_machine.specs.Run.{run}
 use Rattle.pp_machine.specs.declared.block.Block.{Block}
 use Rattle.pp_machine.specs.declared.need.Need.{Need}
@@ -47,12 +47,16 @@ flags_text flags =
 abbrev pub count_text : ℕ → List ℕ
 count_text count = if count == 0 then [] else codes " x" ++ unpadded 10 count
 
--- ` HELD CH01 ACTIVE EMPTY x376`, where the next step has this need and is held; this many of the
--- last steps in a row were held
+-- ` HELD CH01 ACTIVE EMPTY x376`: channel c at these flags holds a processor; this many of its last
+-- steps in a row were held
+abbrev pub channel_held_text : ℕ → Flags → ℕ → List ℕ
+channel_held_text c flags count =
+    codes " HELD CH" ++ octal 2 c ++ codes " " ++ flags_text flags ++ count_text count
+
+-- the same, where the next step has this need and is held
 abbrev pub held_text : Need → Outcome → MachineState → ℕ → List ℕ
 held_text (Channel c operation) Held m count =
-    codes " HELD CH" ++ octal 2 c ++ codes " " ++ flags_text (flags_of (history_of c m))
-    ++ count_text count
+    channel_held_text c (flags_of (history_of c m)) count
 held_text need outcome m count = []
 
 -- `RUNNING IAN 01 HELD CH01 ACTIVE EMPTY x376`

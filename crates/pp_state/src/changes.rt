@@ -1,13 +1,14 @@
 //! The lines of what differs from the load.
 
-ghost use Rattle.std.specs.Prelude.{◌≡◌, ◌+◌, ◌++◌, ◌∷◌, ◌<◌, ◌^◌, suc, true, IfOk, OnOk, slice_index};
+ghost use Rattle.std.specs.Prelude.{◌≡◌, ◌+◌, ◌++◌, ◌∷◌, ◌<◌, ◌^◌, suc, true, IfOk, OnOk};
 ghost use Rattle.std.specs.List.{flat_map};
 ghost use Rattle.pp_word.specs.Address.{place_count};
 ghost use Rattle.pp_deck.specs.DeckLine.{section, words};
-ghost use Rattle.pp_listing.specs.ListedLine.{behind_blank};
+ghost use Rattle.pp_listing.specs.ListedLine.{after_blank};
 ghost use Rattle.pp_state.specs.Changes.{central_line, changed_central, changed_lines, differs, has_changes, line_from, neighbours, words_in_front};
 ghost use Rattle.pp_state.specs.StateText.{deck_line};
 
+use crate::central_words::central_word;
 use pp_listing::{push_octal, push_short_octal};
 use pp_machine::{Central, Pp, PpNo};
 use pp_word::{Word12, Word18};
@@ -131,7 +132,7 @@ fn push_neighbours<A: Allocator>(
     most: u32,
 ) -> Result<(), AllocError>
     requires { place + most < 2 ^ 13 }
-    ensures { OnOk result (text.new.items ≡ text.old.items ++ flat_map (behind_blank 4)
+    ensures { OnOk result (text.new.items ≡ text.old.items ++ flat_map (after_blank 4)
         (neighbours before.now.memory after.now.memory most place)) }
 {
     if most == 0 {
@@ -175,8 +176,9 @@ fn push_central_line<A: Allocator, B: Allocator>(
     ensures { OnOk result (text.new.items ≡ text.old.items
         ++ flat_map deck_line (central_line before.now after.now address)) }
 {
-    let word = central_word(after, address);
-    if word == central_word(before, address) {
+    let place = Word18::truncated(address);
+    let word = central_word(after, place);
+    if word == central_word(before, place) {
         return Ok(());
     }
     text.extend_from_slice(b"CM ")?;
@@ -185,15 +187,4 @@ fn push_central_line<A: Allocator, B: Allocator>(
     push_octal(text, 20, word)?;
     text.push(b'\n')?;
     Ok(())
-}
-
-/// The central word at an address, which is 0 at or past the size.
-fn central_word<A: Allocator>(central: &Central<A>, address: u32) -> u64
-    requires { address < 2 ^ 18 }
-    ensures { result ≡ slice_index central.now address }
-{
-    match central.read(Word18::truncated(address)) {
-        Some(word) => word.get(),
-        None => 0,
-    }
 }

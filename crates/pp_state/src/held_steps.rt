@@ -27,6 +27,7 @@ pub fn run_counting_held<A: Allocator>(
         IsSome (step_event (processor_in_turn machine.old.profile c.done) machine.new)) }
     ensures headline { HoldsOnEachChannel machine.new }
 {
+    // The call says to the proof that the machine is sound.
     let _sound = machine.turns();
     let round = machine.profile().processors() as u32;
     let mut held = [0; PROCESSORS];

@@ -3,7 +3,7 @@
 
 ghost use Rattle.std.specs.Prelude.{◌≡◌, ◌≢◌, ◌↔◌, ℕ, [], All, List, length};
 ghost use Rattle.std.specs.List.{flat_map};
-ghost use Rattle.pp_channel.specs.ChannelNumber.{channel_count};
+ghost use Rattle.pp_channel.specs.ChannelNo.{channel_count};
 ghost use Rattle.pp_machine.specs.Headline.{HoldsOnEachChannel};
 ghost use Rattle.pp_machine.specs.MachineState.{MachineState, processor_of};
 ghost use Rattle.pp_machine.specs.MachineStep.{step_outcome};
@@ -24,10 +24,12 @@ pub fn state_law()
         → HoldsOnEachChannel m
         → (held_text (need (processor_of n m)) (step_outcome n m) m count ≢ []) ↔ Waits n m }
     ensures memory { (n : ℕ) (before after : MachineState) → AreMemories n before after
-        → overwritten (processor_of n before).memory (flat_map words_set (changed_section before after n))
+        → overwritten (processor_of n before).memory
+        (flat_map words_set (changed_section before after n))
         ≡ (processor_of n after).memory }
     ensures new_words { (n : ℕ) (before after : MachineState) → AreMemories n before after
-        → All (IsNew (processor_of n before).memory) (flat_map words_set (changed_section before after n)) }
+        → All (IsNew (processor_of n before).memory)
+        (flat_map words_set (changed_section before after n)) }
     ensures central { (before after : List ℕ) → length before ≡ length after
         → overwritten before (flat_map words_set (changed_central before after)) ≡ after }
     ensures new_central { (before after : List ℕ)

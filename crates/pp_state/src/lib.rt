@@ -2,13 +2,16 @@
 //! load, and the channels.
 #![tactic(auto)]
 
+mod central_words;
 mod changes;
-mod counts;
 mod held_steps;
+mod held_text;
 mod laws;
 mod standing;
 mod whole_text;
 
+pub use central_words::central_word;
 pub use held_steps::run_counting_held;
+pub use held_text::{push_flags_text, push_held_text};
 pub use laws::state_law;
 pub use whole_text::printed_state;

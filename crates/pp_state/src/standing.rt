@@ -5,13 +5,13 @@ ghost use Rattle.pp_machine.specs.MachineState.{processor_of};
 ghost use Rattle.pp_machine.specs.MachineStep.{step_outcome};
 ghost use Rattle.pp_machine.specs.NeedAndEffect.{need};
 ghost use Rattle.pp_text.specs.PrintedText.{processor_line};
-ghost use Rattle.pp_text.specs.PrintedText.{state_text as running_or_not};
-ghost use Rattle.pp_state.specs.StateText.{block_text, flags_text, held_text, next_instruction, standing};
+ghost use Rattle.pp_state.specs.StateText.{block_text, held_text, next_instruction, standing};
 
-use crate::counts::push_count;
-use pp_channel::{ChanOp, ChannelNo, Flags};
+use crate::held_text::push_held_text;
+use pp_channel::{ChanOp, ChannelNo};
 use pp_listing::{push_instruction, push_octal};
-use pp_machine::{Block, Machine, Need, Outcome, Pp, PpNo, PpState};
+use pp_machine::{Block, Machine, Need, Outcome, Pp, PpNo};
+use pp_text::{Piece, processor_heading, push_state_text};
 use pp_word::next;
 use std::alloc::{AllocError, Allocator};
 
@@ -28,34 +28,16 @@ pub(crate) fn push_standing<A: Allocator, B: Allocator>(
         ++ processor_line n (processor_of n machine.now) (standing n machine.now count)) }
 {
     let pp = machine.pp(n);
-    text.extend_from_slice(b"PP")?;
-    push_octal(text, 2, u64::from(n.get()))?;
-    text.extend_from_slice(b" P=")?;
-    push_octal(text, 4, u64::from(pp.p().get()))?;
-    text.extend_from_slice(b" A=")?;
-    push_octal(text, 6, u64::from(pp.a().get()))?;
-    text.push(b' ')?;
-    push_state(text, pp.state())?;
-    text.push(b' ')?;
+    let mut piece = Piece::new();
+    piece.push(&processor_heading(n, pp));
+    push_state_text(&mut piece, pp.state());
+    piece.push(b" ");
+    text.extend_from_slice(piece.as_slice())?;
     push_next_instruction(text, pp)?;
     push_block(text, pp.block())?;
     push_held(text, machine, n, count)?;
     text.push(b'\n')?;
     Ok(())
-}
-
-/// Adds `STOPPED`.
-fn push_state<A: Allocator>(text: &mut Vec<u8, A>, state: PpState) -> Result<(), AllocError>
-    ensures { OnOk result (text.new.items ≡ text.old.items ++ running_or_not state) }
-{
-    match state {
-        PpState::Running => text.extend_from_slice(b"RUNNING"),
-        PpState::Stopped => text.extend_from_slice(b"STOPPED"),
-        PpState::Fault(number) => {
-            text.extend_from_slice(b"FAULT ")?;
-            push_octal(text, 1, u64::from(number))
-        }
-    }
 }
 
 /// Adds the text of the instruction at P.
@@ -92,11 +74,9 @@ fn push_held<A: Allocator, B: Allocator>(
 {
     match machine.pp(n).wants() {
         Need::Channel(c, operation) if is_held(machine, n, c, operation) => {
-            text.extend_from_slice(b" HELD CH")?;
-            push_octal(text, 2, u64::from(c.get()))?;
-            text.push(b' ')?;
-            push_flags(text, machine.channel(c).flags())?;
-            push_count(text, count)
+            let mut piece = Piece::new();
+            push_held_text(&mut piece, c, machine.channel(c).flags(), count);
+            text.extend_from_slice(piece.as_slice())
         }
         _ => Ok(()),
     }
@@ -118,22 +98,5 @@ fn is_held<A: Allocator>(machine: &Machine<A>, n: PpNo, c: ChannelNo, operation:
     match machine.pp(n).block() {
         None => true,
         Some(_) => channel.flags().active,
-    }
-}
-
-/// Adds `ACTIVE FULL`.
-fn push_flags<A: Allocator>(text: &mut Vec<u8, A>, flags: Flags) -> Result<(), AllocError>
-    ensures { OnOk result (text.new.items ≡ text.old.items ++ flags_text flags) }
-{
-    match flags {
-        Flags {
-            active: true,
-            full: true,
-        } => text.extend_from_slice(b"ACTIVE FULL"),
-        Flags {
-            active: true,
-            full: false,
-        } => text.extend_from_slice(b"ACTIVE EMPTY"),
-        Flags { active: false, .. } => text.extend_from_slice(b"INACTIVE"),
     }
 }

@@ -2,20 +2,16 @@
 
 ghost use Rattle.std.specs.Prelude.{◌≡◌, ◌++◌, IfOk, OnOk, map};
 ghost use Rattle.std.specs.List.{flat_map};
-ghost use Rattle.pp_channel.specs.History.{active, waiting};
-ghost use Rattle.pp_text.specs.PrintedText.{channel_line, channel_text, each_below, used_channel_line};
+ghost use Rattle.pp_text.specs.PrintedText.{each_below, used_channel_line};
 ghost use Rattle.pp_state.specs.Changes.{changed_section, changed_sections};
 ghost use Rattle.pp_state.specs.StateText.{deck_line, standing_line, state_text};
 
 use crate::changes::{has_changes, push_changed_central, push_section};
 use crate::standing::push_standing;
-use pp_channel::{Channel, ChannelNo};
-use pp_listing::push_octal;
+use pp_channel::ChannelNo;
 use pp_machine::{Machine, PROCESSORS, PpNo};
+use pp_text::{NUMBERS, Piece, push_channel_line};
 use std::alloc::{AllocError, Allocator};
-
-/// How many numbers two octal digits can show.
-const NUMBERS: u8 = 0o100;
 
 /// How things stand after a run: the processors named, each with the instruction at P, the block
 /// that it is in and the channel that holds it; the words that differ from the machine as it was
@@ -128,44 +124,11 @@ fn push_used_channel<A: Allocator, B: Allocator>(
         ++ used_channel_line machine.now.histories number) }
 {
     match ChannelNo::new(number) {
-        Some(c) => push_channel(text, c, machine.channel(c)),
-        None => Ok(()),
-    }
-}
-
-/// Adds `CH05 ACTIVE FULL 0007` and a line feed, where the channel has a history.
-fn push_channel<A: Allocator, B: Allocator>(
-    text: &mut Vec<u8, A>,
-    c: ChannelNo,
-    channel: &Channel<B>,
-) -> Result<(), AllocError>
-    ensures { OnOk result (text.new.items ≡ text.old.items ++ channel_line c channel.now) }
-{
-    if channel.history().is_empty() {
-        return Ok(());
-    }
-    text.extend_from_slice(b"CH")?;
-    push_octal(text, 2, u64::from(c.get()))?;
-    text.push(b' ')?;
-    push_activity(text, channel)?;
-    text.push(b'\n')?;
-    Ok(())
-}
-
-/// Adds `ACTIVE FULL 0007`.
-fn push_activity<A: Allocator, B: Allocator>(
-    text: &mut Vec<u8, A>,
-    channel: &Channel<B>,
-) -> Result<(), AllocError>
-    ensures { OnOk result (text.new.items ≡ text.old.items
-        ++ channel_text (active channel.now) (waiting channel.now)) }
-{
-    match channel.waiting() {
-        Some(word) => {
-            text.extend_from_slice(b"ACTIVE FULL ")?;
-            push_octal(text, 4, u64::from(word.get()))
+        Some(c) => {
+            let mut line = Piece::new();
+            push_channel_line(&mut line, c, machine.channel(c));
+            text.extend_from_slice(line.as_slice())
         }
-        None if channel.flags().active => text.extend_from_slice(b"ACTIVE EMPTY"),
-        None => text.extend_from_slice(b"INACTIVE"),
+        None => Ok(()),
     }
 }

@@ -1,26 +1,21 @@
 -- The line of a step, put together from its parts.
 use Rattle.std.proofs.Common.{get_or-set_same, ◌≡◌, ℕ, suc, ◌-◌, ◌/◌, ◌%◌, ◌^◌, ◌<◌, List, [], ◌∷◌, ◌++◌, codes, length, get_or, replicate, refl, sym, ap, ◌∙◌, append_assoc, arith}
 use Rattle.pp_word.specs.Address.{next_place}
-use Rattle.pp_word.specs.OperationCodes.{mnemonic_of}
+use Rattle.pp_word.specs.Opcode.{mnemonic_of}
 use Rattle.pp_word.specs.declared.opcode.Opcode.{Opcode}
 use Rattle.pp_word.specs.declared.opcode.Opcode.TheVariants.{PSN, LJM, RJM, UJN, ZJN, NJN, PJN, MJN, SHN, LMN, LPN, SCN, LDN, LCN, ADN, SBN, LDC, ADC, LPC, LMC, PSN24, PSN25, EXN, RPN, LDD, ADD, SBD, LMD, STD, RAD, AOD, SOD, LDI, ADI, SBI, LMI, STI, RAI, AOI, SOI, LDM, ADM, SBM, LMM, STM, RAM, AOM, SOM, CRD, CRM, CWD, CWM, AJM, IJM, FJM, EJM, IAN, IAM, OAN, OAM, ACN, DCN, FAN, FNC}
-use Rattle.pp_channel.specs.Answer.{flags_of}
-use Rattle.pp_channel.specs.declared.chan_op.ChanOp.{ChanOp}
 use Rattle.pp_deck.specs.DeckLoad.{tabulate}
 use Rattle.pp_deck.proofs.ListLemmas.{tabulate_is}
-use Rattle.pp_machine.specs.MachineState.{MachineState, history_of, processor_of}
+use Rattle.pp_machine.specs.MachineState.{MachineState, processor_of}
 use Rattle.pp_machine.specs.MachineStep.{answer_to, central_after, stepped}
-use Rattle.pp_machine.specs.ProcessorNumber.{processor_index}
+use Rattle.pp_machine.specs.PpNo.{processor_index}
 use Rattle.pp_machine.specs.NeedAndEffect.{need, processor_after}
 use Rattle.pp_machine.specs.Processor.{Processor, no_processor, word_at}
 use Rattle.pp_machine.specs.declared.need.Need.{Need}
-use Rattle.pp_machine.specs.declared.need.Need.TheVariants.{Channel}
 use Rattle.pp_machine.specs.declared.pp_state.PpState.{PpState}
-use Rattle.pp_machine.specs.declared.outcome.Outcome.TheVariants.{Held}
 use Rattle.pp_listing.specs.InstructionText.{instruction_text}
 use Rattle.pp_listing.specs.ListedLine.{padded}
 use Rattle.pp_text.specs.Numeral.{decimal, digits, octal, unpadded}
-use Rattle.pp_state.specs.StateText.{count_text, flags_text, held_text}
 use Rattle.pp_steps.specs.StepLine.{centrals_text, channel_text, end_text, heading, places_text, step_line, words_text}
 
 -- nine characters, one by one
@@ -123,12 +118,6 @@ pub heading_in_pieces : (text upper first words instruction last : List ℕ) (tu
     → ((((text ++ upper) ++ first) ++ words) ++ instruction) ++ last ≡ text ++ heading turn n pp a
 unfolding decimal
 heading_in_pieces text upper first words instruction last turn n pp a u f w i l = rw (u, f, w, i, l) (simp append_assoc)
-
--- the channel that holds a step
-pub held_in_pieces : (text channel flags count : List ℕ) (x : Need) (c : ℕ) (op : ChanOp) (m : MachineState) (k : ℕ) → x ≡ Channel c op
-    → channel ≡ codes " CH" ++ octal 2 c ++ codes " " → flags ≡ flags_text (flags_of (history_of c m)) → count ≡ count_text k
-    → (((text ++ codes " HELD") ++ channel) ++ flags) ++ count ≡ text ++ held_text x Held m k
-held_in_pieces text channel flags count x c op m k is h f n = rw (is, h, f, n) (simp append_assoc refl)
 
 line_pieces : (t a b c d e z : List ℕ) → (((((t ++ a) ++ b) ++ c) ++ d) ++ e) ++ z ≡ t ++ (a ++ b ++ c ++ d ++ e ++ z)
 line_pieces t a b c d e z = simp append_assoc refl

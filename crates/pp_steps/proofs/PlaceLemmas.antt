@@ -1,6 +1,6 @@
 -- What has changed in a memory, looked for at some places alone.
 use Rattle.std.proofs.Common.{get_or-set_other, ◌≡◌, ◌≢◌, ℕ, zero, suc, ◌+◌, ◌-◌, ◌<◌, ◌≤◌, true, false, eqb, List, [], ◌∷◌, ◌++◌, length, slice_index, slice_set, get_or, refl, sym, ap, ◌∙◌, subst, append_assoc, arith}
-use Rattle.std.specs.Prelude.{Some, None, codes, slice_get}
+use Rattle.std.specs.Prelude.{Some, None, codes}
 use Rattle.std.specs.List.{flat_map, range_with_len}
 use Rattle.std.proofs.lemmas.Bool.{eq-eqb, ne_eqb}
 use Rattle.std.proofs.lemmas.List.{append-nil, length-set, set_past}
@@ -135,12 +135,6 @@ centrals_go Local m before after a some old new = absurd (cc)
 centrals_go (Channel c op) m before after a some old new = absurd (cc)
 centrals_go (Read b) m before after a some old new = absurd (cc)
 centrals_go (Write b w) m before after a some old new = let is : a ≡ b = cc in rw (new, old, is) (central_one m.central b w)
-
--- past the end of central memory stands nothing
-pub no_word : (central : List ℕ) (a : ℕ) → None ≡ slice_get central a → get_or central a 0 ≡ 0
-no_word [] a e = refl
-no_word (w ∷ ws) zero e = absurd (cc)
-no_word (w ∷ ws) (suc a) e = no_word ws a e
 
 -- a central word that differs
 pub central_changed : (text heading before after : List ℕ) (a word old : ℕ) → heading ≡ codes " CM " ++ octal 6 a ++ codes "=" → word ≡ slice_index after a → old ≡ slice_index before a → word ≢ old → (text ++ heading) ++ octal 20 word ≡ text ++ central_text before after a

@@ -8,11 +8,11 @@ use Rattle.pp_word.specs.declared.opcode.Opcode.{Opcode}
 use Rattle.pp_word.specs.declared.opcode.Opcode.TheVariants.{RJM, UJN, ZJN, NJN, PJN, MJN, STD, RAD, AOD, SOD, STI, RAI, AOI, SOI, STM, RAM, AOM, SOM, CRD, CRM, CWM, AJM, IJM, FJM, EJM, IAN, IAM, OAM}
 use Rattle.pp_channel.specs.declared.flags.Flags.{Flags}
 use Rattle.pp_channel.specs.declared.reply.Reply.TheVariants as replies
-use Rattle.pp_machine.specs.Blocks.{block_word, cut_short, held, stored_from}
-use Rattle.pp_machine.specs.Effects.{branches_where, faults, goes_to, is_negative, jumps_where, leads_to_itself}
+use Rattle.pp_machine.specs.Block.{block_word, cut_short, held, stored_from}
+use Rattle.pp_machine.specs.Effect.{branches_where, faults, goes_to, is_negative, jumps_where, leads_to_itself}
 use Rattle.pp_machine.specs.InstructionTable.{row, works_on_channel}
 use Rattle.pp_machine.specs.NeedAndEffect.{after_in, answered, next_step, processor_after, step_of}
-use Rattle.pp_machine.specs.OperandAndPlace.{lower_six, operation}
+use Rattle.pp_machine.specs.Operand.{lower_six, operation}
 use Rattle.pp_machine.specs.Processor.{Processor, word_at}
 use Rattle.pp_machine.specs.Profile.{has_channel}
 use Rattle.pp_machine.specs.Step.{Step, local, probes, takes, does, reads, writes}
@@ -69,11 +69,11 @@ either_step place true pp step other h k = h
 either_step place false pp step other h k = k
 
 -- the jumps store nothing
-jumps_same : (test : Bool) (pp : Processor) (d place : ℕ) → Same place pp (jumps_where test pp d)
+jumps_same : (test : Bool) (pp : Processor) (d place : ℕ) → Same place pp (jumps_where test pp d 1)
 jumps_same true pp d place = either place (leads_to_itself d) pp pp (goes_to pp (relative_to pp.p d)) refl refl
 jumps_same false pp d place = refl
 
-branches_same : (test : Bool) (pp : Processor) (place : ℕ) → Same place pp (branches_where test pp)
+branches_same : (test : Bool) (pp : Processor) (place : ℕ) → Same place pp (branches_where test pp 2)
 branches_same true pp place = refl
 branches_same false pp place = refl
 
@@ -131,16 +131,9 @@ held_same : (block : Option Block) (pp : Processor) (flags : Flags) (place : ℕ
 held_same None pp flags place low apart = refl
 held_same (Some block) pp flags place low apart = either place flags.active pp pp (cut_short block.kind block.place pp) refl (cut_same block.kind block.place pp place low apart)
 
-answered_held : (step : Step) (pp : Processor) (flags : Flags) → answered step pp (answers.Channel (replies.Held flags)) ≡ held pp.block pp flags
-answered_held (local after) pp flags = refl
-answered_held (probes channel after) pp flags = refl
-answered_held (takes channel after) pp flags = refl
-answered_held (does channel op after) pp flags = refl
-answered_held (reads address after) pp flags = refl
-answered_held (writes address word after) pp flags = refl
-
 answered_same : (step : Step) (pp : Processor) (answer : Answer) (place : ℕ) → ((flags : Flags) → Same place pp (held pp.block pp flags)) → StepSame place pp step → Same place pp (answered step pp answer)
-answered_same step pp (answers.Channel (replies.Held flags)) place holds h = rw (answered_held step pp flags) (holds flags)
+answered_same (takes channel after) pp (answers.Channel (replies.Held flags)) place holds h = holds flags
+answered_same (does channel op after) pp (answers.Channel (replies.Held flags)) place holds h = holds flags
 answered_same (local after) pp answers.Local place holds h = h
 answered_same (probes channel after) pp (answers.Channel (replies.Flags flags)) place holds h = h flags
 answered_same (takes channel after) pp (answers.Channel (replies.Word word)) place holds h = h word

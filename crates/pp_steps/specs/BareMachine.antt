@@ -1,30 +1,25 @@
 -- A machine without its record: of each channel it has the flags and the register alone, and no
 -- trace.
 use Rattle.std.specs.Prelude.{◌≡◌, ℕ, List, [], length, IsTrue, slice_index_or}
-use Rattle.pp_channel.specs.Answer.{flags_of}
-use Rattle.pp_channel.specs.ChannelNumber.{channel_count, channel_index, names_channel}
-use Rattle.pp_channel.specs.History.{waiting}
+use Rattle.pp_channel.specs.ChannelNo.{channel_count, channel_index, names_channel}
+use Rattle.pp_channel.specs.ChannelState.{channel_state}
+use Rattle.pp_channel.specs.declared.channel_state.ChannelState.{ChannelState}
 use Rattle.pp_channel.specs.declared.event.Event.{Event}
 use Rattle.pp_channel.specs.declared.reply.Reply.TheVariants as reply
 use Rattle.pp_machine.specs.Headline.{HoldsOnEachChannel}
 use Rattle.pp_machine.specs.MachineState.{MachineState, processor_of}
 use Rattle.pp_machine.specs.MachineStep.{answer_to, step_outcome}
 use Rattle.pp_machine.specs.NeedAndEffect.{need}
-use Rattle.pp_machine.specs.ProcessorNumber.{processor_count}
+use Rattle.pp_machine.specs.PpNo.{processor_count}
 use Rattle.pp_machine.specs.declared.answer.Answer.{Answer}
 use Rattle.pp_machine.specs.declared.answer.Answer.TheVariants.{Channel}
 use Rattle.pp_machine.specs.declared.outcome.Outcome.{Outcome}
 use Rattle.pp_machine.specs.declared.outcome.Outcome.TheVariants as outcome
 use Rattle.pp_steps.specs.declared.bare_machine.BareMachine.{BareMachine}
-use Rattle.pp_steps.specs.declared.channel_state.ChannelState.{ChannelState}
 use Rattle.pp_steps.specs.declared.progress.Progress.{Progress}
 use Rattle.pp_steps.specs.declared.progress.Progress.TheVariants.{AtRest, Moved, Held}
 
--- the flags and the register of a channel with the history h
-abbrev pub channel_state : List Event → ChannelState
-channel_state h = record { flags = flags_of h; register = waiting h }
-
--- those of a list of channels, by the place of their numbers
+-- the states of a list of channels, by the place of their numbers
 abbrev pub AreStates : List ChannelState → List (List Event) → Type 0
 AreStates states histories = (c : ℕ) → IsTrue (names_channel c)
     → slice_index_or states (channel_index c) (channel_state [])

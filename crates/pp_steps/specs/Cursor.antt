@@ -1,4 +1,5 @@
 -- How far a processor has come in the times that it is held, which were counted before.
+-- (Private contracts alone cite this.)
 use Rattle.std.specs.Prelude.{◌≡◌, ℕ, ◌+◌, ◌≤◌, List, ◌∷◌, drop}
 use Rattle.pp_steps.specs.HeldRuns.{held_counts}
 use Rattle.pp_steps.specs.StepsText.{line_kind}

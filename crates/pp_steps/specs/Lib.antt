@@ -1,7 +1,8 @@
 pub mod BareMachine
-pub mod Stores
 pub mod StepLine
 pub mod HeldRuns
 pub mod StepsText
-pub mod Cursor
 pub mod StepsLaw
+-- cited by private contracts alone: nobody has to read these to believe what the crate promises
+pub mod Stores
+pub mod Cursor

@@ -12,11 +12,11 @@ use Rattle.pp_machine.specs.declared.need.Need.{Need}
 use Rattle.pp_machine.specs.declared.need.Need.TheVariants.{Channel, Write}
 use Rattle.pp_machine.specs.declared.outcome.Outcome.TheVariants.{Held}
 use Rattle.pp_machine.specs.declared.pp_state.PpState.{PpState}
-use Rattle.pp_machine.specs.declared.pp_state.PpState.TheVariants.{Running, Stopped, Fault}
+use Rattle.pp_machine.specs.declared.pp_state.PpState.TheVariants.{Running}
 use Rattle.pp_listing.specs.InstructionText.{instruction_text, is_long}
 use Rattle.pp_listing.specs.ListedLine.{padded}
 use Rattle.pp_text.specs.Numeral.{decimal, octal}
-use Rattle.pp_text.specs.PrintedText.{event_text, line_end}
+use Rattle.pp_text.specs.PrintedText.{event_text, line_end, state_text}
 use Rattle.pp_state.specs.Changes.{differs, places}
 use Rattle.pp_state.specs.StateText.{flags_text, held_text}
 
@@ -76,8 +76,7 @@ channel_text need m = []
 -- ` STOPPED`, where the processor goes on no more
 abbrev pub end_text : PpState → List ℕ
 end_text Running = []
-end_text Stopped = codes " STOPPED"
-end_text (Fault number) = codes " FAULT " ++ octal 1 number
+end_text state = codes " " ++ state_text state
 
 -- the line of a step of processor n from one machine to another
 unfoldable pub step_line : ℕ → MachineState → MachineState → List ℕ

@@ -1,10 +1,11 @@
 -- The places that a step may store to: one behind another, and 0000 follows 7777 (octal).
+-- (Private contracts alone cite this.)
 use Rattle.std.specs.Prelude.{◌≡◌, ◌≢◌, ℕ, ◌+◌, ◌<◌, ◌%◌, Option, None, Some, slice_index}
 use Rattle.pp_word.specs.Address.{place_count}
 use Rattle.pp_word.specs.declared.opcode.Opcode.{Opcode}
 use Rattle.pp_word.specs.declared.opcode.Opcode.TheVariants.{RJM, STD, RAD, AOD, SOD, STI, RAI, AOI, SOI, STM, RAM, AOM, SOM, CRD, CRM, CWM, IAM, OAM}
 use Rattle.pp_machine.specs.NeedAndEffect.{processor_after}
-use Rattle.pp_machine.specs.OperandAndPlace.{index, lower_six, operation}
+use Rattle.pp_machine.specs.Operand.{index, lower_six, operation}
 use Rattle.pp_machine.specs.Processor.{Processor, word_at}
 use Rattle.pp_machine.specs.declared.answer.Answer.{Answer}
 use Rattle.pp_machine.specs.declared.block.Block.{Block}

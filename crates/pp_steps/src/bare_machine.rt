@@ -1,10 +1,9 @@
 //! A machine without its record.
 
 ghost use Rattle.std.specs.Prelude.{◌≡◌, vec_len};
-ghost use Rattle.pp_machine.specs.ProcessorNumber.{processor_count};
+ghost use Rattle.pp_machine.specs.PpNo.{processor_count};
 
-use crate::channel_state::ChannelState;
-use pp_channel::CHANNELS;
+use pp_channel::{CHANNELS, ChannelState};
 use pp_machine::{Central, Pp};
 use std::alloc::Allocator;
 

@@ -1,16 +1,16 @@
 //! What a machine without its record is made of, and its steps.
 
 ghost use Rattle.std.specs.Prelude.{◌≡◌, ◌<◌, IfOk, IsTrue, length, slice_index, slice_set};
+ghost use Rattle.pp_channel.specs.ChannelState.{channel_state};
 ghost use Rattle.pp_machine.specs.MachineState.{MachineState, history_of, processor_of};
 ghost use Rattle.pp_machine.specs.MachineStep.{answer_to, central_after, histories_after, stepped};
-ghost use Rattle.pp_machine.specs.ProcessorNumber.{processor_count, processor_index};
+ghost use Rattle.pp_machine.specs.PpNo.{processor_count, processor_index};
 ghost use Rattle.pp_machine.specs.Replay.{fits};
-ghost use Rattle.pp_steps.specs.BareMachine.{AreStates, StandsFor, channel_state, progress, progress_by};
+ghost use Rattle.pp_steps.specs.BareMachine.{AreStates, StandsFor, progress, progress_by};
 
 use crate::bare_machine::BareMachine;
-use crate::channel_state::ChannelState;
 use crate::progress::Progress;
-use pp_channel::{CHANNELS, ChannelNo, Memory, Reply};
+use pp_channel::{CHANNELS, ChannelNo, ChannelState, Memory, Reply};
 use pp_machine::{Answer, Central, Machine, Need, Outcome, PROCESSORS, Pp, PpNo};
 use pp_word::Word18;
 use std::alloc::Allocator;
@@ -117,6 +117,7 @@ fn copied_processors<A: Allocator, B: Allocator>(
 ) -> Result<Vec<Pp, A>, Memory>
     ensures { IfOk result (λ copies. copies.items ≡ machine.now.processors) }
 {
+    // The call says to the proof that the machine is sound.
     let _sound = machine.turns();
     let mut processors = Vec::with_capacity(alloc, PROCESSORS)?;
     for place in 0..PROCESSORS {
@@ -156,8 +157,9 @@ fn copy_word<A: Allocator, B: Allocator>(from: &Central<B>, to: &mut Central<A>,
 fn channel_states<A: Allocator>(machine: &Machine<A>) -> [ChannelState; CHANNELS]
     ensures { AreStates result machine.now.histories }
 {
+    // The call says to the proof that the machine is sound.
     let _sound = machine.turns();
-    let mut states = [ChannelState::new(); CHANNELS];
+    let mut states = [ChannelState::INACTIVE; CHANNELS];
     for place in 0..CHANNELS {
         states[place] = ChannelState::of(machine.channel(ChannelNo::at(place)));
     }

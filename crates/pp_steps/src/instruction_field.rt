@@ -3,11 +3,10 @@
 ghost use Rattle.std.specs.Prelude.{◌≡◌, ◌++◌, codes};
 ghost use Rattle.pp_listing.specs.InstructionText.{instruction_text, operands_text};
 ghost use Rattle.pp_listing.specs.ListedLine.{padded};
-ghost use Rattle.pp_text.specs.Numeral.{octal};
 ghost use Rattle.pp_steps.specs.StepLine.{words_text};
 
 use pp_listing::Operands;
-use pp_text::octal4;
+use pp_text::{octal2, octal4};
 use pp_word::{Word6, Word12, decode, relative};
 
 /// `7105 0300  `, or `1405       ` where the instruction has one word: a word, the next, and two
@@ -59,11 +58,4 @@ fn alone(text: [u8; 4]) -> [u8; 9]
 {
     let [t0, t1, t2, t3] = text;
     [t0, t1, t2, t3, b' ', b' ', b' ', b' ', b' ']
-}
-
-/// The last two octal digits of a number.
-fn octal2(n: u8) -> [u8; 2]
-    ensures { result ≡ octal 2 n }
-{
-    [b'0' + n / 8 % 8, b'0' + n % 8]
 }

@@ -4,7 +4,6 @@
 
 mod bare_machine;
 mod bare_step;
-mod channel_state;
 mod cursor;
 mod held_runs;
 mod instruction_field;

@@ -1,6 +1,6 @@
 //! The line of a step.
 
-ghost use Rattle.std.specs.Prelude.{◌≡◌, ◌+◌, ◌-◌, ◌*◌, ◌<◌, ◌≤◌, ◌^◌, ◌++◌, codes, length, slice_index};
+ghost use Rattle.std.specs.Prelude.{◌≡◌, ◌+◌, ◌-◌, ◌*◌, ◌<◌, ◌≤◌, ◌^◌, ◌++◌, codes, length};
 ghost use Rattle.std.specs.List.{flat_map, range_with_len};
 ghost use Rattle.pp_word.specs.Address.{place_count};
 ghost use Rattle.pp_machine.specs.MachineState.{MachineState};
@@ -12,7 +12,7 @@ ghost use Rattle.pp_machine.specs.declared.outcome.Outcome.TheVariants.{Held};
 ghost use Rattle.pp_text.specs.Numeral.{digits, octal};
 ghost use Rattle.pp_text.specs.Piece.{HasRoom};
 ghost use Rattle.pp_text.specs.PrintedText.{event_text};
-ghost use Rattle.pp_state.specs.StateText.{count_text, flags_text, held_text};
+ghost use Rattle.pp_state.specs.StateText.{held_text};
 ghost use Rattle.pp_steps.specs.BareMachine.{StandsFor};
 ghost use Rattle.pp_steps.specs.StepLine.{longest_line, central_text, centrals_text, channel_text, end_text, event_or_flags, heading, held_line, place_text, places_text, step_line, written_address};
 ghost use Rattle.pp_steps.specs.Stores.{KeepsOthers};
@@ -22,7 +22,10 @@ use crate::instruction_field::{instruction_field, words_field};
 use crate::stores::Stores;
 use pp_channel::{ChannelNo, Event, Flags};
 use pp_machine::{Central, Need, Pp, PpNo, PpState};
-use pp_text::{Piece, decimal6, octal1, octal2, octal4, octal6, push_unpadded, push_upper_digits};
+use pp_state::{central_word, push_flags_text, push_held_text};
+use pp_text::{
+    Piece, channel_name, decimal6, octal2, octal4, octal6, push_state_text, push_upper_digits,
+};
 use pp_word::{Word12, Word18, next};
 use std::alloc::Allocator;
 
@@ -215,16 +218,6 @@ fn address_field(address: Word18) -> [u8; 11]
     [b' ', b'C', b'M', b' ', a0, a1, a2, a3, a4, a5, b'=']
 }
 
-/// The central word at an address, which is 0 at or past the size.
-fn central_word<A: Allocator>(central: &Central<A>, address: Word18) -> u64
-    ensures { result ≡ slice_index central.now address }
-{
-    match central.read(address) {
-        Some(word) => word.get(),
-        None => 0,
-    }
-}
-
 /// Adds a number in just so many octal digits.
 fn push_octal(line: &mut Piece, width: u32, n: u64)
     requires { HasRoom width line.old }
@@ -248,17 +241,11 @@ fn push_channel<A: Allocator>(line: &mut Piece, need: &Need, before: &BareMachin
 {
     if let Need::Channel(c, op) = need {
         let state = before.channel(*c);
-        line.push(&channel_field(*c));
+        line.push(b" ");
+        line.push(&channel_name(*c));
+        line.push(b" ");
         push_event_or_flags(line, state.next_event(op), state.flags);
     }
-}
-
-/// ` CH05 `
-fn channel_field(c: ChannelNo) -> [u8; 6]
-    ensures { result ≡ codes " CH" ++ octal 2 c ++ codes " " }
-{
-    let [c0, c1] = octal2(c.get());
-    [b' ', b'C', b'H', c0, c1, b' ']
 }
 
 fn push_event_or_flags(line: &mut Piece, event: Option<Event>, flags: Flags)
@@ -268,7 +255,7 @@ fn push_event_or_flags(line: &mut Piece, event: Option<Event>, flags: Flags)
 {
     match event {
         Some(event) => push_event(line, event),
-        None => push_flags(line, flags),
+        None => push_flags_text(line, flags),
     }
 }
 
@@ -296,25 +283,6 @@ fn name_and_word(name: [u8; 3], word: Word12) -> [u8; 8]
     [n0, n1, n2, b' ', w0, w1, w2, w3]
 }
 
-/// Adds `ACTIVE FULL`.
-fn push_flags(line: &mut Piece, flags: Flags)
-    requires { HasRoom 12 line.old }
-    ensures text { line.new ≡ line.old ++ flags_text flags }
-    ensures room { length line.new ≤ length line.old + 12 }
-{
-    match flags {
-        Flags {
-            active: true,
-            full: true,
-        } => line.push(b"ACTIVE FULL"),
-        Flags {
-            active: true,
-            full: false,
-        } => line.push(b"ACTIVE EMPTY"),
-        Flags { active: false, .. } => line.push(b"INACTIVE"),
-    }
-}
-
 /// Adds ` HELD CH05 ACTIVE EMPTY x1`, where a channel was needed.
 fn push_held<A: Allocator>(line: &mut Piece, need: &Need, machine: &BareMachine<A>, count: u32)
     requires { HasRoom 35 line.old }
@@ -323,22 +291,7 @@ fn push_held<A: Allocator>(line: &mut Piece, need: &Need, machine: &BareMachine<
     ensures room { length line.new ≤ length line.old + 35 }
 {
     if let Need::Channel(c, _) = need {
-        line.push(b" HELD");
-        line.push(&channel_field(*c));
-        push_flags(line, machine.channel(*c).flags);
-        push_count(line, count);
-    }
-}
-
-/// Adds ` x376`, or nothing for 0.
-fn push_count(line: &mut Piece, count: u32)
-    requires { HasRoom 12 line.old }
-    ensures text { line.new ≡ line.old ++ count_text count }
-    ensures room { length line.new ≤ length line.old + 12 }
-{
-    if count > 0 {
-        line.push(b" x");
-        push_unpadded(line, u64::from(count), 10);
+        push_held_text(line, *c, machine.channel(*c).flags, count);
     }
 }
 
@@ -350,17 +303,9 @@ fn push_end(line: &mut Piece, state: PpState)
 {
     match state {
         PpState::Running => {}
-        PpState::Stopped => line.push(b" STOPPED"),
-        PpState::Fault(number) => push_fault(line, number),
+        PpState::Stopped | PpState::Fault(_) => {
+            line.push(b" ");
+            push_state_text(line, state);
+        }
     }
-}
-
-/// Adds ` FAULT 4`.
-fn push_fault(line: &mut Piece, number: u8)
-    requires { HasRoom 8 line.old }
-    ensures text { line.new ≡ line.old ++ (codes " FAULT " ++ octal 1 number) }
-    ensures room { length line.new ≤ length line.old + 8 }
-{
-    let [f0] = octal1(number);
-    line.push(&[b' ', b'F', b'A', b'U', b'L', b'T', b' ', f0]);
 }

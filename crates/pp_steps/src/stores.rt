@@ -1,7 +1,7 @@
 //! The places that a step may store to.
 
 ghost use Rattle.std.specs.Prelude.{◌≡◌, ◌<◌, ◌≤◌};
-ghost use Rattle.pp_machine.specs.OperandAndPlace.{index};
+ghost use Rattle.pp_machine.specs.Operand.{index};
 ghost use Rattle.pp_word.specs.Address.{place_count};
 ghost use Rattle.pp_steps.specs.Stores.{KeepsOthers, block_stores, five_places, instruction_stores, one_place, stores_of};
 

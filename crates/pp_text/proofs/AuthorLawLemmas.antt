@@ -4,7 +4,8 @@ use Rattle.std.specs.Prelude.{◌↔◌, nat_lt}
 use Rattle.std.specs.List.{position_from}
 use Rattle.std.proofs.lemmas.Bool.{cases_lt}
 use Rattle.std.proofs.lemmas.Iterator.Adapters.{position_from-zero}
-use Rattle.pp_channel.specs.Merge.{Merges, history_on, times_told}
+use Rattle.pp_channel.specs.Merge.{Merges, times_logged}
+use Rattle.pp_channel.specs.Histories.{history_on}
 use Rattle.pp_channel.specs.declared.event.Event.{Event}
 use Rattle.pp_channel.proofs.MergeLemmas.{times_told-append}
 use Rattle.pp_runner.specs.WorkerReport.{logs_of}
@@ -20,19 +21,19 @@ untold (suc n) i more e =
     absurd (cc)
 
 module _ {Z : Type 0} (c number : ℕ) where
-  from_none : (i : ℕ) (ws : List (Worker Z)) → times_told c number (logs_of ws) ≡ 0 → position_from (λ (w : Worker Z). log_tells c number w.log.items) i ws ≡ None
+  from_none : (i : ℕ) (ws : List (Worker Z)) → times_logged c number (logs_of ws) ≡ 0 → position_from (λ (w : Worker Z). log_tells c number w.log.items) i ws ≡ None
   from_none i [] none = refl
   from_none i (w ∷ ws) none =
       let both = times_told-append c number w.log.items (logs_of ws) in
-      let own : times_told c number w.log.items ≡ 0 = omega (arith, none, both) in
-      let rest : times_told c number (logs_of ws) ≡ 0 = omega (arith, none, both) in
+      let own : times_logged c number w.log.items ≡ 0 = omega (arith, none, both) in
+      let rest : times_logged c number (logs_of ws) ≡ 0 = omega (arith, none, both) in
       ap (λ (n : ℕ). cond (nat_lt 0 n) (Some i) (position_from (λ (v : Worker Z). log_tells c number v.log.items) (i + 1) ws)) own ∙ from_none (i + 1) ws rest
 
-  to_none : (i : ℕ) (ws : List (Worker Z)) → position_from (λ (w : Worker Z). log_tells c number w.log.items) i ws ≡ None → times_told c number (logs_of ws) ≡ 0
+  to_none : (i : ℕ) (ws : List (Worker Z)) → position_from (λ (w : Worker Z). log_tells c number w.log.items) i ws ≡ None → times_logged c number (logs_of ws) ≡ 0
   to_none i [] none = refl
   to_none i (w ∷ ws) none =
       let both = times_told-append c number w.log.items (logs_of ws) in
-      let parts = untold (times_told c number w.log.items) i _ none in
+      let parts = untold (times_logged c number w.log.items) i _ none in
       let rest = to_none (i + 1) ws parts.1 in
       omega (arith, both, parts.0, rest)
 

@@ -5,10 +5,10 @@ use Rattle.std.specs.List.{enumerate_from, flat_map, position, position_from}
 use Rattle.std.proofs.Math.Seq.{take-suc}
 use Rattle.std.proofs.lemmas.Iterator.Adapters.{position_from-zero}
 use Rattle.std.proofs.lemmas.List.{get_or_default, length-take-le}
-use Rattle.pp_channel.specs.ChannelNumber.{channel_index, names_channel}
-use Rattle.pp_channel.specs.Merge.{history_on}
+use Rattle.pp_channel.specs.ChannelNo.{channel_index, names_channel}
+use Rattle.pp_channel.specs.Histories.{history_on}
 use Rattle.pp_channel.specs.declared.event.Event.{Event}
-use Rattle.pp_machine.specs.ProcessorNumber.{processor_count, processor_number}
+use Rattle.pp_machine.specs.PpNo.{processor_count, processor_number}
 use Rattle.pp_runner.specs.declared.worker.Worker.{Worker}
 use Rattle.pp_text.specs.Authors.{AreAuthors, AreAuthorsOn, or_told}
 use Rattle.pp_text.specs.PrintedReport.{author_place, channel_events, log_tells, numbered_event_line}

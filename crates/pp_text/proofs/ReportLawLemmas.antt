@@ -8,17 +8,18 @@ use Rattle.std.proofs.lemmas.List.Elements.{All-append, All-cons, All-get_or, Al
 use Rattle.std.proofs.lemmas.Option.{slice_get_cases}
 use Rattle.std.proofs.Math.Bool.{and-false}
 use Rattle.std.proofs.Math.Seq.{drop-append_seam, drop-nil, take-suc}
-use Rattle.pp_channel.specs.ChannelNumber.{names_channel}
+use Rattle.pp_channel.specs.ChannelNo.{names_channel}
 use Rattle.pp_channel.proofs.ChannelPlaces as channel_places
 use Rattle.pp_channel.specs.History.{IsLawful, active, waiting}
-use Rattle.pp_channel.specs.Merge.{Merges, history_on}
+use Rattle.pp_channel.specs.Merge.{Merges}
+use Rattle.pp_channel.specs.Histories.{history_on}
 use Rattle.pp_channel.specs.declared.event.Event.{Event}
 use Rattle.pp_channel.proofs.LineKnowledge.{lawful_on}
 use Rattle.pp_machine.specs.Headline.{opening_history}
 use Rattle.pp_machine.specs.MachineState.{MachineState, is_opened}
-use Rattle.pp_machine.specs.ProcessorNumber.{processor_index, processor_number}
+use Rattle.pp_machine.specs.PpNo.{processor_index, processor_number}
 use Rattle.pp_machine.proofs.ProcessorPlaces as processor_places
-use Rattle.pp_runner.specs.WorkerEnd.{HasEndNumber}
+use Rattle.pp_runner.specs.End.{HasEndNumber}
 use Rattle.pp_runner.specs.declared.end.End.{End}
 use Rattle.pp_runner.specs.declared.end.End.TheVariants.{Stopped, Fault, Steps, Patience, Memory, Worn}
 use Rattle.pp_runner.specs.declared.report.Report.{Report}

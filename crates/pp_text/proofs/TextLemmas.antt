@@ -39,8 +39,8 @@ unfolding decimal
 numbered_line_in_pieces text upper heading tail c number author said u h t = rw (u, h, t) (simp append_assoc)
 
 -- the line of a processor: its registers, and what is said of it
-pub processor_line_in_pieces : (text heading tail : List ℕ) (n : ℕ) (pp : Processor) (said : List ℕ)
-    → heading ≡ codes "PP" ++ octal 2 n ++ codes " P=" ++ octal 4 pp.p ++ codes " A=" ++ octal 6 pp.a ++ codes " " → tail ≡ said ++ line_end
-    → (text ++ heading) ++ tail ≡ text ++ processor_line n pp said
+pub processor_line_in_pieces : (text heading : List ℕ) (n : ℕ) (pp : Processor) (said : List ℕ)
+    → heading ≡ codes "PP" ++ octal 2 n ++ codes " P=" ++ octal 4 pp.p ++ codes " A=" ++ octal 6 pp.a ++ codes " "
+    → ((text ++ heading) ++ said) ++ line_end ≡ text ++ processor_line n pp said
 unfolding processor_line
-processor_line_in_pieces text heading tail n pp said h t = rw (h, t) (simp append_assoc)
+processor_line_in_pieces text heading n pp said h = rw h (simp append_assoc)

@@ -1,10 +1,11 @@
 pub mod Numeral
 pub mod PrintedText
 pub mod PrintedReport
-pub mod Authors
-pub mod Pairs
 pub mod TextLaw
 pub mod ReportLaw
 pub mod Piece
 pub mod Written
 pub mod TextWriter
+-- cited by private contracts alone: nobody has to read these to believe what the crate promises
+pub mod Authors
+pub mod Pairs

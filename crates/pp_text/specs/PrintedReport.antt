@@ -3,11 +3,12 @@
 -- history.
 use Rattle.std.specs.Prelude.{ℕ, Bool, List, [], ◌++◌, Option, Some, None, codes, nat_lt, position, slice_get, if◌then◌else◌}
 use Rattle.std.specs.List.{enumerate_from, flat_map}
-use Rattle.pp_channel.specs.ChannelNumber.{names_channel}
-use Rattle.pp_channel.specs.Merge.{history_on, times_told}
+use Rattle.pp_channel.specs.ChannelNo.{names_channel}
+use Rattle.pp_channel.specs.Merge.{times_logged}
+use Rattle.pp_channel.specs.Histories.{history_on}
 use Rattle.pp_channel.specs.declared.entry.Entry.{Entry}
 use Rattle.pp_channel.specs.declared.event.Event.{Event}
-use Rattle.pp_machine.specs.ProcessorNumber.{processor_index, processor_number}
+use Rattle.pp_machine.specs.PpNo.{processor_index, processor_number}
 use Rattle.pp_runner.specs.declared.end.End.{End}
 use Rattle.pp_runner.specs.declared.end.End.TheVariants.{Stopped, Fault, Steps, Patience, Memory, Worn}
 use Rattle.pp_runner.specs.declared.report.Report.{Report}
@@ -19,7 +20,7 @@ use Rattle.pp_text.specs.PrintedText.{each_below, event_text, is_named, line_end
 
 -- whether a log records the event of channel c with this number
 abbrev pub log_tells : ℕ → ℕ → List Entry → Bool
-log_tells c number log = nat_lt 0 (times_told c number log)
+log_tells c number log = nat_lt 0 (times_logged c number log)
 
 -- the place of the worker in whose log the event stands: none for an opening event, else just one,
 -- since the logs merge

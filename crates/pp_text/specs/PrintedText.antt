@@ -3,14 +3,14 @@
 -- feed.
 use Rattle.std.specs.Prelude.{ℕ, zero, suc, Bool, false, ◌&&◌, List, [], ◌∷◌, ◌++◌, Option, Some, None, codes, slice_index_or, if◌then◌else◌}
 use Rattle.std.specs.List.{flat_map}
-use Rattle.pp_channel.specs.ChannelNumber.{names_channel}
+use Rattle.pp_channel.specs.ChannelNo.{names_channel}
 use Rattle.pp_channel.specs.History.{active, waiting}
-use Rattle.pp_channel.specs.Merge.{history_on}
+use Rattle.pp_channel.specs.Histories.{history_on}
 use Rattle.pp_channel.specs.declared.event.Event.{Event}
 use Rattle.pp_channel.specs.declared.event.Event.TheVariants.{Activate, Disconnect, Put, Take, Function}
 use Rattle.pp_machine.specs.MachineState.{MachineState, processor_of}
 use Rattle.pp_machine.specs.Processor.{Processor}
-use Rattle.pp_machine.specs.ProcessorNumber.{names_processor, processor_index}
+use Rattle.pp_machine.specs.PpNo.{names_processor, processor_index}
 use Rattle.pp_machine.specs.declared.pp_state.PpState.{PpState}
 use Rattle.pp_machine.specs.declared.pp_state.PpState.TheVariants.{Running, Stopped, Fault}
 use Rattle.pp_machine.specs.declared.trace.Trace.{Trace}

@@ -1,12 +1,12 @@
 -- What the text of a report says of it: two reports with one text agree on all that it shows.
 use Rattle.std.specs.Prelude.{◌≡◌, ℕ, ◌<◌, ◌^◌, List, Bool, All, Option, Some, None, IfSome, IsTrue, slice_get, option_map, if◌then◌else◌}
 use Rattle.std.specs.List.{enumerate_from, filter_map}
-use Rattle.pp_channel.specs.ChannelNumber.{names_channel}
+use Rattle.pp_channel.specs.ChannelNo.{names_channel}
 use Rattle.pp_channel.specs.History.{HasTwelveBitWord}
-use Rattle.pp_channel.specs.Merge.{history_on}
+use Rattle.pp_channel.specs.Histories.{history_on}
 use Rattle.pp_channel.specs.declared.event.Event.{Event}
-use Rattle.pp_machine.specs.ProcessorNumber.{names_processor, processor_index, processor_number}
-use Rattle.pp_runner.specs.WorkerEnd.{HasEndNumber}
+use Rattle.pp_machine.specs.PpNo.{names_processor, processor_index, processor_number}
+use Rattle.pp_runner.specs.End.{HasEndNumber}
 use Rattle.pp_runner.specs.declared.end.End.{End}
 use Rattle.pp_runner.specs.declared.report.Report.{Report}
 use Rattle.pp_runner.specs.declared.worker.Worker.{Worker}
@@ -79,8 +79,8 @@ HasNumberedEnds report = All (λ worker. HasEndNumber worker.finish) report.ends
 -- The same events on each channel, each with its number and its author; the same processors shown,
 -- each with the same P, A and end; and of each channel whether anything has happened, whether it is
 -- active, and the word that waits.
-pub record AgreeOnReport {Y Z : Type 0} (named others : List Bool) (one : Report Y) (other : Report Z)
-    : Type 0 where
+pub record AgreeOnReport {Y Z : Type 0} (named others : List Bool) (one : Report Y)
+    (other : Report Z) : Type 0 where
   pub events : (c : ℕ) → IsTrue (names_channel c) → told_of c one ≡ told_of c other
   pub workers : (n : ℕ) → shown_of named n one ≡ shown_of others n other
   pub channels : (c : ℕ) → IsTrue (names_channel c)

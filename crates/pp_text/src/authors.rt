@@ -1,9 +1,10 @@
 //! Who made the events of the channels.
 
 ghost use Rattle.std.specs.Prelude.{◌≡◌, ◌<◌, ◌≤◌, ◌==◌, ℕ, [], None, length, slice_index_or, IfOk, IsTrue};
-ghost use Rattle.pp_channel.specs.ChannelNumber.{channel_count, names_channel};
-ghost use Rattle.pp_channel.specs.Merge.{history_on, tells_event};
-ghost use Rattle.pp_machine.specs.ProcessorNumber.{processor_count};
+ghost use Rattle.pp_channel.specs.ChannelNo.{channel_count, names_channel};
+ghost use Rattle.pp_channel.specs.Merge.{logs_event};
+ghost use Rattle.pp_channel.specs.Histories.{history_on};
+ghost use Rattle.pp_machine.specs.PpNo.{processor_count};
 ghost use Rattle.pp_text.specs.Authors.{AreAuthors, authors_on, or_told};
 ghost use Rattle.pp_text.specs.PrintedReport.{log_tells};
 
@@ -123,7 +124,7 @@ fn mark_entry<A: Allocator>(authors: &mut Vec<ChannelAuthors<A>, A>, entry: &Ent
         → number < length (authors_on c authors.old.items)
         → slice_index_or (authors_on c authors.new.items) number None
         ≡ or_told (slice_index_or (authors_on c authors.old.items) number None)
-        (tells_event c number entry.now) author }
+        (logs_event c number entry.now) author }
 {
     if let Seen::Did(_) = entry.what {
         authors[entry.channel.index()].mark(entry.number as usize, author);

@@ -1,7 +1,7 @@
 //! Numbers in octal and decimal digits.
 
 ghost use Rattle.std.specs.Prelude.{◌≡◌, ◌+◌, ◌<◌, ◌≤◌, ◌/◌, ◌%◌, ◌^◌, ◌++◌, length};
-ghost use Rattle.pp_text.specs.Numeral.{digits, octal, short_decimal, unpadded};
+ghost use Rattle.pp_text.specs.Numeral.{decimal, digits, octal, short_decimal, unpadded};
 ghost use Rattle.pp_text.specs.Pairs.{decimal_pairs};
 ghost use Rattle.pp_text.specs.Piece.{HasRoom};
 
@@ -86,6 +86,17 @@ pub fn push_upper_digits(piece: &mut Piece, n: u64) -> u32
     }
     push_unpadded(piece, n / SEVEN_DIGITS, 14);
     (n % SEVEN_DIGITS) as u32
+}
+
+/// Adds a count in decimal: six digits, with zeros in front, and more only where it needs more.
+#[tactic(auto, unfolding(crate::specs::Numeral::decimal))]
+pub fn push_decimal(piece: &mut Piece, n: u64)
+    requires { HasRoom 20 piece.old }
+    ensures text { piece.new ≡ piece.old ++ decimal n }
+    ensures room { length piece.new ≤ length piece.old + 20 }
+{
+    let lower = push_upper_digits(piece, n);
+    piece.push(&decimal6(lower));
 }
 
 /// Adds a number in decimal digits, without zeros in front, but at most so many digits.

@@ -2,24 +2,22 @@
 
 ghost use Rattle.std.specs.Prelude.{◌≡◌, ◌++◌, ℕ, All, IsTrue};
 ghost use Rattle.std.specs.List.{flat_map};
-ghost use Rattle.pp_channel.specs.ChannelNumber.{names_channel};
-ghost use Rattle.pp_channel.specs.Merge.{history_on};
+ghost use Rattle.pp_channel.specs.ChannelNo.{names_channel};
+ghost use Rattle.pp_channel.specs.Histories.{history_on};
 ghost use Rattle.pp_machine.specs.MachineState.{processor_of};
 ghost use Rattle.pp_text.specs.TextWriter.{Prints};
 ghost use Rattle.pp_text.specs.PrintedText.{each_below, event_line, is_named, named_processor_line, printed, used_channel_line};
 ghost use Rattle.pp_text.specs.TextLaw.{FitsItsText, IsListed, IsShown, IsTold};
 ghost use Rattle.pp_text.specs.Written.{IsWritten};
 
-use crate::printed_line::{push_channel, push_event, push_processor};
+use crate::printed_line::{push_event, push_processor};
+use crate::state_text::{NUMBERS, push_channel_line};
 use crate::text_writer::TextWriter;
 use crate::write_fault::WriteFault;
 use pp_channel::{CHANNELS, ChannelNo};
 use pp_machine::{Machine, PROCESSORS, PpNo, Trace};
 use std::alloc::Allocator;
 use std::io::Write;
-
-/// How many numbers two octal digits can show.
-pub(crate) const NUMBERS: u8 = 0o100;
 
 /// Writes the text of a machine, with the lines of the processors named, and flushes the writer.
 /// The text goes out in pieces, and takes no memory. Where the writer fails, the rest of the text
@@ -108,6 +106,6 @@ fn print_used_channel<A: Allocator, W: Write>(
 {
     if let Some(c) = ChannelNo::new(number) {
         text.make_room();
-        push_channel(&mut text.piece, c, machine.channel(c));
+        push_channel_line(&mut text.piece, c, machine.channel(c));
     }
 }

@@ -1,20 +1,21 @@
 //! The lines of a printed text.
 
-ghost use Rattle.std.specs.Prelude.{◌≡◌, ◌<◌, ◌^◌, ◌++◌, IsTrue, Some, codes};
-ghost use Rattle.pp_channel.specs.ChannelNumber.{names_channel};
+ghost use Rattle.std.specs.Prelude.{◌≡◌, ◌+◌, ◌<◌, ◌≤◌, ◌^◌, ◌++◌, IsTrue, Some, codes, length};
+ghost use Rattle.pp_channel.specs.ChannelNo.{names_channel};
 ghost use Rattle.pp_channel.specs.History.{HasTwelveBitWord};
-ghost use Rattle.pp_machine.specs.ProcessorNumber.{names_processor};
+ghost use Rattle.pp_machine.specs.PpNo.{names_processor};
 ghost use Rattle.pp_text.specs.Numeral.{decimal, digits, octal};
 ghost use Rattle.pp_text.specs.Piece.{HasRoom, longest_line};
-ghost use Rattle.pp_text.specs.PrintedText.{channel_line, event_line, event_text, line_end, processor_line, state_text};
+ghost use Rattle.pp_text.specs.PrintedText.{event_line, event_text, line_end, processor_line, state_text};
 ghost use Rattle.pp_text.specs.PrintedReport.{end_text, worker_line};
 ghost use Rattle.pp_text.specs.ReportLaw.{FitsItsEnd, FitsItsLine, shown_end};
-ghost use Rattle.pp_text.specs.TextLaw.{IsListed, IsShown, IsTold};
+ghost use Rattle.pp_text.specs.TextLaw.{IsShown, IsTold};
 
-use crate::digits::{decimal6, octal1, octal2, octal4, octal6, push_upper_digits};
+use crate::digits::{decimal6, octal2, octal4, push_upper_digits};
 use crate::piece::Piece;
-use pp_channel::{Channel, ChannelNo, Event};
-use pp_machine::{Pp, PpNo, PpState, Trace};
+use crate::state_text::{processor_heading, push_fault_text, push_state_text};
+use pp_channel::{ChannelNo, Event};
+use pp_machine::{Pp, PpNo, Trace};
 use pp_runner::{End, Worker};
 use pp_word::Word12;
 use std::alloc::Allocator;
@@ -113,19 +114,8 @@ pub(crate) fn push_processor(piece: &mut Piece, n: PpNo, pp: &Pp)
     ensures fits { IsShown pp.now }
 {
     piece.push(&processor_heading(n, pp));
-    push_state(piece, pp.state());
-}
-
-/// Adds `STOPPED` and a line feed.
-fn push_state(piece: &mut Piece, state: PpState)
-    requires { HasRoom 8 piece.old }
-    ensures { piece.new ≡ piece.old ++ (state_text state ++ line_end) }
-{
-    match state {
-        PpState::Running => piece.push(b"RUNNING\n"),
-        PpState::Stopped => piece.push(b"STOPPED\n"),
-        PpState::Fault(number) => push_fault(piece, number),
-    }
+    push_state_text(piece, pp.state());
+    piece.push(b"\n");
 }
 
 /// Adds `PP00 P=0103 A=000007 PATIENCE` and a line feed.
@@ -137,74 +127,21 @@ pub(crate) fn push_worker<A: Allocator>(piece: &mut Piece, n: PpNo, worker: &Wor
 {
     piece.push(&processor_heading(n, &worker.pp));
     push_end(piece, worker.finish);
+    piece.push(b"\n");
 }
 
-/// Adds `PATIENCE` and a line feed.
+/// Adds `PATIENCE`.
 fn push_end(piece: &mut Piece, finish: End)
-    requires { HasRoom 9 piece.old }
-    ensures { piece.new ≡ piece.old ++ (end_text finish ++ line_end) }
+    requires { HasRoom 8 piece.old }
+    ensures text { piece.new ≡ piece.old ++ end_text finish }
+    ensures room { length piece.new ≤ length piece.old + 8 }
 {
     match finish {
-        End::Stopped => piece.push(b"STOPPED\n"),
-        End::Fault(number) => push_fault(piece, number),
-        End::Steps => piece.push(b"STEPS\n"),
-        End::Patience => piece.push(b"PATIENCE\n"),
-        End::Memory => piece.push(b"MEMORY\n"),
-        End::Worn => piece.push(b"WORN\n"),
-    }
-}
-
-/// Adds `FAULT 4` and a line feed.
-fn push_fault(piece: &mut Piece, number: u8)
-    requires { HasRoom 8 piece.old }
-    ensures { piece.new ≡ piece.old ++ (codes "FAULT " ++ octal 1 number ++ line_end) }
-{
-    let [f0] = octal1(number);
-    piece.push(&[b'F', b'A', b'U', b'L', b'T', b' ', f0, b'\n']);
-}
-
-/// `PP00 P=0103 A=000007 `
-fn processor_heading(n: PpNo, pp: &Pp) -> [u8; 21]
-    ensures text { result ≡ codes "PP" ++ octal 2 n ++ codes " P=" ++ octal 4 pp.now.p
-        ++ codes " A=" ++ octal 6 pp.now.a ++ codes " " }
-    ensures p { pp.now.p < 2 ^ 12 }
-    ensures a { pp.now.a < 2 ^ 18 }
-{
-    let [n0, n1] = octal2(n.get());
-    let [p0, p1, p2, p3] = octal4(pp.p().get());
-    let [a0, a1, a2, a3, a4, a5] = octal6(pp.a().get());
-    [
-        b'P', b'P', n0, n1, b' ', b'P', b'=', p0, p1, p2, p3, b' ', b'A', b'=', a0, a1, a2, a3, a4,
-        a5, b' ',
-    ]
-}
-
-/// `0007` and a line feed.
-fn word_end(word: Word12) -> [u8; 5]
-    ensures text { result ≡ octal 4 word ++ line_end }
-    ensures small { word < 2 ^ 12 }
-{
-    let [w0, w1, w2, w3] = octal4(word.get());
-    [w0, w1, w2, w3, b'\n']
-}
-
-/// Adds `CH05 ACTIVE FULL 0007` and a line feed, where the channel has a history.
-pub(crate) fn push_channel<A: Allocator>(piece: &mut Piece, c: ChannelNo, channel: &Channel<A>)
-    requires { HasRoom longest_line piece.old }
-    ensures text { piece.new ≡ piece.old ++ channel_line c channel.now }
-    ensures fits { IsListed channel.now }
-{
-    if channel.history().is_empty() {
-        return;
-    }
-    let [c0, c1] = octal2(c.get());
-    piece.push(&[b'C', b'H', c0, c1, b' ']);
-    match channel.waiting() {
-        Some(word) => {
-            piece.push(b"ACTIVE FULL ");
-            piece.push(&word_end(word));
-        }
-        None if channel.flags().active => piece.push(b"ACTIVE EMPTY\n"),
-        None => piece.push(b"INACTIVE\n"),
+        End::Stopped => piece.push(b"STOPPED"),
+        End::Fault(number) => push_fault_text(piece, number),
+        End::Steps => piece.push(b"STEPS"),
+        End::Patience => piece.push(b"PATIENCE"),
+        End::Memory => piece.push(b"MEMORY"),
+        End::Worn => piece.push(b"WORN"),
     }
 }

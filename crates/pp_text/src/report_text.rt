@@ -2,9 +2,9 @@
 
 ghost use Rattle.std.specs.Prelude.{◌≡◌, ◌≢◌, ◌≤◌, ◌++◌, ℕ, All, List, Option, Err, length, slice_get, IfSome, IsTrue, option_map};
 ghost use Rattle.std.specs.List.{enumerate_from, flat_map};
-ghost use Rattle.pp_channel.specs.ChannelNumber.{channel_count, names_channel};
-ghost use Rattle.pp_channel.specs.Merge.{history_on};
-ghost use Rattle.pp_machine.specs.ProcessorNumber.{processor_count, processor_index, processor_number};
+ghost use Rattle.pp_channel.specs.ChannelNo.{channel_count, names_channel};
+ghost use Rattle.pp_channel.specs.Histories.{history_on};
+ghost use Rattle.pp_machine.specs.PpNo.{processor_count, processor_index, processor_number};
 ghost use Rattle.pp_runner.specs.declared.worker.Worker.{Worker};
 ghost use Rattle.pp_text.specs.Authors.{AreAuthors, AreAuthorsOn};
 ghost use Rattle.pp_text.specs.TextWriter.{Prints};
@@ -16,10 +16,10 @@ ghost use Rattle.pp_text.specs.TextLaw.{IsListed};
 ghost use Rattle.pp_text.specs.Written.{IsReportWritten, IsWritten};
 
 use crate::authors::{ChannelAuthors, authors};
-use crate::machine_text::NUMBERS;
 use crate::piece::Piece;
-use crate::printed_line::{push_channel, push_numbered_event, push_worker};
+use crate::printed_line::{push_numbered_event, push_worker};
 use crate::report_fault::ReportFault;
+use crate::state_text::{NUMBERS, push_channel_line};
 use crate::text_writer::TextWriter;
 use crate::write_fault::WriteFault;
 use pp_channel::{CHANNELS, Channel, ChannelNo, Event};
@@ -170,7 +170,8 @@ fn print_named_worker<A: Allocator, W: Write>(
     ensures text { Prints W.contents text.old text.new
         (named_worker_line named.now workers.now number) }
     ensures fits { IsTrue (is_named named.now number)
-        → IfSome (option_map shown_end (slice_get workers.now (processor_index number))) FitsItsEnd }
+        → IfSome (option_map shown_end (slice_get workers.now (processor_index number)))
+        FitsItsEnd }
 {
     match PpNo::new(number) {
         Some(n) if named[n.index()] => print_worker(text, workers, n),
@@ -214,7 +215,7 @@ fn print_used_channel<A: Allocator, W: Write>(
 {
     if let Some(c) = ChannelNo::new(number) {
         text.make_room();
-        push_channel(&mut text.piece, c, channel_of(channels, c));
+        push_channel_line(&mut text.piece, c, channel_of(channels, c));
     }
 }
 

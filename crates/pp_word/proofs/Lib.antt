@@ -1,4 +1,4 @@
-pub mod EachPlace
+pub mod EachBit
 pub mod LogicLemmas
-pub mod PlacesLemmas
+pub mod BitsLemmas
 pub mod ShiftLemmas

@@ -3,20 +3,20 @@ use Rattle.std.proofs.lemmas.Nat.{shr-shr, mod-pow-add, shl-shr, or_mod, or_shif
 use Rattle.std.proofs.Math.Pow.{mod-mod-pow}
 use Rattle.std.proofs.lemmas.Grind.{common_steps}
 use Rattle.std.proofs.Math.Nat.{pow-succ'}
-use Rattle.pp_word.specs.BitPlaces.{lowest_places, number_of, shifted_right, places_of, complemented, shifted}
-use Rattle.pp_word.proofs.PlacesLemmas.{number_of-append, length-lowest_places, number_of-lowest_places, number_of-none, number_of-not, drop-lowest_places, take-lowest_places}
+use Rattle.pp_word.specs.Bits.{lowest_bits, number_of, right_shift, bits_of, complement, shift}
+use Rattle.pp_word.proofs.BitsLemmas.{number_of-append, length-lowest_bits, number_of-lowest_bits, number_of-none, number_of-not, drop-lowest_bits, take-lowest_bits}
 
--- each place turned is all ones less the word
-pub complemented_is : (a : ℕ) → a < 2 ^ 18 → complemented a ≡ 2 ^ 18 - 1 - a
+-- each bit turned is all ones less the word
+pub complemented_is : (a : ℕ) → a < 2 ^ 18 → complement a ≡ 2 ^ 18 - 1 - a
 complemented_is a h =
-    let turns = number_of-not (lowest_places 18 a) ∙ ap (λ w. 2 ^ w) (length-lowest_places 18 a) in
-    let same = number_of-lowest_places 18 a in
+    let turns = number_of-not (lowest_bits 18 a) ∙ ap (λ w. 2 ^ w) (length-lowest_bits 18 a) in
+    let same = number_of-lowest_bits 18 a in
     omega arith
 
 multiple_mod : (a m : ℕ) → 0 < m → a * m % m ≡ 0
 multiple_mod a m h = grind (arith, common_steps)
 
--- a number shifted left within 18 places
+-- a number shifted left within 18 bits
 low_part : (a t r : ℕ) → r + t ≡ 18 → a * 2 ^ t % 2 ^ 32 % 2 ^ 18 ≡ a % 2 ^ r * 2 ^ t
 low_part a t r e =
     let cut = mod-mod-pow (a * 2 ^ t) 14 18 in
@@ -36,22 +36,22 @@ rotated_by_masks a t r e h =
     let whole : a / 2 ^ r % 2 ^ 18 ≡ a / 2 ^ r = (let le = shr_le a r in omega arith) in
     rw (or_mod (a * 2 ^ t % 2 ^ 32) (a / 2 ^ r) 18, low_part a t r e, whole, or_shifted (a % 2 ^ r) t (a / 2 ^ r) small) (grind arith)
 
--- the same by places
-pub rotated_by_places : (a t r : ℕ) → r + t ≡ 18 → a < 2 ^ 18 → number_of (drop r (places_of a) ++ take r (places_of a)) ≡ a / 2 ^ r + 2 ^ t * (a % 2 ^ r)
-rotated_by_places a t r e h =
+-- the same by bits
+pub rotated_by_bits : (a t r : ℕ) → r + t ≡ 18 → a < 2 ^ 18 → number_of (drop r (bits_of a) ++ take r (bits_of a)) ≡ a / 2 ^ r + 2 ^ t * (a % 2 ^ r)
+rotated_by_bits a t r e h =
     let small : a / 2 ^ r < 2 ^ t = shr_below a t r (let f : r + t ≡ t + r = omega arith in rw (← f, e) h) in
     let sum_is : 18 ≡ r + t = sym e in
-    let front : drop r (lowest_places 18 a) ≡ lowest_places t (a / 2 ^ r) = ap (λ w. drop r (lowest_places w a)) sum_is ∙ drop-lowest_places r t a in
-    let back : take r (lowest_places 18 a) ≡ lowest_places r a = ap (λ w. take r (lowest_places w a)) sum_is ∙ take-lowest_places r t a in
-    let joined = number_of-append (lowest_places t (a / 2 ^ r)) (lowest_places r a) in
-    let low = number_of-lowest_places t (a / 2 ^ r) ∙ small_mod (a / 2 ^ r) (2 ^ t) small in
-    let high = number_of-lowest_places r a in
-    rw (front, back, joined, length-lowest_places t (a / 2 ^ r), low, high) refl
+    let front : drop r (lowest_bits 18 a) ≡ lowest_bits t (a / 2 ^ r) = ap (λ w. drop r (lowest_bits w a)) sum_is ∙ drop-lowest_bits r t a in
+    let back : take r (lowest_bits 18 a) ≡ lowest_bits r a = ap (λ w. take r (lowest_bits w a)) sum_is ∙ take-lowest_bits r t a in
+    let joined = number_of-append (lowest_bits t (a / 2 ^ r)) (lowest_bits r a) in
+    let low = number_of-lowest_bits t (a / 2 ^ r) ∙ small_mod (a / 2 ^ r) (2 ^ t) small in
+    let high = number_of-lowest_bits r a in
+    rw (front, back, joined, length-lowest_bits t (a / 2 ^ r), low, high) refl
 
--- a right shift by places
-number_of-drop : (k w n : ℕ) → n < 2 ^ w → number_of (drop k (lowest_places w n)) ≡ n / 2 ^ k
-unfolding lowest_places
-number_of-drop zero w n h = number_of-lowest_places w n ∙ small_mod n (2 ^ w) h ∙ grind arith
+-- a right shift by bits
+number_of-drop : (k w n : ℕ) → n < 2 ^ w → number_of (drop k (lowest_bits w n)) ≡ n / 2 ^ k
+unfolding lowest_bits
+number_of-drop zero w n h = number_of-lowest_bits w n ∙ small_mod n (2 ^ w) h ∙ grind arith
 number_of-drop (suc k) zero n h = let none : n ≡ 0 = omega arith in let le = shr_le n (suc k) in omega arith
 number_of-drop (suc k) (suc w) n h =
     let double = pow-succ' 2 w in
@@ -59,21 +59,21 @@ number_of-drop (suc k) (suc w) n h =
     let more : 1 + k ≡ suc k = omega arith in
     number_of-drop k w (n / 2) half ∙ shr-shr n 1 k ∙ ap (λ j. n / 2 ^ j) more
 
-pub shifted_right_is : (a d : ℕ) → a < 2 ^ 18 → number_of (shifted_right d (places_of a)) ≡ a / 2 ^ d
+pub shifted_right_is : (a d : ℕ) → a < 2 ^ 18 → number_of (right_shift d (bits_of a)) ≡ a / 2 ^ d
 shifted_right_is a d h =
-    let joined = number_of-append (drop d (lowest_places 18 a)) (replicate (min d 18) false) in
+    let joined = number_of-append (drop d (lowest_bits 18 a)) (replicate (min d 18) false) in
     let none = number_of-none (min d 18) in
     joined ∙ rw none (omega (arith, number_of-drop d 18 a h))
 
 -- SHN as the code computes it
-pub left_shift : (a d : ℕ) → a < 2 ^ 18 → d < 32 → bit_or (a * 2 ^ (d % 18) % 2 ^ 32) (a / 2 ^ (18 - d % 18)) % 2 ^ 18 ≡ shifted a d
-left_shift a d h below =
+pub left_shift_is : (a d : ℕ) → a < 2 ^ 18 → d < 32 → bit_or (a * 2 ^ (d % 18) % 2 ^ 32) (a / 2 ^ (18 - d % 18)) % 2 ^ 18 ≡ shift a d
+left_shift_is a d h below =
     let test : nat_lt d 32 ≡ true = lt-ltb d 32 below in
     let ends : 18 - d % 18 + d % 18 ≡ 18 = omega arith in
-    rw test (rotated_by_masks a (d % 18) (18 - d % 18) ends h ∙ sym (rotated_by_places a (d % 18) (18 - d % 18) ends h))
+    rw test (rotated_by_masks a (d % 18) (18 - d % 18) ends h ∙ sym (rotated_by_bits a (d % 18) (18 - d % 18) ends h))
 
-pub right_shift : (a d : ℕ) → a < 2 ^ 18 → 32 ≤ d → a / 2 ^ (63 - d) % 2 ^ 18 ≡ shifted a d
-right_shift a d h above =
+pub right_shift_is : (a d : ℕ) → a < 2 ^ 18 → 32 ≤ d → a / 2 ^ (63 - d) % 2 ^ 18 ≡ shift a d
+right_shift_is a d h above =
     let test : nat_lt d 32 ≡ false = le-ltb d 32 above in
     let small : a / 2 ^ (63 - d) < 2 ^ 18 = (let le = shr_le a (63 - d) in omega arith) in
     rw test (small_mod (a / 2 ^ (63 - d)) (2 ^ 18) small ∙ sym (shifted_right_is a (63 - d) h))

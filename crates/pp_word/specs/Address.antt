@@ -7,9 +7,13 @@ use Rattle.std.specs.Prelude.{ℕ, ◌+◌, ◌-◌, ◌%◌, nat_lt, if◌then�
 abbrev pub place_count : ℕ
 place_count = 0o10000
 
+-- the place n places after p: 0000 comes after 7777 (octal)
+abbrev pub place_after : ℕ → ℕ → ℕ
+place_after p n = (p + n) % place_count
+
 -- the place after this one
 abbrev pub next_place : ℕ → ℕ
-next_place p = (p + 1) % place_count
+next_place p = place_after p 1
 
 -- an address m with an index x: their sum, less 7777 where it is past the last place
 abbrev pub indexed : ℕ → ℕ → ℕ

@@ -1,6 +1,7 @@
 pub mod Address
-pub mod BitPlaces
+pub mod Bits
 pub mod CentralWord
 pub mod OnesComplement
-pub mod OperationCodes
-pub mod Word60Halves
+pub mod Opcode
+-- cited by private contracts alone: nobody has to read these to believe what the crate promises
+pub mod Word60

@@ -3,7 +3,7 @@
 #![tactic(auto)]
 
 mod address;
-mod bit_places;
+mod bits;
 mod central_word;
 mod ones_complement;
 mod opcode;
@@ -13,7 +13,7 @@ mod word6;
 mod word60;
 
 pub use address::{index_address, next, relative};
-pub use bit_places::{and18, clear18, complement18, shift18, xor18};
+pub use bits::{and18, clear18, complement18, shift18, xor18};
 pub use central_word::{join60, split60};
 pub use ones_complement::{add18, sub18};
 pub use opcode::{Opcode, decode};

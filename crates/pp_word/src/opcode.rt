@@ -1,7 +1,7 @@
 //! The operation codes.
 
 ghost use Rattle.std.specs.Prelude.{ℕ, ◌≡◌, ◌/◌, ◌%◌, ◌^◌, ◌<◌};
-ghost use Rattle.pp_word.specs.OperationCodes.{code_of, is_long_of, mnemonic_of, opcode_at};
+ghost use Rattle.pp_word.specs.Opcode.{code_of, is_long_of, mnemonic_of, opcode_at};
 
 use crate::word6::Word6;
 use crate::word12::Word12;

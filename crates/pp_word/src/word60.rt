@@ -16,7 +16,7 @@ pub struct Word60 {
 impl Model for Word60 {
     ghost use Rattle.std.specs.Prelude.{ℕ, ◌+◌, ◌*◌, ◌/◌, ◌%◌, ◌^◌, ◌<◌};
     ghost use Rattle.std.proofs.Common.{ap₂};
-    ghost use Rattle.pp_word.specs.Word60Halves.{lower_again, upper_again};
+    ghost use Rattle.pp_word.specs.Word60.{lower_again, upper_again};
 
     ghost Value = { ℕ };
 

@@ -5,8 +5,10 @@
 //! allocator's, as large as was asked for, and goes back there with that size and never twice.
 #![tactic(auto)]
 
+mod in_turn;
 mod ration;
 
+pub use in_turn::Unexpected;
 use ration::Ration;
 use std::alloc::{AllocError, Allocator};
 

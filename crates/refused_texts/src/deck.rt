@@ -6,7 +6,6 @@ use pp_sim::{Deck, DeckCode, DeckFault, read_deck};
 use pp_word::{Word12, Word18, Word60};
 use rationed::Rationed;
 use std::alloc::{Allocator, Global};
-use std::process::Abort;
 use std::test::Fail;
 use test_bench::first;
 
@@ -29,30 +28,23 @@ fn load(heap: &Rationed<Global>, profile: Profile) -> Result<bool, DeckFault> {
     Ok(is_loaded(&deck))
 }
 
-/// Each request in turn is refused, up to a run without a refusal.
-fn expect_deck_refused(rt: &(impl Abort + AllocGlobal), profile: Profile) {
-    let heap = Rationed::new(rt.alloc());
-    let no_memory = DeckFault {
-        line: 0,
-        code: DeckCode::Memory,
-    };
-    for number in 1..100u64 {
-        heap.refuse(number);
-        let loaded = load(&heap, profile);
-        if !heap.has_refused() {
-            assert_eq!(rt; loaded, Ok(true));
-            assert!(rt; number > 1, "a machine grows");
-            return;
-        }
-        assert_eq!(rt; loaded, Err(no_memory), "request {number}");
-    }
-    panic!(rt; "a request is refused in each run")
-}
+/// A deck that is refused for lack of memory.
+const NO_MEMORY: DeckFault = DeckFault {
+    line: 0,
+    code: DeckCode::Memory,
+};
 
 #[test]
-fn deck_refused(rt: HostRuntime) {
-    expect_deck_refused(&rt, Profile::Ten);
-    expect_deck_refused(&rt, Profile::Twenty);
+fn deck_refused(rt: HostRuntime) -> Result<(), Fail> {
+    let heap = Rationed::new(rt.alloc());
+    for profile in [Profile::Ten, Profile::Twenty] {
+        let last = heap.refuse_each(|_| match load(&heap, profile) {
+            Err(fault) if fault == NO_MEMORY => None,
+            loaded => Some(loaded == Ok(true)),
+        })?;
+        assert!(rt; last > 1, "a machine grows");
+    }
+    Ok(())
 }
 
 /// PP 0 has a program, and the nine others, or nineteen, wait for theirs.
@@ -79,33 +71,21 @@ fn load_at_dead_start(heap: &Rationed<Global>, profile: Profile) -> Result<(u64,
     Ok((opened_in(&deck.machine), is_alone))
 }
 
-/// Each request in turn is refused, up to a run without a refusal, which opens this many channels.
-fn expect_dead_start_refused(rt: &(impl Abort + AllocGlobal), profile: Profile, opened: u64) {
-    let heap = Rationed::new(rt.alloc());
-    let no_memory = DeckFault {
-        line: 0,
-        code: DeckCode::Memory,
-    };
-    for number in 1..100u64 {
-        heap.refuse(number);
-        let loaded = load_at_dead_start(&heap, profile);
-        if !heap.has_refused() {
-            assert_eq!(rt; loaded, Ok((opened, true)));
-            assert!(rt; number > opened, "each of these channels grows");
-            return;
-        }
-        assert_eq!(rt; loaded, Err(no_memory), "request {number}");
-    }
-    panic!(rt; "a request is refused in each run")
-}
-
 #[test]
-fn dead_start_refused(rt: HostRuntime) {
-    expect_dead_start_refused(&rt, Profile::Ten, 9);
-    expect_dead_start_refused(&rt, Profile::Twenty, 19);
+fn dead_start_refused(rt: HostRuntime) -> Result<(), Fail> {
+    let heap = Rationed::new(rt.alloc());
+    for (profile, opened) in [(Profile::Ten, 9), (Profile::Twenty, 19u64)] {
+        let last = heap.refuse_each(|_| match load_at_dead_start(&heap, profile) {
+            Err(fault) if fault == NO_MEMORY => None,
+            loaded => Some(loaded == Ok((opened, true))),
+        })?;
+        assert!(rt; last > opened, "each of these channels grows");
+    }
+    Ok(())
 }
 
-/// Decks with their faults, or none: where a request is refused, Memory at line 0 takes their place.
+/// Decks with their faults, or none: where a request is refused, Memory at line 0 takes their
+/// place.
 const DECKS: [(&str, Option<(u32, DeckCode)>); 9] = [
     ("", None),
     ("PP 12", Some((1, DeckCode::BadProcessor))),

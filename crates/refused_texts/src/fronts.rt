@@ -1,5 +1,5 @@
-//! Each part of a deck from its beginning, up to 2,000 bytes (decimal), over an allocator that counts
-//! the requests and refuses none: so none may be out of memory.
+//! Each part of a deck from its beginning, up to 2,000 bytes (decimal), over an allocator that
+//! counts the requests and refuses none: so none may be out of memory.
 
 use pp_machine::Profile;
 use pp_sim::{DeckCode, DeckFault, TextFault, barrel_text, read_deck};

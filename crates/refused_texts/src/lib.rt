@@ -1,5 +1,5 @@
-//! Decks, texts, runs by threads and the program where a growth is refused, one request after another:
-//! tests over the allocator `Rationed`.
+//! Decks, texts, runs by threads and the program where a growth is refused, one request after
+//! another: tests over the allocator `Rationed`.
 #![tactic(auto)]
 
 #[cfg(test)]

@@ -56,8 +56,8 @@ fn out_of_memory<A: Allocator, B: Allocator>(
     count
 }
 
-/// Loads a deck and runs it: how many workers ended for lack of memory, and how many events a channel
-/// had; or nothing where it was refused memory.
+/// Loads a deck and runs it: how many workers ended for lack of memory, and how many events a
+/// channel had; or nothing where it was refused memory.
 fn run_deck<R: Threads + Wait + Sync + Abort, G: Gate + Sync, A: Allocator + Copy + Send + Sync>(
     rt: &R,
     gate: &G,
@@ -150,8 +150,8 @@ fn expect_refused<R: AllocGlobal + Threads + Wait + Sync + Abort>(
     panic!(rt; "a request is refused in each run")
 }
 
-/// How the text of a run ends, whether a worker ended for lack of memory, whether the first event is shown, and
-/// whether nothing was written.
+/// How the text of a run ends, whether a worker ended for lack of memory, whether the first event
+/// is shown, and whether nothing was written.
 fn text_of<R: AllocGlobal + Threads + Wait + Sync>(
     rt: &R,
     heap: &Rationed<Global>,
@@ -212,17 +212,9 @@ fn locked_size<'a>(
 fn locked_central_refused(rt: HostRuntime) -> Result<(), Fail> {
     let heap = Rationed::new(rt.alloc());
     let central = Central::new(&heap, 0o41)?;
-    for number in 1..1000u64 {
-        heap.refuse(number);
-        let size = locked_size(&heap, &central);
-        if !heap.has_refused() {
-            assert_eq!(rt; size, Some(0o41));
-            assert!(rt; number > 32, "each bank grows");
-            return Ok(());
-        }
-        assert_eq!(rt; size, None, "request {number}");
-    }
-    panic!(rt; "a request is refused in each run")
+    let last = heap.refuse_each(|_| Some(locked_size(&heap, &central)? == 0o41))?;
+    assert!(rt; last > 32, "each bank grows");
+    Ok(())
 }
 
 /// The calls between two threads' steps take no memory: the size and the words at the last address

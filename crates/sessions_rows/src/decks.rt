@@ -1,53 +1,34 @@
 //! The sessions of runs of decks, worked out by an independent program, and some by hand.
 
-use pp_deck::{Deck, read_deck};
+use pp_deck::read_deck;
 use pp_machine::Profile;
 use pp_sessions::{run_counting_steps, write_sessions};
 use std::alloc::Global;
 use std::test::Fail;
+use test_bench::{
+    BLOCK_FROM_CENTRAL, DEAD_START, FUNCTION_CODES, LOST_WORD, PLACE_AND_INDEX, SENT_PROGRAM,
+    SHORT_BLOCK, THREE_CHANNELS,
+};
 
 /// Turns (decimal), a deck, and its sessions after them.
 const SESSIONS: [(u32, &str, &str); 7] = [
     (
         50,
-        "\
-CENTRAL 7
-CM 5 00010002000300040005 00060007001000110012
-PP 0
-0000 0002
-0100 1405 6100 0300
-0103 6060 0300
-START 0100
-",
+        BLOCK_FROM_CENTRAL,
         "\
 PP00 MOVED 5 HELD 0 REST 0
 ",
     ),
     (
         40,
-        "\
-PP 0
-0001 0001
-7777 0042
-0100 5001 7777
-0102 5100 7777
-0104 0200 0177
-0200 0300
-START 0100
-",
+        PLACE_AND_INDEX,
         "\
 PP00 MOVED 4 HELD 0 REST 0
 ",
     ),
     (
         90,
-        "\
-DEAD
-PP 0
-0100 1403 7301 0200 6601 0103 7501 0300
-0200 0000 1405 0300
-START 0100
-",
+        DEAD_START,
         "\
 CH01 SESSION 1 FROM DEAD START TO 000060 PUT 3 TAKEN 3
 CH02 SESSION 1 FROM DEAD START GOING ON PUT 0 TAKEN 0
@@ -63,17 +44,7 @@ PP00 MOVED 8 HELD 0 REST 1
     ),
     (
         60,
-        "\
-PP 0
-0100 7405 1401 7205 1402 7205
-0105 6605 0105
-0107 7505 0300
-START 0100
-PP 1
-0200 1405 7105 0300 0300
-0300 7777 7777 7777
-START 0200
-",
+        SHORT_BLOCK,
         "\
 CH05 SESSION 1 FROM 000000 GOING ON PUT 2 TAKEN 2
 PP00 MOVED 6 HELD 0 REST 0
@@ -82,15 +53,7 @@ PP01 MOVED 4 HELD 2 REST 0
     ),
     (
         80,
-        "\
-PP 0
-0100 7405 1407 7205 7505
-0104 7405 1403 7205 0300
-START 0100
-PP 1
-0200 2400 2400 2400 7005 0300
-START 0200
-",
+        LOST_WORD,
         "\
 CH05 SESSION 1 FROM 000000 TO 000030 PUT 1 TAKEN 0 LOST 0007
 CH05 SESSION 2 FROM 000040 GOING ON PUT 1 TAKEN 1
@@ -100,32 +63,7 @@ PP01 MOVED 5 HELD 3 REST 0
     ),
     (
         900,
-        "\
-PP 0
-0051 0012
-0100 7403
-0101 5050 0200
-0103 7203
-0104 3650 3251
-0106 0572
-0107 6603 0107
-0111 7503 0300
-START 0100
-0200 1412 3460
-0202 1400 3461
-0204 3060 3561
-0206 3760 0574
-0210 3061 0300
-PP 1
-0100 6503 0100
-0102 6603 0107
-0104 6503 0114
-0106 0373
-0107 7003 5450 0200
-0112 3650 0366
-0114 0100 0200
-START 0100
-",
+        SENT_PROGRAM,
         "\
 CH03 SESSION 1 FROM 000000 TO 000520 PUT 10 TAKEN 10
 PP00 MOVED 54 HELD 0 REST 36
@@ -134,32 +72,7 @@ PP01 MOVED 90 HELD 0 REST 0
     ),
     (
         4000,
-        "\
-PP 0
-0050 0011
-0060 0000
-0100 6601 0110
-0102 6602 0113
-0104 6603 0116
-0106 0371
-0110 7001 0306
-0113 7001 0303
-0116 7003
-0117 3560
-0120 3750
-0121 0556
-0122 3060 0300
-START 0100
-PP 1
-0100 7401 1401 7201 1402 7201 1403 7201 0300
-START 0100
-PP 2
-0100 7402 1410 7202 1420 7202 1430 7202 0300
-START 0100
-PP 3
-0100 7403 2400 2400 2001 0000 7203 7203 7203 0300
-START 0100
-",
+        THREE_CHANNELS,
         "\
 CH01 SESSION 1 FROM 000001 GOING ON PUT 3 TAKEN 3
 CH02 SESSION 1 FROM 000002 GOING ON PUT 1 TAKEN 0 WAITING 0010
@@ -177,19 +90,7 @@ PP03 MOVED 5 HELD 395 REST 0
 /// taken; processor 31 is held twice while channel 33 is inactive, and once while it is empty.
 const ON_TWENTY: (u32, &str, &str) = (
     260,
-    "\
-PP 20
-0100 7733 0021 7633     * FNC 0021,33, FAN 33
-0103 7433 1407 7233 7533        * ACN 33, LDN 07, OAN 33, DCN 33
-0107 7733 0022          * FNC 0022,33
-0111 7433 7233 0300     * ACN 33, OAN 33
-START 0100
-PP 31
-0100 7705 0003          * FNC 0003,05
-0102 1400 1400 1400 1400        * four times LDN 00
-0106 7033 0300          * IAN 33
-START 0100
-",
+    FUNCTION_CODES,
     "\
 CH05 IDLE FUNCTIONS 1 FROM 000019 TO 000019
 CH33 IDLE FUNCTIONS 2 FROM 000010 TO 000030
@@ -234,9 +135,7 @@ fn sessions_of(
     turns: u32,
     text: &str,
 ) -> Result<Vec<u8, Global>, Fail> {
-    let Ok(mut deck) = read_deck(alloc, profile, text.as_bytes()) else {
-        return Err("a deck without faults".into());
-    };
+    let mut deck = read_deck(alloc, profile, text.as_bytes())?;
     let counts = run_counting_steps(&mut deck.machine, turns)?;
     let mut written = Vec::new(alloc);
     write_sessions(&mut written, &deck.machine, &deck.named, &counts)?;

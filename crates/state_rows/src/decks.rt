@@ -1,24 +1,20 @@
 //! How things stand after runs of decks, worked out by an independent program.
 
-use pp_deck::{Deck, read_deck};
+use pp_deck::read_deck;
 use pp_machine::Profile;
 use pp_state::{printed_state, run_counting_held};
 use std::alloc::Global;
 use std::test::Fail;
+use test_bench::{
+    BLOCK_FROM_CENTRAL, DEAD_START, LOST_WORD, PLACE_AND_INDEX, SENT_PROGRAM, SHORT_BLOCK,
+    THREE_CHANNELS,
+};
 
 /// Turns (decimal), a deck, and how things stand after them.
 const STATES: [(u32, &str, &str); 7] = [
     (
         50,
-        "\
-CENTRAL 7
-CM 5 00010002000300040005 00060007001000110012
-PP 0
-0000 0002
-0100 1405 6100 0300
-0103 6060 0300
-START 0100
-",
+        BLOCK_FROM_CENTRAL,
         "\
 PP00 P=0103 A=000007 FAULT 4 CRD 60
 PP 0
@@ -29,13 +25,7 @@ PP 0
     ),
     (
         90,
-        "\
-DEAD
-PP 0
-0100 1403 7301 0200 6601 0103 7501 0300
-0200 0000 1405 0300
-START 0100
-",
+        DEAD_START,
         "\
 PP00 P=0106 A=000000 STOPPED UJN 0106
 PP 0
@@ -55,16 +45,7 @@ CH11 ACTIVE EMPTY
     ),
     (
         40,
-        "\
-PP 0
-0001 0001
-7777 0042
-0100 5001 7777
-0102 5100 7777
-0104 0200 0177
-0200 0300
-START 0100
-",
+        PLACE_AND_INDEX,
         "\
 PP00 P=0200 A=000043 STOPPED UJN 0200
 PP 0
@@ -73,32 +54,7 @@ PP 0
     ),
     (
         900,
-        "\
-PP 0
-0051 0012
-0100 7403
-0101 5050 0200
-0103 7203
-0104 3650 3251
-0106 0572
-0107 6603 0107
-0111 7503 0300
-START 0100
-0200 1412 3460
-0202 1400 3461
-0204 3060 3561
-0206 3760 0574
-0210 3061 0300
-PP 1
-0100 6503 0100
-0102 6603 0107
-0104 6503 0114
-0106 0373
-0107 7003 5450 0200
-0112 3650 0366
-0114 0100 0200
-START 0100
-",
+        SENT_PROGRAM,
         "\
 PP00 P=0112 A=000000 STOPPED UJN 0112
 PP01 P=0205 A=000003 RUNNING RAD 61
@@ -114,15 +70,7 @@ CH03 INACTIVE
     ),
     (
         80,
-        "\
-PP 0
-0100 7405 1407 7205 7505
-0104 7405 1403 7205 0300
-START 0100
-PP 1
-0200 2400 2400 2400 7005 0300
-START 0200
-",
+        LOST_WORD,
         "\
 PP00 P=0107 A=000003 STOPPED UJN 0107
 PP01 P=0204 A=000003 STOPPED UJN 0204
@@ -131,32 +79,7 @@ CH05 ACTIVE EMPTY
     ),
     (
         4000,
-        "\
-PP 0
-0050 0011
-0060 0000
-0100 6601 0110
-0102 6602 0113
-0104 6603 0116
-0106 0371
-0110 7001 0306
-0113 7001 0303
-0116 7003
-0117 3560
-0120 3750
-0121 0556
-0122 3060 0300
-START 0100
-PP 1
-0100 7401 1401 7201 1402 7201 1403 7201 0300
-START 0100
-PP 2
-0100 7402 1410 7202 1420 7202 1430 7202 0300
-START 0100
-PP 3
-0100 7403 2400 2400 2001 0000 7203 7203 7203 0300
-START 0100
-",
+        THREE_CHANNELS,
         "\
 PP00 P=0113 A=000006 RUNNING IAN 01 HELD CH01 ACTIVE EMPTY x376
 PP01 P=0107 A=000003 STOPPED UJN 0107
@@ -172,17 +95,7 @@ CH03 ACTIVE FULL 0000
     ),
     (
         60,
-        "\
-PP 0
-0100 7405 1401 7205 1402 7205
-0105 6605 0105
-0107 7505 0300
-START 0100
-PP 1
-0200 1405 7105 0300 0300
-0300 7777 7777 7777
-START 0200
-",
+        SHORT_BLOCK,
         "\
 PP00 P=0107 A=000002 RUNNING DCN 05
 PP01 P=0201 A=000003 RUNNING IAM 0300,05 BLOCK 0302 HELD CH05 ACTIVE EMPTY x1
@@ -194,9 +107,9 @@ CH05 ACTIVE EMPTY
     ),
 ];
 
-/// A deck for twenty processors, worked out by hand, after 7 rounds. Processor 3 is held in a block, and
-/// 31 by an inactive channel, but 5 is not, since the block that it is in ends where its channel is
-/// inactive. One of the words that come to processor 20 stands at its place already.
+/// A deck for twenty processors, worked out by hand, after 7 rounds. Processor 3 is held in a
+/// block, and 31 by an inactive channel, but 5 is not, since the block that it is in ends where its
+/// channel is inactive. One of the words that come to processor 20 stands at its place already.
 const ON_TWENTY: (u32, &str, &str) = (
     140,
     "\
@@ -270,10 +183,6 @@ CH06 ACTIVE EMPTY
 ",
 );
 
-fn deck_of(alloc: Global, profile: Profile, text: &str) -> Result<Deck<Global>, Fail> {
-    read_deck(alloc, profile, text.as_bytes()).map_err(|_| "a deck without faults".into())
-}
-
 /// How things stand after a run of a deck.
 fn text_of(
     alloc: Global,
@@ -281,8 +190,8 @@ fn text_of(
     turns: u32,
     text: &str,
 ) -> Result<Vec<u8, Global>, Fail> {
-    let loaded = deck_of(alloc, profile, text)?;
-    let mut deck = deck_of(alloc, profile, text)?;
+    let loaded = read_deck(alloc, profile, text.as_bytes())?;
+    let mut deck = read_deck(alloc, profile, text.as_bytes())?;
     let held = run_counting_held(&mut deck.machine, turns)?;
     Ok(printed_state(alloc, &deck.named, &loaded.machine, &deck.machine, &held)?)
 }

@@ -2,67 +2,42 @@
 
 use crate::memories::{DECK, STATE, TURNS};
 use pp_machine::Profile;
-use pp_sim::{DeckCode, DeckFault, TextFault, state_text};
+use pp_sim::{TextFault, state_text};
 use std::alloc::Global;
-use std::io::ErrorKind;
-use test_bench::{Failure, Sink, Source};
+use std::io::{Read, Write};
+use test_bench::{Failure, wrong_reading, wrong_refusal, wrong_writing};
 
-/// Decks, each with its faulty line, and what is wrong with it.
-const REFUSED: [(&str, u32, DeckCode); 6] = [
-    ("STOP\n", 1, DeckCode::UnknownLine),
-    ("PP 0\n0100 7405\n0100 8\n", 3, DeckCode::BadDigits),
-    ("PP 12", 1, DeckCode::BadProcessor),
-    ("0100 7405\n", 1, DeckCode::NoProcessor),
-    ("PP 0\n7777 0001 0002\n", 2, DeckCode::PastEnd),
-    ("CENTRAL 1\nCM 1 7\n", 2, DeckCode::CentralRange),
-];
-
-/// How the text of a deck ends, whether nothing was written, and how often the reader was asked.
-fn from(alloc: Global, mut input: Source) -> (Result<(), TextFault>, bool, u32) {
-    let mut written = Vec::new(alloc);
-    let done = state_text(alloc, Profile::Ten, &mut input, &mut written, TURNS);
-    (done, written.is_empty(), input.calls())
+fn text<R: Read, W: Write>(alloc: Global, input: &mut R, output: &mut W) -> Result<(), TextFault> {
+    state_text(alloc, Profile::Ten, input, output, TURNS)
 }
 
 #[test]
 fn decks_that_are_refused(rt: HostRuntime) {
-    for (deck, line, code) in REFUSED {
-        let ended = from(rt.alloc(), Source::new(deck.as_bytes(), 1, None));
-        let fault = TextFault::Deck(DeckFault { line, code });
-        // Each byte of the deck, and its end, once.
-        let calls = deck.len() as u32 + 1;
-        assert_eq!(rt; ended, (Err(fault), true, calls), "{deck}");
-    }
+    let wrong = wrong_refusal(
+        rt.alloc(),
+        |input, output| match text(rt.alloc(), input, output) {
+            Err(TextFault::Deck(fault)) => Some((fault.line, fault.code as u8)),
+            _ => None,
+        },
+    );
+    assert_eq!(rt; wrong, None);
 }
 
 #[test]
 fn readers_that_fail(rt: HostRuntime) {
-    for length in 0..=DECK.len() {
-        let front = DECK.as_bytes().get(..length).unwrap_or(&[]);
-        let input = Source::new(front, 1, Some(ErrorKind::Interrupted));
-        let ended = from(rt.alloc(), input);
-        let calls = length as u32 + 1;
-        assert_eq!(rt; ended, (Err(TextFault::Read), true, calls), "{length}");
-    }
-}
-
-/// How a text ends onto a writer, whether it took so much of the text and nothing else, and how often
-/// it failed.
-fn onto(alloc: Global, mut output: Sink, room: usize) -> (Result<(), TextFault>, bool, u32) {
-    let mut input = DECK.as_bytes();
-    let done = state_text(alloc, Profile::Ten, &mut input, &mut output, TURNS);
-    let is_front = Some(output.taken()) == STATE.as_bytes().get(..room);
-    (done, is_front, output.failures())
+    let wrong = wrong_reading(rt.alloc(), DECK, |input, output| {
+        text(rt.alloc(), input, output) == Err(TextFault::Read)
+    });
+    assert_eq!(rt; wrong, None);
 }
 
 #[test]
 fn writers_that_fail(rt: HostRuntime) {
-    for room in 0..STATE.len() {
-        let output = Sink::new(rt.alloc(), room, 7, Failure::TakesNothing);
-        let ended = onto(rt.alloc(), output, room);
-        assert_eq!(rt; ended, (Err(TextFault::Write), true, 1), "{room}");
-    }
-    let output = Sink::new(rt.alloc(), 1000, 7, Failure::Flush);
-    let ended = onto(rt.alloc(), output, STATE.len());
-    assert_eq!(rt; ended, (Err(TextFault::Write), true, 1));
+    let wrong = wrong_writing(
+        rt.alloc(),
+        STATE.as_bytes(),
+        Failure::TakesNothing,
+        |output| { text(rt.alloc(), &mut DECK.as_bytes(), output) == Err(TextFault::Write) },
+    );
+    assert_eq!(rt; wrong, None);
 }

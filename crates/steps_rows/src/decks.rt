@@ -1,24 +1,19 @@
 //! The steps of runs of decks, worked out by an independent program.
 
-use pp_deck::{Deck, read_deck};
+use pp_deck::read_deck;
 use pp_machine::{PROCESSORS, PpNo, Profile};
 use pp_steps::write_steps;
 use std::alloc::Global;
 use std::test::Fail;
+use test_bench::{
+    BLOCK_FROM_CENTRAL, DEAD_START, LOST_WORD, PLACE_AND_INDEX, SENT_PROGRAM, SHORT_BLOCK,
+};
 
 /// Turns (decimal), a deck, and the steps of its run.
 const STEPS: [(u32, &str, &str); 6] = [
     (
         50,
-        "\
-CENTRAL 7
-CM 5 00010002000300040005 00060007001000110012
-PP 0
-0000 0002
-0100 1405 6100 0300
-0103 6060 0300
-START 0100
-",
+        BLOCK_FROM_CENTRAL,
         "\
 000000 PP00 0100 1405       LDN 05        A=000005
 000010 PP00 0101 6100 0300  CRM 0300,00   A=000005 (0000)=0102
@@ -29,13 +24,7 @@ START 0100
     ),
     (
         90,
-        "\
-DEAD
-PP 0
-0100 1403 7301 0200 6601 0103 7501 0300
-0200 0000 1405 0300
-START 0100
-",
+        DEAD_START,
         "\
 000000 PP00 0100 1403       LDN 03        A=000003
 000010 PP00 0101 7301 0200  OAM 0200,01   A=000003 (0000)=0102
@@ -49,16 +38,7 @@ START 0100
     ),
     (
         40,
-        "\
-PP 0
-0001 0001
-7777 0042
-0100 5001 7777
-0102 5100 7777
-0104 0200 0177
-0200 0300
-START 0100
-",
+        PLACE_AND_INDEX,
         "\
 000000 PP00 0100 5001 7777  LDM 7777,01   A=000001
 000010 PP00 0102 5100 7777  ADM 7777      A=000043
@@ -68,17 +48,7 @@ START 0100
     ),
     (
         60,
-        "\
-PP 0
-0100 7405 1401 7205 1402 7205
-0105 6605 0105
-0107 7505 0300
-START 0100
-PP 1
-0200 1405 7105 0300 0300
-0300 7777 7777 7777
-START 0200
-",
+        SHORT_BLOCK,
         "\
 000000 PP00 0100 7405       ACN 05        A=000000 CH05 ACN
 000001 PP01 0200 1405       LDN 05        A=000005
@@ -96,32 +66,7 @@ START 0200
     ),
     (
         900,
-        "\
-PP 0
-0051 0012
-0100 7403
-0101 5050 0200
-0103 7203
-0104 3650 3251
-0106 0572
-0107 6603 0107
-0111 7503 0300
-START 0100
-0200 1412 3460
-0202 1400 3461
-0204 3060 3561
-0206 3760 0574
-0210 3061 0300
-PP 1
-0100 6503 0100
-0102 6603 0107
-0104 6503 0114
-0106 0373
-0107 7003 5450 0200
-0112 3650 0366
-0114 0100 0200
-START 0100
-",
+        SENT_PROGRAM,
         "\
 000000 PP00 0100 7403       ACN 03        A=000000 CH03 ACN
 000001 PP01 0100 6503 0100  IJM 0100,03   A=000000 CH03 ACTIVE EMPTY
@@ -292,17 +237,6 @@ START 0100
     ),
 ];
 
-/// A disconnect loses a word.
-const LOST_WORD: &str = "\
-PP 0
-0100 7405 1407 7205 7505
-0104 7405 1403 7205 0300
-START 0100
-PP 1
-0200 2400 2400 2400 7005 0300
-START 0200
-";
-
 /// Two processors and a channel that a machine of ten has not, in 90 turns: 31 is held twice.
 const ON_TWENTY: (&str, &str) = (
     "\
@@ -352,10 +286,6 @@ const FROM: [(u32, &str); 4] = [
     (72, ""),
 ];
 
-fn deck_of(alloc: Global, profile: Profile, text: &str) -> Result<Deck<Global>, Fail> {
-    read_deck(alloc, profile, text.as_bytes()).map_err(|_| "a deck without faults".into())
-}
-
 /// The steps of a deck from a turn on, of the processors that it names or of one of them.
 fn steps_of(
     alloc: Global,
@@ -365,7 +295,7 @@ fn steps_of(
     only: Option<PpNo>,
     from: u32,
 ) -> Result<Vec<u8>, Fail> {
-    let deck = deck_of(alloc, profile, text)?;
+    let deck = read_deck(alloc, profile, text.as_bytes())?;
     let mut named = deck.named;
     if let Some(n) = only {
         named = [false; PROCESSORS];

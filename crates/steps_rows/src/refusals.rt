@@ -1,6 +1,6 @@
 //! Steps whose growths are refused, or whose writer gives up.
 
-use pp_deck::{Deck, read_deck};
+use pp_deck::{Deck, DeckFault, read_deck};
 use pp_machine::Profile;
 use pp_sim::{TextFault, steps_text};
 use pp_steps::write_steps;
@@ -32,38 +32,23 @@ pub(crate) const STEPS: &str = "\
 
 pub(crate) const TURNS: u32 = 100;
 
-fn deck_over(heap: &Rationed<Global>) -> Result<Deck<&Rationed<Global>>, Fail> {
-    read_deck(heap, Profile::Ten, DECK.as_bytes()).map_err(|_| "a deck without faults".into())
-}
-
-/// How the steps end with this request refused, and what was written.
-fn steps_at(
-    alloc: Global,
-    heap: &Rationed<Global>,
-    number: u64,
-) -> Result<(Result<(), ReportFault>, Vec<u8>), Fail> {
-    let deck = deck_over(heap)?;
-    let mut written = Vec::new(alloc);
-    heap.refuse(number);
-    let done = write_steps(heap, &mut written, &deck.machine, &deck.named, TURNS, 0);
-    heap.refuse(0);
-    Ok((done, written))
+fn deck_over(heap: &Rationed<Global>) -> Result<Deck<&Rationed<Global>>, DeckFault> {
+    read_deck(heap, Profile::Ten, DECK.as_bytes())
 }
 
 #[test]
 fn steps_refused(rt: HostRuntime) -> Result<(), Fail> {
     let heap = Rationed::new(rt.alloc());
-    for number in 1..50u64 {
-        let (done, written) = steps_at(rt.alloc(), &heap, number)?;
-        if done.is_ok() {
-            assert!(rt; written.as_slice() == STEPS.as_bytes());
-            assert!(rt; number > 4, "counts, and three machines");
-            return Ok(());
+    let deck = deck_over(&heap)?;
+    let last = heap.refuse_each(|_| {
+        let mut written = Vec::new(rt.alloc());
+        match write_steps(&heap, &mut written, &deck.machine, &deck.named, TURNS, 0) {
+            Err(ReportFault::Memory) if written.is_empty() => None,
+            done => Some(done.is_ok() && written.as_slice() == STEPS.as_bytes()),
         }
-        assert_eq!(rt; done.err(), Some(ReportFault::Memory));
-        assert!(rt; written.is_empty(), "request {number}");
-    }
-    panic!(rt; "a request is refused in each run")
+    })?;
+    assert!(rt; last > 4, "counts, and three machines");
+    Ok(())
 }
 
 #[test]
@@ -77,41 +62,30 @@ fn steps_that_no_one_takes(rt: HostRuntime) -> Result<(), Fail> {
     Ok(())
 }
 
-/// How the steps of a deck that is read end with this request refused, and whether all of them were
-/// written, or nothing.
-fn text_at(
-    rt: &impl AllocGlobal,
-    heap: &Rationed<Global>,
-    number: u64,
-) -> (Result<(), TextFault>, bool, bool) {
-    heap.refuse(number);
-    let mut written = Vec::new(rt.alloc());
-    let mut input = DECK.as_bytes();
-    let done = steps_text(heap, Profile::Ten, &mut input, &mut written, TURNS, None, 0);
-    let is_whole = written.as_slice() == STEPS.as_bytes();
-    (done, is_whole, written.is_empty())
-}
-
 #[test]
-fn steps_text_refused(rt: HostRuntime) {
+fn steps_text_refused(rt: HostRuntime) -> Result<(), Fail> {
     let heap = Rationed::new(rt.alloc());
-    for number in 1..100u64 {
-        let ended = text_at(&rt, &heap, number);
-        if !heap.has_refused() {
-            assert_eq!(rt; ended, (Ok(()), true, false));
-            assert!(rt;
-                number > 6,
-                "bytes, a machine, counts and three more machines"
-            );
-            return;
+    let last = heap.refuse_each(|_| {
+        let mut written = Vec::new(rt.alloc());
+        let mut input = DECK.as_bytes();
+        match steps_text(
+            &heap,
+            Profile::Ten,
+            &mut input,
+            &mut written,
+            TURNS,
+            None,
+            0,
+        ) {
+            Err(TextFault::Memory) if written.is_empty() => None,
+            done => Some(done.is_ok() && written.as_slice() == STEPS.as_bytes()),
         }
-        assert_eq!(rt;
-            ended,
-            (Err(TextFault::Memory), false, true),
-            "request {number}"
-        );
-    }
-    panic!(rt; "a request is refused in each run")
+    })?;
+    assert!(rt;
+        last > 6,
+        "bytes, a machine, counts and three more machines"
+    );
+    Ok(())
 }
 
 /// A loop that no channel holds.
@@ -123,16 +97,13 @@ START 0100
 
 /// How many requests the steps of this loop make in so many turns, and one more.
 fn requests_in(alloc: Global, heap: &Rationed<Global>, turns: u32) -> Result<u64, Fail> {
-    for number in 1..50u64 {
-        heap.refuse(number);
+    let last = heap.refuse_each(|_| {
         let mut written = Vec::new(alloc);
         let mut input = LOOP.as_bytes();
-        let done = steps_text(heap, Profile::Ten, &mut input, &mut written, turns, None, 0);
-        if done.is_ok() && !heap.has_refused() {
-            return Ok(number);
-        }
-    }
-    Err("a request is refused in each run".into())
+        steps_text(heap, Profile::Ten, &mut input, &mut written, turns, None, 0).ok()?;
+        Some(true)
+    })?;
+    Ok(last)
 }
 
 #[test]

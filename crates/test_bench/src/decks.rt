@@ -36,8 +36,8 @@ CH05 ACTIVE EMPTY
 /// The command line of that run.
 pub const WORDS_OF_TWENTY: [&str; 6] = ["ppsim", "barrel", "--turns", "80", "--processors", "20"];
 
-/// A deck in which processor 0 sends a block of four words over channel 5. Processor 1 waits until the
-/// channel is active, takes three of them by a block and the fourth too, and disconnects.
+/// A deck in which processor 0 sends a block of four words over channel 5. Processor 1 waits until
+/// the channel is active, takes three of them by a block and the fourth too, and disconnects.
 pub const BLOCK: &str = "\
 PP 0
 0100 7405 1404 7305 0200 0300

@@ -2,7 +2,8 @@
 
 use pp_channel::Event;
 
-/// Whether a history has idle stretches and sessions alone, in which each word is put and then taken.
+/// Whether a history has idle stretches and sessions alone, in which each word is put and then
+/// taken.
 pub fn is_lawful(events: &[Event]) -> bool {
     let mut active = false;
     let mut untaken = None;

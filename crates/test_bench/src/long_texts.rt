@@ -10,8 +10,8 @@ PP 0
 START 0100
 ";
 
-/// The text of that deck in the barrel, after this many sessions of three rounds of ten turns: 42 bytes
-/// for each, and 43.
+/// The text of that deck in the barrel, after this many sessions of three rounds of ten turns: 42
+/// bytes for each, and 43.
 pub fn text_of_sessions(alloc: Global, sessions: u32) -> Result<String, AllocError> {
     let mut text = String::new(alloc);
     for session in 0..sessions {

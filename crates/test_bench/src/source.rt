@@ -2,8 +2,8 @@
 
 use std::io::{self, ErrorKind, Read};
 
-/// Gives a text in pieces, and then nothing but errors, which it counts; or the end of the text, where
-/// it has no error to give.
+/// Gives a text in pieces, and then nothing but errors, which it counts; or the end of the text,
+/// where it has no error to give.
 #[derive(Drop)]
 pub struct Source<'a> {
     left: &'a [u8],

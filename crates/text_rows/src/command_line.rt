@@ -99,8 +99,8 @@ fn words_of_a_run(rt: HostRuntime) {
     }
 }
 
-/// Options of `steps` behind `--turns 40`, and the processor (octal) and the turn that they give, if
-/// they are taken.
+/// Options of `steps` behind `--turns 40`, and the processor (octal) and the turn that they give,
+/// if they are taken.
 const SHOWN: [(&[&str], Option<(Option<u8>, u32)>); 15] = [
     (&[], Some((None, 0))),
     (&["--pp", "0"], Some((Some(0), 0))),

@@ -30,8 +30,8 @@ fn words_in(alloc: Global, help: &str) -> Result<Vec<&str>, Fail> {
     Ok(words)
 }
 
-/// The deck or trace in an example: the lines behind the one that tells of them, without the blanks in
-/// front.
+/// The deck or trace in an example: the lines behind the one that tells of them, without the blanks
+/// in front.
 fn deck_in(alloc: Global, help: &str) -> Result<Vec<u8>, Fail> {
     let (_, lines) = help.split_once("has the lines\n").ok_or("no deck")?;
     let mut deck = Vec::new(alloc);

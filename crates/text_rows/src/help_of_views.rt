@@ -1,6 +1,11 @@
 //! The help of the commands that list a deck, or run it and print what it did and how things stand.
 
-pub(crate) const LIST: &str = "\
+use crate::command_help::{CommandHelp, FOUR_LINES, HANDOFF_LINES, PROCESSORS, TURNS};
+
+pub(crate) const LIST: CommandHelp = CommandHelp {
+    name: "list",
+    about: "Prints the listing of a deck, one instruction a line, which is itself a deck",
+    long_about: "\
 Prints the listing of a deck: the words of each processor that are not 0, one instruction a line,
 with its mnemonic and operands behind it as a comment. Nothing is run.
 
@@ -10,42 +15,17 @@ deck names. What goes wrong is one line on standard error.
 
 The listing is itself a deck, and loads the same machine, where it is no longer than a deck may be,
 1048576 bytes (decimal).
+",
+    usage: "",
+    options: &[PROCESSORS],
+    example: "< four.deck",
+    lines: FOUR_LINES,
+};
 
-Usage: ppsim list [OPTIONS]
-
-Options:
-      --processors <N>
-          How many processors the machine has, 10 or 20 (decimal); 10 if not given
-
-  -h, --help
-          Print help (see a summary with '-h')
-
-Example:
-  ppsim list < four.deck
-where four.deck has the lines
-  PP 0
-  0100 1405 1603 3450 0300
-  START 0100
-";
-
-pub(crate) const LIST_IN_SHORT: &str = "\
-Prints the listing of a deck, one instruction a line, which is itself a deck
-
-Usage: ppsim list [OPTIONS]
-
-Options:
-      --processors <N>  How many processors the machine has, 10 or 20 (decimal); 10 if not given
-  -h, --help            Print help (see more with '--help')
-
-Example:
-  ppsim list < four.deck
-where four.deck has the lines
-  PP 0
-  0100 1405 1603 3450 0300
-  START 0100
-";
-
-pub(crate) const DUMP: &str = "\
+pub(crate) const DUMP: CommandHelp = CommandHelp {
+    name: "dump",
+    about: "Runs a deck in the barrel, and prints a deck to go on from",
+    long_about: "\
 Runs a deck in the barrel, and prints what is in the machine then, in the form of a listing: central
 memory, and the words of each processor that the deck names or that was loaded at dead start. Those
 that are running start where they are; the others keep their memory alone.
@@ -54,46 +34,17 @@ Reads the deck from standard input. What is printed to standard output is a deck
 where it is no longer than a deck may be, 1048576 bytes (decimal): histories and turns are gone.
 Where a processor is within a block or at fault, or a channel is active, nothing is printed, and the
 first of these is told on standard error. Any other fault is one line there too.
+",
+    usage: " --turns <N>",
+    options: &[TURNS, PROCESSORS],
+    example: "--turns 40 < four.deck",
+    lines: FOUR_LINES,
+};
 
-Usage: ppsim dump [OPTIONS] --turns <N>
-
-Options:
-      --turns <N>
-          How many turns to run, 0 to 999999 (decimal)
-
-      --processors <N>
-          How many processors the machine has, 10 or 20 (decimal); 10 if not given
-
-  -h, --help
-          Print help (see a summary with '-h')
-
-Example:
-  ppsim dump --turns 40 < four.deck
-where four.deck has the lines
-  PP 0
-  0100 1405 1603 3450 0300
-  START 0100
-";
-
-pub(crate) const DUMP_IN_SHORT: &str = "\
-Runs a deck in the barrel, and prints a deck to go on from
-
-Usage: ppsim dump [OPTIONS] --turns <N>
-
-Options:
-      --turns <N>       How many turns to run, 0 to 999999 (decimal)
-      --processors <N>  How many processors the machine has, 10 or 20 (decimal); 10 if not given
-  -h, --help            Print help (see more with '--help')
-
-Example:
-  ppsim dump --turns 40 < four.deck
-where four.deck has the lines
-  PP 0
-  0100 1405 1603 3450 0300
-  START 0100
-";
-
-pub(crate) const STEPS: &str = "\
+pub(crate) const STEPS: CommandHelp = CommandHelp {
+    name: "steps",
+    about: "Runs a deck in the barrel, and prints each step",
+    long_about: "\
 Runs a deck in the barrel, and prints each step: what the instruction is, and what it did.
 
 Reads the deck from standard input. Prints to standard output a line for each step of the processors
@@ -105,54 +56,25 @@ flags, and how many there are. What goes wrong is one line on standard error.
 
 FAULT 1 is an exchange jump, FAULT 2 a request to the central processor, FAULT 3 a channel that the
 machine does not have, and FAULT 4 an address past the end of central memory.
+",
+    usage: " --turns <N>",
+    options: &[
+        TURNS,
+        ("--pp <N>", "Print the steps of this processor only (octal)"),
+        (
+            "--from <N>",
+            "The first turn to print (0 if not given), 0 to 999999 (decimal)",
+        ),
+        PROCESSORS,
+    ],
+    example: "--turns 40 --pp 0 < four.deck",
+    lines: FOUR_LINES,
+};
 
-Usage: ppsim steps [OPTIONS] --turns <N>
-
-Options:
-      --turns <N>
-          How many turns to run, 0 to 999999 (decimal)
-
-      --pp <N>
-          Print the steps of this processor only (octal)
-
-      --from <N>
-          The first turn to print (0 if not given), 0 to 999999 (decimal)
-
-      --processors <N>
-          How many processors the machine has, 10 or 20 (decimal); 10 if not given
-
-  -h, --help
-          Print help (see a summary with '-h')
-
-Example:
-  ppsim steps --turns 40 --pp 0 < four.deck
-where four.deck has the lines
-  PP 0
-  0100 1405 1603 3450 0300
-  START 0100
-";
-
-pub(crate) const STEPS_IN_SHORT: &str = "\
-Runs a deck in the barrel, and prints each step
-
-Usage: ppsim steps [OPTIONS] --turns <N>
-
-Options:
-      --turns <N>       How many turns to run, 0 to 999999 (decimal)
-      --pp <N>          Print the steps of this processor only (octal)
-      --from <N>        The first turn to print (0 if not given), 0 to 999999 (decimal)
-      --processors <N>  How many processors the machine has, 10 or 20 (decimal); 10 if not given
-  -h, --help            Print help (see more with '--help')
-
-Example:
-  ppsim steps --turns 40 --pp 0 < four.deck
-where four.deck has the lines
-  PP 0
-  0100 1405 1603 3450 0300
-  START 0100
-";
-
-pub(crate) const STATE: &str = "\
+pub(crate) const STATE: CommandHelp = CommandHelp {
+    name: "state",
+    about: "Runs a deck in the barrel, and prints how things stand then",
+    long_about: "\
 Runs a deck in the barrel, and prints how things stand then: where each processor is and what holds
 it, what the run has changed in the memories, and the state of the channels.
 
@@ -164,46 +86,17 @@ state of each channel that has a history. What goes wrong is one line on standar
 
 FAULT 1 is an exchange jump, FAULT 2 a request to the central processor, FAULT 3 a channel that the
 machine does not have, and FAULT 4 an address past the end of central memory.
+",
+    usage: " --turns <N>",
+    options: &[TURNS, PROCESSORS],
+    example: "--turns 40 < four.deck",
+    lines: FOUR_LINES,
+};
 
-Usage: ppsim state [OPTIONS] --turns <N>
-
-Options:
-      --turns <N>
-          How many turns to run, 0 to 999999 (decimal)
-
-      --processors <N>
-          How many processors the machine has, 10 or 20 (decimal); 10 if not given
-
-  -h, --help
-          Print help (see a summary with '-h')
-
-Example:
-  ppsim state --turns 40 < four.deck
-where four.deck has the lines
-  PP 0
-  0100 1405 1603 3450 0300
-  START 0100
-";
-
-pub(crate) const STATE_IN_SHORT: &str = "\
-Runs a deck in the barrel, and prints how things stand then
-
-Usage: ppsim state [OPTIONS] --turns <N>
-
-Options:
-      --turns <N>       How many turns to run, 0 to 999999 (decimal)
-      --processors <N>  How many processors the machine has, 10 or 20 (decimal); 10 if not given
-  -h, --help            Print help (see more with '--help')
-
-Example:
-  ppsim state --turns 40 < four.deck
-where four.deck has the lines
-  PP 0
-  0100 1405 1603 3450 0300
-  START 0100
-";
-
-pub(crate) const SESSIONS: &str = "\
+pub(crate) const SESSIONS: CommandHelp = CommandHelp {
+    name: "sessions",
+    about: "Runs a deck in the barrel, and prints the sessions of its channels",
+    long_about: "\
 Runs a deck in the barrel, and prints the sessions of its channels, each from an activate to the
 disconnect after it.
 
@@ -214,52 +107,17 @@ put and not taken, which was LOST by the disconnect or is WAITING; and a line fo
 with function codes. Then, for each processor that the deck names, how many of its turns MOVED it,
 were HELD, and found it at REST. Turns and counts are decimal, words octal. What goes wrong is one
 line on standard error.
+",
+    usage: " --turns <N>",
+    options: &[TURNS, PROCESSORS],
+    example: "--turns 40 < handoff.deck",
+    lines: HANDOFF_LINES,
+};
 
-Usage: ppsim sessions [OPTIONS] --turns <N>
-
-Options:
-      --turns <N>
-          How many turns to run, 0 to 999999 (decimal)
-
-      --processors <N>
-          How many processors the machine has, 10 or 20 (decimal); 10 if not given
-
-  -h, --help
-          Print help (see a summary with '-h')
-
-Example:
-  ppsim sessions --turns 40 < handoff.deck
-where handoff.deck has the lines
-  PP 0
-  0100 7405 1407 7205 0300
-  START 0100
-  PP 1
-  0200 7005 0300
-  START 0200
-";
-
-pub(crate) const SESSIONS_IN_SHORT: &str = "\
-Runs a deck in the barrel, and prints the sessions of its channels
-
-Usage: ppsim sessions [OPTIONS] --turns <N>
-
-Options:
-      --turns <N>       How many turns to run, 0 to 999999 (decimal)
-      --processors <N>  How many processors the machine has, 10 or 20 (decimal); 10 if not given
-  -h, --help            Print help (see more with '--help')
-
-Example:
-  ppsim sessions --turns 40 < handoff.deck
-where handoff.deck has the lines
-  PP 0
-  0100 7405 1407 7205 0300
-  START 0100
-  PP 1
-  0200 7005 0300
-  START 0200
-";
-
-pub(crate) const DRAW: &str = "\
+pub(crate) const DRAW: CommandHelp = CommandHelp {
+    name: "draw",
+    about: "Runs a deck in the barrel, and draws what happened",
+    long_about: "\
 Runs a deck in the barrel, and draws what happened, as an SVG for a browser.
 
 Reads the deck from standard input. Prints to standard output a picture with a lane for each channel
@@ -270,55 +128,20 @@ line on standard error.
 
 A picture has at most 2000 turns. Of a longer run, give the first turn to draw and the one before
 which the picture ends: --turns 999999 --from 5000 --to 6000.
-
-Usage: ppsim draw [OPTIONS] --turns <N>
-
-Options:
-      --turns <N>
-          How many turns to run, 0 to 999999 (decimal)
-
-      --from <N>
-          The first turn to draw (0 if not given), 0 to 999999 (decimal)
-
-      --to <N>
-          The turn to end before (that of --turns if not given), 0 to 999999 (decimal)
-
-      --processors <N>
-          How many processors the machine has, 10 or 20 (decimal); 10 if not given
-
-  -h, --help
-          Print help (see a summary with '-h')
-
-Example:
-  ppsim draw --turns 40 < handoff.deck
-where handoff.deck has the lines
-  PP 0
-  0100 7405 1407 7205 0300
-  START 0100
-  PP 1
-  0200 7005 0300
-  START 0200
-";
-
-pub(crate) const DRAW_IN_SHORT: &str = "\
-Runs a deck in the barrel, and draws what happened
-
-Usage: ppsim draw [OPTIONS] --turns <N>
-
-Options:
-      --turns <N>       How many turns to run, 0 to 999999 (decimal)
-      --from <N>        The first turn to draw (0 if not given), 0 to 999999 (decimal)
-      --to <N>          The turn to end before (that of --turns if not given), 0 to 999999 (decimal)
-      --processors <N>  How many processors the machine has, 10 or 20 (decimal); 10 if not given
-  -h, --help            Print help (see more with '--help')
-
-Example:
-  ppsim draw --turns 40 < handoff.deck
-where handoff.deck has the lines
-  PP 0
-  0100 7405 1407 7205 0300
-  START 0100
-  PP 1
-  0200 7005 0300
-  START 0200
-";
+",
+    usage: " --turns <N>",
+    options: &[
+        TURNS,
+        (
+            "--from <N>",
+            "The first turn to draw (0 if not given), 0 to 999999 (decimal)",
+        ),
+        (
+            "--to <N>",
+            "The turn to end before (that of --turns if not given), 0 to 999999 (decimal)",
+        ),
+        PROCESSORS,
+    ],
+    example: "--turns 40 < handoff.deck",
+    lines: HANDOFF_LINES,
+};

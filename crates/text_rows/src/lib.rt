@@ -1,9 +1,11 @@
-//! What the program prints: texts of runs and of faults, the command line, statuses and the standard
-//! error, worked by hand.
+//! What the program prints: texts of runs and of faults, the command line, statuses and the
+//! standard error, worked by hand.
 #![tactic(auto)]
 
 #[cfg(test)]
 mod checks;
+#[cfg(test)]
+mod command_help;
 #[cfg(test)]
 mod command_line;
 #[cfg(test)]

@@ -9,8 +9,8 @@ use test_bench::{
     WORDS_OF_TWENTY,
 };
 
-/// What came of a run: its status, whether its output and its standard error are as they have to be,
-/// and how often it asked the reader.
+/// What came of a run: its status, whether its output and its standard error are as they have to
+/// be, and how often it asked the reader.
 pub(crate) type Ending = (u8, bool, bool, u32);
 
 /// Runs the program on a deck that comes byte by byte, and then ends or gives an error.

@@ -59,7 +59,8 @@ fn gate_together(rt: HostRuntime) -> Result<(), Fail> {
     Ok(())
 }
 
-/// At turn 0 each processor sets a flag, and waits until the flags of all processors of the profile are set.
+/// At turn 0 each processor sets a flag, and waits until the flags of all processors of the profile
+/// are set.
 #[derive(Drop)]
 struct MeetingOfAll {
     profile: Profile,

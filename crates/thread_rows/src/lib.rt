@@ -1,4 +1,5 @@
-//! What runs in threads: channels behind locks, lines, runs with one thread per processor and their texts.
+//! What runs in threads: channels behind locks, lines, runs with one thread per processor and their
+//! texts.
 #![tactic(auto)]
 
 #[cfg(test)]

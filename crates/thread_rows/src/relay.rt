@@ -18,8 +18,8 @@ fn on_channel_of(code: u16, n: PpNo) -> u16 {
     code | u16::from(n.get())
 }
 
-/// The first processor loads the word, and each other takes it from the channel of its own number. All but
-/// the last activate the channel of the next one, put it there and stop.
+/// The first processor loads the word, and each other takes it from the channel of its own number.
+/// All but the last activate the channel of the next one, put it there and stop.
 fn relay(alloc: Global, profile: Profile) -> Result<Machine<Global>, Fail>
     ensures { IfOk result (λ machine. machine.trace ≡ []) }
 {
@@ -42,7 +42,8 @@ fn relay(alloc: Global, profile: Profile) -> Result<Machine<Global>, Fail>
     quiet(machine)
 }
 
-/// The numbers of the channels by which the word comes to each processor, and of those that nobody uses.
+/// The numbers of the channels by which the word comes to each processor, and of those that nobody
+/// uses.
 const CHANNELS_OF_RELAYS: [(Profile, &[u8], &[u8]); 2] = [
     (
         Profile::Ten,

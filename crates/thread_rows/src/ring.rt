@@ -6,8 +6,8 @@ use pp_runner::{End, Limits, NoGate, run_threads};
 use std::test::Fail;
 use test_bench::is_lawful;
 
-/// Each processor activates the channel of its own number. Then again and again it puts a word on the
-/// next channel, takes one from its own and adds one to it.
+/// Each processor activates the channel of its own number. Then again and again it puts a word on
+/// the next channel, takes one from its own and adds one to it.
 const RING: &str = "\
 PP 0
 0100 7400 7201 7000 1601 0374

@@ -68,8 +68,8 @@ pub(crate) fn block_history() -> [Event; 10] {
     ]
 }
 
-/// PP 0 puts a program of three words on channel 1, for which PP 1 waits, and disconnects it; the other
-/// processors rest.
+/// PP 0 puts a program of three words on channel 1, for which PP 1 waits, and disconnects it; the
+/// other processors rest.
 fn sent(alloc: Global, profile: Profile) -> Result<Machine<Global>, Fail>
     ensures { IfOk result (λ machine. machine.trace ≡ []) }
 {
@@ -81,8 +81,8 @@ fn sent(alloc: Global, profile: Profile) -> Result<Machine<Global>, Fail>
     Ok(machine)
 }
 
-/// Whether a history of channel 1 is one that this machine may leave: all words are put and taken, but
-/// for the last, which the disconnect may lose.
+/// Whether a history of channel 1 is one that this machine may leave: all words are put and taken,
+/// but for the last, which the disconnect may lose.
 fn is_sent(history: &[Event]) -> bool {
     let passed = [
         Event::Activate,
@@ -154,7 +154,8 @@ fn nobody_sends(rt: HostRuntime) -> Result<(), Fail> {
     Ok(())
 }
 
-/// PP 0 loads 7 and adds 1 before it puts the sum on channel 5; PP 1 passes twice before it takes it.
+/// PP 0 loads 7 and adds 1 before it puts the sum on channel 5; PP 1 passes twice before it takes
+/// it.
 const SLOW_HANDOFF: &str = "\
 PP 0
 0100 1407 1601 7405 7205 0300

@@ -10,8 +10,8 @@ use crate::channel::Channel;
 use crate::channel_no::{CHANNELS, ChannelNo};
 use crate::entry::Entry;
 use crate::memory::Memory;
+use crate::recorded_history::recorded_channels;
 use crate::shared_words::SharedWords;
-use crate::told_history::told_channels;
 use std::alloc::Allocator;
 
 /// What lines that were closed together leave.
@@ -26,7 +26,8 @@ pub struct Closed<A: Allocator> {
 impl<A: Allocator + Copy> Line<A> {
     /// The channels of this line and others of its family, which hold every share between them:
     /// their histories are the events of all logs, each at its number. The logs of the others come
-    /// back, and no log is copied. It makes a load for each line; after `Memory` the lines are gone.
+    /// back, and no log is copied. It makes a load for each line; after `Memory` the lines are
+    /// gone.
     pub fn close_with(self, others: Vec<Line<A>, A>) -> Result<Closed<A>, Memory>
         requires { HoldEveryShare self others.items }
         ensures channels { IfOk result (λ closed.
@@ -50,7 +51,7 @@ impl<A: Allocator + Copy> Line<A> {
             logs.push(log)?;
         }
         words.weigh(ChannelNo::at(0));
-        let channels = told_channels(alloc, log.entries(), logs.as_slice(), &seen)?;
+        let channels = recorded_channels(alloc, log.entries(), logs.as_slice(), &seen)?;
         Ok(Closed { logs, channels })
     }
 }

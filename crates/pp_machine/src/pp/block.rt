@@ -3,14 +3,14 @@
 ghost use Rattle.std.specs.Prelude.{◌≡◌, ◌-◌, ◌<◌, Some};
 ghost use Rattle.pp_word.specs.Address.{next_place};
 ghost use Rattle.pp_word.specs.OnesComplement.{sum};
-ghost use Rattle.pp_machine.specs.Blocks.{receives, central_from, ends, starts, counts_down, counts_up, block_word};
+ghost use Rattle.pp_machine.specs.Block.{receives, central_from, ends, starts, counts_down, counts_up, block_word};
 ghost use Rattle.pp_machine.specs.NeedAndEffect.{answered};
 ghost use Rattle.pp_machine.specs.Processor.{HasWordsLeft};
 
 use crate::answer::Answer;
 use crate::block::{Block, BlockKind};
 use crate::pp::Pp;
-use crate::pp_state::PpState;
+use crate::pp_state::{PAST_CENTRAL_MEMORY, PpState};
 use pp_channel::{ChannelNo, Reply};
 use pp_word::{Word12, Word18, Word60, add18, join60, next, split60, sub18};
 
@@ -37,12 +37,12 @@ fn one_more(a: Word18) -> Word18
 const LAST_OF_FIVE: u16 = 0o7773;
 
 /// The place after one that is not the last.
-fn place_behind(place: Word12) -> Word12
+fn following_place(place: Word12) -> Word12
     requires { place < 0o7777 }
     ensures { result ≡ next_place place }
 {
     match Word12::new(place.get() + 1) {
-        Some(behind) => behind,
+        Some(following) => following,
         None => place,
     }
 }
@@ -57,13 +57,13 @@ impl Pp {
         }
         let [first, second, third, fourth, fifth] = split60(central);
         self.set(place, first);
-        let place = place_behind(place);
+        let place = following_place(place);
         self.set(place, second);
-        let place = place_behind(place);
+        let place = following_place(place);
         self.set(place, third);
-        let place = place_behind(place);
+        let place = following_place(place);
         self.set(place, fourth);
-        let place = place_behind(place);
+        let place = following_place(place);
         self.set(place, fifth);
     }
 
@@ -90,15 +90,15 @@ impl Pp {
         if place.get() > LAST_OF_FIVE {
             return self.central_from_round(place);
         }
-        let second = place_behind(place);
-        let third = place_behind(second);
-        let fourth = place_behind(third);
+        let second = following_place(place);
+        let third = following_place(second);
+        let fourth = following_place(third);
         join60(&[
             self.get(place),
             self.get(second),
             self.get(third),
             self.get(fourth),
-            self.get(place_behind(fourth)),
+            self.get(following_place(fourth)),
         ])
     }
 
@@ -202,7 +202,7 @@ impl Pp {
                 let left = one_less(left);
                 self.count_up(left, BlockKind::CentralIn { left }, place);
             }
-            Answer::Read(None) => self.fault(4),
+            Answer::Read(None) => self.fault(PAST_CENTRAL_MEMORY),
             _ => {}
         }
     }
@@ -221,7 +221,7 @@ impl Pp {
                 let left = one_less(left);
                 self.count_up(left, BlockKind::CentralOut { left }, place);
             }
-            Answer::Wrote(false) => self.fault(4),
+            Answer::Wrote(false) => self.fault(PAST_CENTRAL_MEMORY),
             _ => {}
         }
     }
@@ -267,20 +267,6 @@ impl Pp {
                 }
             }
             _ => {}
-        }
-    }
-
-    /// One word of a block, with the answer to its need.
-    pub(super) fn move_word(&mut self, block: Block, answer: Answer)
-        requires running { self.old.state ≡ PpState.Running }
-        requires block { self.old.block ≡ Some block }
-        ensures { self.new ≡ answered (block_word block.kind block.place self.old) self.old answer }
-    {
-        match &block.kind {
-            BlockKind::CentralIn { left } => self.move_central_in(*left, block.place, answer),
-            BlockKind::CentralOut { left } => self.move_central_out(*left, block.place, answer),
-            BlockKind::Input { channel } => self.move_input(*channel, block.place, answer),
-            BlockKind::Output { channel } => self.move_output(*channel, block.place, answer),
         }
     }
 }

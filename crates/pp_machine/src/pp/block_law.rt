@@ -2,7 +2,7 @@
 
 ghost use Rattle.std.specs.Prelude.{◌≡◌};
 ghost use Rattle.pp_machine.specs.Processor.{IsProcessor};
-ghost use Rattle.pp_machine.specs.BlockResults.{WholeInput, ClosedInput, WholeOutput, CutOutput, CentralInput, CentralOutput};
+ghost use Rattle.pp_machine.specs.BlockResults.{CompleteInput, ShortInput, CompleteOutput, ShortOutput, CentralRead, CentralWrite};
 
 use crate::pp::Pp;
 
@@ -12,6 +12,7 @@ impl Pp {
         ensures { IsProcessor self.now }
     {
         self.memory.has_widths();
+        // The calls say to the proof that A has 18 bits and P twelve.
         let _a = self.a.get();
         let _p = self.p.get();
     }
@@ -20,12 +21,12 @@ impl Pp {
 /// The law of block transfers, of each processor: what a whole transfer leaves, without its single
 /// steps.
 pub(crate) fn block_results(pp: &Pp)
-    ensures whole_input { WholeInput pp.now }
-    ensures closed_input { ClosedInput pp.now }
-    ensures whole_output { WholeOutput pp.now }
-    ensures cut_output { CutOutput pp.now }
-    ensures central_input { CentralInput pp.now }
-    ensures central_output { CentralOutput pp.now }
+    ensures complete_input { CompleteInput pp.now }
+    ensures short_input { ShortInput pp.now }
+    ensures complete_output { CompleteOutput pp.now }
+    ensures short_output { ShortOutput pp.now }
+    ensures central_read { CentralRead pp.now }
+    ensures central_write { CentralWrite pp.now }
 {
     pp.has_widths();
 }

@@ -2,7 +2,7 @@
 
 ghost use Rattle.std.specs.Prelude.{◌≡◌, None, IsTrue};
 ghost use Rattle.pp_machine.specs.Processor.{IsFaultNumber};
-ghost use Rattle.pp_machine.specs.Effects.{goes_on, goes_to, faults, jumps_or_stops, jumps_where, branches_where, calls, is_negative, leads_to_itself, loads, loads_word, adds_word, subtracts_word, differs_from_word, stores_word, replaces, replaces_by_sum, replaces_by_one_more, replaces_by_one_less};
+ghost use Rattle.pp_machine.specs.Effect.{goes_on, goes_to, faults, jumps_or_stops, jumps_where, branches_where, calls, is_negative, leads_to_itself, loads, loads_word, adds_word, subtracts_word, differs_from_word, stores_word, replaces, replaces_by_sum, replaces_by_one_more, replaces_by_one_less};
 
 use crate::pp::Pp;
 use crate::pp_state::PpState;
@@ -24,7 +24,7 @@ impl Pp {
     pub(super) fn go_on(&mut self, words: u8)
         ensures { self.new ≡ goes_on self.old words }
     {
-        self.p = self.behind_p(words);
+        self.p = self.place_after_p(words);
     }
 
     /// P becomes a place.
@@ -58,7 +58,7 @@ impl Pp {
     /// A relative jump where a test holds.
     #[inline(always)]
     pub(super) fn jump_where(&mut self, test: bool, d: Word6)
-        ensures { self.new ≡ jumps_where test self.old d }
+        ensures { self.new ≡ jumps_where test self.old d 1 }
     {
         if !test {
             self.go_on(1);
@@ -69,7 +69,7 @@ impl Pp {
 
     /// A long jump to the second word where a test holds.
     pub(super) fn branch_where(&mut self, test: bool)
-        ensures { self.new ≡ branches_where test self.old }
+        ensures { self.new ≡ branches_where test self.old 2 }
     {
         if test {
             self.p = self.second_word();
@@ -80,9 +80,9 @@ impl Pp {
 
     /// RJM.
     pub(super) fn call(&mut self, target: Word12)
-        ensures { self.new ≡ calls self.old target }
+        ensures { self.new ≡ calls self.old target 2 }
     {
-        self.set(target, self.behind_p(2));
+        self.set(target, self.place_after_p(2));
         self.p = next(target);
     }
 
@@ -104,35 +104,35 @@ impl Pp {
 
     /// A becomes the word at a place.
     pub(super) fn load_word(&mut self, place: Word12, words: u8)
-        ensures { self.new ≡ loads_word self.old (record { place = place; words = words }) }
+        ensures { self.new ≡ loads_word self.old place words }
     {
         self.load(Word18::from(self.get(place)), words);
     }
 
     /// The word at a place is added to A.
     pub(super) fn add_word(&mut self, place: Word12, words: u8)
-        ensures { self.new ≡ adds_word self.old (record { place = place; words = words }) }
+        ensures { self.new ≡ adds_word self.old place words }
     {
         self.load(add18(self.a, Word18::from(self.get(place))), words);
     }
 
     /// The word at a place is subtracted from A.
     pub(super) fn subtract_word(&mut self, place: Word12, words: u8)
-        ensures { self.new ≡ subtracts_word self.old (record { place = place; words = words }) }
+        ensures { self.new ≡ subtracts_word self.old place words }
     {
         self.load(sub18(self.a, Word18::from(self.get(place))), words);
     }
 
     /// A becomes its logical difference from the word at a place.
     pub(super) fn differ_from_word(&mut self, place: Word12, words: u8)
-        ensures { self.new ≡ differs_from_word self.old (record { place = place; words = words }) }
+        ensures { self.new ≡ differs_from_word self.old place words }
     {
         self.load(xor18(self.a, Word18::from(self.get(place))), words);
     }
 
     /// The word at a place becomes the low twelve bits of A.
     pub(super) fn store_word(&mut self, place: Word12, words: u8)
-        ensures { self.new ≡ stores_word self.old (record { place = place; words = words }) }
+        ensures { self.new ≡ stores_word self.old place words }
     {
         self.set(place, self.a.low());
         self.go_on(words);
@@ -140,7 +140,7 @@ impl Pp {
 
     /// A becomes a value, and the word at a place its low twelve bits.
     fn replace(&mut self, place: Word12, value: Word18, words: u8)
-        ensures { self.new ≡ replaces self.old (record { place = place; words = words }) value }
+        ensures { self.new ≡ replaces self.old place value words }
     {
         self.set(place, value.low());
         self.load(value, words);
@@ -148,15 +148,14 @@ impl Pp {
 
     /// Replace add.
     pub(super) fn replace_by_sum(&mut self, place: Word12, words: u8)
-        ensures { self.new ≡ replaces_by_sum self.old (record { place = place; words = words }) }
+        ensures { self.new ≡ replaces_by_sum self.old place words }
     {
         self.replace(place, add18(self.a, Word18::from(self.get(place))), words);
     }
 
     /// Replace add one.
     pub(super) fn replace_by_one_more(&mut self, place: Word12, words: u8)
-        ensures { self.new ≡ replaces_by_one_more self.old
-            (record { place = place; words = words }) }
+        ensures { self.new ≡ replaces_by_one_more self.old place words }
     {
         self.replace(
             place,
@@ -167,8 +166,7 @@ impl Pp {
 
     /// Replace subtract one.
     pub(super) fn replace_by_one_less(&mut self, place: Word12, words: u8)
-        ensures { self.new ≡ replaces_by_one_less self.old
-            (record { place = place; words = words }) }
+        ensures { self.new ≡ replaces_by_one_less self.old place words }
     {
         self.replace(
             place,

@@ -1,7 +1,8 @@
 //! Loading and starting a program.
 
-ghost use Rattle.std.specs.Prelude.{◌≡◌, None, slice_set};
+ghost use Rattle.std.specs.Prelude.{◌≡◌, slice_set};
 ghost use Rattle.pp_machine.specs.DeadStart.{waiting_on};
+ghost use Rattle.pp_machine.specs.Processor.{runs_from};
 
 use crate::block::{Block, BlockKind};
 use crate::pp::Pp;
@@ -19,12 +20,7 @@ impl Pp {
 
     /// Starts the program at P = p with A = a, on the memory as it is.
     pub fn start(&mut self, p: Word12, a: Word18)
-        ensures { self.new ≡ record self.old {
-          p = p;
-          a = a;
-          state = PpState.Running;
-          block = None;
-        } }
+        ensures { self.new ≡ runs_from p a self.old }
     {
         self.p = p;
         self.a = a;

@@ -1,7 +1,7 @@
 //! Instructions that need nothing from outside.
 
 ghost use Rattle.std.specs.Prelude.{◌≡◌, IsTrue, None, false, true};
-ghost use Rattle.pp_machine.specs.Direct.{ends, is_inner};
+ghost use Rattle.pp_machine.specs.NextStep.{ends, is_inner};
 ghost use Rattle.pp_machine.specs.InstructionTable.{instruction};
 ghost use Rattle.pp_machine.specs.NeedAndEffect.{answered};
 ghost use Rattle.pp_machine.specs.Replay.{fits};
@@ -10,7 +10,7 @@ ghost use Rattle.pp_machine.specs.Step.{need_of};
 use crate::answer::Answer;
 use crate::block::BlockKind;
 use crate::pp::Pp;
-use crate::pp_state::PpState;
+use crate::pp_state::{EXCHANGE_JUMP, NO_CENTRAL_PROCESSOR, NO_SUCH_CHANNEL, PpState};
 use pp_word::{
     Opcode, Word6, Word12, Word18, add18, and18, clear18, complement18, shift18, sub18, xor18,
 };
@@ -23,7 +23,7 @@ impl Pp {
     {
         match self.channel(d) {
             Some(channel) => self.start_block(self.a.get(), BlockKind::Input { channel }),
-            None => self.fault(3),
+            None => self.fault(NO_SUCH_CHANNEL),
         }
     }
 
@@ -34,7 +34,7 @@ impl Pp {
     {
         match self.channel(d) {
             Some(channel) => self.start_block(self.a.get(), BlockKind::Output { channel }),
-            None => self.fault(3),
+            None => self.fault(NO_SUCH_CHANNEL),
         }
     }
 
@@ -72,8 +72,8 @@ impl Pp {
             Opcode::LMC => self.load(xor18(self.a, self.constant(d)), 2),
             Opcode::PSN24 => self.go_on(1),
             Opcode::PSN25 => self.go_on(1),
-            Opcode::EXN => self.fault(1),
-            Opcode::RPN => self.fault(2),
+            Opcode::EXN => self.fault(EXCHANGE_JUMP),
+            Opcode::RPN => self.fault(NO_CENTRAL_PROCESSOR),
             Opcode::LDD => self.load_word(Word12::from(d), 1),
             Opcode::ADD => self.add_word(Word12::from(d), 1),
             Opcode::SBD => self.subtract_word(Word12::from(d), 1),
@@ -102,18 +102,30 @@ impl Pp {
             Opcode::CRM => self.start_central_in(self.indirect(d)),
             Opcode::CWD => unreachable!(),
             Opcode::CWM => self.start_central_out(self.indirect(d)),
-            Opcode::AJM => self.fault(3),
-            Opcode::IJM => self.fault(3),
-            Opcode::FJM => self.fault(3),
-            Opcode::EJM => self.fault(3),
-            Opcode::IAN => self.fault(3),
+            Opcode::AJM => self.fault(NO_SUCH_CHANNEL),
+            Opcode::IJM => self.fault(NO_SUCH_CHANNEL),
+            Opcode::FJM => self.fault(NO_SUCH_CHANNEL),
+            Opcode::EJM => self.fault(NO_SUCH_CHANNEL),
+            Opcode::IAN => self.fault(NO_SUCH_CHANNEL),
             Opcode::IAM => self.start_input(d),
-            Opcode::OAN => self.fault(3),
+            Opcode::OAN => self.fault(NO_SUCH_CHANNEL),
             Opcode::OAM => self.start_output(d),
-            Opcode::ACN => self.fault(3),
-            Opcode::DCN => self.fault(3),
-            Opcode::FAN => self.fault(3),
-            Opcode::FNC => self.fault(3),
+            Opcode::ACN => self.fault(NO_SUCH_CHANNEL),
+            Opcode::DCN => self.fault(NO_SUCH_CHANNEL),
+            Opcode::FAN => self.fault(NO_SUCH_CHANNEL),
+            Opcode::FNC => self.fault(NO_SUCH_CHANNEL),
         }
+    }
+
+    /// The same, as a call of its own: so the instructions of this kind are compiled once, and what
+    /// the barrel knows of a step does not have to stand in memory for it.
+    #[inline(never)]
+    pub(super) fn run_local_apart(&mut self, op: Opcode, d: Word6)
+        requires running { self.old.state ≡ PpState.Running }
+        requires free { self.old.block ≡ None }
+        requires fits { fits (need_of (instruction op self.old d)) Answer.Local ≡ true }
+        ensures { self.new ≡ answered (instruction op self.old d) self.old Answer.Local }
+    {
+        self.run_local(op, d);
     }
 }

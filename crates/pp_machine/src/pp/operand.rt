@@ -1,7 +1,7 @@
 //! The instruction at P, and the places and constants that it means.
 
 ghost use Rattle.std.specs.Prelude.{◌≡◌};
-ghost use Rattle.pp_machine.specs.OperandAndPlace.{behind_p, operation, lower_six, second_word, index, constant};
+ghost use Rattle.pp_machine.specs.Operand.{place_after_p, operation, lower_six, second_word, index, constant};
 ghost use Rattle.pp_machine.specs.Processor.{word_at};
 
 use crate::pp::Pp;
@@ -9,8 +9,8 @@ use pp_word::{Opcode, Word6, Word12, Word18, decode, index_address};
 
 impl Pp {
     /// The place this many places after P.
-    pub(super) fn behind_p(&self, words: u8) -> Word12
-        ensures { result ≡ behind_p self.now words }
+    pub(super) fn place_after_p(&self, words: u8) -> Word12
+        ensures { result ≡ place_after_p self.now words }
     {
         Word12::truncated(u32::from(self.p.get()) + u32::from(words))
     }
@@ -27,7 +27,7 @@ impl Pp {
     pub(super) fn second_word(&self) -> Word12
         ensures { result ≡ second_word self.now }
     {
-        self.get(self.behind_p(1))
+        self.get(self.place_after_p(1))
     }
 
     /// The place that the second word means, indexed by place d.

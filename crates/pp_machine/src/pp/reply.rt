@@ -1,15 +1,12 @@
 //! Instructions that asked something from outside, with the answer.
 
-ghost use Rattle.std.specs.Prelude.{◌≡◌, None, true};
-ghost use Rattle.pp_machine.specs.InstructionTable.{instruction, row};
+ghost use Rattle.std.specs.Prelude.{◌≡◌, None};
+ghost use Rattle.pp_machine.specs.InstructionTable.{row};
 ghost use Rattle.pp_machine.specs.NeedAndEffect.{answered};
-ghost use Rattle.pp_machine.specs.OperandAndPlace.{operation, lower_six};
-ghost use Rattle.pp_machine.specs.Replay.{fits};
-ghost use Rattle.pp_machine.specs.Step.{need_of};
 
 use crate::answer::Answer;
 use crate::pp::Pp;
-use crate::pp_state::PpState;
+use crate::pp_state::PAST_CENTRAL_MEMORY;
 use pp_channel::Reply;
 use pp_word::{Opcode, Word6, Word12, Word18, Word60};
 
@@ -43,7 +40,7 @@ impl Pp {
                 self.receive(Word12::from(d), word);
                 self.go_on(1);
             }
-            (Opcode::CRD, None) => self.fault(4),
+            (Opcode::CRD, None) => self.fault(PAST_CENTRAL_MEMORY),
             _ => {}
         }
     }
@@ -55,26 +52,8 @@ impl Pp {
     {
         match (op, written) {
             (Opcode::CWD, true) => self.go_on(1),
-            (Opcode::CWD, false) => self.fault(4),
+            (Opcode::CWD, false) => self.fault(PAST_CENTRAL_MEMORY),
             _ => {}
-        }
-    }
-
-    /// The instruction at P, with the answer to its need.
-    pub(super) fn run_instruction(&mut self, answer: Answer)
-        requires running { self.old.state ≡ PpState.Running }
-        requires free { self.old.block ≡ None }
-        requires fits { fits (need_of (instruction (operation self.old) self.old
-            (lower_six self.old))) answer ≡ true }
-        ensures { self.new ≡ answered (instruction (operation self.old) self.old
-            (lower_six self.old)) self.old answer }
-    {
-        let (op, d) = self.instruction();
-        match answer {
-            Answer::Local => self.run_local(op, d),
-            Answer::Channel(reply) => self.take_reply(op, d, reply),
-            Answer::Read(central) => self.take_central(op, d, central),
-            Answer::Wrote(written) => self.take_written(op, d, written),
         }
     }
 }

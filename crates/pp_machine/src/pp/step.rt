@@ -1,9 +1,9 @@
 //! One step: what it needs, and what its answer does.
 
 ghost use Rattle.std.specs.Prelude.{◌≡◌, ◌↔◌, if◌then◌else◌, IsTrue};
-ghost use Rattle.pp_machine.specs.Blocks.{block_word};
+ghost use Rattle.pp_machine.specs.Block.{block_word};
 ghost use Rattle.pp_machine.specs.InstructionTable.{instruction};
-ghost use Rattle.pp_machine.specs.NeedAndEffect.{need, processor_after, outcome, is_held};
+ghost use Rattle.pp_machine.specs.NeedAndEffect.{need, processor_after, outcome};
 ghost use Rattle.pp_machine.specs.Profile.{has_channel};
 ghost use Rattle.pp_machine.specs.Replay.{fits};
 ghost use Rattle.pp_machine.specs.Step.{need_of};
@@ -15,7 +15,7 @@ use crate::need::Need;
 use crate::outcome::Outcome;
 use crate::pp::Pp;
 use crate::pp_state::PpState;
-use pp_channel::{ChanOp, Reply};
+use pp_channel::ChanOp;
 use pp_word::{Opcode, Word6, Word12};
 
 impl Pp {
@@ -78,13 +78,10 @@ impl Pp {
         ensures nothing_unless_running { (result ≡ Need.Nothing) ↔ IsAtRest self.now }
     {
         match self.state {
-            PpState::Running => match self.block {
-                None => {
-                    let (op, d) = self.instruction();
-                    self.instruction_need(op, d)
-                }
-                Some(block) => self.block_need(block),
-            },
+            PpState::Running => {
+                let (next, d) = self.next_instruction();
+                self.wants_next(&next, d)
+            }
             PpState::Stopped | PpState::Fault(_) => Need::Nothing,
         }
     }
@@ -116,25 +113,18 @@ impl Pp {
             PpState::Running => {}
             PpState::Stopped | PpState::Fault(_) => return Outcome::AtRest,
         }
-        let is_held = self.is_held(&answer);
-        match self.block {
-            None => self.run_instruction(answer),
-            Some(block) => self.move_word(block, answer),
-        }
-        if is_held {
-            Outcome::Held
-        } else {
-            Outcome::Moved
-        }
-    }
-
-    /// Whether an answer holds the step, and changes nothing.
-    fn is_held(&self, answer: &Answer) -> bool
-        ensures { result ≡ is_held self.now.block answer.now }
-    {
+        let (next, d) = self.next_instruction();
         match answer {
-            Answer::Channel(Reply::Held(flags)) => self.block.is_none() || flags.active,
-            _ => false,
+            Answer::Local => self.give_local(&next, d),
+            Answer::Channel(reply) => self.give_reply(&next, d, reply),
+            Answer::Read(word) => {
+                self.give_central(&next, d, word);
+                Outcome::Moved
+            }
+            Answer::Wrote(written) => {
+                self.give_written(&next, d, written);
+                Outcome::Moved
+            }
         }
     }
 }

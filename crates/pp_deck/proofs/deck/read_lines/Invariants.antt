@@ -7,7 +7,7 @@ abbrev pub invariant-loop-fields : goal.invariant-loop-fields
 invariant-loop-fields g l = record {
   within : l.number ≤ length (lines_of l.text);
   left : l.lines ≡ drop l.number (lines_of l.text);
-  read : ReadTo l.fn.reading.machine.profile (lines_of l.text) l.number l.reading l.is_behind_fields;
+  read : ReadTo l.fn.reading.machine.profile (lines_of l.text) l.number l.reading l.is_after_fields;
 }
 
 abbrev pub decreases-loop-fields : goal.decreases-loop-fields

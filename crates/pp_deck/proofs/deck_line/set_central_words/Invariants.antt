@@ -1,6 +1,6 @@
 use Rattle.std.proofs.Common.{◌≡◌, ◌≤◌, ◌^◌, length}
 use Rattle.pp_deck.specs.DeckLine.{words_in}
-use Rattle.pp_deck.specs.DeckProgress.{with_central_words, on_read}
+use Rattle.pp_deck.specs.Reading.{with_central_words, on_read}
 use Rattle.pp_deck.specs.declared.flaw.Flaw.TheVariants.{CentralRange}
 use Rattle.pp_deck.proofs.deck_line.set_central_words.Given as goal
 

@@ -1,7 +1,7 @@
 use Rattle.std.proofs.Common.{◌≡◌, ◌≤◌, length}
 use Rattle.pp_word.specs.Address.{place_count}
 use Rattle.pp_deck.specs.DeckLine.{words_in}
-use Rattle.pp_deck.specs.DeckProgress.{loaded_from, on_read}
+use Rattle.pp_deck.specs.Reading.{loaded_from, on_read}
 use Rattle.pp_deck.specs.declared.flaw.Flaw.TheVariants.{PastEnd}
 use Rattle.pp_deck.proofs.deck_line.set_words.Given as goal
 

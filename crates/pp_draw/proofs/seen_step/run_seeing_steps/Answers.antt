@@ -1,10 +1,10 @@
 use Rattle.std.proofs.Common.{◌≡◌, ◌+◌, ◌%◌, ℕ, refl, sym, ap, ◌∙◌}
 use Rattle.pp_machine.specs.MachineStep.{stepped}
-use Rattle.pp_machine.specs.ProcessorNumber.{processor_number}
+use Rattle.pp_machine.specs.PpNo.{processor_number}
 use Rattle.pp_machine.specs.Profile.{processor_in_turn, processors_in}
 use Rattle.pp_machine.specs.Run.{barrel, run}
 use Rattle.pp_machine.proofs.RunLemmas.{barrel_more}
-use Rattle.pp_draw.specs.SeenSteps.{seen_step}
+use Rattle.pp_draw.specs.SeenStep.{seen_step}
 use Rattle.pp_draw.proofs.SeenLemmas.{nothing_shown, shown_more}
 use Rattle.pp_draw.proofs.seen_step.run_seeing_steps.Goals as goal
 
@@ -35,6 +35,6 @@ loop-turn-preserved g c =
     let is : n ≡ processor_in_turn p t = c.at-n.ensures.number ∙ ap (λ (r : ℕ). processor_number (t % r)) round in
     record {
       ran = c.in-Ok.ensures.stepped ∙ ap (stepped n) c.loop-turn.invariant.ran ∙ ap (λ (k : ℕ). stepped k (run (barrel p t) m)) is ∙ sym (barrel_more p t m);
-      seen = shown_more c.args.window p t n m c.in-Ok.step c.loop-turn.steps.items c.keep_step.new.steps.items is (c.in-Ok.ensures.seen ∙ ap (seen_step n) c.loop-turn.invariant.ran) c.loop-turn.invariant.seen c.in-Ok-keep_step.ensures;
+      seen = shown_more c.args.window p t n m c.in-Ok.step c.loop-turn.steps.items c.keep_step.new.steps.items is (c.in-Ok.ensures.seen ∙ ap (seen_step n) c.loop-turn.invariant.ran) c.loop-turn.invariant.seen c.in-Ok-keep_step.ensures.kept;
       headline = c.see_step.ensures.headline;
     }

@@ -2,7 +2,7 @@ use Rattle.std.proofs.Common.{◌≡◌}
 use Rattle.std.specs.List.{filter}
 use Rattle.pp_machine.specs.Headline.{HoldsOnEachChannel}
 use Rattle.pp_machine.specs.Run.{barrel, run}
-use Rattle.pp_draw.specs.SeenSteps.{is_shown, seen_steps}
+use Rattle.pp_draw.specs.SeenStep.{is_shown, seen_steps}
 use Rattle.pp_draw.proofs.seen_step.run_seeing_steps.Given as goal
 
 abbrev pub invariant-loop-turn : goal.invariant-loop-turn

@@ -1,10 +1,10 @@
 use Rattle.std.proofs.Common.{subst, sym, ◌∙◌, arith}
-use Rattle.pp_channel.specs.RisingLog.{seen_on}
+use Rattle.pp_channel.specs.MonotoneLog.{seen_on}
 use Rattle.pp_runner.proofs.CrewLemmas.{ended_since, gave_up, not_given_up}
 use Rattle.pp_runner.proofs.EndLemmas.{end_at_last, worn_at_rest, worn_at_last, patience_at_rest, patience_at_last}
 use Rattle.pp_runner.proofs.LabourLemmas.{work_begins}
 use Rattle.pp_runner.proofs.LineLemmas.{operated_least, same_line_still, same_line_twice}
-use Rattle.pp_runner.specs.WorkerEnd.{IsEnd, WornWithCause}
+use Rattle.pp_runner.specs.End.{IsEnd, WornWithCause}
 use Rattle.pp_runner.specs.declared.end.End.{End}
 use Rattle.pp_runner.proofs.labour.work.Goals as goal
 

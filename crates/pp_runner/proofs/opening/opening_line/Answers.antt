@@ -1,8 +1,8 @@
 use Rattle.std.proofs.Common.{◌≡◌, ◌∙◌, ℕ, ◌+◌, ◌-◌, ◌<◌, List, [], ◌∷◌, ◌++◌, true, false, sym, ap, subst, arith}
-use Rattle.pp_channel.specs.ChannelNumber.{channel_count, channel_number}
+use Rattle.pp_channel.specs.ChannelNo.{channel_count, channel_number}
 use Rattle.pp_channel.specs.LineState.{LineState}
-use Rattle.pp_channel.specs.Merge.{IsOpeningLog, times_told}
-use Rattle.pp_channel.specs.RisingLog.{IsWithin}
+use Rattle.pp_channel.specs.Merge.{IsOpeningLog, times_logged}
+use Rattle.pp_channel.specs.MonotoneLog.{IsWithin}
 use Rattle.pp_channel.specs.declared.entry.Entry.{Entry}
 use Rattle.pp_channel.specs.LineLog.{event_entry}
 use Rattle.pp_channel.specs.declared.event.Event.TheVariants.{Activate}
@@ -14,7 +14,7 @@ use Rattle.pp_runner.proofs.opening.opening_line.Goals as goal
 pub activate-requires-clause-untold : goal.activate-requires-clause-untold
 activate-requires-clause-untold g c =
     let log = c.loop-place.line.log.entries in
-    ap (λ n. times_told n 0 log) c.at-channel.ensures.number
+    ap (λ n. times_logged n 0 log) c.at-channel.ensures.number
     ∙ untold c.loop-place.place c.args.machine.now log (omega (arith, c.loop-place-test.true)) c.loop-place.invariant.opened
 
 pub loop-place-preserved : goal.loop-place-preserved

@@ -5,8 +5,9 @@ use Rattle.std.proofs.lemmas.List.{length-take-le}
 use Rattle.std.proofs.lemmas.List.Elements.{All-weaker}
 use Rattle.pp_channel.specs.LineState.{LineState, IsSplitFrom, all_joined, ForgetsNothing}
 use Rattle.pp_channel.specs.LineView.{KnowsAll}
-use Rattle.pp_channel.specs.Merge.{Merges, no_opening, history_on}
-use Rattle.pp_channel.specs.RisingLog.{seen_on}
+use Rattle.pp_channel.specs.Merge.{Merges, no_opening}
+use Rattle.pp_channel.specs.Histories.{history_on}
+use Rattle.pp_channel.specs.MonotoneLog.{seen_on}
 use Rattle.pp_channel.specs.declared.entry.Entry.{Entry}
 use Rattle.pp_channel.specs.declared.event.Event.{Event}
 use Rattle.pp_channel.proofs.JoinedLines.{joined_entries, joined_whole, same_parts}

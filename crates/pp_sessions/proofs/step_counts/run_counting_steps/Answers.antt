@@ -1,6 +1,6 @@
 use Rattle.std.proofs.Common.{◌≡◌, ◌%◌, ◌++◌, ◌∷◌, [], ℕ, get_or, set, refl, sym, ap, ◌∙◌, arith}
 use Rattle.pp_machine.specs.MachineStep.{step_outcome, stepped}
-use Rattle.pp_machine.specs.ProcessorNumber.{processor_number}
+use Rattle.pp_machine.specs.PpNo.{processor_number}
 use Rattle.pp_machine.specs.Profile.{processor_in_turn, processors_in}
 use Rattle.pp_machine.specs.Run.{barrel, run}
 use Rattle.pp_machine.specs.declared.outcome.Outcome.{Outcome}

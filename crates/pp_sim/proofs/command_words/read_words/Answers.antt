@@ -1,7 +1,7 @@
 use Rattle.std.proofs.Common.{None}
 use Rattle.clap.specs.Words.{found_of}
-use Rattle.pp_sim.specs.CommandLine.{IsWorkAmong}
-use Rattle.pp_sim.proofs.CommandLemmas.{by_no_number, met_command, met_none, more_by_rows, refused_words, taken_words, work_by_rows, work_by_values}
+use Rattle.pp_sim.specs.CommandLine.{AsksForMoreAmong, IsWorkAmong}
+use Rattle.pp_sim.proofs.CommandLemmas.{by_no_number, met_command, met_none, more_by_rows, more_by_values, refused_words, taken_words, work_by_rows, work_by_values}
 use Rattle.pp_sim.proofs.command_words.read_words.Goals as goal
 
 pub returns-in-Err-clause-refused : goal.returns-in-Err-clause-refused
@@ -25,6 +25,8 @@ returns-in-Some-clause-number c =
     c.in-Ok.ensures c.in-Ok-try_get_matches_from.ensures.matches c.in-Some.ensures.name c.in-Some.ensures.rows in (
       taken_words _ _ c.in-Ok.ensures c.in-Ok-try_get_matches_from.ensures.kinds,
       λ work k. c.in-None-work_of.ensures work (work_by_values c.in-Some.name.now (found_of c.in-Some.inner.now) work (rw e at k)),
+      λ k. let asked = more_by_values c.in-Some.name.now (found_of c.in-Some.inner.now) (rw e at k) in
+          let is = c.asks_for_more.ensures.1 asked in let not = c.if-asks_for_more.false in cc,
     )
 
 pub returns-in-None-work_of-clause-number : goal.returns-in-None-work_of-clause-number
@@ -33,7 +35,7 @@ returns-in-None-work_of-clause-number c =
     c.in-Ok.ensures c.in-Ok-try_get_matches_from.ensures.matches c.in-Some.ensures.name c.in-Some.ensures.rows in (
       taken_words _ _ c.in-Ok.ensures c.in-Ok-try_get_matches_from.ensures.kinds,
       λ work k. c.in-None-work_of.ensures work (work_by_values c.in-Some.name.now (found_of c.in-Some.inner.now) work (rw e at k)),
-      rw e (more_by_rows c.in-Some.name.now (found_of c.in-Some.inner.now) (c.asks_for_more.ensures c.if-asks_for_more.true)),
+      rw e (more_by_rows c.in-Some.name.now (found_of c.in-Some.inner.now) (c.asks_for_more.ensures.0 c.if-asks_for_more.true)),
     )
 
 pub returns-clause-number : goal.returns-clause-number
@@ -41,4 +43,5 @@ returns-clause-number c =
     let e = met_none _ _ c.in-Ok-try_get_matches_from.matches c.in-Ok.ensures c.in-Ok-try_get_matches_from.ensures.matches c.in-None.ensures.name in (
       taken_words _ _ c.in-Ok.ensures c.in-Ok-try_get_matches_from.ensures.kinds,
       λ work k. let bad : IsWorkAmong None work = rw e at k in bad,
+      λ k. let bad : AsksForMoreAmong None = rw e at k in bad,
     )

@@ -1,7 +1,7 @@
 use Rattle.std.proofs.Common.{◌≡◌, ◌<◌, ◌≤◌, ◌%◌, refl, set, ◌++◌, ◌∷◌, [], ap, arith, sym, subst, get_or, ◌∙◌, ℕ}
 use Rattle.std.specs.Prelude.{IsTrue}
 use Rattle.pp_machine.specs.MachineStep.{step_outcome, stepped}
-use Rattle.pp_machine.specs.ProcessorNumber.{names_processor, processor_count, processor_number}
+use Rattle.pp_machine.specs.PpNo.{names_processor, processor_count, processor_number}
 use Rattle.pp_machine.specs.Profile.{processor_in_turn, processors_in}
 use Rattle.pp_machine.specs.Run.{barrel, run}
 use Rattle.pp_machine.proofs.ProcessorPlaces.{number_named}

@@ -1,5 +1,5 @@
 use Rattle.std.proofs.Common.{◌≡◌, ℕ, ◌/◌, ◌^◌, ◌++◌, codes, length, ap, ◌∙◌, rules}
-use Rattle.pp_word.specs.OperationCodes.{mnemonic_of, opcode_at}
+use Rattle.pp_word.specs.Opcode.{mnemonic_of, opcode_at}
 use Rattle.pp_word.specs.declared.opcode.Opcode.{Opcode}
 use Rattle.pp_listing.specs.InstructionText.{instruction_text, operands_of, operands_text}
 use Rattle.pp_listing.specs.ListedLine.{padded}

@@ -2,7 +2,7 @@ use Rattle.std.proofs.Common.{◌≡◌, ◌<◌, ◌+◌, ◌%◌, ℕ, sym, su
 use Rattle.std.specs.Prelude.{IsTrue}
 use Rattle.pp_machine.specs.MachineState.{MachineState}
 use Rattle.pp_machine.specs.MachineStep.{stepped}
-use Rattle.pp_machine.specs.ProcessorNumber.{names_processor, processor_count, processor_number}
+use Rattle.pp_machine.specs.PpNo.{names_processor, processor_count, processor_number}
 use Rattle.pp_machine.specs.Profile.{processor_in_turn, processors_in}
 use Rattle.pp_machine.specs.Run.{barrel, run}
 use Rattle.pp_machine.proofs.ProcessorPlaces.{number_named}

@@ -1,8 +1,8 @@
 use Rattle.std.proofs.Common.{◌≡◌, ◌<◌, ℕ, None, length, slice_index_or, option_map, take}
 use Rattle.std.specs.Prelude.{IsTrue}
-use Rattle.pp_channel.specs.ChannelNumber.{channel_count, names_channel}
-use Rattle.pp_channel.specs.Merge.{history_on}
-use Rattle.pp_machine.specs.ProcessorNumber.{processor_number}
+use Rattle.pp_channel.specs.ChannelNo.{channel_count, names_channel}
+use Rattle.pp_channel.specs.Histories.{history_on}
+use Rattle.pp_machine.specs.PpNo.{processor_number}
 use Rattle.pp_text.specs.Authors.{authors_on}
 use Rattle.pp_text.specs.PrintedReport.{author_place}
 use Rattle.pp_text.proofs.authors.authors.Given as goal

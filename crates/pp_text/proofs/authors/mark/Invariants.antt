@@ -1,6 +1,6 @@
 use Rattle.std.proofs.Common.{◌≡◌, ◌<◌, ℕ, None, length, slice_index_or, take}
 use Rattle.std.specs.Prelude.{IsTrue}
-use Rattle.pp_channel.specs.ChannelNumber.{channel_count, names_channel}
+use Rattle.pp_channel.specs.ChannelNo.{channel_count, names_channel}
 use Rattle.pp_text.specs.Authors.{authors_on, or_told}
 use Rattle.pp_text.specs.PrintedReport.{log_tells}
 use Rattle.pp_text.proofs.authors.mark.Given as goal

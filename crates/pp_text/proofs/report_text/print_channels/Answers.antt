@@ -1,7 +1,7 @@
 use Rattle.std.proofs.Common.{ℕ, arith}
 use Rattle.std.specs.Prelude.{IsTrue}
-use Rattle.pp_channel.specs.ChannelNumber.{names_channel}
-use Rattle.pp_channel.specs.Merge.{history_on}
+use Rattle.pp_channel.specs.ChannelNo.{names_channel}
+use Rattle.pp_channel.specs.Histories.{history_on}
 use Rattle.pp_text.specs.TextLaw.{IsListed}
 use Rattle.pp_text.specs.PrintedText.{used_channel_line}
 use Rattle.pp_text.proofs.TextWriterLemmas.{prints_nothing, prints_on}

@@ -1,6 +1,6 @@
 use Rattle.std.proofs.Common.{ℕ, ◌<◌}
 use Rattle.std.specs.Prelude.{IfSome, IsTrue, option_map, slice_get}
-use Rattle.pp_machine.specs.ProcessorNumber.{processor_index}
+use Rattle.pp_machine.specs.PpNo.{processor_index}
 use Rattle.pp_text.specs.TextWriter.{Prints}
 use Rattle.pp_text.specs.PrintedText.{each_below, is_named}
 use Rattle.pp_text.specs.PrintedReport.{named_worker_line}

@@ -1,5 +1,5 @@
 use Rattle.std.proofs.Common.{◌≡◌, ◌/◌, ◌%◌, ap, ◌∙◌, arith}
-use Rattle.pp_word.specs.OperationCodes.{opcode_at}
+use Rattle.pp_word.specs.Opcode.{opcode_at}
 use Rattle.pp_word.proofs.opcode.decode.Goals as goal
 
 pub returns-clause-operation : goal.returns-clause-operation

@@ -6,18 +6,18 @@ use Rattle.pp_channel.specs.declared.reply.Reply.TheVariants.{Flags, Held}
 use Rattle.pp_channel.specs.ChannelWord.{number_in, flags_in, greatest_number}
 use Rattle.pp_channel.specs.LineLog.{LogState, event_entry, look_entry, appended, looked}
 use Rattle.pp_channel.specs.LineState.{LineState, IsActed}
-use Rattle.pp_channel.specs.RisingLog.{IsRising, IsWithin}
+use Rattle.pp_channel.specs.MonotoneLog.{IsMonotone, IsWithin}
 use Rattle.pp_channel.proofs.ChannelWordLemmas.{next_word}
 use Rattle.pp_channel.proofs.LineAnswers.{found_last, seen_last, acted_look, acted_held, worn_by_load, acted_made, acted_lost, number_later}
-use Rattle.pp_channel.proofs.RisingLemmas.{rising_answer}
+use Rattle.pp_channel.proofs.MonotoneLemmas.{rising_answer}
 use Rattle.pp_channel.proofs.line.Line.act.Goals as goal
 use Rattle.pp_channel.proofs.line.Line.act.Goals.{in-Ok, in-Err}
 
--- what a line that acted writes goes on rising
-rising_acted : (line : LineState) (c : ℕ) (op : ChanOp) (r : Numbered) (after : LineState) → IsWithin line.view.seen line.log.entries → IsActed line c op r after → IsRising line.log.entries → IsRising after.log.entries
-rising_acted line c op r after within acted rising =
-    subst (λ (log : LogState). IsRising log.entries) (sym (ap (λ (l : LineState). l.log) acted.after_is))
-    (rising_answer line.view.seen line.log c r.number within (number_later line after c op r acted) rising op r.reply)
+-- what a line that acted writes goes on monotone
+rising_acted : (line : LineState) (c : ℕ) (op : ChanOp) (r : Numbered) (after : LineState) → IsWithin line.view.seen line.log.entries → IsActed line c op r after → IsMonotone line.log.entries → IsMonotone after.log.entries
+rising_acted line c op r after within acted monotone =
+    subst (λ (log : LogState). IsMonotone log.entries) (sym (ap (λ (l : LineState). l.log) acted.after_is))
+    (rising_answer line.view.seen line.log c r.number within (number_later line after c op r acted) monotone op r.reply)
 
 -- a worn channel
 pub returns-in-Worn-clause-worn : goal.returns-in-Worn-clause-worn
@@ -86,8 +86,8 @@ returns-after-try_event-clause-ok g c =
 pub returns-in-Worn-clause-ok : goal.returns-in-Worn-clause-ok
 returns-in-Worn-clause-ok g c = tt
 
-pub returns-in-Worn-clause-rising : goal.returns-in-Worn-clause-rising
-returns-in-Worn-clause-rising g c rising = subst (λ (log : LogState). IsRising log.entries) (sym c.load-word.ensures.log) rising
+pub returns-in-Worn-clause-monotone : goal.returns-in-Worn-clause-monotone
+returns-in-Worn-clause-monotone g c monotone = subst (λ (log : LogState). IsMonotone log.entries) (sym c.load-word.ensures.log) monotone
 
 pub returns-in-Worn-clause-shares : goal.returns-in-Worn-clause-shares
 returns-in-Worn-clause-shares g c = ap (λ (line : LineState). line.view.shares) (returns-in-Worn-clause-worn g c).after_is
@@ -101,8 +101,8 @@ returns-in-Worn-clause-table g c = ap (λ (line : LineState). line.table) (retur
 pub returns-in-Worn-clause-within : goal.returns-in-Worn-clause-within
 returns-in-Worn-clause-within g c = c.load-word.ensures.log_after.within
 
-pub returns-in-Look-clause-rising : goal.returns-in-Look-clause-rising
-returns-in-Look-clause-rising g c rising = rising_acted _ c.args.channel c.args.op _ _ c.load-word.ensures.log_before.within (returns-in-Look-clause-ok g c) rising
+pub returns-in-Look-clause-monotone : goal.returns-in-Look-clause-monotone
+returns-in-Look-clause-monotone g c monotone = rising_acted _ c.args.channel c.args.op _ _ c.load-word.ensures.log_before.within (returns-in-Look-clause-ok g c) monotone
 
 pub returns-in-Look-clause-shares : goal.returns-in-Look-clause-shares
 returns-in-Look-clause-shares g c = ap (λ (line : LineState). line.view.shares) (returns-in-Look-clause-ok g c).after_is
@@ -116,8 +116,8 @@ returns-in-Look-clause-table g c = ap (λ (line : LineState). line.table) (retur
 pub returns-in-Look-clause-within : goal.returns-in-Look-clause-within
 returns-in-Look-clause-within g c = c.look.ensures.log_after.within
 
-pub returns-in-Held-clause-rising : goal.returns-in-Held-clause-rising
-returns-in-Held-clause-rising g c rising = rising_acted _ c.args.channel c.args.op _ _ c.load-word.ensures.log_before.within (returns-in-Held-clause-ok g c) rising
+pub returns-in-Held-clause-monotone : goal.returns-in-Held-clause-monotone
+returns-in-Held-clause-monotone g c monotone = rising_acted _ c.args.channel c.args.op _ _ c.load-word.ensures.log_before.within (returns-in-Held-clause-ok g c) monotone
 
 pub returns-in-Held-clause-shares : goal.returns-in-Held-clause-shares
 returns-in-Held-clause-shares g c = ap (λ (line : LineState). line.view.shares) (returns-in-Held-clause-ok g c).after_is
@@ -131,8 +131,8 @@ returns-in-Held-clause-table g c = ap (λ (line : LineState). line.table) (retur
 pub returns-in-Held-clause-within : goal.returns-in-Held-clause-within
 returns-in-Held-clause-within g c = c.look-in-Held.ensures.log_after.within
 
-pub returns-after-try_event-clause-rising : goal.returns-after-try_event-clause-rising
-returns-after-try_event-clause-rising g c rising = rising_acted _ c.args.channel c.args.op _ _ c.load-word.ensures.log_before.within (returns-after-try_event-clause-ok g c) rising
+pub returns-after-try_event-clause-monotone : goal.returns-after-try_event-clause-monotone
+returns-after-try_event-clause-monotone g c monotone = rising_acted _ c.args.channel c.args.op _ _ c.load-word.ensures.log_before.within (returns-after-try_event-clause-ok g c) monotone
 
 pub returns-after-try_event-clause-shares : goal.returns-after-try_event-clause-shares
 returns-after-try_event-clause-shares g c = ap (λ (line : LineState). line.view.shares) (returns-after-try_event-clause-ok g c).after_is

@@ -2,7 +2,7 @@ use Rattle.std.proofs.Common.{rules, ◌≡◌, ℕ, List, [], ◌++◌, sym, ap
 use Rattle.std.specs.List.{flat_map}
 use Rattle.std.proofs.lemmas.List.{append-nil}
 use Rattle.pp_channel.specs.declared.entry.Entry.{Entry}
-use Rattle.pp_channel.specs.ToldHistory.{IsToldBy}
+use Rattle.pp_channel.specs.RecordedHistory.{IsRecordedBy}
 use Rattle.pp_channel.specs.declared.event.Event.{Event}
 use Rattle.pp_channel.specs.declared.rule.LineView.{LineView}
 use Rattle.pp_channel.specs.LineState.{LineState, AreClosed}
@@ -13,11 +13,11 @@ use Rattle.pp_channel.proofs.LineAnswers.{told_whole, closed_by}
 use Rattle.pp_channel.proofs.line.Line.close.Goals as goal
 
 -- a log, and no others
-alone : {X : Type 0} (f : X → List Entry) (seen : List ℕ) (histories : List (List Event)) (log : List Entry) (others : List X) → others ≡ [] → IsToldBy log seen histories → IsToldBy (log ++ flat_map f others) seen histories
-alone f seen histories log others none told = rw none (subst (λ (l : List Entry). IsToldBy l seen histories) (sym (append-nil log)) told)
+alone : {X : Type 0} (f : X → List Entry) (seen : List ℕ) (histories : List (List Event)) (log : List Entry) (others : List X) → others ≡ [] → IsRecordedBy log seen histories → IsRecordedBy (log ++ flat_map f others) seen histories
+alone f seen histories log others none told = rw none (subst (λ (l : List Entry). IsRecordedBy l seen histories) (sym (append-nil log)) told)
 
-pub told_channels-requires : goal.told_channels-requires
-told_channels-requires g c =
+pub recorded_channels-requires : goal.recorded_channels-requires
+recorded_channels-requires g c =
     let tells = c.weigh.ensures.tells.1 in
     let all = ap (λ (line : LineState). line.view.shares) c.self.view_is ∙ (c.requires ∙ sym (ap (λ (line : LineState). line.view.whole) c.self.view_is)) in
     let none : c.as_slice.result.now ≡ [] = search rules in

@@ -32,8 +32,8 @@ loop-other-preserved g c =
       forgotten = subst (λ (l : LineState). All (λ o. ForgetsNothing o l) (c.loop-other.yielded ++ other ∷ [])) (sym more) (forgotten_push line other c.loop-other.yielded before.log_of added.log_of before.forgotten);
     }
 
-pub told_channels-requires : goal.told_channels-requires
-told_channels-requires g c =
+pub recorded_channels-requires : goal.recorded_channels-requires
+recorded_channels-requires g c =
     let yielded = YieldsList-end (YieldsList-from_vec c.args.others.items (search rules) (search rules)) c.loop-other.yielded c.loop-other.other-iterator c.loop-other.yielded_by _ c.next.new.self c.in-None.is c.next.ensures.steps in
     let others : c.loop-other.yielded ≡ c.args.others.items = sym (map-id c.loop-other.yielded) ∙ yielded.0 in
     let line = all_joined c.args.self c.loop-other.yielded in

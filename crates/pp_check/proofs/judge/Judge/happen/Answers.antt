@@ -1,6 +1,6 @@
 use Rattle.std.proofs.Common.{ℕ, Bool, arith, rules, true, false, ◌≡◌, ◌+◌, sym, ap, ◌∙◌, length}
 use Rattle.std.specs.Prelude.{IsTrue, slice_set, if◌then◌else◌}
-use Rattle.pp_channel.specs.ChannelNumber.{channel_count, names_channel}
+use Rattle.pp_channel.specs.ChannelNo.{channel_count, names_channel}
 use Rattle.pp_channel.proofs.ChannelPlaces.{named_below}
 use Rattle.pp_check.specs.Judge.{standing, standing_of}
 use Rattle.pp_check.specs.LawfulTrace.{history}

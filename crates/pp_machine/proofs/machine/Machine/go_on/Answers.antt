@@ -2,7 +2,7 @@ use Rattle.std.proofs.Common.{◌≡◌, ◌<◌, Some, length, arith, refl, sym
 use Rattle.std.specs.Prelude.{IfOk, OnOk, if◌then◌else◌}
 use Rattle.std.proofs.lemmas.List.{length-set}
 use Rattle.pp_channel.specs.declared.chan_op.ChanOp.TheVariants.{Probe}
-use Rattle.pp_machine.specs.Direct.{IsNext}
+use Rattle.pp_machine.specs.NextStep.{IsNext}
 use Rattle.pp_machine.specs.MachineState.{MachineState, processor_of}
 use Rattle.pp_machine.specs.MachineStep.{stepped, step_outcome}
 use Rattle.pp_machine.specs.NeedAndEffect.{need, outcome}

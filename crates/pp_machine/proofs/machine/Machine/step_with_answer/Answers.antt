@@ -2,7 +2,7 @@ use Rattle.std.proofs.Common.{◌≡◌, length, arith, refl, sym, ap, ◌∙◌
 use Rattle.std.specs.Prelude.{IsTrue, nat_lt}
 use Rattle.std.proofs.lemmas.List.{length-set}
 use Rattle.pp_machine.specs.Central.{central_word, with_central_word}
-use Rattle.pp_machine.specs.Direct.{IsNext}
+use Rattle.pp_machine.specs.NextStep.{IsNext}
 use Rattle.pp_machine.specs.MachineState.{MachineState, processor_of}
 use Rattle.pp_machine.specs.MachineStep.{answer_to, served, taken}
 use Rattle.pp_machine.specs.NeedAndEffect.{need, outcome}
@@ -18,6 +18,9 @@ use Rattle.pp_machine.proofs.machine.Machine.step_with_answer.Goals as goal
 pub wants_next-requires : goal.wants_next-requires
 wants_next-requires g c =
     subst (λ (pp : Processor). IsNext c.args.next.now c.args.d pp) (sym (own_processor c.args.n c.self.view_is c.index-i.ensures.place (omega (arith, c.index-i.ensures.below, c.self.invariant.processors)) c.index.ensures)) c.requires
+
+pub give_local-outcome-requires-clause-next : goal.give_local-outcome-requires-clause-next
+give_local-outcome-requires-clause-next g c = subst (λ (pp : Processor). IsNext c.args.next.now c.args.d pp) (sym (own_processor c.args.n c.self.view_is c.index-i.ensures.place (omega (arith, c.index-i.ensures.below, c.self.invariant.processors)) c.index_mut.ensures.value)) c.requires
 
 pub invariant_of-self : goal.invariant_of-self
 invariant_of-self g c = record {

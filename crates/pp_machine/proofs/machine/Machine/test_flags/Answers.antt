@@ -6,6 +6,8 @@ use Rattle.pp_channel.specs.declared.chan_op.ChanOp.TheVariants.{Probe}
 use Rattle.pp_channel.specs.declared.reply.Reply.TheVariants as replies
 use Rattle.pp_machine.specs.MachineState.{history_of, processor_of}
 use Rattle.pp_machine.specs.NeedAndEffect.{need, outcome}
+use Rattle.pp_machine.specs.NextStep.{IsAtInstruction}
+use Rattle.pp_machine.specs.Processor.{Processor}
 use Rattle.pp_machine.specs.Profile.{has_channel}
 use Rattle.pp_machine.specs.Replay.{fits}
 use Rattle.pp_machine.specs.declared.answer.Answer.TheVariants as answers
@@ -15,11 +17,16 @@ use Rattle.pp_machine.proofs.MachineStepLemmas.{stepped_alone, stepped_by_probe,
 use Rattle.pp_machine.proofs.TakenLemmas.{own_processor, taken_by, moved_alone, if_found, if_missing}
 use Rattle.pp_machine.proofs.machine.Machine.test_flags.Goals as goal
 
-pub give_local-fault-requires : goal.give_local-fault-requires
-give_local-fault-requires g c =
+pub give_local-fault-requires-clause-next : goal.give_local-fault-requires-clause-next
+give_local-fault-requires-clause-next g c =
+    let own = own_processor c.args.n c.self.view_is c.index.ensures.place (omega (arith, c.index.ensures.below, c.self.invariant.processors)) c.index_mut.ensures.value in
+    subst (λ (pp : Processor). IsAtInstruction c.args.op c.args.d pp) (sym own) c.requires.next
+
+pub give_local-fault-requires-clause-fits : goal.give_local-fault-requires-clause-fits
+give_local-fault-requires-clause-fits g c =
     let own = own_processor c.args.n c.self.view_is c.index.ensures.place (omega (arith, c.index.ensures.below, c.self.invariant.processors)) c.index_mut.ensures.value in
     let local : need c.index_mut.result.now ≡ Local = ap need own ∙ (c.requires.probes ∙ (ap (λ d. if has_channel c.args.profile d then Channel c.args.d Probe else Local) (sym c.get.ensures.value) ∙ if_missing {X = ℕ} None (has_channel c.args.profile c.get.result) (Channel c.args.d Probe) Local refl c.in_default.ensures.exists)) in
-    record { fits = subst (λ (x : Need). IsTrue (fits x answers.Local)) (sym local) refl }
+    subst (λ (x : Need). IsTrue (fits x answers.Local)) (sym local) refl
 
 pub invariant_of-self : goal.invariant_of-self
 invariant_of-self g c = record {

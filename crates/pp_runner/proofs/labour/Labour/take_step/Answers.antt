@@ -1,13 +1,13 @@
 use Rattle.std.proofs.Common.{◌≡◌, ◌<◌, ◌+◌, ℕ, List, length, refl, sym, ap, ◌∙◌, subst, arith, rules}
 use Rattle.std.specs.Prelude.{vec_len, vec_capacity}
-use Rattle.pp_channel.specs.RisingLog.{seen_on}
+use Rattle.pp_channel.specs.MonotoneLog.{seen_on}
 use Rattle.pp_machine.specs.NeedAndEffect.{need}
 use Rattle.pp_machine.specs.Processor.{Processor}
 use Rattle.pp_machine.specs.declared.answer.Answer.{Answer}
 use Rattle.pp_runner.proofs.EndLemmas.{end_memory, end_patience, end_worn}
 use Rattle.pp_runner.proofs.LineLemmas.{same_line_still, same_line_twice, operated_none, operated_again, operated_tries, operated_held}
 use Rattle.pp_runner.specs.Labour.{IsAtWork, HasOperated, operations}
-use Rattle.pp_runner.specs.WorkerEnd.{WasHeld}
+use Rattle.pp_runner.specs.End.{WasHeld}
 use Rattle.pp_runner.proofs.labour.Labour.take_step.Goals as goal
 
 pub returns-then-is_err-clause-work : goal.returns-then-is_err-clause-work

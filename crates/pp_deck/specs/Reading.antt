@@ -1,0 +1,107 @@
+-- A deck as far as its lines have been read, and what one line more changes: the meaning once more,
+-- line by line.
+use Rattle.std.specs.Prelude.{◌≡◌, ℕ, ◌+◌, Bool, true, false, List, [], ◌∷◌, Option, None, Some, Result, Ok, Err, slice_set, replicate, fold}
+use Rattle.pp_machine.specs.MachineState.{MachineState, processor_of, new_machine}
+use Rattle.pp_machine.specs.Processor.{Processor, runs_from}
+use Rattle.pp_machine.specs.PpNo.{processor_count, processor_index}
+use Rattle.pp_machine.specs.declared.profile.Profile.{Profile}
+use Rattle.pp_deck.specs.DeckLine.{Line, central_words, section, start, words, dead_start}
+use Rattle.pp_deck.specs.DeckLoad.{section_of, asks_dead_start}
+use Rattle.pp_deck.specs.DeckMeaning.{LoadedDeck, set_by}
+use Rattle.pp_deck.specs.declared.flaw.Flaw.{Flaw}
+
+-- the machine so far, the processors named so far, the one whose section it is, and whether dead
+-- start was asked for
+pub record Progress : Type 0 where
+  pub machine : MachineState
+  pub named : List Bool
+  pub current : Option ℕ
+  pub asks_dead_start : Bool
+
+-- before the first line, for a machine of this profile with central memory of this size
+unfoldable pub before_lines : Profile → ℕ → Progress
+before_lines profile size =
+    record {
+      machine = new_machine profile size;
+      named = replicate processor_count false;
+      current = None;
+      asks_dead_start = false;
+    }
+
+-- a memory in which words come to a place and those after it
+abbrev pub with_words : ℕ → List ℕ → List ℕ → List ℕ
+with_words place [] memory = memory
+with_words place (w ∷ ws) memory = with_words (place + 1) ws (slice_set memory place w)
+
+-- a processor with words from place x on
+abbrev pub loaded_from : ℕ → List ℕ → Processor → Processor
+loaded_from x ws pp = record pp { memory = with_words x ws pp.memory }
+
+-- a machine of which processor n has changed, where there is one
+abbrev pub with_processor : Option ℕ → (Processor → Processor) → MachineState → MachineState
+with_processor None change m = m
+with_processor (Some n) change m =
+    record m { processors = slice_set m.processors (processor_index n) (change (processor_of n m)) }
+
+-- a machine with central words from address a on
+abbrev pub with_central_words : ℕ → List ℕ → MachineState → MachineState
+with_central_words a ws m = record m { central = with_words a ws m.central }
+
+-- what a line changes in the machine, where this processor is the current one
+abbrev pub machine_after : Option ℕ → Line → MachineState → MachineState
+machine_after current (central_words a ws) m = with_central_words a ws m
+machine_after current (start p a) m = with_processor current (runs_from p a) m
+machine_after current (words x ws) m = with_processor current (loaded_from x ws) m
+machine_after current line m = m
+
+-- in the processors named
+abbrev pub named_after : Line → List Bool → List Bool
+named_after (section n) named = slice_set named (processor_index n) true
+named_after line named = named
+
+-- in the current processor
+abbrev pub current_after : Line → Option ℕ → Option ℕ
+current_after (section n) current = Some n
+current_after line current = current
+
+-- and in whether dead start was asked for
+abbrev pub asked_after : Line → Bool → Bool
+asked_after dead_start asked = true
+asked_after line asked = asked
+
+-- what one line more leaves
+unfoldable pub after_line : Progress → Line → Progress
+after_line progress line = record {
+  machine = machine_after progress.current line progress.machine;
+  named = named_after line progress.named;
+  current = current_after line progress.current;
+  asks_dead_start = asked_after line progress.asks_dead_start;
+}
+
+-- what lines leave that are read one after another, for such a machine
+unfoldable pub after_lines : Profile → ℕ → List Line → Progress
+after_lines profile size lines = fold after_line (before_lines profile size) lines
+
+-- what lines set and name, the section that they end in, and whether they ask for dead start,
+-- without an order of reading
+unfoldable pub progress_of : Profile → ℕ → List Line → Progress
+progress_of profile size lines = record {
+  machine = (set_by profile size lines).machine;
+  named = (set_by profile size lines).named;
+  current = section_of lines;
+  asks_dead_start = asks_dead_start lines;
+}
+
+-- what was set and named so far, as a deck
+abbrev pub deck_so_far : Progress → LoadedDeck
+deck_so_far progress = record { machine = progress.machine; named = progress.named }
+
+-- something that was read, put to use; a flaw stays
+abbrev pub on_read : {A B : Type 0} → (A → B) → Result A Flaw → Result B Flaw
+on_read use_of (Ok x) = Ok (use_of x)
+on_read use_of (Err flaw) = Err flaw
+
+-- a call that leaves this value, or met a flaw, has read what was to be read
+abbrev pub Leaves : {A : Type 0} → A → Result (Unit {0}) Flaw → Result A Flaw → Type 0
+Leaves left (Ok done) read = read ≡ Ok left
+Leaves left (Err flaw) read = read ≡ Err flaw

@@ -1,0 +1,138 @@
+-- The bands of a lane, and the lanes of a drawing.
+use Rattle.std.proofs.Common.{◌≡◌, ℕ, ◌-◌, ◌*◌, ◌<◌, ◌≤◌, max, min, Bool, true, false, cond, leb, List, [], ◌∷◌, ◌++◌, Option, None, Some, sym, ap, ◌∙◌, append_assoc, arith, zero, suc, subst, ⊎_elim}
+use Rattle.std.specs.Prelude.{◌↔◌, IsFalse, IsTrue}
+use Rattle.std.proofs.lemmas.Bool.{cases_lt, lt-ltb, ltb-true}
+use Rattle.std.proofs.lemmas.List.{append-nil}
+use Rattle.pp_machine.specs.MachineState.{MachineState}
+use Rattle.pp_machine.specs.MachineStep.{counted}
+use Rattle.pp_text.specs.PrintedText.{each_below}
+use Rattle.pp_draw.specs.Condition.{is_sent}
+use Rattle.pp_draw.specs.DrawingLaw.{Adjoin, GoesToEnd, IsTurnOf, StandsWithin}
+use Rattle.pp_draw.specs.DrawingText.{channel_lane, drawing, lanes, processor_lane}
+use Rattle.pp_draw.specs.Frame.{classes_text, colours_text, foot_text, head_text, legend_text, processor_legend_text, ticks_text}
+use Rattle.pp_draw.specs.Elements.{band_element, free_after, label_element, part_elements}
+use Rattle.pp_draw.specs.Lane.{drawn_from, next_in}
+use Rattle.pp_draw.specs.Part.{is_labelled, is_visible, part_of, until}
+use Rattle.pp_draw.specs.Window.{place}
+use Rattle.pp_draw.specs.declared.part.Phase.{Phase}
+use Rattle.pp_draw.specs.declared.seen_step.SeenStep.{SeenStep}
+use Rattle.pp_draw.specs.declared.window.Window.{Window}
+use Rattle.pp_draw.proofs.LaneLemmas.{drawn_more}
+
+-- ---- where they begin and end
+
+pub next_adjoins : (w : Window) (phase next : Phase) (after : Option Phase) → IsFalse (is_sent phase.condition) → Adjoin (part_of w phase (Some next)) (part_of w next after)
+next_adjoins w phase next after lasts = record {
+  turns = ap (λ (b : Bool). cond b (counted phase.since) next.since) lasts;
+  places = ap (λ (b : Bool). place w (cond b (counted phase.since) next.since)) lasts;
+}
+
+pub last_to_end : (w : Window) (phase : Phase) → IsFalse (is_sent phase.condition) → GoesToEnd w (part_of w phase None)
+last_to_end w phase lasts = record {
+  turns = ap (λ (b : Bool). cond b (counted phase.since) w.to) lasts;
+  places = ap (λ (b : Bool). place w (cond b (counted phase.since) w.to)) lasts;
+}
+
+pub code_in_turn : (w : Window) (phase : Phase) (next : Option Phase) → IsTrue (is_sent phase.condition) → (part_of w phase next).until ≡ counted phase.since
+code_in_turn w phase (Some next) code = ap (λ (b : Bool). cond b (counted phase.since) next.since) code
+code_in_turn w phase None code = ap (λ (b : Bool). cond b (counted phase.since) w.to) code
+
+-- ---- which there are
+
+narrower : (b : Bool) (x y : ℕ) → cond b 10 4 * x < cond b 10 4 * y → x < y
+narrower true x y less = omega (arith, less)
+narrower false x y less = omega (arith, less)
+
+wider : (b : Bool) (x y : ℕ) → x < y → cond b 10 4 * x < cond b 10 4 * y
+wider true x y less = omega (arith, less)
+wider false x y less = omega (arith, less)
+
+-- how many turns of the window come before a turn
+abbrev turns_before : Window → ℕ → ℕ
+turns_before w turn = min (max turn w.from) w.to - w.from
+
+turn_shown : (w : Window) (since end : ℕ) → turns_before w since < turns_before w end → ((w.from ≤ max since w.from) × (max since w.from < w.to)) × ((since ≤ max since w.from) × (max since w.from < end))
+turn_shown w since end less = ((omega arith, omega (arith, less)), (omega arith, omega (arith, less)))
+
+shown_turn : (w : Window) (since end turn : ℕ) → w.from ≤ turn → turn < w.to → since ≤ turn → turn < end → turns_before w since < turns_before w end
+shown_turn w since end turn from to first last = omega (arith, from, to, first, last)
+
+pub visible_where : (w : Window) (phase : Phase) (next : Option Phase) → IsTrue (is_visible (part_of w phase next)) ↔ ((turn : ℕ) × IsTurnOf w (part_of w phase next) turn)
+visible_where w phase next =
+    let since = phase.since in
+    let end = until w phase next in
+    let narrow = leb (w.to - w.from) 100 in (
+      λ h.
+          let (in_window, in_part) = turn_shown w since end (narrower narrow (turns_before w since) (turns_before w end) (ltb-true (place w since) (place w end) h)) in
+          (max since w.from, record { in_window = in_window; in_part = in_part }),
+      λ h.
+          let (turn, is) = h in
+          lt-ltb (place w since) (place w end) (wider narrow (turns_before w since) (turns_before w end) (shown_turn w since end turn is.in_window.0 is.in_window.1 is.in_part.0 is.in_part.1)),
+    )
+
+pub band_stands : (w : Window) (name : List ℕ) (free : ℕ) (before : List Phase) (phase : Phase) (more : List Phase) → IsTrue (is_visible (part_of w phase (next_in more)))
+    → StandsWithin (band_element name (part_of w phase (next_in more))) (drawn_from w name free (before ++ phase ∷ more))
+band_stands w name free [] phase more seen =
+    let part = part_of w phase (next_in more) in
+    let label = cond (is_labelled free part) (label_element part) [] in
+    let rest = drawn_from w name (free_after free part) more in (
+      [],
+      label ++ rest,
+      drawn_more w name free phase more
+          ∙ ap (λ (b : Bool). (cond b (band_element name part) [] ++ label) ++ rest) seen
+          ∙ append_assoc (band_element name part) label rest,
+    )
+band_stands w name free (first ∷ before) phase more seen =
+    let part = part_of w first (next_in (before ++ phase ∷ more)) in
+    let band = band_element name (part_of w phase (next_in more)) in
+    let drawn = part_elements name free part in
+    let (front, back, is) = band_stands w name (free_after free part) before phase more seen in (
+      drawn ++ front,
+      back,
+      drawn_more w name free first (before ++ phase ∷ more)
+          ∙ ap (λ (text : List ℕ). drawn ++ text) is
+          ∙ sym (append_assoc drawn (front ++ band) back)
+          ∙ ap (λ (text : List ℕ). text ++ back) (sym (append_assoc drawn front band)),
+    )
+
+-- ---- and lanes
+
+stands_front : (text whole more : List ℕ) → StandsWithin text whole → StandsWithin text (whole ++ more)
+stands_front text whole more h =
+    let (front, back, is) = h in
+    (front, back ++ more, ap (λ (t : List ℕ). t ++ more) is ∙ append_assoc (front ++ text) back more)
+
+stands_back : (text before whole : List ℕ) → StandsWithin text whole → StandsWithin text (before ++ whole)
+stands_back text before whole h =
+    let (front, back, is) = h in (
+      before ++ front,
+      back,
+      ap (λ (t : List ℕ). before ++ t) is
+          ∙ sym (append_assoc before (front ++ text) back)
+          ∙ ap (λ (t : List ℕ). t ++ back) (sym (append_assoc before front text)),
+    )
+
+one_of_each : (count : ℕ) (said : ℕ → List ℕ) (k : ℕ) → k < count → StandsWithin (said k) (each_below count said)
+unfolding each_below
+one_of_each zero said k less = absurd (omega (arith, less))
+one_of_each (suc n) said k less =
+    ⊎_elim
+    (λ (l : k < n). stands_front (said k) (each_below n said) (said n) (one_of_each n said k l))
+    (λ (l : n ≤ k).
+    let is : k ≡ n = omega (arith, less, l) in
+    stands_back (said k) (each_below n said) (said n) (subst (λ (j : ℕ). StandsWithin (said k) (said j)) is ([], [], sym (append-nil (said k)))))
+    (cases_lt k n)
+
+pub lane_stands : (w : Window) (named : List Bool) (m : MachineState) (steps : List SeenStep) (k : ℕ) → k < 0o100
+    → StandsWithin (channel_lane w m k) (drawing w named m steps) × StandsWithin (processor_lane w named m steps k) (drawing w named m steps)
+unfolding drawing
+lane_stands w named m steps k less =
+    let rows = lanes named m in
+    let above = (head_text w rows ++ colours_text ++ classes_text ++ legend_text ++ processor_legend_text) ++ ticks_text w rows in
+    let channels = each_below 0o100 (channel_lane w m) in
+    let processors = each_below 0o100 (processor_lane w named m steps) in (
+      stands_front (channel_lane w m k) ((above ++ channels) ++ processors) (foot_text rows)
+          (stands_front (channel_lane w m k) (above ++ channels) processors (stands_back (channel_lane w m k) above channels (one_of_each 0o100 (channel_lane w m) k less))),
+      stands_front (processor_lane w named m steps k) ((above ++ channels) ++ processors) (foot_text rows)
+          (stands_back (processor_lane w named m steps k) (above ++ channels) processors (one_of_each 0o100 (processor_lane w named m steps) k less)),
+    )

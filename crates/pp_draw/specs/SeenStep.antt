@@ -1,0 +1,87 @@
+-- How the steps of a run found their processors.
+use Rattle.std.specs.Prelude.{◌≡◌, ℕ, ◌+◌, ◌-◌, ◌<◌, ◌⊎◌, Bool, IsSome, IsTrue, nat_le, List, [], ◌∷◌, Option, None, Some}
+use Rattle.std.specs.List.{filter}
+use Rattle.pp_machine.specs.MachineState.{MachineState, processor_of}
+use Rattle.pp_machine.specs.MachineStep.{step_event, step_outcome, stepped}
+use Rattle.pp_machine.specs.NeedAndEffect.{need}
+use Rattle.pp_machine.specs.PpNo.{processor_count}
+use Rattle.pp_machine.specs.Profile.{processor_in_turn}
+use Rattle.pp_machine.specs.Run.{barrel, run}
+use Rattle.pp_machine.specs.declared.block.Block.{Block}
+use Rattle.pp_machine.specs.declared.need.Need.{Need}
+use Rattle.pp_machine.specs.declared.need.Need.TheVariants.{Nothing, Local, Channel, Read, Write}
+use Rattle.pp_machine.specs.declared.outcome.Outcome.{Outcome}
+use Rattle.pp_machine.specs.declared.outcome.Outcome.TheVariants.{Moved, Held, AtRest}
+use Rattle.pp_machine.specs.declared.pp_state.PpState.{PpState}
+use Rattle.pp_machine.specs.declared.pp_state.PpState.TheVariants as states
+use Rattle.pp_draw.specs.declared.condition.Condition.{Condition}
+use Rattle.pp_draw.specs.declared.condition.Condition.TheVariants.{InBlock, HeldBy, Stopped, Faulted}
+use Rattle.pp_draw.specs.declared.condition.Condition.TheVariants as conditions
+use Rattle.pp_draw.specs.declared.seen_step.SeenStep.{SeenStep}
+use Rattle.pp_draw.specs.declared.window.Window.{Window}
+
+-- a running processor that is not held: in a block or not
+abbrev pub moving : Option Block → Condition
+moving None = conditions.Running
+moving (Some block) = InBlock
+
+-- one that is held: by the channel that it needs
+abbrev pub held_by : Need → Condition
+held_by (Channel c operation) = HeldBy c
+held_by Nothing = conditions.Running
+held_by Local = conditions.Running
+held_by (Read a) = conditions.Running
+held_by (Write a word) = conditions.Running
+
+abbrev pub running : Outcome → Need → Option Block → Condition
+running Held need block = held_by need
+running Moved need block = moving block
+running AtRest need block = moving block
+
+-- by its state
+abbrev pub condition_by : PpState → Outcome → Need → Option Block → Condition
+condition_by states.Running outcome need block = running outcome need block
+condition_by states.Stopped outcome need block = Stopped
+condition_by (states.Fault number) outcome need block = Faulted
+
+-- how the next step finds processor n
+abbrev pub condition_of : ℕ → MachineState → Condition
+condition_of n m =
+    let pp = processor_of n m in
+    condition_by pp.state (step_outcome n m) (need pp) pp.block
+
+-- the next step of processor n
+abbrev pub seen_step : ℕ → MachineState → SeenStep
+seen_step n m = record { turn = m.turns; pp = n; condition = condition_of n m }
+
+-- all steps, where a machine takes these
+unfoldable pub seen_steps : List ℕ → MachineState → List SeenStep
+seen_steps [] m = []
+seen_steps (n ∷ steps) m = seen_step n m ∷ seen_steps steps (stepped n m)
+
+-- whether a step is shown: of a turn in the window, which the run does not go past, or in the round
+-- before it, whose steps say how the processors stand where the window begins
+abbrev pub is_shown : Window → SeenStep → Bool
+is_shown w step = nat_le (w.from - processor_count) step.turn
+
+-- the steps that are shown, of a run of a machine to the end of the window
+abbrev pub seen_in_window : Window → MachineState → List SeenStep
+seen_in_window w m = filter (is_shown w) (seen_steps (barrel m.profile w.to) m)
+
+-- whether the step of the barrel after this many turns makes an event, which is kept in the trace
+abbrev pub MakesEvent : MachineState → ℕ → Type 0
+MakesEvent m turns =
+    IsSome (step_event (processor_in_turn m.profile turns) (run (barrel m.profile turns) m))
+
+-- whether it is shown, and so kept to be drawn
+abbrev pub IsKept : Window → MachineState → ℕ → Type 0
+IsKept w m turns =
+    IsTrue (is_shown w
+    (seen_step (processor_in_turn m.profile turns) (run (barrel m.profile turns) m)))
+
+-- a run to the end of a window is cut after this many turns where something had to be kept: in
+-- front of a step that makes an event, or behind one that is shown
+abbrev pub IsCutAtGrowth : Window → MachineState → ℕ → Type 0
+IsCutAtGrowth w m done =
+    ((done < w.to) × MakesEvent m done)
+    ⊎ ((last : ℕ) × (done ≡ last + 1) × (last < w.to) × IsKept w m last)

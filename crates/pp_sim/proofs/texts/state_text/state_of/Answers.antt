@@ -1,0 +1,29 @@
+use Rattle.std.proofs.Common.{◌≡◌, List, ℕ, ap, ◌∙◌, subst}
+use Rattle.pp_machine.specs.Headline.{HoldsOnEachChannel}
+use Rattle.pp_machine.specs.MachineState.{MachineState}
+use Rattle.pp_machine.specs.Run.{barrel, run}
+use Rattle.pp_deck.specs.DeckMeaning.{LoadedDeck, deck_meaning}
+use Rattle.pp_state.specs.HeldSteps.{each_held_steps}
+use Rattle.pp_state.specs.StateText.{state_text}
+use Rattle.pp_sim.proofs.StateLemmas.{one_deck}
+use Rattle.pp_sim.proofs.texts.state_text.state_of.Goals as goal
+
+pub returns-in-Ok-printed_state-clause-ok : goal.returns-in-Ok-printed_state-clause-ok
+returns-in-Ok-printed_state-clause-ok g c =
+    let turns = c.args.turns in
+    let before = c.in_ok-before.before.machine in
+    let named = c.in_ok-before.before.named in
+    let ran_on : MachineState → MachineState = λ (m : MachineState). run (barrel m.profile turns) m in
+    let same : c.in_ok-after.after.machine ≡ before =
+    ap (λ (deck : LoadedDeck). deck.machine) (one_deck (deck_meaning c.args.profile c.args.deck.now) _ _ c.in_ok-after.ensures.ok c.in_ok-before.ensures.ok) in
+    let ran : c.run_counting_held.new.machine ≡ ran_on before = c.in-Ok.ensures.ran ∙ ap ran_on same in
+    let counted : c.in-Ok.held ≡ each_held_steps (barrel before.profile turns) before =
+    c.in-Ok.ensures.held ∙ ap (λ (m : MachineState). each_held_steps (barrel m.profile turns) m) same in
+    record {
+      deck = _;
+      meant = c.in_ok-before.ensures.ok;
+      run = record {
+        told = c.in-Ok-printed_state.ensures.text ∙ ap (λ (m : MachineState). state_text named before m c.in-Ok.held) ran ∙ ap (λ (held : List ℕ). state_text named before (ran_on before) held) counted;
+        headline = subst HoldsOnEachChannel ran c.run_counting_held.ensures.headline;
+      };
+    }

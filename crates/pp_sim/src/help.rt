@@ -1,0 +1,286 @@
+//! The texts of the program's help.
+
+/// The help of a command.
+#[derive(Clone, Copy)]
+pub(crate) struct Help {
+    /// Its line in the list of commands, with which its short help begins.
+    pub(crate) about: &'static str,
+    /// What its long help says in place of this line.
+    pub(crate) long_about: &'static str,
+    /// The end of both.
+    pub(crate) example: &'static str,
+}
+
+pub(crate) const ABOUT: &str =
+    "Simulates the peripheral processors and data channels of a Control Data 6600";
+
+/// The end of the long help.
+pub(crate) const MANUAL: &str = "\
+A deck has these lines. All its numbers are octal:
+  CENTRAL 10000     the size of central memory; only as the first line
+  PP 0              what follows is for processor 0
+  0100 1405 0300    stores these words from address 0100 on
+  START 0100        the processor starts at 0100, with A = 0; START 0100 7 starts it with A = 7
+  CM 20 1 2         stores these central words from address 20 on
+  DEAD              the processors without a section wait for their programs
+  * and the rest of a line is a comment
+
+A deck with a fault is refused, as in 'ppsim: deck fault 4 at line 3':
+  1  it is longer than 1048576 bytes (decimal)
+  2  a byte is not ASCII
+  3  no such line, or too few or too many fields
+  4  not a number of that many octal digits
+  5  no such processor
+  6  words or START before the first PP line
+  7  a word past address 7777
+  8  the size of central memory, or a central word, is out of range
+  9  out of memory, printed as 'ppsim: out of memory'
+
+The exit status is 0 when the work is done or help was asked for, 1 when the deck is refused or
+can't be dumped as it stands, or when a trace is not lawful, 2 when the command line is refused, 3
+after a read or write fault, and 4 when memory runs out.
+
+The pages TUTORIAL.md, docs/MACHINE.md (the instructions), docs/DECK.md, docs/OUTPUT.md and
+docs/VIEWS.md of the repository say more.
+
+Example:
+  ppsim barrel --turns 40 < handoff.deck
+where handoff.deck has the lines
+  PP 0
+  0100 7405 1407 7205 0300
+  START 0100
+  PP 1
+  0200 7005 0300
+  START 0200";
+
+/// The end of the short help.
+pub(crate) const EXAMPLE: &str = "\
+Example:
+  ppsim barrel --turns 40 < handoff.deck
+where handoff.deck has the lines
+  PP 0
+  0100 7405 1407 7205 0300
+  START 0100
+  PP 1
+  0200 7005 0300
+  START 0200";
+
+pub(crate) const BARREL_HELP: Help = Help {
+    about: "Runs a deck in the barrel, one step a turn, and prints what happened",
+    long_about: "\
+Runs a deck in the barrel: processors 0, 1, .. and 11 (octal) take one step a turn, again and again;
+of twenty processors, 20, 21, .. and 31 follow them in each round.
+
+Reads the deck from standard input. Prints to standard output a line for each channel event, in
+order; the P, the A and the state of each processor that the deck names; and the state of each
+channel that has a history. What goes wrong is one line on standard error.
+
+FAULT 1 is an exchange jump, FAULT 2 a request to the central processor, FAULT 3 a channel that the
+machine does not have, and FAULT 4 an address past the end of central memory.
+
+Where the deck has a line DEAD, the processors without a section wait for their programs, each on
+the channel of its own number, as at a dead start.",
+    example: EXAMPLE,
+};
+
+pub(crate) const THREADS_HELP: Help = Help {
+    about: "Runs a deck with one thread per processor, and prints what happened",
+    long_about: "\
+Runs a deck with one thread per processor, all at once. Each goes on at its own speed, so the
+order of events on different channels, and sometimes the events themselves, differ from run to run.
+
+A processor ends when its program stops or faults, when its steps are done (STEPS), or when a
+channel has held one step too often in a row (PATIENCE). 1000000 is a good patience. A processor
+that waits for ever makes all these tries, in about a second; at the greatest patience in hours.
+It also ends where it is refused memory for one more answer (MEMORY), and where a channel has had
+2^50 - 1 events (WORN).
+
+FAULT 1 is an exchange jump, FAULT 2 a request to the central processor, FAULT 3 a channel that the
+machine does not have, and FAULT 4 an address past the end of central memory.
+
+Reads the deck from standard input. Prints to standard output, channel by channel, a line for each
+event in order; the P, the A and the end of each processor that the deck names; and the state of
+each channel that has a history. What goes wrong is one line on standard error.
+
+Where the deck has a line DEAD, the processors without a section wait for their programs, each on
+the channel of its own number, as at a dead start.",
+    example: "\
+Example:
+  ppsim threads --steps 100 --patience 1000000 < handoff.deck
+where handoff.deck has the lines
+  PP 0
+  0100 7405 1407 7205 0300
+  START 0100
+  PP 1
+  0200 7005 0300
+  START 0200",
+};
+
+pub(crate) const LIST_HELP: Help = Help {
+    about: "Prints the listing of a deck, one instruction a line, which is itself a deck",
+    long_about: "\
+Prints the listing of a deck: the words of each processor that are not 0, one instruction a line,
+with its mnemonic and operands behind it as a comment. Nothing is run.
+
+Reads the deck from standard input. Prints to standard output the size of central memory and its
+words; DEAD, where processors wait for their programs; and the section of each processor that the
+deck names. What goes wrong is one line on standard error.
+
+The listing is itself a deck, and loads the same machine, where it is no longer than a deck may be,
+1048576 bytes (decimal).",
+    example: "\
+Example:
+  ppsim list < four.deck
+where four.deck has the lines
+  PP 0
+  0100 1405 1603 3450 0300
+  START 0100",
+};
+
+pub(crate) const DUMP_HELP: Help = Help {
+    about: "Runs a deck in the barrel, and prints a deck to go on from",
+    long_about: "\
+Runs a deck in the barrel, and prints what is in the machine then, in the form of a listing: central
+memory, and the words of each processor that the deck names or that was loaded at dead start. Those
+that are running start where they are; the others keep their memory alone.
+
+Reads the deck from standard input. What is printed to standard output is a deck to go on from,
+where it is no longer than a deck may be, 1048576 bytes (decimal): histories and turns are gone.
+Where a processor is within a block or at fault, or a channel is active, nothing is printed, and the
+first of these is told on standard error. Any other fault is one line there too.",
+    example: "\
+Example:
+  ppsim dump --turns 40 < four.deck
+where four.deck has the lines
+  PP 0
+  0100 1405 1603 3450 0300
+  START 0100",
+};
+
+pub(crate) const STATE_HELP: Help = Help {
+    about: "Runs a deck in the barrel, and prints how things stand then",
+    long_about: "\
+Runs a deck in the barrel, and prints how things stand then: where each processor is and what holds
+it, what the run has changed in the memories, and the state of the channels.
+
+Reads the deck from standard input. Prints to standard output, for each processor that the deck
+names, its P, its A and its state, the instruction at P, the next place of a block in progress, and,
+where its next step is held, by which channel and how many of its last steps in a row were; then the
+words of processors and of central memory that differ from those loaded, as lines of a deck; and the
+state of each channel that has a history. What goes wrong is one line on standard error.
+
+FAULT 1 is an exchange jump, FAULT 2 a request to the central processor, FAULT 3 a channel that the
+machine does not have, and FAULT 4 an address past the end of central memory.",
+    example: "\
+Example:
+  ppsim state --turns 40 < four.deck
+where four.deck has the lines
+  PP 0
+  0100 1405 1603 3450 0300
+  START 0100",
+};
+
+pub(crate) const SESSIONS_HELP: Help = Help {
+    about: "Runs a deck in the barrel, and prints the sessions of its channels",
+    long_about: "\
+Runs a deck in the barrel, and prints the sessions of its channels, each from an activate to the
+disconnect after it.
+
+Reads the deck from standard input. Prints to standard output, channel by channel, a line for each
+session: the turns of its activate and its disconnect (DEAD START, where it was open before the
+first turn; GOING ON, where it still is), how many words were put and taken, and the word that was
+put and not taken, which was LOST by the disconnect or is WAITING; and a line for each idle stretch
+with function codes. Then, for each processor that the deck names, how many of its turns MOVED it,
+were HELD, and found it at REST. Turns and counts are decimal, words octal. What goes wrong is one
+line on standard error.",
+    example: "\
+Example:
+  ppsim sessions --turns 40 < handoff.deck
+where handoff.deck has the lines
+  PP 0
+  0100 7405 1407 7205 0300
+  START 0100
+  PP 1
+  0200 7005 0300
+  START 0200",
+};
+
+pub(crate) const STEPS_HELP: Help = Help {
+    about: "Runs a deck in the barrel, and prints each step",
+    long_about: "\
+Runs a deck in the barrel, and prints each step: what the instruction is, and what it did.
+
+Reads the deck from standard input. Prints to standard output a line for each step of the processors
+that the deck names: the turn, the processor, P, the word or two at P, the instruction that they
+are, and A after it; then each place and each central word that the step changed; the channel event,
+or the flags that were seen; and STOPPED or FAULT with its number. Steps of a processor that are
+held in a row, with the same flags, are one line, at the first of them: HELD, the channel with its
+flags, and how many there are. What goes wrong is one line on standard error.
+
+FAULT 1 is an exchange jump, FAULT 2 a request to the central processor, FAULT 3 a channel that the
+machine does not have, and FAULT 4 an address past the end of central memory.",
+    example: "\
+Example:
+  ppsim steps --turns 40 --pp 0 < four.deck
+where four.deck has the lines
+  PP 0
+  0100 1405 1603 3450 0300
+  START 0100",
+};
+
+pub(crate) const DRAW_HELP: Help = Help {
+    about: "Runs a deck in the barrel, and draws what happened",
+    long_about: "\
+Runs a deck in the barrel, and draws what happened, as an SVG for a browser.
+
+Reads the deck from standard input. Prints to standard output a picture with a lane for each channel
+that was used, where it was active and full, with its words and function codes, and with the words
+that were lost; and a lane for each processor that the deck names, where it was running, held and by
+which channel, in a block, stopped or at fault. Turns go from left to right. What goes wrong is one
+line on standard error.
+
+A picture has at most 2000 turns. Of a longer run, give the first turn to draw and the one before
+which the picture ends: --turns 999999 --from 5000 --to 6000.",
+    example: "\
+Example:
+  ppsim draw --turns 40 < handoff.deck
+where handoff.deck has the lines
+  PP 0
+  0100 7405 1407 7205 0300
+  START 0100
+  PP 1
+  0200 7005 0300
+  START 0200",
+};
+
+pub(crate) const CHECK_HELP: Help = Help {
+    about: "Reads a channel trace, and says whether it is lawful",
+    long_about: "\
+Reads a channel trace, and says whether it is lawful: whether on each channel its events, in order,
+may be those of one channel, on which in every session the words taken are the first of the words
+put. No deck is read, and nothing is run.
+
+Reads from standard input, to its end, a text in the lines that barrel or threads print, whoever
+made it. Events with turns are in order of turns; events with numbers count the events of their
+channel from 0, or from 1 where it was open before. Lines of processors, blank lines and comments,
+from a * on, are passed over; a line that says how a channel stands has to agree with the events
+before it.
+
+Prints to standard output how many events, channels and sessions there are. Where the trace is not
+lawful, nothing is printed there, and the first line at which it is not is told on standard error,
+with what is wrong, as in 'ppsim: line 7: TAK 0007 on CH05, which is empty'; the exit status is 1.",
+    example: "\
+Example:
+  ppsim check < handoff.trace
+where handoff.trace has the lines
+  000000 PP00 CH05 ACN
+  000020 PP00 CH05 PUT 0007
+  000021 PP01 CH05 TAK 0007",
+};
+
+pub(crate) const PROCESSORS_HELP: &str =
+    "How many processors the machine has, 10 or 20 (decimal); 10 if not given";
+
+pub(crate) const PP_HELP: &str = "Print the steps of this processor only (octal)";
+
+pub(crate) const OPENED_HELP: &str = "The channels that were open before the trace (octal)";
