@@ -87,15 +87,15 @@ const BY_CHANCE: [(&str, &str, &str); 2] = [
     ("disconnect_race", "text", "other"),
 ];
 
-/// The words that run a deck by threads. A processor that waits gives its core away again and again,
-/// so a million tries last until the others have done their work.
+/// The words that run a deck by threads. In each of these decks every processor stops by itself, so
+/// the greatest patience costs nothing, and no machine is too busy for it.
 const THREADS: [&str; 6] = [
     "ppsim",
     "threads",
     "--steps",
     "100",
     "--patience",
-    "1000000",
+    "4294967295",
 ];
 
 /// The same of twenty processors.
@@ -107,7 +107,7 @@ const THREADS_OF_TWENTY: [&str; 8] = [
     "--steps",
     "100",
     "--patience",
-    "1000000",
+    "4294967295",
 ];
 
 fn main(rt: HostRuntime) -> anyhow::Result<()> {
