@@ -211,8 +211,12 @@ fn locked_size<'a>(
 #[test]
 fn locked_central_refused(rt: HostRuntime) -> Result<(), Fail> {
     let heap = Rationed::new(rt.alloc());
-    let central = Central::new(&heap, 0o41)?;
-    let last = heap.refuse_each(|_| Some(locked_size(&heap, &central)? == 0o41))?;
+    let last = heap.refuse_each(|number| {
+        heap.refuse(0);
+        let central = Central::new(&heap, 0o41).ok()?;
+        heap.refuse(number);
+        Some(locked_size(&heap, &central)? == 0o41)
+    })?;
     assert!(rt; last > 32, "each bank grows");
     Ok(())
 }

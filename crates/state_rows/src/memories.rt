@@ -31,10 +31,12 @@ fn deck_over(heap: &Rationed<Global>) -> Result<Deck<&Rationed<Global>>, DeckFau
 #[test]
 fn state_refused(rt: HostRuntime) -> Result<(), Fail> {
     let heap = Rationed::new(rt.alloc());
-    let loaded = deck_over(&heap)?;
-    let mut deck = deck_over(&heap)?;
-    let held = run_counting_held(&mut deck.machine, TURNS)?;
-    let last = heap.refuse_each(|_| {
+    let last = heap.refuse_each(|number| {
+        heap.refuse(0);
+        let loaded = deck_over(&heap).ok()?;
+        let mut deck = deck_over(&heap).ok()?;
+        let held = run_counting_held(&mut deck.machine, TURNS).ok()?;
+        heap.refuse(number);
         let (named, machine) = (&deck.named, &deck.machine);
         let text = printed_state(&heap, named, &loaded.machine, machine, &held).ok()?;
         Some(text.as_slice() == STATE.as_bytes())

@@ -39,8 +39,10 @@ fn deck_over(heap: &Rationed<Global>) -> Result<Deck<&Rationed<Global>>, DeckFau
 #[test]
 fn steps_refused(rt: HostRuntime) -> Result<(), Fail> {
     let heap = Rationed::new(rt.alloc());
-    let deck = deck_over(&heap)?;
-    let last = heap.refuse_each(|_| {
+    let last = heap.refuse_each(|number| {
+        heap.refuse(0);
+        let deck = deck_over(&heap).ok()?;
+        heap.refuse(number);
         let mut written = Vec::new(rt.alloc());
         match write_steps(&heap, &mut written, &deck.machine, &deck.named, TURNS, 0) {
             Err(ReportFault::Memory) if written.is_empty() => None,
@@ -96,20 +98,30 @@ START 0100
 ";
 
 /// How many requests the steps of this loop make in so many turns, and one more.
-fn requests_in(alloc: Global, heap: &Rationed<Global>, turns: u32) -> Result<u64, Fail> {
+fn requests_in(alloc: Global, turns: u32) -> Result<u64, Fail> {
+    let heap = Rationed::new(alloc);
     let last = heap.refuse_each(|_| {
         let mut written = Vec::new(alloc);
         let mut input = LOOP.as_bytes();
-        steps_text(heap, Profile::Ten, &mut input, &mut written, turns, None, 0).ok()?;
-        Some(true)
+        match steps_text(
+            &heap,
+            Profile::Ten,
+            &mut input,
+            &mut written,
+            turns,
+            None,
+            0,
+        ) {
+            Err(TextFault::Memory) => None,
+            done => Some(done.is_ok()),
+        }
     })?;
     Ok(last)
 }
 
 #[test]
 fn lines_take_no_memory(rt: HostRuntime) -> Result<(), Fail> {
-    let heap = Rationed::new(rt.alloc());
-    let few = requests_in(rt.alloc(), &heap, 100)?;
-    assert_eq!(rt; requests_in(rt.alloc(), &heap, 20_000)?, few);
+    let few = requests_in(rt.alloc(), 100)?;
+    assert_eq!(rt; requests_in(rt.alloc(), 20_000)?, few);
     Ok(())
 }

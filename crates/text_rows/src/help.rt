@@ -106,11 +106,12 @@ fn help_of_commands(rt: HostRuntime) -> Result<(), Fail> {
     for command in &COMMANDS {
         let long = command.long(rt.alloc())?;
         let short = command.short(rt.alloc())?;
-        for (words, text) in [
-            (["ppsim", command.name, "--help"], &long),
-            (["ppsim", "help", command.name], &long),
-            (["ppsim", command.name, "-h"], &short),
+        for (first, second, text) in [
+            (command.name, "--help", &long),
+            ("help", command.name, &long),
+            (command.name, "-h", &short),
         ] {
+            let words = ["ppsim", first, second];
             let ended = ending(&rt, &words, handoff(), text.as_str(), "");
             assert_eq!(rt; ended, (0, true, true, 0), "{text}");
         }
