@@ -8,7 +8,7 @@ use crate::program::{ending, handoff};
 use std::alloc::{AllocError, Global};
 use std::test::Fail;
 
-const VERSION: &str = "ppsim 1.0 (rattle-kit-13b logic dac8208d650f15bf)\n";
+const VERSION: &str = "ppsim 1.0 (rattle-kit-13f logic dac8208d650f15bf)\n";
 
 /// The commands, in the order of the program's help.
 const COMMANDS: [CommandHelp; 9] = [
