@@ -1,19 +1,58 @@
 -- The table of operations gives the answer of a channel on lawful histories, and no other is one.
 use Rattle.std.proofs.Common.{◌≡◌, ℕ, ◌==◌, Bool, true, false, List, [], ◌∷◌, ◌++◌, Option, Some, None, refl, sym, ap, ◌∙◌, subst, inl, inr}
-use Rattle.std.specs.Prelude.{◌↔◌, if◌then◌else◌, is_some}
+use Rattle.std.specs.Prelude.{◌↔◌, ◌⊎◌, if◌then◌else◌, is_some}
 use Rattle.std.specs.Option.{option_to_list}
 use Rattle.std.proofs.lemmas.List.{append-nil}
 use Rattle.std.proofs.lemmas.List.Elements.{All-push}
 use Rattle.std.proofs.lemmas.Bool.{eqb-true}
 use Rattle.pp_channel.specs.declared.event.Event.{Event}
 use Rattle.pp_channel.specs.declared.chan_op.ChanOp.{ChanOp}
+use Rattle.pp_channel.specs.declared.channel_state.ChannelState.{ChannelState}
 use Rattle.pp_channel.specs.declared.reply.Reply.{Reply}
 use Rattle.pp_channel.specs.declared.flags.Flags.{Flags}
 use Rattle.pp_channel.specs.History.{IsLawful, HasTwelveBitWord, full, waiting}
-use Rattle.pp_channel.specs.Answer.{operation_of, IsReady, IsAnswer, event_by, event_of, flags_of, flags_after, word_after, reply_by, reply_to, history_after}
+use Rattle.pp_channel.specs.Answer.{operation_of, IsReady, IsAnswer, channel_state, event_answered, event_by, event_of, flags_of, flags_after, flags_shown, only_looks, word_after, reply_by, reply_shown, reply_to, history_after}
 use Rattle.pp_channel.specs.Kept.{IsKept}
 use Rattle.pp_channel.proofs.HistoryWalk.{State, Inactive, Empty, Holding, step, step_take, walk, walk-append}
 use Rattle.pp_channel.proofs.HistoryLemmas.{is_active, held_word, Fits, active_at, full_at, waiting_at, state_at, lawful_next}
+
+-- an operation that only looks makes no event
+pub look_makes_none : (op : ChanOp) (f : Flags) (word : Option ℕ) → only_looks op ≡ true → event_by op f word ≡ None
+look_makes_none ChanOp.Probe f word looks = refl
+look_makes_none op f word looks = absurd cc
+
+-- and is not held
+pub look_not_held : (op : ChanOp) (state : ChannelState) (f : Flags) → only_looks op ≡ true → reply_shown op state ≡ Reply.Held f → ⊥
+look_not_held ChanOp.Probe state f looks held = cc
+look_not_held op state f looks held = cc
+
+-- any other operation that makes none is held
+pub held_at : (op : ChanOp) (state : ChannelState) → only_looks op ≡ false → reply_shown op state ≡ Reply.Held state.flags
+held_at ChanOp.Probe state acts = absurd cc
+held_at op state acts = refl
+
+-- where none is made, the reply shows the flags
+pub shows_flags : (op : ChanOp) (state : ChannelState) → flags_shown (reply_shown op state) ≡ Some state.flags
+shows_flags ChanOp.Probe state = refl
+shows_flags op state = refl
+
+-- and one that shows them tells of none
+pub shown_makes_none : (op : ChanOp) (reply : Reply) (f : Flags) → flags_shown reply ≡ Some f → event_answered op reply ≡ None
+shown_makes_none op (Reply.Flags g) f shows = refl
+shown_makes_none op (Reply.Held g) f shows = refl
+shown_makes_none op Reply.Done f shows = absurd cc
+shown_makes_none op (Reply.Word w) f shows = absurd cc
+
+-- an operation either looks or acts, and one that makes an event acts
+pub looks_or_acts : (b : Bool) → (b ≡ true) ⊎ (b ≡ false)
+looks_or_acts true = inl refl
+looks_or_acts false = inr refl
+
+pub acts_where_made : (op : ChanOp) (f : Flags) (word : Option ℕ) (e : Event) → event_by op f word ≡ Some e → only_looks op ≡ false
+acts_where_made op f word e made = elim (looks_or_acts (only_looks op)) [
+  | inl looks ↦ let none : None ≡ Some e = sym (look_makes_none op f word looks) ∙ made in absurd cc
+  | inr acts ↦ acts
+]
 
 -- the table at a state
 abbrev flags_at : State → Flags
@@ -157,7 +196,7 @@ word_by_table h e l more =
     waiting_at (h ++ e ∷ []) s.2.0 s.2.2 ∙ (leads s.0 e s.2.0 s.2.1).1
 
 -- the answer of the table is the channel's
-answer_with : (h : List Event) → IsLawful h → (op : ChanOp) (o : Option Event) → event_of op h ≡ o → IsAnswer h op (reply_by op h o) (h ++ option_to_list o)
+answer_with : (h : List Event) → IsLawful h → (op : ChanOp) (o : Option Event) → event_of op h ≡ o → IsAnswer h op (reply_by op (channel_state h) o) (h ++ option_to_list o)
 answer_with h l op (Some e) is = inl (e, record { ready = ready_of_table h op e l is; answered = refl; recorded = refl })
 answer_with h l op None is =
     inr (record { not_ready = λ e r. let some = table_of_ready h l op e r in cc; answered = refl; unchanged = append-nil h })
@@ -168,6 +207,10 @@ answered_by_table h op reply after l r a =
     let Q : List Event → Type 0 = λ x. IsAnswer h op (reply_to op h) x in
     subst P (sym r) (subst Q (sym a) (answer_with h l op (event_of op h) refl))
 
+pub answered_where_none : (h : List Event) (op : ChanOp) (reply : Reply) → IsLawful h → event_of op h ≡ None → reply ≡ reply_shown op (channel_state h) → IsAnswer h op reply h
+answered_where_none h op reply l none shown =
+    inr (record { not_ready = λ e r. let some = table_of_ready h l op e r in cc; answered = shown; unchanged = refl })
+
 -- and no other is
 pub none_without_ready : (h : List Event) → IsLawful h → (op : ChanOp) → ((e : Event) → ¬ IsReady h op e) → (o : Option Event) → event_of op h ≡ o → event_of op h ≡ None
 none_without_ready h l op never None is = is
@@ -176,10 +219,10 @@ none_without_ready h l op never (Some e) is = absurd (never e (ready_of_table h 
 only_answer : (h : List Event) → IsLawful h → (op : ChanOp) (reply : Reply) (after : List Event) → IsAnswer h op reply after → (reply ≡ reply_to op h) × (after ≡ history_after op h)
 only_answer h l op reply after (inl (e, made)) =
     let is = table_of_ready h l op e made.ready in
-    (made.answered ∙ sym (ap (λ o. reply_by op h o) is), made.recorded ∙ sym (ap (λ o. h ++ option_to_list o) is))
+    (made.answered ∙ sym (ap (λ o. reply_by op (channel_state h) o) is), made.recorded ∙ sym (ap (λ o. h ++ option_to_list o) is))
 only_answer h l op reply after (inr shown) =
     let is = none_without_ready h l op shown.not_ready (event_of op h) refl in
-    (shown.answered ∙ sym (ap (λ o. reply_by op h o) is), shown.unchanged ∙ (sym (append-nil h) ∙ sym (ap (λ o. h ++ option_to_list o) is)))
+    (shown.answered ∙ sym (ap (λ o. reply_by op (channel_state h) o) is), shown.unchanged ∙ (sym (append-nil h) ∙ sym (ap (λ o. h ++ option_to_list o) is)))
 
 pub answer_by_table : (h : List Event) (op : ChanOp) (reply : Reply) (after : List Event) → IsLawful h → IsAnswer h op reply after ↔ ((reply ≡ reply_to op h) × (after ≡ history_after op h))
 answer_by_table h op reply after l = (only_answer h l op reply after, λ p. answered_by_table h op reply after l p.0 p.1)

@@ -2,8 +2,7 @@
 use Rattle.std.proofs.Common.{◌≡◌, List, [], ◌∷◌, ◌++◌, refl, ap}
 use Rattle.std.specs.Prelude.{Option, Some}
 use Rattle.std.specs.Option.{option_to_list}
-use Rattle.pp_channel.specs.Answer.{event_of, flags_after, history_after, word_after}
-use Rattle.pp_channel.specs.ChannelState.{channel_state}
+use Rattle.pp_channel.specs.Answer.{channel_state, event_of, flags_after, history_after, word_after}
 use Rattle.pp_channel.specs.History.{IsLawful}
 use Rattle.pp_channel.specs.declared.chan_op.ChanOp.{ChanOp}
 use Rattle.pp_channel.specs.declared.event.Event.{Event}

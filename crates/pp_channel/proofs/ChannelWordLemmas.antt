@@ -1,6 +1,6 @@
 -- What the word of a history says, the word after one more event, and what a step from a word says of its histories.
 use Rattle.std.proofs.Common.{◌≡◌, ◌≢◌, ℕ, ◌+◌, ◌/◌, ◌%◌, ◌^◌, ◌<◌, ◌==◌, ◌&&◌, Bool, true, false, List, [], ◌∷◌, ◌++◌, length, Option, Some, None, refl, sym, ap, ◌∙◌, subst, inl, inr, arith}
-use Rattle.std.specs.Prelude.{if◌then◌else◌, unwrap_or, All, ◌⊎◌}
+use Rattle.std.specs.Prelude.{if◌then◌else◌, not, unwrap_or, All, ◌⊎◌}
 use Rattle.std.specs.List.{AllByRecursion, last_or}
 use Rattle.std.proofs.lemmas.Bool.{eq-eqb, ne_eqb, eqb-true}
 use Rattle.std.proofs.lemmas.List.{length_push}
@@ -13,10 +13,10 @@ use Rattle.pp_channel.specs.declared.reply.Reply.{Reply}
 use Rattle.pp_channel.specs.declared.word_step.WordStep.{WordStep}
 use Rattle.pp_channel.specs.Session.{puts, takes}
 use Rattle.pp_channel.specs.History.{IsLawful, HasTwelveBitWord, HasTwelveBitWords, active, full, waiting, last_stretch}
-use Rattle.pp_channel.specs.Answer.{IsReady, IsAnswer, reply_shown, operation_of, event_by, event_of, flags_of, flags_after, word_after, reply_made}
+use Rattle.pp_channel.specs.Answer.{IsReady, IsAnswer, channel_state, only_looks, reply_shown, event_by, event_of, flags_of, flags_after, word_after, reply_made}
 use Rattle.pp_channel.specs.ChannelWord.{packed, history_word, number_in, flags_in, register_in, greatest_number}
-use Rattle.pp_channel.specs.WordStep.{waiting_in, event_in, word_with, step_by, step_from, StepsFrom}
-use Rattle.pp_channel.proofs.AnswerLemmas.{ready_of_table, table_of_ready, none_without_ready, lawful_with_event, flags_by_table, word_by_table}
+use Rattle.pp_channel.specs.WordStep.{waiting_in, state_in, event_in, word_with, step_shown, step_by, step_from, StepsFrom}
+use Rattle.pp_channel.proofs.AnswerLemmas.{acts_where_made, answered_where_none, look_makes_none, ready_of_table, table_of_ready, none_without_ready, lawful_with_event, flags_by_table, word_by_table}
 
 -- what was packed is read again
 number_packed : (n : ℕ) (a f : Bool) (r : ℕ) → r < 2 ^ 12 → number_in (packed n (record { active = a; full = f }) r) ≡ n
@@ -110,20 +110,9 @@ flags_at_word word h bits same = ap flags_in (sym same) ∙ flags_of_word h bits
 event_at_word : (op : ChanOp) (word : ℕ) (o : Option Event) (h : List Event) → HasTwelveBitWords h → history_word h ≡ word → event_in op word ≡ o → event_of op h ≡ o
 event_at_word op word o h bits same is = sym (event_of_word op h bits) ∙ (ap (λ w. event_in op w) same ∙ is)
 
-never_probe : (e : Event) (op : ChanOp) → operation_of e ≡ op → op ≢ ChanOp.Probe
-never_probe Activate op is = λ p. cc
-never_probe Disconnect op is = λ p. cc
-never_probe (Put w) op is = λ p. cc
-never_probe (Take w) op is = λ p. cc
-never_probe (Function w) op is = λ p. cc
-
-shown_held : (op : ChanOp) (h : List Event) → op ≢ ChanOp.Probe → reply_shown op h ≡ Reply.Held (flags_of h)
-shown_held ChanOp.Probe h acting = absurd (acting refl)
-shown_held ChanOp.Activate h acting = refl
-shown_held ChanOp.Disconnect h acting = refl
-shown_held (ChanOp.Put w) h acting = refl
-shown_held ChanOp.Take h acting = refl
-shown_held (ChanOp.Function w) h acting = refl
+state_of_word : (h : List Event) → HasTwelveBitWords h → state_in (history_word h) ≡ channel_state h
+state_of_word h bits =
+    ap (λ f. record { flags = f; register = waiting_in (history_word h) }) (flags_of_word h bits) ∙ ap (λ w. record { flags = flags_of h; register = w }) (waiting_of_word h bits)
 
 -- the word of a lawful history with an event by which it stays lawful
 word_after_event : (h : List Event) (e : Event) → IsLawful h → HasTwelveBitWords h → IsLawful (h ++ e ∷ []) → word_with (history_word h) e ≡ history_word (h ++ e ∷ [])
@@ -133,108 +122,120 @@ word_after_event h e l bits more =
     ∙ (ap (λ g. packed (length (h ++ e ∷ [])) g (unwrap_or (word_after e) 0)) (sym (flags_by_table h e l more))
     ∙ ap (λ w. packed (length (h ++ e ∷ [])) (flags_of (h ++ e ∷ [])) (unwrap_or w 0)) (sym (word_by_table h e l more)))
 
--- the step of an operation other than a probe
-abbrev acts_from : ChanOp → ℕ → WordStep
-acts_from op word = if number_in word == greatest_number then WordStep.Worn else step_by word (event_in op word)
+-- an operation that does more than look, on a word that can count no more
+worn_if : (look most : Bool) → (not look && most) ≡ true → (look ≡ false) × (most ≡ true)
+worn_if true most is = absurd cc
+worn_if false most is = (refl, is)
 
-acts : (op : ChanOp) (word : ℕ) → op ≢ ChanOp.Probe → step_from op word ≡ acts_from op word
-acts ChanOp.Probe word acting = absurd (acting refl)
-acts ChanOp.Activate word acting = refl
-acts ChanOp.Disconnect word acting = refl
-acts (ChanOp.Put w) word acting = refl
-acts ChanOp.Take word acting = refl
-acts (ChanOp.Function w) word acting = refl
+not_worn_if : (look most : Bool) → (not look && most) ≡ false → look ≡ false → most ≡ false
+not_worn_if true most is acts = absurd cc
+not_worn_if false most is acts = is
 
-acts_below : (op : ChanOp) (word : ℕ) (o : Option Event) → op ≢ ChanOp.Probe → number_in word ≢ greatest_number → event_in op word ≡ o → step_from op word ≡ step_by word o
-acts_below op word o acting room is =
-    acts op word acting
-    ∙ (ap (λ b. if b then WordStep.Worn else step_by word (event_in op word)) (ne_eqb (number_in word) greatest_number room)
-    ∙ ap (λ x. step_by word x) is)
+room_if : (look most : Bool) → (look ≡ false → most ≡ false) → (not look && most) ≡ false
+room_if true most room = refl
+room_if false most room = room refl
 
-acts_worn : (op : ChanOp) (word : ℕ) → op ≢ ChanOp.Probe → number_in word ≡ greatest_number → step_from op word ≡ WordStep.Worn
-acts_worn op word acting most =
-    acts op word acting ∙ ap (λ b. if b then WordStep.Worn else step_by word (event_in op word)) (eq-eqb (number_in word) greatest_number most)
+abbrev step_if : ChanOp → ℕ → Bool → WordStep
+step_if op word worn = if worn then WordStep.Worn else step_by op word (event_in op word)
 
--- what a step can be: a probe looks; any other operation finds the channel worn, or is held, or makes
--- its event
-abbrev Looks : ChanOp → ℕ → WordStep → Type 0
-Looks op word step = (op ≡ ChanOp.Probe) × (step ≡ WordStep.Look (flags_in word))
+abbrev shown_if : Bool → Flags → WordStep
+shown_if look f = if look then WordStep.Look f else WordStep.Held f
 
+steps_below : (op : ChanOp) (word : ℕ) (o : Option Event) → (only_looks op ≡ false → number_in word ≢ greatest_number) → event_in op word ≡ o → step_from op word ≡ step_by op word o
+steps_below op word o room is =
+    ap (step_if op word) (room_if (only_looks op) (number_in word == greatest_number) (λ acts. ne_eqb (number_in word) greatest_number (room acts)))
+    ∙ ap (λ x. step_by op word x) is
+
+steps_worn : (op : ChanOp) (word : ℕ) → only_looks op ≡ false → number_in word ≡ greatest_number → step_from op word ≡ WordStep.Worn
+steps_worn op word acts most =
+    ap (λ look. step_if op word (not look && (number_in word == greatest_number))) acts ∙ ap (step_if op word) (eq-eqb (number_in word) greatest_number most)
+
+-- what a step can be: an operation finds the channel worn, or is shown how it stands, or makes its event
 abbrev FindsWorn : ChanOp → ℕ → WordStep → Type 0
-FindsWorn op word step = (op ≢ ChanOp.Probe) × (number_in word ≡ greatest_number) × (step ≡ WordStep.Worn)
+FindsWorn op word step = (only_looks op ≡ false) × (number_in word ≡ greatest_number) × (step ≡ WordStep.Worn)
 
-abbrev IsHeld : ChanOp → ℕ → WordStep → Type 0
-IsHeld op word step = (op ≢ ChanOp.Probe) × (number_in word ≢ greatest_number) × (event_in op word ≡ None) × (step ≡ WordStep.Held (flags_in word))
+abbrev Shows : ChanOp → ℕ → WordStep → Type 0
+Shows op word step = (only_looks op ≡ false → number_in word ≢ greatest_number) × (event_in op word ≡ None) × (step ≡ step_shown op (flags_in word))
 
 abbrev Makes : ChanOp → ℕ → WordStep → Type 0
-Makes op word step = (op ≢ ChanOp.Probe) × (number_in word ≢ greatest_number)
+Makes op word step = (only_looks op ≡ false) × (number_in word ≢ greatest_number)
     × ((e : Event) × (event_in op word ≡ Some e) × (step ≡ WordStep.Next (word_with word e) (reply_made e)))
 
 abbrev Kind : ChanOp → ℕ → WordStep → Type 0
-Kind op word step = Looks op word step ⊎ (FindsWorn op word step ⊎ (IsHeld op word step ⊎ Makes op word step))
+Kind op word step = FindsWorn op word step ⊎ (Shows op word step ⊎ Makes op word step)
 
-kind_below : (op : ChanOp) (word : ℕ) (step : WordStep) → op ≢ ChanOp.Probe → number_in word ≢ greatest_number → step ≡ step_from op word → (o : Option Event) → event_in op word ≡ o → Kind op word step
-kind_below op word step acting room is None at = inr (inr (inl (acting, room, at, is ∙ acts_below op word None acting room at)))
-kind_below op word step acting room is (Some e) at = inr (inr (inr (acting, room, (e, at, is ∙ acts_below op word (Some e) acting room at))))
+kind_below : (op : ChanOp) (word : ℕ) (step : WordStep) → (only_looks op ≡ false → number_in word ≢ greatest_number) → step ≡ step_from op word → (o : Option Event) → event_in op word ≡ o → Kind op word step
+kind_below op word step room is None at = inr (inl (room, at, is ∙ steps_below op word None room at))
+kind_below op word step room is (Some e) at =
+    let acts = acts_where_made op (flags_in word) (waiting_in word) e at in
+    inr (inr (acts, room acts, (e, at, is ∙ steps_below op word (Some e) room at)))
 
-kind_acting : (op : ChanOp) (word : ℕ) (step : WordStep) → op ≢ ChanOp.Probe → step ≡ step_from op word → (b : Bool) → (number_in word == greatest_number) ≡ b → Kind op word step
-kind_acting op word step acting is true at =
-    let most = eqb-true (number_in word) greatest_number at in
-    inr (inl (acting, most, is ∙ acts_worn op word acting most))
-kind_acting op word step acting is false at =
-    kind_below op word step acting (λ most. let same = eq-eqb (number_in word) greatest_number most in cc) is (event_in op word) refl
+kind_by : (op : ChanOp) (word : ℕ) (step : WordStep) → step ≡ step_from op word → (worn : Bool) → (not (only_looks op) && (number_in word == greatest_number)) ≡ worn → Kind op word step
+kind_by op word step is true at =
+    let worn = worn_if (only_looks op) (number_in word == greatest_number) at in
+    inl (worn.0, eqb-true (number_in word) greatest_number worn.1, is ∙ ap (step_if op word) at)
+kind_by op word step is false at =
+    kind_below op word step
+    (λ acts most. let less = not_worn_if (only_looks op) (number_in word == greatest_number) at acts in let same = eq-eqb (number_in word) greatest_number most in let both : true ≡ false = sym same ∙ less in cc)
+    is (event_in op word) refl
 
 kind_of : (op : ChanOp) (word : ℕ) (step : WordStep) → step ≡ step_from op word → Kind op word step
-kind_of ChanOp.Probe word step is = inl (refl, is)
-kind_of ChanOp.Activate word step is = kind_acting ChanOp.Activate word step (λ p. cc) is (number_in word == greatest_number) refl
-kind_of ChanOp.Disconnect word step is = kind_acting ChanOp.Disconnect word step (λ p. cc) is (number_in word == greatest_number) refl
-kind_of (ChanOp.Put w) word step is = kind_acting (ChanOp.Put w) word step (λ p. cc) is (number_in word == greatest_number) refl
-kind_of ChanOp.Take word step is = kind_acting ChanOp.Take word step (λ p. cc) is (number_in word == greatest_number) refl
-kind_of (ChanOp.Function w) word step is = kind_acting (ChanOp.Function w) word step (λ p. cc) is (number_in word == greatest_number) refl
+kind_of op word step is = kind_by op word step is (not (only_looks op) && (number_in word == greatest_number)) refl
 
-looks_by_kind : (word : ℕ) (op : ChanOp) (f : Flags) → Kind op word (WordStep.Look f) → (op ≡ ChanOp.Probe) × (f ≡ flags_in word)
-looks_by_kind word op f (inl k) = (k.0, cc)
-looks_by_kind word op f (inr (inl k)) = absurd cc
-looks_by_kind word op f (inr (inr (inl k))) = absurd cc
-looks_by_kind word op f (inr (inr (inr k))) = absurd (let is = k.2.2 in cc)
+-- a step that leaves the word as it is
+abbrev pub Stays : WordStep → Type 0
+Stays (WordStep.Look f) = Unit {0}
+Stays (WordStep.Held f) = Unit {0}
+Stays (WordStep.Next next reply) = ⊥
+Stays WordStep.Worn = ⊥
 
-worn_by_kind : (word : ℕ) (op : ChanOp) → Kind op word WordStep.Worn → (op ≢ ChanOp.Probe) × (number_in word ≡ greatest_number)
-worn_by_kind word op (inl k) = absurd cc
-worn_by_kind word op (inr (inl k)) = (k.0, k.1)
-worn_by_kind word op (inr (inr (inl k))) = absurd cc
-worn_by_kind word op (inr (inr (inr k))) = absurd (let is = k.2.2 in cc)
+stays_if : (look : Bool) (f : Flags) → Stays (shown_if look f)
+stays_if true f = tt
+stays_if false f = tt
 
-held_by_kind : (word : ℕ) (op : ChanOp) (f : Flags) → Kind op word (WordStep.Held f) → (op ≢ ChanOp.Probe) × (number_in word ≢ greatest_number) × (event_in op word ≡ None) × (f ≡ flags_in word)
-held_by_kind word op f (inl k) = absurd cc
-held_by_kind word op f (inr (inl k)) = absurd cc
-held_by_kind word op f (inr (inr (inl k))) = (k.0, k.1, k.2, cc)
-held_by_kind word op f (inr (inr (inr k))) = absurd (let is = k.2.2 in cc)
+stays_where_shown : (op : ChanOp) (word : ℕ) (step : WordStep) → step ≡ step_shown op (flags_in word) → Stays step
+stays_where_shown op word step is = subst Stays (sym is) (stays_if (only_looks op) (flags_in word))
+
+pub stays_either : (step : WordStep) → ((f : Flags) × (step ≡ WordStep.Look f)) ⊎ ((f : Flags) × (step ≡ WordStep.Held f)) → Stays step
+stays_either step (inl (f, is)) = subst Stays (sym is) tt
+stays_either step (inr (f, is)) = subst Stays (sym is) tt
+
+worn_by_kind : (word : ℕ) (op : ChanOp) → Kind op word WordStep.Worn → (only_looks op ≡ false) × (number_in word ≡ greatest_number)
+worn_by_kind word op (inl k) = (k.0, k.1)
+worn_by_kind word op (inr (inl k)) = absurd (stays_where_shown op word WordStep.Worn k.2)
+worn_by_kind word op (inr (inr k)) = absurd (let is = k.2.2 in cc)
+
+shown_by_kind : (word : ℕ) (op : ChanOp) (step : WordStep) → Stays step → Kind op word step → (only_looks op ≡ false → number_in word ≢ greatest_number) × (event_in op word ≡ None)
+shown_by_kind word op (WordStep.Look f) stays (inl k) = absurd cc
+shown_by_kind word op (WordStep.Look f) stays (inr (inl k)) = (k.0, k.1)
+shown_by_kind word op (WordStep.Look f) stays (inr (inr k)) = absurd (let is = k.2.2 in cc)
+shown_by_kind word op (WordStep.Held f) stays (inl k) = absurd cc
+shown_by_kind word op (WordStep.Held f) stays (inr (inl k)) = (k.0, k.1)
+shown_by_kind word op (WordStep.Held f) stays (inr (inr k)) = absurd (let is = k.2.2 in cc)
+shown_by_kind word op (WordStep.Next next reply) stays kind = absurd stays
+shown_by_kind word op WordStep.Worn stays kind = absurd stays
 
 next_by_kind : (word : ℕ) (op : ChanOp) (next : ℕ) (reply : Reply) → Kind op word (WordStep.Next next reply)
-    → (op ≢ ChanOp.Probe) × (number_in word ≢ greatest_number) × ((e : Event) × (event_in op word ≡ Some e) × (next ≡ word_with word e) × (reply ≡ reply_made e))
+    → (only_looks op ≡ false) × (number_in word ≢ greatest_number) × ((e : Event) × (event_in op word ≡ Some e) × (next ≡ word_with word e) × (reply ≡ reply_made e))
 next_by_kind word op next reply (inl k) = absurd cc
-next_by_kind word op next reply (inr (inl k)) = absurd cc
-next_by_kind word op next reply (inr (inr (inl k))) = absurd cc
-next_by_kind word op next reply (inr (inr (inr k))) = (k.0, k.1, (k.2.0, k.2.1, (let is = k.2.2 in cc), (let is = k.2.2 in cc)))
+next_by_kind word op next reply (inr (inl k)) = absurd (stays_where_shown op word (WordStep.Next next reply) k.2)
+next_by_kind word op next reply (inr (inr k)) = (k.0, k.1, (k.2.0, k.2.1, (let is = k.2.2 in cc), (let is = k.2.2 in cc)))
 
 -- what each step says of the word
-pub looks_by_table : (word : ℕ) (op : ChanOp) (f : Flags) → WordStep.Look f ≡ step_from op word → (op ≡ ChanOp.Probe) × (f ≡ flags_in word)
-looks_by_table word op f is = looks_by_kind word op f (kind_of op word (WordStep.Look f) is)
-
-pub worn_by_table : (word : ℕ) (op : ChanOp) → WordStep.Worn ≡ step_from op word → (op ≢ ChanOp.Probe) × (number_in word ≡ greatest_number)
+pub worn_by_table : (word : ℕ) (op : ChanOp) → WordStep.Worn ≡ step_from op word → (only_looks op ≡ false) × (number_in word ≡ greatest_number)
 worn_by_table word op is = worn_by_kind word op (kind_of op word WordStep.Worn is)
 
-pub held_by_table : (word : ℕ) (op : ChanOp) (f : Flags) → WordStep.Held f ≡ step_from op word
-    → (op ≢ ChanOp.Probe) × (number_in word ≢ greatest_number) × (event_in op word ≡ None) × (f ≡ flags_in word)
-held_by_table word op f is = held_by_kind word op f (kind_of op word (WordStep.Held f) is)
+pub shown_by_table : (word : ℕ) (op : ChanOp) (step : WordStep) → Stays step → step ≡ step_from op word
+    → (only_looks op ≡ false → number_in word ≢ greatest_number) × (event_in op word ≡ None)
+shown_by_table word op step stays is = shown_by_kind word op step stays (kind_of op word step is)
 
 pub next_by_table : (word : ℕ) (op : ChanOp) (next : ℕ) (reply : Reply) → WordStep.Next next reply ≡ step_from op word
-    → (op ≢ ChanOp.Probe) × (number_in word ≢ greatest_number) × ((e : Event) × (event_in op word ≡ Some e) × (next ≡ word_with word e) × (reply ≡ reply_made e))
+    → (only_looks op ≡ false) × (number_in word ≢ greatest_number) × ((e : Event) × (event_in op word ≡ Some e) × (next ≡ word_with word e) × (reply ≡ reply_made e))
 next_by_table word op next reply is = next_by_kind word op next reply (kind_of op word (WordStep.Next next reply) is)
 
 -- the same where the event is at hand
 pub next_by_event : (word : ℕ) (op : ChanOp) (e : Event) (next : ℕ) (reply : Reply) → WordStep.Next next reply ≡ step_from op word → Some e ≡ event_in op word
-    → (op ≢ ChanOp.Probe) × (number_in word ≢ greatest_number) × (next ≡ word_with word e) × (reply ≡ reply_made e)
+    → (only_looks op ≡ false) × (number_in word ≢ greatest_number) × (next ≡ word_with word e) × (reply ≡ reply_made e)
 next_by_event word op e next reply stepped made =
     let k = next_by_table word op next reply stepped in
     let same : k.2.0 ≡ e = let both : Some k.2.0 ≡ Some e = sym k.2.1 ∙ sym made in cc in
@@ -259,39 +260,29 @@ pub answer_made : (word : ℕ) (op : ChanOp) (e : Event) (next : ℕ) (reply : R
 answer_made word op e next reply stepped made h l bits same =
     inl (e, record { ready = ready_at_word word op e made h l bits same; answered = (next_by_event word op e next reply stepped made).3; recorded = refl })
 
-pub answer_held : (word : ℕ) (op : ChanOp) (f : Flags) → WordStep.Held f ≡ step_from op word
-    → (h : List Event) → IsLawful h → HasTwelveBitWords h → history_word h ≡ word → IsAnswer h op (Reply.Held f) h
-answer_held word op f is h l bits same =
-    let k = held_by_table word op f is in
-    inr (record {
-      not_ready = λ e r. let some = table_of_ready h l op e r in let none = event_at_word op word None h bits same k.2 in cc;
-      answered = ap (λ g. Reply.Held g) (k.3 ∙ flags_at_word word h bits same) ∙ sym (shown_held op h k.0);
-      unchanged = refl;
-    })
-
-pub answer_looked : (word : ℕ) (op : ChanOp) (f : Flags) → WordStep.Look f ≡ step_from op word
-    → (h : List Event) → HasTwelveBitWords h → history_word h ≡ word → IsAnswer h op (Reply.Flags f) h
-answer_looked word op f is h bits same =
-    let k = looks_by_table word op f is in
-    inr (record {
-      not_ready = λ e r. never_probe e op r.operation k.0;
-      answered = ap (λ g. Reply.Flags g) (k.1 ∙ flags_at_word word h bits same) ∙ sym (ap (λ o. reply_shown o h) k.0);
-      unchanged = refl;
-    })
+pub answer_shown : (word : ℕ) (op : ChanOp) (step : WordStep) → Stays step → step ≡ step_from op word
+    → (h : List Event) → IsLawful h → HasTwelveBitWords h → history_word h ≡ word → IsAnswer h op (reply_shown op (state_in word)) h
+answer_shown word op step stays is h l bits same =
+    let k = shown_by_table word op step stays is in
+    answered_where_none h op (reply_shown op (state_in word)) l (event_at_word op word None h bits same k.1) (ap (λ w. reply_shown op (state_in w)) (sym same) ∙ ap (reply_shown op) (state_of_word h bits))
 
 -- the step is the one by the histories
 steps_from_word : (h : List Event) (op : ChanOp) → IsLawful h → HasTwelveBitWords h → StepsFrom h op (step_from op (history_word h))
 steps_from_word h op l bits =
     let n = number_of_word h bits in
     record {
-      probe = λ is. ap (λ o. step_from o (history_word h)) is ∙ ap (λ g. WordStep.Look g) (flags_of_word h bits);
+      looks = λ looks.
+          steps_below op (history_word h) None (λ acts most. let both : true ≡ false = sym looks ∙ acts in cc) (event_of_word op h bits ∙ look_makes_none op (flags_of h) (waiting h) looks)
+          ∙ ap (λ look. shown_if look (flags_in (history_word h))) looks
+          ∙ ap (λ f. WordStep.Look f) (flags_of_word h bits);
       ready = λ e room r.
-          acts_below op (history_word h) (Some e) (never_probe e op r.operation) (λ most. omega arith) (event_of_word op h bits ∙ table_of_ready h l op e r)
+          steps_below op (history_word h) (Some e) (λ acts most. omega arith) (event_of_word op h bits ∙ table_of_ready h l op e r)
           ∙ ap (λ w. WordStep.Next w (reply_made e)) (word_after_event h e l bits r.lawful);
-      not_ready = λ acting room never.
-          acts_below op (history_word h) None acting (λ most. omega arith) (event_of_word op h bits ∙ none_without_ready h l op never (event_of op h) refl)
-          ∙ ap (λ g. WordStep.Held g) (flags_of_word h bits);
-      worn = λ acting most. acts_worn op (history_word h) acting (n ∙ most);
+      not_ready = λ acts room never.
+          steps_below op (history_word h) None (λ acts most. omega arith) (event_of_word op h bits ∙ none_without_ready h l op never (event_of op h) refl)
+          ∙ ap (λ look. shown_if look (flags_in (history_word h))) acts
+          ∙ ap (λ f. WordStep.Held f) (flags_of_word h bits);
+      worn = λ acts most. steps_worn op (history_word h) acts (n ∙ most);
     }
 
 pub steps_as_histories : (word : ℕ) (op : ChanOp) (step : WordStep) → step ≡ step_from op word → (h : List Event) → IsLawful h → HasTwelveBitWords h → history_word h ≡ word → StepsFrom h op step

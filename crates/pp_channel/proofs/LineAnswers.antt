@@ -1,26 +1,25 @@
 -- What a call of a line answers, from what its steps told.
-use Rattle.std.proofs.Common.{◌≡◌, ◌≢◌, ℕ, ◌+◌, ◌<◌, ◌≤◌, List, [], ◌∷◌, ◌++◌, length, take, Some, None, refl, sym, ap, ◌∙◌, subst, arith, append_assoc, inl, inr}
-use Rattle.std.specs.Prelude.{Contains, slice_set}
+use Rattle.std.proofs.Common.{◌≡◌, ℕ, ◌+◌, ◌<◌, ◌≤◌, List, [], ◌∷◌, ◌++◌, length, take, Some, None, refl, sym, ap, ◌∙◌, subst, arith, append_assoc, inl, inr}
+use Rattle.std.specs.Prelude.{Contains, Option, false, if◌then◌else◌, is_some, slice_set}
 use Rattle.std.proofs.lemmas.List.{length_push, length-take-le, take_all, take_at, get_or-set_same, set-set, set-get_or}
 use Rattle.std.proofs.lemmas.List.Elements.{All-weaker, All-contains, Contains-push}
 use Rattle.std.proofs.lemmas.Bool.{cases_eq}
 use Rattle.pp_channel.specs.declared.chan_op.ChanOp.{ChanOp}
-use Rattle.pp_channel.specs.declared.chan_op.ChanOp.TheVariants as operations
 use Rattle.pp_channel.specs.declared.event.Event.{Event}
 use Rattle.pp_channel.specs.declared.event.Event.TheVariants.{Activate, Disconnect, Put, Take, Function}
 use Rattle.pp_channel.specs.declared.numbered.Numbered.{Numbered}
 use Rattle.pp_channel.specs.declared.reply.Reply.{Reply}
-use Rattle.pp_channel.specs.declared.reply.Reply.TheVariants.{Flags, Held}
+use Rattle.pp_channel.specs.declared.reply.Reply.TheVariants.{Held}
 use Rattle.pp_channel.specs.declared.flags.Flags.{Flags as FlagPair}
 use Rattle.pp_channel.specs.declared.entry.Entry.{Entry}
 use Rattle.pp_channel.specs.declared.rule.LineView.{LineView}
 use Rattle.pp_channel.specs.declared.word_step.WordStep.{WordStep}
-use Rattle.pp_channel.specs.Answer.{IsAnswer, IsReady, operation_of, reply_made, event_answered}
+use Rattle.pp_channel.specs.Answer.{IsAnswer, IsReady, operation_of, reply_made, reply_shown, event_answered, flags_shown, only_looks, seen_with}
 use Rattle.pp_channel.specs.ChannelNo.{channel_count, channel_index}
 use Rattle.pp_channel.specs.ChannelWord.{number_in, flags_in, greatest_number}
 use Rattle.pp_channel.specs.History.{IsLawful, HasTwelveBitWords}
 use Rattle.pp_channel.specs.Law.{KeepsLaw}
-use Rattle.pp_channel.specs.LineLog.{LogState, appended, looked, with_answer, with_made, event_entry, look_entry}
+use Rattle.pp_channel.specs.LineLog.{LogState, appended, looked, with_answer, with_made, with_seen, event_entry, look_entry}
 use Rattle.pp_channel.specs.LineState.{LineState, number_after, IsActed, IsWornOut, AreClosed}
 use Rattle.pp_channel.specs.LineSteps.{IsLogOf, Tells, IsLoad, IsWonExchange, IsLostExchange}
 use Rattle.pp_channel.specs.LineView.{finds, makes, Knows}
@@ -29,9 +28,10 @@ use Rattle.pp_channel.specs.Histories.{history_on}
 use Rattle.pp_channel.specs.MonotoneLog.{seen_on}
 use Rattle.pp_channel.specs.SharedWords.{IsFound}
 use Rattle.pp_channel.specs.RecordedHistory.{IsRecordedBy}
-use Rattle.pp_channel.specs.WordStep.{event_in, step_from}
+use Rattle.pp_channel.specs.WordStep.{event_in, state_in, step_from}
+use Rattle.pp_channel.proofs.AnswerLemmas.{shown_makes_none, shows_flags}
 use Rattle.pp_channel.proofs.ChannelPlaces.{place_below}
-use Rattle.pp_channel.proofs.ChannelWordLemmas.{looks_by_table, worn_by_table, held_by_table, next_by_event, ready_at_word, answer_made, answer_held, answer_looked, number_of_word}
+use Rattle.pp_channel.proofs.ChannelWordLemmas.{Stays, worn_by_table, shown_by_table, next_by_event, ready_at_word, answer_made, answer_shown, number_of_word}
 use Rattle.pp_channel.proofs.FrontLemmas.{lawful_take, twelve_bits_take}
 use Rattle.pp_channel.proofs.MergeLemmas.{with_more, more_is, more_here, put_before}
 use Rattle.pp_channel.proofs.LawLemmas.{law_of_lawful}
@@ -63,15 +63,6 @@ counted_by n Disconnect = refl
 counted_by n (Put w) = refl
 counted_by n (Take w) = refl
 counted_by n (Function w) = refl
-
--- no event is answered by Held
-held_makes_none : (op : ChanOp) (f : FlagPair) → event_answered op (Held f) ≡ None
-held_makes_none operations.Probe f = refl
-held_makes_none operations.Activate f = refl
-held_makes_none operations.Disconnect f = refl
-held_makes_none (operations.Put w) f = refl
-held_makes_none operations.Take f = refl
-held_makes_none (operations.Function w) f = refl
 
 -- what a load found last, and the line has seen then
 pub found_last : (v w : LineView) (c word : ℕ) → IsLoad c v word w → Contains w.found (record { channel = c; word = word })
@@ -122,7 +113,7 @@ module _ (line : LineState) {now : LineView} {c word : ℕ} (load : IsLoad c lin
       → event_answered op reply ≡ None
       → number_after (number_in word) reply ≡ number_in word
       → IsAnswer history op reply history
-      → (op ≢ ChanOp.Probe → number_in word < greatest_number)
+      → (only_looks op ≡ false → number_in word < greatest_number)
       → IsActed line c op (record { reply = reply; loaded = number_in word; number = number_in word }) after
   looked_at_once reply after is written none counted answer not_worn = record {
     words = word ∷ [];
@@ -148,23 +139,22 @@ module _ (line : LineState) {now : LineView} {c word : ℕ} (load : IsLoad c lin
     alone = λ all. (refl, let P : List (List Event) → Type 0 = λ hs. Merges no_opening hs line.log.entries in subst P (sym (put_back histories c (take (number_in word) history) whole_now)) ((knows_by_log before load.tells.known).all_known all).merged);
   }
 
-  pub acted_look : (f : FlagPair) (after : LineState) → WordStep.Look f ≡ step_from op word → Looked after
-      → IsActed line c op (record { reply = Flags f; loaded = number_in word; number = number_in word }) after
-  acted_look f after stepped is =
-      let k = looks_by_table word op f stepped in
-      looked_at_once (Flags f) after is (ap (λ g. looked line.log (look_entry c (number_in word) g)) k.1) (ap (λ o. event_answered o (Flags f)) k.0) refl (answer_looked word op f stepped history now_bits load.tells.word_is) (λ no. absurd (no k.0))
-
-  pub acted_held : (f : FlagPair) (after : LineState) → WordStep.Held f ≡ step_from op word → number_in word ≤ greatest_number → Looked after
-      → IsActed line c op (record { reply = Held f; loaded = number_in word; number = number_in word }) after
-  acted_held f after stepped most is =
-      let k = held_by_table word op f stepped in
-      looked_at_once (Held f) after is (ap (λ g. looked line.log (look_entry c (number_in word) g)) k.3) (held_makes_none op f) refl (answer_held word op f stepped history now_lawful now_bits load.tells.word_is) (λ no. let n = k.1 in omega arith)
+  pub acted_shown : (step : WordStep) (reply : Reply) (after : LineState) → Stays step → step ≡ step_from op word → reply ≡ reply_shown op (state_in word) → number_in word ≤ greatest_number → Looked after
+      → IsActed line c op (record { reply = reply; loaded = number_in word; number = number_in word }) after
+  acted_shown step reply after stays stepped replied most is =
+      let k = shown_by_table word op step stays stepped in
+      let shows : flags_shown reply ≡ Some (flags_in word) = ap flags_shown replied ∙ shows_flags op (state_in word) in
+      looked_at_once reply after is
+      (ap (λ o. with_seen line.log c (number_in word) (seen_with o (event_answered op reply))) shows)
+      (shown_makes_none op reply (flags_in word) shows)
+      (ap (λ (o : Option FlagPair). if is_some o then number_in word else number_in word + 1) shows)
+      (let P : Reply → Type 0 = λ r. IsAnswer history op r history in subst P (sym replied) (answer_shown word op step stays stepped history now_lawful now_bits load.tells.word_is)) (λ acts. let n = k.0 acts in omega arith)
 
   pub worn_by_load : (after : LineState) → WordStep.Worn ≡ step_from op word → IsNow line line.log now after → IsWornOut line c op after
   worn_by_load after stepped is =
       let k = worn_by_table word op stepped in
       record {
-        no_probe = k.0;
+        acts = k.0;
         word = word;
         word_found = k.1;
         after_is = λ j. record { log = is.log_is j; view = (is.view_is ∙ load.after_is) j; table = is.table_is j };
@@ -176,8 +166,8 @@ module _ (line : LineState) {now : LineView} {c word : ℕ} (load : IsLoad c lin
 
   -- a line that tried an event after its load
   module _ (e : Event) (next : ℕ) (reply : Reply) (after : LineState) (stepped : WordStep.Next next reply ≡ step_from op word) (event : Some e ≡ event_in op word) (most : number_in word ≤ greatest_number) where
-    not_worn_yet : op ≢ ChanOp.Probe → number_in word < greatest_number
-    not_worn_yet acting = let n = (next_by_event word op e next reply stepped event).1 in omega arith
+    not_worn_yet : only_looks op ≡ false → number_in word < greatest_number
+    not_worn_yet acts = let n = (next_by_event word op e next reply stepped event).1 in omega arith
 
     reply_is : reply ≡ reply_made e
     reply_is = (next_by_event word op e next reply stepped event).3
@@ -283,7 +273,7 @@ module _ (line : LineState) {now : LineView} {c word : ℕ} (load : IsLoad c lin
         found = line.view.found ++ record { channel = c; word = word } ∷ record { channel = c; word = found } ∷ [];
       }
       view_lost = lost.load.after_is ∙ (ap (λ v. finds v c found) load.after_is ∙ (λ j. record line.view {
-        events = with_made line.view.events c (number_in found) (sym (held_makes_none op (flags_in found)) j);
+        events = with_made line.view.events c (number_in found) (sym (shown_makes_none op (Held (flags_in found)) (flags_in found) refl) j);
         seen = set-set line.view.seen (channel_index c) (number_in word) (number_in found) j;
         found = append_assoc line.view.found (record { channel = c; word = word } ∷ []) (record { channel = c; word = found } ∷ []) j;
       }))

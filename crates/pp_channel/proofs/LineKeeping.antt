@@ -13,7 +13,7 @@ use Rattle.pp_channel.specs.declared.rule.LineView.{LineView}
 use Rattle.pp_channel.specs.ChannelNo.{channel_count, channel_index}
 use Rattle.pp_channel.specs.ChannelWord.{number_in, flags_in}
 use Rattle.pp_channel.specs.LineLog.{LogState, looked, event_entry, look_entry}
-use Rattle.pp_channel.specs.LineSteps.{IsJustified, IsBacked, IsLogOf, IsLoad, IsWonExchange, IsLostExchange, IsExchange}
+use Rattle.pp_channel.specs.LineSteps.{IsBackedAt, IsBacked, IsLogOf, IsLoad, IsWonExchange, IsLostExchange, IsExchange}
 use Rattle.pp_channel.specs.LineView.{greater_of_each, joined_view, finds, makes}
 use Rattle.pp_channel.specs.Merge.{times_logged}
 use Rattle.pp_channel.specs.MonotoneLog.{known_after, seen_on}
@@ -23,7 +23,7 @@ use Rattle.pp_channel.proofs.MergeLemmas.{told_by, times_told-append, times_told
 use Rattle.pp_channel.proofs.SeenLemmas.{set_raises, within_more, greater_left, greater_right, length-greater}
 
 -- what backs an entry backs it where the view has more
-backed_more : (v w : LineView) → ((x : Entry) → Contains v.events x → Contains w.events x) → ((x : FoundWord) → Contains v.found x → Contains w.found x) → (c number : ℕ) (what : Seen) → IsJustified v c number what → IsJustified w c number what
+backed_more : (v w : LineView) → ((x : Entry) → Contains v.events x → Contains w.events x) → ((x : FoundWord) → Contains v.found x → Contains w.found x) → (c number : ℕ) (what : Seen) → IsBackedAt v c number what → IsBackedAt w c number what
 backed_more v w events found c number (Did e) b = events (event_entry c number e) b
 backed_more v w events found c number (Saw f) b = (b.0, found (record { channel = c; word = b.0 }) b.1, b.2, b.3)
 

@@ -17,7 +17,7 @@ use Rattle.pp_channel.specs.ChannelNo.{channel_index}
 use Rattle.pp_channel.specs.ChannelWord.{number_in, flags_in}
 use Rattle.pp_channel.specs.History.{IsLawful, HasTwelveBitWords}
 use Rattle.pp_channel.specs.LineLog.{LogState, event_entry, looked, is_event, is_look_at, ends_in_look_at}
-use Rattle.pp_channel.specs.LineSteps.{IsJustified, IsBacked, IsLogOf, Tells}
+use Rattle.pp_channel.specs.LineSteps.{IsBackedAt, IsBacked, IsLogOf, Tells}
 use Rattle.pp_channel.specs.LineView.{Knows}
 use Rattle.pp_channel.specs.Merge.{IsTrueAt, IsTrueOf, times_logged, Merges, no_opening}
 use Rattle.pp_channel.specs.Histories.{history_on}
@@ -117,7 +117,7 @@ merges_same other m same true_of = record {
 }
 
 -- a log that a view backs is true of the histories that the view knows
-backed_true : (v : LineView) (histories : List (List Event)) → Knows v v.events histories → (c number : ℕ) (what : Seen) → IsJustified v c number what → IsTrueAt (history_on c histories) number what
+backed_true : (v : LineView) (histories : List (List Event)) → Knows v v.events histories → (c number : ℕ) (what : Seen) → IsBackedAt v c number what → IsTrueAt (history_on c histories) number what
 backed_true v histories known c number (Did e) backed = All-contains (IsTrueOf histories) v.events (event_entry c number e) known.log_true backed
 backed_true v histories known c number (Saw f) backed =
     let h = history_on c histories in

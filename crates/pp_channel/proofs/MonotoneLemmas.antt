@@ -6,11 +6,11 @@ use Rattle.std.proofs.lemmas.List.{length-set, get_or-set_same, get_or-set_other
 use Rattle.std.proofs.lemmas.List.Quantifiers.{all_pairs_push}
 use Rattle.pp_channel.specs.declared.chan_op.ChanOp.{ChanOp}
 use Rattle.pp_channel.specs.declared.entry.Entry.{Entry}
-use Rattle.pp_channel.specs.declared.event.Event.{Event}
+use Rattle.pp_channel.specs.declared.entry.Seen.{Seen}
+use Rattle.pp_channel.specs.declared.entry.Seen.TheVariants.{Did, Saw}
 use Rattle.pp_channel.specs.declared.reply.Reply.{Reply}
-use Rattle.pp_channel.specs.declared.reply.Reply.TheVariants.{Flags, Held, Done, Word}
-use Rattle.pp_channel.specs.LineLog.{LogState, event_entry, look_entry, appended, looked, with_event, with_answer}
-use Rattle.pp_channel.specs.Answer.{event_answered}
+use Rattle.pp_channel.specs.LineLog.{LogState, event_entry, look_entry, appended, looked, with_answer, with_seen}
+use Rattle.pp_channel.specs.Answer.{seen_answered}
 use Rattle.pp_channel.specs.MonotoneLog.{IsFollowedBy, IsMonotone, seen_on, IsWithin}
 use Rattle.pp_channel.proofs.LineKnowledge.{looked_either, last_replaced}
 
@@ -44,12 +44,10 @@ module _ (seen : List ℕ) (log : LogState) (entry : Entry) (within : IsWithin s
 
 -- so does the log after an answer
 module _ (seen : List ℕ) (log : LogState) (c number : ℕ) (within : IsWithin seen log.entries) (later : seen_on c seen ≤ number) (monotone : IsMonotone log.entries) where
-  rising_event : (made : Option Event) → IsMonotone (with_event log c number made).entries
-  rising_event None = monotone
-  rising_event (Some e) = rising_appended seen log (event_entry c number e) within later monotone
+  rising_seen : (what : Option Seen) → IsMonotone (with_seen log c number what).entries
+  rising_seen None = monotone
+  rising_seen (Some (Did e)) = rising_appended seen log (event_entry c number e) within later monotone
+  rising_seen (Some (Saw f)) = rising_looked seen log (look_entry c number f) within later monotone
 
   pub rising_answer : (op : ChanOp) (reply : Reply) → IsMonotone (with_answer log c op number reply).entries
-  rising_answer op (Flags f) = rising_looked seen log (look_entry c number f) within later monotone
-  rising_answer op (Held f) = rising_looked seen log (look_entry c number f) within later monotone
-  rising_answer op Done = rising_event (event_answered op Done)
-  rising_answer op (Word w) = rising_event (event_answered op (Word w))
+  rising_answer op reply = rising_seen (seen_answered op reply)

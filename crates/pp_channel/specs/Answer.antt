@@ -8,6 +8,8 @@ use Rattle.std.specs.Prelude.{◌≡◌, ℕ, Bool, true, false, not, ◌&&◌, 
 use Rattle.std.specs.Option.{option_map, option_to_list}
 use Rattle.pp_channel.specs.declared.event.Event.{Event}
 use Rattle.pp_channel.specs.declared.chan_op.ChanOp.{ChanOp}
+use Rattle.pp_channel.specs.declared.channel_state.ChannelState.{ChannelState}
+use Rattle.pp_channel.specs.declared.entry.Seen.{Seen}
 use Rattle.pp_channel.specs.declared.reply.Reply.{Reply}
 use Rattle.pp_channel.specs.declared.flags.Flags.{Flags}
 use Rattle.pp_channel.specs.History.{IsLawful, active, full, waiting}
@@ -15,6 +17,15 @@ use Rattle.pp_channel.specs.History.{IsLawful, active, full, waiting}
 -- the flags of a channel with the history h
 abbrev pub flags_of : List Event → Flags
 flags_of h = record { active = active h; full = full h }
+
+-- how it stands: its flags, and the word in its register
+abbrev pub channel_state : List Event → ChannelState
+channel_state h = record { flags = flags_of h; register = waiting h }
+
+-- whether an operation only looks: it never makes an event, and is never held
+abbrev pub only_looks : ChanOp → Bool
+only_looks ChanOp.Probe = true
+only_looks op = false
 
 -- the operation that makes an event
 abbrev pub operation_of : Event → ChanOp
@@ -29,10 +40,16 @@ abbrev pub reply_made : Event → Reply
 reply_made (Event.Take w) = Reply.Word w
 reply_made _ = Reply.Done
 
--- the reply where none is made: a probe shows the flags, any other operation is held
-abbrev pub reply_shown : ChanOp → List Event → Reply
-reply_shown ChanOp.Probe h = Reply.Flags (flags_of h)
-reply_shown _ h = Reply.Held (flags_of h)
+-- the reply where none is made: an operation that only looks is answered, any other is held
+abbrev pub reply_shown : ChanOp → ChannelState → Reply
+reply_shown ChanOp.Probe state = Reply.Flags state.flags
+reply_shown op state = Reply.Held state.flags
+
+-- the flags that a reply shows; one that tells of an event shows none
+abbrev pub flags_shown : Reply → Option Flags
+flags_shown (Reply.Flags f) = Some f
+flags_shown (Reply.Held f) = Some f
+flags_shown reply = None
 
 -- First the relation. An operation is ready on h where it makes an event with which h stays lawful.
 pub record IsReady (h : List Event) (op : ChanOp) (e : Event) : Type 0 where
@@ -50,7 +67,7 @@ pub record IsMade (h : List Event) (op : ChanOp) (reply : Reply) (after : List E
 pub record IsShown (h : List Event) (op : ChanOp) (reply : Reply) (after : List Event) : Type 0
   where
     pub not_ready : (e : Event) → ¬ IsReady h op e
-    pub answered : reply ≡ reply_shown op h
+    pub answered : reply ≡ reply_shown op (channel_state h)
     pub unchanged : after ≡ h
 
 -- The answer of a channel with the history h to an operation: its reply, and its history after it.
@@ -77,9 +94,17 @@ event_with (ChanOp.Function w) word = Some (Event.Function w)
 
 -- the event that an operation made, by its answer
 abbrev pub event_answered : ChanOp → Reply → Option Event
-event_answered ChanOp.Take (Reply.Word w) = Some (Event.Take w)
 event_answered op Reply.Done = event_with op None
+event_answered ChanOp.Take (Reply.Word w) = Some (Event.Take w)
 event_answered op reply = None
+
+-- what an operation so answered saw or did: the flags that the reply shows, or its event
+abbrev pub seen_with : Option Flags → Option Event → Option Seen
+seen_with (Some f) made = Some (Seen.Saw f)
+seen_with None made = option_map (λ e. Seen.Did e) made
+
+abbrev pub seen_answered : ChanOp → Reply → Option Seen
+seen_answered op reply = seen_with (flags_shown reply) (event_answered op reply)
 
 -- the flags after an event
 abbrev pub flags_after : Event → Flags
@@ -102,13 +127,17 @@ event_by op f word = if ready_at op f then event_with op word else None
 abbrev pub event_of : ChanOp → List Event → Option Event
 event_of op h = event_by op (flags_of h) (waiting h)
 
-abbrev pub reply_by : ChanOp → List Event → Option Event → Reply
-reply_by op h None = reply_shown op h
-reply_by op h (Some e) = reply_made e
+abbrev pub reply_by : ChanOp → ChannelState → Option Event → Reply
+reply_by op state None = reply_shown op state
+reply_by op state (Some e) = reply_made e
+
+-- The reply to an operation where a channel stands so.
+abbrev pub state_reply : ChanOp → ChannelState → Reply
+state_reply op state = reply_by op state (event_by op state.flags state.register)
 
 -- The reply to an operation on a channel with the history h.
 abbrev pub reply_to : ChanOp → List Event → Reply
-reply_to op h = reply_by op h (event_of op h)
+reply_to op h = state_reply op (channel_state h)
 
 -- The history after it: one event more, or the same.
 abbrev pub history_after : ChanOp → List Event → List Event

@@ -4,7 +4,6 @@ pub mod History
 pub mod Histories
 pub mod Answer
 pub mod Law
-pub mod ChannelState
 pub mod ChannelWord
 pub mod WordStep
 pub mod Locked

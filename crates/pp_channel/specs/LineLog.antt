@@ -8,7 +8,7 @@ use Rattle.pp_channel.specs.declared.reply.Reply.{Reply}
 use Rattle.pp_channel.specs.declared.entry.Entry.{Entry}
 use Rattle.pp_channel.specs.declared.entry.Seen.{Seen}
 use Rattle.pp_channel.specs.declared.numbered.Numbered.{Numbered}
-use Rattle.pp_channel.specs.Answer.{event_answered}
+use Rattle.pp_channel.specs.Answer.{event_answered, seen_answered}
 
 -- A log: its entries in order, how many more it has room for, and whether its last entry is kept
 -- when a look at the same channel follows.
@@ -58,15 +58,14 @@ looked log entry =
     }
     else appended log entry
 
--- an event gets an entry of its own; Flags and Held are looks
-abbrev pub with_event : LogState → ℕ → ℕ → Option Event → LogState
-with_event log c number None = log
-with_event log c number (Some e) = appended log (event_entry c number e)
+-- an event gets an entry of its own, a look may take the place of another
+abbrev pub with_seen : LogState → ℕ → ℕ → Option Seen → LogState
+with_seen log c number None = log
+with_seen log c number (Some (Seen.Did e)) = appended log (event_entry c number e)
+with_seen log c number (Some (Seen.Saw f)) = looked log (look_entry c number f)
 
 abbrev pub with_answer : LogState → ℕ → ChanOp → ℕ → Reply → LogState
-with_answer log c op number (Reply.Flags f) = looked log (look_entry c number f)
-with_answer log c op number (Reply.Held f) = looked log (look_entry c number f)
-with_answer log c op number reply = with_event log c number (event_answered op reply)
+with_answer log c op number reply = with_seen log c number (seen_answered op reply)
 
 -- The log after an answer to an operation on channel c.
 abbrev pub log_after : LogState → ℕ → ChanOp → Numbered → LogState

@@ -1,6 +1,6 @@
 -- A line as contracts see it: what it holds, what it knows of the channels' histories, and how its
 -- calls change it.
-use Rattle.std.specs.Prelude.{◌≡◌, ◌≢◌, ℕ, ◌+◌, ◌<◌, ◌≤◌, List, [], ◌∷◌, ◌++◌, length, map, take, All, slice_set, true}
+use Rattle.std.specs.Prelude.{◌≡◌, ◌≢◌, ℕ, ◌+◌, ◌<◌, ◌≤◌, List, [], ◌∷◌, ◌++◌, length, map, take, All, slice_set, true, false, is_some, if◌then◌else◌}
 use Rattle.std.specs.List.{fold}
 use Rattle.atomic_table.specs.Seated.{TableId}
 use Rattle.pp_channel.specs.declared.chan_op.ChanOp.{ChanOp}
@@ -9,7 +9,7 @@ use Rattle.pp_channel.specs.declared.numbered.Numbered.{Numbered}
 use Rattle.pp_channel.specs.declared.reply.Reply.{Reply}
 use Rattle.pp_channel.specs.declared.rule.FoundWord.{FoundWord}
 use Rattle.pp_channel.specs.declared.rule.LineView.{LineView}
-use Rattle.pp_channel.specs.Answer.{IsAnswer, IsReady, flags_of}
+use Rattle.pp_channel.specs.Answer.{IsAnswer, IsReady, flags_of, flags_shown, only_looks}
 use Rattle.pp_channel.specs.ChannelNo.{channel_index}
 use Rattle.pp_channel.specs.ChannelWord.{number_in, greatest_number}
 use Rattle.pp_channel.specs.Law.{KeepsLaw}
@@ -69,9 +69,7 @@ ForgetsNothing line after = (c : ℕ) → seen_on c line.view.seen ≤ seen_on c
 
 -- how many events of the channel are known after an answer: one more where it was an event
 abbrev pub number_after : ℕ → Reply → ℕ
-number_after number (Reply.Flags f) = number
-number_after number (Reply.Held f) = number
-number_after number reply = number + 1
+number_after number reply = if is_some (flags_shown reply) then number else number + 1
 
 -- Events of other lines came between the load and the exchange: the operation was ready at the
 -- load, and is held with the flags that the exchange found.
@@ -122,8 +120,8 @@ pub record IsActed (line : LineState) (c : ℕ) (op : ChanOp) (r : Numbered) (af
   pub answer : IsAnsweredBy (history_on c histories) op r
   -- no look is older than what the line had seen
   pub not_older : seen_on c line.view.seen ≤ r.loaded
-  -- on a worn channel only a probe is answered
-  pub not_worn : op ≢ ChanOp.Probe → r.loaded < greatest_number
+  -- on a worn channel none is answered but an operation that only looks
+  pub not_worn : only_looks op ≡ false → r.loaded < greatest_number
   -- a line that holds every share knew the whole histories before this answer
   pub alone : line.view.shares ≡ line.view.whole
       → (r.number ≡ r.loaded) × Merges no_opening
@@ -131,9 +129,9 @@ pub record IsActed (line : LineState) (c : ℕ) (op : ChanOp) (r : Numbered) (af
       (take r.loaded (history_on c histories))) line.log.entries
 
 -- The channel has had as many events as its word can count, the line has now seen them all, and the
--- operation is no probe.
+-- operation does more than look.
 pub record IsWornOut (line : LineState) (c : ℕ) (op : ChanOp) (after : LineState) : Type 0 where
-  pub no_probe : op ≢ ChanOp.Probe
+  pub acts : only_looks op ≡ false
   pub word : ℕ
   pub word_found : number_in word ≡ greatest_number
   pub after_is : after ≡ record line { view = finds line.view c word }

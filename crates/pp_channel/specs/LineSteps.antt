@@ -19,13 +19,13 @@ use Rattle.pp_channel.specs.MonotoneLog.{IsWithin}
 use Rattle.pp_channel.specs.SharedWords.{word_place}
 
 -- An event in a log is one that the view has; a look was read off a word that the view found.
-abbrev pub IsJustified : LineView → ℕ → ℕ → Seen → Type 0
-IsJustified v c number (Did e) = Contains v.events (event_entry c number e)
-IsJustified v c number (Saw f) = (word : ℕ) × Contains v.found (record { channel = c; word = word })
+abbrev pub IsBackedAt : LineView → ℕ → ℕ → Seen → Type 0
+IsBackedAt v c number (Did e) = Contains v.events (event_entry c number e)
+IsBackedAt v c number (Saw f) = (word : ℕ) × Contains v.found (record { channel = c; word = word })
     × (number_in word ≡ number) × (flags_in word ≡ f)
 
 abbrev pub IsBacked : LineView → Entry → Type 0
-IsBacked v entry = IsJustified v entry.channel entry.number entry.what
+IsBacked v entry = IsBackedAt v entry.channel entry.number entry.what
 
 -- The log of a line with this view: it has each event of the view, as often as the view has it, and
 -- no other, and lies within what the line has seen.

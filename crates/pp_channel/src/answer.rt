@@ -6,9 +6,10 @@ ghost use Rattle.pp_channel.specs.declared.chan_op.ChanOp.{ChanOp};
 ghost use Rattle.pp_channel.specs.declared.event.Event.{Event};
 ghost use Rattle.pp_channel.specs.declared.reply.Reply.{Reply};
 ghost use Rattle.pp_channel.specs.History.{IsLawful, HasTwelveBitWord};
-ghost use Rattle.pp_channel.specs.Answer.{IsReady, IsAnswer, event_by, event_of, reply_made, reply_to, history_after, flags_of, flags_after, word_after};
+ghost use Rattle.pp_channel.specs.Answer.{IsReady, IsAnswer, event_by, event_of, reply_made, reply_shown, reply_to, history_after, flags_of, flags_after, word_after};
 
 use crate::chan_op::ChanOp;
+use crate::channel_state::ChannelState;
 use crate::event::Event;
 use crate::flags::Flags;
 use crate::reply::Reply;
@@ -27,7 +28,7 @@ pub fn answer_law()
 {}
 
 /// The event that an operation makes, by the flags and the word in the register; nothing where it
-/// is a probe or not ready.
+/// only looks or is not ready.
 #[inline(always)]
 pub fn event_by(op: &ChanOp, flags: Flags, register: Option<Word12>) -> Option<Event>
     ensures event { result ≡ event_by op.now flags register }
@@ -63,6 +64,17 @@ pub fn reply_made(event: &Event) -> Reply
     match event {
         Event::Take(word) => Reply::Word(*word),
         _ => Reply::Done,
+    }
+}
+
+/// The reply where none is made: an operation that only looks is answered, any other is held.
+#[inline(always)]
+pub fn reply_shown(op: &ChanOp, state: &ChannelState) -> Reply
+    ensures { result ≡ reply_shown op.now state.now }
+{
+    match op {
+        ChanOp::Probe => Reply::Flags(state.flags),
+        _ => Reply::Held(state.flags),
     }
 }
 

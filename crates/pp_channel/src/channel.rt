@@ -2,11 +2,12 @@
 
 ghost use Rattle.std.specs.Prelude.{◌≡◌, [], ◌∷◌, ◌++◌, ◌↔◌, IsTrue, None, IsSome, IfSome, IsOk, IfOk, OnOk, OnErr};
 ghost use Rattle.pp_channel.specs.History.{IsLawful, HasTwelveBitWord, HasTwelveBitWords, full, waiting};
-ghost use Rattle.pp_channel.specs.Answer.{IsAnswer, event_of, reply_to, history_after, flags_of};
+ghost use Rattle.pp_channel.specs.Answer.{IsAnswer, channel_state, event_of, reply_shown, reply_to, history_after, flags_of};
 ghost use Rattle.pp_channel.specs.Law.{KeepsLaw};
 
-use crate::answer::{event_by, flags_after, reply_made, word_after};
+use crate::answer::{event_by, flags_after, reply_made, reply_shown, word_after};
 use crate::chan_op::ChanOp;
+use crate::channel_state::ChannelState;
 use crate::event::Event;
 use crate::flags::Flags;
 use crate::memory::Memory;
@@ -124,6 +125,15 @@ impl<A: Allocator> Channel<A> {
         event_by(op, self.flags, self.register)
     }
 
+    /// The reply to an operation that makes no event now: one that only looks is answered, any
+    /// other is held.
+    #[inline(always)]
+    pub fn shown(&self, op: &ChanOp) -> Reply
+        ensures { result ≡ reply_shown op.now (channel_state self.now) }
+    {
+        reply_shown(op, &ChannelState::of(self))
+    }
+
     /// Makes the operation where it is ready; holds it where it is not, and then nothing changes.
     #[tactic(auto, using(crate::proofs::AnswerLemmas::answered_by_table))]
     #[inline(always)]
@@ -139,10 +149,7 @@ impl<A: Allocator> Channel<A> {
         ensures unchanged_after_memory { OnErr result (self.new ≡ self.old) }
     {
         let Some(event) = self.next_event(&op) else {
-            return Ok(match op {
-                ChanOp::Probe => Reply::Flags(self.flags),
-                _ => Reply::Held(self.flags),
-            });
+            return Ok(self.shown(&op));
         };
         self.make(op, event)
     }

@@ -1,12 +1,11 @@
 //! How a channel stands, without its history.
 
 ghost use Rattle.std.specs.Prelude.{◌≡◌, [], ◌∷◌, ◌++◌, List, IfSome, IfNone};
-ghost use Rattle.pp_channel.specs.Answer.{event_by, event_of, history_after, operation_of, reply_to};
-ghost use Rattle.pp_channel.specs.ChannelState.{channel_state, state_reply};
+ghost use Rattle.pp_channel.specs.Answer.{channel_state, event_by, event_of, history_after, operation_of, reply_to, state_reply};
 ghost use Rattle.pp_channel.specs.History.{HasTwelveBitWord, IsLawful};
 ghost use Rattle.pp_channel.specs.declared.event.Event.{Event};
 
-use crate::answer::{answer_law, event_by, flags_after, reply_made, word_after};
+use crate::answer::{answer_law, event_by, flags_after, reply_made, reply_shown, word_after};
 use crate::chan_op::ChanOp;
 use crate::channel::Channel;
 use crate::event::Event;
@@ -48,6 +47,7 @@ impl ChannelState {
     };
 
     /// How a channel stands. Example: a new channel is `INACTIVE`.
+    #[inline(always)]
     pub fn of<A: Allocator>(channel: &Channel<A>) -> ChannelState
         ensures { result ≡ channel_state channel.now }
     {
@@ -98,10 +98,7 @@ impl ChannelState {
             → self.new ≡ channel_state (history_after op h) }
     {
         let Some(event) = self.next_event(&op) else {
-            return match op {
-                ChanOp::Probe => Reply::Flags(self.flags),
-                _ => Reply::Held(self.flags),
-            };
+            return reply_shown(&op, self);
         };
         self.flags = flags_after(&event);
         self.register = word_after(&event);

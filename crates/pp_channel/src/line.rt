@@ -14,6 +14,7 @@ ghost use Rattle.pp_channel.specs.LineView.{finds, parent_view, weighs_once, gre
 ghost use Rattle.pp_channel.specs.ChannelWord.{history_word, number_in, flags_in};
 ghost use Rattle.pp_channel.specs.History.{IsLawful, HasTwelveBitWord, HasTwelveBitWords};
 
+use crate::answer::reply_shown;
 use crate::chan_op::ChanOp;
 use crate::channel::Channel;
 use crate::channel_no::{CHANNELS, ChannelNo};
@@ -25,7 +26,7 @@ use crate::numbered::Numbered;
 use crate::recorded_history::recorded_channels;
 use crate::reply::Reply;
 use crate::shared_words::SharedWords;
-use crate::word_step::{WordStep, advance, flags_in, next_event_in, number_in};
+use crate::word_step::{WordStep, advance, flags_in, next_event_in, number_in, state_in};
 use crate::worn::Worn;
 pub use closing::Closed;
 use std::alloc::Allocator;
@@ -169,8 +170,9 @@ impl<A: Allocator + Copy> Line<A> {
     /// flags and the number that the exchange found. An event goes to the log, and so does a look,
     /// which takes the place of a last look at the same channel that was not kept; `room` falls
     /// where the log grows. `seen` of the channel becomes one more than the number of an event, and
-    /// the number of a look; `kept` becomes false. `Worn` comes only for an operation other than a
-    /// probe, where the load found 2^50 - 1 events; then `seen` of the channel alone has changed.
+    /// the number of a look; `kept` becomes false. `Worn` comes only for an operation that does
+    /// more than look, where the load found 2^50 - 1 events; then `seen` of the channel alone has
+    /// changed.
     pub fn act(&mut self, channel: ChannelNo, op: ChanOp) -> Result<Numbered, Worn>
         requires { 1 ≤ self.old.log.room }
         ensures ok { IfOk result (λ r. IsActed self.old channel op r self.new) }
@@ -185,18 +187,10 @@ impl<A: Allocator + Copy> Line<A> {
         let loaded = number_in(word);
         match advance(word, op) {
             WordStep::Worn => Err(Worn),
-            WordStep::Look(flags) => {
+            WordStep::Look(_) | WordStep::Held(_) => {
                 self.look(channel, word);
                 Ok(Numbered {
-                    reply: Reply::Flags(flags),
-                    loaded,
-                    number: loaded,
-                })
-            }
-            WordStep::Held(flags) => {
-                self.look(channel, word);
-                Ok(Numbered {
-                    reply: Reply::Held(flags),
+                    reply: reply_shown(&op, &state_in(word)),
                     loaded,
                     number: loaded,
                 })

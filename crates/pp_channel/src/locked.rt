@@ -1,7 +1,7 @@
 //! A channel that threads share under a lock.
 
-ghost use Rattle.std.specs.Prelude.{◌≡◌, IfOk, IsOk};
-ghost use Rattle.pp_channel.specs.declared.chan_op.ChanOp.{ChanOp};
+ghost use Rattle.std.specs.Prelude.{◌≡◌, true, IfOk, IsOk};
+ghost use Rattle.pp_channel.specs.Answer.{only_looks};
 ghost use Rattle.pp_channel.specs.History.{IsLawful, HasTwelveBitWords};
 ghost use Rattle.pp_channel.specs.Locked.{IsLockedAnswer};
 
@@ -31,7 +31,7 @@ impl<A: Allocator> Locked<A> {
     /// has changed.
     pub fn act(&self, rt: &impl Wait, op: ChanOp) -> Result<Numbered, Memory>
         ensures answer { IfOk result (λ r. IsLockedAnswer op r) }
-        ensures probe_takes_no_memory { op ≡ ChanOp.Probe → IsOk result }
+        ensures look_takes_no_memory { only_looks op ≡ true → IsOk result }
     {
         let mut channel = self.channel.lock(rt);
         let number = channel.history().len() as u64;

@@ -4,10 +4,11 @@ ghost use Rattle.std.specs.Prelude.{◌≡◌, ◌<◌, ◌≤◌, List, IfSome}
 ghost use Rattle.pp_channel.specs.declared.event.Event.{Event};
 ghost use Rattle.pp_channel.specs.ChannelWord.{history_word, number_in, flags_in, register_in, greatest_number};
 ghost use Rattle.pp_channel.specs.History.{IsLawful, HasTwelveBitWord, HasTwelveBitWords};
-ghost use Rattle.pp_channel.specs.WordStep.{step_from, event_in, waiting_in, word_with, StepsFrom};
+ghost use Rattle.pp_channel.specs.WordStep.{step_from, step_shown, event_in, state_in, waiting_in, word_with, StepsFrom};
 
 use crate::answer::{event_by, flags_after, reply_made};
 use crate::chan_op::ChanOp;
+use crate::channel_state::ChannelState;
 use crate::event::Event;
 use crate::flags::Flags;
 use crate::reply::Reply;
@@ -30,7 +31,7 @@ const GREATEST_NUMBER: u64 = (1 << 50) - 1;
 pub enum WordStep {
     /// The word becomes this one, and the operation is answered so.
     Next(u64, Reply),
-    /// The flags that a probe asked for.
+    /// The flags that a look asked for.
     Look(Flags),
     /// The operation is not ready at these flags.
     Held(Flags),
@@ -40,27 +41,35 @@ pub enum WordStep {
 
 /// The step of an operation from a channel word, which may be any number: bits 0 to 11 are the
 /// register, bit 12 the full flag, bit 13 the active flag, and bits 14 to 63 the number of events
-/// (decimal). For any operation but a probe `Worn` comes before `Held`.
+/// (decimal). `Worn` comes first, but for an operation that only looks.
 #[tactic(auto, using(crate::proofs::ChannelWordLemmas::steps_as_histories))]
 pub fn advance(word: u64, op: ChanOp) -> WordStep
     ensures table { result ≡ step_from op word }
     ensures history { (h : List Event) → IsLawful h → HasTwelveBitWords h → history_word h ≡ word
         → StepsFrom h op result }
 {
-    if matches!(&op, ChanOp::Probe) {
-        return WordStep::Look(flags_in(word));
-    }
-    if number_in(word) == GREATEST_NUMBER {
+    if !op.only_looks() && number_in(word) == GREATEST_NUMBER {
         return WordStep::Worn;
     }
     match next_event_in(word, &op) {
         Some(event) => WordStep::Next(word_with(word, &event), reply_made(&event)),
-        None => WordStep::Held(flags_in(word)),
+        None => step_shown(&op, flags_in(word)),
     }
 }
 
-/// The event that an operation makes, by the flags and the register of a word; nothing where it is
-/// a probe or not ready.
+/// The step where an operation makes no event.
+fn step_shown(op: &ChanOp, flags: Flags) -> WordStep
+    ensures { result ≡ step_shown op.now flags }
+{
+    if op.only_looks() {
+        WordStep::Look(flags)
+    } else {
+        WordStep::Held(flags)
+    }
+}
+
+/// The event that an operation makes, by the flags and the register of a word; nothing where it
+/// only looks or is not ready.
 pub(crate) fn next_event_in(word: u64, op: &ChanOp) -> Option<Event>
     ensures event { result ≡ event_in op.now word }
     ensures twelve_bits { IfSome result HasTwelveBitWord }
@@ -83,6 +92,16 @@ pub(crate) fn flags_in(word: u64) -> Flags
     Flags {
         active: word / ACTIVE % 2 == 1,
         full: word / FULL % 2 == 1,
+    }
+}
+
+/// How a channel with this word stands.
+pub(crate) fn state_in(word: u64) -> ChannelState
+    ensures { result ≡ state_in word }
+{
+    ChannelState {
+        flags: flags_in(word),
+        register: waiting_in(word),
     }
 }
 

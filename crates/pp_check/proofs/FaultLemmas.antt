@@ -6,7 +6,7 @@ use Rattle.std.proofs.Math.Seq.{take-append_seam, take-take}
 use Rattle.std.proofs.lemmas.Bool.{cases_lt}
 use Rattle.std.proofs.lemmas.List.{get_or_push, length_push, take-append-drop, take_more}
 use Rattle.std.proofs.lemmas.List.Elements.{All-get_or, All-take, filter_map-append}
-use Rattle.pp_channel.specs.ChannelState.{channel_state}
+use Rattle.pp_channel.specs.Answer.{channel_state}
 use Rattle.pp_channel.specs.History.{IsLawful}
 use Rattle.pp_channel.specs.declared.event.Event.{Event}
 use Rattle.pp_deck.proofs.ListLemmas.{filter_map_more}

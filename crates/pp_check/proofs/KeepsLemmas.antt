@@ -6,15 +6,15 @@ use Rattle.std.proofs.lemmas.Bool.{cases_eq, eq-eqb, eqb-true, ne_eqb}
 use Rattle.std.proofs.lemmas.List.{get_or-set_other, get_or-set_same, get_or_read, length-append, length-set, length_push}
 use Rattle.std.proofs.lemmas.List.Sums.{sum_by-cons, sum_by_push}
 use Rattle.pp_channel.proofs.ChannelPlaces.{one_place, place_below}
+use Rattle.pp_channel.specs.Answer.{channel_state}
 use Rattle.pp_channel.specs.ChannelNo.{channel_count, channel_index, names_channel}
-use Rattle.pp_channel.specs.ChannelState.{channel_state}
 use Rattle.pp_channel.specs.History.{IsLawful}
 use Rattle.pp_channel.specs.declared.channel_state.ChannelState.{ChannelState}
 use Rattle.pp_channel.specs.declared.event.Event.{Event}
 use Rattle.pp_channel.specs.declared.event.Event.TheVariants.{Activate}
 use Rattle.pp_check.specs.Judge.{Happens, IsJudged, Keeps, KeepsEvents, new_standing, next_number, standing, standing_of}
 use Rattle.pp_check.specs.LawfulTrace.{Fits, IsLawfulTrace, event_on, events_on, history, is_opened, last_turn, turn_of}
-use Rattle.pp_check.specs.Verdict.{begins_session, is_activate, logs_event}
+use Rattle.pp_check.specs.Verdict.{begins_session, is_activate, tells_event}
 use Rattle.pp_check.specs.declared.judge.Judge.{Judge}
 use Rattle.pp_check.specs.declared.standing.Standing.{Standing}
 use Rattle.pp_check.specs.declared.trace_fault.TraceFlaw.{TraceFlaw}
@@ -32,7 +32,7 @@ count_more p lines line = sum_by_push (λ x. if p x then 1 else 0) lines line
 -- a line that tells an event of channel c
 pub record IsEventLine (c : ℕ) (e : Event) (line : TraceLine) : Type 0 where
   pub elsewhere : (d : ℕ) → d ≢ c → event_on d line ≡ None
-  pub told : logs_event line ≡ true
+  pub told : tells_event line ≡ true
   pub begins : begins_session line ≡ is_activate e
 
 record IsHere (c channel : ℕ) (e told : Event) : Type 0 where
@@ -69,7 +69,7 @@ standing_same opened lines line c none =
 pub record TellsNone (line : TraceLine) : Type 0 where
   pub event : (c : ℕ) → event_on c line ≡ None
   pub turn : turn_of line ≡ None
-  pub told : logs_event line ≡ false
+  pub told : tells_event line ≡ false
   pub begins : begins_session line ≡ false
 
 pub keeps_without_event : (opened : List Bool) (lines : List TraceLine) (judge : Judge) (line : TraceLine) → Keeps opened lines judge → Fits opened lines line → TellsNone line → Keeps opened (lines ++ line ∷ []) judge
@@ -80,7 +80,7 @@ keeps_without_event opened lines judge line k fits none = record {
         subst P (sym (history_same opened lines line c (none.event c))) (k.kept.lawful.histories c));
     each_channel = k.kept.each_channel;
     channels = λ c names. k.kept.channels c names ∙ sym (standing_same opened lines line c (none.event c));
-    events = let more = count_more logs_event lines line in k.kept.events ∙ sym (more ∙ ap (λ (b : Bool). count_by logs_event lines + (if b then 1 else 0)) none.told ∙ add_none (count_by logs_event lines));
+    events = let more = count_more tells_event lines line in k.kept.events ∙ sym (more ∙ ap (λ (b : Bool). count_by tells_event lines + (if b then 1 else 0)) none.told ∙ add_none (count_by tells_event lines));
     sessions = let more = count_more begins_session lines line in k.kept.sessions ∙ sym (more ∙ ap (λ (b : Bool). count_by begins_session lines + (if b then 1 else 0)) none.begins ∙ add_none (count_by begins_session lines));
   };
   last_turn = k.last_turn ∙ sym (last_turn_same lines line none.turn);
@@ -145,7 +145,7 @@ module _ (opened : List Bool) (lines : List TraceLine) (standings : List Standin
         lawful = lawful_push opened lines line k.lawful fits (histories_more more k.lawful);
         each_channel = length-set standings (channel_index c) (standing_after (standing_of standings c) state) ∙ all;
         channels = standings_more state same k.channels;
-        events = ap (λ (n : ℕ). n + 1) k.events ∙ sym (count_more logs_event lines line ∙ ap (λ (b : Bool). count_by logs_event lines + (if b then 1 else 0)) a_line.told);
+        events = ap (λ (n : ℕ). n + 1) k.events ∙ sym (count_more tells_event lines line ∙ ap (λ (b : Bool). count_by tells_event lines + (if b then 1 else 0)) a_line.told);
         sessions = ap (λ (n : ℕ). n + (if is_activate e then 1 else 0)) k.sessions ∙ sym (count_more begins_session lines line ∙ ap (λ (b : Bool). count_by begins_session lines + (if b then 1 else 0)) a_line.begins);
       }
 
@@ -172,18 +172,18 @@ event_by_test : (b : Bool) (told : Event) (es : List Event) (n : ℕ) → length
 event_by_test true told es n rest = omega (arith, rest)
 event_by_test false told es n rest = omega (arith, rest)
 
-event_by_line : (c : ℕ) (line : TraceLine) (es : List Event) (n : ℕ) → length es ≤ n → length (cons_option (event_on c line) es) ≤ (if logs_event line then 1 else 0) + n
+event_by_line : (c : ℕ) (line : TraceLine) (es : List Event) (n : ℕ) → length es ≤ n → length (cons_option (event_on c line) es) ≤ (if tells_event line then 1 else 0) + n
 event_by_line c (says.AtTurn turn channel told) es n rest = event_by_test (channel == c) told es n rest
 event_by_line c (says.Numbered number channel told) es n rest = event_by_test (channel == c) told es n rest
 event_by_line c (says.Standing channel state) es n rest = omega (arith, rest)
 event_by_line c says.Other es n rest = omega (arith, rest)
 
-some_events : (c : ℕ) (lines : List TraceLine) → length (events_on c lines) ≤ count_by logs_event lines
+some_events : (c : ℕ) (lines : List TraceLine) → length (events_on c lines) ≤ count_by tells_event lines
 unfolding events_on
 some_events c [] = omega arith
 some_events c (line ∷ lines) =
-    let more = event_by_line c line (filter_map (event_on c) lines) (count_by logs_event lines) (some_events c lines) in
-    subst (λ (n : ℕ). length (cons_option (event_on c line) (filter_map (event_on c) lines)) ≤ n) (sym (count_first logs_event line lines)) more
+    let more = event_by_line c line (filter_map (event_on c) lines) (count_by tells_event lines) (some_events c lines) in
+    subst (λ (n : ℕ). length (cons_option (event_on c line) (filter_map (event_on c) lines)) ≤ n) (sym (count_first tells_event line lines)) more
 
 pub few_events : (opened : List Bool) (lines : List TraceLine) (judge : Judge) (c : ℕ) → KeepsEvents opened lines judge.channels judge.events judge.sessions → IsTrue (names_channel c) → (standing_of judge.channels c).events ≤ judge.events
 unfolding standing
@@ -196,18 +196,18 @@ session_by_test : (b : Bool) (m n : ℕ) → m ≤ n → (if b then 1 else 0) + 
 session_by_test true m n rest = omega (arith, rest)
 session_by_test false m n rest = omega (arith, rest)
 
-session_by_line : (line : TraceLine) (m n : ℕ) → m ≤ n → (if begins_session line then 1 else 0) + m ≤ (if logs_event line then 1 else 0) + n
+session_by_line : (line : TraceLine) (m n : ℕ) → m ≤ n → (if begins_session line then 1 else 0) + m ≤ (if tells_event line then 1 else 0) + n
 session_by_line (says.AtTurn turn channel told) m n rest = session_by_test (is_activate told) m n rest
 session_by_line (says.Numbered number channel told) m n rest = session_by_test (is_activate told) m n rest
 session_by_line (says.Standing channel state) m n rest = omega (arith, rest)
 session_by_line says.Other m n rest = omega (arith, rest)
 
 -- each session that begins is an event
-pub few_sessions : (lines : List TraceLine) → count_by begins_session lines ≤ count_by logs_event lines
+pub few_sessions : (lines : List TraceLine) → count_by begins_session lines ≤ count_by tells_event lines
 few_sessions [] = omega arith
 few_sessions (line ∷ lines) =
-    let more = session_by_line line (count_by begins_session lines) (count_by logs_event lines) (few_sessions lines) in
-    omega (arith, more, count_first begins_session line lines, count_first logs_event line lines)
+    let more = session_by_line line (count_by begins_session lines) (count_by tells_event lines) (few_sessions lines) in
+    omega (arith, more, count_first begins_session line lines, count_first tells_event line lines)
 
 -- ---- what is read and written at a channel's place
 

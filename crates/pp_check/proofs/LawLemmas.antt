@@ -6,7 +6,7 @@ use Rattle.std.specs.List.Sorted.{IsStrictlyIncreasing}
 use Rattle.std.proofs.lemmas.Bool.{cases_eq, cases_lt}
 use Rattle.std.proofs.lemmas.List.{get_or_append_left, get_or_push, length_push, take_all, take_more}
 use Rattle.std.proofs.lemmas.Option.{slice_get-get_or}
-use Rattle.pp_channel.specs.ChannelState.{channel_state}
+use Rattle.pp_channel.specs.Answer.{channel_state}
 use Rattle.pp_channel.specs.declared.channel_state.ChannelState.{ChannelState}
 use Rattle.pp_channel.proofs.LastElements.{last_or_at}
 use Rattle.pp_channel.specs.declared.event.Event.{Event}

@@ -9,8 +9,8 @@ use Rattle.std.proofs.lemmas.List.Elements.{All-head, All-tail, filter_map-appen
 use Rattle.pp_channel.proofs.HistoryLemmas.{Fits as FitsState, active_at, full_at, held_word, is_active, state_at, waiting_at}
 use Rattle.pp_channel.proofs.HistoryWalk.{State, Inactive, Empty, Holding}
 use Rattle.pp_channel.proofs.LastElements.{last_or-push}
+use Rattle.pp_channel.specs.Answer.{channel_state}
 use Rattle.pp_channel.specs.ChannelNo.{names_channel}
-use Rattle.pp_channel.specs.ChannelState.{channel_state}
 use Rattle.pp_channel.specs.History.{IsLawful, active, full, waiting}
 use Rattle.pp_channel.specs.Histories.{history_on}
 use Rattle.pp_channel.specs.declared.channel_state.ChannelState.{ChannelState}

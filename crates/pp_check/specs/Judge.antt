@@ -1,12 +1,12 @@
 -- What the judge keeps of the lines so far.
 -- (Private contracts alone cite this.)
 use Rattle.std.specs.Prelude.{◌≡◌, ℕ, ◌+◌, Bool, List, [], ◌∷◌, ◌++◌, length, false, IsTrue, count_by, slice_index_or, Result, Ok, Err, Option, None, Some, if◌then◌else◌}
+use Rattle.pp_channel.specs.Answer.{channel_state}
 use Rattle.pp_channel.specs.ChannelNo.{channel_count, channel_index, names_channel}
-use Rattle.pp_channel.specs.ChannelState.{channel_state}
 use Rattle.pp_check.specs.LawfulTrace.{IsLawfulTrace, events_on, history, is_opened, last_turn}
 use Rattle.pp_check.specs.TraceFault.{IsFlaw, IsFlawOf}
 use Rattle.pp_check.specs.TraceLine.{inactive}
-use Rattle.pp_check.specs.Verdict.{begins_session, logs_event}
+use Rattle.pp_check.specs.Verdict.{begins_session, tells_event}
 use Rattle.pp_check.specs.declared.judge.Judge.{Judge}
 use Rattle.pp_check.specs.declared.standing.Standing.{Standing}
 use Rattle.pp_check.specs.declared.trace_fault.TraceFlaw.{TraceFlaw}
@@ -40,7 +40,7 @@ pub record KeepsEvents (opened : List Bool) (lines : List TraceLine)
   pub each_channel : length standings ≡ channel_count
   pub channels : (c : ℕ) → IsTrue (names_channel c)
       → standing_of standings c ≡ standing opened lines c
-  pub events : event_count ≡ count_by logs_event lines
+  pub events : event_count ≡ count_by tells_event lines
   pub sessions : session_count ≡ count_by begins_session lines
 
 -- all that the judge keeps of the lines so far

@@ -1,6 +1,6 @@
 -- Where a trace stops being lawful, and why.
 use Rattle.std.specs.Prelude.{◌≡◌, ◌≢◌, ◌-◌, ◌<◌, ◌≤◌, Bool, List, [], ◌∷◌, ◌++◌, length, take, Option, None, Some, slice_index_or}
-use Rattle.pp_channel.specs.ChannelState.{channel_state}
+use Rattle.pp_channel.specs.Answer.{channel_state}
 use Rattle.pp_channel.specs.History.{IsLawful}
 use Rattle.pp_channel.specs.declared.event.Event.{Event}
 use Rattle.pp_deck.specs.DeckText.{Fields}

@@ -11,11 +11,11 @@ use Rattle.pp_check.specs.declared.trace_line.TraceLine.{TraceLine}
 use Rattle.pp_check.specs.declared.trace_line.TraceLine.TheVariants.{AtTurn, Numbered, Standing, Other}
 use Rattle.pp_check.specs.declared.verdict.Verdict.{Verdict}
 
-abbrev pub logs_event : TraceLine → Bool
-logs_event (AtTurn turn c e) = true
-logs_event (Numbered number c e) = true
-logs_event (Standing c state) = false
-logs_event Other = false
+abbrev pub tells_event : TraceLine → Bool
+tells_event (AtTurn turn c e) = true
+tells_event (Numbered number c e) = true
+tells_event (Standing c state) = false
+tells_event Other = false
 
 abbrev pub is_activate : Event → Bool
 is_activate Activate = true
@@ -47,7 +47,7 @@ opened_count opened lines = count_by (λ c. is_used lines c && is_opened opened 
 -- event of the trace begins, and those that had been opened before it
 abbrev pub verdict_of : List Bool → List TraceLine → Verdict
 verdict_of opened lines = record {
-  events = count_by logs_event lines;
+  events = count_by tells_event lines;
   channels = used_count lines;
   sessions = count_by begins_session lines + opened_count opened lines;
 }

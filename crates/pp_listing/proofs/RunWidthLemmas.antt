@@ -5,13 +5,18 @@ use Rattle.std.specs.Option.{option_to_list}
 use Rattle.std.proofs.lemmas.Bool.{cases_lt}
 use Rattle.std.proofs.lemmas.List.{length-replicate, length-set, get_or_past}
 use Rattle.std.proofs.lemmas.List.Elements.{All-cons, All-nil, All-push}
-use Rattle.pp_channel.specs.Answer.{event_of, event_with, flags_of, history_after, ready_at, reply_by}
+use Rattle.pp_channel.specs.Answer.{channel_state, event_of, event_with, flags_of, flags_shown, history_after, ready_at, reply_by, reply_shown}
 use Rattle.pp_channel.specs.ChannelNo.{channel_count, channel_index, channel_number}
 use Rattle.pp_channel.specs.History.{HasTwelveBitWord, HasTwelveBitWords, waiting}
 use Rattle.pp_channel.specs.declared.chan_op.ChanOp.{ChanOp}
 use Rattle.pp_channel.specs.declared.chan_op.ChanOp.TheVariants as operations
+use Rattle.pp_channel.specs.declared.channel_state.ChannelState.{ChannelState}
 use Rattle.pp_channel.specs.declared.event.Event.{Event}
 use Rattle.pp_channel.specs.declared.event.Event.TheVariants as events
+use Rattle.pp_channel.specs.declared.flags.Flags.{Flags}
+use Rattle.pp_channel.specs.declared.reply.Reply.{Reply}
+use Rattle.pp_channel.specs.declared.reply.Reply.TheVariants as replies
+use Rattle.pp_channel.proofs.AnswerLemmas.{shows_flags}
 use Rattle.pp_channel.proofs.ChannelPlaces as channel_places
 use Rattle.pp_channel.proofs.ChannelWordLemmas.{waiting_small}
 use Rattle.pp_machine.specs.Central.{IsCentral}
@@ -85,12 +90,10 @@ taken_small None low = tt
 taken_small (Some w) low = low
 
 made_small : (op : ChanOp) (word : Option ℕ) → IsSmallOperation op → unwrap_or word 0 < 2 ^ 12 → OnEvent (event_with op word)
-made_small operations.Probe word small low = tt
-made_small operations.Activate word small low = tt
-made_small operations.Disconnect word small low = tt
 made_small (operations.Put w) word small low = small
 made_small operations.Take word small low = taken_small word low
 made_small (operations.Function w) word small low = small
+made_small op word small low = tt
 
 if_made : (b : Bool) (o : Option Event) → OnEvent o → OnEvent (if b then o else None)
 if_made true o h = h
@@ -99,18 +102,17 @@ if_made false o h = tt
 event_small : (op : ChanOp) (h : List Event) → IsSmallOperation op → HasTwelveBitWords h → OnEvent (event_of op h)
 event_small op h small words = if_made (ready_at op (flags_of h)) (event_with op (waiting h)) (made_small op (waiting h) small (waiting_small h words))
 
-reply_small : (op : ChanOp) (h : List Event) (o : Option Event) → OnEvent o → IsSmallReply (reply_by op h o)
-reply_small operations.Probe h None small = tt
-reply_small operations.Activate h None small = tt
-reply_small operations.Disconnect h None small = tt
-reply_small (operations.Put w) h None small = tt
-reply_small operations.Take h None small = tt
-reply_small (operations.Function w) h None small = tt
-reply_small op h (Some (events.Take w)) small = small
-reply_small op h (Some events.Activate) small = tt
-reply_small op h (Some events.Disconnect) small = tt
-reply_small op h (Some (events.Put w)) small = tt
-reply_small op h (Some (events.Function w)) small = tt
+shown_small : (reply : Reply) (f : Flags) → flags_shown reply ≡ Some f → IsSmallReply reply
+shown_small (replies.Word w) f shows = absurd cc
+shown_small reply f shows = tt
+
+reply_small : (op : ChanOp) (state : ChannelState) (o : Option Event) → OnEvent o → IsSmallReply (reply_by op state o)
+reply_small op state None small = shown_small (reply_shown op state) state.flags (shows_flags op state)
+reply_small op state (Some (events.Take w)) small = small
+reply_small op state (Some events.Activate) small = tt
+reply_small op state (Some events.Disconnect) small = tt
+reply_small op state (Some (events.Put w)) small = tt
+reply_small op state (Some (events.Function w)) small = tt
 
 grown : (h : List Event) (o : Option Event) → HasTwelveBitWords h → OnEvent o → HasTwelveBitWords (h ++ option_to_list o)
 grown h None words small = subst HasTwelveBitWords (sym (append-nil h)) words
@@ -137,7 +139,7 @@ module _ (m : MachineState) (h : HasWidths m) where
   central_keeps (Read a) small = h.central
 
   answer_small : (x : Need) → IsSmallNeed x → IsSmallAnswer (answer_to x m)
-  answer_small (Channel c op) small = reply_small op (history_of c m) (event_of op (history_of c m)) (event_small op (history_of c m) small (h.histories (channel_index c)))
+  answer_small (Channel c op) small = reply_small op (channel_state (history_of c m)) (event_of op (history_of c m)) (event_small op (history_of c m) small (h.histories (channel_index c)))
   answer_small Nothing small = tt
   answer_small Local small = tt
   answer_small (Read a) small = tt

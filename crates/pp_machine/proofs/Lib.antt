@@ -2,6 +2,7 @@ pub mod ProcessorPlaces
 pub mod ProfileLemmas
 pub mod BlockLemmas
 pub mod BlockResultLemmas
+pub mod FitLemmas
 pub mod GivenLemmas
 pub mod MemoryLemmas
 pub mod ReplayLemmas

@@ -3,9 +3,10 @@ use Rattle.std.proofs.Common.{◌≡◌, ◌≢◌, ℕ, ◌<◌, List, [], ◌+
 use Rattle.std.specs.Prelude.{None, Option, Some, Result, Ok, Err, OnOk, OnErr, IfOk}
 use Rattle.std.specs.Option.{option_to_list}
 use Rattle.std.proofs.lemmas.List.{set-get_or, get_or-set_same}
-use Rattle.pp_channel.specs.Answer.{event_of, reply_by, flags_of}
+use Rattle.pp_channel.specs.Answer.{channel_state, event_of, reply_by, reply_to, flags_of}
 use Rattle.pp_channel.specs.ChannelNo.{channel_index}
 use Rattle.pp_channel.specs.declared.chan_op.ChanOp.{ChanOp}
+use Rattle.pp_channel.specs.declared.channel_state.ChannelState.{ChannelState}
 use Rattle.pp_channel.specs.declared.chan_op.ChanOp.TheVariants.{Probe}
 use Rattle.pp_channel.specs.declared.event.Event.{Event}
 use Rattle.pp_channel.specs.declared.event.Event.TheVariants as events
@@ -81,13 +82,13 @@ outcome_by_probe n c flags m probes shown moved =
     ∙ moved
 
 -- an operation that was held made no event
-held_made_none : (op : ChanOp) (h : List Event) (made : Option Event) (flags : Flags) → reply_by op h made ≡ replies.Held flags → made ≡ None
-held_made_none op h None flags e = refl
-held_made_none op h (Some events.Activate) flags e = cc
-held_made_none op h (Some events.Disconnect) flags e = cc
-held_made_none op h (Some (events.Put w)) flags e = cc
-held_made_none op h (Some (events.Take w)) flags e = cc
-held_made_none op h (Some (events.Function w)) flags e = cc
+held_made_none : (op : ChanOp) (state : ChannelState) (made : Option Event) (flags : Flags) → reply_by op state made ≡ replies.Held flags → made ≡ None
+held_made_none op state None flags e = refl
+held_made_none op state (Some events.Activate) flags e = cc
+held_made_none op state (Some events.Disconnect) flags e = cc
+held_made_none op state (Some (events.Put w)) flags e = cc
+held_made_none op state (Some (events.Take w)) flags e = cc
+held_made_none op state (Some (events.Function w)) flags e = cc
 
 held_reply : (flags : Flags) (reply : Reply) → answers.Channel reply ≡ answers.Channel (replies.Held flags) → reply ≡ replies.Held flags
 held_reply flags reply e = cc
@@ -100,7 +101,7 @@ served_held n (Read a) m flags e = cc
 served_held n (Write a w) m flags e = cc
 served_held n (Channel c op) m flags e =
     let h = history_of c m in
-    let none : event_of op h ≡ None = held_made_none op h (event_of op h) flags (held_reply flags (reply_by op h (event_of op h)) e) in
+    let none : event_of op h ≡ None = held_made_none op (channel_state h) (event_of op h) flags (held_reply flags (reply_to op h) e) in
     ap (λ (made : Option Event). record m { histories = slice_set m.histories (channel_index c) (h ++ option_to_list made); trace = m.trace ++ map (λ e. record { turn = m.turns; pp = n; channel = c; event = e }) (option_to_list made) }) none
     ∙ ap (λ (g : List Event). record m { histories = slice_set m.histories (channel_index c) g; trace = m.trace ++ [] }) (append-nil h)
     ∙ ap (λ (hs : List (List Event)). record m { histories = hs; trace = m.trace ++ [] }) (set-get_or m.histories (channel_index c) [])

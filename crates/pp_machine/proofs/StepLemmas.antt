@@ -1,5 +1,5 @@
 -- What is true of each step, whatever the instruction.
-use Rattle.std.proofs.Common.{◌≡◌, ◌≢◌, ℕ, ◌-◌, ◌==◌, ◌&&◌, not, Bool, true, false, Option, None, Some, if◌then◌else◌, refl, ◌∙◌, ◌↔◌}
+use Rattle.std.proofs.Common.{◌≡◌, ◌≢◌, ℕ, ◌-◌, ◌==◌, ◌&&◌, not, Bool, true, false, Option, None, Some, if◌then◌else◌, refl, ◌↔◌}
 use Rattle.pp_word.specs.Address.{relative_to}
 use Rattle.pp_word.specs.OnesComplement.{difference}
 use Rattle.pp_word.specs.declared.opcode.Opcode.{Opcode}

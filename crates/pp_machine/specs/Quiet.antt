@@ -18,7 +18,7 @@ is_none None = true
 is_none (Some event) = false
 
 -- whether a step with this need is taken as quiet: nothing is needed from outside, or an operation
--- on a channel that makes no event, since it is a probe or is held. A central read is not, though
+-- on a channel that makes no event, since it only looks or is held. A central read is not, though
 -- it changes nothing else.
 abbrev pub is_quiet : Need → MachineState → Bool
 is_quiet Nothing m = true

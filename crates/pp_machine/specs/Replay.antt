@@ -1,11 +1,10 @@
 -- A replay: a processor is given answers in order, up to the first that does not fit its need.
-use Rattle.std.specs.Prelude.{ℕ, ◌+◌, Bool, true, false, List, [], ◌∷◌, ◌++◌, map, Option, Some, if◌then◌else◌}
-use Rattle.std.specs.Option.{option_map, option_to_list}
-use Rattle.pp_channel.specs.Answer.{event_answered}
+use Rattle.std.specs.Prelude.{ℕ, ◌+◌, Bool, true, false, List, [], ◌∷◌, ◌++◌, map, if◌then◌else◌}
+use Rattle.std.specs.Option.{option_to_list}
+use Rattle.pp_channel.specs.Answer.{event_answered, seen_answered}
 use Rattle.pp_channel.specs.declared.chan_op.ChanOp.{ChanOp}
 use Rattle.pp_channel.specs.declared.chan_op.ChanOp.TheVariants as operations
 use Rattle.pp_channel.specs.declared.entry.Seen.{Seen}
-use Rattle.pp_channel.specs.declared.entry.Seen.TheVariants.{Did, Saw}
 use Rattle.pp_channel.specs.declared.event.Event.{Event}
 use Rattle.pp_channel.specs.declared.reply.Reply.{Reply}
 use Rattle.pp_channel.specs.declared.reply.Reply.TheVariants as replies
@@ -62,13 +61,6 @@ pub record ChannelSight : Type 0 where
   pub channel : ℕ
   pub what : Seen
 
--- what an operation that was answered so did or saw: Done and Word give its event, Flags and Held
--- are looks
-abbrev pub seen_by : ChanOp → Reply → Option Seen
-seen_by operation (replies.Flags flags) = Some (Saw flags)
-seen_by operation (replies.Held flags) = Some (Saw flags)
-seen_by operation reply = option_map (λ e. Did e) (event_answered operation reply)
-
 -- the event of an answer to a need, if it gives one
 abbrev pub events_of : Need → Answer → List ChannelEvent
 events_of (needs.Channel channel operation) (answers.Channel reply) =
@@ -80,7 +72,7 @@ events_of need answer = []
 abbrev pub sights_of : Need → Answer → List ChannelSight
 sights_of (needs.Channel channel operation) (answers.Channel reply) =
     map (λ what. record { channel = channel; what = what })
-    (option_to_list (seen_by operation reply))
+    (option_to_list (seen_answered operation reply))
 sights_of need answer = []
 
 -- what each answer gives, along a replay, end to end

@@ -150,12 +150,6 @@ fn shown<A: Allocator>(
     let made = channel.next_event(op);
     match &made {
         Some(_event) => None,
-        None => {
-            let flags = channel.flags();
-            Some(match op {
-                ChanOp::Probe => Reply::Flags(flags),
-                _ => Reply::Held(flags),
-            })
-        }
+        None => Some(channel.shown(op)),
     }
 }

@@ -238,13 +238,7 @@ impl<A: Allocator> Machine<A> {
         let i = channel.index();
         let made = self.channels[i].next_event(&op);
         match &made {
-            None => {
-                let flags = self.channels[i].flags();
-                Ok(match &op {
-                    ChanOp::Probe => Reply::Flags(flags),
-                    _ => Reply::Held(flags),
-                })
-            }
+            None => Ok(self.channels[i].shown(&op)),
             Some(event) => {
                 let turn = self.turns;
                 self.trace.push(Trace {

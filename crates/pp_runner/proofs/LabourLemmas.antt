@@ -8,12 +8,12 @@ use Rattle.std.proofs.lemmas.List.{append-nil, length-append, take-append-le}
 use Rattle.std.proofs.lemmas.Option.{slice_get_within, slice_get-get_or}
 use Rattle.std.proofs.Math.ListN.{get_or-append}
 use Rattle.std.proofs.Math.Seq.{take-append_seam, get_or-append_seam}
+use Rattle.pp_channel.proofs.AnswerLemmas.{shown_makes_none}
 use Rattle.pp_channel.proofs.LastElements.{last_or-push}
 use Rattle.pp_channel.specs.LineLog.{LogState, empty_log, appended, looked, is_look_at}
-use Rattle.pp_channel.specs.Answer.{event_answered}
+use Rattle.pp_channel.specs.Answer.{event_answered, flags_shown, seen_with}
 use Rattle.pp_channel.specs.MonotoneLog.{IsMonotone}
 use Rattle.pp_channel.specs.declared.chan_op.ChanOp.{ChanOp}
-use Rattle.pp_channel.specs.declared.chan_op.ChanOp.TheVariants as operations
 use Rattle.pp_channel.specs.declared.entry.Entry.{Entry}
 use Rattle.pp_channel.specs.declared.entry.Seen.{Seen}
 use Rattle.pp_channel.specs.declared.entry.Seen.TheVariants.{Did, Saw}
@@ -21,6 +21,7 @@ use Rattle.pp_channel.specs.declared.event.Event.{Event}
 use Rattle.pp_channel.specs.declared.flags.Flags.{Flags}
 use Rattle.pp_channel.specs.declared.reply.Reply.{Reply}
 use Rattle.pp_channel.specs.declared.reply.Reply.TheVariants as replies
+use Rattle.pp_machine.proofs.FitLemmas.{acts_where_held}
 use Rattle.pp_machine.proofs.GivenLemmas.{replayed-push, given_count-push, told_along-push}
 use Rattle.pp_machine.specs.NeedAndEffect.{need, processor_after, outcome}
 use Rattle.pp_machine.specs.Processor.{Processor}
@@ -68,34 +69,19 @@ each_push P load xs x h p i y is =
 abbrev events_among : List ChannelSight → List ChannelEvent
 events_among ss = filter_map (λ s. event_in s.channel s.what) ss
 
--- Flags and Held tell no event
-no_event_flags : (operation : ChanOp) (f : Flags) → event_answered operation (replies.Flags f) ≡ None
-no_event_flags operations.Probe f = refl
-no_event_flags operations.Activate f = refl
-no_event_flags operations.Disconnect f = refl
-no_event_flags (operations.Put w) f = refl
-no_event_flags operations.Take f = refl
-no_event_flags (operations.Function w) f = refl
-
-no_event_held : (operation : ChanOp) (f : Flags) → event_answered operation (replies.Held f) ≡ None
-no_event_held operations.Probe f = refl
-no_event_held operations.Activate f = refl
-no_event_held operations.Disconnect f = refl
-no_event_held (operations.Put w) f = refl
-no_event_held operations.Take f = refl
-no_event_held (operations.Function w) f = refl
-
 among_event : (c : ℕ) (e : Option Event) →
     events_among (map (λ what. record { channel = c; what = what }) (option_to_list (option_map (λ e. Did e) e))) ≡ map (λ e. record { channel = c; event = e }) (option_to_list e)
 among_event c None = refl
 among_event c (Some e) = refl
 
+among_shown : (c : ℕ) (operation : ChanOp) (reply : Reply) (shown : Option Flags) → flags_shown reply ≡ shown →
+    events_among (map (λ what. record { channel = c; what = what }) (option_to_list (seen_with shown (event_answered operation reply)))) ≡ events_of (needs.Channel c operation) (answers.Channel reply)
+among_shown c operation reply (Some f) shows = rw (shown_makes_none operation reply f shows) refl
+among_shown c operation reply None shows = among_event c (event_answered operation reply)
+
 among_seen : (c : ℕ) (operation : ChanOp) (reply : Reply) →
     events_among (sights_of (needs.Channel c operation) (answers.Channel reply)) ≡ events_of (needs.Channel c operation) (answers.Channel reply)
-among_seen c operation (replies.Flags f) = rw (no_event_flags operation f) refl
-among_seen c operation (replies.Held f) = rw (no_event_held operation f) refl
-among_seen c operation replies.Done = among_event c (event_answered operation replies.Done)
-among_seen c operation (replies.Word w) = among_event c (event_answered operation (replies.Word w))
+among_seen c operation reply = among_shown c operation reply (flags_shown reply) refl
 
 among_sights : (n : Need) (x : Answer) → events_among (sights_of n x) ≡ events_of n x
 among_sights (needs.Channel c operation) (answers.Channel reply) = among_seen c operation reply
@@ -243,7 +229,7 @@ work_moved load size steps pp new xs x before after kept work fewer told moved n
       room = ap (λ l. l.room + length l.entries) kept_is ∙ (log.room ∙ work.room);
     }
 
--- a held answer is a look at the channel of the operation, which is no probe
+-- a held answer is a look at the channel of the operation, which does more than look
 record IsHold (pp : Processor) (x : Answer) : Type 0 where
   pub channel : ℕ
   pub needs : NeedsChannel (need pp) channel
@@ -251,12 +237,7 @@ record IsHold (pp : Processor) (x : Answer) : Type 0 where
   pub only : sights_of (need pp) x ≡ record { channel = channel; what = Saw flags } ∷ []
 
 hold_of : (n : Need) (pp : Processor) (f : Flags) → need pp ≡ n → fits n (answers.Channel (replies.Held f)) ≡ true → IsHold pp (answers.Channel (replies.Held f))
-hold_of (needs.Channel c operations.Activate) pp f n fit = record { channel = c; needs = record { operation = operations.Activate; is = n; no_probe = λ e. cc }; flags = f; only = rw n refl }
-hold_of (needs.Channel c operations.Disconnect) pp f n fit = record { channel = c; needs = record { operation = operations.Disconnect; is = n; no_probe = λ e. cc }; flags = f; only = rw n refl }
-hold_of (needs.Channel c (operations.Put w)) pp f n fit = record { channel = c; needs = record { operation = operations.Put w; is = n; no_probe = λ e. cc }; flags = f; only = rw n refl }
-hold_of (needs.Channel c operations.Take) pp f n fit = record { channel = c; needs = record { operation = operations.Take; is = n; no_probe = λ e. cc }; flags = f; only = rw n refl }
-hold_of (needs.Channel c (operations.Function w)) pp f n fit = record { channel = c; needs = record { operation = operations.Function w; is = n; no_probe = λ e. cc }; flags = f; only = rw n refl }
-hold_of (needs.Channel c operations.Probe) pp f n fit = absurd cc
+hold_of (needs.Channel c operation) pp f n fit = record { channel = c; needs = record { operation = operation; is = n; acts = acts_where_held operation f fit }; flags = f; only = rw n refl }
 hold_of needs.Nothing pp f n fit = absurd cc
 hold_of needs.Local pp f n fit = absurd cc
 hold_of (needs.Read a) pp f n fit = absurd cc

@@ -1,6 +1,6 @@
 -- A line after a call: it is the same line, later.
-use Rattle.std.proofs.Common.{◌≡◌, ℕ, suc, ◌≤◌, ◌+◌, ◌-◌, ◌*◌, List, [], ◌∷◌, ◌++◌, All, length, refl, sym, ap, ◌∙◌, subst, append_assoc, arith}
-use Rattle.std.specs.Prelude.{slice_set}
+use Rattle.std.proofs.Common.{◌≡◌, ℕ, Bool, true, false, suc, ◌≤◌, ◌+◌, ◌-◌, ◌*◌, List, [], ◌∷◌, ◌++◌, All, length, refl, sym, ap, ◌∙◌, subst, append_assoc, arith}
+use Rattle.std.specs.Prelude.{if◌then◌else◌, is_some, slice_set}
 use Rattle.std.specs.List.{flat_map}
 use Rattle.std.proofs.lemmas.Grind.{flat_map-append}
 use Rattle.std.proofs.lemmas.List.{append-nil, length-append}
@@ -11,6 +11,7 @@ use Rattle.pp_channel.proofs.LineKnowledge.{all_looked}
 use Rattle.pp_channel.proofs.SeenLemmas.{set_raises}
 use Rattle.pp_channel.specs.ChannelNo.{channel_index}
 use Rattle.pp_channel.specs.LineLog.{LogState}
+use Rattle.pp_channel.specs.Answer.{flags_shown}
 use Rattle.pp_channel.specs.LineState.{LineState, AreFoundBy, IsActed, IsAnsweredBy, IsWornOut, found_on, number_after}
 use Rattle.pp_channel.specs.Histories.{history_on}
 use Rattle.pp_channel.specs.MonotoneLog.{seen_on}
@@ -22,7 +23,6 @@ use Rattle.pp_channel.specs.declared.entry.Seen.TheVariants.{Did, Saw}
 use Rattle.pp_channel.specs.declared.numbered.Numbered.{Numbered}
 use Rattle.pp_channel.specs.declared.reply.Reply.{Reply}
 use Rattle.pp_channel.specs.declared.rule.FoundWord.{FoundWord}
-use Rattle.pp_channel.specs.declared.reply.Reply.TheVariants as replies
 use Rattle.pp_machine.specs.NeedAndEffect.{need}
 use Rattle.pp_machine.specs.Processor.{Processor}
 use Rattle.pp_runner.proofs.ReplyLemmas.{line_reply_fits, sight_of}
@@ -43,11 +43,12 @@ same_line_twice line mid after a b = record {
   none_older = λ happened has none. b.none_older happened (a.seen happened has) (a.none_older happened has none);
 }
 
+after_if : (number : ℕ) (shows : Bool) → number ≤ (if shows then number else number + 1)
+after_if number true = omega arith
+after_if number false = omega arith
+
 after_number : (number : ℕ) (reply : Reply) → number ≤ number_after number reply
-after_number number (replies.Flags f) = omega arith
-after_number number (replies.Held f) = omega arith
-after_number number replies.Done = omega arith
-after_number number (replies.Word w) = omega arith
+after_number number reply = after_if number (is_some (flags_shown reply))
 
 none_older_noted : (happened : ℕ → ℕ) (log : LogState) (c number : ℕ) (what : Seen) → happened c ≤ number → NoneOlder happened log.entries → NoneOlder happened (noted_as log c number what).entries
 none_older_noted happened log c number (Did e) later none =

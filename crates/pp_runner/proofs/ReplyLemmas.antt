@@ -1,55 +1,31 @@
 -- Replies of a line: each goes with its operation, and the log tells what it did or saw.
-use Rattle.std.proofs.Common.{◌≡◌, ℕ, true, List, [], ◌∷◌, refl, sym, ap, ◌∙◌, subst, inl, inr}
+use Rattle.std.proofs.Common.{◌≡◌, ℕ, true, List, [], ◌∷◌, map, Some, refl, sym, ap, ◌∙◌, subst, inl, inr}
 use Rattle.std.specs.Prelude.{take}
+use Rattle.std.specs.Option.{option_to_list}
 use Rattle.std.proofs.lemmas.Bool.{cases_eq}
-use Rattle.pp_channel.specs.Answer.{IsAnswer, operation_of, reply_made, reply_shown}
-use Rattle.pp_channel.specs.LineLog.{LogState, with_answer}
+use Rattle.pp_channel.specs.Answer.{IsAnswer, channel_state}
+use Rattle.pp_channel.specs.LineLog.{LogState, with_answer, with_seen}
 use Rattle.pp_channel.specs.LineState.{LineState, IsActed, IsAnsweredBy, IsLost}
 use Rattle.pp_channel.specs.Histories.{history_on}
 use Rattle.pp_channel.specs.MonotoneLog.{IsMonotone}
 use Rattle.pp_channel.specs.declared.chan_op.ChanOp.{ChanOp}
-use Rattle.pp_channel.specs.declared.chan_op.ChanOp.TheVariants as operations
 use Rattle.pp_channel.specs.declared.entry.Seen.{Seen}
 use Rattle.pp_channel.specs.declared.entry.Seen.TheVariants.{Did, Saw}
 use Rattle.pp_channel.specs.declared.event.Event.{Event}
-use Rattle.pp_channel.specs.declared.event.Event.TheVariants as events
-use Rattle.pp_channel.specs.declared.flags.Flags.{Flags}
 use Rattle.pp_channel.specs.declared.numbered.Numbered.{Numbered}
 use Rattle.pp_channel.specs.declared.reply.Reply.{Reply}
-use Rattle.pp_channel.specs.declared.reply.Reply.TheVariants as replies
+use Rattle.pp_machine.proofs.FitLemmas.{held_fits, made_fits, shown_fits, tells_where_fits}
 use Rattle.pp_machine.specs.Replay.{ChannelSight, fits, reply_fits, sights_of}
 use Rattle.pp_machine.specs.declared.answer.Answer.{Answer}
 use Rattle.pp_machine.specs.declared.answer.Answer.TheVariants as answers
 use Rattle.pp_machine.specs.declared.need.Need.TheVariants as needs
 use Rattle.pp_runner.specs.Labour.{IsAnswered, IsNoted, noted_as}
 
-made_fits : (e : Event) → reply_fits (operation_of e) (reply_made e) ≡ true
-made_fits events.Activate = refl
-made_fits events.Disconnect = refl
-made_fits (events.Put w) = refl
-made_fits (events.Take w) = refl
-made_fits (events.Function w) = refl
-
-shown_fits : (op : ChanOp) (h : List Event) → reply_fits op (reply_shown op h) ≡ true
-shown_fits operations.Probe h = refl
-shown_fits operations.Activate h = refl
-shown_fits operations.Disconnect h = refl
-shown_fits (operations.Put w) h = refl
-shown_fits operations.Take h = refl
-shown_fits (operations.Function w) h = refl
-
-held_fits : (e : Event) (f : Flags) → reply_fits (operation_of e) (replies.Held f) ≡ true
-held_fits events.Activate f = refl
-held_fits events.Disconnect f = refl
-held_fits (events.Put w) f = refl
-held_fits (events.Take w) f = refl
-held_fits (events.Function w) f = refl
-
 answer_fits : (h after : List Event) (op : ChanOp) (reply : Reply) → IsAnswer h op reply after → reply_fits op reply ≡ true
 answer_fits h after op reply is =
     elim is [
       | inl made ↦ rw (made.1.answered, ← made.1.ready.operation) (made_fits made.0)
-      | inr shown ↦ rw shown.answered (shown_fits op h)
+      | inr shown ↦ rw shown.answered (shown_fits op (channel_state h))
     ]
 
 lost_fits : (h : List Event) (op : ChanOp) (r : Numbered) → IsLost h op r → reply_fits op r.reply ≡ true
@@ -69,31 +45,17 @@ pub record IsSight (c : ℕ) (op : ChanOp) (reply : Reply) : Type 0 where
   pub is : sights_of (needs.Channel c op) (answers.Channel reply) ≡ record { channel = c; what = what } ∷ []
   pub noted : (log : LogState) (number : ℕ) → with_answer log c op number reply ≡ noted_as log c number what
 
+noted_so : (log : LogState) (c number : ℕ) (what : Seen) → with_seen log c number (Some what) ≡ noted_as log c number what
+noted_so log c number (Did e) = refl
+noted_so log c number (Saw f) = refl
+
 pub sight_of : (c : ℕ) (op : ChanOp) (reply : Reply) → reply_fits op reply ≡ true → IsSight c op reply
-sight_of c operations.Probe (replies.Flags f) fit = record { what = Saw f; is = refl; noted = λ log n. refl }
-sight_of c operations.Activate (replies.Held f) fit = record { what = Saw f; is = refl; noted = λ log n. refl }
-sight_of c operations.Disconnect (replies.Held f) fit = record { what = Saw f; is = refl; noted = λ log n. refl }
-sight_of c (operations.Put w) (replies.Held f) fit = record { what = Saw f; is = refl; noted = λ log n. refl }
-sight_of c operations.Take (replies.Held f) fit = record { what = Saw f; is = refl; noted = λ log n. refl }
-sight_of c (operations.Function w) (replies.Held f) fit = record { what = Saw f; is = refl; noted = λ log n. refl }
-sight_of c operations.Activate replies.Done fit = record { what = Did events.Activate; is = refl; noted = λ log n. refl }
-sight_of c operations.Disconnect replies.Done fit = record { what = Did events.Disconnect; is = refl; noted = λ log n. refl }
-sight_of c (operations.Put w) replies.Done fit = record { what = Did (events.Put w); is = refl; noted = λ log n. refl }
-sight_of c operations.Take (replies.Word w) fit = record { what = Did (events.Take w); is = refl; noted = λ log n. refl }
-sight_of c (operations.Function w) replies.Done fit = record { what = Did (events.Function w); is = refl; noted = λ log n. refl }
-sight_of c operations.Probe replies.Done fit = absurd cc
-sight_of c operations.Probe (replies.Word w) fit = absurd cc
-sight_of c operations.Probe (replies.Held f) fit = absurd cc
-sight_of c operations.Activate (replies.Flags f) fit = absurd cc
-sight_of c operations.Activate (replies.Word w) fit = absurd cc
-sight_of c operations.Disconnect (replies.Flags f) fit = absurd cc
-sight_of c operations.Disconnect (replies.Word w) fit = absurd cc
-sight_of c (operations.Put v) (replies.Flags f) fit = absurd cc
-sight_of c (operations.Put v) (replies.Word w) fit = absurd cc
-sight_of c operations.Take (replies.Flags f) fit = absurd cc
-sight_of c operations.Take replies.Done fit = absurd cc
-sight_of c (operations.Function v) (replies.Flags f) fit = absurd cc
-sight_of c (operations.Function v) (replies.Word w) fit = absurd cc
+sight_of c op reply fit =
+    let tells = tells_where_fits op reply fit in record {
+      what = tells.0;
+      is = ap (λ o. map (λ what. record { channel = c; what = what }) (option_to_list o)) tells.1;
+      noted = λ log number. ap (with_seen log c number) tells.1 ∙ noted_so log c number tells.0;
+    }
 
 -- an answer to an operation is a reply that goes with it
 pub record IsReplyTo (op : ChanOp) (x : Answer) : Type 0 where

@@ -1,10 +1,10 @@
 -- How a worker ends.
-use Rattle.std.specs.Prelude.{◌≡◌, ◌≢◌, ◌↔◌, ◌<◌, ◌≤◌, ℕ, IsTrue, None, List, length}
+use Rattle.std.specs.Prelude.{◌≡◌, ◌↔◌, ◌<◌, ◌≤◌, ℕ, false, IsTrue, None, List, length}
 use Rattle.std.specs.List.{last_or}
+use Rattle.pp_channel.specs.Answer.{only_looks}
 use Rattle.pp_channel.specs.ChannelWord.{greatest_number}
 use Rattle.pp_channel.specs.LineLog.{is_look_at}
 use Rattle.pp_channel.specs.declared.chan_op.ChanOp.{ChanOp}
-use Rattle.pp_channel.specs.declared.chan_op.ChanOp.TheVariants.{Probe}
 use Rattle.pp_channel.specs.declared.entry.Entry.{Entry}
 use Rattle.pp_machine.specs.NeedAndEffect.{need}
 use Rattle.pp_machine.specs.Processor.{Processor, IsFaultNumber}
@@ -20,11 +20,11 @@ pub record HasStepsLeft (steps : ℕ) (pp : Processor) (answers : List Answer) :
   pub running : pp.state ≡ states.Running
   pub fewer : length answers < steps
 
--- A step needs an operation on this channel, other than a probe.
+-- A step needs an operation on this channel that does more than look.
 pub record NeedsChannel (needed : Need) (channel : ℕ) : Type 0 where
   pub operation : ChanOp
   pub is : needed ≡ Channel channel operation
-  pub no_probe : operation ≢ Probe
+  pub acts : only_looks operation ≡ false
 
 -- It was held at a channel: the log ends with a look at it.
 pub record WasHeld (pp : Processor) (log : List Entry) : Type 0 where

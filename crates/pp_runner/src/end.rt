@@ -13,7 +13,7 @@ pub enum End {
     Patience,
     /// It was refused memory for one more answer.
     Memory,
-    /// Its next step needs an operation other than a probe on a channel that has had as many events
-    /// as its word can count, 2^50 - 1 (decimal).
+    /// Its next step needs an operation that does more than look, on a channel that has had as many
+    /// events as its word can count, 2^50 - 1 (decimal).
     Worn,
 }

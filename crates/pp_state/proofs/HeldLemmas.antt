@@ -1,12 +1,15 @@
 -- Where a step is held.
 use Rattle.std.proofs.Common.{◌≡◌, ◌≢◌, ℕ, Bool, true, false, cond, List, Option, Some, None, refl, sym, ap, ◌∙◌}
 use Rattle.std.specs.Prelude.{IsTrue, is_some}
-use Rattle.pp_channel.specs.Answer.{event_of, reply_by, reply_made, reply_shown}
-use Rattle.pp_channel.specs.History.{active}
+use Rattle.pp_channel.specs.Answer.{channel_state, event_of, flags_of, only_looks, reply_by, reply_made, reply_shown}
+use Rattle.pp_channel.specs.History.{active, waiting}
 use Rattle.pp_channel.specs.declared.chan_op.ChanOp.{ChanOp}
-use Rattle.pp_channel.specs.declared.chan_op.ChanOp.TheVariants as operations
 use Rattle.pp_channel.specs.declared.event.Event.{Event}
 use Rattle.pp_channel.specs.declared.event.Event.TheVariants as events
+use Rattle.pp_channel.specs.declared.flags.Flags.{Flags}
+use Rattle.pp_channel.specs.declared.reply.Reply.{Reply}
+use Rattle.pp_channel.specs.declared.reply.Reply.TheVariants as replies
+use Rattle.pp_channel.proofs.AnswerLemmas.{held_at, look_makes_none, look_not_held}
 use Rattle.pp_machine.specs.MachineState.{MachineState, history_of, processor_of}
 use Rattle.pp_machine.specs.MachineStep.{answer_to, step_outcome}
 use Rattle.pp_machine.specs.NeedAndEffect.{is_held, need, need_in, outcome, outcome_in}
@@ -32,7 +35,7 @@ outcome_running pp c op answer e = ap (λ s. outcome_in s pp answer) (running pp
 
 -- what the step does, by the answer of the channel
 by_answer : (n c : ℕ) (op : ChanOp) (m : MachineState) → need (processor_of n m) ≡ needs.Channel c op
-    → step_outcome n m ≡ cond (is_held (processor_of n m).block (answers.Channel (reply_by op (history_of c m) (event_of op (history_of c m))))) Held Moved
+    → step_outcome n m ≡ cond (is_held (processor_of n m).block (answers.Channel (reply_by op (channel_state (history_of c m)) (event_of op (history_of c m))))) Held Moved
 unfolding step_outcome
 by_answer n c op m e =
     ap (λ x. outcome (processor_of n m) (answer_to x m)) e
@@ -55,43 +58,39 @@ not_where_made (Some block) (events.Put w) = refl
 not_where_made (Some block) (events.Take w) = refl
 not_where_made (Some block) (events.Function w) = refl
 
-not_where_probed : (block : Option Block) (h : List Event) → is_held block (answers.Channel (reply_shown operations.Probe h)) ≡ false
-not_where_probed None h = refl
-not_where_probed (Some block) h = refl
+not_unless_held : (block : Option Block) (reply : Reply) → ((f : Flags) → reply ≢ replies.Held f) → is_held block (answers.Channel reply) ≡ false
+not_unless_held None (replies.Held f) other = absurd (other f refl)
+not_unless_held (Some block) (replies.Held f) other = absurd (other f refl)
+not_unless_held block reply other = refl
 
-held_where_shown : (block : Option Block) (op : ChanOp) (h : List Event) → op ≢ operations.Probe → is_held block (answers.Channel (reply_shown op h)) ≡ goes_on block (active h)
+held_at_flags : (block : Option Block) (f : Flags) → is_held block (answers.Channel (replies.Held f)) ≡ goes_on block f.active
 unfolding goes_on
-held_where_shown None operations.Probe h other = absurd (other refl)
-held_where_shown None operations.Activate h other = refl
-held_where_shown None operations.Disconnect h other = refl
-held_where_shown None (operations.Put w) h other = refl
-held_where_shown None operations.Take h other = refl
-held_where_shown None (operations.Function w) h other = refl
-held_where_shown (Some block) operations.Probe h other = absurd (other refl)
-held_where_shown (Some block) operations.Activate h other = refl
-held_where_shown (Some block) operations.Disconnect h other = refl
-held_where_shown (Some block) (operations.Put w) h other = refl
-held_where_shown (Some block) operations.Take h other = refl
-held_where_shown (Some block) (operations.Function w) h other = refl
+held_at_flags None f = refl
+held_at_flags (Some block) f = refl
+
+held_where_shown : (block : Option Block) (op : ChanOp) (h : List Event) → only_looks op ≡ false → is_held block (answers.Channel (reply_shown op (channel_state h))) ≡ goes_on block (active h)
+held_where_shown block op h acts = ap (λ reply. is_held block (answers.Channel reply)) (held_at op (channel_state h) acts) ∙ held_at_flags block (flags_of h)
 
 -- an operation that makes an event is not held
 pub moves_where_made : (n c : ℕ) (op : ChanOp) (m : MachineState) (e : Event) → need (processor_of n m) ≡ needs.Channel c op → event_of op (history_of c m) ≡ Some e → step_outcome n m ≡ Moved
 moves_where_made n c op m e need_is made =
     by_answer n c op m need_is
-    ∙ ap (λ (o : Option Event). cond (is_held (processor_of n m).block (answers.Channel (reply_by op (history_of c m) o))) Held Moved) made
+    ∙ ap (λ (o : Option Event). cond (is_held (processor_of n m).block (answers.Channel (reply_by op (channel_state (history_of c m)) o))) Held Moved) made
     ∙ ap (λ (b : Bool). cond b Held Moved) (not_where_made (processor_of n m).block e)
 
--- nor is a probe
-pub moves_where_probed : (n c : ℕ) (m : MachineState) → need (processor_of n m) ≡ needs.Channel c operations.Probe → step_outcome n m ≡ Moved
-moves_where_probed n c m need_is =
-    by_answer n c operations.Probe m need_is
-    ∙ ap (λ (b : Bool). cond b Held Moved) (not_where_probed (processor_of n m).block (history_of c m))
+-- nor is one that only looks
+pub moves_where_looked : (n c : ℕ) (op : ChanOp) (m : MachineState) → need (processor_of n m) ≡ needs.Channel c op → only_looks op ≡ true → step_outcome n m ≡ Moved
+moves_where_looked n c op m need_is looks =
+    let h = history_of c m in
+    by_answer n c op m need_is
+    ∙ ap (λ (o : Option Event). cond (is_held (processor_of n m).block (answers.Channel (reply_by op (channel_state h) o))) Held Moved) (look_makes_none op (flags_of h) (waiting h) looks)
+    ∙ ap (λ (b : Bool). cond b Held Moved) (not_unless_held (processor_of n m).block (reply_shown op (channel_state h)) (λ f. look_not_held op (channel_state h) f looks))
 
 -- another is held where it makes none, unless it ends a block
-pub held_where_none : (n c : ℕ) (op : ChanOp) (m : MachineState) → need (processor_of n m) ≡ needs.Channel c op → op ≢ operations.Probe → event_of op (history_of c m) ≡ None → step_outcome n m ≡ cond (goes_on (processor_of n m).block (active (history_of c m))) Held Moved
+pub held_where_none : (n c : ℕ) (op : ChanOp) (m : MachineState) → need (processor_of n m) ≡ needs.Channel c op → only_looks op ≡ false → event_of op (history_of c m) ≡ None → step_outcome n m ≡ cond (goes_on (processor_of n m).block (active (history_of c m))) Held Moved
 held_where_none n c op m need_is other none =
     by_answer n c op m need_is
-    ∙ ap (λ (o : Option Event). cond (is_held (processor_of n m).block (answers.Channel (reply_by op (history_of c m) o))) Held Moved) none
+    ∙ ap (λ (o : Option Event). cond (is_held (processor_of n m).block (answers.Channel (reply_by op (channel_state (history_of c m)) o))) Held Moved) none
     ∙ ap (λ (b : Bool). cond b Held Moved) (held_where_shown (processor_of n m).block op (history_of c m) other)
 
 -- ---- the test that the code makes
@@ -109,8 +108,8 @@ held_by : (b : Bool) (o : Outcome) → o ≡ cond b Held Moved → (IsTrue b →
 held_by true o is = (λ (f : IsTrue true). is, λ (held : o ≡ Held). refl)
 held_by false o is = not_held o is
 
-pub test_probed : (n c : ℕ) (op : ChanOp) (m : MachineState) → need (processor_of n m) ≡ needs.Channel c op → op ≡ operations.Probe → (IsTrue false → step_outcome n m ≡ Held) × (step_outcome n m ≡ Held → IsTrue false)
-test_probed n c op m need_is probes = not_held (step_outcome n m) (moves_where_probed n c m (need_is ∙ ap (needs.Channel c) probes))
+pub test_looked : (n c : ℕ) (op : ChanOp) (m : MachineState) → need (processor_of n m) ≡ needs.Channel c op → only_looks op ≡ true → (IsTrue false → step_outcome n m ≡ Held) × (step_outcome n m ≡ Held → IsTrue false)
+test_looked n c op m need_is looks = not_held (step_outcome n m) (moves_where_looked n c op m need_is looks)
 
 some_event : (o : Option Event) → is_some o ≡ true → (e : Event) × (o ≡ Some e)
 some_event None is = cc
@@ -125,7 +124,7 @@ test_made n c op m o h need_is here is some =
     let made = some_event o some in
     not_held (step_outcome n m) (moves_where_made n c op m made.0 need_is (ap (event_of op) (sym here) ∙ sym is ∙ made.1))
 
-pub test_none : (n c : ℕ) (op : ChanOp) (m : MachineState) (o : Option Event) (h : List Event) (block : Option Block) (b : Bool) → need (processor_of n m) ≡ needs.Channel c op → op ≢ operations.Probe → h ≡ history_of c m → o ≡ event_of op h → is_some o ≡ false
+pub test_none : (n c : ℕ) (op : ChanOp) (m : MachineState) (o : Option Event) (h : List Event) (block : Option Block) (b : Bool) → need (processor_of n m) ≡ needs.Channel c op → only_looks op ≡ false → h ≡ history_of c m → o ≡ event_of op h → is_some o ≡ false
     → block ≡ (processor_of n m).block → goes_on block (active h) ≡ b → (IsTrue b → step_outcome n m ≡ Held) × (step_outcome n m ≡ Held → IsTrue b)
 test_none n c op m o h block b need_is other here is none block_is on =
     held_by b (step_outcome n m)

@@ -2,13 +2,12 @@
 use Rattle.std.proofs.Common.{◌≡◌, ◌≢◌, ℕ, ◌≤◌, ◌⊎◌, inl, inr, Bool, true, false, cond, List, [], ◌∷◌, Option, Some, None, length, refl, sym, ap, subst, ◌∙◌, arith}
 use Rattle.std.specs.Prelude.{IsTrue}
 use Rattle.std.proofs.lemmas.List.{get_or_past}
-use Rattle.pp_channel.specs.Answer.{IsReady, event_of}
+use Rattle.pp_channel.specs.Answer.{IsReady, event_of, only_looks}
 use Rattle.pp_channel.specs.ChannelNo.{channel_count, channel_index, names_channel}
 use Rattle.pp_channel.specs.History.{IsLawful, active}
 use Rattle.pp_channel.specs.declared.chan_op.ChanOp.{ChanOp}
-use Rattle.pp_channel.specs.declared.chan_op.ChanOp.TheVariants as operations
 use Rattle.pp_channel.specs.declared.event.Event.{Event}
-use Rattle.pp_channel.proofs.AnswerLemmas.{none_without_ready, table_of_ready}
+use Rattle.pp_channel.proofs.AnswerLemmas.{looks_or_acts, none_without_ready, table_of_ready}
 use Rattle.pp_channel.proofs.ChannelPlaces.{place_past}
 use Rattle.pp_channel.proofs.HistoryLemmas.{lawful_empty}
 use Rattle.pp_machine.specs.Headline.{HoldsOnEachChannel}
@@ -26,7 +25,7 @@ use Rattle.pp_machine.specs.declared.outcome.Outcome.TheVariants.{AtRest, Held, 
 use Rattle.pp_machine.proofs.StepLemmas.{held_by_answer}
 use Rattle.pp_state.specs.StateLaw.{Waits, WaitsFor}
 use Rattle.pp_state.specs.StateText.{held_text}
-use Rattle.pp_state.proofs.HeldLemmas.{goes_on, held_where_none, moves_where_made, moves_where_probed}
+use Rattle.pp_state.proofs.HeldLemmas.{goes_on, held_where_none, moves_where_looked, moves_where_made}
 
 -- ---- histories of all channels, also of numbers that name none
 
@@ -62,21 +61,13 @@ goes_is_on (Some block) is_active e = inr e
 
 pub held_where_waits : (n : ℕ) (m : MachineState) → length m.histories ≡ channel_count → HoldsOnEachChannel m → Waits n m → step_outcome n m ≡ Held
 held_where_waits n m all holds (c, op, waits) =
-    held_where_none n c op m waits.needs waits.no_probe (none_without_ready (history_of c m) (lawful c m all holds) op waits.not_ready (event_of op (history_of c m)) refl)
+    held_where_none n c op m waits.needs waits.acts (none_without_ready (history_of c m) (lawful c m all holds) op waits.not_ready (event_of op (history_of c m)) refl)
     ∙ ap (λ (b : Bool). cond b Held Moved) (on_goes (processor_of n m).block (active (history_of c m)) waits.no_end)
 
 -- ---- a processor that is held waits
 
 moved_not_held : (o : Outcome) → o ≡ Moved → o ≡ Held → ⊥
 moved_not_held o moved held = cc
-
-probe_or_not : (op : ChanOp) → (op ≡ operations.Probe) ⊎ (op ≢ operations.Probe)
-probe_or_not operations.Probe = inl refl
-probe_or_not operations.Activate = inr (λ (e : operations.Activate ≡ operations.Probe). absurd (cc))
-probe_or_not operations.Disconnect = inr (λ (e : operations.Disconnect ≡ operations.Probe). absurd (cc))
-probe_or_not (operations.Put w) = inr (λ (e : operations.Put w ≡ operations.Probe). absurd (cc))
-probe_or_not operations.Take = inr (λ (e : operations.Take ≡ operations.Probe). absurd (cc))
-probe_or_not (operations.Function w) = inr (λ (e : operations.Function w ≡ operations.Probe). absurd (cc))
 
 event_or_not : (o : Option Event) → (o ≡ None) ⊎ ((e : Event) × (o ≡ Some e))
 event_or_not None = inl refl
@@ -90,16 +81,16 @@ never_ready : (h : List Event) (op : ChanOp) → IsLawful h → event_of op h �
 never_ready h op law none e ready = let made : event_of op h ≡ Some e = table_of_ready h law op e ready in cc
 
 waits_on : (n c : ℕ) (op : ChanOp) (m : MachineState) → IsLawful (history_of c m) → need (processor_of n m) ≡ needs.Channel c op → step_outcome n m ≡ Held → Waits n m
-waits_on n c op m law needed held = (c, op, by (probe_or_not op) (event_or_not (event_of op (history_of c m))))
+waits_on n c op m law needed held = (c, op, by (looks_or_acts (only_looks op)) (event_or_not (event_of op (history_of c m))))
   where
-    by : (op ≡ operations.Probe) ⊎ (op ≢ operations.Probe) → (event_of op (history_of c m) ≡ None) ⊎ ((e : Event) × (event_of op (history_of c m) ≡ Some e)) → WaitsFor n m c op
-    by (inl probes) event = absurd (moved_not_held (step_outcome n m) (moves_where_probed n c m (needed ∙ ap (needs.Channel c) probes)) held)
-    by (inr other) (inr made) = absurd (moved_not_held (step_outcome n m) (moves_where_made n c op m made.0 needed made.1) held)
-    by (inr other) (inl none) = record {
+    by : (only_looks op ≡ true) ⊎ (only_looks op ≡ false) → (event_of op (history_of c m) ≡ None) ⊎ ((e : Event) × (event_of op (history_of c m) ≡ Some e)) → WaitsFor n m c op
+    by (inl looks) event = absurd (moved_not_held (step_outcome n m) (moves_where_looked n c op m needed looks) held)
+    by (inr acts) (inr made) = absurd (moved_not_held (step_outcome n m) (moves_where_made n c op m made.0 needed made.1) held)
+    by (inr acts) (inl none) = record {
       needs = needed;
-      no_probe = other;
+      acts = acts;
       not_ready = never_ready (history_of c m) op law none;
-      no_end = goes_is_on (processor_of n m).block (active (history_of c m)) (held_is_true (goes_on (processor_of n m).block (active (history_of c m))) (step_outcome n m) (held_where_none n c op m needed other none) held);
+      no_end = goes_is_on (processor_of n m).block (active (history_of c m)) (held_is_true (goes_on (processor_of n m).block (active (history_of c m))) (step_outcome n m) (held_where_none n c op m needed acts none) held);
     }
 
 -- what is held has asked a channel

@@ -1,10 +1,9 @@
 -- What the text of a machine says: which processors wait, and which words differ from the load.
-use Rattle.std.specs.Prelude.{◌≡◌, ◌≢◌, ℕ, ◌+◌, true, ◌⊎◌, List, [], ◌∷◌, None, IsTrue, length, slice_index, slice_set}
+use Rattle.std.specs.Prelude.{◌≡◌, ◌≢◌, ℕ, ◌+◌, true, false, ◌⊎◌, List, [], ◌∷◌, None, IsTrue, length, slice_index, slice_set}
 use Rattle.pp_word.specs.Address.{place_count}
-use Rattle.pp_channel.specs.Answer.{IsReady}
+use Rattle.pp_channel.specs.Answer.{IsReady, only_looks}
 use Rattle.pp_channel.specs.History.{active}
 use Rattle.pp_channel.specs.declared.chan_op.ChanOp.{ChanOp}
-use Rattle.pp_channel.specs.declared.chan_op.ChanOp.TheVariants.{Probe}
 use Rattle.pp_channel.specs.declared.event.Event.{Event}
 use Rattle.pp_machine.specs.MachineState.{MachineState, history_of, processor_of}
 use Rattle.pp_machine.specs.NeedAndEffect.{need}
@@ -12,11 +11,11 @@ use Rattle.pp_machine.specs.PpNo.{names_processor}
 use Rattle.pp_machine.specs.declared.need.Need.TheVariants.{Channel}
 use Rattle.pp_deck.specs.DeckLine.{Line, central_words, words}
 
--- the next step of processor n needs an operation, no probe, for which channel c is not ready. An
--- inactive channel does not hold a block, but ends it
+-- the next step of processor n needs an operation that does more than look, and channel c is not
+-- ready for it. An inactive channel does not hold a block, but ends it
 pub record WaitsFor (n : ℕ) (m : MachineState) (c : ℕ) (operation : ChanOp) : Type 0 where
   pub needs : need (processor_of n m) ≡ Channel c operation
-  pub no_probe : operation ≢ Probe
+  pub acts : only_looks operation ≡ false
   pub not_ready : (e : Event) → ¬ IsReady (history_of c m) operation e
   pub no_end : ((processor_of n m).block ≡ None) ⊎ (active (history_of c m) ≡ true)
 

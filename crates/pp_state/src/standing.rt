@@ -89,7 +89,7 @@ fn is_held<A: Allocator>(machine: &Machine<A>, n: PpNo, c: ChannelNo, operation:
     ensures { IsTrue result ↔ (step_outcome n machine.now ≡ Outcome.Held) }
 {
     let channel = machine.channel(c);
-    if let ChanOp::Probe = operation {
+    if operation.only_looks() {
         return false;
     }
     if channel.next_event(&operation).is_some() {

@@ -1,16 +1,12 @@
 -- Steps of a machine without its record.
-use Rattle.std.proofs.Common.{get_or-set_same, get_or-set_other, ◌≡◌, ◌≢◌, ℕ, ◌+◌, ◌<◌, ◌⊎◌, inl, inr, Bool, true, false, List, [], ◌∷◌, ◌++◌, length, take, slice_set, get_or, refl, sym, ap, ◌∙◌, arith}
-use Rattle.std.specs.Prelude.{Option, Some, None, IsTrue, if◌then◌else◌}
+use Rattle.std.proofs.Common.{get_or-set_same, get_or-set_other, ◌≡◌, ◌≢◌, ℕ, ◌+◌, ◌<◌, ◌⊎◌, inl, inr, List, [], ◌∷◌, ◌++◌, length, take, slice_set, get_or, sym, ap, ◌∙◌, arith}
+use Rattle.std.specs.Prelude.{IsTrue}
 use Rattle.std.proofs.lemmas.Bool.{cases_eq}
 use Rattle.std.proofs.lemmas.List.{get_or_read, length-set, take_more, take_more_set}
-use Rattle.pp_channel.specs.Answer.{event_with, history_after, ready_at}
+use Rattle.pp_channel.specs.Answer.{channel_state, history_after}
 use Rattle.pp_channel.specs.ChannelNo.{channel_count, channel_index, names_channel}
-use Rattle.pp_channel.specs.ChannelState.{channel_state, reply_at, state_reply}
-use Rattle.pp_channel.specs.declared.chan_op.ChanOp.{ChanOp}
-use Rattle.pp_channel.specs.declared.chan_op.ChanOp.TheVariants as operations
 use Rattle.pp_channel.specs.declared.channel_state.ChannelState.{ChannelState}
 use Rattle.pp_channel.specs.declared.event.Event.{Event}
-use Rattle.pp_channel.specs.declared.flags.Flags.{Flags}
 use Rattle.pp_channel.proofs.ChannelPlaces.{one_place, place_below}
 use Rattle.pp_machine.specs.MachineState.{MachineState, history_of, processor_of}
 use Rattle.pp_machine.specs.MachineStep.{histories_after}
@@ -18,27 +14,7 @@ use Rattle.pp_machine.specs.Processor.{Processor, no_processor}
 use Rattle.pp_machine.specs.PpNo.{processor_count, processor_index}
 use Rattle.pp_machine.specs.declared.need.Need.{Need}
 use Rattle.pp_machine.specs.declared.need.Need.TheVariants.{Nothing, Local, Channel, Read, Write}
-use Rattle.pp_machine.specs.Replay.{reply_fits}
 use Rattle.pp_steps.specs.BareMachine.{AreStates}
-
--- a reply fits the operation
-fits_where : (ready : Bool) (op : ChanOp) (flags : Flags) (word : Option ℕ) → IsTrue (reply_fits op (reply_at op flags (if ready then event_with op word else None)))
-fits_where true operations.Probe flags word = refl
-fits_where true operations.Activate flags word = refl
-fits_where true operations.Disconnect flags word = refl
-fits_where true (operations.Put w) flags word = refl
-fits_where true operations.Take flags None = refl
-fits_where true operations.Take flags (Some w) = refl
-fits_where true (operations.Function w) flags word = refl
-fits_where false operations.Probe flags word = refl
-fits_where false operations.Activate flags word = refl
-fits_where false operations.Disconnect flags word = refl
-fits_where false (operations.Put w) flags word = refl
-fits_where false operations.Take flags word = refl
-fits_where false (operations.Function w) flags word = refl
-
-pub state_reply_fits : (op : ChanOp) (state : ChannelState) → IsTrue (reply_fits op (state_reply op state))
-state_reply_fits op state = fits_where (ready_at op state.flags) op state.flags state.register
 
 -- a channel's state and history, both put at its place
 pub states_set : (states : List ChannelState) (histories : List (List Event)) (c : ℕ) (h : List Event) → AreStates states histories → IsTrue (names_channel c) → length states ≡ channel_count → length histories ≡ channel_count

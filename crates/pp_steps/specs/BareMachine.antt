@@ -1,8 +1,8 @@
 -- A machine without its record: of each channel it has the flags and the register alone, and no
 -- trace.
 use Rattle.std.specs.Prelude.{◌≡◌, ℕ, List, [], length, IsTrue, slice_index_or}
+use Rattle.pp_channel.specs.Answer.{channel_state}
 use Rattle.pp_channel.specs.ChannelNo.{channel_count, channel_index, names_channel}
-use Rattle.pp_channel.specs.ChannelState.{channel_state}
 use Rattle.pp_channel.specs.declared.channel_state.ChannelState.{ChannelState}
 use Rattle.pp_channel.specs.declared.event.Event.{Event}
 use Rattle.pp_channel.specs.declared.reply.Reply.TheVariants as reply

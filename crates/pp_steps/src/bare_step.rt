@@ -1,7 +1,7 @@
 //! What a machine without its record is made of, and its steps.
 
 ghost use Rattle.std.specs.Prelude.{◌≡◌, ◌<◌, IfOk, IsTrue, length, slice_index, slice_set};
-ghost use Rattle.pp_channel.specs.ChannelState.{channel_state};
+ghost use Rattle.pp_channel.specs.Answer.{channel_state};
 ghost use Rattle.pp_machine.specs.MachineState.{MachineState, history_of, processor_of};
 ghost use Rattle.pp_machine.specs.MachineStep.{answer_to, central_after, histories_after, stepped};
 ghost use Rattle.pp_machine.specs.PpNo.{processor_count, processor_index};

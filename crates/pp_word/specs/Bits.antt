@@ -1,6 +1,6 @@
 -- Words as bits; bit 0 is the lowest, bit 17 (decimal) the uppermost of an 18-bit word. Values of d
--- are octal, counts of bits decimal. (Manual 60100000, peripheral
--- processors: SHN, LMN, LPN, SCN, LCN and their long forms.)
+-- are octal, counts of bits decimal. (Manual 60100000, peripheral processors: SHN, LMN, LPN, SCN,
+-- LCN and their long forms.)
 use Rattle.std.specs.Prelude.{ℕ, ◌≡◌, ◌+◌, ◌-◌, ◌*◌, ◌/◌, ◌%◌, ◌<◌, ◌==◌, nat_lt, if◌then◌else◌, Bool, false, List, [], ◌∷◌, ◌++◌, map, take, drop, replicate, min, not, ◌&&◌, zero, suc, slice_index_or}
 
 -- the lowest bits of a number as truth values, bit 0 first

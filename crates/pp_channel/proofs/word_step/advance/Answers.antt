@@ -13,6 +13,6 @@ returns-in-Some-clause-history c =
 
 pub returns-in-None-clause-history : goal.returns-in-None-clause-history
 returns-in-None-clause-history c =
-    let step = WordStep.Held c.flags_in-in-None.result in
+    let step = c.step_shown.result in
     let table : step ≡ step_from c.args.op c.args.word = search rules in
     steps_as_histories c.args.word c.args.op step table

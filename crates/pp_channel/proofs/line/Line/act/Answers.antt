@@ -2,13 +2,14 @@ use Rattle.std.proofs.Common.{ℕ, ◌≤◌, refl, sym, ap, ◌∙◌, subst, a
 use Rattle.pp_channel.specs.declared.chan_op.ChanOp.{ChanOp}
 use Rattle.pp_channel.specs.declared.entry.Entry.{Entry}
 use Rattle.pp_channel.specs.declared.numbered.Numbered.{Numbered}
-use Rattle.pp_channel.specs.declared.reply.Reply.TheVariants.{Flags, Held}
+use Rattle.pp_channel.specs.declared.reply.Reply.TheVariants.{Held}
+use Rattle.pp_channel.specs.Answer.{reply_shown}
 use Rattle.pp_channel.specs.ChannelWord.{number_in, flags_in, greatest_number}
 use Rattle.pp_channel.specs.LineLog.{LogState, event_entry, look_entry, appended, looked}
 use Rattle.pp_channel.specs.LineState.{LineState, IsActed}
 use Rattle.pp_channel.specs.MonotoneLog.{IsMonotone, IsWithin}
-use Rattle.pp_channel.proofs.ChannelWordLemmas.{next_word}
-use Rattle.pp_channel.proofs.LineAnswers.{found_last, seen_last, acted_look, acted_held, worn_by_load, acted_made, acted_lost, number_later}
+use Rattle.pp_channel.proofs.ChannelWordLemmas.{next_word, stays_either}
+use Rattle.pp_channel.proofs.LineAnswers.{found_last, seen_last, acted_shown, worn_by_load, acted_made, acted_lost, number_later}
 use Rattle.pp_channel.proofs.MonotoneLemmas.{rising_answer}
 use Rattle.pp_channel.proofs.line.Line.act.Goals as goal
 use Rattle.pp_channel.proofs.line.Line.act.Goals.{in-Ok, in-Err}
@@ -25,7 +26,7 @@ returns-in-Worn-clause-worn g c =
     let load = c.load-word.ensures in
     worn_by_load _ load.load load.log_before c.args.op c.load-word.new.self (c.in-Worn.ensures).table (record { log_is = load.log; view_is = refl; table_is = load.table; log_of = load.log_after })
 
--- a probe
+-- a look, or an operation that is not ready
 pub look-requires-clause-found : goal.look-requires-clause-found
 look-requires-clause-found g c = found_last _ _ c.args.channel c.load-word.result c.load-word.ensures.load
 
@@ -37,25 +38,9 @@ returns-in-Look-clause-ok g c =
     let load = c.load-word.ensures in
     let look = c.look.ensures in
     let entry : Entry = look_entry c.args.channel (number_in c.load-word.result) (flags_in c.load-word.result) in
-    subst (λ (n : ℕ). IsActed c.args.self.now c.args.channel c.args.op (record { reply = Flags c.in-Look.flags; loaded = n; number = n }) c.look.new.self) (sym c.number_in-loaded.ensures.value)
-    (acted_look _ load.load load.log_before c.args.op c.in-Look.flags c.look.new.self (c.in-Look.ensures).table
-    (record { log_is = look.written ∙ ap (λ (log : LogState). looked log entry) load.log; view_is = look.view; table_is = look.table ∙ load.table; log_of = look.log_after }))
-
--- an operation that is not ready
-pub look-requires-in-Held-clause-found : goal.look-requires-in-Held-clause-found
-look-requires-in-Held-clause-found g c = found_last _ _ c.args.channel c.load-word.result c.load-word.ensures.load
-
-pub look-requires-in-Held-clause-seen : goal.look-requires-in-Held-clause-seen
-look-requires-in-Held-clause-seen g c = let seen = seen_last _ _ c.args.channel c.load-word.result c.load-word.ensures.log_before.each_channel c.load-word.ensures.load in omega arith
-
-pub returns-in-Held-clause-ok : goal.returns-in-Held-clause-ok
-returns-in-Held-clause-ok g c =
-    let load = c.load-word.ensures in
-    let look = c.look-in-Held.ensures in
-    let entry : Entry = look_entry c.args.channel (number_in c.load-word.result) (flags_in c.load-word.result) in
     let most = subst (λ (n : ℕ). n ≤ greatest_number) c.number_in-loaded.ensures.value c.number_in-loaded.ensures.at_most in
-    subst (λ (n : ℕ). IsActed c.args.self.now c.args.channel c.args.op (record { reply = Held c.in-Held.flags; loaded = n; number = n }) c.look-in-Held.new.self) (sym c.number_in-loaded.ensures.value)
-    (acted_held _ load.load load.log_before c.args.op c.in-Held.flags c.look-in-Held.new.self (c.in-Held.ensures).table most
+    subst (λ (n : ℕ). IsActed c.args.self.now c.args.channel c.args.op (record { reply = c.reply_shown.result; loaded = n; number = n }) c.look.new.self) (sym c.number_in-loaded.ensures.value)
+    (acted_shown _ load.load load.log_before c.args.op c.advance.result c.reply_shown.result c.look.new.self (stays_either c.advance.result c.in-Look.is) c.advance.ensures.table (c.reply_shown.ensures ∙ ap (reply_shown c.args.op) c.state_in.ensures) most
     (record { log_is = look.written ∙ ap (λ (log : LogState). looked log entry) load.log; view_is = look.view; table_is = look.table ∙ load.table; log_of = look.log_after }))
 
 -- an operation that is ready
@@ -115,21 +100,6 @@ returns-in-Look-clause-table g c = ap (λ (line : LineState). line.table) (retur
 
 pub returns-in-Look-clause-within : goal.returns-in-Look-clause-within
 returns-in-Look-clause-within g c = c.look.ensures.log_after.within
-
-pub returns-in-Held-clause-monotone : goal.returns-in-Held-clause-monotone
-returns-in-Held-clause-monotone g c monotone = rising_acted _ c.args.channel c.args.op _ _ c.load-word.ensures.log_before.within (returns-in-Held-clause-ok g c) monotone
-
-pub returns-in-Held-clause-shares : goal.returns-in-Held-clause-shares
-returns-in-Held-clause-shares g c = ap (λ (line : LineState). line.view.shares) (returns-in-Held-clause-ok g c).after_is
-
-pub returns-in-Held-clause-whole : goal.returns-in-Held-clause-whole
-returns-in-Held-clause-whole g c = ap (λ (line : LineState). line.view.whole) (returns-in-Held-clause-ok g c).after_is
-
-pub returns-in-Held-clause-table : goal.returns-in-Held-clause-table
-returns-in-Held-clause-table g c = ap (λ (line : LineState). line.table) (returns-in-Held-clause-ok g c).after_is
-
-pub returns-in-Held-clause-within : goal.returns-in-Held-clause-within
-returns-in-Held-clause-within g c = c.look-in-Held.ensures.log_after.within
 
 pub returns-after-try_event-clause-monotone : goal.returns-after-try_event-clause-monotone
 returns-after-try_event-clause-monotone g c monotone = rising_acted _ c.args.channel c.args.op _ _ c.load-word.ensures.log_before.within (returns-after-try_event-clause-ok g c) monotone

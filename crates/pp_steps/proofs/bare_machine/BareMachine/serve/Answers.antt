@@ -1,16 +1,16 @@
 use Rattle.std.proofs.Common.{◌≡◌, ℕ, [], ap, ◌∙◌, sym, length, get_or, ◌<◌, arith, rules}
 use Rattle.std.specs.Prelude.{IsTrue}
 use Rattle.std.proofs.lemmas.List.{get_or_read}
-use Rattle.pp_channel.specs.Answer.{history_after}
+use Rattle.pp_channel.specs.Answer.{channel_state, history_after}
 use Rattle.pp_channel.specs.ChannelNo.{channel_count, names_channel}
-use Rattle.pp_channel.specs.ChannelState.{channel_state}
 use Rattle.pp_channel.proofs.ChannelPlaces.{named_below}
+use Rattle.pp_machine.proofs.FitLemmas.{state_fits}
 use Rattle.pp_machine.specs.MachineState.{history_of}
-use Rattle.pp_steps.proofs.BareLemmas.{state_reply_fits, states_set}
+use Rattle.pp_steps.proofs.BareLemmas.{states_set}
 use Rattle.pp_steps.proofs.bare_machine.BareMachine.serve.Goals as goal
 
 pub returns-in-Channel-clause-fits : goal.returns-in-Channel-clause-fits
-returns-in-Channel-clause-fits g c = rw (c.in-Channel.is, c.act.ensures.table) (state_reply_fits c.in-Channel.op (get_or c.args.self.now.channels c.index.result c.index-self-index.result))
+returns-in-Channel-clause-fits g c = rw (c.in-Channel.is, c.act.ensures.table) (state_fits c.in-Channel.op (get_or c.args.self.now.channels c.index.result c.index-self-index.result))
 
 pub returns-in-Channel-clause-states : goal.returns-in-Channel-clause-states
 returns-in-Channel-clause-states g c = λ m stands.
