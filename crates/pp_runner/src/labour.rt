@@ -14,6 +14,7 @@ use crate::end::End;
 use crate::gate::Gate;
 use crate::locked_central::LockedCentral;
 use crate::site::Site;
+use crate::spinning::Spinning;
 use crate::worker::Worker;
 use pp_channel::{Line, Worn};
 use pp_machine::{Answer, Need, Outcome, Pp, PpNo, PpState};
@@ -28,6 +29,7 @@ pub struct Labour<A: Allocator> {
     pub answers: Vec<Answer, A>,
     pub line: Line<A>,
     pub tries: u64,
+    pub spinning: Spinning,
 }
 
 /// A worker that has ended, with its line. The line has its log.
@@ -162,8 +164,11 @@ impl<A: Allocator + Copy> Labour<A> {
             gate.pass(self.number, self.tries);
             self.tries += 1;
             match self.try_step(rt, site, load) {
-                Try::Moved => return None,
-                Try::Held => site.wait(held),
+                Try::Moved => {
+                    self.spinning.moved();
+                    return None;
+                }
+                Try::Held => self.spinning.wait(),
                 Try::Worn => return Some(End::Worn),
             }
         }
@@ -189,6 +194,7 @@ impl<A: Allocator + Copy> Labour<A> {
             answers,
             line,
             tries: _,
+            spinning: _,
         } = self;
         let worker = Worker {
             pp,
@@ -236,6 +242,7 @@ pub fn work<R: Wait, G: Gate, A: Allocator + Copy>(
         answers: Vec::new(site.alloc),
         line,
         tries: 0,
+        spinning: site.spinning,
     };
     for done in 0..site.limits.steps() {
         if let Some(finish) = at_rest(&labour.pp) {

@@ -13,8 +13,8 @@ mod opening;
 mod report;
 mod run_fault;
 mod site;
+mod spinning;
 mod threads;
-mod tries;
 mod worker;
 
 pub use end::End;

@@ -16,7 +16,7 @@ use crate::opening::opening_line;
 use crate::report::Report;
 use crate::run_fault::RunFault;
 use crate::site::Site;
-use crate::tries::tries_of_run;
+use crate::spinning::Spinning;
 use crate::worker::with_logs;
 use pp_channel::{Closed, Line, Memory};
 use pp_machine::Machine;
@@ -75,7 +75,7 @@ pub fn run_threads<R: Threads + Wait + Sync, G: Gate + Sync, A: Allocator + Copy
         alloc,
         central: LockedCentral::new(alloc, machine.central())?,
         limits,
-        tries: tries_of_run(rt, machine),
+        spinning: Spinning::of_run(rt),
     };
     // Two entries an answer at most, and a look at which the worker gives up.
     let (first, lines) = open_family(alloc, machine, 2 * limits.steps() + 1)?;

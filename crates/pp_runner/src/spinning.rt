@@ -1,0 +1,103 @@
+//! How long a held worker spins before it gives its core away.
+
+ghost use Rattle.std.specs.Prelude.{◌≡◌, ◌<◌, ◌≤◌, ◌+◌, ◌*◌, ◌/◌, max, min};
+ghost use Rattle.pp_runner.specs.declared.spinning.TheConstants.{LEAST, LONG_WAIT};
+
+use std::thread::Threads;
+use std::{hint, thread};
+
+/// After how many tries in vain a worker gives its core away at first, and at most (decimal).
+const MOST: u32 = 16_384;
+
+/// After how many it does at least (decimal).
+const LEAST: u32 = 32;
+
+/// How often a worker gives its core away in one step before it spins as long as at first again
+/// (decimal): what has waited for so long need not be quick, and each time costs a busy machine's
+/// time slice.
+const LONG_WAIT: u32 = 1_024;
+
+/// After how many tries in vain a worker gives its core away, which it adapts by itself: half as
+/// many after each time, since the processor that it waits for may have no core, twice as many
+/// where fewer were enough, and as many as at first where a step has long been held.
+#[derive(Clone, Copy)]
+pub struct Spinning {
+    most: u32,
+    tries: u32,
+    /// Tries in vain in this step, since the core was last given away.
+    in_vain: u32,
+    /// How often the core was given away in this step, as far as that is counted.
+    yields: u32,
+    ghost at_most: { tries ≤ most },
+    ghost at_least: { min most LEAST ≤ tries },
+    ghost spins: { in_vain < tries },
+}
+
+impl Spinning {
+    /// How each worker of a run begins. If the system lets the program run on one core alone, the
+    /// core is given away after each try in vain.
+    pub fn of_run<R: Threads>(rt: &R) -> Self {
+        match thread::available_parallelism(rt) {
+            Ok(cores) if cores.get() == 1 => Spinning::new(1),
+            _ => Spinning::new(MOST),
+        }
+    }
+
+    fn new(most: u32) -> Self
+        requires { 1 ≤ most }
+        ensures most { result.most ≡ most }
+        ensures tries { result.tries ≡ most }
+    {
+        Spinning {
+            most,
+            tries: most,
+            in_vain: 0,
+            yields: 0,
+        }
+    }
+
+    /// What a worker does after a try in vain.
+    pub fn wait(&mut self)
+        ensures most { self.new.most ≡ self.old.most }
+        ensures spun { self.old.in_vain + 1 < self.old.tries
+            → (self.new.in_vain ≡ self.old.in_vain + 1)
+            × (self.new.yields ≡ self.old.yields)
+            × (self.new.tries ≡ self.old.tries) }
+        ensures gave_away { self.old.in_vain + 1 ≡ self.old.tries
+            → (self.new.in_vain ≡ 0) × (0 < self.new.yields) }
+        ensures halved { self.old.in_vain + 1 ≡ self.old.tries → self.old.yields < LONG_WAIT
+            → self.new.tries ≡ min (max (self.old.tries / 2) LEAST) self.old.most }
+        ensures long_wait { self.old.in_vain + 1 ≡ self.old.tries → LONG_WAIT ≤ self.old.yields
+            → self.new.tries ≡ self.old.most }
+    {
+        self.in_vain += 1;
+        if self.in_vain < self.tries {
+            hint::spin_loop();
+        } else {
+            thread::yield_now();
+            self.in_vain = 0;
+            if self.yields < LONG_WAIT {
+                self.yields += 1;
+                self.tries = (self.tries / 2).max(LEAST).min(self.most);
+            } else {
+                self.tries = self.most;
+            }
+        }
+    }
+
+    /// The step that was tried has moved the processor.
+    pub fn moved(&mut self)
+        ensures most { self.new.most ≡ self.old.most }
+        ensures next_step { (self.new.in_vain ≡ 0) × (self.new.yields ≡ 0) }
+        ensures fewer_were_enough { 0 < self.old.in_vain → self.old.yields ≡ 0
+            → self.new.tries ≡ min (2 * self.old.tries) self.old.most }
+        ensures gave_away { 0 < self.old.yields → self.new.tries ≡ self.old.tries }
+        ensures never_held { self.old.in_vain ≡ 0 → self.new.tries ≡ self.old.tries }
+    {
+        if self.in_vain > 0 && self.yields == 0 {
+            self.tries = self.tries.saturating_mul(2).min(self.most);
+        }
+        self.in_vain = 0;
+        self.yields = 0;
+    }
+}
