@@ -1,25 +1,91 @@
--- From what was read to all that a reader tells.
-use Rattle.std.proofs.Common.{ℕ, ◌≤◌, ◌<◌, List, length, take, Option, Some, None, Result}
-use Rattle.std.specs.Prelude.{IfSome}
-use Rattle.std.specs.Io.KnownBytes.{Consumes, IsAtEnd}
+-- From what was read, and the answer to it, to what a call promises of every reader.
+use Rattle.std.proofs.Common.{◌≢◌, refl, ℕ, ◌≤◌, ◌<◌, List, length, take, Option, Some, None, Result, Ok, Err}
+use Rattle.std.specs.Prelude.{IfErr, IfSome, OnOk}
+use Rattle.std.specs.Io.KnownBytes.{Consumes, IsAtEnd, Keeps}
 use Rattle.std.proofs.lemmas.Bool.{cases_lt}
 use Rattle.pp_sim.proofs.ByteLemmas.{read_front}
 use Rattle.pp_machine.specs.declared.profile.Profile.{Profile}
 use Rattle.pp_deck.specs.DeckMeaning.{LoadedDeck}
-use Rattle.pp_sim.specs.TextAnswer.{IsAnswer, IsAnswerUnless, Never}
+use Rattle.pp_sim.specs.TextAnswer.{AnswersDeckUnless, IsAnswerUnless, IsReadFault, most_bytes}
 use Rattle.pp_listing.specs.declared.going_on.GoingOn.{GoingOn}
 use Rattle.pp_sim.specs.declared.text_fault.TextFault.{TextFault}
+use Rattle.pp_sim.specs.declared.text_fault.TextFault.TheVariants as fault
 
 -- the answer to the bytes that were read is that to the first bytes that the reader had
-pub told_answer_unless : (profile : Profile) (before after old new : Option (List ℕ)) (Hinders : LoadedDeck → GoingOn → Type 0) (IsRunText : LoadedDeck → List ℕ → Type 0) (front : List ℕ) (most : ℕ) (answer : Result (Unit {0}) TextFault)
-    → IsAnswerUnless profile Hinders IsRunText answer front old new → Consumes before after front → length front ≤ most → (length front < most → IsAtEnd after)
-    → IfSome before (λ bytes. IsAnswerUnless profile Hinders IsRunText answer (take most bytes) old new)
-told_answer_unless profile None after old new Hinders IsRunText front most answer answered consumed le end = tt
-told_answer_unless profile (Some bytes) None old new Hinders IsRunText front most answer answered consumed le end = absurd consumed
-told_answer_unless profile (Some bytes) (Some rest) old new Hinders IsRunText front most answer answered consumed le end =
+told_answer : (profile : Profile) (before after old new : Option (List ℕ)) (Hinders : LoadedDeck → GoingOn → Type 0) (IsDeckText : LoadedDeck → List ℕ → Type 0) (front : List ℕ) (most : ℕ) (answer : Result (Unit {0}) TextFault)
+    → IsAnswerUnless profile Hinders IsDeckText answer front old new → Consumes before after front → length front ≤ most → (length front < most → IsAtEnd after)
+    → IfSome before (λ bytes. IsAnswerUnless profile Hinders IsDeckText answer (take most bytes) old new)
+told_answer profile None after old new Hinders IsDeckText front most answer answered consumed le end = tt
+told_answer profile (Some bytes) None old new Hinders IsDeckText front most answer answered consumed le end = absurd consumed
+told_answer profile (Some bytes) (Some rest) old new Hinders IsDeckText front most answer answered consumed le end =
     rw (consumed, ← read_front front rest most le end (cases_lt (length front) most)) answered
 
-pub told_answer : (profile : Profile) (before after old new : Option (List ℕ)) (IsRunText : LoadedDeck → List ℕ → Type 0) (front : List ℕ) (most : ℕ) (answer : Result (Unit {0}) TextFault)
-    → IsAnswer profile IsRunText answer front old new → Consumes before after front → length front ≤ most → (length front < most → IsAtEnd after)
-    → IfSome before (λ bytes. IsAnswer profile IsRunText answer (take most bytes) old new)
-told_answer profile before after old new IsRunText = told_answer_unless profile before after old new Never IsRunText
+-- an answer to these bytes is a fault of writing, or nothing was written
+unwritten_answer : (profile : Profile) (Hinders : LoadedDeck → GoingOn → Type 0) (IsDeckText : LoadedDeck → List ℕ → Type 0) (answer : Result (Unit {0}) TextFault) (front : List ℕ) (old new : Option (List ℕ))
+    → IsAnswerUnless profile Hinders IsDeckText answer front old new → IfErr answer (λ f. f ≢ fault.Write → Keeps old new)
+unwritten_answer profile Hinders IsDeckText (Ok done) front old new answered = tt
+unwritten_answer profile Hinders IsDeckText (Err fault.Write) front old new answered = λ other. absurd (other refl)
+unwritten_answer profile Hinders IsDeckText (Err (fault.NotBetweenPrograms going_on)) front old new (_, keeps) = λ _. keeps
+unwritten_answer profile Hinders IsDeckText (Err (fault.Deck f)) front old new (_, keeps) = λ _. keeps
+unwritten_answer profile Hinders IsDeckText (Err (fault.Trace f)) front old new answered = absurd answered
+unwritten_answer profile Hinders IsDeckText (Err fault.Read) front old new keeps = λ _. keeps
+unwritten_answer profile Hinders IsDeckText (Err fault.Memory) front old new keeps = λ _. keeps
+
+at_end : {X : Type 0} {E : Type 0} {P Q : Type 0} (answer : Result X E) → OnOk answer P → (P → Q) → OnOk answer Q
+at_end (Ok done) holds then = then holds
+at_end (Err f) holds then = tt
+
+-- where the bytes were read that a deck may have, and the answer is that to them
+pub answered_deck : (profile : Profile) (before after old new : Option (List ℕ)) (Hinders : LoadedDeck → GoingOn → Type 0) (IsDeckText : LoadedDeck → List ℕ → Type 0) (front : List ℕ) (answer : Result (Unit {0}) TextFault)
+    → IsAnswerUnless profile Hinders IsDeckText answer front old new → Consumes before after front → length front ≤ most_bytes → (length front < most_bytes → IsAtEnd after)
+    → OnOk answer (length front < most_bytes) → AnswersDeckUnless profile Hinders IsDeckText answer before after old new
+answered_deck profile before after old new Hinders IsDeckText front answer answered consumed le end bounded = record {
+  every_reader = (
+    front,
+    record {
+      consumed = consumed;
+      bounded = le;
+      answered = answered;
+      whole = at_end answer bounded end;
+    },
+  );
+  telling_reader = told_answer profile before after old new Hinders IsDeckText front most_bytes answer answered consumed le end;
+  unwritten = unwritten_answer profile Hinders IsDeckText answer front old new answered;
+}
+
+-- where reading failed, the answer to all bytes is that nothing was written
+unread : (profile : Profile) (Hinders : LoadedDeck → GoingOn → Type 0) (IsDeckText : LoadedDeck → List ℕ → Type 0) (f : TextFault) (bytes : List ℕ) (kept : Option (List ℕ))
+    → IsReadFault f → Keeps kept kept → IsAnswerUnless profile Hinders IsDeckText (Err f) bytes kept kept
+unread profile Hinders IsDeckText fault.Read bytes kept is keeps = keeps
+unread profile Hinders IsDeckText fault.Memory bytes kept is keeps = keeps
+unread profile Hinders IsDeckText fault.Write bytes kept is keeps = absurd is
+unread profile Hinders IsDeckText (fault.Deck f) bytes kept is keeps = absurd is
+unread profile Hinders IsDeckText (fault.NotBetweenPrograms going_on) bytes kept is keeps = absurd is
+unread profile Hinders IsDeckText (fault.Trace f) bytes kept is keeps = absurd is
+
+kept_as_it_was : (kept : Option (List ℕ)) → Keeps kept kept
+kept_as_it_was None = tt
+kept_as_it_was (Some bytes) = refl
+
+told_unread : (profile : Profile) (before kept : Option (List ℕ)) (Hinders : LoadedDeck → GoingOn → Type 0) (IsDeckText : LoadedDeck → List ℕ → Type 0) (f : TextFault) (most : ℕ)
+    → IsReadFault f → IfSome before (λ bytes. IsAnswerUnless profile Hinders IsDeckText (Err f) (take most bytes) kept kept)
+told_unread profile None kept Hinders IsDeckText f most is = tt
+told_unread profile (Some bytes) kept Hinders IsDeckText f most is =
+    unread profile Hinders IsDeckText f (take most bytes) kept is (kept_as_it_was kept)
+
+pub unread_deck : (profile : Profile) (before after kept : Option (List ℕ)) (Hinders : LoadedDeck → GoingOn → Type 0) (IsDeckText : LoadedDeck → List ℕ → Type 0) (f : TextFault)
+    → IsReadFault f → ((bytes : List ℕ) × Consumes before after bytes × (length bytes ≤ most_bytes))
+    → AnswersDeckUnless profile Hinders IsDeckText (Err f) before after kept kept
+unread_deck profile before after kept Hinders IsDeckText f is (bytes, consumed, le) = record {
+  every_reader = (
+    bytes,
+    record {
+      consumed = consumed;
+      bounded = le;
+      answered = unread profile Hinders IsDeckText f bytes kept is (kept_as_it_was kept);
+      whole = tt;
+    },
+  );
+  telling_reader = told_unread profile before kept Hinders IsDeckText f most_bytes is;
+  unwritten = λ _. kept_as_it_was kept;
+}

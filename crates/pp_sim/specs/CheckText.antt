@@ -1,5 +1,5 @@
 -- What the check of a trace answers.
-use Rattle.std.specs.Prelude.{ℕ, Bool, List, Option, Result, Ok, Err}
+use Rattle.std.specs.Prelude.{◌≢◌, ℕ, Bool, List, Option, Result, Ok, Err, IfErr, IfSome}
 use Rattle.std.specs.Io.KnownBytes.{Appends, Consumes, IsAtEnd, Keeps}
 use Rattle.pp_check.specs.LawfulTrace.{AreLawful, lines_said}
 use Rattle.pp_check.specs.TraceFault.{IsFault}
@@ -45,3 +45,12 @@ pub record Checks (opened : List Bool) (answer : Result (Unit {0}) TextFault)
   pub consumed : Consumes before after bytes
   pub answered : IsCheck opened answer bytes old new
   pub whole : IsAtEndIfJudged answer after
+
+-- THE PROMISE of a call that checks a trace: how it answers every reader, whatever that knows of
+-- its bytes; and one that knows which bytes it has
+pub record AnswersTrace (opened : List Bool) (answer : Result (Unit {0}) TextFault)
+    (before after old new : Option (List ℕ)) : Type 0 where
+  pub every_reader : (bytes : List ℕ) × Checks opened answer before after old new bytes
+  pub telling_reader : IfSome before (λ bytes. IsCheck opened answer bytes old new)
+  -- every fault but Write comes before the first byte is written
+  pub unwritten : IfErr answer (λ f. f ≢ fault.Write → Keeps old new)

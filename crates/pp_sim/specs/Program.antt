@@ -1,13 +1,12 @@
 -- What a run of the program comes to, by its words, by what was read and written, and by the status
 -- that it answers.
-use Rattle.std.specs.Prelude.{◌≡◌, ℕ, Bool, List, [], take, Option, Result, Ok, Err, IfSome, ◌⊎◌}
+use Rattle.std.specs.Prelude.{◌≡◌, ℕ, List, [], Option, Result, Ok, Err, ◌⊎◌}
 use Rattle.std.specs.Io.KnownBytes.{Appends, Keeps}
 use Rattle.clap.specs.Words.{Text, kind_of}
 use Rattle.clap.specs.declared.error.Error.{Error}
 use Rattle.clap.specs.declared.error.kind.ErrorKind.TheVariants.{DisplayHelp, DisplayVersion}
-use Rattle.pp_machine.specs.declared.profile.Profile.{Profile}
 use Rattle.pp_sim.specs.BarrelText.{IsBarrelText}
-use Rattle.pp_sim.specs.CheckText.{Checks, IsCheck}
+use Rattle.pp_sim.specs.CheckText.{AnswersTrace}
 use Rattle.pp_sim.specs.CommandLine.{AskFor, IsOutOfRange, IsRefused, refusals}
 use Rattle.pp_sim.specs.DrawingText.{IsDrawing}
 use Rattle.pp_sim.specs.DumpText.{HindersDump, IsDumpText}
@@ -15,9 +14,7 @@ use Rattle.pp_sim.specs.ListText.{IsListText}
 use Rattle.pp_sim.specs.SessionsText.{IsSessionsText}
 use Rattle.pp_sim.specs.StateText.{IsStateText}
 use Rattle.pp_sim.specs.StepsText.{IsStepsText}
-use Rattle.pp_deck.specs.DeckMeaning.{LoadedDeck}
-use Rattle.pp_listing.specs.declared.going_on.GoingOn.{GoingOn}
-use Rattle.pp_sim.specs.TextAnswer.{AnswersUnless, IsAnswerUnless, Never, most_bytes}
+use Rattle.pp_sim.specs.TextAnswer.{AnswersDeck, AnswersDeckUnless}
 use Rattle.pp_text.specs.Written.{AppendsFront}
 use Rattle.pp_sim.specs.ThreadsText.{IsThreadsText}
 use Rattle.pp_sim.specs.declared.line_fault.LineFault.{LineFault}
@@ -29,36 +26,20 @@ use Rattle.pp_sim.specs.declared.work.Work.TheVariants as works
 
 -- ---- words that ask for work
 
--- the answer of a work on a deck for a machine of this profile: to the bytes that were read, and to
--- the first bytes of a reader that tells what it has
-pub record AnswersDeck (profile : Profile) (Hinders : LoadedDeck → GoingOn → Type 0)
-    (IsDeckText : LoadedDeck → List ℕ → Type 0) (answer : Result (Unit {0}) TextFault)
-    (before after old new : Option (List ℕ)) : Type 0 where
-  pub every_reader : (bytes : List ℕ) × AnswersUnless profile Hinders IsDeckText answer before after
-      old new bytes
-  pub telling_reader : IfSome before (λ bytes.
-      IsAnswerUnless profile Hinders IsDeckText answer (take most_bytes bytes) old new)
-
--- the answer of a check of a trace, likewise
-pub record AnswersTrace (opened : List Bool) (answer : Result (Unit {0}) TextFault)
-    (before after old new : Option (List ℕ)) : Type 0 where
-  pub every_reader : (bytes : List ℕ) × Checks opened answer before after old new bytes
-  pub telling_reader : IfSome before (λ bytes. IsCheck opened answer bytes old new)
-
 -- The answer of a work: a text of the deck that was read, or what stands in its way; or the check
 -- of the trace that was read. Z is the allocator's type, of which a report is made.
 abbrev pub IsDone : Type 0 → Work → Result (Unit {0}) TextFault → Option (List ℕ) → Option (List ℕ)
     → Option (List ℕ) → Option (List ℕ) → Type 0
-IsDone Z (works.Barrel profile turns) = AnswersDeck profile Never (IsBarrelText turns)
-IsDone Z (works.Threads profile limits) = AnswersDeck profile Never (IsThreadsText Z limits)
-IsDone Z (works.List profile) = AnswersDeck profile Never IsListText
+IsDone Z (works.Barrel profile turns) = AnswersDeck profile (IsBarrelText turns)
+IsDone Z (works.Threads profile limits) = AnswersDeck profile (IsThreadsText Z limits)
+IsDone Z (works.List profile) = AnswersDeck profile IsListText
 IsDone Z (works.Dump profile turns) =
-    AnswersDeck profile (HindersDump turns) (IsDumpText turns)
-IsDone Z (works.State profile turns) = AnswersDeck profile Never (IsStateText turns)
-IsDone Z (works.Sessions profile turns) = AnswersDeck profile Never (IsSessionsText turns)
+    AnswersDeckUnless profile (HindersDump turns) (IsDumpText turns)
+IsDone Z (works.State profile turns) = AnswersDeck profile (IsStateText turns)
+IsDone Z (works.Sessions profile turns) = AnswersDeck profile (IsSessionsText turns)
 IsDone Z (works.Steps profile turns only from) =
-    AnswersDeck profile Never (IsStepsText turns only from)
-IsDone Z (works.Draw profile window) = AnswersDeck profile Never (IsDrawing window)
+    AnswersDeck profile (IsStepsText turns only from)
+IsDone Z (works.Draw profile window) = AnswersDeck profile (IsDrawing window)
 IsDone Z (works.Check opened) = AnswersTrace opened
 
 -- the status of a work that was done, or failed

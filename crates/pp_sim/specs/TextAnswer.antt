@@ -1,5 +1,5 @@
 -- How the answer to a deck stands to the bytes that were read and written.
-use Rattle.std.specs.Prelude.{◌≡◌, ◌≢◌, ◌≤◌, ℕ, List, length, Option, Result, Ok, Err, OnOk}
+use Rattle.std.specs.Prelude.{◌≡◌, ◌≢◌, ◌≤◌, ℕ, List, length, take, Option, Result, Ok, Err, OnOk, IfErr, IfSome}
 use Rattle.std.specs.Io.KnownBytes.{Appends, Consumes, IsAtEnd, Keeps}
 use Rattle.pp_machine.specs.declared.profile.Profile.{Profile}
 use Rattle.pp_deck.specs.DeckMeaning.{LoadedDeck, deck_meaning}
@@ -62,6 +62,18 @@ pub record AnswersUnless (profile : Profile) (Hinders : LoadedDeck → GoingOn �
   pub answered : IsAnswerUnless profile Hinders IsDeckText answer bytes old new
   pub whole : OnOk answer (IsAtEnd after)
 
+-- THE PROMISE of a call that reads a deck and writes a text of it: how it answers every reader,
+-- whatever that knows of its bytes; and one that knows which bytes it has
+pub record AnswersDeckUnless (profile : Profile) (Hinders : LoadedDeck → GoingOn → Type 0)
+    (IsDeckText : LoadedDeck → List ℕ → Type 0) (answer : Result (Unit {0}) TextFault)
+    (before after old new : Option (List ℕ)) : Type 0 where
+  pub every_reader : (bytes : List ℕ) × AnswersUnless profile Hinders IsDeckText answer before after
+      old new bytes
+  pub telling_reader : IfSome before (λ bytes.
+      IsAnswerUnless profile Hinders IsDeckText answer (take most_bytes bytes) old new)
+  -- every fault but Write comes before the first byte is written
+  pub unwritten : IfErr answer (λ f. f ≢ fault.Write → Keeps old new)
+
 -- most works have a text of every deck: nothing stands in their way
 abbrev pub Never : LoadedDeck → GoingOn → Type 0
 Never deck going_on = ⊥
@@ -70,9 +82,9 @@ abbrev pub IsAnswer : Profile → (LoadedDeck → List ℕ → Type 0) → Resul
     → List ℕ → Option (List ℕ) → Option (List ℕ) → Type 0
 IsAnswer profile IsDeckText = IsAnswerUnless profile Never IsDeckText
 
-abbrev pub AnswersTo : Profile → (LoadedDeck → List ℕ → Type 0) → Result (Unit {0}) TextFault
-    → (before after old new : Option (List ℕ)) → List ℕ → Type 0
-AnswersTo profile IsDeckText = AnswersUnless profile Never IsDeckText
+abbrev pub AnswersDeck : Profile → (LoadedDeck → List ℕ → Type 0) → Result (Unit {0}) TextFault
+    → (before after old new : Option (List ℕ)) → Type 0
+AnswersDeck profile IsDeckText = AnswersDeckUnless profile Never IsDeckText
 
 -- ---- parts of a call
 

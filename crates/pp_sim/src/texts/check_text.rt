@@ -1,8 +1,6 @@
 //! Reading a channel trace and writing what is counted in it, if it is lawful.
 
-ghost use Rattle.std.specs.Prelude.{◌≢◌, ℕ, List, IfErr, IfSome};
-ghost use Rattle.std.specs.Io.KnownBytes.{Keeps};
-ghost use Rattle.pp_sim.specs.CheckText.{Checks, IsCheck};
+ghost use Rattle.pp_sim.specs.CheckText.{AnswersTrace, IsCheck};
 
 use crate::streams::{read_all, write_whole};
 use crate::text_fault::TextFault;
@@ -20,16 +18,9 @@ pub fn check_text<A: Allocator, R: Read, W: Write>(
     reader: &mut R,
     writer: &mut W,
 ) -> Result<(), TextFault>
-    // For every reader, whatever it knows.
-    ensures every_reader { (bytes : List ℕ) × Checks opened.now result
+    ensures { AnswersTrace opened.now result
         (R.remaining reader.old) (R.remaining reader.new)
-        (W.contents writer.old) (W.contents writer.new) bytes }
-    // For a reader that knows the bytes that it has.
-    ensures telling_reader { IfSome (R.remaining reader.old) (λ bytes.
-        IsCheck opened.now result bytes (W.contents writer.old) (W.contents writer.new)) }
-    // Every fault but Write comes before the first byte is written.
-    ensures unwritten { IfErr result (λ fault. fault ≢ TextFault.Write
-        → Keeps (W.contents writer.old) (W.contents writer.new)) }
+        (W.contents writer.old) (W.contents writer.new) }
 {
     let trace = read_all(alloc, reader)?;
     write_verdict(trace.as_slice(), opened, writer)

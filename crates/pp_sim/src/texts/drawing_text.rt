@@ -1,9 +1,8 @@
 //! Reading a deck, running it and drawing its run.
 
-ghost use Rattle.std.specs.Prelude.{◌≢◌, ◌<◌, ℕ, List, length, take, OnOk, IfErr, IfSome};
-ghost use Rattle.std.specs.Io.KnownBytes.{Keeps};
+ghost use Rattle.std.specs.Prelude.{◌<◌, length, OnOk};
 ghost use Rattle.pp_sim.specs.DrawingText.{IsDrawing};
-ghost use Rattle.pp_sim.specs.TextAnswer.{AnswersTo, IsAnswer, most_bytes};
+ghost use Rattle.pp_sim.specs.TextAnswer.{AnswersDeck, IsAnswer, most_bytes};
 
 use crate::loaded_deck::loaded_deck;
 use crate::streams::read_front;
@@ -23,17 +22,9 @@ pub fn drawing_text<A: Allocator + Copy, R: Read, W: Write>(
     writer: &mut W,
     window: Window,
 ) -> Result<(), TextFault>
-    // For every reader, whatever it knows.
-    ensures every_reader { (bytes : List ℕ) × AnswersTo profile (IsDrawing window) result
+    ensures { AnswersDeck profile (IsDrawing window) result
         (R.remaining reader.old) (R.remaining reader.new)
-        (W.contents writer.old) (W.contents writer.new) bytes }
-    // For a reader that knows the bytes that it has.
-    ensures telling_reader { IfSome (R.remaining reader.old) (λ bytes.
-        IsAnswer profile (IsDrawing window) result (take most_bytes bytes)
-        (W.contents writer.old) (W.contents writer.new)) }
-    // Every fault but Write comes before the first byte is written.
-    ensures unwritten { IfErr result (λ fault. fault ≢ TextFault.Write
-        → Keeps (W.contents writer.old) (W.contents writer.new)) }
+        (W.contents writer.old) (W.contents writer.new) }
 {
     let deck = read_front(alloc, reader)?;
     write_drawing_of(alloc, profile, deck.as_slice(), writer, window)

@@ -1,9 +1,8 @@
 //! Reading a deck, running it and writing its dump.
 
-ghost use Rattle.std.specs.Prelude.{◌≡◌, ◌≢◌, ◌<◌, ℕ, List, length, take, OnOk, IfOk, IfErr, IfSome};
-ghost use Rattle.std.specs.Io.KnownBytes.{Keeps};
+ghost use Rattle.std.specs.Prelude.{◌<◌, length, OnOk, IfOk, IfErr};
 ghost use Rattle.pp_sim.specs.DumpText.{HindersDump, IsDumpText};
-ghost use Rattle.pp_sim.specs.TextAnswer.{AnswersUnless, IsAnswerUnless, IsRunFaultUnless, IsTextOf, most_bytes};
+ghost use Rattle.pp_sim.specs.TextAnswer.{AnswersDeckUnless, IsAnswerUnless, IsRunFaultUnless, IsTextOf, most_bytes};
 
 use crate::loaded_deck::loaded_deck;
 use crate::streams::{read_front, write_whole};
@@ -23,18 +22,9 @@ pub fn dump_text<A: Allocator + Copy, R: Read, W: Write>(
     writer: &mut W,
     turns: u32,
 ) -> Result<(), TextFault>
-    // For every reader, whatever it knows.
-    ensures every_reader { (bytes : List ℕ)
-        × AnswersUnless profile (HindersDump turns) (IsDumpText turns) result
+    ensures { AnswersDeckUnless profile (HindersDump turns) (IsDumpText turns) result
         (R.remaining reader.old) (R.remaining reader.new)
-        (W.contents writer.old) (W.contents writer.new) bytes }
-    // For a reader that knows the bytes that it has.
-    ensures telling_reader { IfSome (R.remaining reader.old) (λ bytes.
-        IsAnswerUnless profile (HindersDump turns) (IsDumpText turns) result (take most_bytes bytes)
-        (W.contents writer.old) (W.contents writer.new)) }
-    // Every fault but Write comes before the first byte is written.
-    ensures unwritten { IfErr result (λ fault. fault ≢ TextFault.Write
-        → Keeps (W.contents writer.old) (W.contents writer.new)) }
+        (W.contents writer.old) (W.contents writer.new) }
 {
     let deck = read_front(alloc, reader)?;
     write_dump(alloc, profile, deck.as_slice(), writer, turns)

@@ -1,9 +1,8 @@
 //! Reading a deck and writing its listing.
 
-ghost use Rattle.std.specs.Prelude.{◌≡◌, ◌≢◌, ◌<◌, ℕ, List, length, take, OnOk, IfOk, IfErr, IfSome};
-ghost use Rattle.std.specs.Io.KnownBytes.{Keeps};
+ghost use Rattle.std.specs.Prelude.{◌<◌, length, OnOk, IfOk, IfErr};
 ghost use Rattle.pp_sim.specs.ListText.{IsListText};
-ghost use Rattle.pp_sim.specs.TextAnswer.{AnswersTo, IsAnswer, IsRunFault, IsTextOf, most_bytes};
+ghost use Rattle.pp_sim.specs.TextAnswer.{AnswersDeck, IsAnswer, IsRunFault, IsTextOf, most_bytes};
 
 use crate::loaded_deck::loaded_deck;
 use crate::streams::{read_front, write_whole};
@@ -20,17 +19,9 @@ pub fn list_text<A: Allocator + Copy, R: Read, W: Write>(
     reader: &mut R,
     writer: &mut W,
 ) -> Result<(), TextFault>
-    // For every reader, whatever it knows.
-    ensures every_reader { (bytes : List ℕ) × AnswersTo profile IsListText result
+    ensures { AnswersDeck profile IsListText result
         (R.remaining reader.old) (R.remaining reader.new)
-        (W.contents writer.old) (W.contents writer.new) bytes }
-    // For a reader that knows the bytes that it has.
-    ensures telling_reader { IfSome (R.remaining reader.old) (λ bytes.
-        IsAnswer profile IsListText result (take most_bytes bytes)
-        (W.contents writer.old) (W.contents writer.new)) }
-    // Every fault but Write comes before the first byte is written.
-    ensures unwritten { IfErr result (λ fault. fault ≢ TextFault.Write
-        → Keeps (W.contents writer.old) (W.contents writer.new)) }
+        (W.contents writer.old) (W.contents writer.new) }
 {
     let deck = read_front(alloc, reader)?;
     write_listing(alloc, profile, deck.as_slice(), writer)

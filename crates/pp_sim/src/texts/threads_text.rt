@@ -1,9 +1,8 @@
 //! Reading a deck, running it with one thread per processor and writing the text of the run.
 
-ghost use Rattle.std.specs.Prelude.{◌≢◌, ◌<◌, ℕ, List, length, take, OnOk, IfErr, IfSome};
-ghost use Rattle.std.specs.Io.KnownBytes.{Keeps};
+ghost use Rattle.std.specs.Prelude.{◌<◌, length, OnOk};
 ghost use Rattle.pp_runner.specs.Report.{ReportFitsInMemory};
-ghost use Rattle.pp_sim.specs.TextAnswer.{AnswersTo, IsAnswer, most_bytes};
+ghost use Rattle.pp_sim.specs.TextAnswer.{AnswersDeck, IsAnswer, most_bytes};
 ghost use Rattle.pp_sim.specs.ThreadsText.{IsThreadsText};
 
 use crate::loaded_deck::loaded_deck;
@@ -33,17 +32,9 @@ pub fn threads_text<T: Threads + Wait + Sync, R: Read, A: Allocator + Copy + Sen
 ) -> Result<(), TextFault>
     // A report takes less than all of memory, as it does with every allocator that there is.
     requires { ReportFitsInMemory A.row A.Allocator }
-    // For every reader, whatever it knows.
-    ensures every_reader { (bytes : List ℕ) × AnswersTo profile
-        (IsThreadsText A limits) result (R.remaining reader.old) (R.remaining reader.new)
-        (W.contents writer.old) (W.contents writer.new) bytes }
-    // For a reader that knows the bytes that it has.
-    ensures telling_reader { IfSome (R.remaining reader.old) (λ bytes.
-        IsAnswer profile (IsThreadsText A limits) result (take most_bytes bytes)
-        (W.contents writer.old) (W.contents writer.new)) }
-    // Every fault but Write comes before the first byte is written.
-    ensures unwritten { IfErr result (λ fault. fault ≢ TextFault.Write
-        → Keeps (W.contents writer.old) (W.contents writer.new)) }
+    ensures { AnswersDeck profile (IsThreadsText A limits) result
+        (R.remaining reader.old) (R.remaining reader.new)
+        (W.contents writer.old) (W.contents writer.new) }
 {
     let deck = read_front(alloc, reader)?;
     write_threads(rt, &NoGate, alloc, profile, deck.as_slice(), writer, limits)
