@@ -1,7 +1,8 @@
 //! What a processor asks of a channel.
 
-ghost use Rattle.std.specs.Prelude.{◌≡◌};
-ghost use Rattle.pp_channel.specs.Answer.{only_looks};
+ghost use Rattle.std.specs.Prelude.{◌≡◌, List, None, IsTrue};
+ghost use Rattle.pp_channel.specs.Answer.{event_of, only_looks};
+ghost use Rattle.pp_channel.specs.declared.event.Event.{Event};
 
 use pp_word::Word12;
 
@@ -26,7 +27,8 @@ impl ChanOp {
     /// Whether it only looks: it never makes an event, and is never held.
     #[inline(always)]
     pub fn only_looks(&self) -> bool
-        ensures { result ≡ only_looks self.now }
+        ensures value { result ≡ only_looks self.now }
+        ensures no_event { IsTrue result → (h : List Event) → event_of self.now h ≡ None }
     {
         matches!(self, ChanOp::Probe)
     }

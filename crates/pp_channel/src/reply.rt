@@ -6,7 +6,7 @@ use pp_word::Word12;
 /// The answer to one operation.
 #[derive(Clone, Copy, Debug, PartialEq, Eq)]
 pub enum Reply {
-    /// The flags that a probe asked for.
+    /// The flags, for an operation that only looks.
     Flags(Flags),
     /// The operation was made.
     Done,

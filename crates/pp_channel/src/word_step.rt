@@ -31,7 +31,7 @@ const GREATEST_NUMBER: u64 = (1 << 50) - 1;
 pub enum WordStep {
     /// The word becomes this one, and the operation is answered so.
     Next(u64, Reply),
-    /// The flags that a look asked for.
+    /// The flags, for an operation that only looks.
     Look(Flags),
     /// The operation is not ready at these flags.
     Held(Flags),

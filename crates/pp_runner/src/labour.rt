@@ -151,6 +151,8 @@ impl<A: Allocator + Copy> Labour<A> {
             → (self.new.tries ≡ self.old.tries + site.now.limits.patience)
             × HasOperated site.now.limits.patience self.old.line self.new.line) }
         ensures moved { IfNone result (vec_len self.new.answers ≡ vec_len self.old.answers + 1) }
+        ensures next_step { IfNone result ((self.new.spinning.in_vain ≡ 0)
+            × (self.new.spinning.yields ≡ 0)) }
         ensures few { IfSome result (λ _. vec_len self.new.answers ≤ site.now.limits.steps) }
         ensures ended { IfSome result (λ finish. IsEnd site.now.limits.steps finish self.new.pp
             self.new.answers.items self.new.line.log.entries) }

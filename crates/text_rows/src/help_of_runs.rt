@@ -34,7 +34,8 @@ order of events on different channels, and sometimes the events themselves, diff
 
 A processor ends when its program stops or faults, when its steps are done (STEPS), or when a
 channel has held one step too often in a row (PATIENCE). 1000000 is a good patience. A processor
-that waits for ever makes all these tries, in about a second; at the greatest patience in hours.
+that waits for ever makes all these tries: on idle cores in about 0.1 seconds, and in minutes at
+the greatest patience; beside other programs it takes many times as long.
 It also ends where it is refused memory for one more answer (MEMORY), and where a channel has had
 2^50 - 1 events (WORN).
 
