@@ -7,7 +7,7 @@ use Rattle.pp_state.proofs.HeldLemmas.{test_looked, test_made, test_none, goes_o
 use Rattle.pp_state.proofs.standing.is_held.Goals as goal
 
 pub returns-then-only_looks : goal.returns-then-only_looks
-returns-then-only_looks g c = test_looked c.args.n c.args.c c.args.operation c.args.machine.now c.requires (sym c.only_looks.ensures ∙ c.if-only_looks.true)
+returns-then-only_looks g c = test_looked c.args.n c.args.c c.args.operation c.args.machine.now c.requires (sym c.only_looks.ensures.value ∙ c.if-only_looks.true)
 
 pub returns-then-is_some : goal.returns-then-is_some
 returns-then-is_some g c =
@@ -17,13 +17,13 @@ returns-then-is_some g c =
 pub returns-in-None : goal.returns-in-None
 returns-in-None g c =
     test_none c.args.n c.args.c c.args.operation c.args.machine.now c.next_event.result c.channel-channel.result.now c.block.result _
-    c.requires (sym c.only_looks.ensures ∙ c.if-only_looks.false) c.channel-channel.ensures.value c.next_event.ensures.event (sym c.is_some.ensures ∙ c.if-is_some.false)
+    c.requires (sym c.only_looks.ensures.value ∙ c.if-only_looks.false) c.channel-channel.ensures.value c.next_event.ensures.event (sym c.is_some.ensures ∙ c.if-is_some.false)
     (c.block.ensures.value ∙ ap (λ (pp : Processor). pp.block) c.pp.ensures)
     (ap (λ (block : Option Block). goes_on block (active c.channel-channel.result.now)) c.in-None.is ∙ alone_goes_on (active c.channel-channel.result.now))
 
 pub returns-in-Some : goal.returns-in-Some
 returns-in-Some g c =
     test_none c.args.n c.args.c c.args.operation c.args.machine.now c.next_event.result c.channel-channel.result.now c.block.result _
-    c.requires (sym c.only_looks.ensures ∙ c.if-only_looks.false) c.channel-channel.ensures.value c.next_event.ensures.event (sym c.is_some.ensures ∙ c.if-is_some.false)
+    c.requires (sym c.only_looks.ensures.value ∙ c.if-only_looks.false) c.channel-channel.ensures.value c.next_event.ensures.event (sym c.is_some.ensures ∙ c.if-is_some.false)
     (c.block.ensures.value ∙ ap (λ (pp : Processor). pp.block) c.pp.ensures)
     (ap (λ (block : Option Block). goes_on block (active c.channel-channel.result.now)) c.in-Some.is ∙ block_goes_on c.in-Some.field-0 (active c.channel-channel.result.now) ∙ sym (ap (λ (flags : Flags). flags.active) c.flags.ensures))
