@@ -1,13 +1,13 @@
--- The table of instructions, one line a code, in the order of the octal codes.
+-- The table of instructions, in the order of the octal codes; its last line is for 30 to 57.
 -- (Manual 60100000, peripheral processors: list of instructions and their descriptions; Thornton,
 -- Design of a Computer, on the peripheral and control processors. Jumps of 00 and 77 and the two
 -- zeros are this project's choice.)
-use Rattle.std.specs.Prelude.{ℕ, ◌==◌, ◌&&◌, not, nat_le, Bool, if◌then◌else◌}
+use Rattle.std.specs.Prelude.{ℕ, List, [], ◌∷◌, ◌-◌, ◌/◌, ◌%◌, slice_index_or, ◌==◌, ◌&&◌, not, nat_le, Bool, if◌then◌else◌}
 use Rattle.pp_word.specs.Bits.{shift, complement, logical_product, logical_difference, selective_clear}
 use Rattle.pp_word.specs.OnesComplement.{sum, difference}
 use Rattle.pp_word.specs.Opcode.{code_of, length_of}
 use Rattle.pp_word.specs.declared.opcode.Opcode.{Opcode}
-use Rattle.pp_word.specs.declared.opcode.Opcode.TheVariants.{PSN, LJM, RJM, UJN, ZJN, NJN, PJN, MJN, SHN, LMN, LPN, SCN, LDN, LCN, ADN, SBN, LDC, ADC, LPC, LMC, PSN24, PSN25, EXN, RPN, LDD, ADD, SBD, LMD, STD, RAD, AOD, SOD, LDI, ADI, SBI, LMI, STI, RAI, AOI, SOI, LDM, ADM, SBM, LMM, STM, RAM, AOM, SOM, CRD, CRM, CWD, CWM, AJM, IJM, FJM, EJM, IAN, IAM, OAN, OAM, ACN, DCN, FAN, FNC}
+use Rattle.pp_word.specs.declared.opcode.Opcode.TheVariants.{PSN, LJM, RJM, UJN, ZJN, NJN, PJN, MJN, SHN, LMN, LPN, SCN, LDN, LCN, ADN, SBN, LDC, ADC, LPC, LMC, PSN24, PSN25, EXN, RPN, CRD, CRM, CWD, CWM, AJM, IJM, FJM, EJM, IAN, IAM, OAN, OAM, ACN, DCN, FAN, FNC}
 use Rattle.pp_channel.specs.declared.chan_op.ChanOp.TheVariants.{Activate, Disconnect, Put, Function}
 use Rattle.pp_machine.specs.Block.{receives, central_from, starts}
 use Rattle.pp_machine.specs.Effect.{goes_on, goes_to, faults, jumps_or_stops, jumps_where, branches_where, calls, is_negative, low_of, loads, loads_word, adds_word, subtracts_word, differs_from_word, stores_word, replaces_by_sum, replaces_by_one_more, replaces_by_one_less}
@@ -16,6 +16,23 @@ use Rattle.pp_machine.specs.Processor.{Processor, word_at, exchange_jump, no_cen
 use Rattle.pp_machine.specs.Profile.{has_channel}
 use Rattle.pp_machine.specs.Step.{Step, local, probes, takes, does, reads, writes}
 use Rattle.pp_machine.specs.declared.block.BlockKind.TheVariants.{CentralIn, CentralOut, Input, Output}
+
+-- Codes 30 to 57 (octal), LDD to SOM, work on one word of memory. The first octal digit of the code
+-- says where it stands: 3 at place d, 4 at the place that is the word there, 5 at the indexed place
+abbrev pub operand_places : Processor → ℕ → List ℕ
+operand_places pp d = d ∷ indirect pp d ∷ index pp d ∷ []
+
+-- and the last octal digit, from 0 to 7, what is done with it
+abbrev pub memory_operations : List (Processor → ℕ → ℕ → Processor)
+memory_operations =
+    loads_word ∷ adds_word ∷ subtracts_word ∷ differs_from_word ∷
+    stores_word ∷ replaces_by_sum ∷ replaces_by_one_more ∷ replaces_by_one_less ∷ []
+
+-- the effect of the memory instruction with this code
+abbrev pub memory_instruction : ℕ → Processor → ℕ → ℕ → Processor
+memory_instruction code pp d n =
+    slice_index_or memory_operations (code % 8) loads_word pp
+    (slice_index_or (operand_places pp d) (code / 8 - 3) d) n
 
 -- what an operation with lower six bits d means for a processor, where its instruction has n words
 abbrev pub table : Opcode → Processor → ℕ → ℕ → Step
@@ -43,30 +60,6 @@ table PSN24 pp d n = local (goes_on pp n)
 table PSN25 pp d n = local (goes_on pp n)
 table EXN pp d n = local (faults pp exchange_jump)
 table RPN pp d n = local (faults pp no_central_processor)
-table LDD pp d n = local (loads_word pp d n)
-table ADD pp d n = local (adds_word pp d n)
-table SBD pp d n = local (subtracts_word pp d n)
-table LMD pp d n = local (differs_from_word pp d n)
-table STD pp d n = local (stores_word pp d n)
-table RAD pp d n = local (replaces_by_sum pp d n)
-table AOD pp d n = local (replaces_by_one_more pp d n)
-table SOD pp d n = local (replaces_by_one_less pp d n)
-table LDI pp d n = local (loads_word pp (indirect pp d) n)
-table ADI pp d n = local (adds_word pp (indirect pp d) n)
-table SBI pp d n = local (subtracts_word pp (indirect pp d) n)
-table LMI pp d n = local (differs_from_word pp (indirect pp d) n)
-table STI pp d n = local (stores_word pp (indirect pp d) n)
-table RAI pp d n = local (replaces_by_sum pp (indirect pp d) n)
-table AOI pp d n = local (replaces_by_one_more pp (indirect pp d) n)
-table SOI pp d n = local (replaces_by_one_less pp (indirect pp d) n)
-table LDM pp d n = local (loads_word pp (index pp d) n)
-table ADM pp d n = local (adds_word pp (index pp d) n)
-table SBM pp d n = local (subtracts_word pp (index pp d) n)
-table LMM pp d n = local (differs_from_word pp (index pp d) n)
-table STM pp d n = local (stores_word pp (index pp d) n)
-table RAM pp d n = local (replaces_by_sum pp (index pp d) n)
-table AOM pp d n = local (replaces_by_one_more pp (index pp d) n)
-table SOM pp d n = local (replaces_by_one_less pp (index pp d) n)
 table CRD pp d n = reads pp.a (λ central. goes_on (receives pp d central) n)
 table CRM pp d n = local (starts pp (word_at pp d) (CentralIn (word_at pp d)))
 table CWD pp d n = writes pp.a (central_from pp d) (goes_on pp n)
@@ -83,6 +76,7 @@ table ACN pp d n = does d Activate (goes_on pp n)
 table DCN pp d n = does d Disconnect (goes_on pp n)
 table FAN pp d n = does d (Function (low_of pp.a)) (goes_on pp n)
 table FNC pp d n = does d (Function (second_word pp)) (goes_on pp n)
+table op pp d n = local (memory_instruction (code_of op) pp d n)
 
 -- a row of the table: the length of an instruction stands in that of the operation codes
 abbrev pub row : Opcode → Processor → ℕ → Step

@@ -31,7 +31,6 @@ index pp d = if d == 0 then second_word pp else indexed (second_word pp) (word_a
 abbrev pub constant : Processor → ℕ → ℕ
 constant pp d = d * 2 ^ 12 + second_word pp
 
--- the place that stands at place d: the operand of codes 40 to 47 (octal) is there, as that of codes
--- 30 to 37 is at place d, and that of codes 50 to 57 at the indexed place
+-- the place that stands at place d
 abbrev pub indirect : Processor → ℕ → ℕ
 indirect pp d = word_at pp d

@@ -1,7 +1,7 @@
 //! How long a held worker spins before it gives its core away.
 
 ghost use Rattle.std.specs.Prelude.{◌≡◌, ◌<◌, ◌≤◌, ◌+◌, ◌*◌, ◌/◌, max, min};
-ghost use Rattle.pp_runner.specs.declared.spinning.TheConstants.{AGAIN, LEAST, LONG_WAIT, SLOW_STEPS};
+ghost use Rattle.pp_runner.specs.declared.spinning.TheConstants.{LEAST, LONG_WAIT};
 
 use std::thread::Threads;
 use std::{hint, thread};
@@ -17,19 +17,9 @@ const LEAST: u32 = 32;
 /// costs a busy machine's time slice.
 const LONG_WAIT: u32 = 1_024;
 
-/// After how many steps in which it gave its core away, with others between them or not, a worker
-/// makes `AGAIN` tries once more before it does (decimal). Two workers can give their cores away to one another at each
-/// step although both have a core, since each is away for longer than the other spins: a long spin
-/// ends that.
-const SLOW_STEPS: u32 = 256;
-
-/// How many tries it makes then (decimal).
-const AGAIN: u32 = 4_096;
-
 /// After how many tries in vain a worker gives its core away, which it adapts by itself: half as
 /// many after each time, since the processor that it waits for may have no core, twice as many
-/// where fewer were enough, as many as at first where a step has long been held, and many again
-/// where it has given its core away in many steps.
+/// where fewer were enough, and as many as at first where a step has long been held.
 #[derive(Clone, Copy)]
 pub struct Spinning {
     most: u32,
@@ -38,8 +28,6 @@ pub struct Spinning {
     in_vain: u32,
     /// How often the core was given away in this step, as far as that is counted.
     yields: u32,
-    /// In how many steps it was given away, since there were many.
-    slow_steps: u32,
     ghost at_most: { tries ≤ most },
     ghost at_least: { min most LEAST ≤ tries },
     ghost spins: { in_vain < tries },
@@ -60,21 +48,18 @@ impl Spinning {
         requires { 1 ≤ most }
         ensures most { result.most ≡ most }
         ensures tries { result.tries ≡ most }
-        ensures fast { result.slow_steps ≡ 0 }
     {
         Spinning {
             most,
             tries: most,
             in_vain: 0,
             yields: 0,
-            slow_steps: 0,
         }
     }
 
     /// What a worker does after a try in vain.
     pub fn wait(&mut self)
         ensures most { self.new.most ≡ self.old.most }
-        ensures same_step { self.new.slow_steps ≡ self.old.slow_steps }
         ensures spun { self.old.in_vain + 1 < self.old.tries
             → (self.new.in_vain ≡ self.old.in_vain + 1)
             × (self.new.yields ≡ self.old.yields)
@@ -107,25 +92,13 @@ impl Spinning {
         ensures most { self.new.most ≡ self.old.most }
         ensures next_step { (self.new.in_vain ≡ 0) × (self.new.yields ≡ 0) }
         ensures never_held { self.old.in_vain ≡ 0 → self.old.yields ≡ 0
-            → (self.new.tries ≡ self.old.tries) × (self.new.slow_steps ≡ self.old.slow_steps) }
+            → self.new.tries ≡ self.old.tries }
         ensures fewer_were_enough { 0 < self.old.in_vain → self.old.yields ≡ 0
-            → (self.new.tries ≡ min (2 * self.old.tries) self.old.most)
-            × (self.new.slow_steps ≡ self.old.slow_steps) }
-        ensures gave_away { 0 < self.old.yields → self.old.slow_steps < SLOW_STEPS
-            → (self.new.tries ≡ self.old.tries)
-            × (self.new.slow_steps ≡ self.old.slow_steps + 1) }
-        ensures often_slow { 0 < self.old.yields → SLOW_STEPS ≤ self.old.slow_steps
-            → (self.new.tries ≡ min AGAIN self.old.most) × (self.new.slow_steps ≡ 0) }
+            → self.new.tries ≡ min (2 * self.old.tries) self.old.most }
+        ensures gave_away { 0 < self.old.yields → self.new.tries ≡ self.old.tries }
     {
-        if self.yields == 0 {
-            if self.in_vain > 0 {
-                self.tries = self.tries.saturating_mul(2).min(self.most);
-            }
-        } else if self.slow_steps < SLOW_STEPS {
-            self.slow_steps += 1;
-        } else {
-            self.slow_steps = 0;
-            self.tries = AGAIN.min(self.most);
+        if self.yields == 0 && self.in_vain > 0 {
+            self.tries = self.tries.saturating_mul(2).min(self.most);
         }
         self.in_vain = 0;
         self.yields = 0;
