@@ -121,19 +121,26 @@ fn rounds_of_each_profile(rt: HostRuntime) -> Result<(), Fail> {
     Ok(())
 }
 
-/// Only a list of turns and a step come to a processor that the machine of ten lacks.
+/// Only a list of turns and a step come to a processor that the machine of ten lacks. The others of
+/// these stay as new, before the last one that was lent and after the first.
 #[test]
 fn steps_behind_the_barrel(rt: HostRuntime) -> Result<(), Fail> {
     let (first_behind, last) = (processor(0o20)?, processor(0o31)?);
     let mut machine = Machine::new(rt.alloc(), Profile::Ten, 1)?;
-    count_steps(machine.pp_mut(first_behind));
     count_steps(machine.pp_mut(last));
+    count_steps(machine.pp_mut(first_behind));
     machine.run_barrel(1000)?;
     machine.run_turns(&[first_behind, last, first_behind])?;
     assert_eq!(rt; machine.step(last)?, Outcome::Moved);
     assert_eq!(rt; machine.step(last)?, Outcome::Moved);
     assert_eq!(rt; shown(machine.pp(first_behind)), (2, 2, PpState::Running));
     assert_eq!(rt; shown(machine.pp(last)), (3, 3, PpState::Running));
+    for place in 11..19 {
+        assert_eq!(rt;
+            shown(machine.pp(PpNo::at(place))),
+            (0, 0, PpState::Stopped)
+        );
+    }
     assert_eq!(rt; machine.turns(), 1005);
     Ok(())
 }

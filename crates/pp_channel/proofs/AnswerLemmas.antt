@@ -10,9 +10,8 @@ use Rattle.pp_channel.specs.declared.chan_op.ChanOp.{ChanOp}
 use Rattle.pp_channel.specs.declared.channel_state.ChannelState.{ChannelState}
 use Rattle.pp_channel.specs.declared.reply.Reply.{Reply}
 use Rattle.pp_channel.specs.declared.flags.Flags.{Flags}
-use Rattle.pp_channel.specs.History.{IsLawful, HasTwelveBitWord, full, waiting}
+use Rattle.pp_channel.specs.History.{IsLawful, HasTwelveBitWord, HasTwelveBitWords, full, waiting}
 use Rattle.pp_channel.specs.Answer.{operation_of, IsReady, IsAnswer, channel_state, event_answered, event_by, event_of, flags_of, flags_after, flags_shown, only_looks, word_after, reply_by, reply_shown, reply_to, history_after}
-use Rattle.pp_channel.specs.Kept.{IsKept}
 use Rattle.pp_channel.proofs.HistoryWalk.{State, Inactive, Empty, Holding, step, step_take, walk, walk-append}
 use Rattle.pp_channel.proofs.HistoryLemmas.{is_active, held_word, Fits, active_at, full_at, waiting_at, state_at, lawful_next}
 
@@ -231,21 +230,24 @@ answer_by_table h op reply after l = (only_answer h l op reply after, λ p. answ
 pub lawful_with_event : (h : List Event) (op : ChanOp) (e : Event) → IsLawful h → event_of op h ≡ Some e → IsLawful (h ++ e ∷ [])
 lawful_with_event h op e l is = (ready_of_table h op e l is).lawful
 
--- what a channel keeps, with one more event
+-- what a channel keeps beside its history
+abbrev pub IsKept : Flags → Option ℕ → List Event → Type 0
+IsKept flags register h =
+    IsLawful h × HasTwelveBitWords h × (flags ≡ flags_of h) × (register ≡ waiting h)
+
+-- the same with one more event
 pub kept_with_event : {flags flags' : Flags} {register register' : Option ℕ} {value h h' : List Event} → (e : Event) → IsKept flags register h → h ≡ value → IsLawful (value ++ e ∷ []) → HasTwelveBitWord e → flags' ≡ flags_after e → register' ≡ word_after e → h' ≡ h ++ e ∷ [] → IsKept flags' register' h'
 kept_with_event {h} e k same more bits flags_is register_is history_is =
     let lawful_more : IsLawful (h ++ e ∷ []) = rw same more in
     rw (flags_is, register_is, history_is) (
-    record {
-      lawful = lawful_more;
-      twelve_bits = All-push HasTwelveBitWord h e k.twelve_bits bits;
-      flags_are = sym (flags_by_table h e k.lawful lawful_more);
-      register_is = sym (word_by_table h e k.lawful lawful_more);
-    }
+      lawful_more,
+      All-push HasTwelveBitWord h e k.1 bits,
+      sym (flags_by_table h e k.0 lawful_more),
+      sym (word_by_table h e k.0 lawful_more),
     )
 
 -- a word is in the register exactly where the channel is full
 pub full_register : (flags : Flags) (register : Option ℕ) (h : List Event) → IsKept flags register h → is_some register ≡ full h
 full_register flags register h k =
-    let s = state_at h k.lawful in
-    ap is_some (k.register_is ∙ waiting_at h s.0 s.2) ∙ sym (full_at h s.0 s.2)
+    let s = state_at h k.0 in
+    ap is_some (k.3 ∙ waiting_at h s.0 s.2) ∙ sym (full_at h s.0 s.2)

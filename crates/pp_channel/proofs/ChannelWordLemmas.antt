@@ -14,8 +14,7 @@ use Rattle.pp_channel.specs.declared.word_step.WordStep.{WordStep}
 use Rattle.pp_channel.specs.Session.{puts, takes}
 use Rattle.pp_channel.specs.History.{IsLawful, HasTwelveBitWord, HasTwelveBitWords, active, full, waiting, last_stretch}
 use Rattle.pp_channel.specs.Answer.{IsReady, IsAnswer, channel_state, only_looks, reply_shown, event_by, event_of, flags_of, flags_after, word_after, reply_made}
-use Rattle.pp_channel.specs.ChannelWord.{packed, history_word, number_in, flags_in, register_in, greatest_number}
-use Rattle.pp_channel.specs.WordStep.{waiting_in, state_in, event_in, word_with, step_shown, step_by, step_from, StepsFrom}
+use Rattle.pp_channel.specs.ChannelWord.{packed, history_word, number_in, flags_in, register_in, greatest_number, waiting_in, state_in, event_in, word_with, step_by, step_from, StepsFrom}
 use Rattle.pp_channel.proofs.AnswerLemmas.{acts_where_made, answered_where_none, look_makes_none, ready_of_table, table_of_ready, none_without_ready, lawful_with_event, flags_by_table, word_by_table}
 
 -- what was packed is read again
@@ -155,7 +154,7 @@ abbrev FindsWorn : ChanOp → ℕ → WordStep → Type 0
 FindsWorn op word step = (only_looks op ≡ false) × (number_in word ≡ greatest_number) × (step ≡ WordStep.Worn)
 
 abbrev Shows : ChanOp → ℕ → WordStep → Type 0
-Shows op word step = (only_looks op ≡ false → number_in word ≢ greatest_number) × (event_in op word ≡ None) × (step ≡ step_shown op (flags_in word))
+Shows op word step = (only_looks op ≡ false → number_in word ≢ greatest_number) × (event_in op word ≡ None) × (step ≡ step_by op word None)
 
 abbrev Makes : ChanOp → ℕ → WordStep → Type 0
 Makes op word step = (only_looks op ≡ false) × (number_in word ≢ greatest_number)
@@ -193,7 +192,7 @@ stays_if : (look : Bool) (f : Flags) → Stays (shown_if look f)
 stays_if true f = tt
 stays_if false f = tt
 
-stays_where_shown : (op : ChanOp) (word : ℕ) (step : WordStep) → step ≡ step_shown op (flags_in word) → Stays step
+stays_where_shown : (op : ChanOp) (word : ℕ) (step : WordStep) → step ≡ step_by op word None → Stays step
 stays_where_shown op word step is = subst Stays (sym is) (stays_if (only_looks op) (flags_in word))
 
 pub stays_either : (step : WordStep) → ((f : Flags) × (step ≡ WordStep.Look f)) ⊎ ((f : Flags) × (step ≡ WordStep.Held f)) → Stays step

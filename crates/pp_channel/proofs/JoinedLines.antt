@@ -11,7 +11,7 @@ use Rattle.pp_channel.specs.ChannelNo.{channel_index}
 use Rattle.pp_channel.specs.LineState.{LineState, joined, all_joined, ForgetsNothing, AreClosed}
 use Rattle.pp_channel.specs.LineSteps.{IsLogOf, Tells}
 use Rattle.pp_channel.specs.LineView.{Knows}
-use Rattle.pp_channel.specs.RecordedHistory.{IsRecordedBy}
+use Rattle.pp_channel.specs.Merge.{IsRecordedBy}
 use Rattle.pp_channel.proofs.LineAnswers.{told_whole, closed_by}
 use Rattle.pp_channel.proofs.LineKnowledge.{knows_by_log}
 use Rattle.pp_channel.proofs.LineKeeping.{log_of_same, log_of_joined}

@@ -6,8 +6,7 @@ use Rattle.std.proofs.lemmas.Option.{slice_get-get_or, slice_get_within, get_or_
 use Rattle.pp_channel.specs.declared.event.Event.{Event}
 use Rattle.pp_channel.specs.History.{IsLawful, HasTwelveBitWords}
 use Rattle.pp_channel.specs.Answer.{flags_after, word_after}
-use Rattle.pp_channel.specs.Kept.{IsKept}
-use Rattle.pp_channel.proofs.AnswerLemmas.{flags_by_table, word_by_table}
+use Rattle.pp_channel.proofs.AnswerLemmas.{IsKept, flags_by_table, word_by_table}
 use Rattle.pp_channel.proofs.FrontLemmas.{lawful_front}
 
 last_split : {A : Type 0} (xs : List A) (x : A) → slice_get xs (length xs - 1) ≡ Some x → xs ≡ take (length xs - 1) xs ++ x ∷ []
@@ -25,15 +24,10 @@ kept_by_last h e is lawful bits =
     let less : IsLawful front = lawful_front front (e ∷ []) more in
     let Q : List Event → Type 0 = λ g. IsKept (flags_after e) (word_after e) g in
     let R : List Event → Type 0 = λ g. HasTwelveBitWords g in
-    subst Q (sym whole) (record {
-      lawful = more;
-      twelve_bits = subst R whole bits;
-      flags_are = sym (flags_by_table front e less more);
-      register_is = sym (word_by_table front e less more);
-    })
+    subst Q (sym whole) (more, subst R whole bits, sym (flags_by_table front e less more), sym (word_by_table front e less more))
 
 pub kept_by_none : (h : List Event) → slice_get h (length h - 1) ≡ None → IsLawful h → HasTwelveBitWords h → IsKept (record { active = false; full = false }) None h
-kept_by_none [] is lawful bits = record { lawful = lawful; twelve_bits = bits; flags_are = refl; register_is = refl }
+kept_by_none [] is lawful bits = (lawful, bits, refl, refl)
 kept_by_none (e ∷ h) is lawful bits =
     let some : slice_get (e ∷ h) (length h) ≡ Some (get_or (e ∷ h) (length h) e) = slice_get-get_or (e ∷ h) (length h) e (omega arith) in
     let none : slice_get (e ∷ h) (length h) ≡ None = ap (slice_get (e ∷ h)) (omega arith) ∙ is in

@@ -1,9 +1,10 @@
 -- What a call of a line answers, from what its steps told.
-use Rattle.std.proofs.Common.{◌≡◌, ℕ, ◌+◌, ◌<◌, ◌≤◌, List, [], ◌∷◌, ◌++◌, length, take, Some, None, refl, sym, ap, ◌∙◌, subst, arith, append_assoc, inl, inr}
+use Rattle.std.proofs.Common.{◌≡◌, ℕ, ◌+◌, ◌<◌, ◌≤◌, ◌==◌, List, [], ◌∷◌, ◌++◌, length, take, Some, None, refl, sym, ap, ◌∙◌, subst, arith, append_assoc, inl, inr}
 use Rattle.std.specs.Prelude.{Contains, Option, false, if◌then◌else◌, is_some, slice_set}
-use Rattle.std.proofs.lemmas.List.{length_push, length-take-le, take_all, take_at, get_or-set_same, set-set, set-get_or}
+use Rattle.std.specs.Option.{option_map, option_to_list}
+use Rattle.std.proofs.lemmas.List.{append-nil, length_push, length-take-le, take_all, take_at, get_or-set_same, set-set, set-get_or}
 use Rattle.std.proofs.lemmas.List.Elements.{All-weaker, All-contains, Contains-push}
-use Rattle.std.proofs.lemmas.Bool.{cases_eq}
+use Rattle.std.proofs.lemmas.Bool.{cases_eq, eq-eqb, ne_eqb}
 use Rattle.pp_channel.specs.declared.chan_op.ChanOp.{ChanOp}
 use Rattle.pp_channel.specs.declared.event.Event.{Event}
 use Rattle.pp_channel.specs.declared.event.Event.TheVariants.{Activate, Disconnect, Put, Take, Function}
@@ -14,21 +15,19 @@ use Rattle.pp_channel.specs.declared.flags.Flags.{Flags as FlagPair}
 use Rattle.pp_channel.specs.declared.entry.Entry.{Entry}
 use Rattle.pp_channel.specs.declared.rule.LineView.{LineView}
 use Rattle.pp_channel.specs.declared.word_step.WordStep.{WordStep}
-use Rattle.pp_channel.specs.Answer.{IsAnswer, IsReady, operation_of, reply_made, reply_shown, event_answered, flags_shown, only_looks, seen_with}
+use Rattle.pp_channel.specs.Answer.{IsAnswer, IsReady, operation_of, reply_made, reply_shown, event_answered, flags_shown, only_looks, seen_answered, seen_with}
 use Rattle.pp_channel.specs.ChannelNo.{channel_count, channel_index}
-use Rattle.pp_channel.specs.ChannelWord.{number_in, flags_in, greatest_number}
+use Rattle.pp_channel.specs.ChannelWord.{number_in, flags_in, greatest_number, event_in, state_in, step_from}
 use Rattle.pp_channel.specs.History.{IsLawful, HasTwelveBitWords}
 use Rattle.pp_channel.specs.Law.{KeepsLaw}
-use Rattle.pp_channel.specs.LineLog.{LogState, appended, looked, with_answer, with_made, with_seen, event_entry, look_entry}
+use Rattle.pp_channel.specs.LineLog.{LogState, appended, looked, with_seen, event_entry, look_entry}
 use Rattle.pp_channel.specs.LineState.{LineState, number_after, IsActed, IsWornOut, AreClosed}
 use Rattle.pp_channel.specs.LineSteps.{IsLogOf, Tells, IsLoad, IsWonExchange, IsLostExchange}
 use Rattle.pp_channel.specs.LineView.{finds, makes, Knows}
-use Rattle.pp_channel.specs.Merge.{Merges, no_opening}
+use Rattle.pp_channel.specs.Merge.{Merges, no_opening, IsRecordedBy}
 use Rattle.pp_channel.specs.Histories.{history_on}
 use Rattle.pp_channel.specs.MonotoneLog.{seen_on}
 use Rattle.pp_channel.specs.SharedWords.{IsFound}
-use Rattle.pp_channel.specs.RecordedHistory.{IsRecordedBy}
-use Rattle.pp_channel.specs.WordStep.{event_in, state_in, step_from}
 use Rattle.pp_channel.proofs.AnswerLemmas.{shown_makes_none, shows_flags}
 use Rattle.pp_channel.proofs.ChannelPlaces.{place_below}
 use Rattle.pp_channel.proofs.ChannelWordLemmas.{Stays, worn_by_table, shown_by_table, next_by_event, ready_at_word, answer_made, answer_shown, number_of_word}
@@ -43,12 +42,16 @@ put_back : (histories : List (List Event)) (c : ℕ) (h : List Event) → h ≡ 
 put_back histories c h is = ap (λ x. slice_set histories (channel_index c) x) is ∙ set-get_or histories (channel_index c) []
 
 -- an event is written as the answer to its operation
-written_by : (log : LogState) (c n : ℕ) (e : Event) → with_answer log c (operation_of e) n (reply_made e) ≡ appended log (event_entry c n e)
+written_by : (log : LogState) (c n : ℕ) (e : Event) → with_seen log c n (seen_answered (operation_of e) (reply_made e)) ≡ appended log (event_entry c n e)
 written_by log c n Activate = refl
 written_by log c n Disconnect = refl
 written_by log c n (Put w) = refl
 written_by log c n (Take w) = refl
 written_by log c n (Function w) = refl
+
+-- the events of a view after what an answer made
+abbrev with_made : List Entry → ℕ → ℕ → Option Event → List Entry
+with_made events c n made = events ++ option_to_list (option_map (event_entry c n) made)
 
 made_by : (events : List Entry) (c n : ℕ) (e : Event) → with_made events c n (event_answered (operation_of e) (reply_made e)) ≡ events ++ event_entry c n e ∷ []
 made_by events c n Activate = refl
@@ -56,6 +59,16 @@ made_by events c n Disconnect = refl
 made_by events c n (Put w) = refl
 made_by events c n (Take w) = refl
 made_by events c n (Function w) = refl
+
+none_made : (events : List Entry) (c n : ℕ) (made : Option Event) → made ≡ None → events ≡ with_made events c n made
+none_made events c n made none = sym (append-nil events) ∙ ap (with_made events c n) (sym none)
+
+-- an answer at once found one word, an exchange that was lost found two
+found_one : (n : ℕ) → n ∷ [] ≡ n ∷ (if n == n then [] else n ∷ [])
+found_one n = ap (λ b. n ∷ (if b then [] else n ∷ [])) (sym (eq-eqb n n refl))
+
+found_two : (n k : ℕ) → n < k → n ∷ k ∷ [] ≡ n ∷ (if k == n then [] else k ∷ [])
+found_two n k later = ap (λ b. n ∷ (if b then [] else k ∷ [])) (sym (ne_eqb k n (λ same. omega arith)))
 
 counted_by : (n : ℕ) (e : Event) → number_after n (reply_made e) ≡ n + 1
 counted_by n Activate = refl
@@ -109,7 +122,7 @@ module _ (line : LineState) {now : LineView} {c word : ℕ} (load : IsLoad c lin
   Looked after = IsNow line (looked line.log (look_entry c (number_in word) (flags_in word))) now after
 
   looked_at_once : (reply : Reply) (after : LineState) → Looked after
-      → with_answer line.log c op (number_in word) reply ≡ looked line.log (look_entry c (number_in word) (flags_in word))
+      → with_seen line.log c (number_in word) (seen_answered op reply) ≡ looked line.log (look_entry c (number_in word) (flags_in word))
       → event_answered op reply ≡ None
       → number_after (number_in word) reply ≡ number_in word
       → IsAnswer history op reply history
@@ -117,11 +130,11 @@ module _ (line : LineState) {now : LineView} {c word : ℕ} (load : IsLoad c lin
       → IsActed line c op (record { reply = reply; loaded = number_in word; number = number_in word }) after
   looked_at_once reply after is written none counted answer not_worn = record {
     words = word ∷ [];
-    words_found = (refl, refl);
+    words_found = found_one (number_in word);
     after_is = λ j. record {
       log = (is.log_is ∙ sym written) j;
       view = (is.view_is ∙ (load.after_is ∙ (λ i. record line.view {
-        events = with_made line.view.events c (number_in word) (sym none i);
+        events = none_made line.view.events c (number_in word) (event_answered op reply) none i;
         seen = slice_set line.view.seen (channel_index c) (sym counted i);
         found = line.view.found ++ record { channel = c; word = word } ∷ [];
       }))) j;
@@ -201,8 +214,8 @@ module _ (line : LineState) {now : LineView} {c word : ℕ} (load : IsLoad c lin
       counted : number_after (number_in word) reply ≡ number_in word + 1
       counted = ap (λ r. number_after (number_in word) r) reply_is ∙ counted_by (number_in word) e
 
-      written : with_answer line.log c op (number_in word) reply ≡ appended line.log (event_entry c (number_in word) e)
-      written = ap (λ r. with_answer line.log c op (number_in word) r) reply_is ∙ (ap (λ o. with_answer line.log c o (number_in word) (reply_made e)) (sym operation_is) ∙ written_by line.log c (number_in word) e)
+      written : with_seen line.log c (number_in word) (seen_answered op reply) ≡ appended line.log (event_entry c (number_in word) e)
+      written = ap (λ r. with_seen line.log c (number_in word) (seen_answered op r)) reply_is ∙ (ap (λ o. with_seen line.log c (number_in word) (seen_answered o (reply_made e))) (sym operation_is) ∙ written_by line.log c (number_in word) e)
 
       made : with_made line.view.events c (number_in word) (event_answered op reply) ≡ line.view.events ++ event_entry c (number_in word) e ∷ []
       made = ap (λ r. with_made line.view.events c (number_in word) (event_answered op r)) reply_is ∙ (ap (λ o. with_made line.view.events c (number_in word) (event_answered o (reply_made e))) (sym operation_is) ∙ made_by line.view.events c (number_in word) e)
@@ -224,7 +237,7 @@ module _ (line : LineState) {now : LineView} {c word : ℕ} (load : IsLoad c lin
       pub acted_made : IsActed line c op (record { reply = reply; loaded = number_in word; number = number_in word }) after
       acted_made = record {
         words = word ∷ [];
-        words_found = (refl, refl);
+        words_found = found_one (number_in word);
         after_is = λ j. record { log = (is.log_is ∙ sym written) j; view = view_made j; table = is.table_is j };
         histories = with_more made_on c (e ∷ []);
         known = line_knows is (subst (Knows after.view after.view.events) (sym (more_is made_on c (e ∷ []))) won.known_after);
@@ -273,7 +286,7 @@ module _ (line : LineState) {now : LineView} {c word : ℕ} (load : IsLoad c lin
         found = line.view.found ++ record { channel = c; word = word } ∷ record { channel = c; word = found } ∷ [];
       }
       view_lost = lost.load.after_is ∙ (ap (λ v. finds v c found) load.after_is ∙ (λ j. record line.view {
-        events = with_made line.view.events c (number_in found) (sym (shown_makes_none op (Held (flags_in found)) (flags_in found) refl) j);
+        events = none_made line.view.events c (number_in found) (event_answered op (Held (flags_in found))) (shown_makes_none op (Held (flags_in found)) (flags_in found) refl) j;
         seen = set-set line.view.seen (channel_index c) (number_in word) (number_in found) j;
         found = append_assoc line.view.found (record { channel = c; word = word } ∷ []) (record { channel = c; word = found } ∷ []) j;
       }))
@@ -283,7 +296,7 @@ module _ (line : LineState) {now : LineView} {c word : ℕ} (load : IsLoad c lin
           let above = lost.later in
           record {
             words = word ∷ found ∷ [];
-            words_found = (refl, refl, λ same. omega arith);
+            words_found = found_two (number_in word) (number_in found) above;
             after_is = λ j. record { log = is.log_is j; view = view_lost j; table = is.table_is j };
             histories = found_in;
             known = line_knows is lost.load.known_after;
@@ -308,9 +321,7 @@ number_later line after c op r acted =
 
 -- a line that holds every share tells the histories whole
 pub told_whole : {v : LineView} {log : List Entry} {c word : ℕ} → IsLogOf v log → (t : Tells v c word) → v.shares ≡ v.whole → IsRecordedBy log v.seen t.histories
-told_whole is tells all =
-    let known = knows_by_log is tells.known in
-    record { sound = known.sound; merged = (known.all_known all).merged; counted = (known.all_known all).seen }
+told_whole is tells all = (knows_by_log is tells.known).all_known all
 
 pub closed_by : (line : LineState) (histories : List (List Event)) → Knows line.view line.log.entries histories → line.view.shares ≡ line.view.whole → AreClosed line histories
 closed_by line histories known all = record {

@@ -139,5 +139,5 @@ knows_by_log {v} {log} {histories} is known =
       log_true = log_true;
       seen_happened = known.seen_happened;
       words_found = known.words_found;
-      all_known = λ all. record { merged = merges_same log (known.all_known all).merged is.told log_true; seen = (known.all_known all).seen };
+      all_known = λ all. record { sound = known.sound; merged = merges_same log (known.all_known all).merged is.told log_true; counted = (known.all_known all).counted };
     }

@@ -9,7 +9,7 @@ use Rattle.pp_channel.specs.declared.entry.Entry.{Entry}
 use Rattle.pp_channel.specs.declared.entry.Seen.{Seen}
 use Rattle.pp_channel.specs.declared.entry.Seen.TheVariants.{Did, Saw}
 use Rattle.pp_channel.specs.declared.reply.Reply.{Reply}
-use Rattle.pp_channel.specs.LineLog.{LogState, event_entry, look_entry, appended, looked, with_answer, with_seen}
+use Rattle.pp_channel.specs.LineLog.{LogState, event_entry, look_entry, appended, looked, with_seen}
 use Rattle.pp_channel.specs.Answer.{seen_answered}
 use Rattle.pp_channel.specs.MonotoneLog.{IsFollowedBy, IsMonotone, seen_on, IsWithin}
 use Rattle.pp_channel.proofs.LineKnowledge.{looked_either, last_replaced}
@@ -49,5 +49,5 @@ module _ (seen : List ℕ) (log : LogState) (c number : ℕ) (within : IsWithin 
   rising_seen (Some (Did e)) = rising_appended seen log (event_entry c number e) within later monotone
   rising_seen (Some (Saw f)) = rising_looked seen log (look_entry c number f) within later monotone
 
-  pub rising_answer : (op : ChanOp) (reply : Reply) → IsMonotone (with_answer log c op number reply).entries
+  pub rising_answer : (op : ChanOp) (reply : Reply) → IsMonotone (with_seen log c number (seen_answered op reply)).entries
   rising_answer op reply = rising_seen (seen_answered op reply)

@@ -17,10 +17,10 @@ use Rattle.pp_channel.specs.declared.entry.Seen.{Seen}
 use Rattle.pp_channel.specs.declared.entry.Seen.TheVariants.{Did, Saw}
 use Rattle.pp_channel.specs.declared.numbered.Numbered.{Numbered}
 use Rattle.pp_channel.specs.declared.reply.Reply.{Reply}
-use Rattle.pp_channel.specs.Answer.{IsAnswer}
+use Rattle.pp_channel.specs.Answer.{IsAnswer, seen_answered}
 use Rattle.pp_channel.specs.ChannelNo.{channel_count, channel_index}
 use Rattle.pp_channel.specs.Law.{IsPrefix}
-use Rattle.pp_channel.specs.LineLog.{is_event, appended, with_answer, event_entry}
+use Rattle.pp_channel.specs.LineLog.{is_event, appended, with_seen, event_entry}
 use Rattle.pp_channel.specs.LineState.{LineState, IsActed, IsWornOut, number_after}
 use Rattle.pp_channel.specs.Merge.{IsTrueAt, IsTrueOf, logs_event, times_logged, Merges, IsOpeningLog, no_opening}
 use Rattle.pp_channel.specs.Histories.{history_on}
@@ -174,7 +174,7 @@ activated line after c r named all none acted =
       done = done;
       written =
           ap (λ l. l.log) acted.after_is
-          ∙ ap (λ x. with_answer line.log c ChanOp.Activate r.number x) done
+          ∙ ap (λ x. with_seen line.log c r.number (seen_answered ChanOp.Activate x)) done
           ∙ ap (λ n. appended line.log (event_entry c n Activate)) first;
     }
 

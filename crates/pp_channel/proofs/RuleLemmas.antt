@@ -14,8 +14,8 @@ use Rattle.pp_channel.specs.ChannelNo.{channel_index, names_channel}
 use Rattle.pp_channel.specs.ChannelWord.{number_in}
 use Rattle.pp_channel.specs.History.{IsLawful, HasTwelveBitWords}
 use Rattle.pp_channel.specs.LineSteps.{Tells}
-use Rattle.pp_channel.specs.LineView.{finds, weighs_once, KnowsAll, Knows}
-use Rattle.pp_channel.specs.Merge.{IsTrueOf, Merges, no_opening, logs_event, times_logged}
+use Rattle.pp_channel.specs.LineView.{finds, weighs_once, Knows}
+use Rattle.pp_channel.specs.Merge.{IsRecordedBy, IsTrueOf, Merges, no_opening, logs_event, times_logged}
 use Rattle.pp_channel.specs.Histories.{history_on}
 use Rattle.pp_channel.specs.SharedWords.{word_place, IsViewOf, KeepsRule}
 use Rattle.pp_channel.proofs.ChannelPlaces.{place_below}
@@ -76,7 +76,7 @@ module _ (whole : ℕ) (words : List ℕ) (views : List LineView) (histories : L
   }
 
   -- a view with every share has every event
-  pub alone : (id : ℕ) (v : LineView) → get_elem? views id ≡ some v → v.shares ≡ whole → KnowsAll v v.events histories
+  pub alone : (id : ℕ) (v : LineView) → get_elem? views id ≡ some v → v.shares ≡ whole → IsRecordedBy v.events v.seen histories
   alone id v at has =
       let f = view_at id v at in
       let once : TellsOnce histories v.events = λ c number.
@@ -84,8 +84,9 @@ module _ (whole : ℕ) (words : List ℕ) (views : List LineView) (histories : L
       (All-weaker (IsViewOf histories whole) (λ w. w.shares ≡ 0 → times_in c number w ≡ 0) (λ w g z. ap (times_logged c number) (g.spent z)) views k.views_are))
       ∙ (sym (times-parts c number views) ∙ tells_once histories (all_events views) k.merged c number) in
       record {
+        sound = k.sound;
         merged = merges_by histories v.events once (events_at id v at);
-        seen = λ c. let top = f.seen_happened c in dite (ℕ_discrete (length (history_on c histories)) 0) (λ z. omega arith)
+        counted = λ c. let top = f.seen_happened c in dite (ℕ_discrete (length (history_on c histories)) 0) (λ z. omega arith)
             (λ n. let last : ℕ = length (history_on c histories) - 1 in
             let o = once c last in
             let i = once_inside last (length (history_on c histories)) (omega arith) in

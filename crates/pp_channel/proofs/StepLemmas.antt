@@ -15,7 +15,7 @@ use Rattle.pp_channel.specs.declared.rule.LineView.{LineView}
 use Rattle.pp_channel.specs.ChannelNo.{channel_count, channel_index, names_channel}
 use Rattle.pp_channel.specs.ChannelWord.{history_word, number_in}
 use Rattle.pp_channel.specs.History.{IsLawful, HasTwelveBitWord, HasTwelveBitWords}
-use Rattle.pp_channel.specs.LineSteps.{IsLoad, IsWonExchange, IsLostExchange, IsWeighing, loads, exchanges, weighs}
+use Rattle.pp_channel.specs.LineSteps.{IsLoad, IsWonExchange, IsLostExchange, IsWeighing, OnChannel, exchanges}
 use Rattle.pp_channel.specs.LineView.{finds, makes, weighs_once, Knows}
 use Rattle.pp_channel.specs.Merge.{IsTrueOf}
 use Rattle.pp_channel.specs.Histories.{history_on}
@@ -51,7 +51,7 @@ loaded whole words views histories k id v c names at live =
     }
 
 -- a load
-load_at : (whole slots id : ℕ) (me : M) (c : ℕ) → IsTrue (names_channel c) → Allows (Rule whole) slots id me (word_place c) (λ n. n) (loads (step slots (word_place c) 0 0 none) me)
+load_at : (whole slots id : ℕ) (me : M) (c : ℕ) → IsTrue (names_channel c) → Allows (Rule whole) slots id me (word_place c) (λ n. n) (OnChannel IsLoad (step slots (word_place c) 0 0 none) me)
 load_at whole slots id me c names s r _ at _ =
     let n : ℕ = get_or s.words (word_place c) 0 in
     let k = r.1 in
@@ -60,15 +60,15 @@ load_at whole slots id me c names s r _ at _ =
       keeps,
       tt,
       (r.0, subst (λ ws. KeepsRule whole ws (set s.views id w) r.0) (sym (set-get_or s.words (word_place c) 0)) (found_kept whole s.words s.views r.0 k id me.0 c names at)),
-      (refl, λ d on live. subst (λ t. IsLoad t me.0 n w) (one_channel c d names on.place) (loaded whole s.words s.views r.0 k id me.0 c names at live)),
+      (refl, λ d _ place live. subst (λ t. IsLoad t me.0 n w) (one_channel c d names place) (loaded whole s.words s.views r.0 k id me.0 c names at live)),
     )
 
-pub load_allowed : (whole slots id : ℕ) (me : M) (c i : ℕ) → i ≡ word_place c → i < place_count → Allows (Rule whole) slots id me i (λ n. n) (loads (step slots i 0 0 none) me)
+pub load_allowed : (whole slots id : ℕ) (me : M) (c i : ℕ) → i ≡ word_place c → i < place_count → Allows (Rule whole) slots id me i (λ n. n) (OnChannel IsLoad (step slots i 0 0 none) me)
 load_allowed whole slots id me c i place low =
-    subst (λ (j : ℕ). Allows (Rule whole) slots id me j (λ n. n) (loads (step slots j 0 0 none) me)) (sym place) (load_at whole slots id me c (named_word c i place low))
+    subst (λ (j : ℕ). Allows (Rule whole) slots id me j (λ n. n) (OnChannel IsLoad (step slots j 0 0 none) me)) (sym place) (load_at whole slots id me c (named_word c i place low))
 
 -- a load that is counted alone
-weighing_at : (whole slots id : ℕ) (me : M) (c : ℕ) → IsTrue (names_channel c) → Allows (Rule whole) slots id me (word_place c) (λ n. n) (weighs (step slots (word_place c) 0 0 none) me)
+weighing_at : (whole slots id : ℕ) (me : M) (c : ℕ) → IsTrue (names_channel c) → Allows (Rule whole) slots id me (word_place c) (λ n. n) (OnChannel IsWeighing (step slots (word_place c) 0 0 none) me)
 weighing_at whole slots id me c names s r _ at _ =
     let n : ℕ = get_or s.words (word_place c) 0 in
     let k = r.1 in
@@ -81,7 +81,7 @@ weighing_at whole slots id me c names s r _ at _ =
       (r.0, subst (λ ws. KeepsRule whole ws (set s.views id w) r.0) (sym (set-get_or s.words (word_place c) 0)) (weighed_kept whole s.words s.views r.0 k id me.0 at)),
       (
         refl,
-        λ d on live. subst (λ t. IsWeighing t me.0 n w) (one_channel c d names on.place) (record {
+        λ d _ place live. subst (λ t. IsWeighing t me.0 n w) (one_channel c d names place) (record {
           after_is = refl;
           shares_fit = let is = (view_at whole s.words s.views r.0 k id me.0 at).whole_is live in omega arith;
           tells = tells whole s.words s.views r.0 k id me.0 c names at live;
@@ -89,9 +89,9 @@ weighing_at whole slots id me c names s r _ at _ =
       ),
     )
 
-pub weighing_allowed : (whole slots id : ℕ) (me : M) (c i : ℕ) → i ≡ word_place c → i < place_count → Allows (Rule whole) slots id me i (λ n. n) (weighs (step slots i 0 0 none) me)
+pub weighing_allowed : (whole slots id : ℕ) (me : M) (c i : ℕ) → i ≡ word_place c → i < place_count → Allows (Rule whole) slots id me i (λ n. n) (OnChannel IsWeighing (step slots i 0 0 none) me)
 weighing_allowed whole slots id me c i place low =
-    subst (λ (j : ℕ). Allows (Rule whole) slots id me j (λ n. n) (weighs (step slots j 0 0 none) me)) (sym place) (weighing_at whole slots id me c (named_word c i place low))
+    subst (λ (j : ℕ). Allows (Rule whole) slots id me j (λ n. n) (OnChannel IsWeighing (step slots j 0 0 none) me)) (sym place) (weighing_at whole slots id me c (named_word c i place low))
 
 -- an event e on channel c
 module _ (whole : ℕ) (words : List ℕ) (views : List LineView) (histories : List (List Event)) (k : KeepsRule whole words views histories) (c : ℕ) (names : IsTrue (names_channel c)) (e : Event) (new : ℕ)
@@ -198,7 +198,7 @@ lost whole words views histories k id v was c before names at live from other =
     record {
       load = loaded whole words views histories k id v c names at live;
       later = later;
-      others = λ all. let known = (alone whole words views histories k id v at (all ∙ f.whole_is live)).seen c in omega arith;
+      others = λ all. let known = (alone whole words views histories k id v at (all ∙ f.whole_is live)).counted c in omega arith;
     }
 
 -- an exchange for any event that the history takes
@@ -218,7 +218,7 @@ exchange_at whole slots id me c expected new e was names live from next s r _ at
       keeps,
       tt,
       subst (λ b. Rule whole (stepped s (word_place c) (either b new n) id me.1 w keeps)) (sym (eq-eqb n expected hit)) (after whole s.words s.views h k c names e new takes, kept),
-      (refl, λ d on _. subst (Told w (eqb n expected)) (one_channel c d names on.place) (subst (λ b. Told w b c) (sym (eq-eqb n expected hit)) (won whole s.words s.views h k c names e new takes id me.0 at live))),
+      (refl, λ d _ place _. subst (Told w (eqb n expected)) (one_channel c d names place) (subst (λ b. Told w b c) (sym (eq-eqb n expected hit)) (won whole s.words s.views h k c names e new takes id me.0 at live))),
     ))
     (λ (miss : n ≢ expected). let w : LineView = finds me.0 c n in (
       w,
@@ -226,7 +226,7 @@ exchange_at whole slots id me c expected new e was names live from next s r _ at
       tt,
       subst (λ b. Rule whole (stepped s (word_place c) (either b new n) id me.1 w keeps)) (sym (ne_eqb n expected miss))
           (h, subst (λ ws. KeepsRule whole ws (set s.views id w) h) (sym (set-get_or s.words (word_place c) 0)) (found_kept whole s.words s.views h k id me.0 c names at)),
-      (refl, λ d on _. subst (Told w (eqb n expected)) (one_channel c d names on.place) (subst (λ b. Told w b c) (sym (ne_eqb n expected miss)) (lost whole s.words s.views h k id me.0 was c expected names at live from miss))),
+      (refl, λ d _ place _. subst (Told w (eqb n expected)) (one_channel c d names place) (subst (λ b. Told w b c) (sym (ne_eqb n expected miss)) (lost whole s.words s.views h k id me.0 was c expected names at live from miss))),
     ))
 
 pub exchange_allowed : (whole slots id : ℕ) (me : M) (c i expected new : ℕ) (e : Event) (was : LineView) → i ≡ word_place c → i < place_count → 0 < me.0.shares → me.0 ≡ finds was c expected

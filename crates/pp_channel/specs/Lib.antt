@@ -5,7 +5,6 @@ pub mod Histories
 pub mod Answer
 pub mod Law
 pub mod ChannelWord
-pub mod WordStep
 pub mod Locked
 pub mod LineLog
 pub mod Merge
@@ -14,6 +13,4 @@ pub mod SharedWords
 pub mod LineView
 pub mod LineState
 -- cited by private contracts alone: nobody has to read these to believe what the crate promises
-pub mod Kept
 pub mod LineSteps
-pub mod RecordedHistory

@@ -1,14 +1,10 @@
 -- The log that a line writes of what it did and saw.
 use Rattle.std.specs.Prelude.{ℕ, ◌-◌, ◌==◌, ◌&&◌, Bool, true, false, not, List, [], ◌∷◌, ◌++◌, length, slice_set, Option, Some, None, if◌then◌else◌}
 use Rattle.std.specs.List.{last_or}
-use Rattle.pp_channel.specs.declared.chan_op.ChanOp.{ChanOp}
 use Rattle.pp_channel.specs.declared.event.Event.{Event}
 use Rattle.pp_channel.specs.declared.flags.Flags.{Flags}
-use Rattle.pp_channel.specs.declared.reply.Reply.{Reply}
 use Rattle.pp_channel.specs.declared.entry.Entry.{Entry}
 use Rattle.pp_channel.specs.declared.entry.Seen.{Seen}
-use Rattle.pp_channel.specs.declared.numbered.Numbered.{Numbered}
-use Rattle.pp_channel.specs.Answer.{event_answered, seen_answered}
 
 -- A log: its entries in order, how many more it has room for, and whether its last entry is kept
 -- when a look at the same channel follows.
@@ -51,30 +47,12 @@ ends_in_look_at c log = not log.kept && is_look_at c (last_or None log.entries)
 abbrev pub looked : LogState → Entry → LogState
 looked log entry =
     if ends_in_look_at entry.channel log
-    then record {
-      entries = slice_set log.entries (length log.entries - 1) entry;
-      room = log.room;
-      kept = false;
-    }
+    then record log { entries = slice_set log.entries (length log.entries - 1) entry; kept = false }
     else appended log entry
 
--- an event gets an entry of its own, a look may take the place of another
+-- The log after an operation on channel c saw or did this: an event gets an entry of its own, a
+-- look may take the place of another.
 abbrev pub with_seen : LogState → ℕ → ℕ → Option Seen → LogState
 with_seen log c number None = log
 with_seen log c number (Some (Seen.Did e)) = appended log (event_entry c number e)
 with_seen log c number (Some (Seen.Saw f)) = looked log (look_entry c number f)
-
-abbrev pub with_answer : LogState → ℕ → ChanOp → ℕ → Reply → LogState
-with_answer log c op number reply = with_seen log c number (seen_answered op reply)
-
--- The log after an answer to an operation on channel c.
-abbrev pub log_after : LogState → ℕ → ChanOp → Numbered → LogState
-log_after log c op r = with_answer log c op r.number r.reply
-
--- the events that a line has made, after an answer
-abbrev pub with_made : List Entry → ℕ → ℕ → Option Event → List Entry
-with_made events c number None = events
-with_made events c number (Some e) = events ++ event_entry c number e ∷ []
-
-abbrev pub events_after : List Entry → ℕ → ChanOp → Numbered → List Entry
-events_after events c op r = with_made events c r.number (event_answered op r.reply)

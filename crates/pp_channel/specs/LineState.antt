@@ -1,20 +1,20 @@
 -- A line as contracts see it: what it holds, what it knows of the channels' histories, and how its
 -- calls change it.
-use Rattle.std.specs.Prelude.{◌≡◌, ◌≢◌, ℕ, ◌+◌, ◌<◌, ◌≤◌, List, [], ◌∷◌, ◌++◌, length, map, take, All, slice_set, true, false, is_some, if◌then◌else◌}
+use Rattle.std.specs.Prelude.{◌≡◌, ◌≢◌, ℕ, ◌+◌, ◌<◌, ◌≤◌, ◌==◌, List, [], ◌∷◌, ◌++◌, length, map, take, All, slice_set, true, false, is_some, if◌then◌else◌}
 use Rattle.std.specs.List.{fold}
+use Rattle.std.specs.Option.{option_map, option_to_list}
 use Rattle.atomic_table.specs.Seated.{TableId}
 use Rattle.pp_channel.specs.declared.chan_op.ChanOp.{ChanOp}
 use Rattle.pp_channel.specs.declared.event.Event.{Event}
 use Rattle.pp_channel.specs.declared.numbered.Numbered.{Numbered}
 use Rattle.pp_channel.specs.declared.reply.Reply.{Reply}
-use Rattle.pp_channel.specs.declared.rule.FoundWord.{FoundWord}
 use Rattle.pp_channel.specs.declared.rule.LineView.{LineView}
-use Rattle.pp_channel.specs.Answer.{IsAnswer, IsReady, flags_of, flags_shown, only_looks}
+use Rattle.pp_channel.specs.Answer.{IsAnswer, IsReady, event_answered, flags_of, flags_shown, only_looks, seen_answered}
 use Rattle.pp_channel.specs.ChannelNo.{channel_index}
 use Rattle.pp_channel.specs.ChannelWord.{number_in, greatest_number}
 use Rattle.pp_channel.specs.Law.{KeepsLaw}
-use Rattle.pp_channel.specs.LineLog.{LogState, empty_log, log_after, events_after}
-use Rattle.pp_channel.specs.LineView.{first_view, child_view, joined_view, weighs_once, finds, Knows}
+use Rattle.pp_channel.specs.LineLog.{LogState, empty_log, event_entry, with_seen}
+use Rattle.pp_channel.specs.LineView.{child_view, joined_view, weighs_once, finds, Knows}
 use Rattle.pp_channel.specs.Merge.{Merges, no_opening}
 use Rattle.pp_channel.specs.Histories.{history_on}
 use Rattle.pp_channel.specs.MonotoneLog.{seen_on}
@@ -29,11 +29,6 @@ pub record LineState : Type 0 where
   pub view : LineView
   pub table : TableId
 
--- The first line of its family: it holds every share, and has seen nothing.
-pub record IsOpened (room lines : ℕ) (line : LineState) : Type 0 where
-  pub log : line.log ≡ empty_log room
-  pub view : line.view ≡ first_view lines
-
 -- A line of one share that was split from another: it has seen what the other has seen, and has an
 -- empty log of its own.
 pub record IsSplitFrom (parent : LineState) (room : ℕ) (line : LineState) : Type 0 where
@@ -44,24 +39,14 @@ pub record IsSplitFrom (parent : LineState) (room : ℕ) (line : LineState) : Ty
 -- Two lines as one: the entries of the first and then those of the second, the room of the first,
 -- and what both know, with the shares of both, which it has weighed once more.
 abbrev pub joined : LineState → LineState → LineState
-joined line other = record {
-  log = record {
-    entries = line.log.entries ++ other.log.entries;
-    room = line.log.room;
-    kept = true;
-  };
+joined line other = record line {
+  log = record line.log { entries = line.log.entries ++ other.log.entries; kept = true };
   view = weighs_once (joined_view line.view other.view);
-  table = line.table;
 }
 
 -- a line and others as one, joined in their order
 abbrev pub all_joined : LineState → List LineState → LineState
 all_joined line others = fold joined line others
-
--- A line and others that hold every share of their family between them.
-pub record HoldEveryShare (line : LineState) (others : List LineState) : Type 0 where
-  pub tables : All (λ other. other.table ≡ line.table) others
-  pub shares : (all_joined line others).view.shares ≡ line.view.whole
 
 -- Of each channel the line afterwards has seen at least as many events as this one.
 abbrev pub ForgetsNothing : LineState → LineState → Type 0
@@ -85,26 +70,16 @@ pub record IsAnsweredBy (history : List Event) (op : ChanOp) (r : Numbered) : Ty
   pub at_once : r.number ≡ r.loaded → IsAnswer (take r.loaded history) op r.reply history
   pub lost : r.number ≢ r.loaded → IsLost history op r
 
--- The words that an answer found: the one that it loaded and, if the exchange was lost, the one
--- that stood there instead.
-abbrev pub AreFoundBy : Numbered → List ℕ → Type 0
-AreFoundBy r [] = ⊥
-AreFoundBy r (word ∷ []) = (number_in word ≡ r.loaded) × (r.number ≡ r.loaded)
-AreFoundBy r (word ∷ other ∷ []) =
-    (number_in word ≡ r.loaded) × (number_in other ≡ r.number) × (r.number ≢ r.loaded)
-AreFoundBy r (word ∷ other ∷ more ∷ rest) = ⊥
-
-abbrev pub found_on : ℕ → List ℕ → List FoundWord
-found_on c words = map (λ word. record { channel = c; word = word }) words
-
--- The line after an answer to an operation on channel c.
+-- The line after an answer to an operation on channel c that found these words: its log tells what
+-- the operation saw or did, and its view has the event, if there was one.
 abbrev pub answered : LineState → ℕ → ChanOp → Numbered → List ℕ → LineState
 answered line c op r words = record line {
-  log = log_after line.log c op r;
+  log = with_seen line.log c r.number (seen_answered op r.reply);
   view = record line.view {
-    events = events_after line.view.events c op r;
+    events = line.view.events
+        ++ option_to_list (option_map (event_entry c r.number) (event_answered op r.reply));
     seen = slice_set line.view.seen (channel_index c) (number_after r.number r.reply);
-    found = line.view.found ++ found_on c words;
+    found = line.view.found ++ map (λ word. record { channel = c; word = word }) words;
   };
 }
 
@@ -112,8 +87,10 @@ answered line c op r words = record line {
 -- this answer.
 pub record IsActed (line : LineState) (c : ℕ) (op : ChanOp) (r : Numbered) (after : LineState)
     : Type 0 where
+  -- it found the word that it loaded and, if the exchange was lost, the word that stood there then
   pub words : List ℕ
-  pub words_found : AreFoundBy r words
+  pub words_found : map number_in words
+      ≡ r.loaded ∷ (if r.number == r.loaded then [] else r.number ∷ [])
   pub after_is : after ≡ answered line c op r words
   pub histories : List (List Event)
   pub known : Knows after.view after.log.entries histories

@@ -42,20 +42,19 @@ pub record Tells (v : LineView) (c word : ℕ) : Type 0 where
   pub known : Knows v v.events histories
   pub word_is : history_word (history_on c histories) ≡ word
 
--- that a step is one on the word of channel c
-pub record IsOn (c : ℕ) (step : Step Event) : Type 0 where
-  pub names : IsTrue (names_channel c)
-  pub place : step.word ≡ word_place c
+-- A step on the word of a channel, of a line that has a share, relates the line's view, the word
+-- that it finds and the view after it so; the line's slots stay.
+abbrev pub OnChannel : (ℕ → LineView → ℕ → LineView → Type 0) → Step Event → Me Event LineView
+    → ℕ → Me Event LineView → Type 0
+OnChannel Does step before word after = (after.1 ≡ before.1)
+    × ((c : ℕ) → IsTrue (names_channel c) → step.word ≡ word_place c → 0 < before.0.shares
+    → Does c before.0 word after.0)
 
 -- A load: the word is noted.
 pub record IsLoad (c : ℕ) (before : LineView) (word : ℕ) (after : LineView) : Type 0 where
   pub after_is : after ≡ finds before c word
   pub tells : Tells before c word
   pub known_after : Knows after after.events tells.histories
-
-abbrev pub loads : Step Event → Me Event LineView → ℕ → Me Event LineView → Type 0
-loads step before word after = (after.1 ≡ before.1)
-    × ((c : ℕ) → IsOn c step → 0 < before.0.shares → IsLoad c before.0 word after.0)
 
 -- An exchange that was won: the event was made, and is the next of its channel.
 pub record IsWonExchange (c : ℕ) (before : LineView) (word : ℕ) (e : Event) (after : LineView)
@@ -79,21 +78,16 @@ IsExchange c expected e before word after =
     MatchBool (word == expected) (IsWonExchange c before word e after)
     (IsLostExchange c expected before word after)
 
+-- the exchange of a step, which is for the event that the step announces
 abbrev pub announced : ℕ → ℕ → Option Event → LineView → ℕ → LineView → Type 0
 announced c expected none before word after = ⊥
 announced c expected (some e) before word after = IsExchange c expected e before word after
 
 abbrev pub exchanges : Step Event → Me Event LineView → ℕ → Me Event LineView → Type 0
-exchanges step before word after = (after.1 ≡ before.1)
-    × ((c : ℕ) → IsOn c step → 0 < before.0.shares
-    → announced c step.first step.said before.0 word after.0)
+exchanges step = OnChannel (λ c. announced c step.first step.said) step
 
 -- A load that is counted alone, and tells that a line has no more shares than there are.
 pub record IsWeighing (c : ℕ) (before : LineView) (word : ℕ) (after : LineView) : Type 0 where
   pub after_is : after ≡ weighs_once before
   pub shares_fit : before.shares ≤ before.whole
   pub tells : Tells before c word
-
-abbrev pub weighs : Step Event → Me Event LineView → ℕ → Me Event LineView → Type 0
-weighs step before word after = (after.1 ≡ before.1)
-    × ((c : ℕ) → IsOn c step → 0 < before.0.shares → IsWeighing c before.0 word after.0)

@@ -6,30 +6,27 @@ use Rattle.pp_channel.specs.declared.rule.LineView.{LineView}
 use Rattle.pp_channel.specs.ChannelNo.{channel_count, channel_index}
 use Rattle.pp_channel.specs.ChannelWord.{number_in}
 use Rattle.pp_channel.specs.LineLog.{event_entry}
-use Rattle.pp_channel.specs.Merge.{IsTrueOf, Merges, no_opening}
+use Rattle.pp_channel.specs.Merge.{IsTrueOf, IsRecordedBy}
 use Rattle.pp_channel.specs.Histories.{AreHistories, history_on}
 use Rattle.pp_channel.specs.MonotoneLog.{seen_on}
 use Rattle.pp_channel.specs.SharedWords.{IsFound}
 
+-- the view of a line with these shares that made no event and found no word, and has seen so many
+-- events of each channel
+abbrev pub blank_view : ℕ → ℕ → List ℕ → LineView
+blank_view shares whole seen =
+    record { shares = shares; whole = whole; events = []; found = []; weighed = 0; seen = seen }
+
 -- the view of the first line, which has all shares
 abbrev pub first_view : ℕ → LineView
-first_view whole =
-    record {
-      shares = whole;
-      whole = whole;
-      events = [];
-      found = [];
-      weighed = 0;
-      seen = replicate channel_count 0;
-    }
+first_view whole = blank_view whole whole (replicate channel_count 0)
 
 -- the views of a line that gives a share away, and of the new line that has it
 abbrev pub parent_view : LineView → LineView
 parent_view v = record v { shares = v.shares - 1 }
 
 abbrev pub child_view : LineView → LineView
-child_view v =
-    record { shares = 1; whole = v.whole; events = []; found = []; weighed = 0; seen = v.seen }
+child_view v = blank_view 1 v.whole v.seen
 
 -- the greater number for each channel
 abbrev pub greater_of_each : List ℕ → List ℕ → List ℕ
@@ -37,9 +34,8 @@ greater_of_each seen other = map (λ pair. max pair.0 pair.1) (zip seen other)
 
 -- the view of two lines as one, and what is left of the other
 abbrev pub joined_view : LineView → LineView → LineView
-joined_view v w = record {
+joined_view v w = record v {
   shares = v.shares + w.shares;
-  whole = v.whole;
   events = v.events ++ w.events;
   found = v.found ++ w.found;
   weighed = v.weighed + w.weighed;
@@ -47,7 +43,7 @@ joined_view v w = record {
 }
 
 abbrev pub spent_view : LineView
-spent_view = record { shares = 0; whole = 0; events = []; found = []; weighed = 0; seen = [] }
+spent_view = blank_view 0 0 []
 
 -- the view after a word was found on channel c
 abbrev pub finds : LineView → ℕ → ℕ → LineView
@@ -67,17 +63,12 @@ makes v c number e = record v {
 abbrev pub weighs_once : LineView → LineView
 weighs_once v = record v { weighed = v.weighed + 1 }
 
--- A line that holds every share knows all that happened.
-pub record KnowsAll (v : LineView) (log : List Entry) (histories : List (List Event)) : Type 0 where
-  pub merged : Merges no_opening histories log
-  pub seen : (c : ℕ) → seen_on c v.seen ≡ length (history_on c histories)
-
 -- A line knows of the histories of the channels: they are lawful, with words of 12 bits; its log is
 -- true of them; it has seen no more events than they have, and each word that it found is that of a
--- front of one.
+-- front of one. If it holds every share, it knows all that happened.
 pub record Knows (v : LineView) (log : List Entry) (histories : List (List Event)) : Type 0 where
   pub sound : AreHistories histories
   pub log_true : All (IsTrueOf histories) log
   pub seen_happened : (c : ℕ) → seen_on c v.seen ≤ length (history_on c histories)
   pub words_found : All (IsFound histories) v.found
-  pub all_known : v.shares ≡ v.whole → KnowsAll v log histories
+  pub all_known : v.shares ≡ v.whole → IsRecordedBy log v.seen histories

@@ -1,13 +1,15 @@
 -- What logs say of the histories of the channels.
-use Rattle.std.specs.Prelude.{◌≡◌, ℕ, ◌<◌, ◌≤◌, ◌⊎◌, ◌==◌, ◌&&◌, Bool, List, [], length, All, count_by, take, slice_get, Some}
+use Rattle.std.specs.Prelude.{◌≡◌, ℕ, ◌<◌, ◌≤◌, ◌⊎◌, ◌==◌, ◌&&◌, Bool, List, [], length, All, count_by, take, slice_get, slice_index_or, slice_set, Some}
 use Rattle.pp_channel.specs.declared.event.Event.{Event}
 use Rattle.pp_channel.specs.declared.entry.Entry.{Entry}
 use Rattle.pp_channel.specs.declared.entry.Seen.{Seen}
 use Rattle.pp_channel.specs.declared.entry.Seen.TheVariants.{Did, Saw}
 use Rattle.pp_channel.specs.Answer.{flags_of}
-use Rattle.pp_channel.specs.Histories.{history_on}
+use Rattle.pp_channel.specs.ChannelNo.{channel_index}
+use Rattle.pp_channel.specs.Histories.{AreHistories, history_on}
 use Rattle.pp_channel.specs.Law.{IsPrefix}
 use Rattle.pp_channel.specs.LineLog.{is_event}
+use Rattle.pp_channel.specs.MonotoneLog.{seen_on}
 
 -- An event in a log is the one at its number of the history h; a look shows the flags after that
 -- many events of h.
@@ -49,3 +51,21 @@ pub record IsOpeningLog (opening : ℕ → List Event) (log : List Entry) : Type
 -- no channel has an opening history
 abbrev pub no_opening : ℕ → List Event
 no_opening c = []
+
+-- The log records these histories whole, and their lengths are the numbers seen.
+pub record IsRecordedBy (log : List Entry) (seen : List ℕ) (histories : List (List Event)) : Type 0
+  where
+    pub sound : AreHistories histories
+    pub merged : Merges no_opening histories log
+    pub counted : (c : ℕ) → seen_on c seen ≡ length (history_on c histories)
+
+-- the histories of all channels in order, with the event of an entry put at its number in that of
+-- its channel (private contracts alone cite this)
+abbrev pub with_recorded : List (List Event) → ℕ → ℕ → Seen → List (List Event)
+with_recorded histories place number (Did e) =
+    slice_set histories place (slice_set (slice_index_or histories place []) number e)
+with_recorded histories place number (Saw f) = histories
+
+abbrev pub with_entry : List (List Event) → Entry → List (List Event)
+with_entry histories entry =
+    with_recorded histories (channel_index entry.channel) entry.number entry.what

@@ -25,15 +25,18 @@ pub struct Channel<A: Allocator> {
 }
 
 impl<A: Allocator> Model for Channel<A> {
-    ghost use Rattle.std.specs.Prelude.{List};
+    ghost use Rattle.std.specs.Prelude.{◌≡◌, List};
     ghost use Rattle.pp_channel.specs.declared.event.Event.{Event};
-    ghost use Rattle.pp_channel.specs.Kept.{IsKept};
+    ghost use Rattle.pp_channel.specs.History.{IsLawful, HasTwelveBitWords, waiting};
+    ghost use Rattle.pp_channel.specs.Answer.{flags_of};
 
     ghost Value = { List Event };
 
     ghost view = { λ c. c.events.items };
 
-    ghost invariant = { λ c. IsKept c.flags c.register c.events.items };
+    // The history is lawful, its words have 12 bits, and flags and register are those of it.
+    ghost invariant = { λ c. IsLawful c.events.items × HasTwelveBitWords c.events.items
+        × (c.flags ≡ flags_of c.events.items) × (c.register ≡ waiting c.events.items) };
 }
 
 impl<A: Allocator> Channel<A> {

@@ -7,10 +7,10 @@ ghost use Rattle.pp_channel.specs.declared.event.Event.{Event};
 ghost use Rattle.pp_channel.specs.ChannelNo.{channel_count};
 ghost use Rattle.pp_channel.specs.MonotoneLog.{IsMonotone, IsWithin, seen_on};
 ghost use Rattle.pp_channel.specs.declared.rule.LineView.{LineView};
-ghost use Rattle.pp_channel.specs.LineLog.{event_entry, look_entry, appended, looked};
-ghost use Rattle.pp_channel.specs.LineState.{LineState, IsOpened, IsSplitFrom, joined, ForgetsNothing, IsActed, IsWornOut, AreClosed};
+ghost use Rattle.pp_channel.specs.LineLog.{empty_log, event_entry, look_entry, appended, looked};
+ghost use Rattle.pp_channel.specs.LineState.{LineState, IsSplitFrom, joined, ForgetsNothing, IsActed, IsWornOut, AreClosed};
 ghost use Rattle.pp_channel.specs.LineSteps.{IsLoad, IsWonExchange, IsLostExchange, IsLogOf};
-ghost use Rattle.pp_channel.specs.LineView.{finds, parent_view, weighs_once, greater_of_each};
+ghost use Rattle.pp_channel.specs.LineView.{first_view, finds, parent_view, weighs_once, greater_of_each};
 ghost use Rattle.pp_channel.specs.ChannelWord.{history_word, number_in, flags_in};
 ghost use Rattle.pp_channel.specs.History.{IsLawful, HasTwelveBitWord, HasTwelveBitWords};
 
@@ -67,7 +67,8 @@ impl<A: Allocator> Model for Line<A> {
 /// shares, at least 1, with room for `room` entries in its log.
 pub fn open_lines<A: Allocator + Copy>(alloc: A, room: u32, lines: u32) -> Result<Line<A>, Memory>
     requires { 1 ≤ lines }
-    ensures { IfOk result (λ line. IsOpened room lines line) }
+    ensures log { IfOk result (λ line. line.log ≡ empty_log room) }
+    ensures view { IfOk result (λ line. line.view ≡ first_view lines) }
 {
     let log = LineLog::new(alloc, room)?;
     let words = SharedWords::open(alloc, u64::from(lines))?;

@@ -140,10 +140,8 @@ impl<A: Allocator> LineLog<A> {
 
     /// The entries of another log come to the end.
     pub fn append(&mut self, other: &LineLog<A>) -> Result<(), Memory>
-        ensures ok { OnOk result (self.new ≡ record {
-          entries = self.old.entries
-              ++ other.now.entries;
-          room = self.old.room;
+        ensures ok { OnOk result (self.new ≡ record self.old {
+          entries = self.old.entries ++ other.now.entries;
           kept = true;
         }) }
         ensures unchanged_after_memory { OnErr result (self.new ≡ self.old) }

@@ -4,7 +4,7 @@ ghost use Rattle.std.specs.Prelude.{◌≡◌, ℕ, ◌<◌, ◌++◌, List, [],
 ghost use Rattle.std.specs.List.{flat_map, fold};
 ghost use Rattle.pp_channel.specs.ChannelNo.{channel_count};
 ghost use Rattle.pp_channel.specs.declared.event.Event.{Event};
-ghost use Rattle.pp_channel.specs.RecordedHistory.{IsRecordedBy, with_entry};
+ghost use Rattle.pp_channel.specs.Merge.{IsRecordedBy, with_entry};
 
 use crate::channel::Channel;
 use crate::channel_no::CHANNELS;

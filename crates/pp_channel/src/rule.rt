@@ -42,9 +42,9 @@ impl TableRule<Event, LineView, u64> for ChannelRule {
 pub struct Load;
 
 impl Play<Event, LineView> for Load {
-    ghost use Rattle.pp_channel.specs.LineSteps.{loads};
+    ghost use Rattle.pp_channel.specs.LineSteps.{OnChannel, IsLoad};
 
-    ghost then = { loads };
+    ghost then = { OnChannel IsLoad };
 }
 
 /// An exchange for an event.
@@ -60,9 +60,9 @@ impl Play<Event, LineView> for Exchange {
 pub struct Weigh;
 
 impl Play<Event, LineView> for Weigh {
-    ghost use Rattle.pp_channel.specs.LineSteps.{weighs};
+    ghost use Rattle.pp_channel.specs.LineSteps.{OnChannel, IsWeighing};
 
-    ghost then = { weighs };
+    ghost then = { OnChannel IsWeighing };
 }
 
 /// A share for another line.

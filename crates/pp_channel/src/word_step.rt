@@ -1,10 +1,9 @@
 //! One step of a channel word.
 
-ghost use Rattle.std.specs.Prelude.{◌≡◌, ◌<◌, ◌≤◌, List, IfSome};
+ghost use Rattle.std.specs.Prelude.{◌≡◌, ◌<◌, ◌≤◌, List, None, IfSome};
 ghost use Rattle.pp_channel.specs.declared.event.Event.{Event};
-ghost use Rattle.pp_channel.specs.ChannelWord.{history_word, number_in, flags_in, register_in, greatest_number};
+ghost use Rattle.pp_channel.specs.ChannelWord.{history_word, number_in, flags_in, register_in, greatest_number, step_from, step_by, event_in, state_in, waiting_in, word_with, StepsFrom};
 ghost use Rattle.pp_channel.specs.History.{IsLawful, HasTwelveBitWord, HasTwelveBitWords};
-ghost use Rattle.pp_channel.specs.WordStep.{step_from, step_shown, event_in, state_in, waiting_in, word_with, StepsFrom};
 
 use crate::answer::{event_by, flags_after, reply_made};
 use crate::chan_op::ChanOp;
@@ -53,18 +52,18 @@ pub fn advance(word: u64, op: ChanOp) -> WordStep
     }
     match next_event_in(word, &op) {
         Some(event) => WordStep::Next(word_with(word, &event), reply_made(&event)),
-        None => step_shown(&op, flags_in(word)),
+        None => step_shown(&op, word),
     }
 }
 
 /// The step where an operation makes no event.
-fn step_shown(op: &ChanOp, flags: Flags) -> WordStep
-    ensures { result ≡ step_shown op.now flags }
+fn step_shown(op: &ChanOp, word: u64) -> WordStep
+    ensures { result ≡ step_by op.now word None }
 {
     if op.only_looks() {
-        WordStep::Look(flags)
+        WordStep::Look(flags_in(word))
     } else {
-        WordStep::Held(flags)
+        WordStep::Held(flags_in(word))
     }
 }
 

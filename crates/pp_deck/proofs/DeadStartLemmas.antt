@@ -1,6 +1,6 @@
 -- A loaded deck at dead start: who waits, on which channel, and what stays as the lines set it.
 use Rattle.std.proofs.Common.{◌≡◌, ℕ, ◌<◌, ◌≤◌, ◌&&◌, Bool, true, false, IsTrue, List, [], ◌∷◌, length, replicate, get_or, if◌then◌else◌, refl, sym, ap, ◌∙◌, arith, inl, inr}
-use Rattle.std.specs.Prelude.{not, nat_lt, slice_index_or}
+use Rattle.std.specs.Prelude.{Contains, not, nat_lt, slice_index_or}
 use Rattle.std.proofs.lemmas.Bool.{ltb-true, ltb-false, le-ltb}
 use Rattle.std.proofs.lemmas.Bool.Decides.{leb_tells}
 use Rattle.std.proofs.lemmas.List.{ext_get_or, get_or_past, get_or-replicate, get_or_default, length-replicate}
@@ -18,7 +18,7 @@ use Rattle.pp_machine.specs.Profile.{processors_in, has_processor}
 use Rattle.pp_machine.proofs.ProcessorPlaces.{channel_of_processor}
 use Rattle.pp_machine.proofs.ProcessorPlaces as processor_places
 use Rattle.pp_machine.proofs.ProfileLemmas.{unnamed_lacks, has_at}
-use Rattle.pp_deck.specs.DeckLaw.{AsksForDeadStart, IsNamed, Waits}
+use Rattle.pp_deck.specs.DeckLaw.{Waits}
 use Rattle.pp_deck.specs.DeckLine.{Line, nothing, central_size, central_words, section, start, words, dead_start}
 use Rattle.pp_deck.specs.DeckLoad.{is_dead_start, asks_dead_start, is_named, each_processor, processor_loaded, tabulate}
 use Rattle.pp_deck.specs.DeckMeaning.{LoadedDeck, set_by, unnamed_in, with_dead_start}
@@ -48,10 +48,10 @@ opened_at list m c named =
 
 -- ---- who waits
 
-some_asks : (lines : List Line) → asks_dead_start lines ≡ true → AsksForDeadStart lines
+some_asks : (lines : List Line) → asks_dead_start lines ≡ true → Contains lines dead_start
 some_asks lines e =
     let h = Any-from_list_any is_dead_start lines e in
-    record { line = h.0; within = h.2; asks = get_or_default lines h.0 nothing h.1 h.2 ∙ h.3 ∙ is_request h.1 h.4 }
+    (h.0, h.2, get_or_default lines h.0 dead_start h.1 h.2 ∙ h.3 ∙ is_request h.1 h.4)
   where
     is_request : (line : Line) → is_dead_start line ≡ true → line ≡ dead_start
     is_request dead_start e = refl
@@ -62,8 +62,8 @@ some_asks lines e =
     is_request (start p a) e = absurd (cc)
     is_request (words x ws) e = absurd (cc)
 
-asked_some : (lines : List Line) → AsksForDeadStart lines → asks_dead_start lines ≡ true
-asked_some lines h = list_any_at is_dead_start lines h.line nothing h.within (ap is_dead_start h.asks)
+asked_some : (lines : List Line) → Contains lines dead_start → asks_dead_start lines ≡ true
+asked_some lines h = list_any_at is_dead_start lines h.0 dead_start h.1 (ap is_dead_start h.2)
 
 and_left : (a b : Bool) → (a && b) ≡ true → a ≡ true
 and_left true b e = refl
@@ -73,7 +73,7 @@ and_right : (a b : Bool) → (a && b) ≡ true → b ≡ true
 and_right true b e = e
 and_right false b e = absurd (cc)
 
-not_named : (n : ℕ) (lines : List Line) (b : Bool) → is_named lines n ≡ b → not b ≡ true → IsNamed lines n → ⊥
+not_named : (n : ℕ) (lines : List Line) (b : Bool) → is_named lines n ≡ b → not b ≡ true → Contains lines (section n) → ⊥
 not_named n lines true e h some = absurd (cc)
 not_named n lines false e h some = let yes = named_some n lines some in absurd (cc)
 

@@ -1,10 +1,10 @@
 -- Only a line with the keyword `PP` begins a section.
-use Rattle.std.proofs.Common.{◌≡◌, ℕ, Bool, true, false, cond, List, [], ◌∷◌, Option, Some, None, Result, Ok, Err, refl, ap, subst, ◌∙◌}
+use Rattle.std.proofs.Common.{◌≡◌, ℕ, Bool, true, false, cond, List, [], ◌∷◌, Option, Result, Ok, Err, refl, ap, subst, ◌∙◌}
 use Rattle.std.specs.Prelude.{is_some, ◌||◌}
 use Rattle.pp_deck.specs.OctalNumber.{number}
-use Rattle.pp_deck.specs.DeckLine.{Line, nothing, central_size, central_words, section, start, words, dead_start, keyword_of, line_by, number_then, ends_with, start_from, words_in, central_line, central_words_line, section_line, start_line, words_line, ◌>>=◌, misplaced, unless_misplaced, line_after}
+use Rattle.pp_deck.specs.DeckLine.{Line, nothing, central_size, central_words, section, start, words, dead_start, keyword_of, line_by, number_then, ends_with, start_from, words_in, central_line, central_words_line, section_line, start_line, words_line, ◌>>=◌, line_after}
 use Rattle.pp_deck.specs.DeckMeaning.{begins_section, is_processor_keyword}
-use Rattle.pp_deck.specs.Reading.{current_after}
+use Rattle.pp_deck.proofs.LineParts.{current_after}
 use Rattle.pp_deck.specs.declared.flaw.Flaw.{Flaw}
 use Rattle.pp_deck.specs.declared.flaw.Flaw.TheVariants.{PastEnd}
 use Rattle.pp_deck.specs.declared.keyword.Keyword.{Keyword}
@@ -76,9 +76,9 @@ dead_start_begins : (fields : List (List ℕ)) → OnRead (ends_with dead_start 
 unfolding Begins is_section
 dead_start_begins fields = at_end dead_start fields (Begins false) refl
 
-unless_begins : (o : Option Flaw) (r : Result Line Flaw) (P : Line → Type 0) → OnRead r P → OnRead (unless_misplaced o r) P
-unless_begins (Some flaw) r P h = tt
-unless_begins None r P h = h
+where_false : (b : Bool) (r : Result Line Flaw) (flaw : Flaw) (P : Line → Type 0) → OnRead r P → OnRead (cond b (Err flaw) r) P
+where_false true r flaw P h = tt
+where_false false r flaw P h = h
 
 nothing_begins : Begins false nothing
 unfolding Begins is_section
@@ -111,19 +111,19 @@ module _ (profile : Profile) where
   unfolding section_line Begins is_section
   section_begins fields = after_number 2 fields _ (Begins true) (λ n more. where_true _ _ _ (Begins true) (at_end (section n) more (Begins true) refl))
 
-  line_begins : (size : ℕ) (keyword : Keyword) (field : List ℕ) (fields : List (List ℕ)) → OnRead (line_by profile size keyword field fields) (Begins (is_processor_keyword keyword))
-  line_begins size keywords.Central field fields = central_begins fields
-  line_begins size keywords.CentralWords field fields = central_words_begin size fields
-  line_begins size keywords.Processor field fields = section_begins fields
-  line_begins size keywords.Start field fields = start_begins fields
-  line_begins size keywords.DeadStart field fields = dead_start_begins fields
-  line_begins size keywords.Words field fields = words_begin field fields
-  line_begins size keywords.Unknown field fields = tt
+  line_begins : (size : ℕ) (b s : Bool) (keyword : Keyword) (field : List ℕ) (fields : List (List ℕ)) → OnRead (line_by profile size b s keyword field fields) (Begins (is_processor_keyword keyword))
+  line_begins size b s keywords.Central field fields = where_false b _ _ (Begins false) (central_begins fields)
+  line_begins size b s keywords.CentralWords field fields = central_words_begin size fields
+  line_begins size b s keywords.Processor field fields = section_begins fields
+  line_begins size b s keywords.Start field fields = where_true s _ _ (Begins false) (start_begins fields)
+  line_begins size b s keywords.DeadStart field fields = dead_start_begins fields
+  line_begins size b s keywords.Words field fields = where_true s _ _ (Begins false) (words_begin field fields)
+  line_begins size b s keywords.Unknown field fields = tt
 
   behind_begins : (size : ℕ) (is_after_fields is_in_section : Bool) (fields : List (List ℕ)) → OnRead (line_after profile size is_after_fields is_in_section fields) (Begins (begins_section fields))
   unfolding line_after
   behind_begins size b s [] = nothing_begins
-  behind_begins size b s (field ∷ fields) = unless_begins (misplaced b s (keyword_of field)) _ _ (line_begins size (keyword_of field) field fields)
+  behind_begins size b s (field ∷ fields) = line_begins size b s (keyword_of field) field fields
 
   -- after a line there is a current processor where there was one, or where the line begins with `PP`
   pub section_after : (size : ℕ) (is_after_fields is_in_section : Bool) (fields : List (List ℕ)) (line : Line) (current : Option ℕ) → line_after profile size is_after_fields is_in_section fields ≡ Ok line → is_some (current_after line current) ≡ (is_some current || begins_section fields)

@@ -1,6 +1,6 @@
 -- The last line that sets something holds.
 use Rattle.std.proofs.Common.{◌≡◌, ℕ, zero, suc, ◌+◌, ◌-◌, ◌<◌, ◌≤◌, ◌⊎◌, Bool, true, false, cond, leb, List, [], ◌∷◌, ◌++◌, length, take, map, get_or, Option, Some, None, refl, sym, ap, subst, ◌∙◌, arith, inl, inr, append-nil}
-use Rattle.std.specs.Prelude.{IsTrue, filter_map, option_to_list, option_map, slice_get, unwrap_or}
+use Rattle.std.specs.Prelude.{Contains, IsTrue, filter_map, option_to_list, option_map, slice_get, unwrap_or}
 use Rattle.std.specs.List.{range_with_len, cons_option, list_any}
 use Rattle.std.proofs.lemmas.Bool.{leb-true, le-leb, eqb-true, eq-eqb, cases_order}
 use Rattle.std.proofs.lemmas.List.{take_more, length-map, get_or_default}
@@ -9,17 +9,19 @@ use Rattle.std.proofs.lemmas.List.Folds.{Any-from_list_any, list_any_at}
 use Rattle.std.proofs.lemmas.List.FromFn.{fill_by_all}
 use Rattle.std.proofs.lemmas.Option.{slice_get-map}
 use Rattle.pp_word.specs.Address.{place_count}
+use Rattle.pp_channel.proofs.LastElements.{last_or_at}
 use Rattle.pp_machine.specs.MachineState.{processor_of}
 use Rattle.pp_machine.specs.Processor.{no_processor, word_at}
 use Rattle.pp_machine.specs.PpNo.{processor_count, names_processor, processor_number, processor_index}
 use Rattle.pp_machine.proofs.ProcessorPlaces.{place_below, number_of_place}
-use Rattle.pp_deck.specs.DeckLaw.{IsFor, StandsAt, SetsWord, SetsCentralWord, Starts, Registers, registers_of, at_rest, started_at, HoldsLast, IsNamed, line_of}
+use Rattle.pp_machine.specs.declared.pp_state.PpState.TheVariants.{Running}
+use Rattle.pp_deck.specs.DeckLaw.{IsFor, StandsAt, SetsWord, SetsCentralWord, Starts, Registers, registers_of, at_rest, HoldsLast, line_of}
 use Rattle.pp_deck.specs.DeckLine.{Line, nothing, central_size, central_words, section, start, words, dead_start}
-use Rattle.pp_deck.specs.DeckLoad.{last_of, word_among, word_for, central_word_for, start_in, is_for, section_of, lines_for, names, is_named, memory_of, processor_with, processor_loaded, central_loaded}
+use Rattle.pp_deck.specs.DeckLoad.{word_among, word_for, central_word_for, start_in, is_for, section_of, lines_for, is_named, memory_of, processor_with, processor_loaded, central_loaded}
 use Rattle.pp_deck.specs.DeckMeaning.{set_by}
-use Rattle.pp_deck.specs.Reading.{current_after}
-use Rattle.pp_deck.proofs.ListLemmas.{range_append, range_more, last_of_more, filter_map_more, length-tabulate, get_or-tabulate}
-use Rattle.pp_deck.proofs.SectionLemmas.{section_more}
+use Rattle.pp_deck.proofs.LineParts.{current_after}
+use Rattle.pp_deck.proofs.ListLemmas.{last_of, range_append, range_more, last_of_more, filter_map_more, length-tabulate, get_or-tabulate}
+use Rattle.pp_deck.proofs.SectionLemmas.{names, section_more}
 use Rattle.pp_machine.specs.declared.profile.Profile.{Profile}
 
 -- ---- the last number at which there is something
@@ -184,7 +186,7 @@ set_central dead_start address w h = absurd h
 
 -- the registers at a start
 abbrev pub registers_at : ℕ × ℕ → Registers
-registers_at s = started_at s.0 s.1
+registers_at s = record { state = Running; p = s.0; a = s.1 }
 
 pub start_set : (line : Line) (registers : Registers) → option_map registers_at (start_in line) ≡ Some registers → Starts line registers
 start_set (start p a) registers e = cc
@@ -274,7 +276,7 @@ mapped_last {X} {A} {B} g h (x ∷ xs) = ap (cons_option (option_map g (h x))) (
     at_head (Some y) = refl
 
 last_mapped : {A B : Type 0} (g : A → B) (xs : List A) → last_of (map g xs) ≡ option_map g (last_of xs)
-last_mapped g xs = ap (λ (n : ℕ). slice_get (map g xs) (n - 1)) (length-map xs g) ∙ slice_get-map g xs (length xs - 1)
+last_mapped g xs = sym (last_or_at (map g xs)) ∙ ap (λ (n : ℕ). slice_get (map g xs) (n - 1)) (length-map xs g) ∙ slice_get-map g xs (length xs - 1) ∙ ap (option_map g) (last_or_at xs)
 
 last_start : (lines : List Line) → last_of (filter_map (λ line. option_map registers_at (start_in line)) lines) ≡ option_map registers_at (last_of (filter_map start_in lines))
 last_start lines = ap last_of (mapped_last registers_at start_in lines) ∙ last_mapped registers_at (filter_map start_in lines)
@@ -296,13 +298,13 @@ is_name n (start p a) e = absurd (cc)
 is_name n (words x ws) e = absurd (cc)
 is_name n dead_start e = absurd (cc)
 
-pub some_name : (n : ℕ) (lines : List Line) → list_any (names n) lines ≡ true → IsNamed lines n
+pub some_name : (n : ℕ) (lines : List Line) → list_any (names n) lines ≡ true → Contains lines (section n)
 some_name n lines e =
     let h = Any-from_list_any (names n) lines e in
-    record { heading = h.0; within = h.2; names = get_or_default lines h.0 nothing h.1 h.2 ∙ h.3 ∙ is_name n h.1 h.4 }
+    (h.0, h.2, get_or_default lines h.0 (section n) h.1 h.2 ∙ h.3 ∙ is_name n h.1 h.4)
 
-pub named_some : (n : ℕ) (lines : List Line) → IsNamed lines n → list_any (names n) lines ≡ true
-named_some n lines h = list_any_at (names n) lines h.heading nothing h.within (ap (names n) h.names ∙ eq-eqb n n refl)
+pub named_some : (n : ℕ) (lines : List Line) → Contains lines (section n) → list_any (names n) lines ≡ true
+named_some n lines h = list_any_at (names n) lines h.0 (section n) h.1 (ap (names n) h.2 ∙ eq-eqb n n refl)
 
 -- ---- what a loaded machine holds
 

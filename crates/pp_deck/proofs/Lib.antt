@@ -6,6 +6,7 @@ pub mod FieldTextLemmas
 pub mod HeadlineLemmas
 pub mod KeywordLemmas
 pub mod LawLemmas
+pub mod LineParts
 pub mod LinesLemmas
 pub mod ListLemmas
 pub mod LoadedRangeLemmas

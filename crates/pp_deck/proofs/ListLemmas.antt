@@ -1,13 +1,13 @@
 -- Lists made from a function of the index, lists that grow at the end, and their last elements.
-use Rattle.std.proofs.Common.{◌≡◌, ℕ, zero, suc, ◌+◌, ◌-◌, ◌<◌, ◌≤◌, cond, eqb, List, [], ◌∷◌, ◌++◌, length, map, get_or, set, replicate, Option, Some, None, refl, sym, ap, ◌∙◌, arith, add-zero, inl, inr}
+use Rattle.std.proofs.Common.{◌≡◌, ℕ, zero, suc, ◌+◌, ◌<◌, ◌≤◌, cond, eqb, List, [], ◌∷◌, ◌++◌, length, map, get_or, set, replicate, Option, Some, None, refl, sym, ap, ◌∙◌, arith, add-zero, inl, inr}
 use Rattle.std.specs.Prelude.{filter_map, option_to_list}
-use Rattle.std.specs.List.{range_with_len, cons_option}
+use Rattle.std.specs.List.{range_with_len, cons_option, last_or}
 use Rattle.std.proofs.lemmas.Bool.{cond-true, cond-false, eq-eqb, ne_eqb, cases_eq}
-use Rattle.std.proofs.lemmas.List.{ext_get_or, append-nil, length-set, get_or-set_same, get_or-set_other, length_push, get_or_push}
+use Rattle.std.proofs.lemmas.List.{ext_get_or, append-nil, length-set, get_or-set_same, get_or-set_other}
 use Rattle.std.proofs.lemmas.List.FromFn.{length-map-range_with_len, get_or-map-range_with_len}
 use Rattle.std.proofs.lemmas.List.Elements.{filter_map-append}
-use Rattle.std.proofs.lemmas.Option.{slice_get-get_or}
-use Rattle.pp_deck.specs.DeckLoad.{tabulate, last_of}
+use Rattle.pp_channel.proofs.LastElements.{last_or-push}
+use Rattle.pp_deck.specs.DeckLoad.{tabulate}
 
 -- ---- tabulate
 
@@ -95,12 +95,10 @@ abbrev pub or_else : {A : Type 0} → Option A → Option A → Option A
 or_else (Some x) o = Some x
 or_else None o = o
 
-last_push : {A : Type 0} (xs : List A) (x : A) → last_of (xs ++ x ∷ []) ≡ Some x
-last_push xs x =
-    let long = length_push xs x in
-    slice_get-get_or (xs ++ x ∷ []) (length (xs ++ x ∷ []) - 1) x (omega (arith, long)) ∙ ap Some (get_or_push xs x x (length (xs ++ x ∷ []) - 1) (omega (arith, long)))
+abbrev pub last_of : {A : Type 0} → List A → Option A
+last_of xs = last_or None xs
 
 -- the last of a list with perhaps one element more
 pub last_of_more : {A : Type 0} (xs : List A) (o : Option A) → last_of (xs ++ option_to_list o) ≡ or_else o (last_of xs)
 last_of_more xs None = ap last_of (append-nil xs)
-last_of_more xs (Some x) = last_push xs x
+last_of_more xs (Some x) = last_or-push None xs x

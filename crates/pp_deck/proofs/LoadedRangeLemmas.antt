@@ -1,15 +1,17 @@
 -- The words, starts and central words that a deck loads are in range.
 use Rattle.std.proofs.Common.{◌≡◌, ℕ, zero, suc, ◌-◌, ◌^◌, ◌<◌, Bool, true, false, cond, leb, List, [], ◌∷◌, length, take, get_or, Option, Some, None, Result, Ok, Err, sym, subst, arith}
 use Rattle.std.specs.Prelude.{filter_map, unwrap_or, slice_get, All}
-use Rattle.std.specs.List.{cons_option, range_with_len, list_any}
+use Rattle.std.specs.List.{last_or, cons_option, range_with_len, list_any}
 use Rattle.std.proofs.lemmas.List.Elements.{All-head, All-tail}
 use Rattle.pp_word.specs.Address.{place_count}
 use Rattle.pp_machine.specs.Processor.{Processor}
 use Rattle.pp_machine.specs.declared.profile.Profile.{Profile}
 use Rattle.pp_deck.specs.DeckLine.{Line, nothing, central_size, central_words, section, start, words, dead_start}
-use Rattle.pp_deck.specs.DeckLoad.{last_of, word_for, central_word_for, start_in, is_for, section_of, lines_for, memory_of, central_loaded, processor_with, processor_loaded, tabulate}
-use Rattle.pp_deck.specs.DeckMeaning.{has_fields, begins_section, line_at, size_of, line_in, lines_said}
-use Rattle.pp_deck.proofs.ListLemmas.{length-tabulate, get_or-tabulate}
+use Rattle.pp_deck.specs.DeckLoad.{word_for, central_word_for, start_in, is_for, section_of, lines_for, memory_of, central_loaded, processor_with, processor_loaded, tabulate}
+use Rattle.std.specs.Result.{result_ok}
+use Rattle.pp_deck.specs.DeckMeaning.{has_fields, begins_section, line_at, size_of, lines_said}
+use Rattle.pp_deck.specs.declared.flaw.Flaw.{Flaw}
+use Rattle.pp_deck.proofs.ListLemmas.{last_of, length-tabulate, get_or-tabulate}
 use Rattle.pp_deck.proofs.RangeLemmas.{Holds, InRange, line_holds}
 use Rattle.pp_deck.proofs.SectionLinesLemmas.{AllLines}
 
@@ -27,7 +29,7 @@ all_found : (P : Line → Type 0) (f : ℕ → Option Line) (ks : List ℕ) → 
 all_found P f [] h = tt
 all_found P f (k ∷ ks) h = cons_all P (f k) (filter_map f ks) (h k) (all_found P f ks h)
 
-said_line : (r : Result Line _) → Holds InRange r → OnSome InRange (line_in r)
+said_line : (r : Result Line Flaw) → Holds InRange r → OnSome InRange (result_ok r)
 said_line (Ok line) h = h
 said_line (Err flaw) h = tt
 
@@ -38,7 +40,7 @@ line_at_holds profile size lines k = line_holds profile size (list_any has_field
 pub said_in_range : (profile : Profile) (lines : List (List (List ℕ))) → AllLines InRange (lines_said profile lines)
 unfolding lines_said
 said_in_range profile lines =
-    all_found InRange (λ k. line_in (line_at profile (size_of lines) lines k)) (range_with_len 0 (length lines))
+    all_found InRange (λ k. result_ok (line_at profile (size_of lines) lines k)) (range_with_len 0 (length lines))
     (λ k. said_line (line_at profile (size_of lines) lines k) (line_at_holds profile (size_of lines) lines k))
 
 get_in : (P : Line → Type 0) (lines : List Line) (k : ℕ) (d : Line) → AllLines P lines → P d → P (get_or lines k d)
@@ -70,13 +72,12 @@ each_set : {A : Type 0} (P : A → Type 0) (g : Line → Option A) (lines : List
 each_set P g [] h k = tt
 each_set P g (line ∷ lines) h k = each_cons P (g line) (filter_map g lines) (h line k.0) (each_set P g lines h k.1)
 
-each_get : {A : Type 0} (P : A → Type 0) (xs : List A) (i : ℕ) → Each P xs → OnSome P (slice_get xs i)
-each_get P [] i h = tt
-each_get P (x ∷ xs) zero h = h.0
-each_get P (x ∷ xs) (suc i) h = each_get P xs i h.1
+each_last : {A : Type 0} (P : A → Type 0) (o : Option A) (xs : List A) → OnSome P o → Each P xs → OnSome P (last_or o xs)
+each_last P o [] h k = h
+each_last P o (x ∷ xs) h k = each_last P (Some x) xs k.0 k.1
 
 last_set : {A : Type 0} (P : A → Type 0) (g : Line → Option A) (lines : List Line) → ((line : Line) → InRange line → OnSome P (g line)) → AllLines InRange lines → OnSome P (last_of (filter_map g lines))
-last_set P g lines h k = each_get P (filter_map g lines) (length (filter_map g lines) - 1) (each_set P g lines h k)
+last_set P g lines h k = each_last P None (filter_map g lines) tt (each_set P g lines h k)
 
 all_get : (P : ℕ → Type 0) (ws : List ℕ) (i : ℕ) → All P ws → OnSome P (slice_get ws i)
 all_get P [] i h = tt

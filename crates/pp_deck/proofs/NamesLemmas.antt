@@ -1,14 +1,14 @@
 -- The lines of a deck name no processor that its machine lacks.
 use Rattle.std.proofs.Common.{◌≡◌, ℕ, Bool, true, false, cond, List, [], ◌∷◌, Option, Some, None, Result, Ok, Err, All, IsTrue, refl, subst}
-use Rattle.std.specs.Prelude.{filter_map}
+use Rattle.std.specs.Prelude.{Contains, filter_map}
 use Rattle.std.specs.List.{cons_option}
 use Rattle.std.proofs.lemmas.List.Elements.{All-nil, All-cons, All-get_or}
 use Rattle.pp_machine.specs.Profile.{has_processor}
 use Rattle.pp_machine.specs.declared.profile.Profile.{Profile}
 use Rattle.pp_deck.specs.OctalNumber.{number}
-use Rattle.pp_deck.specs.DeckLaw.{IsNamed}
-use Rattle.pp_deck.specs.DeckLine.{Line, nothing, central_size, central_words, section, start, words, dead_start, keyword_of, line_by, ends_with, start_from, words_in, central_line, central_words_line, section_line, start_line, words_line, ◌>>=◌, misplaced, unless_misplaced, line_after}
-use Rattle.pp_deck.specs.DeckMeaning.{line_at, line_in, lines_said, size_of}
+use Rattle.pp_deck.specs.DeckLine.{Line, central_size, central_words, section, start, words, dead_start, keyword_of, line_by, ends_with, start_from, words_in, central_line, central_words_line, section_line, start_line, words_line, ◌>>=◌, line_after}
+use Rattle.std.specs.Result.{result_ok}
+use Rattle.pp_deck.specs.DeckMeaning.{line_at, lines_said, size_of}
 use Rattle.pp_deck.specs.DeckText.{Fields}
 use Rattle.pp_deck.specs.declared.flaw.Flaw.{Flaw}
 use Rattle.pp_deck.specs.declared.flaw.Flaw.TheVariants.{PastEnd}
@@ -20,9 +20,9 @@ where_so : (b : Bool) (r : Result Line Flaw) (flaw : Flaw) (P : Line → Type 0)
 where_so true r flaw P h = h refl
 where_so false r flaw P h = tt
 
-unless_misplaced_says : (o : Option Flaw) (r : Result Line Flaw) (P : Line → Type 0) → OnRead r P → OnRead (unless_misplaced o r) P
-unless_misplaced_says (Some flaw) r P h = tt
-unless_misplaced_says None r P h = h
+where_not : (b : Bool) (r : Result Line Flaw) (flaw : Flaw) (P : Line → Type 0) → OnRead r P → OnRead (cond b (Err flaw) r) P
+where_not true r flaw P h = tt
+where_not false r flaw P h = h
 
 one_more : (P : Line → Type 0) (o : Option Line) (each : (line : Line) → o ≡ Some line → P line) (rest : List Line) → All P rest → All P (cons_option o rest)
 one_more P None each rest all = all
@@ -32,7 +32,7 @@ all_filtered : (P : Line → Type 0) (f : ℕ → Option Line) (ks : List ℕ) �
 all_filtered P f [] each = All-nil P
 all_filtered P f (k ∷ ks) each = one_more P (f k) (each k) (filter_map f ks) (all_filtered P f ks each)
 
-read_line : (r : Result Line Flaw) (line : Line) → line_in r ≡ Some line → r ≡ Ok line
+read_line : (r : Result Line Flaw) (line : Line) → result_ok r ≡ Some line → r ≡ Ok line
 read_line (Ok x) line e = cc
 read_line (Err flaw) line e = absurd (cc)
 
@@ -74,19 +74,19 @@ module _ (profile : Profile) where
       with_x (Ok x) = with_words_of _ (words x) Within (λ ws. tt)
       with_x (Err flaw) = tt
 
-  line_within : (size : ℕ) (keyword : Keyword) (field : List ℕ) (fields : Fields) → OnRead (line_by profile size keyword field fields) Within
-  line_within size keywords.Central field fields = central_within fields
-  line_within size keywords.CentralWords field fields = central_words_within size fields
-  line_within size keywords.Processor field fields = section_within fields
-  line_within size keywords.Start field fields = start_within fields
-  line_within size keywords.DeadStart field fields = at_end dead_start fields Within tt
-  line_within size keywords.Words field fields = words_within field fields
-  line_within size keywords.Unknown field fields = tt
+  line_within : (size : ℕ) (b s : Bool) (keyword : Keyword) (field : List ℕ) (fields : Fields) → OnRead (line_by profile size b s keyword field fields) Within
+  line_within size b s keywords.Central field fields = where_not b _ _ Within (central_within fields)
+  line_within size b s keywords.CentralWords field fields = central_words_within size fields
+  line_within size b s keywords.Processor field fields = section_within fields
+  line_within size b s keywords.Start field fields = where_so s _ _ Within (λ is. start_within fields)
+  line_within size b s keywords.DeadStart field fields = at_end dead_start fields Within tt
+  line_within size b s keywords.Words field fields = where_so s _ _ Within (λ is. words_within field fields)
+  line_within size b s keywords.Unknown field fields = tt
 
   behind_within : (size : ℕ) (b s : Bool) (fields : Fields) → OnRead (line_after profile size b s fields) Within
   unfolding line_after
   behind_within size b s [] = tt
-  behind_within size b s (field ∷ fields) = unless_misplaced_says (misplaced b s (keyword_of field)) _ Within (line_within size (keyword_of field) field fields)
+  behind_within size b s (field ∷ fields) = line_within size b s (keyword_of field) field fields
 
   at_within : (size : ℕ) (lines : List Fields) (k : ℕ) → OnRead (line_at profile size lines k) Within
   unfolding line_at
@@ -95,9 +95,9 @@ module _ (profile : Profile) where
   said_within : (lines : List Fields) → All Within (lines_said profile lines)
   unfolding lines_said
   said_within lines =
-      all_filtered Within (λ k. line_in (line_at profile (size_of lines) lines k)) _
+      all_filtered Within (λ k. result_ok (line_at profile (size_of lines) lines k)) _
       (λ k line e. of_line (line_at profile (size_of lines) lines k) line Within (at_within (size_of lines) lines k) (read_line _ line e))
 
   -- a processor that is named is one of the profile
-  pub named_within : (lines : List Fields) (n : ℕ) → IsNamed (lines_said profile lines) n → IsTrue (has_processor profile n)
-  named_within lines n h = subst Within h.names (All-get_or Within (lines_said profile lines) h.heading nothing h.within (said_within lines))
+  pub named_within : (lines : List Fields) (n : ℕ) → Contains (lines_said profile lines) (section n) → IsTrue (has_processor profile n)
+  named_within lines n h = subst Within h.2 (All-get_or Within (lines_said profile lines) h.0 (section n) h.1 (said_within lines))

@@ -10,11 +10,12 @@ use Rattle.pp_machine.specs.Processor.{Processor, new_processor, no_processor, r
 use Rattle.pp_machine.specs.PpNo.{processor_count, processor_number, processor_index}
 use Rattle.pp_machine.proofs.ProcessorPlaces.{number_at}
 use Rattle.pp_deck.specs.DeckLine.{Line, nothing, central_size, central_words, section, start, words, dead_start}
-use Rattle.pp_deck.specs.DeckLoad.{last_of, section_of, is_dead_start, asks_dead_start, is_for, lines_for, start_in, memory_of, central_loaded, processor_with, processor_loaded, is_named, names, each_processor}
-use Rattle.pp_deck.specs.Reading.{Progress, before_lines, with_words, loaded_from, with_processor, machine_after, named_after, current_after, asked_after, after_line, after_lines, progress_of}
-use Rattle.pp_deck.proofs.ListLemmas.{or_else, last_of_more, filter_map_more, get_or-tabulate, tabulate_same, tabulate_const, set-tabulate}
+use Rattle.pp_deck.specs.DeckLoad.{section_of, is_dead_start, asks_dead_start, is_for, lines_for, start_in, memory_of, central_loaded, processor_with, processor_loaded, is_named, each_processor}
+use Rattle.pp_deck.specs.Reading.{Progress, before_lines, with_words, loaded_from, with_processor, after_line, after_lines, progress_of}
+use Rattle.pp_deck.proofs.LineParts.{machine_after, named_after, current_after, asked_after, after_line_parts}
+use Rattle.pp_deck.proofs.ListLemmas.{last_of, or_else, last_of_more, filter_map_more, get_or-tabulate, tabulate_same, tabulate_const, set-tabulate}
 use Rattle.pp_deck.proofs.MemoryLemmas.{memory_none, memory_set, memory_kept, central_none, central_set, central_kept}
-use Rattle.pp_deck.proofs.SectionLemmas.{own, lines_for_more, section_more}
+use Rattle.pp_deck.proofs.SectionLemmas.{names, own, lines_for_more, section_more}
 use Rattle.pp_machine.specs.declared.profile.Profile.{Profile}
 
 module _ (profile : Profile) where
@@ -259,8 +260,8 @@ module _ (profile : Profile) where
       ∙ ap (λ (current : Option ℕ). progress_by n cs current a) k ∙ ap (progress_by n cs p) l
 
   after_is : (m : MachineState) (bs : List Bool) (current : Option ℕ) (asked : Bool) (line : Line) → after_line (progress_by m bs current asked) line ≡ progress_by (machine_after current line m) (named_after line bs) (current_after line current) (asked_after line asked)
-  unfolding after_line progress_by
-  after_is m bs current asked line = refl
+  unfolding progress_by
+  after_is m bs current asked line = after_line_parts (progress_by m bs current asked) line
 
   progress_more : (size : ℕ) (lines : List Line) (line : Line) → after_line (progress_of profile size lines) line ≡ progress_of profile size (lines ++ line ∷ [])
   progress_more size lines line =

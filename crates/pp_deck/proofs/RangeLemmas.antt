@@ -1,6 +1,7 @@
 -- The numbers that a deck loads are in range.
 use Rattle.std.proofs.Common.{◌≡◌, ℕ, ◌+◌, ◌-◌, ◌*◌, ◌^◌, ◌<◌, ◌≤◌, Bool, true, false, cond, List, [], ◌∷◌, length, fold, Option, Some, None, Result, Ok, Err, refl, arith, ltb, lit<}
 use Rattle.std.specs.Prelude.{nat_le, ◌&&◌, slice_index, All, find, codes}
+use Rattle.std.specs.Char.{is_ascii_digit}
 use Rattle.std.specs.Str.{bytes_eq}
 use Rattle.std.specs.List.{list_all}
 use Rattle.std.proofs.Math.Nat.{mul-le-mul_left, pow-le-pow_right, pow-suc, pow-zero}
@@ -9,8 +10,9 @@ use Rattle.std.proofs.lemmas.List.Elements.{All-cons, All-nil}
 use Rattle.pp_word.specs.Address.{place_count}
 use Rattle.pp_machine.specs.declared.profile.Profile.{Profile}
 use Rattle.pp_deck.specs.OctalNumber.{number, octal_value, is_octal_digit}
-use Rattle.pp_deck.specs.DeckLine.{Line, nothing, central_size, central_words, section, start, words, dead_start, is_digit, keyword_of, line_by, number_then, ends_with, start_from, words_in, central_line, central_words_line, section_line, start_line, words_line, ◌>>=◌, unless_misplaced, line_after}
+use Rattle.pp_deck.specs.DeckLine.{Line, nothing, central_size, central_words, section, start, words, dead_start, keyword_of, line_by, number_then, ends_with, start_from, words_in, central_line, central_words_line, section_line, start_line, words_line, ◌>>=◌, line_after}
 use Rattle.pp_deck.specs.DeckMeaning.{has_fields, size_said, size_by, size_in, size_of}
+use Rattle.pp_deck.specs.declared.flaw.Flaw.{Flaw}
 use Rattle.pp_deck.proofs.FieldTextLemmas.{and_left, and_right}
 
 -- ---- results
@@ -118,22 +120,23 @@ keyword_cases P false false false false true g k l m n o p q hk hl hm hn ho hp h
 keyword_cases P false false false false false true k l m n o p q hk hl hm hn ho hp hq = hp
 keyword_cases P false false false false false false k l m n o p q hk hl hm hn ho hp hq = hq
 
-by_holds : (profile : Profile) (size : ℕ) (field : List ℕ) (fields : List (List ℕ)) → Holds InRange (line_by profile size (keyword_of field) field fields)
-unfolding keyword_of
-by_holds profile size field fields =
-    keyword_cases (λ (k : _). Holds InRange (line_by profile size k field fields))
-    (bytes_eq field (codes "CENTRAL")) (bytes_eq field (codes "CM")) (bytes_eq field (codes "PP")) (bytes_eq field (codes "START")) (bytes_eq field (codes "DEAD")) (is_digit (slice_index field 0))
-    (keyword_of (codes "CENTRAL")) (keyword_of (codes "CM")) (keyword_of (codes "PP")) (keyword_of (codes "START")) (keyword_of (codes "DEAD")) (keyword_of (codes "0")) (keyword_of (codes "*"))
-    (central_holds fields) (central_words_hold size fields) (section_holds profile fields) (start_holds fields) (end_holds InRange dead_start fields tt) (words_line_holds field fields) (tt {0})
+where_holds : (P : Line → Type 0) (b : Bool) (r : Result Line Flaw) (flaw : Flaw) → Holds P r → Holds P (cond b r (Err flaw))
+where_holds P true r flaw h = h
+where_holds P false r flaw h = tt
 
-unless_holds : (P : Line → Type 0) (o : Option _) (r : Result Line _) → Holds P r → Holds P (unless_misplaced o r)
-unless_holds P None r h = h
-unless_holds P (Some flaw) r h = tt
+where_not_holds : (P : Line → Type 0) (b : Bool) (r : Result Line Flaw) (flaw : Flaw) → Holds P r → Holds P (cond b (Err flaw) r)
+where_not_holds P true r flaw h = tt
+where_not_holds P false r flaw h = h
 
 pub line_holds : (profile : Profile) (size : ℕ) (b s : Bool) (fields : List (List ℕ)) → Holds InRange (line_after profile size b s fields)
-unfolding line_after
+unfolding line_after keyword_of
 line_holds profile size b s [] = tt
-line_holds profile size b s (field ∷ fields) = unless_holds InRange _ _ (by_holds profile size field fields)
+line_holds profile size b s (field ∷ fields) =
+    keyword_cases (λ (k : _). Holds InRange (line_by profile size b s k field fields))
+    (bytes_eq field (codes "CENTRAL")) (bytes_eq field (codes "CM")) (bytes_eq field (codes "PP")) (bytes_eq field (codes "START")) (bytes_eq field (codes "DEAD")) (is_ascii_digit (slice_index field 0))
+    (keyword_of (codes "CENTRAL")) (keyword_of (codes "CM")) (keyword_of (codes "PP")) (keyword_of (codes "START")) (keyword_of (codes "DEAD")) (keyword_of (codes "0")) (keyword_of (codes "*"))
+    (where_not_holds InRange b _ _ (central_holds fields)) (central_words_hold size fields) (section_holds profile fields) (where_holds InRange s _ _ (start_holds fields)) (end_holds InRange dead_start fields tt)
+    (where_holds InRange s _ _ (words_line_holds field fields)) (tt {0})
 
 -- ---- the size of central memory
 
@@ -161,7 +164,7 @@ size_is None = default_size
 size_is (Some []) = default_size
 size_is (Some (field ∷ fields)) =
     keyword_cases (λ (k : _). IsSize (size_by k fields))
-    (bytes_eq field (codes "CENTRAL")) (bytes_eq field (codes "CM")) (bytes_eq field (codes "PP")) (bytes_eq field (codes "START")) (bytes_eq field (codes "DEAD")) (is_digit (slice_index field 0))
+    (bytes_eq field (codes "CENTRAL")) (bytes_eq field (codes "CM")) (bytes_eq field (codes "PP")) (bytes_eq field (codes "START")) (bytes_eq field (codes "DEAD")) (is_ascii_digit (slice_index field 0))
     (keyword_of (codes "CENTRAL")) (keyword_of (codes "CM")) (keyword_of (codes "PP")) (keyword_of (codes "START")) (keyword_of (codes "DEAD")) (keyword_of (codes "0")) (keyword_of (codes "*"))
     (said_size (central_line fields) (central_holds fields)) default_size default_size default_size default_size default_size default_size
 

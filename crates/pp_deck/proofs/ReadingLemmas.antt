@@ -12,11 +12,13 @@ use Rattle.pp_machine.specs.DeadStart.{IsBeforeFirstTurn}
 use Rattle.pp_machine.specs.MachineState.{history_of}
 use Rattle.pp_deck.specs.Flaw.{code_of}
 use Rattle.pp_deck.specs.DeckLine.{Line, nothing, line_after}
-use Rattle.pp_deck.specs.DeckMeaning.{with_dead_start, has_fields, begins_section, line_at, size_of, fault_in, faults_in, line_in, lines_said, loaded, unless_faulty, meaning_of_lines}
+use Rattle.std.specs.Result.{result_ok}
+use Rattle.pp_deck.specs.DeckMeaning.{with_dead_start, has_fields, begins_section, line_at, size_of, fault_in, faults_in, lines_said, loaded, unless_faulty, meaning_of_lines}
 use Rattle.pp_deck.specs.Reading.{Progress, before_lines, after_line, after_lines, progress_of, deck_so_far, on_read}
 use Rattle.pp_deck.specs.declared.deck_fault.DeckFault.{DeckFault}
 use Rattle.pp_deck.specs.declared.flaw.Flaw.{Flaw}
 use Rattle.pp_deck.proofs.KeywordLemmas.{section_after}
+use Rattle.pp_deck.proofs.LineParts.{after_line_parts}
 use Rattle.pp_deck.proofs.ListLemmas.{range_more, range_append, filter_map_more}
 use Rattle.pp_deck.proofs.MemoryLemmas.{length-central_loaded}
 use Rattle.pp_deck.proofs.ProgressLemmas.{after_lines_is}
@@ -27,7 +29,7 @@ module _ (profile : Profile) where
   fault_at lines k = fault_in k (line_at profile (size_of lines) lines k)
 
   pub said_at : List (List (List ℕ)) → ℕ → Option Line
-  said_at lines k = line_in (line_at profile (size_of lines) lines k)
+  said_at lines k = result_ok (line_at profile (size_of lines) lines k)
 
   -- the first k lines have no fault, and this is the progress behind them
   pub record ReadTo (lines : List (List (List ℕ))) (k : ℕ) (progress : Progress) (is_after_fields : Bool) : Type 0 where
@@ -76,7 +78,7 @@ module _ (profile : Profile) where
 
   -- a line more, without a fault
   pub read_more : (lines : List (List (List ℕ))) (k : ℕ) (progress : Progress) (b : Bool) (line : Line) → ReadTo lines k progress b → k < length lines → line_after profile (size_of lines) b (is_some progress.current) (get_or lines k []) ≡ Ok line → ReadTo lines (k + 1) (after_line progress line) (b || has_fields (get_or lines k []))
-  unfolding fault_at said_at after_lines after_line
+  unfolding fault_at said_at after_lines
   read_more lines k progress b line h lt e =
       let there : line_at profile (size_of lines) lines k ≡ Ok line = line_is lines k progress b h ∙ e in
       record {
@@ -87,10 +89,11 @@ module _ (profile : Profile) where
         progress_is =
             ap (λ (p : Progress). after_line p line) h.progress_is
             ∙ sym (fold-append after_line (before_lines profile (size_of lines)) (filter_map (said_at lines) (range_with_len 0 k)) (line ∷ []))
-            ∙ ap (fold after_line (before_lines profile (size_of lines))) (sym (one_more (said_at lines) k ∙ ap (λ (o : Option Line). filter_map (said_at lines) (range_with_len 0 k) ++ option_to_list o) (ap line_in there)));
+            ∙ ap (fold after_line (before_lines profile (size_of lines))) (sym (one_more (said_at lines) k ∙ ap (λ (o : Option Line). filter_map (said_at lines) (range_with_len 0 k) ++ option_to_list o) (ap result_ok there)));
         behind = ap (λ (t : Bool). t || has_fields (get_or lines k [])) h.behind ∙ sym (list_any_more has_fields lines k [] lt);
         in_section =
-            section_after profile (size_of lines) b (is_some progress.current) (get_or lines k []) line progress.current e
+            ap (λ (p : Progress). is_some p.current) (after_line_parts progress line)
+            ∙ section_after profile (size_of lines) b (is_some progress.current) (get_or lines k []) line progress.current e
             ∙ ap (λ (t : Bool). t || begins_section (get_or lines k [])) h.in_section ∙ sym (list_any_more begins_section lines k [] lt);
       }
 

@@ -4,9 +4,13 @@ use Rattle.std.specs.Prelude.{filter_map, option_to_list}
 use Rattle.std.specs.List.{range_with_len}
 use Rattle.std.proofs.lemmas.List.{take-append-le, take_at, get_or_append_left, get_or_push, length_push}
 use Rattle.pp_deck.specs.DeckLine.{Line, nothing, central_size, central_words, section, start, words, dead_start}
-use Rattle.pp_deck.specs.DeckLoad.{last_of, processor_in, section_of, is_for, lines_for}
-use Rattle.pp_deck.specs.Reading.{current_after}
-use Rattle.pp_deck.proofs.ListLemmas.{or_else, last_of_more, filter_map_more, filter_map_same, range_more}
+use Rattle.pp_deck.specs.DeckLoad.{processor_in, section_of, is_for, lines_for}
+use Rattle.pp_deck.proofs.LineParts.{current_after}
+use Rattle.pp_deck.proofs.ListLemmas.{last_of, or_else, last_of_more, filter_map_more, filter_map_same, range_more}
+
+-- whether a line names processor n
+abbrev pub names : ℕ → Line → Bool
+names n line = is_for n (processor_in line)
 
 current_is : (line : Line) (current : Option ℕ) → or_else (processor_in line) current ≡ current_after line current
 current_is nothing current = refl

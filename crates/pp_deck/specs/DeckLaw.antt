@@ -1,6 +1,6 @@
 -- What holds of each loaded deck, stated by its lines one beside another: what the last line sets,
 -- holds.
-use Rattle.std.specs.Prelude.{◌≡◌, ℕ, ◌+◌, ◌<◌, ◌↔◌, IsTrue, Bool, true, false, List, [], length, None, Some, slice_get, slice_index, slice_index_or}
+use Rattle.std.specs.Prelude.{◌≡◌, ℕ, ◌+◌, ◌<◌, ◌↔◌, Contains, IsTrue, Bool, true, false, List, [], length, None, Some, slice_get, slice_index, slice_index_or}
 use Rattle.pp_word.specs.Address.{place_count}
 use Rattle.pp_channel.specs.ChannelNo.{channel_count, names_channel}
 use Rattle.pp_machine.specs.DeadStart.{waiting_on}
@@ -53,12 +53,9 @@ registers_of pp = record { state = pp.state; p = pp.p; a = pp.a }
 abbrev pub at_rest : Registers
 at_rest = record { state = Stopped; p = 0; a = 0 }
 
-abbrev pub started_at : ℕ → ℕ → Registers
-started_at p a = record { state = Running; p = p; a = a }
-
 -- a line starts its processor with these registers
 abbrev pub Starts : Line → Registers → Type 0
-Starts (start p a) registers = registers ≡ started_at p a
+Starts (start p a) registers = registers ≡ record { state = Running; p = p; a = a }
 Starts line registers = ⊥
 
 -- a value is what the last line sets that sets it, and `otherwise` where no line does
@@ -68,24 +65,12 @@ pub record HoldsLast {A : Type 0} (lines : List Line) (Sets : ℕ → A → Type
       → ((j : ℕ) (y : A) → k < j → j < length lines → Sets j y → ⊥) → value ≡ x
   pub none : ((k : ℕ) (x : A) → k < length lines → Sets k x → ⊥) → value ≡ otherwise
 
--- some line names processor n
-pub record IsNamed (lines : List Line) (n : ℕ) : Type 0 where
-  pub heading : ℕ
-  pub within : heading < length lines
-  pub names : line_of lines heading ≡ section n
-
--- some line asks for dead start
-pub record AsksForDeadStart (lines : List Line) : Type 0 where
-  pub line : ℕ
-  pub within : line < length lines
-  pub asks : line_of lines line ≡ dead_start
-
 -- processor n of such a machine waits for its program: dead start is asked for, and no line names
 -- it
 pub record Waits (profile : Profile) (lines : List Line) (n : ℕ) : Type 0 where
   pub processor : IsTrue (has_processor profile n)
-  pub asked : AsksForDeadStart lines
-  pub unnamed : IsNamed lines n → ⊥
+  pub asked : Contains lines dead_start
+  pub unnamed : Contains lines (section n) → ⊥
 
 -- no processor is named that a machine of this profile lacks
 abbrev pub NamesWithin : Profile → List Bool → Type 0
@@ -109,7 +94,7 @@ pub record KeepsDeckLaw (lines : List Line) (deck : LoadedDeck) : Type 0 where
       (slice_index deck.machine.central address)
   -- a processor is named where some line names it
   pub named : (n : ℕ) → IsTrue (names_processor n)
-      → (slice_index_or deck.named (processor_index n) false ≡ true) ↔ IsNamed lines n
+      → (slice_index_or deck.named (processor_index n) false ≡ true) ↔ Contains lines (section n)
   -- a processor that waits does so on the channel of its own number; in all others no block is in
   -- progress
   pub waits : (n : ℕ) → Waits deck.machine.profile lines n

@@ -1,5 +1,6 @@
 -- What one line of a deck says, by its fields and by the lines before it.
-use Rattle.std.specs.Prelude.{ℕ, ◌+◌, ◌&&◌, Bool, List, [], ◌∷◌, Option, None, Some, Result, Ok, Err, nat_lt, nat_le, codes, slice_index, if◌then◌else◌}
+use Rattle.std.specs.Prelude.{ℕ, ◌+◌, ◌&&◌, Bool, List, [], ◌∷◌, Result, Ok, Err, nat_lt, nat_le, codes, slice_index, if◌then◌else◌}
+use Rattle.std.specs.Char.{is_ascii_digit}
 use Rattle.std.specs.Str.{bytes_eq}
 use Rattle.pp_word.specs.Address.{place_count}
 use Rattle.pp_machine.specs.Profile.{has_processor}
@@ -25,10 +26,6 @@ pub data Line : Type 0 where
 
 -- ---- the first field
 
--- the characters 0 to 9 are the codes 48 to 57 (decimal)
-abbrev pub is_digit : ℕ → Bool
-is_digit character = nat_le 48 character && nat_le character 57
-
 unfoldable pub keyword_of : Field → Keyword
 keyword_of field =
     if bytes_eq field (codes "CENTRAL") then Central
@@ -36,7 +33,7 @@ keyword_of field =
     else if bytes_eq field (codes "PP") then Processor
     else if bytes_eq field (codes "START") then Start
     else if bytes_eq field (codes "DEAD") then DeadStart
-    else if is_digit (slice_index field 0) then Words
+    else if is_ascii_digit (slice_index field 0) then Words
     else Unknown
 
 -- ---- the fields after it
@@ -97,38 +94,30 @@ unfoldable pub words_line : Field → Fields → Result Line Flaw
 words_line field fields =
     number 4 field >>= λ x. words_in 4 x place_count PastEnd fields >>= λ ws. Ok (words x ws)
 
+-- ---- the whole line
+
 -- what a line says whose first field has this keyword, for a machine of this profile with a central
--- memory of this size
-abbrev pub line_by : Profile → ℕ → Keyword → Field → Fields → Result Line Flaw
-line_by profile size Central field fields = central_line fields
-line_by profile size CentralWords field fields = central_words_line size fields
-line_by profile size Processor field fields = section_line profile fields
-line_by profile size Start field fields = start_line fields
-line_by profile size DeadStart field fields = ends_with dead_start fields
-line_by profile size Words field fields = words_line field fields
-line_by profile size Unknown field fields = Err UnknownLine
-
--- ---- where a line stands
-
--- why a line with this keyword may not come after others, of which some have fields or one begins
--- with `PP`: `CENTRAL` comes before every line with fields, and starts and words belong to the
--- section of a processor
-abbrev pub misplaced : Bool → Bool → Keyword → Option Flaw
-misplaced is_after_fields is_in_section Central =
-    if is_after_fields then Some UnknownLine else None
-misplaced is_after_fields is_in_section Start = if is_in_section then None else Some NoProcessor
-misplaced is_after_fields is_in_section Words = if is_in_section then None else Some NoProcessor
-misplaced is_after_fields is_in_section keyword = None
-
--- a misplaced line has that flaw before all others
-abbrev pub unless_misplaced : Option Flaw → Result Line Flaw → Result Line Flaw
-unless_misplaced (Some flaw) line = Err flaw
-unless_misplaced None line = line
+-- memory of this size, after lines of which some have fields or one begins with `PP`. `CENTRAL`
+-- comes before every line with fields, and starts and words belong to the section of a processor: a
+-- line that is misplaced has that flaw, whatever follows its first field
+abbrev pub line_by : Profile → ℕ → Bool → Bool → Keyword → Field → Fields → Result Line Flaw
+line_by profile size is_after_fields is_in_section Central field fields =
+    if is_after_fields then Err UnknownLine else central_line fields
+line_by profile size is_after_fields is_in_section CentralWords field fields =
+    central_words_line size fields
+line_by profile size is_after_fields is_in_section Processor field fields =
+    section_line profile fields
+line_by profile size is_after_fields is_in_section Start field fields =
+    if is_in_section then start_line fields else Err NoProcessor
+line_by profile size is_after_fields is_in_section DeadStart field fields =
+    ends_with dead_start fields
+line_by profile size is_after_fields is_in_section Words field fields =
+    if is_in_section then words_line field fields else Err NoProcessor
+line_by profile size is_after_fields is_in_section Unknown field fields = Err UnknownLine
 
 -- what a line says after such lines, for a machine of this profile with a central memory of this
 -- size
 unfoldable pub line_after : Profile → ℕ → Bool → Bool → Fields → Result Line Flaw
 line_after profile size is_after_fields is_in_section [] = Ok nothing
 line_after profile size is_after_fields is_in_section (field ∷ fields) =
-    unless_misplaced (misplaced is_after_fields is_in_section (keyword_of field))
-    (line_by profile size (keyword_of field) field fields)
+    line_by profile size is_after_fields is_in_section (keyword_of field) field fields

@@ -1,6 +1,6 @@
 -- What the lines of a deck load, taken all together: the last line that sets something holds.
 use Rattle.std.specs.Prelude.{ℕ, ◌-◌, ◌==◌, Bool, true, false, List, length, map, take, Option, None, Some, slice_get, slice_index_or, unwrap_or, nat_le, filter_map, if◌then◌else◌}
-use Rattle.std.specs.List.{list_any, range_with_len}
+use Rattle.std.specs.List.{last_or, list_any, range_with_len}
 use Rattle.pp_word.specs.Address.{place_count}
 use Rattle.pp_machine.specs.MachineState.{MachineState, new_machine}
 use Rattle.pp_machine.specs.Processor.{Processor, new_processor, runs_from}
@@ -8,17 +8,13 @@ use Rattle.pp_machine.specs.PpNo.{processor_count, processor_number}
 use Rattle.pp_machine.specs.declared.profile.Profile.{Profile}
 use Rattle.pp_deck.specs.DeckLine.{Line, nothing, central_words, section, start, words, dead_start}
 
--- the last of a list
-abbrev pub last_of : {A : Type 0} → List A → Option A
-last_of xs = slice_get xs (length xs - 1)
-
 abbrev pub processor_in : Line → Option ℕ
 processor_in (section n) = Some n
 processor_in line = None
 
 -- the processor of the last `PP` line among some
 unfoldable pub section_of : List Line → Option ℕ
-section_of lines = last_of (filter_map processor_in lines)
+section_of lines = last_or None (filter_map processor_in lines)
 
 abbrev pub is_for : ℕ → Option ℕ → Bool
 is_for n (Some m) = n == m
@@ -49,10 +45,6 @@ abbrev pub start_in : Line → Option (ℕ × ℕ)
 start_in (start p a) = Some (p, a)
 start_in line = None
 
-abbrev pub names : ℕ → Line → Bool
-names n (section m) = n == m
-names n line = false
-
 -- f 0, f 1, .., f (n - 1)
 unfoldable pub tabulate : {A : Type 0} → ℕ → (ℕ → A) → List A
 tabulate n f = map f (range_with_len 0 n)
@@ -60,7 +52,7 @@ tabulate n f = map f (range_with_len 0 n)
 -- the memory that lines leave: each place holds the last word that they set there, else 0
 unfoldable pub memory_of : List Line → List ℕ
 memory_of lines =
-    tabulate place_count (λ place. unwrap_or (last_of (filter_map (word_for place) lines)) 0)
+    tabulate place_count (λ place. unwrap_or (last_or None (filter_map (word_for place) lines)) 0)
 
 -- a processor of this profile with this memory: stopped, or running from its start
 abbrev pub processor_with : Profile → List ℕ → Option (ℕ × ℕ) → Processor
@@ -72,16 +64,17 @@ processor_with profile memory (Some s) =
 unfoldable pub processor_loaded : Profile → List Line → ℕ → Processor
 processor_loaded profile lines n =
     processor_with profile (memory_of (lines_for n lines))
-    (last_of (filter_map start_in (lines_for n lines)))
+    (last_or None (filter_map start_in (lines_for n lines)))
 
 -- central memory of this size: each address holds the last word that a line sets there, else 0
 unfoldable pub central_loaded : ℕ → List Line → List ℕ
 central_loaded size lines =
-    tabulate size (λ address. unwrap_or (last_of (filter_map (central_word_for address) lines)) 0)
+    tabulate size
+    (λ address. unwrap_or (last_or None (filter_map (central_word_for address) lines)) 0)
 
 -- whether some line names processor n
 abbrev pub is_named : List Line → ℕ → Bool
-is_named lines n = list_any (names n) lines
+is_named lines n = list_any (λ line. is_for n (processor_in line)) lines
 
 -- whether some line asks for dead start
 abbrev pub is_dead_start : Line → Bool

@@ -2,6 +2,7 @@
 -- refused.
 use Rattle.std.specs.Prelude.{ℕ, ◌+◌, ◌&&◌, Bool, true, false, not, List, [], ◌∷◌, length, take, Option, None, Some, Result, Ok, Err, slice_index_or, nat_lt, nat_le, count_by, find, filter_map, position, if◌then◌else◌}
 use Rattle.std.specs.List.{list_any, range_with_len}
+use Rattle.std.specs.Result.{result_ok}
 use Rattle.pp_machine.specs.DeadStart.{dead_started}
 use Rattle.pp_machine.specs.MachineState.{MachineState}
 use Rattle.pp_machine.specs.PpNo.{processor_index}
@@ -97,14 +98,10 @@ faults_in profile lines =
     filter_map (λ k. fault_in k (line_at profile (size_of lines) lines k))
     (range_with_len 0 (length lines))
 
-abbrev pub line_in : Result Line Flaw → Option Line
-line_in (Ok line) = Some line
-line_in (Err flaw) = None
-
 -- what lines without a fault say, one after another
 unfoldable pub lines_said : Profile → List Fields → List Line
 lines_said profile lines =
-    filter_map (λ k. line_in (line_at profile (size_of lines) lines k))
+    filter_map (λ k. result_ok (line_at profile (size_of lines) lines k))
     (range_with_len 0 (length lines))
 
 abbrev pub unless_faulty : List DeckFault → LoadedDeck → Result LoadedDeck DeckFault

@@ -1,8 +1,9 @@
 -- The lines of a deck's text, and the fields of a line. Bytes are ASCII codes in decimal: a tab is
--- 9, LF is 10, CR is 13, a space is 32, `*` is 42.
-use Rattle.std.specs.Prelude.{ℕ, ◌-◌, ◌==◌, Bool, true, false, not, ◌||◌, List, [], ◌∷◌, length, map, take, filter, slice_index, if◌then◌else◌, Option, None, Some}
+-- 9, LF is 10, a space is 32, `*` is 42; a CR, 13, before an LF is no part of its line.
+use Rattle.std.specs.Prelude.{ℕ, ◌==◌, Bool, true, false, not, ◌||◌, List, [], ◌∷◌, map, filter, slice_index, Option, None, Some}
 use Rattle.std.specs.Borrow.{Bor}
 use Rattle.std.specs.List.{slice_split, take_while}
+use Rattle.std.specs.Str.Lines.{strip_carriage_return}
 
 -- the characters of a field, and the fields of a line from left to right
 abbrev pub Field : Type 0
@@ -18,11 +19,6 @@ is_line_feed byte = byte == 10
 abbrev pub is_blank : ℕ → Bool
 is_blank byte = byte == 32 || byte == 9
 
--- a line without the CR at its end
-abbrev pub without_return : List ℕ → List ℕ
-without_return line =
-    if slice_index line (length line - 1) == 13 then take (length line - 1) line else line
-
 -- a comment begins with `*`
 abbrev pub is_comment : Field → Bool
 is_comment field = slice_index field 0 == 42
@@ -36,9 +32,9 @@ unfoldable pub fields_in : List ℕ → Fields
 fields_in text =
     take_while (λ field. not (is_comment field)) (filter is_nonempty (slice_split is_blank text))
 
--- the fields of a line
+-- the fields of a line, without the CR at its end
 abbrev pub fields_of : List ℕ → Fields
-fields_of line = fields_in (without_return line)
+fields_of line = fields_in (strip_carriage_return line)
 
 -- the lines of a text, each as its fields. What comes after the last LF is a line too
 unfoldable pub lines_of : List ℕ → List Fields

@@ -47,36 +47,21 @@ with_processor (Some n) change m =
 abbrev pub with_central_words : ℕ → List ℕ → MachineState → MachineState
 with_central_words a ws m = record m { central = with_words a ws m.central }
 
--- what a line changes in the machine, where this processor is the current one
-abbrev pub machine_after : Option ℕ → Line → MachineState → MachineState
-machine_after current (central_words a ws) m = with_central_words a ws m
-machine_after current (start p a) m = with_processor current (runs_from p a) m
-machine_after current (words x ws) m = with_processor current (loaded_from x ws) m
-machine_after current line m = m
-
--- in the processors named
-abbrev pub named_after : Line → List Bool → List Bool
-named_after (section n) named = slice_set named (processor_index n) true
-named_after line named = named
-
--- in the current processor
-abbrev pub current_after : Line → Option ℕ → Option ℕ
-current_after (section n) current = Some n
-current_after line current = current
-
--- and in whether dead start was asked for
-abbrev pub asked_after : Line → Bool → Bool
-asked_after dead_start asked = true
-asked_after line asked = asked
-
--- what one line more leaves
+-- what one line more leaves: the words that it sets, in central memory or in the current processor;
+-- the processor that it names, which is then the current one; where the current one starts; or that
+-- dead start was asked for
 unfoldable pub after_line : Progress → Line → Progress
-after_line progress line = record {
-  machine = machine_after progress.current line progress.machine;
-  named = named_after line progress.named;
-  current = current_after line progress.current;
-  asks_dead_start = asked_after line progress.asks_dead_start;
+after_line progress (central_words a ws) =
+    record progress { machine = with_central_words a ws progress.machine }
+after_line progress (section n) =
+    record progress { named = slice_set progress.named (processor_index n) true; current = Some n }
+after_line progress (start p a) =
+    record progress { machine = with_processor progress.current (runs_from p a) progress.machine }
+after_line progress (words x ws) = record progress {
+  machine = with_processor progress.current (loaded_from x ws) progress.machine;
 }
+after_line progress dead_start = record progress { asks_dead_start = true }
+after_line progress line = progress
 
 -- what lines leave that are read one after another, for such a machine
 unfoldable pub after_lines : Profile → ℕ → List Line → Progress

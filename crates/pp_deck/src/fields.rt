@@ -2,7 +2,8 @@
 
 ghost use Rattle.std.specs.Prelude.{◌≡◌, ◌∷◌, [], not, IfSome, IfNone, position};
 ghost use Rattle.std.specs.List.{position_or_len};
-ghost use Rattle.pp_deck.specs.DeckText.{is_blank, without_return};
+ghost use Rattle.std.specs.Str.Lines.{strip_carriage_return};
+ghost use Rattle.pp_deck.specs.DeckText.{is_blank};
 
 use std::marker::Model;
 
@@ -52,7 +53,7 @@ impl<'a> Fields<'a> {
 
 /// The line without a carriage return at its end.
 fn trimmed(line: &[u8]) -> &[u8]
-    ensures { result.now ≡ without_return line.now }
+    ensures { result.now ≡ strip_carriage_return line.now }
 {
     if !line.is_empty() && line[line.len() - 1] == b'\r' {
         &line[..line.len() - 1]

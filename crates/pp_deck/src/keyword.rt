@@ -1,7 +1,7 @@
 //! The first field of a line, which says what the line is.
 
 ghost use Rattle.std.specs.Prelude.{◌≡◌, slice_index};
-ghost use Rattle.pp_deck.specs.DeckLine.{is_digit};
+ghost use Rattle.std.specs.Char.{is_ascii_digit};
 
 /// What the first field of a line announces.
 #[derive(Clone, Copy, Debug, PartialEq, Eq)]
@@ -50,7 +50,7 @@ impl Keyword {
 
 /// Whether its first character is one of 0 to 9.
 fn begins_with_digit(field: &[u8]) -> bool
-    ensures { result ≡ is_digit (slice_index field.now 0) }
+    ensures { result ≡ is_ascii_digit (slice_index field.now 0) }
 {
     match field {
         [first, ..] => b'0' <= *first && *first <= b'9',

@@ -1,8 +1,8 @@
 //! A deck as far as it was read.
 
-ghost use Rattle.std.specs.Prelude.{◌≡◌, ◌≤◌, ◌∷◌, ◌^◌, length, is_some, None, Some, IfOk, IsErrOf, ◌↔◌, if◌then◌else◌};
+ghost use Rattle.std.specs.Prelude.{◌≡◌, ◌≤◌, ◌∷◌, ◌^◌, length, is_some, Err, IfOk, IsErrOf, ◌↔◌, if◌then◌else◌};
 ghost use Rattle.pp_machine.specs.Central.{IsCentralSize};
-ghost use Rattle.pp_deck.specs.DeckLine.{section_line, start_line, words_line, central_words_line, line_after, unless_misplaced};
+ghost use Rattle.pp_deck.specs.DeckLine.{section_line, start_line, words_line, central_words_line, line_after};
 ghost use Rattle.pp_machine.specs.DeadStart.{IsBeforeFirstTurn};
 ghost use Rattle.pp_deck.specs.DeckMeaning.{unnamed_in, with_dead_start};
 ghost use Rattle.pp_deck.specs.Reading.{before_lines, after_line, deck_so_far, on_read, Leaves};
@@ -146,8 +146,7 @@ impl<A: Allocator> Reading<A> {
     #[tactic(auto, unfolding(crate::specs::DeckLine::start_line, crate::specs::Reading::after_line))]
     fn read_start(&mut self, fields: &mut Fields) -> Result<(), Flaw>
         ensures { Leaves self.new result (on_read (after_line self.old)
-            (unless_misplaced (if is_some self.old.current then None else Some Flaw.NoProcessor)
-            (start_line fields.old))) }
+            (if is_some self.old.current then start_line fields.old else Err Flaw.NoProcessor)) }
     {
         let processor = self.current.ok_or(Flaw::NoProcessor)?;
         let p = word12(fields.next_field().ok_or(Flaw::UnknownLine)?)?;
@@ -160,8 +159,8 @@ impl<A: Allocator> Reading<A> {
     #[tactic(auto, unfolding(crate::specs::DeckLine::words_line, crate::specs::Reading::after_line))]
     fn read_words(&mut self, first: &[u8], fields: &mut Fields) -> Result<(), Flaw>
         ensures { Leaves self.new result (on_read (after_line self.old)
-            (unless_misplaced (if is_some self.old.current then None else Some Flaw.NoProcessor)
-            (words_line first.now fields.old))) }
+            (if is_some self.old.current then words_line first.now fields.old
+            else Err Flaw.NoProcessor)) }
     {
         let processor = self.current.ok_or(Flaw::NoProcessor)?;
         let place = word12(first)?;

@@ -12,10 +12,11 @@ use Rattle.pp_machine.specs.PpNo.{names_processor, processor_count, processor_nu
 use Rattle.pp_machine.proofs.ProcessorPlaces.{number_named}
 use Rattle.pp_machine.specs.declared.profile.Profile.{Profile}
 use Rattle.pp_deck.specs.DeckLine.{Line, central_size, central_words, section, dead_start}
-use Rattle.pp_deck.specs.DeckLoad.{last_of, word_among, word_for, central_word_for, start_in, lines_for, names, is_named, is_dead_start, asks_dead_start, tabulate, each_processor, memory_of, central_loaded, processor_with, processor_loaded}
+use Rattle.pp_deck.specs.DeckLoad.{word_among, word_for, central_word_for, start_in, lines_for, is_named, is_dead_start, asks_dead_start, tabulate, each_processor, memory_of, central_loaded, processor_with, processor_loaded}
 use Rattle.pp_deck.specs.DeckMeaning.{LoadedDeck, set_by}
-use Rattle.pp_deck.proofs.ListLemmas.{tabulate_is, tabulate_same}
+use Rattle.pp_deck.proofs.ListLemmas.{last_of, tabulate_is, tabulate_same}
 use Rattle.pp_deck.proofs.MemoryLemmas.{length-central_loaded}
+use Rattle.pp_deck.proofs.SectionLemmas.{names}
 use Rattle.pp_deck.proofs.SectionLinesLemmas.{AllLines, all_append, or_false, flat_only, filter_flat, any_flat, any_none, KeepCurrent, keep_append, keep_flat, unnamed_empty, section_if, held_by_sections, named_by_sections, unset_by_sections}
 use Rattle.pp_listing.proofs.InstructionLemmas.{word_lines, start_by, IsOwn, instructions_own, start_own, all_keep, all_unnamed, all_no_central, all_no_request, among_at, among_before, instructions_hold, no_words, no_start}
 use Rattle.pp_deck.proofs.LoadedRangeLemmas.{length-memory_of}

@@ -15,7 +15,7 @@ use Rattle.pp_deck.specs.DeckLine.{Line, nothing, central_size, central_words, s
 use Rattle.pp_deck.specs.DeckLoad.{processor_loaded, central_loaded, asks_dead_start}
 use Rattle.pp_deck.specs.DeckLoad as load
 use Rattle.pp_deck.specs.DeckMeaning.{LoadedDeck, set_by, with_dead_start, loaded, deck_meaning, meaning_of_lines, faults_in, lines_said, size_of, unless_faulty, unless_foreign, is_foreign}
-use Rattle.pp_deck.specs.Reading.{current_after}
+use Rattle.pp_deck.proofs.LineParts.{current_after}
 use Rattle.pp_deck.specs.DeckText.{lines_of}
 use Rattle.pp_deck.proofs.DeadStartLemmas as dead
 use Rattle.pp_deck.proofs.LawLemmas as law

@@ -9,12 +9,12 @@ use Rattle.pp_machine.specs.Profile.{has_processor}
 use Rattle.pp_machine.specs.declared.profile.Profile.{Profile}
 use Rattle.pp_machine.proofs.ProcessorPlaces.{channel_of_processor}
 use Rattle.pp_deck.specs.DeckLine.{Line}
-use Rattle.pp_deck.specs.DeckLoad.{last_of, start_in, lines_for, memory_of, processor_with, processor_loaded, asks_dead_start}
+use Rattle.pp_deck.specs.DeckLoad.{start_in, lines_for, memory_of, processor_with, processor_loaded, asks_dead_start}
 use Rattle.pp_deck.specs.DeckLoad as load
 use Rattle.pp_deck.specs.DeckMeaning.{LoadedDeck, deck_meaning, loaded, set_by, with_dead_start}
 use Rattle.pp_deck.proofs.DeadStartLemmas as dead
 use Rattle.pp_deck.proofs.LawLemmas as law
-use Rattle.pp_deck.proofs.ListLemmas.{length-tabulate}
+use Rattle.pp_deck.proofs.ListLemmas.{last_of, length-tabulate}
 use Rattle.pp_deck.proofs.SectionLinesLemmas.{unnamed_empty}
 use Rattle.pp_listing.specs.Dump.{is_in_use}
 use Rattle.pp_listing.proofs.FreshDeckLemmas.{no_words}

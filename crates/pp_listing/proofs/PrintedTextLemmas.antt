@@ -11,7 +11,8 @@ use Rattle.std.proofs.lemmas.List.Quantifiers.{position-Some}
 use Rattle.pp_machine.specs.declared.profile.Profile.{Profile}
 use Rattle.pp_deck.specs.DeckLine.{Line, line_after, central_size}
 use Rattle.pp_deck.specs.DeckMeaning.{LoadedDeck, deck_meaning, meaning_of_lines, is_foreign, unless_foreign, size_of, loaded, with_dead_start}
-use Rattle.pp_deck.specs.Reading.{Progress, before_lines, after_line, after_lines, current_after, deck_so_far, progress_of}
+use Rattle.pp_deck.specs.Reading.{Progress, before_lines, after_line, after_lines, deck_so_far, progress_of}
+use Rattle.pp_deck.proofs.LineParts.{after_line_parts, current_after}
 use Rattle.pp_deck.specs.DeckText.{is_line_feed, fields_of, lines_of}
 use Rattle.pp_deck.proofs.LinesLemmas.{next_line}
 use Rattle.pp_deck.proofs.ProgressLemmas.{after_lines_is}
@@ -88,8 +89,7 @@ meaning_printed profile lines le =
 -- ---- reading the lines
 
 after_current : (progress : Progress) (line : Line) → (after_line progress line).current ≡ current_after line progress.current
-unfolding after_line
-after_current progress line = refl
+after_current progress line = ap (λ (p : Progress). p.current) (after_line_parts progress line)
 
 -- the deck behind all lines
 abbrev deck_after : Progress → LoadedDeck

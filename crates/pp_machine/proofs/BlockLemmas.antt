@@ -230,11 +230,12 @@ module _ (profile : Profile) where
   central_from-place_from : (memory : List ℕ) (a p : ℕ) (kind : BlockKind) (m j : ℕ) →
       central_from (midway memory a p kind (place_after m j)) (place_after m j) ≡ five_from memory m j
   central_from-place_from memory a p kind m j =
+      let none : j + 0 ≡ j = omega arith in
       let one : (place_after m j + 1) % place_count ≡ place_after m (j + 1) = omega arith in
       let two : (place_after m j + 2) % place_count ≡ place_after m (j + 2) = omega arith in
       let three : (place_after m j + 3) % place_count ≡ place_after m (j + 3) = omega arith in
       let four : (place_after m j + 4) % place_count ≡ place_after m (j + 4) = omega arith in
-      rw (one, two, three, four) refl
+      rw (none, one, two, three, four) refl
 
   central_out_need_midway : (left : ℕ) (memory : List ℕ) (a p place : ℕ) →
       need (midway memory a p (CentralOut left) place) ≡ needs.Write a (central_from (midway memory a p (CentralOut left) place) place)

@@ -17,3 +17,4 @@ pub mod RoundLemmas
 pub mod DeadStartLemmas
 pub mod QuietLemmas
 pub mod TakenLemmas
+pub mod KeptLemmas

@@ -28,8 +28,8 @@ kept_memory pp = (keeps_place pp).memory
 -- word i of this many comes to place i from m on, and all other places are as before
 pub record BringsWords (old new : List ℕ) (m count : ℕ) (word : ℕ → ℕ) : Type 0 where
   pub words : (i : ℕ) → i < count → slice_index new (place_after m i) ≡ word i
-  pub others : (place : ℕ) → place < place_count → ((i : ℕ) → i < count → place ≢ place_after m i) →
-      slice_index new place ≡ slice_index old place
+  pub others : (place : ℕ) → place < place_count → ((i : ℕ) → i < count → place ≢ place_after m i)
+      → slice_index new place ≡ slice_index old place
   pub each_place : length new ≡ length old
 
 -- a running processor without a block in progress, with this operation at P
@@ -72,36 +72,35 @@ abbrev pub write_answers : ℕ → List Answer
 write_answers count = Local ∷ replicate count (Wrote true)
 
 -- 71: words are taken from channel d, and come to the places from m on
-pub record TakesWords (pp : Processor) (answers : List Answer) (count : ℕ) (words : List ℕ) : Type 0
-  where
-    pub takes : (i : ℕ) → i < count → need_before_answer pp answers i
-        ≡ needs.Channel (lower_six pp) Take
-    pub memory : BringsWords (kept_memory pp) (replayed pp answers).memory (second_word pp)
-        (length words) (λ i. slice_index words i)
+pub record TakesWords (pp : Processor) (answers : List Answer) (count : ℕ) (words : List ℕ)
+    : Type 0 where
+  pub takes : (i : ℕ) → i < count
+      → need_before_answer pp answers i ≡ needs.Channel (lower_six pp) Take
+  pub memory : BringsWords (kept_memory pp) (replayed pp answers).memory (second_word pp)
+      (length words) (λ i. slice_index words i)
 
 -- 71: as many words as A says
 abbrev pub CompleteInput : Processor → Type 0
 CompleteInput pp =
-    (words : List ℕ) → BeginsAt IAM pp → has_channel pp.profile (lower_six pp) ≡ true → 0 < pp.a
-    → length words ≡ pp.a →
-    length words ≤ place_count →
-    let answers = input_answers words in EndsBlock pp answers 0
-    × TakesWords pp answers (length words) words
+    (words : List ℕ) → BeginsAt IAM pp → has_channel pp.profile (lower_six pp) ≡ true
+    → 0 < pp.a → length words ≡ pp.a → length words ≤ place_count →
+    let answers = input_answers words in
+    EndsBlock pp answers 0 × TakesWords pp answers (length words) words
 
 -- 71: fewer words, and then the channel was inactive: a word 0 closes them, and A is what was left
 abbrev pub ShortInput : Processor → Type 0
 ShortInput pp =
-    (words : List ℕ) (full : Bool) → BeginsAt IAM pp → has_channel pp.profile (lower_six pp) ≡ true
-    → length words < pp.a →
-    length words < place_count →
+    (words : List ℕ) (full : Bool) → BeginsAt IAM pp
+    → has_channel pp.profile (lower_six pp) ≡ true
+    → length words < pp.a → length words < place_count →
     let answers = input_answers words ++ inactive full ∷ [] in
     EndsBlock pp answers (pp.a - length words)
     × TakesWords pp answers (length words) (words ++ 0 ∷ [])
 
 -- 73: the words from place m on are put, and no place but 0000 changes
 pub record PutsWords (pp : Processor) (answers : List Answer) (count : ℕ) : Type 0 where
-  pub puts : (i : ℕ) → i < count →
-      need_before_answer pp answers i ≡ needs.Channel (lower_six pp)
+  pub puts : (i : ℕ) → i < count
+      → need_before_answer pp answers i ≡ needs.Channel (lower_six pp)
       (Put (slice_index (kept_memory pp) (place_after (second_word pp) i)))
   pub memory : (replayed pp answers).memory ≡ kept_memory pp
 
@@ -109,13 +108,14 @@ pub record PutsWords (pp : Processor) (answers : List Answer) (count : ℕ) : Ty
 abbrev pub CompleteOutput : Processor → Type 0
 CompleteOutput pp =
     BeginsAt OAM pp → has_channel pp.profile (lower_six pp) ≡ true → 0 < pp.a →
-    let answers = output_answers pp.a in EndsBlock pp answers 0 × PutsWords pp answers pp.a
+    let answers = output_answers pp.a in
+    EndsBlock pp answers 0 × PutsWords pp answers pp.a
 
 -- 73: fewer words, and then the channel was inactive
 abbrev pub ShortOutput : Processor → Type 0
 ShortOutput pp =
-    (count : ℕ) (full : Bool) → BeginsAt OAM pp → has_channel pp.profile (lower_six pp) ≡ true
-    → count < pp.a →
+    (count : ℕ) (full : Bool) → BeginsAt OAM pp
+    → has_channel pp.profile (lower_six pp) ≡ true → count < pp.a →
     let answers = output_answers count ++ inactive full ∷ [] in
     EndsBlock pp answers (pp.a - count) × PutsWords pp answers count
 
@@ -129,31 +129,29 @@ part_of centrals j = slice_index (parts_of (slice_index centrals (j / 5))) (j % 
 
 -- 61: central words are read, and their parts come to the places from m on
 pub record ReadsCentrals (pp : Processor) (answers : List Answer) (centrals : List ℕ) : Type 0 where
-  pub reads : (i : ℕ) → i < length centrals → need_before_answer pp answers i
-      ≡ needs.Read (address_of pp.a i)
+  pub reads : (i : ℕ) → i < length centrals
+      → need_before_answer pp answers i ≡ needs.Read (address_of pp.a i)
   pub memory : BringsWords (kept_memory pp) (replayed pp answers).memory (second_word pp)
       (5 * length centrals) (part_of centrals)
 
 -- 61: as many central words as place d says, from 1 to 819 (decimal)
 abbrev pub CentralRead : Processor → Type 0
 CentralRead pp =
-    (centrals : List ℕ) → BeginsAt CRM pp → 0 < length centrals → length centrals ≤ 819 →
-    length centrals ≡ word_at pp (lower_six pp) →
+    (centrals : List ℕ) → BeginsAt CRM pp → 0 < length centrals → length centrals ≤ 819
+    → length centrals ≡ word_at pp (lower_six pp) →
     let answers = read_answers centrals in
     EndsBlock pp answers (sum pp.a (length centrals)) × ReadsCentrals pp answers centrals
 
 -- the central word of places j to j + 4 from m on
 abbrev pub five_from : List ℕ → ℕ → ℕ → ℕ
 five_from memory m j =
-    joined (slice_index memory (place_after m j) ∷ slice_index memory (place_after m (j + 1))
-    ∷ slice_index memory (place_after m (j + 2)) ∷
-    slice_index memory (place_after m (j + 3)) ∷ slice_index memory (place_after m (j + 4)) ∷ [])
+    joined (map (λ k. slice_index memory (place_after m (j + k))) (0 ∷ 1 ∷ 2 ∷ 3 ∷ 4 ∷ []))
 
 -- 63: central words are written from the words from place m on, five each, and no place but 0000
 -- changes
 pub record WritesCentrals (pp : Processor) (answers : List Answer) (count : ℕ) : Type 0 where
-  pub writes : (i : ℕ) → i < count →
-      need_before_answer pp answers i ≡ needs.Write (address_of pp.a i)
+  pub writes : (i : ℕ) → i < count
+      → need_before_answer pp answers i ≡ needs.Write (address_of pp.a i)
       (five_from (kept_memory pp) (second_word pp) (5 * i))
   pub memory : (replayed pp answers).memory ≡ kept_memory pp
 
@@ -161,5 +159,5 @@ pub record WritesCentrals (pp : Processor) (answers : List Answer) (count : ℕ)
 abbrev pub CentralWrite : Processor → Type 0
 CentralWrite pp =
     (count : ℕ) → BeginsAt CWM pp → 0 < count → count ≡ word_at pp (lower_six pp) →
-    let answers = write_answers count in EndsBlock pp answers (sum pp.a count)
-    × WritesCentrals pp answers count
+    let answers = write_answers count in
+    EndsBlock pp answers (sum pp.a count) × WritesCentrals pp answers count

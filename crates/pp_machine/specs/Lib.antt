@@ -20,6 +20,7 @@ pub mod DeadStart
 pub mod Lending
 pub mod MachineInvariant
 -- cited by private contracts alone: nobody has to read these to believe what the crate promises
+pub mod Processors
 pub mod Rounds
 pub mod NextStep
 pub mod Quiet

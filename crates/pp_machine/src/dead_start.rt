@@ -75,7 +75,7 @@ impl<A: Allocator> Machine<A> {
         let i = own.index();
         // The call says to the proof that the history is lawful.
         let _history = channel.history();
-        self.processors[n.index()].wait_load(own);
+        self.processors.any_mut(n.index()).wait_load(own);
         put_channel(&mut self.channels, i, channel);
         self.opened[i] = true;
     }

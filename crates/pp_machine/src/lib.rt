@@ -14,6 +14,7 @@ mod pp;
 mod pp_memory;
 mod pp_no;
 mod pp_state;
+mod processors;
 mod profile;
 mod quiet;
 mod replay;

@@ -6,12 +6,11 @@ ghost use Rattle.pp_channel.specs.ChannelNo.{channel_count};
 ghost use Rattle.pp_channel.specs.History.{IsLawful};
 ghost use Rattle.pp_channel.specs.Law.{KeepsLaw};
 ghost use Rattle.pp_machine.specs.Headline.{HoldsOnChannel};
-ghost use Rattle.pp_machine.specs.Processor.{new_processor};
-ghost use Rattle.pp_machine.specs.PpNo.{processor_count};
 
 use crate::central::{Central, CentralFault};
 use crate::pp::Pp;
-use crate::pp_no::{PROCESSORS, PpNo};
+use crate::pp_no::PpNo;
+use crate::processors::Processors;
 use crate::profile::Profile;
 use crate::trace::Trace;
 use pp_channel::{CHANNELS, Channel, ChannelNo};
@@ -22,13 +21,12 @@ use std::marker::Model;
 /// A machine. Contracts see it as a `MachineState`: its channels by their histories alone.
 #[derive(Drop)]
 pub struct Machine<A: Allocator> {
-    pub(crate) processors: Vec<Pp, A>,
+    pub(crate) processors: Processors<A>,
     pub(crate) channels: Vec<Channel<A>, A>,
     pub(crate) central: Central<A>,
     pub(crate) turns: u64,
     pub(crate) trace: Vec<Trace, A>,
     pub(crate) opened: [bool; CHANNELS],
-    pub(crate) profile: Profile,
 }
 
 impl<A: Allocator> Model for Machine<A> {
@@ -38,7 +36,7 @@ impl<A: Allocator> Model for Machine<A> {
     ghost Value = { MachineState };
 
     ghost view = { λ m. record {
-      profile = m.profile;
+      profile = m.processors.profile;
       processors = m.processors.items;
       histories = m.channels.items;
       central = m.central;
@@ -48,7 +46,7 @@ impl<A: Allocator> Model for Machine<A> {
     } };
 
     ghost invariant = { λ m. IsMachine (record {
-      profile = m.profile;
+      profile = m.processors.profile;
       processors = m.processors.items;
       histories = m.channels.items;
       central = m.central;
@@ -77,13 +75,12 @@ impl<A: Allocator> Machine<A> {
     {
         let central = Central::new(alloc, size)?;
         Ok(Machine {
-            processors: new_processors(alloc, profile)?,
+            processors: Processors::new(alloc, profile)?,
             channels: new_channels(alloc)?,
             central,
             turns: 0,
             trace: Vec::new(alloc),
             opened: [false; CHANNELS],
-            profile,
         })
     }
 
@@ -91,7 +88,7 @@ impl<A: Allocator> Machine<A> {
     pub fn profile(&self) -> Profile
         ensures { result ≡ self.now.profile }
     {
-        self.profile
+        self.processors.profile()
     }
 
     /// How many turns it has counted (decimal); the greatest count stays.
@@ -113,7 +110,7 @@ impl<A: Allocator> Machine<A> {
     pub fn pp(&self, n: PpNo) -> &Pp
         ensures { result.now ≡ processor_of n self.now }
     {
-        &self.processors[n.index()]
+        self.processors.any(n.index())
     }
 
     /// A channel.
@@ -155,20 +152,8 @@ impl<A: Allocator> Machine<A> {
         ensures* lends { sem 𝓛 (LendsProcessor A.row A.Allocator self.entry n result) }
         ensures value { result.now ≡ processor_of n self.old }
     {
-        &mut self.processors[n.index()]
+        self.processors.any_mut(n.index())
     }
-}
-
-/// Processors at rest.
-fn new_processors<A: Allocator>(alloc: A, profile: Profile) -> Result<Vec<Pp, A>, CentralFault>
-    ensures items { IfOk result (λ v. v.items ≡ replicate processor_count (new_processor profile)) }
-    ensures memory { OnErr result (result ≡ Err CentralFault.Memory) }
-{
-    let mut processors = Vec::with_capacity(alloc, PROCESSORS)?;
-    for _ in 0..PROCESSORS {
-        processors.push(Pp::new(profile))?;
-    }
-    Ok(processors)
 }
 
 /// Channels on which nothing has happened.

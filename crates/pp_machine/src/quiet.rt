@@ -1,11 +1,12 @@
 //! Rounds of the barrel in which each step is quiet: it makes no event and writes no central word.
 
-ghost use Rattle.std.specs.Prelude.{◌≡◌, ◌-◌, ◌<◌, ◌≤◌, [], None, IfSome, IsNone, IsSome, IsTrue, false, slice_index_or, vec_len};
+ghost use Rattle.std.specs.Prelude.{◌≡◌, ◌-◌, ◌<◌, ◌≤◌, [], None, IfSome, IsNone, IsSome, IsTrue, false, length, slice_index_or, vec_len};
 ghost use Rattle.pp_channel.specs.Answer.{event_of, reply_to};
 ghost use Rattle.pp_channel.specs.ChannelNo.{channel_count, channel_index};
 ghost use Rattle.pp_machine.specs.MachineState.{MachineState};
 ghost use Rattle.pp_machine.specs.NeedAndEffect.{need};
 ghost use Rattle.pp_machine.specs.PpNo.{processor_count};
+ghost use Rattle.pp_machine.specs.Profile.{processors_in};
 ghost use Rattle.pp_machine.specs.Quiet.{is_quiet, IsAhead, AreAhead};
 ghost use Rattle.pp_machine.specs.Replay.{reply_fits};
 
@@ -14,24 +15,26 @@ use crate::need::Need;
 use crate::outcome::Outcome;
 use crate::pp::{Pp, ends};
 use crate::pp_state::PpState;
+use crate::processors::Processors;
 use pp_channel::{ChanOp, Channel, ChannelNo, Reply};
 use std::alloc::Allocator;
 
 /// Runs the processors of a round from a place of the barrel on, each as many steps, up to this
 /// many, as all of them can make quietly, and says how many that are.
 pub(crate) fn run_ahead<A: Allocator>(
-    processors: &mut Vec<Pp, A>,
+    processors: &mut Processors<A>,
     channels: &Vec<Channel<A>, A>,
     round: usize,
     place: usize,
     most: u32,
 ) -> u32
-    requires all { vec_len processors.old ≡ processor_count }
+    requires all { length processors.old.items ≡ processor_count }
     requires channels { vec_len channels.now ≡ channel_count }
-    requires round { round ≤ processor_count }
+    requires round { round ≤ processors_in processors.old.profile }
     requires within { place ≤ round }
     ensures most { result ≤ most }
-    ensures as_many { vec_len processors.new ≡ processor_count }
+    ensures profile { processors.new.profile ≡ processors.old.profile }
+    ensures as_many { length processors.new.items ≡ processor_count }
     ensures ahead { (m : MachineState) → m.histories ≡ channels.now.items
         → AreAhead result round place m processors.old.items processors.new.items }
 {
@@ -41,18 +44,18 @@ pub(crate) fn run_ahead<A: Allocator>(
     if place == round {
         return most;
     }
-    match processors[place].state() {
+    match processors.at(place).state() {
         PpState::Running => {}
         PpState::Stopped | PpState::Fault(_) => {
             return run_ahead(processors, channels, round, place + 1, most);
         }
     }
-    let before = processors[place].copy();
-    let made = run_quiet_steps(&mut processors[place], channels, most);
+    let before = processors.at(place).copy();
+    let made = run_quiet_steps(processors.at_mut(place), channels, most);
     let all = run_ahead(processors, channels, round, place + 1, made);
     if all < made {
-        processors[place] = before;
-        let _again = run_quiet_steps(&mut processors[place], channels, all);
+        *processors.at_mut(place) = before;
+        let _again = run_quiet_steps(processors.at_mut(place), channels, all);
     }
     all
 }

@@ -1,14 +1,14 @@
 //! Lists of steps.
 
-ghost use Rattle.std.specs.Prelude.{◌≡◌, ◌*◌, ◌<◌, ◌≤◌, length, take, slice_index, IfErr, IsSome, OnOk, vec_len};
+ghost use Rattle.std.specs.Prelude.{◌≡◌, ◌*◌, ◌<◌, ◌≤◌, length, take, slice_index, IfErr, IsSome, OnOk};
 ghost use Rattle.pp_machine.specs.PpNo.{processor_count};
 ghost use Rattle.pp_machine.specs.Rounds.{RestBetween, PassesOverRest};
 
 use crate::cut::Cut;
 use crate::machine::Machine;
-use crate::pp::Pp;
 use crate::pp_no::{PROCESSORS, PpNo};
 use crate::pp_state::PpState;
+use crate::processors::Processors;
 use crate::quiet::run_ahead;
 use std::alloc::Allocator;
 
@@ -91,7 +91,7 @@ impl<A: Allocator> Machine<A> {
     fn round(&self) -> u32
         ensures { result ≡ processors_in self.now.profile }
     {
-        self.profile.processors() as u32
+        self.profile().processors() as u32
     }
 
     /// This many whole rounds of the barrel, as many as can be made quietly, and the others turn by
@@ -268,14 +268,14 @@ fn window_after(held: u32) -> u32
 /// For each place of the barrel, and for its end, the first place from there on whose processor is
 /// running, or the number of processors where there is none.
 #[tactic(auto, using(crate::proofs::RoundLemmas::passes_from_end, crate::proofs::RoundLemmas::passes_from_running, crate::proofs::RoundLemmas::passes_from_rest, crate::proofs::RoundLemmas::passes_from_start))]
-fn next_running<A: Allocator>(processors: &Vec<Pp, A>) -> [usize; PROCESSORS + 1]
-    requires { vec_len processors.now ≡ processor_count }
+fn next_running<A: Allocator>(processors: &Processors<A>) -> [usize; PROCESSORS + 1]
+    requires { length processors.now.items ≡ processor_count }
     ensures { PassesOverRest result processors.now.items }
 {
     let mut next = [PROCESSORS; PROCESSORS + 1];
     let mut running = PROCESSORS;
     for place in (0..PROCESSORS).rev() {
-        match processors[place].state() {
+        match processors.any(place).state() {
             PpState::Running => running = place,
             PpState::Stopped | PpState::Fault(_) => {}
         }

@@ -1,6 +1,6 @@
 //! One step of a machine.
 
-ghost use Rattle.std.specs.Prelude.{◌≡◌, ◌++◌, [], None, Some, IsTrue, vec_len, map, slice_set, slice_index_or, if◌then◌else◌, IfOk, IsOk, IsNone, OnOk, OnErr};
+ghost use Rattle.std.specs.Prelude.{◌≡◌, ◌<◌, ◌++◌, [], None, Some, IsTrue, vec_len, map, slice_set, slice_index_or, if◌then◌else◌, IfOk, IsOk, IsNone, OnOk, OnErr};
 ghost use Rattle.std.specs.Option.{option_to_list};
 ghost use Rattle.pp_channel.specs.Answer.{event_of, reply_to, history_after};
 ghost use Rattle.pp_channel.specs.ChannelNo.{channel_count, channel_index};
@@ -8,7 +8,8 @@ ghost use Rattle.pp_channel.specs.History.{IsLawful, HasTwelveBitWord};
 ghost use Rattle.pp_channel.specs.Law.{KeepsLaw};
 ghost use Rattle.pp_machine.specs.NextStep.{IsAtInstruction, IsNext};
 ghost use Rattle.pp_machine.specs.NeedAndEffect.{need};
-ghost use Rattle.pp_machine.specs.Profile.{has_channel};
+ghost use Rattle.pp_machine.specs.PpNo.{processor_index};
+ghost use Rattle.pp_machine.specs.Profile.{has_channel, processors_in};
 ghost use Rattle.pp_machine.specs.Replay.{fits};
 ghost use Rattle.pp_machine.specs.StepLaws.{IsAtRest, IsAtFault, KeepsMemoryAndRegisters};
 
@@ -45,7 +46,7 @@ impl<A: Allocator> Machine<A> {
             → KeepsMemoryAndRegisters (processor_of n self.old) (processor_of n self.new) }
         ensures headline { HoldsOnEachChannel self.new }
     {
-        match self.processors[n.index()].state() {
+        match self.processors.any(n.index()).state() {
             PpState::Running => self.step_by_need(n),
             PpState::Stopped | PpState::Fault(_) => {
                 self.count_turn();
@@ -64,9 +65,9 @@ impl<A: Allocator> Machine<A> {
         ensures headline { HoldsOnEachChannel self.new }
     {
         let i = n.index();
-        let need = self.processors[i].wants();
+        let need = self.processors.any(i).wants();
         let answer = self.serve(n, need)?;
-        let outcome = self.processors[i].give(answer);
+        let outcome = self.processors.any_mut(i).give(answer);
         self.count_turn();
         Ok(outcome)
     }
@@ -91,13 +92,14 @@ impl<A: Allocator> Machine<A> {
     /// turn then costs half as much.
     #[tactic(auto, using(crate::proofs::MachineStepLemmas::stepped_at_rest, crate::proofs::MachineStepLemmas::outcome_at_rest))]
     pub(crate) fn step_in_barrel(&mut self, n: PpNo) -> Result<Outcome, Memory>
+        requires place { processor_index n < processors_in self.old.profile }
         ensures ok { OnOk result (self.new ≡ stepped n self.old) }
         ensures outcome { IfOk result (λ o. o ≡ step_outcome n self.old) }
         ensures unchanged_after_memory { OnErr result (self.new ≡ self.old) }
         ensures no_event { IsNone (step_event n self.old) → IsOk result }
         ensures headline { HoldsOnEachChannel self.new }
     {
-        match self.processors[n.index()].state() {
+        match self.processors.at(n.index()).state() {
             PpState::Running => self.go_on(n),
             PpState::Stopped | PpState::Fault(_) => {
                 self.count_turn();
@@ -117,7 +119,8 @@ impl<A: Allocator> Machine<A> {
     /// The step of a processor that is running.
     #[tactic(auto, using(crate::proofs::MachineStepLemmas::stepped_alone, crate::proofs::MachineStepLemmas::outcome_alone))]
     fn go_on(&mut self, n: PpNo) -> Result<Outcome, Memory>
-        requires { (processor_of n self.old).state ≡ PpState.Running }
+        requires place { processor_index n < processors_in self.old.profile }
+        requires running { (processor_of n self.old).state ≡ PpState.Running }
         ensures ok { OnOk result (self.new ≡ stepped n self.old) }
         ensures outcome { IfOk result (λ o. o ≡ step_outcome n self.old) }
         ensures unchanged_after_memory { OnErr result (self.new ≡ self.old) }
@@ -125,14 +128,14 @@ impl<A: Allocator> Machine<A> {
         ensures headline { HoldsOnEachChannel self.new }
     {
         let i = n.index();
-        let (next, d) = self.processors[i].next_instruction();
+        let (next, d) = self.processors.at(i).next_instruction();
         if let Some(op) = &next {
-            if self.processors[i].run_inner(*op, d) {
+            if self.processors.at_mut(i).run_inner(*op, d) {
                 self.count_turn();
                 return Ok(Outcome::Moved);
             }
-            if self.processors[i].tests_flags(*op, d) {
-                let profile = self.processors[i].profile();
+            if self.processors.at(i).tests_flags(*op, d) {
+                let profile = self.processors.at(i).profile();
                 self.test_flags(n, *op, d, profile);
                 return Ok(Outcome::Moved);
             }
@@ -144,6 +147,7 @@ impl<A: Allocator> Machine<A> {
     /// channel.
     #[tactic(auto, using(crate::proofs::MachineStepLemmas::stepped_by_probe, crate::proofs::MachineStepLemmas::outcome_by_probe, crate::proofs::MachineStepLemmas::stepped_alone, crate::proofs::MachineStepLemmas::outcome_alone))]
     fn test_flags(&mut self, n: PpNo, op: Opcode, d: Word6, profile: Profile)
+        requires place { processor_index n < processors_in self.old.profile }
         requires next { IsAtInstruction op d (processor_of n self.old) }
         requires probes { need (processor_of n self.old)
             ≡ (if has_channel profile d then Need.Channel d ChanOp.Probe else Need.Local) }
@@ -152,12 +156,12 @@ impl<A: Allocator> Machine<A> {
         ensures headline { HoldsOnEachChannel self.new }
     {
         let Some(channel) = profile.channel(d.get()) else {
-            let _fault = self.processors[n.index()].give_local(&Some(op), d);
+            let _fault = self.processors.at_mut(n.index()).give_local(&Some(op), d);
             self.count_turn();
             return;
         };
         let flags = self.channel(channel).flags();
-        self.processors[n.index()].test_flags(op, d, flags);
+        self.processors.at_mut(n.index()).test_flags(op, d, flags);
         self.count_turn();
     }
 
@@ -169,7 +173,8 @@ impl<A: Allocator> Machine<A> {
         next: &Option<Opcode>,
         d: Word6,
     ) -> Result<Outcome, Memory>
-        requires { IsNext next.now d (processor_of n self.old) }
+        requires place { processor_index n < processors_in self.old.profile }
+        requires next { IsNext next.now d (processor_of n self.old) }
         ensures ok { OnOk result (self.new ≡ stepped n self.old) }
         ensures outcome { IfOk result (λ o. o ≡ step_outcome n self.old) }
         ensures unchanged_after_memory { OnErr result (self.new ≡ self.old) }
@@ -177,21 +182,21 @@ impl<A: Allocator> Machine<A> {
         ensures headline { HoldsOnEachChannel self.new }
     {
         let i = n.index();
-        match self.processors[i].wants_next(next, d) {
+        match self.processors.at(i).wants_next(next, d) {
             Need::Nothing | Need::Local => {
-                let outcome = self.processors[i].give_local(next, d);
+                let outcome = self.processors.at_mut(i).give_local(next, d);
                 self.count_turn();
                 Ok(outcome)
             }
             Need::Channel(channel, op) => {
                 let reply = self.exchange(n, channel, op)?;
-                let outcome = self.processors[i].give_reply(next, d, reply);
+                let outcome = self.processors.at_mut(i).give_reply(next, d, reply);
                 self.count_turn();
                 Ok(outcome)
             }
             Need::Read(address) => {
                 let word = self.central.read(address);
-                self.processors[i].give_central(next, d, word);
+                self.processors.at_mut(i).give_central(next, d, word);
                 self.count_turn();
                 Ok(Outcome::Moved)
             }
@@ -199,7 +204,7 @@ impl<A: Allocator> Machine<A> {
                 // The processor first, since no store then comes between its two looks at its
                 // block.
                 let is_within = address.get() < self.central.size();
-                self.processors[i].give_written(next, d, is_within);
+                self.processors.at_mut(i).give_written(next, d, is_within);
                 let _written = self.central.write(address, word);
                 self.count_turn();
                 Ok(Outcome::Moved)

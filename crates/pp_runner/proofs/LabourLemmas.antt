@@ -10,7 +10,7 @@ use Rattle.std.proofs.Math.ListN.{get_or-append}
 use Rattle.std.proofs.Math.Seq.{take-append_seam, get_or-append_seam}
 use Rattle.pp_channel.proofs.AnswerLemmas.{shown_makes_none}
 use Rattle.pp_channel.proofs.LastElements.{last_or-push}
-use Rattle.pp_channel.specs.LineLog.{LogState, empty_log, appended, looked, is_look_at}
+use Rattle.pp_channel.specs.LineLog.{LogState, empty_log, appended, looked, with_seen, is_look_at}
 use Rattle.pp_channel.specs.Answer.{event_answered, flags_shown, seen_with}
 use Rattle.pp_channel.specs.MonotoneLog.{IsMonotone}
 use Rattle.pp_channel.specs.declared.chan_op.ChanOp.{ChanOp}
@@ -35,7 +35,7 @@ use Rattle.pp_machine.specs.declared.outcome.Outcome.TheVariants.{Moved}
 use Rattle.pp_runner.proofs.LogLemmas.{looked_at, settled_kept, settled_look, IsSettled, settles, events_settled, events_in-push, sights_in-push, stands_push, stands_settled}
 use Rattle.pp_runner.proofs.ReplyLemmas.{sight_of, reply_to_channel}
 use Rattle.pp_runner.specs.AnswersGiven.{OfEachAnswer, IsBySize}
-use Rattle.pp_runner.specs.Labour.{IsAtWork, IsAnswered, IsNoted, noted_as, settled}
+use Rattle.pp_runner.specs.Labour.{IsAtWork, IsAnswered, IsNoted, settled}
 use Rattle.pp_runner.specs.End.{WasHeld, NeedsChannel}
 use Rattle.pp_runner.specs.WorkerLog.{event_in, events_in, sights_in, IsSubsequence}
 
@@ -133,7 +133,7 @@ logged_saw c number what before after room s held is =
     }
 
 logged_as : (c number : ℕ) (what : Seen) (before after : LogState) → 1 ≤ before.room → IsSettled before → (before.kept ≡ false → IsTrue (is_look_at c (last_or None before.entries)))
-    → after ≡ noted_as before c number what → IsLogged (record { channel = c; what = what } ∷ []) before after
+    → after ≡ with_seen before c number (Some what) → IsLogged (record { channel = c; what = what } ∷ []) before after
 logged_as c number (Did e) before after room s held is = logged_did c number (Did e) before after room s is
 logged_as c number (Saw f) before after room s held is = logged_saw c number (Saw f) before after room s held is
 

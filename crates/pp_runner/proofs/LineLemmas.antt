@@ -1,8 +1,9 @@
 -- A line after a call: it is the same line, later.
-use Rattle.std.proofs.Common.{◌≡◌, ℕ, Bool, true, false, suc, ◌≤◌, ◌+◌, ◌-◌, ◌*◌, List, [], ◌∷◌, ◌++◌, All, length, refl, sym, ap, ◌∙◌, subst, append_assoc, arith}
+use Rattle.std.proofs.Common.{◌≡◌, ℕ, Bool, true, false, suc, ◌<◌, ◌≤◌, ◌==◌, ◌+◌, ◌-◌, ◌*◌, List, [], ◌∷◌, ◌++◌, All, Some, length, map, refl, sym, ap, ◌∙◌, subst, append_assoc, arith}
 use Rattle.std.specs.Prelude.{if◌then◌else◌, is_some, slice_set}
 use Rattle.std.specs.List.{flat_map}
 use Rattle.std.proofs.lemmas.Grind.{flat_map-append}
+use Rattle.std.proofs.lemmas.Bool.{eq-eqb}
 use Rattle.std.proofs.lemmas.List.{append-nil, length-append}
 use Rattle.std.proofs.lemmas.List.Elements.{All-append, All-cons, All-head, All-nil, All-push, All-tail}
 use Rattle.std.proofs.Math.Nat.{suc-mul, mul-one, zero-mul}
@@ -10,9 +11,10 @@ use Rattle.pp_channel.proofs.LineAnswers.{number_later}
 use Rattle.pp_channel.proofs.LineKnowledge.{all_looked}
 use Rattle.pp_channel.proofs.SeenLemmas.{set_raises}
 use Rattle.pp_channel.specs.ChannelNo.{channel_index}
-use Rattle.pp_channel.specs.LineLog.{LogState}
+use Rattle.pp_channel.specs.ChannelWord.{number_in}
+use Rattle.pp_channel.specs.LineLog.{LogState, with_seen}
 use Rattle.pp_channel.specs.Answer.{flags_shown}
-use Rattle.pp_channel.specs.LineState.{LineState, AreFoundBy, IsActed, IsAnsweredBy, IsWornOut, found_on, number_after}
+use Rattle.pp_channel.specs.LineState.{LineState, IsActed, IsAnsweredBy, IsWornOut, number_after}
 use Rattle.pp_channel.specs.Histories.{history_on}
 use Rattle.pp_channel.specs.MonotoneLog.{seen_on}
 use Rattle.pp_channel.specs.declared.chan_op.ChanOp.{ChanOp}
@@ -26,7 +28,7 @@ use Rattle.pp_channel.specs.declared.rule.FoundWord.{FoundWord}
 use Rattle.pp_machine.specs.NeedAndEffect.{need}
 use Rattle.pp_machine.specs.Processor.{Processor}
 use Rattle.pp_runner.proofs.ReplyLemmas.{line_reply_fits, sight_of}
-use Rattle.pp_runner.specs.Labour.{AreFoundByOne, NoneOlder, IsSameLine, HasOperated, operations, noted_as}
+use Rattle.pp_runner.specs.Labour.{AreFoundByOne, NoneOlder, IsSameLine, HasOperated, operations}
 use Rattle.pp_runner.specs.End.{WasHeld}
 
 -- nothing came
@@ -50,7 +52,7 @@ after_if number false = omega arith
 after_number : (number : ℕ) (reply : Reply) → number ≤ number_after number reply
 after_number number reply = after_if number (is_some (flags_shown reply))
 
-none_older_noted : (happened : ℕ → ℕ) (log : LogState) (c number : ℕ) (what : Seen) → happened c ≤ number → NoneOlder happened log.entries → NoneOlder happened (noted_as log c number what).entries
+none_older_noted : (happened : ℕ → ℕ) (log : LogState) (c number : ℕ) (what : Seen) → happened c ≤ number → NoneOlder happened log.entries → NoneOlder happened (with_seen log c number (Some what)).entries
 none_older_noted happened log c number (Did e) later none =
     All-push (λ (entry : Entry). happened entry.channel ≤ entry.number) log.entries (record { channel = c; number = number; what = Did e }) none later
 none_older_noted happened log c number (Saw f) later none =
@@ -63,7 +65,7 @@ same_line_acted line after c op r acted =
     let later = number_later line after c op r acted in
     let seen : after.view.seen ≡ slice_set line.view.seen (channel_index c) number = ap (λ l. l.view.seen) acted.after_is in
     let s = sight_of c op r.reply (line_reply_fits (history_on c acted.histories) op r acted.answer) in
-    let log : after.log ≡ noted_as line.log c r.number s.what = ap (λ l. l.log) acted.after_is ∙ s.noted line.log r.number in
+    let log : after.log ≡ with_seen line.log c r.number (Some s.what) = ap (λ l. l.log) acted.after_is ∙ s.noted line.log r.number in
     let raised : (d : ℕ) → seen_on d line.view.seen ≤ seen_on d (slice_set line.view.seen (channel_index c) number) =
     λ d. set_raises line.view.seen (channel_index c) number (channel_index d) (let more = after_number r.number r.reply in omega (arith, later, more)) in record {
       shares = ap (λ l. l.view.shares) acted.after_is;
@@ -86,12 +88,23 @@ operated_once words line after are found = record {
   found = found ∙ ap (λ ws. line.view.found ++ ws) (sym (append-nil words));
 }
 
-found_by_answer : (history : List Event) (c : ℕ) (op : ChanOp) (r : Numbered) (words : List ℕ) → AreFoundBy r words → IsAnsweredBy history op r → AreFoundByOne (found_on c words)
-found_by_answer history c op r [] none _ = none
-found_by_answer history c op r (word ∷ []) are _ = tt
-found_by_answer history c op r (word ∷ other ∷ []) are answered =
-    let later = (answered.lost are.2).later in (refl, omega (arith, are.0, are.1, later))
-found_by_answer history c op r (word ∷ other ∷ more ∷ rest) none _ = none
+-- these words, each found on channel c
+abbrev found_on : ℕ → List ℕ → List FoundWord
+found_on c words = map (λ word. record { channel = c; word = word }) words
+
+found_by : (c loaded number : ℕ) (at_once : Bool) (words : List ℕ) → map number_in words ≡ loaded ∷ (if at_once then [] else number ∷ []) → (at_once ≡ false → loaded < number) → AreFoundByOne (found_on c words)
+found_by c loaded number at_once [] found later = absurd cc
+found_by c loaded number at_once (word ∷ []) found later = tt
+found_by c loaded number true (word ∷ other ∷ rest) found later = absurd cc
+found_by c loaded number false (word ∷ other ∷ []) found later =
+    let first : number_in word ≡ loaded = cc in
+    let second : number_in other ≡ number = cc in
+    let less = later refl in (refl, omega (arith, first, second, less))
+found_by c loaded number false (word ∷ other ∷ more ∷ rest) found later = absurd cc
+
+found_by_answer : (history : List Event) (c : ℕ) (op : ChanOp) (r : Numbered) (words : List ℕ) → map number_in words ≡ r.loaded ∷ (if r.number == r.loaded then [] else r.number ∷ []) → IsAnsweredBy history op r → AreFoundByOne (found_on c words)
+found_by_answer history c op r words found answered =
+    found_by c r.loaded r.number (r.number == r.loaded) words found (λ other. (answered.lost (λ same. let at_once = eq-eqb r.number r.loaded same in absurd cc)).later)
 
 -- an answer came
 pub operated_acted : (line after : LineState) (c : ℕ) (op : ChanOp) (r : Numbered) → IsActed line c op r after → HasOperated 1 line after

@@ -3,14 +3,13 @@ use Rattle.std.proofs.Common.{◌≡◌, ℕ, true, List, [], ◌∷◌, map, So
 use Rattle.std.specs.Prelude.{take}
 use Rattle.std.specs.Option.{option_to_list}
 use Rattle.std.proofs.lemmas.Bool.{cases_eq}
-use Rattle.pp_channel.specs.Answer.{IsAnswer, channel_state}
-use Rattle.pp_channel.specs.LineLog.{LogState, with_answer, with_seen}
+use Rattle.pp_channel.specs.Answer.{IsAnswer, channel_state, seen_answered}
+use Rattle.pp_channel.specs.LineLog.{LogState, with_seen}
 use Rattle.pp_channel.specs.LineState.{LineState, IsActed, IsAnsweredBy, IsLost}
 use Rattle.pp_channel.specs.Histories.{history_on}
 use Rattle.pp_channel.specs.MonotoneLog.{IsMonotone}
 use Rattle.pp_channel.specs.declared.chan_op.ChanOp.{ChanOp}
 use Rattle.pp_channel.specs.declared.entry.Seen.{Seen}
-use Rattle.pp_channel.specs.declared.entry.Seen.TheVariants.{Did, Saw}
 use Rattle.pp_channel.specs.declared.event.Event.{Event}
 use Rattle.pp_channel.specs.declared.numbered.Numbered.{Numbered}
 use Rattle.pp_channel.specs.declared.reply.Reply.{Reply}
@@ -19,7 +18,7 @@ use Rattle.pp_machine.specs.Replay.{ChannelSight, fits, reply_fits, sights_of}
 use Rattle.pp_machine.specs.declared.answer.Answer.{Answer}
 use Rattle.pp_machine.specs.declared.answer.Answer.TheVariants as answers
 use Rattle.pp_machine.specs.declared.need.Need.TheVariants as needs
-use Rattle.pp_runner.specs.Labour.{IsAnswered, IsNoted, noted_as}
+use Rattle.pp_runner.specs.Labour.{IsAnswered, IsNoted}
 
 answer_fits : (h after : List Event) (op : ChanOp) (reply : Reply) → IsAnswer h op reply after → reply_fits op reply ≡ true
 answer_fits h after op reply is =
@@ -43,18 +42,14 @@ line_reply_fits h op r by =
 pub record IsSight (c : ℕ) (op : ChanOp) (reply : Reply) : Type 0 where
   pub what : Seen
   pub is : sights_of (needs.Channel c op) (answers.Channel reply) ≡ record { channel = c; what = what } ∷ []
-  pub noted : (log : LogState) (number : ℕ) → with_answer log c op number reply ≡ noted_as log c number what
-
-noted_so : (log : LogState) (c number : ℕ) (what : Seen) → with_seen log c number (Some what) ≡ noted_as log c number what
-noted_so log c number (Did e) = refl
-noted_so log c number (Saw f) = refl
+  pub noted : (log : LogState) (number : ℕ) → with_seen log c number (seen_answered op reply) ≡ with_seen log c number (Some what)
 
 pub sight_of : (c : ℕ) (op : ChanOp) (reply : Reply) → reply_fits op reply ≡ true → IsSight c op reply
 sight_of c op reply fit =
     let tells = tells_where_fits op reply fit in record {
       what = tells.0;
       is = ap (λ o. map (λ what. record { channel = c; what = what }) (option_to_list o)) tells.1;
-      noted = λ log number. ap (with_seen log c number) tells.1 ∙ noted_so log c number tells.0;
+      noted = λ log number. ap (with_seen log c number) tells.1;
     }
 
 -- an answer to an operation is a reply that goes with it
@@ -75,7 +70,7 @@ pub acted_answer : (size c : ℕ) (op : ChanOp) (r : Numbered) (before after : L
 acted_answer size c op r before after acted monotone =
     let fit : reply_fits op r.reply ≡ true = line_reply_fits (history_on c acted.histories) op r acted.answer in
     let s = sight_of c op r.reply fit in
-    let log : after.log ≡ noted_as before.log c r.number s.what = ap (λ l. l.log) acted.after_is ∙ s.noted before.log r.number in record {
+    let log : after.log ≡ with_seen before.log c r.number (Some s.what) = ap (λ l. l.log) acted.after_is ∙ s.noted before.log r.number in record {
       fits = fit;
       by_size = tt;
       noted = subst (λ (ss : List ChannelSight). IsNoted ss before.log after.log) (sym s.is) (r.number, log);

@@ -38,9 +38,6 @@ pub record HasEnded {A : Type 0} (load : Processor) (size steps room : ℕ) (fam
 abbrev pub AreEnded : {A : Type 0} → List Processor → ℕ → ℕ → ℕ → LineState → List (Worker A)
     → List LineState → Type 0
 AreEnded [] size steps room family [] [] = Unit {0}
-AreEnded [] size steps room family [] (l ∷ ls) = ⊥
-AreEnded [] size steps room family (w ∷ ws) ls = ⊥
-AreEnded (load ∷ loads) size steps room family [] ls = ⊥
-AreEnded (load ∷ loads) size steps room family (w ∷ ws) [] = ⊥
 AreEnded (load ∷ loads) size steps room family (w ∷ ws) (l ∷ ls) =
     HasEnded load size steps room family w l × AreEnded loads size steps room family ws ls
+AreEnded loads size steps room family ws ls = ⊥

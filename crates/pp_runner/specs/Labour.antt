@@ -1,14 +1,12 @@
 -- What holds of a worker between any two tries of a step.
 -- (Private contracts alone cite this.)
-use Rattle.std.specs.Prelude.{◌≡◌, ◌<◌, ◌≤◌, ◌+◌, ◌-◌, ◌*◌, ℕ, true, false, List, [], ◌∷◌, ◌++◌, length, take, All, if◌then◌else◌}
+use Rattle.std.specs.Prelude.{◌≡◌, ◌<◌, ◌≤◌, ◌+◌, ◌-◌, ◌*◌, ℕ, true, false, List, [], ◌∷◌, ◌++◌, length, take, All, Some, if◌then◌else◌}
 use Rattle.std.specs.List.{flat_map}
 use Rattle.pp_channel.specs.ChannelWord.{greatest_number, number_in}
-use Rattle.pp_channel.specs.LineLog.{LogState, appended, looked}
+use Rattle.pp_channel.specs.LineLog.{LogState, with_seen}
 use Rattle.pp_channel.specs.LineState.{LineState, IsActed}
 use Rattle.pp_channel.specs.MonotoneLog.{IsMonotone, seen_on}
 use Rattle.pp_channel.specs.declared.entry.Entry.{Entry}
-use Rattle.pp_channel.specs.declared.entry.Seen.{Seen}
-use Rattle.pp_channel.specs.declared.entry.Seen.TheVariants.{Did, Saw}
 use Rattle.pp_channel.specs.declared.numbered.Numbered.{Numbered}
 use Rattle.pp_channel.specs.declared.rule.FoundWord.{FoundWord}
 use Rattle.pp_machine.specs.Processor.{Processor}
@@ -44,18 +42,11 @@ pub record IsAtWork (load : Processor) (size steps : ℕ) (pp : Processor) (answ
   pub held : log.kept ≡ false → WasHeld pp log.entries
   pub room : log.room + length log.entries ≡ 2 * steps + 1
 
--- an event is added at the end of the log, a look as the log's rule says
-abbrev pub noted_as : LogState → ℕ → ℕ → Seen → LogState
-noted_as log channel number (Did e) =
-    appended log (record { channel = channel; number = number; what = Did e })
-noted_as log channel number (Saw f) =
-    looked log (record { channel = channel; number = number; what = Saw f })
-
 -- the log after an answer tells what the answer did or saw, and nothing else
 abbrev pub IsNoted : List ChannelSight → LogState → LogState → Type 0
 IsNoted [] before after = after ≡ before
 IsNoted (sight ∷ []) before after =
-    (number : ℕ) × (after ≡ noted_as before sight.channel number sight.what)
+    (number : ℕ) × (after ≡ with_seen before sight.channel number (Some sight.what))
 IsNoted (sight ∷ other ∷ more) before after = ⊥
 
 -- An answer to a need, and the log before and after it.
@@ -84,11 +75,10 @@ operations (needs.Write address word) = 0
 
 -- What one operation finds: a word and, if its exchange was lost, a later one of the same channel.
 abbrev pub AreFoundByOne : List FoundWord → Type 0
-AreFoundByOne [] = ⊥
 AreFoundByOne (word ∷ []) = Unit {0}
 AreFoundByOne (word ∷ other ∷ []) =
     (other.channel ≡ word.channel) × (number_in word.word < number_in other.word)
-AreFoundByOne (word ∷ other ∷ more ∷ rest) = ⊥
+AreFoundByOne words = ⊥
 
 -- The line has made so many operations, and has found what each of them finds, one after another.
 pub record HasOperated (count : ℕ) (before after : LineState) : Type 0 where

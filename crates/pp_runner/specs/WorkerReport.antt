@@ -30,13 +30,10 @@ pub record IsLoggedWorker {A : Type 0} (load : Processor) (size steps : ℕ) (lo
   pub few_entries : length log ≤ 2 * length (sights_given load w.answers.items) + 1
   pub finish : IsEnd steps w.finish w.pp w.answers.items log
 
--- a worker with its own log
-abbrev pub IsWorker : {A : Type 0} → Processor → ℕ → ℕ → Worker A → Type 0
-IsWorker load size steps w = IsLoggedWorker load size steps w.log.items w
-
--- a worker for each of these processors, in their order
+-- a worker for each of these processors, in their order, each with its own log
 abbrev pub AreWorkers : {A : Type 0} → List Processor → ℕ → ℕ → List (Worker A) → Type 0
-AreWorkers loads size steps ws = AllZip (λ load w. IsWorker load size steps w) loads ws
+AreWorkers loads size steps ws =
+    AllZip (λ load w. IsLoggedWorker load size steps w.log.items w) loads ws
 
 -- the logs of the workers, end to end
 abbrev pub logs_of : {A : Type 0} → List (Worker A) → List Entry

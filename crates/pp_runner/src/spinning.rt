@@ -1,7 +1,7 @@
 //! How long a held worker spins before it gives its core away.
 
-ghost use Rattle.std.specs.Prelude.{◌≡◌, ◌<◌, ◌≤◌, ◌+◌, ◌*◌, ◌/◌, max, min};
-ghost use Rattle.pp_runner.specs.declared.spinning.TheConstants.{LEAST, LONG_WAIT};
+ghost use Rattle.std.specs.Prelude.{◌≡◌, ◌⊎◌, ◌<◌, ◌≤◌, ◌+◌, ◌*◌, ◌/◌, max, min};
+ghost use Rattle.pp_runner.specs.declared.spinning.TheConstants.{LEAST, LONG_WAIT, MOST};
 
 use std::thread::Threads;
 use std::{hint, thread};
@@ -35,9 +35,12 @@ pub struct Spinning {
 }
 
 impl Spinning {
-    /// How each worker of a run begins. If the system lets the program run on one core alone, the
-    /// core is given away after each try in vain.
-    pub fn of_run<R: Threads>(rt: &R) -> Self {
+    /// How each worker of a run begins: with the greatest number of tries. If the system lets the
+    /// program run on one core alone, the core is given away after each try in vain.
+    pub fn of_run<R: Threads>(rt: &R) -> Self
+        ensures most { (result.most ≡ 1) ⊎ (result.most ≡ MOST) }
+        ensures tries { result.tries ≡ result.most }
+    {
         match thread::available_parallelism(rt) {
             Ok(cores) if cores.get() == 1 => Spinning::new(1),
             _ => Spinning::new(MOST),

@@ -30,7 +30,7 @@ stretches_of c =
     ++ flat_map whole_parts c.whole_sessions
     ++ map (λ session. session_events session false) (option_to_list c.open_session)
 
--- what the line of a stretch tells is a session: whether it ended, its words, and the lone last word
+-- what the line of a stretch tells is a session: whether it ended, its words, the lone last word
 pub record TellsSession (session : Session) (ended : Bool) (told : Tally) : Type 0 where
   pub is_session : told.is_session ≡ true
   pub end : told.has_ended ≡ ended

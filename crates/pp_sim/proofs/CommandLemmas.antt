@@ -14,7 +14,7 @@ use Rattle.clap.proofs.OnLiterals.{clap_on_literals}
 use Rattle.pp_draw.specs.declared.window.Window.{Window}
 use Rattle.pp_machine.specs.Profile.{processors_in}
 use Rattle.pp_machine.specs.declared.profile.Profile.{Profile}
-use Rattle.pp_sim.specs.CommandLine.{IsFaultBy, IsOutOfRange, IsRefused, IsWorkAmong, IsWorkOf, AsksForMore, AsksForMoreAmong, ReadsEnd, ReadsNumber, ReadsProfile, ReadsTurn, ReadsWindow, ppsim, refusals}
+use Rattle.pp_sim.specs.CommandLine.{IsFaultBy, IsRefused, IsWorkAmong, IsWorkOf, AsksForMore, AsksForMoreAmong, ReadsEnd, ReadsNumber, ReadsProfile, ReadsTurn, ReadsWindow, ppsim, refusals}
 use Rattle.pp_sim.specs.declared.line_fault.LineFault.{LineFault}
 use Rattle.pp_sim.specs.declared.line_fault.LineFault.TheVariants.{Memory, Refused, Number, Picture}
 use Rattle.pp_sim.specs.declared.work.Work.{Work}
@@ -48,12 +48,6 @@ refused_words words app error (Refused told) e h by =
 refused_words words app error Number e h by = absurd by
 refused_words words app error Picture e h by = absurd by
 
-pub by_no_number : (words : List Text) (error : Error) (fault : LineFault) → IsFaultBy error fault → IsOutOfRange words fault
-by_no_number words error Memory by = tt
-by_no_number words error (Refused told) by = tt
-by_no_number words error Number by = absurd by
-by_no_number words error Picture by = absurd by
-
 pair_of : {Z : Type 0} (o : Option (Box SubCommand Z)) (name : Text) (rows : List Row) → Some name ≡ option_map (λ b. (out-SubCommand (box_value b)).name.now) o → Some rows ≡ option_map (λ p. p.1) (subcommand_rows o) → subcommand_rows o ≡ Some (name, rows)
 pair_of None name rows e h = cc
 pair_of (Some x) name rows e h =
@@ -86,7 +80,9 @@ window_by_rows f w k = (
   k.0,
   rw (← first_value-rows f (codes "turns")) k.1,
   k.2,
-  (rw (← first_value-rows f (codes "to")) k.3.0, rw (← first_value-rows f (codes "from")) k.3.1, k.3.2),
+  rw (← first_value-rows f (codes "to")) k.3,
+  rw (← first_value-rows f (codes "from")) k.4,
+  k.5,
 )
 
 window_by_values : (f : Found) (w : Window) → ReadsWindow (λ id. first_of id (rows_of f)) w → ReadsWindow (first_value f) w
@@ -95,7 +91,9 @@ window_by_values f w k = (
   k.0,
   rw (first_value-rows f (codes "turns")) k.1,
   k.2,
-  (rw (first_value-rows f (codes "to")) k.3.0, rw (first_value-rows f (codes "from")) k.3.1, k.3.2),
+  rw (first_value-rows f (codes "to")) k.3,
+  rw (first_value-rows f (codes "from")) k.4,
+  k.5,
 )
 
 pub more_by_rows : (name : Text) (f : Found) → AsksForMore name (first_value f) → AsksForMoreAmong (Some (name, rows_of f))
@@ -122,8 +120,8 @@ one_length : (text_of : Text → Option Text) (v w : Window) → ReadsWindow tex
 unfolding ReadsWindow
 one_length text_of v w one also =
     let turns = one_number (text_of (codes "turns")) one.0 also.0 one.1 also.1 in
-    let to = one_end (text_of (codes "to")) one.0 also.0 v.to w.to turns one.3.0 also.3.0 in
-    let from = one_turn (text_of (codes "from")) v.from w.from one.3.1 also.3.1 in
+    let to = one_end (text_of (codes "to")) one.0 also.0 v.to w.to turns one.3 also.3 in
+    let from = one_turn (text_of (codes "from")) v.from w.from one.4 also.4 in
     ap₂ (λ (t f : ℕ). t - f) to from
 
 -- where the options say a window and more turns than a picture has, the window does not fit one

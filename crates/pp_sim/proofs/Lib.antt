@@ -5,3 +5,4 @@ pub mod DumpTextLemmas
 pub mod NumeralLemmas
 pub mod ReportLemmas
 pub mod StateLemmas
+pub mod PrintedLemmas

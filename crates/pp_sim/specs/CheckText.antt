@@ -25,8 +25,7 @@ IsCheck opened (Err (fault.Trace f)) bytes old new =
     IsFault opened (lines_of bytes) f × Keeps old new
 IsCheck opened (Err fault.Read) bytes old new = Keeps old new
 IsCheck opened (Err fault.Memory) bytes old new = Keeps old new
-IsCheck opened (Err (fault.Deck f)) bytes old new = ⊥
-IsCheck opened (Err (fault.NotBetweenPrograms going_on)) bytes old new = ⊥
+IsCheck opened (Err other) bytes old new = ⊥
 
 -- the trace was judged, so that its reader is at its end
 abbrev pub IsAtEndIfJudged : Result (Unit {0}) TextFault → Option (List ℕ) → Type 0

@@ -1,5 +1,5 @@
 -- What a command line asks for, by the words that stand in it.
-use Rattle.std.specs.Prelude.{◌≡◌, ◌≢◌, ℕ, ◌-◌, ◌<◌, ◌≤◌, Bool, true, false, IsTrue, List, [], replicate, Option, Some, None, Ok, codes}
+use Rattle.std.specs.Prelude.{◌≡◌, ◌≢◌, ℕ, ◌-◌, ◌<◌, ◌≤◌, Bool, true, false, IsTrue, List, [], ◌∷◌, fold, replicate, Option, Some, None, Ok, codes}
 use Rattle.std.specs.Str.Parse.{ParsesUnsigned}
 use Rattle.clap.specs.Words.{App, IsAmong, Kinds, Row, Rule, Text, fault_of, first_of, kind_of, new_app, new_rule, subcommand_of, with_rule, with_subcommand}
 use Rattle.clap.specs.declared.builder.action.ArgAction.TheVariants.{Set}
@@ -19,7 +19,7 @@ use Rattle.pp_sim.specs.declared.work.Work.TheVariants as works
 
 -- THE COMMAND LINE, as clap sees it: `ppsim barrel --turns N`, `ppsim threads --steps N --patience
 -- N`, `ppsim list`, `ppsim dump --turns N`, `ppsim steps --turns N`, `ppsim state --turns N`,
--- `ppsim sessions --turns N`, `ppsim draw --turns N` or `ppsim check`, the command and these options
+-- `ppsim sessions --turns N`, `ppsim draw --turns N` or `ppsim check`, the command and its options
 -- required; for each but `check` also `--processors N`, for `steps` `--pp N` and `--from N`, for
 -- `draw` `--from N` and `--to N`, for `check` `--opened N,N,..`, which may be left out; or
 -- `ppsim --version`
@@ -43,9 +43,6 @@ abbrev pub turns_command : Text → App
 turns_command name =
     with_rule (with_rule (new_app name) (number_option (codes "turns"))) processors_option
 
-abbrev pub barrel : App
-barrel = turns_command (codes "barrel")
-
 abbrev pub threads : App
 threads =
     with_rule (with_rule (with_rule (new_app (codes "threads")) (number_option (codes "steps")))
@@ -55,21 +52,12 @@ threads =
 abbrev pub list : App
 list = with_rule (new_app (codes "list")) processors_option
 
-abbrev pub dump : App
-dump = turns_command (codes "dump")
-
-abbrev pub state : App
-state = turns_command (codes "state")
-
 abbrev pub steps : App
 steps =
     with_rule (with_rule (with_rule (with_rule (new_app (codes "steps"))
     (number_option (codes "turns"))) (optional_value (codes "pp")))
     (optional_value (codes "from")))
     processors_option
-
-abbrev pub sessions : App
-sessions = turns_command (codes "sessions")
 
 abbrev pub draw : App
 draw =
@@ -88,12 +76,12 @@ bare =
           (new_app (codes "ppsim")).top { has_version = true; subcommand_required = true };
     }
 
+-- with all its commands
 unfoldable pub ppsim : App
 ppsim =
-    with_subcommand (with_subcommand (with_subcommand
-    (with_subcommand (with_subcommand (with_subcommand (with_subcommand (with_subcommand
-    (with_subcommand bare barrel.top) threads.top) list.top) dump.top) steps.top) state.top)
-    sessions.top) draw.top) check.top
+    fold (λ app command. with_subcommand app command.top) bare
+    (turns_command (codes "barrel") ∷ threads ∷ list ∷ turns_command (codes "dump") ∷ steps
+    ∷ turns_command (codes "state") ∷ turns_command (codes "sessions") ∷ draw ∷ check ∷ [])
 
 -- the kinds of refusal that clap's parse may give to the words: none where they are a command line
 unfoldable pub refusals : List Text → Kinds
@@ -129,16 +117,11 @@ ReadsEnd turns None to = to ≡ turns
 ReadsEnd turns (Some text) to = ReadsNumber (Some text) to × (to ≤ turns)
 
 -- the turns to draw of a run of so many turns: from one on, and before another
-abbrev pub ReadsTurns : ℕ → (Text → Option Text) → Window → Type 0
-ReadsTurns turns text_of w =
-    ReadsEnd turns (text_of (codes "to")) w.to × ReadsTurn (text_of (codes "from")) w.from
-    × (w.from ≤ w.to)
-
--- the same by the options of the command
 unfoldable pub ReadsWindow : (Text → Option Text) → Window → Type 0
 ReadsWindow text_of w =
     (turns : ℕ) × ReadsNumber (text_of (codes "turns")) turns × (turns ≤ 999999)
-    × ReadsTurns turns text_of w
+    × ReadsEnd turns (text_of (codes "to")) w.to × ReadsTurn (text_of (codes "from")) w.from
+    × (w.from ≤ w.to)
 
 -- the channels of a list as `1,5,13`, by flags in the order of their places; none if none is said
 abbrev pub ReadsChannels : Option Text → List Bool → Type 0
@@ -196,21 +179,17 @@ AsksForMoreAmong (Some (name, rows)) = AsksForMore name (λ id. first_of id rows
 abbrev pub AskFor : List Text → Work → Type 0
 AskFor words work = IsWorkAmong (subcommand_of ppsim words) work
 
--- what each answer to the words says
+-- what each refusal says of the words: it is one of clap's, and not for want of memory; or the
+-- words are a command line, and no work is asked for within the ranges: `Picture` where they ask
+-- for a picture of more turns than one has, `Number` in all other cases
 abbrev pub IsRefused : List Text → LineFault → Type 0
 IsRefused words Memory = Unit {0}
 IsRefused words (Refused error) =
     IsAmong (kind_of error) (refusals words) × (kind_of error ≢ OutOfMemory)
-IsRefused words Number = Unit {0}
-IsRefused words Picture = Unit {0}
-
-abbrev pub IsOutOfRange : List Text → LineFault → Type 0
-IsOutOfRange words Memory = Unit {0}
-IsOutOfRange words (Refused error) = Unit {0}
-IsOutOfRange words Number =
+IsRefused words Number =
     (refusals words ≡ []) × ((work : Work) → ¬ AskFor words work)
     × ¬ AsksForMoreAmong (subcommand_of ppsim words)
-IsOutOfRange words Picture =
+IsRefused words Picture =
     (refusals words ≡ []) × ((work : Work) → ¬ AskFor words work)
     × AsksForMoreAmong (subcommand_of ppsim words)
 
@@ -218,5 +197,4 @@ IsOutOfRange words Picture =
 abbrev pub IsFaultBy : Error → LineFault → Type 0
 IsFaultBy error Memory = kind_of error ≡ OutOfMemory
 IsFaultBy error (Refused told) = (told ≡ error) × (kind_of error ≢ OutOfMemory)
-IsFaultBy error Number = ⊥
-IsFaultBy error Picture = ⊥
+IsFaultBy error other = ⊥

@@ -7,7 +7,7 @@ use Rattle.clap.specs.declared.error.Error.{Error}
 use Rattle.clap.specs.declared.error.kind.ErrorKind.TheVariants.{DisplayHelp, DisplayVersion}
 use Rattle.pp_sim.specs.BarrelText.{IsBarrelText}
 use Rattle.pp_sim.specs.CheckText.{AnswersTrace}
-use Rattle.pp_sim.specs.CommandLine.{AskFor, IsOutOfRange, IsRefused, refusals}
+use Rattle.pp_sim.specs.CommandLine.{AskFor, IsRefused, refusals}
 use Rattle.pp_sim.specs.DrawingText.{IsDrawing}
 use Rattle.pp_sim.specs.DumpText.{HindersDump, IsDumpText}
 use Rattle.pp_sim.specs.ListText.{IsListText}
@@ -42,7 +42,8 @@ IsDone Z (works.Steps profile turns only from) =
 IsDone Z (works.Draw profile window) = AnswersDeck profile (IsDrawing window)
 IsDone Z (works.Check opened) = AnswersTrace opened
 
--- the status of a work that was done, or failed
+-- the status of a work that was done, or failed: by what was read, by a device, or for want of
+-- memory
 abbrev pub status_of : Result (Unit {0}) TextFault → ℕ
 status_of (Ok done) = 0
 status_of (Err (fault.Deck f)) = 1
@@ -68,22 +69,12 @@ pub record HasWorked (Z : Type 0) (words : List Text) (status : ℕ)
 abbrev pub IsHelp : Error → Type 0
 IsHelp error = (kind_of error ≡ DisplayHelp) ⊎ (kind_of error ≡ DisplayVersion)
 
--- printing a text: all of it is written, or a front of it, or nothing for want of memory
-abbrev pub IsWritten : Result (Unit {0}) TextFault → List ℕ → Option (List ℕ) → Option (List ℕ)
-    → Type 0
-IsWritten (Ok done) text old new = Appends old new text
-IsWritten (Err fault.Write) text old new = AppendsFront old new text
-IsWritten (Err fault.Memory) text old new = Keeps old new
-IsWritten (Err fault.Read) text old new = ⊥
-IsWritten (Err (fault.Deck f)) text old new = ⊥
-IsWritten (Err (fault.NotBetweenPrograms going_on)) text old new = ⊥
-IsWritten (Err (fault.Trace f)) text old new = ⊥
-
--- a text was printed, or could not be, and the status is that of the answer
+-- a text was printed, or a first part of it, or nothing for want of memory, and the status tells
+-- which
 abbrev pub IsPrinted : List ℕ → ℕ → Option (List ℕ) → Option (List ℕ) → Type 0
 IsPrinted text status old new =
-    (answer : Result (Unit {0}) TextFault) × IsWritten answer text old new
-    × (status ≡ status_of answer)
+    ((status ≡ 0) × Appends old new text) ⊎ (((status ≡ 3) × AppendsFront old new text)
+    ⊎ ((status ≡ 4) × Keeps old new))
 
 -- the status of a refusal: that of printing, where help was asked for; in all other cases nothing
 -- is printed
@@ -100,7 +91,6 @@ pub record HasRefused (words : List Text) (status : ℕ) (before after old new :
     Type 0 where
   pub why : LineFault
   pub refused : IsRefused words why
-  pub number : IsOutOfRange words why
   pub unread : Keeps before after
   pub told : IsTold why status old new
 

@@ -20,19 +20,13 @@ pub record IsFaultOf (profile : Profile) (bytes : List ℕ) (f : DeckFault) : Ty
   pub told : deck_meaning profile bytes ≡ Err f
   pub no_memory : f.code ≢ code.Memory
 
--- the bytes are a deck for such a machine, and this is a text that a work prints of it
-pub record IsTextOf (profile : Profile) (IsDeckText : LoadedDeck → List ℕ → Type 0)
-    (bytes text : List ℕ) : Type 0 where
+-- the bytes are a deck for such a machine, of which this is told: a text that a work prints of it,
+-- or what stands in the way of one
+pub record IsOfDeck {X : Type 0} (profile : Profile) (Tells : LoadedDeck → X → Type 0)
+    (bytes : List ℕ) (x : X) : Type 0 where
   pub deck : LoadedDeck
   pub meant : deck_meaning profile bytes ≡ Ok deck
-  pub run : IsDeckText deck text
-
--- the bytes are a deck for such a machine, and this stands in the way of a text of it
-pub record IsHindered (profile : Profile) (Hinders : LoadedDeck → GoingOn → Type 0) (bytes : List ℕ)
-    (going_on : GoingOn) : Type 0 where
-  pub deck : LoadedDeck
-  pub meant : deck_meaning profile bytes ≡ Ok deck
-  pub hinders : Hinders deck going_on
+  pub told : Tells deck x
 
 -- THE ANSWER to a deck of these bytes, for a machine of this profile, and what was written: a whole
 -- text of the deck, a first part of one, or nothing
@@ -40,11 +34,11 @@ abbrev pub IsAnswerUnless : Profile → (LoadedDeck → GoingOn → Type 0)
     → (LoadedDeck → List ℕ → Type 0) → Result (Unit {0}) TextFault → List ℕ → Option (List ℕ)
     → Option (List ℕ) → Type 0
 IsAnswerUnless profile Hinders IsDeckText (Ok done) bytes old new =
-    (text : List ℕ) × IsTextOf profile IsDeckText bytes text × Appends old new text
+    (text : List ℕ) × IsOfDeck profile IsDeckText bytes text × Appends old new text
 IsAnswerUnless profile Hinders IsDeckText (Err fault.Write) bytes old new =
-    (text : List ℕ) × IsTextOf profile IsDeckText bytes text × AppendsFront old new text
+    (text : List ℕ) × IsOfDeck profile IsDeckText bytes text × AppendsFront old new text
 IsAnswerUnless profile Hinders IsDeckText (Err (fault.NotBetweenPrograms going_on)) bytes old new =
-    IsHindered profile Hinders bytes going_on × Keeps old new
+    IsOfDeck profile Hinders bytes going_on × Keeps old new
 IsAnswerUnless profile Hinders IsDeckText (Err (fault.Deck f)) bytes old new =
     IsFaultOf profile bytes f × Keeps old new
 IsAnswerUnless profile Hinders IsDeckText (Err (fault.Trace f)) bytes old new = ⊥
@@ -92,21 +86,16 @@ AnswersDeck profile IsDeckText = AnswersDeckUnless profile Never IsDeckText
 abbrev pub IsReadFault : TextFault → Type 0
 IsReadFault fault.Read = Unit {0}
 IsReadFault fault.Memory = Unit {0}
-IsReadFault fault.Write = ⊥
-IsReadFault (fault.Deck f) = ⊥
-IsReadFault (fault.NotBetweenPrograms going_on) = ⊥
-IsReadFault (fault.Trace f) = ⊥
+IsReadFault other = ⊥
 
 -- making a text fails by the deck, by what stands in its way, or for lack of memory
 abbrev pub IsRunFaultUnless : Profile → (LoadedDeck → GoingOn → Type 0) → List ℕ → TextFault
     → Type 0
 IsRunFaultUnless profile Hinders bytes (fault.Deck f) = IsFaultOf profile bytes f
 IsRunFaultUnless profile Hinders bytes (fault.NotBetweenPrograms going_on) =
-    IsHindered profile Hinders bytes going_on
+    IsOfDeck profile Hinders bytes going_on
 IsRunFaultUnless profile Hinders bytes fault.Memory = Unit {0}
-IsRunFaultUnless profile Hinders bytes (fault.Trace f) = ⊥
-IsRunFaultUnless profile Hinders bytes fault.Read = ⊥
-IsRunFaultUnless profile Hinders bytes fault.Write = ⊥
+IsRunFaultUnless profile Hinders bytes other = ⊥
 
 abbrev pub IsRunFault : Profile → List ℕ → TextFault → Type 0
 IsRunFault profile = IsRunFaultUnless profile Never

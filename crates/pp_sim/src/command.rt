@@ -1,9 +1,9 @@
 //! The command line that the program takes, by clap.
 
-ghost use Rattle.std.specs.Prelude.{◌≡◌, false, IfOk};
+ghost use Rattle.std.specs.Prelude.{◌≡◌, codes, false, IfOk};
 ghost use Rattle.clap.specs.Words.{app_of, new_app, rule_of, with_rule};
 ghost use Rattle.clap.specs.declared.builder.command.Command.TheViews.{out-Command as fields_of};
-ghost use Rattle.pp_sim.specs.CommandLine.{bare, barrel, check, draw, dump, list, number_option, optional_value, processors_option, ppsim, sessions, state, steps, threads, turns_command};
+ghost use Rattle.pp_sim.specs.CommandLine.{bare, check, draw, list, number_option, optional_value, processors_option, ppsim, steps, threads, turns_command};
 
 use crate::help::{
     ABOUT, BARREL_HELP, CHECK_HELP, DRAW_HELP, DUMP_HELP, EXAMPLE, Help, LIST_HELP, MANUAL,
@@ -102,7 +102,7 @@ fn turns_command<'a>(alloc: Global, name: &'a str, help: Help) -> Result<Command
 
 /// `barrel --turns N [--processors N]`
 fn barrel_command<'a>(alloc: Global) -> Result<Command<'a>, AllocError>
-    ensures app { IfOk result (λ c. app_of c ≡ barrel) }
+    ensures app { IfOk result (λ c. app_of c ≡ turns_command (codes "barrel")) }
     ensures local { IfOk result (λ c. (fields_of c).has_globals ≡ false) }
 {
     turns_command(alloc, "barrel", BARREL_HELP)
@@ -130,7 +130,7 @@ fn list_command<'a>(alloc: Global) -> Result<Command<'a>, AllocError>
 
 /// `dump --turns N [--processors N]`
 fn dump_command<'a>(alloc: Global) -> Result<Command<'a>, AllocError>
-    ensures app { IfOk result (λ c. app_of c ≡ dump) }
+    ensures app { IfOk result (λ c. app_of c ≡ turns_command (codes "dump")) }
     ensures local { IfOk result (λ c. (fields_of c).has_globals ≡ false) }
 {
     turns_command(alloc, "dump", DUMP_HELP)
@@ -138,7 +138,7 @@ fn dump_command<'a>(alloc: Global) -> Result<Command<'a>, AllocError>
 
 /// `state --turns N [--processors N]`
 fn state_command<'a>(alloc: Global) -> Result<Command<'a>, AllocError>
-    ensures app { IfOk result (λ c. app_of c ≡ state) }
+    ensures app { IfOk result (λ c. app_of c ≡ turns_command (codes "state")) }
     ensures local { IfOk result (λ c. (fields_of c).has_globals ≡ false) }
 {
     turns_command(alloc, "state", STATE_HELP)
@@ -158,7 +158,7 @@ fn steps_command<'a>(alloc: Global) -> Result<Command<'a>, AllocError>
 
 /// `sessions --turns N [--processors N]`
 fn sessions_command<'a>(alloc: Global) -> Result<Command<'a>, AllocError>
-    ensures app { IfOk result (λ c. app_of c ≡ sessions) }
+    ensures app { IfOk result (λ c. app_of c ≡ turns_command (codes "sessions")) }
     ensures local { IfOk result (λ c. (fields_of c).has_globals ≡ false) }
 {
     turns_command(alloc, "sessions", SESSIONS_HELP)

@@ -5,7 +5,7 @@ ghost use Rattle.clap.specs.Words.{first_value, found_of};
 ghost use Rattle.pp_draw.specs.declared.window.Window.{Window};
 ghost use Rattle.pp_machine.specs.declared.profile.Profile.{Profile};
 ghost use Rattle.pp_runner.specs.Limits.{AreLimits};
-ghost use Rattle.pp_sim.specs.CommandLine.{AskFor, AsksForMore, IsFaultBy, IsOutOfRange, IsRefused, IsWorkOf, ReadsChannels, ReadsEnd, ReadsNumber, ReadsProcessor, ReadsProfile, ReadsTurn, ReadsWindow, refusals};
+ghost use Rattle.pp_sim.specs.CommandLine.{AskFor, AsksForMore, IsFaultBy, IsRefused, IsWorkOf, ReadsChannels, ReadsEnd, ReadsNumber, ReadsProcessor, ReadsProfile, ReadsTurn, ReadsWindow, refusals};
 ghost use Rattle.pp_sim.specs.declared.work.Work.{Work};
 
 use crate::command::command;
@@ -324,11 +324,10 @@ fn refusal(error: Error) -> LineFault
 pub fn read_words<'a>(alloc: Global, words: &'a [&'a str]) -> Result<Work, LineFault>
     ensures work { IfOk result (AskFor (map (λ s. s.now) words.entry.now)) }
     ensures taken { OnOk result (refusals (map (λ s. s.now) words.entry.now) ≡ []) }
-    // One of clap's refusals of these words, and not for want of memory.
+    // One of clap's refusals of these words, and not for want of memory; or the words are a command
+    // line, and no work is asked for within the ranges, where a picture of more turns than it has
+    // is told as that, and nothing else is.
     ensures refused { IfErr result (IsRefused (map (λ s. s.now) words.entry.now)) }
-    // The words are a command line, and no work is asked for within the ranges; a picture of more
-    // turns than it has is told as that, and nothing else is.
-    ensures number { IfErr result (IsOutOfRange (map (λ s. s.now) words.entry.now)) }
 {
     let Ok(command) = command(alloc) else {
         return Err(LineFault::Memory);

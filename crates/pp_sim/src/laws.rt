@@ -12,7 +12,7 @@ ghost use Rattle.pp_machine.specs.declared.profile.Profile.{Profile};
 ghost use Rattle.pp_runner.specs.Limits.{RunLimits};
 ghost use Rattle.pp_sim.specs.BarrelText.{IsBarrelText};
 ghost use Rattle.pp_sim.specs.ThreadsText.{IsThreadsText};
-ghost use Rattle.pp_text.specs.ReportLaw.{AgreeOnReport, HaveSameHistories};
+ghost use Rattle.pp_text.specs.ReportLaw.{AgreeOnReport};
 ghost use Rattle.pp_text.specs.TextLaw.{AgreeOnText, AreSameHistories, NameAlike};
 
 use pp_check::{barrel_law, printed_report_law};
@@ -42,7 +42,7 @@ pub fn threads_text_law<A: Allocator>()
         (one : IsThreadsText A limits deck text) (also : IsThreadsText A others other text)
         → NameAlike deck.named other.named
         × AgreeOnReport deck.named other.named one.report also.report
-        × HaveSameHistories one.report also.report }
+        × AreSameHistories one.report.channels also.report.channels }
 {
     report_law::<A>();
 }

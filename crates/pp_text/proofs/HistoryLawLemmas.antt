@@ -9,7 +9,8 @@ use Rattle.pp_channel.proofs.HistoryLemmas.{state_at}
 use Rattle.pp_channel.proofs.HistoryWalk.{State, Inactive, Empty, step, walk, walk_none}
 use Rattle.pp_machine.specs.Headline.{HoldsOnEachChannel, events_on, opening_history}
 use Rattle.pp_machine.specs.MachineState.{MachineState, history_of, is_opened}
-use Rattle.pp_text.specs.TextLaw.{AgreeOnText, AreSameHistories, is_used}
+use Rattle.pp_text.specs.TextLaw.{AgreeOnText, AreSameHistories}
+use Rattle.pp_text.proofs.TextLawLemmas.{both_used, is_used}
 
 abbrev opening : Bool → List Event
 opening is_open = if is_open then Activate ∷ [] else []
@@ -54,4 +55,4 @@ pub text_tells_histories : (named others : List Bool) (one other : MachineState)
     → AreSameHistories one.histories other.histories
 text_tells_histories named others one other holds also agree c is =
     one_history (is_opened c one) (is_opened c other) (events_on c one.trace) (history_of c one) (history_of c other) (holds c is).traced
-    ((also c is).traced ∙ ap (λ trace. opening_history c other ++ events_on c trace) (sym agree.trace)) (holds c is).lawful (also c is).lawful (agree.channels c is).used
+    ((also c is).traced ∙ ap (λ trace. opening_history c other ++ events_on c trace) (sym agree.trace)) (holds c is).lawful (also c is).lawful (both_used (history_of c one) (history_of c other) (agree.channels c is).unused)

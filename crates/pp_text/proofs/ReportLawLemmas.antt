@@ -28,12 +28,12 @@ use Rattle.pp_runner.specs.declared.worker.Worker.{Worker}
 use Rattle.pp_text.specs.Numeral.{decimal, digits, octal, unpadded}
 use Rattle.pp_text.specs.PrintedReport.{author_place, channel_events, end_text, line_by, named_worker_line, numbered_event_line, printed_report, worker_line}
 use Rattle.pp_text.specs.PrintedText.{channel_text, each_below, event_text, is_named, line_end, processor_line, used_channel_line}
-use Rattle.pp_text.specs.ReportLaw.{AgreeOnReport, FitsItsEnd, FitsItsLine, FitsItsReport, HasNumberedEnds, ShownEnd, ToldEvent, end_of, shown_end, shown_of, told_by, told_events, told_of}
-use Rattle.pp_text.specs.TextLaw.{IsListed, IsToldAlike, is_used}
+use Rattle.pp_text.specs.ReportLaw.{AgreeOnReport, FitsItsEnd, FitsItsLine, FitsItsReport, ShownEnd, ToldEvent, end_of, shown_end, shown_of, told_by, told_events, told_of}
+use Rattle.pp_text.specs.TextLaw.{IsListed, IsToldAlike}
 use Rattle.pp_text.proofs.AuthorLawLemmas.{only_openings}
 use Rattle.pp_text.proofs.EventLineLemmas.{enumerate_push}
 use Rattle.pp_text.proofs.HistoryLawLemmas.{one_history}
-use Rattle.pp_text.proofs.TextLawLemmas.{Above, above-append, above_less, above_decimal, above_event, above_octal, cut, octal_tells, decimal_tells, unlines, unlines-append, AreLines, are_lines-append, lines_told, lines_below, said_in_lines, are_lines_below, heading, is_of, none_below, one_among, kept, left_out, one_is, same_event, named_digits, first_digit, channels, channel_body, channel_in_lines, plain_channels, unnamed, used_alike}
+use Rattle.pp_text.proofs.TextLawLemmas.{both_used, is_used, Above, above-append, above_less, above_decimal, above_event, above_octal, cut, octal_tells, decimal_tells, unlines, unlines-append, AreLines, are_lines-append, lines_told, lines_below, said_in_lines, are_lines_below, heading, is_of, none_below, one_among, kept, left_out, one_is, same_event, named_digits, first_digit, channels, channel_body, channel_in_lines, plain_channels, unnamed, used_alike}
 
 -- ---- the line of an event
 
@@ -501,6 +501,10 @@ same_one n (Some s) None _ _ e = absurd cc
 same_one n (Some s) (Some t) clear also e = ap Some (same_shown n s t clear also (one_is (end_body n s) (end_body n t) e))
 
 -- what is shown of the worker of processor n is clear, where each end is
+-- each worker that ended at a fault is at a numbered one
+abbrev pub HasNumberedEnds : {Z : Type 0} → Report Z → Type 0
+HasNumberedEnds report = All (λ worker. HasEndNumber worker.finish) report.ends.items
+
 clear_end : {Z : Type 0} (n : ℕ) (report : Report Z) → IfSome (end_of n report) FitsItsEnd → HasNumberedEnds report → IfSome (end_of n report) IsClear
 clear_end {Z} n report fits numbered = elim (slice_get_cases report.ends.items (processor_index n)).1 [
   | inl within ↦
@@ -625,7 +629,7 @@ openings_told {Y} {Z} m k one other c merged also lawful keeps same alike =
     one_history (is_opened c m) (is_opened c k) (map (λ (t : ToldEvent). t.event) (told_of c one)) (history_on c one.channels) (history_on c other.channels)
     (whole_history (λ d. opening_history d m) one c merged)
     (whole_history (λ d. opening_history d k) other c also ∙ ap (λ ts. opening_history c k ++ map (λ (t : ToldEvent). t.event) ts) (sym same))
-    (lawful_on one.channels c lawful) (lawful_on other.channels c keeps) alike.used
+    (lawful_on one.channels c lawful) (lawful_on other.channels c keeps) (both_used (history_on c one.channels) (history_on c other.channels) alike.unused)
 
 -- ---- what is printed fits
 

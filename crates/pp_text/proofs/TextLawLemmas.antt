@@ -1,6 +1,6 @@
 -- The text of a machine tells its trace, its named processors and its channels.
 use Rattle.std.proofs.Common.{All, ◌≡◌, ◌∙◌, ◌≢◌, ℕ, zero, suc, ◌+◌, ◌*◌, ◌^◌, ◌/◌, ◌%◌, ◌<◌, ◌≤◌, Bool, true, false, List, [], ◌∷◌, ◌++◌, Option, Some, None, length, map, take, drop, refl, sym, ap, subst, add-one, arith, inl, inr, ◌⊎◌, append_assoc, codes}
-use Rattle.std.specs.Prelude.{◌==◌, ◌&&◌, nat_lt, get_or, IfSome, IsTrue, slice_index_or, if◌then◌else◌}
+use Rattle.std.specs.Prelude.{◌==◌, ◌&&◌, ◌↔◌, nat_lt, get_or, IfSome, IsTrue, slice_index_or, if◌then◌else◌}
 use Rattle.std.specs.List.{filter, flat_map, last_or}
 use Rattle.std.proofs.lemmas.Bool.{cases_lt, eq-eqb, le-ltb, lt-ltb, ne_eqb}
 use Rattle.std.proofs.Math.Bool.{and-false}
@@ -24,7 +24,7 @@ use Rattle.pp_machine.specs.declared.pp_state.PpState.{PpState}
 use Rattle.pp_machine.specs.declared.pp_state.PpState.TheVariants.{Running, Stopped, Fault}
 use Rattle.pp_machine.specs.declared.trace.Trace.{Trace}
 use Rattle.pp_text.specs.Numeral.{decimal, digit, digits, octal, unpadded}
-use Rattle.pp_text.specs.TextLaw.{IsTold, IsShown, IsListed, IsShownAlike, IsToldAlike, FitsItsText, AgreeOnText, is_used}
+use Rattle.pp_text.specs.TextLaw.{IsTold, IsShown, IsListed, IsShownAlike, IsToldAlike, FitsItsText, AgreeOnText}
 use Rattle.pp_text.specs.PrintedText.{channel_line, channel_text, each_below, event_line, event_text, is_named, line_end, named_processor_line, printed, processor_line, state_text, used_channel_line}
 
 -- ---- lists of characters
@@ -364,6 +364,17 @@ channel_body c h = codes "CH" ++ (octal 2 c ++ (codes " " ++ channel_text (activ
 processors : List Bool → MachineState → ℕ → List (List ℕ)
 processors named m = one_where (is_named named) (λ n. processor_body n (processor_of n m))
 
+-- whether anything has happened on a channel
+abbrev pub is_used : List Event → Bool
+is_used [] = false
+is_used (e ∷ h) = true
+
+pub both_used : (h other : List Event) → (h ≡ []) ↔ (other ≡ []) → is_used h ≡ is_used other
+both_used [] [] both = refl
+both_used [] (e ∷ other) both = let none : e ∷ other ≡ [] = both.0 refl in absurd cc
+both_used (e ∷ h) [] both = let none : e ∷ h ≡ [] = both.1 refl in absurd cc
+both_used (e ∷ h) (f ∷ other) both = refl
+
 unfoldable pub channels : List (List Event) → ℕ → List (List ℕ)
 channels histories = one_where (λ c. names_channel c && is_used (history_on c histories)) (λ c. channel_body c (history_on c histories))
 
@@ -620,13 +631,13 @@ pub used_alike : (b : Bool) (c : ℕ) (h k : List Event) → IsTrue b → (if b 
     → IfSome (waiting h) (λ n. n < 2 ^ 12) → IfSome (waiting k) (λ n. n < 2 ^ 12) → IsToldAlike h k
 unfolding channel_body
 used_alike false c h k is e small also = absurd cc
-used_alike true c [] [] is e small also = record { used = refl; active = refl; waiting = refl }
+used_alike true c [] [] is e small also = record { unused = (λ e. e, λ e. e); active = refl; waiting = refl }
 used_alike true c [] (y ∷ k) is e small also = absurd cc
 used_alike true c (x ∷ h) [] is e small also = absurd cc
 used_alike true c (x ∷ h) (y ∷ k) is e small also =
     let line = one_is (channel_body c (x ∷ h)) (channel_body c (y ∷ k)) e in
     let same = same_channel_text (active (x ∷ h)) (active (y ∷ k)) (waiting (x ∷ h)) (waiting (y ∷ k)) (full_is_active (x ∷ h)) (full_is_active (y ∷ k)) small also (ap (drop 5) line) in
-    record { used = refl; active = same.0; waiting = same.1 }
+    record { unused = (λ e. absurd cc, λ e. absurd cc); active = same.0; waiting = same.1 }
 
 tells_channel : (named others : List Bool) (one other : MachineState) (c : ℕ) → c < 0o100 → IsTrue (names_channel c)
     → IsListed (history_on c one.histories) → IsListed (history_on c other.histories)

@@ -8,4 +8,3 @@ pub mod Written
 pub mod TextWriter
 -- cited by private contracts alone: nobody has to read these to believe what the crate promises
 pub mod Authors
-pub mod Pairs

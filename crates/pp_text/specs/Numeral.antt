@@ -1,6 +1,7 @@
 -- Printed numbers: octal fields of a fixed width, and counts in decimal. A text is a list of ASCII
 -- codes.
 use Rattle.std.specs.Prelude.{◌≡◌, ℕ, zero, suc, ◌+◌, ◌-◌, ◌*◌, ◌<◌, ◌≤◌, fold, All, ◌/◌, ◌%◌, ◌^◌, List, [], ◌∷◌, ◌++◌, ◌==◌, if◌then◌else◌}
+use Rattle.std.specs.List.{flat_map, range_with_len}
 
 -- the character of a digit, 0 to 9
 abbrev pub digit : ℕ → List ℕ
@@ -29,6 +30,11 @@ short_decimal n = unpadded 19 (n / 10) ++ digit (n % 10)
 -- Twenty digits are enough for every count of 64 bits.
 unfoldable pub decimal : ℕ → List ℕ
 decimal n = unpadded 14 (n / 10 ^ 6) ++ digits 10 6 (n % 10 ^ 6)
+
+-- the two digits of each number below 100 in decimal, one number after another: a table from which
+-- lines are put together (a private contract alone cites this)
+unfoldable pub decimal_pairs : List ℕ
+decimal_pairs = flat_map (digits 10 2) (range_with_len 0 100)
 
 -- the number that digits spell in a base, the most significant first
 abbrev pub value_of : ℕ → List ℕ → ℕ

@@ -6,13 +6,12 @@ use Rattle.pp_channel.specs.History.{HasTwelveBitWord}
 use Rattle.pp_channel.specs.Histories.{history_on}
 use Rattle.pp_channel.specs.declared.event.Event.{Event}
 use Rattle.pp_machine.specs.PpNo.{names_processor, processor_index, processor_number}
-use Rattle.pp_runner.specs.End.{HasEndNumber}
 use Rattle.pp_runner.specs.declared.end.End.{End}
 use Rattle.pp_runner.specs.declared.report.Report.{Report}
 use Rattle.pp_runner.specs.declared.worker.Worker.{Worker}
 use Rattle.pp_text.specs.PrintedReport.{author_place}
 use Rattle.pp_text.specs.PrintedText.{is_named}
-use Rattle.pp_text.specs.TextLaw.{AreSameHistories, IsListed, IsToldAlike}
+use Rattle.pp_text.specs.TextLaw.{IsListed, IsToldAlike}
 
 -- an event as a report's text shows it: its number in the history, the processor that made it, and
 -- what happened
@@ -72,10 +71,6 @@ pub record FitsItsReport {Z : Type 0} (named : List Bool) (report : Report Z) : 
 abbrev pub shown_of : {Z : Type 0} → List Bool → ℕ → Report Z → Option ShownEnd
 shown_of named n report = if is_named named n then end_of n report else None
 
--- each worker that ended at a fault is at a numbered one
-abbrev pub HasNumberedEnds : {Z : Type 0} → Report Z → Type 0
-HasNumberedEnds report = All (λ worker. HasEndNumber worker.finish) report.ends.items
-
 -- The same events on each channel, each with its number and its author; the same processors shown,
 -- each with the same P, A and end; and of each channel whether anything has happened, whether it is
 -- active, and the word that waits.
@@ -85,7 +80,3 @@ pub record AgreeOnReport {Y Z : Type 0} (named others : List Bool) (one : Report
   pub workers : (n : ℕ) → shown_of named n one ≡ shown_of others n other
   pub channels : (c : ℕ) → IsTrue (names_channel c)
       → IsToldAlike (history_on c one.channels) (history_on c other.channels)
-
--- the same history on each channel
-abbrev pub HaveSameHistories : {Y Z : Type 0} → Report Y → Report Z → Type 0
-HaveSameHistories one other = AreSameHistories one.channels other.channels

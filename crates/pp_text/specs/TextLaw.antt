@@ -1,5 +1,5 @@
 -- What the text of a machine says of it: two machines with one text agree on all that it shows.
-use Rattle.std.specs.Prelude.{◌≡◌, ℕ, ◌<◌, ◌^◌, List, [], ◌∷◌, Bool, true, false, All, IfSome, IsTrue}
+use Rattle.std.specs.Prelude.{◌≡◌, ℕ, ◌<◌, ◌^◌, ◌↔◌, List, [], Bool, All, IfSome, IsTrue}
 use Rattle.pp_channel.specs.ChannelNo.{names_channel}
 use Rattle.pp_channel.specs.History.{HasTwelveBitWord, active, waiting}
 use Rattle.pp_channel.specs.Histories.{history_on}
@@ -41,14 +41,9 @@ pub record IsShownAlike (pp other : Processor) : Type 0 where
   pub a : pp.a ≡ other.a
   pub state : pp.state ≡ other.state
 
--- whether anything has happened on a channel
-abbrev pub is_used : List Event → Bool
-is_used [] = false
-is_used (e ∷ h) = true
-
--- two histories of a channel with one line, or both without
+-- two histories of a channel with one line, or both without, where nothing has happened
 pub record IsToldAlike (h other : List Event) : Type 0 where
-  pub used : is_used h ≡ is_used other
+  pub unused : (h ≡ []) ↔ (other ≡ [])
   pub active : active h ≡ active other
   pub waiting : waiting h ≡ waiting other
 

@@ -1,8 +1,7 @@
 //! Numbers in octal and decimal digits.
 
 ghost use Rattle.std.specs.Prelude.{◌≡◌, ◌+◌, ◌<◌, ◌≤◌, ◌/◌, ◌%◌, ◌^◌, ◌++◌, length};
-ghost use Rattle.pp_text.specs.Numeral.{decimal, digits, octal, short_decimal, unpadded};
-ghost use Rattle.pp_text.specs.Pairs.{decimal_pairs};
+ghost use Rattle.pp_text.specs.Numeral.{decimal_pairs, decimal, digits, octal, short_decimal, unpadded};
 ghost use Rattle.pp_text.specs.Piece.{HasRoom};
 
 use crate::piece::Piece;
@@ -125,7 +124,7 @@ pub fn push_short_decimal(piece: &mut Piece, n: u64)
 }
 
 /// The two decimal digits of each number below 100 (decimal), one number after another.
-#[tactic(auto, unfolding(crate::specs::Pairs::decimal_pairs))]
+#[tactic(auto, unfolding(crate::specs::Numeral::decimal_pairs))]
 fn decimal_pairs() -> [u8; 200]
     ensures { result ≡ decimal_pairs }
 {

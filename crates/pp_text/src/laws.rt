@@ -8,12 +8,13 @@ ghost use Rattle.pp_channel.specs.Histories.{history_on};
 ghost use Rattle.pp_channel.specs.declared.event.Event.{Event};
 ghost use Rattle.pp_machine.specs.Headline.{HoldsOnEachChannel, opening_history};
 ghost use Rattle.pp_machine.specs.MachineState.{MachineState};
+ghost use Rattle.pp_runner.specs.End.{HasEndNumber};
 ghost use Rattle.pp_runner.specs.WorkerReport.{logs_of};
 ghost use Rattle.pp_runner.specs.declared.report.Report.{Report};
 ghost use Rattle.pp_runner.specs.declared.worker.Worker.{Worker};
 ghost use Rattle.pp_text.specs.PrintedReport.{author_place, printed_report};
 ghost use Rattle.pp_text.specs.PrintedText.{printed};
-ghost use Rattle.pp_text.specs.ReportLaw.{AgreeOnReport, FitsItsReport, HasNumberedEnds, told_of};
+ghost use Rattle.pp_text.specs.ReportLaw.{AgreeOnReport, FitsItsReport, told_of};
 ghost use Rattle.pp_text.specs.TextLaw.{AgreeOnText, AreSameHistories, FitsItsText, IsToldAlike};
 
 use std::alloc::Allocator;
@@ -50,7 +51,8 @@ pub fn text_law()
 pub fn report_law<A: Allocator>()
     ensures text { (named others : List Bool) (one other : Report A)
         → FitsItsReport named one → FitsItsReport others other
-        → HasNumberedEnds one → HasNumberedEnds other
+        → All (λ worker. HasEndNumber worker.finish) one.ends.items
+        → All (λ worker. HasEndNumber worker.finish) other.ends.items
         → printed_report named one ≡ printed_report others other
         → AgreeOnReport named others one other }
     ensures histories { (opening : ℕ → List Event) (one other : Report A) (c : ℕ)

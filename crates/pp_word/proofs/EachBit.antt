@@ -2,7 +2,7 @@
 use Rattle.std.proofs.Common.{◌≡◌, ℕ, zero, suc, ◌+◌, ◌-◌, ◌*◌, ◌/◌, ◌%◌, ◌<◌, ◌≤◌, Bool, true, false, not, List, [], ◌∷◌, ◌++◌, map, take, drop, replicate, min, length, get_or, refl, sym, ap, ◌∙◌, arith, if◌then◌else◌, ◌⊎◌, inl, inr, nat_lt, lt-ltb, le-ltb}
 use Rattle.std.proofs.lemmas.List.{get_or_append_left, get_or-append_right, get_or-drop, get_or-take, get_or-map, get_or_past, length-drop, length-take, length-replicate, length-map}
 use Rattle.std.proofs.Math.ListN.{length-append}
-use Rattle.pp_word.specs.Bits.{lowest_bits, number_of, bits_of, bit, shift, rotation, right_shift, bit_by_bit, combination, complement, RotatesBits, ShiftsBitsRight}
+use Rattle.pp_word.specs.Bits.{lowest_bits, number_of, bits_of, bit, shift, rotation, right_shift, bit_by_bit, combination, complement}
 use Rattle.pp_word.proofs.BitsLemmas.{length-lowest_bits}
 
 -- the bits of a number that was made of bits
@@ -79,6 +79,14 @@ get_or-rotation bs t r i j long ends h (inr behind) =
 length-rotation : (bs : List Bool) (r : ℕ) → length bs ≡ 18 → r ≤ 18 → length (drop r bs ++ take r bs) ≡ 18
 length-rotation bs r long h =
     length-append (drop r bs) (take r bs) ∙ omega (arith, length-drop r bs, length-take r bs, long)
+
+-- what a left shift does to each bit
+abbrev pub RotatesBits : ℕ → ℕ → ℕ → Type 0
+RotatesBits word d new = (i : ℕ) → i < 18 → bit new ((i + d) % 18) ≡ bit word i
+
+-- what a right shift does to each bit: from past the uppermost comes 0
+abbrev pub ShiftsBitsRight : ℕ → ℕ → ℕ → Type 0
+ShiftsBitsRight word k new = (i : ℕ) → i < 18 → bit new i ≡ bit word (i + k)
 
 rotates : (a d : ℕ) → RotatesBits a d (number_of (rotation d (bits_of a)))
 rotates a d i h =

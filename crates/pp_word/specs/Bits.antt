@@ -1,7 +1,7 @@
 -- Words as bits; bit 0 is the lowest, bit 17 (decimal) the uppermost of an 18-bit word. Values of d
 -- are octal, counts of bits decimal. (Manual 60100000, peripheral processors: SHN, LMN, LPN, SCN,
 -- LCN and their long forms.)
-use Rattle.std.specs.Prelude.{ℕ, ◌≡◌, ◌+◌, ◌-◌, ◌*◌, ◌/◌, ◌%◌, ◌<◌, ◌==◌, nat_lt, if◌then◌else◌, Bool, false, List, [], ◌∷◌, ◌++◌, map, take, drop, replicate, min, not, ◌&&◌, zero, suc, slice_index_or}
+use Rattle.std.specs.Prelude.{ℕ, ◌+◌, ◌-◌, ◌*◌, ◌/◌, ◌%◌, ◌==◌, nat_lt, if◌then◌else◌, Bool, false, List, [], ◌∷◌, ◌++◌, map, take, drop, replicate, min, not, ◌&&◌, zero, suc, slice_index_or}
 
 -- the lowest bits of a number as truth values, bit 0 first
 unfoldable pub lowest_bits : ℕ → ℕ → List Bool
@@ -34,14 +34,6 @@ abbrev pub shift : ℕ → ℕ → ℕ
 shift word d =
     if nat_lt d 0o40 then number_of (rotation d (bits_of word))
     else number_of (right_shift (0o77 - d) (bits_of word))
-
--- what a left shift does to each bit
-abbrev pub RotatesBits : ℕ → ℕ → ℕ → Type 0
-RotatesBits word d new = (i : ℕ) → i < 18 → bit new ((i + d) % 18) ≡ bit word i
-
--- what a right shift does to each bit: from past the uppermost comes 0
-abbrev pub ShiftsBitsRight : ℕ → ℕ → ℕ → Type 0
-ShiftsBitsRight word k new = (i : ℕ) → i < 18 → bit new i ≡ bit word (i + k)
 
 -- each bit turned
 abbrev pub complement : ℕ → ℕ

@@ -1,7 +1,7 @@
 //! Shifts and logic, bit by bit.
 
-ghost use Rattle.std.specs.Prelude.{ℕ, ◌≡◌, ◌-◌, ◌<◌, ◌≤◌, not, ◌&&◌, if◌then◌else◌};
-ghost use Rattle.pp_word.specs.Bits.{bit, shift, complement, logical_product, logical_difference, selective_clear, RotatesBits, ShiftsBitsRight};
+ghost use Rattle.std.specs.Prelude.{ℕ, ◌≡◌, ◌+◌, ◌-◌, ◌%◌, ◌<◌, ◌≤◌, not, ◌&&◌, if◌then◌else◌};
+ghost use Rattle.pp_word.specs.Bits.{bit, shift, complement, logical_product, logical_difference, selective_clear};
 
 use crate::word6::Word6;
 use crate::word18::Word18;
@@ -21,8 +21,9 @@ pub fn complement18(a: Word18) -> Word18
 /// in a right shift zeros come in, and what leaves the low end is lost.
 pub fn shift18(a: Word18, d: Word6) -> Word18
     ensures value { result ≡ shift a d }
-    ensures left { d < 0o40 → RotatesBits a d result }
-    ensures right { 0o40 ≤ d → ShiftsBitsRight a (0o77 - d) result }
+    ensures left { d < 0o40 → (i : ℕ) → i < 18 → bit result ((i + d) % 18) ≡ bit a i }
+    // From past the uppermost bit comes 0.
+    ensures right { 0o40 ≤ d → (i : ℕ) → i < 18 → bit result i ≡ bit a (i + (0o77 - d)) }
 {
     let bits = a.get();
     let by = u32::from(d.get());

@@ -1,7 +1,7 @@
 //! Lines of a family that are closed together.
 
 ghost use Rattle.std.specs.Prelude.{◌≡◌, All, IfOk, map};
-ghost use Rattle.pp_channel.specs.LineState.{all_joined, HoldEveryShare, ForgetsNothing, AreClosed};
+ghost use Rattle.pp_channel.specs.LineState.{all_joined, ForgetsNothing, AreClosed};
 ghost use Rattle.pp_channel.specs.LineSteps.{IsLogOf};
 ghost use Rattle.pp_channel.specs.LineView.{joined_view, weighs_once, greater_of_each};
 
@@ -29,7 +29,8 @@ impl<A: Allocator + Copy> Line<A> {
     /// back, and no log is copied. It makes a load for each line; after `Memory` the lines are
     /// gone.
     pub fn close_with(self, others: Vec<Line<A>, A>) -> Result<Closed<A>, Memory>
-        requires { HoldEveryShare self others.items }
+        requires tables { All (λ other. other.table ≡ self.table) others.items }
+        requires shares { (all_joined self others.items).view.shares ≡ self.view.whole }
         ensures channels { IfOk result (λ closed.
             AreClosed (all_joined self others.items) closed.channels) }
         ensures logs { IfOk result (λ closed. map (λ log. log.items) closed.logs.items

@@ -42,9 +42,9 @@ fn write_run<A: Allocator + Copy, W: Write>(
     ensures bounded { OnOk result (length deck.now < most_bytes) }
 {
     let mut loaded = loaded_deck(alloc, profile, deck)?;
-    if loaded.machine.run_barrel(turns).is_err() {
+    let Ok(()) = loaded.machine.run_barrel(turns) else {
         return Err(TextFault::Memory);
-    }
+    };
     match write_text(writer, &loaded.machine, &loaded.named) {
         Ok(()) => Ok(()),
         Err(_) => Err(TextFault::Write),

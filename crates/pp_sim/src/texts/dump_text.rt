@@ -2,7 +2,7 @@
 
 ghost use Rattle.std.specs.Prelude.{◌<◌, length, OnOk, IfOk, IfErr};
 ghost use Rattle.pp_sim.specs.DumpText.{HindersDump, IsDumpText};
-ghost use Rattle.pp_sim.specs.TextAnswer.{AnswersDeckUnless, IsAnswerUnless, IsRunFaultUnless, IsTextOf, most_bytes};
+ghost use Rattle.pp_sim.specs.TextAnswer.{AnswersDeckUnless, IsAnswerUnless, IsRunFaultUnless, IsOfDeck, most_bytes};
 
 use crate::loaded_deck::loaded_deck;
 use crate::streams::{read_front, write_whole};
@@ -53,14 +53,14 @@ fn dump_of<A: Allocator + Copy>(
     deck: &[u8],
     turns: u32,
 ) -> Result<Vec<u8, A>, TextFault>
-    ensures ok { IfOk result (λ text. IsTextOf profile (IsDumpText turns) deck.now text.items) }
+    ensures ok { IfOk result (λ text. IsOfDeck profile (IsDumpText turns) deck.now text.items) }
     ensures bounded { OnOk result (length deck.now < most_bytes) }
     ensures fault { IfErr result (IsRunFaultUnless profile (HindersDump turns) deck.now) }
 {
     let mut loaded = loaded_deck(alloc, profile, deck)?;
-    if loaded.machine.run_barrel(turns).is_err() {
+    let Ok(()) = loaded.machine.run_barrel(turns) else {
         return Err(TextFault::Memory);
-    }
+    };
     match dump(alloc, &loaded) {
         Ok(text) => Ok(text),
         Err(DumpFault::NotBetweenPrograms(first)) => Err(TextFault::NotBetweenPrograms(first)),

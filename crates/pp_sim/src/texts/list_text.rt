@@ -2,7 +2,7 @@
 
 ghost use Rattle.std.specs.Prelude.{◌<◌, length, OnOk, IfOk, IfErr};
 ghost use Rattle.pp_sim.specs.ListText.{IsListText};
-ghost use Rattle.pp_sim.specs.TextAnswer.{AnswersDeck, IsAnswer, IsRunFault, IsTextOf, most_bytes};
+ghost use Rattle.pp_sim.specs.TextAnswer.{AnswersDeck, IsAnswer, IsRunFault, IsOfDeck, most_bytes};
 
 use crate::loaded_deck::loaded_deck;
 use crate::streams::{read_front, write_whole};
@@ -48,7 +48,7 @@ fn listing_of<A: Allocator + Copy>(
     profile: Profile,
     deck: &[u8],
 ) -> Result<Vec<u8, A>, TextFault>
-    ensures ok { IfOk result (λ text. IsTextOf profile IsListText deck.now text.items) }
+    ensures ok { IfOk result (λ text. IsOfDeck profile IsListText deck.now text.items) }
     ensures bounded { OnOk result (length deck.now < most_bytes) }
     ensures fault { IfErr result (IsRunFault profile deck.now) }
 {

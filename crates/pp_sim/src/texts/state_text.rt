@@ -2,7 +2,7 @@
 
 ghost use Rattle.std.specs.Prelude.{◌<◌, length, OnOk, IfOk, IfErr};
 ghost use Rattle.pp_sim.specs.StateText.{IsStateText};
-ghost use Rattle.pp_sim.specs.TextAnswer.{AnswersDeck, IsAnswer, IsRunFault, IsTextOf, most_bytes};
+ghost use Rattle.pp_sim.specs.TextAnswer.{AnswersDeck, IsAnswer, IsRunFault, IsOfDeck, most_bytes};
 
 use crate::loaded_deck::loaded_deck;
 use crate::streams::{read_front, write_whole};
@@ -53,7 +53,7 @@ fn state_of<A: Allocator + Copy>(
     deck: &[u8],
     turns: u32,
 ) -> Result<Vec<u8, A>, TextFault>
-    ensures ok { IfOk result (λ text. IsTextOf profile (IsStateText turns) deck.now text.items) }
+    ensures ok { IfOk result (λ text. IsOfDeck profile (IsStateText turns) deck.now text.items) }
     ensures bounded { OnOk result (length deck.now < most_bytes) }
     ensures fault { IfErr result (IsRunFault profile deck.now) }
 {

@@ -1,7 +1,7 @@
 use Rattle.std.proofs.Common.{◌≡◌, take, length}
 use Rattle.std.specs.List.{fold}
 use Rattle.pp_channel.specs.ChannelNo.{channel_count}
-use Rattle.pp_channel.specs.RecordedHistory.{with_entry}
+use Rattle.pp_channel.specs.Merge.{with_entry}
 use Rattle.pp_channel.proofs.recorded_history.put_log.Given as goal
 
 abbrev pub invariant-loop-entry : goal.invariant-loop-entry

@@ -2,7 +2,7 @@ use Rattle.std.proofs.Common.{◌≡◌, ℕ, ◌<◌, ◌≤◌, ◌++◌, List
 use Rattle.std.specs.List.{flat_map}
 use Rattle.pp_channel.specs.declared.event.Event.{Event}
 use Rattle.pp_channel.specs.ChannelNo.{channel_count}
-use Rattle.pp_channel.specs.RecordedHistory.{IsRecordedBy}
+use Rattle.pp_channel.specs.Merge.{IsRecordedBy}
 use Rattle.pp_channel.proofs.recorded_history.recorded_channels.Given as goal
 
 abbrev pub invariant-loop-place : goal.invariant-loop-place

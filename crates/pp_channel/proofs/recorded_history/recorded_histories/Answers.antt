@@ -2,7 +2,7 @@ use Rattle.std.proofs.Common.{◌++◌, length, take, refl, sym, ap, ◌∙◌}
 use Rattle.std.specs.List.{flat_map, fold}
 use Rattle.std.proofs.lemmas.List.{take_all}
 use Rattle.std.proofs.lemmas.List.Sums.{fold-append}
-use Rattle.pp_channel.specs.RecordedHistory.{with_entry}
+use Rattle.pp_channel.specs.Merge.{with_entry}
 use Rattle.pp_channel.proofs.ListFacts.{flat_map_more}
 use Rattle.pp_channel.proofs.RecordedLemmas.{histories_filled, count-filled}
 use Rattle.pp_channel.proofs.recorded_history.recorded_histories.Goals as goal

@@ -1,7 +1,7 @@
 use Rattle.std.proofs.Common.{◌≡◌, take, length}
 use Rattle.std.specs.List.{flat_map, fold}
 use Rattle.pp_channel.specs.ChannelNo.{channel_count}
-use Rattle.pp_channel.specs.RecordedHistory.{with_entry}
+use Rattle.pp_channel.specs.Merge.{with_entry}
 use Rattle.pp_channel.proofs.recorded_history.recorded_histories.Given as goal
 
 abbrev pub invariant-loop-other : goal.invariant-loop-other

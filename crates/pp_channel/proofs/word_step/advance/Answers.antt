@@ -1,6 +1,6 @@
 use Rattle.std.proofs.Common.{◌≡◌, rules}
 use Rattle.pp_channel.specs.declared.word_step.WordStep.{WordStep}
-use Rattle.pp_channel.specs.WordStep.{step_from}
+use Rattle.pp_channel.specs.ChannelWord.{step_from}
 use Rattle.pp_channel.proofs.ChannelWordLemmas.{steps_as_histories}
 use Rattle.pp_channel.proofs.word_step.advance.Goals as goal
 

@@ -25,7 +25,7 @@ loop-place-preserved g c =
         | in-Running w ↦ rw w.running-is (passes_from_running next place c.loop-place.running processors inside named so_far)
         | in-Stopped w ↦
             let rests : IsAtRest (get_or processors place no_processor) =
-            let here = get_or_read processors place c.index.result.now (omega arith) c.index.ensures no_processor in
+            let here = get_or_read processors place c.any.result.now (omega arith) c.any.ensures no_processor in
             let state : c.state.result ≡ (get_or processors place no_processor).state = c.state.ensures.value ∙ ap (λ (pp : Processor). pp.state) here in
             λ running. elim w.in-Stopped.is [ inl stopped ↦ cc | inr fault ↦ let is = fault.1 in cc ] in
             rw w.running-is (passes_from_rest next place c.loop-place.running processors inside rests so_far)

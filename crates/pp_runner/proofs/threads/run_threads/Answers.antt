@@ -4,8 +4,7 @@ use Rattle.std.specs.List.{flat_map}
 use Rattle.std.proofs.lemmas.List.{length-take-le}
 use Rattle.std.proofs.lemmas.List.Elements.{All-weaker}
 use Rattle.pp_channel.specs.LineState.{LineState, IsSplitFrom, all_joined, ForgetsNothing}
-use Rattle.pp_channel.specs.LineView.{KnowsAll}
-use Rattle.pp_channel.specs.Merge.{Merges, no_opening}
+use Rattle.pp_channel.specs.Merge.{IsRecordedBy, Merges, no_opening}
 use Rattle.pp_channel.specs.Histories.{history_on}
 use Rattle.pp_channel.specs.MonotoneLog.{seen_on}
 use Rattle.pp_channel.specs.declared.entry.Entry.{Entry}
@@ -36,11 +35,11 @@ close_with-requires g c =
     let shares = ended_shares c.in_ok-new.field-0 steps (2 * steps + 1) c.of-family.result.value loads workers lines first ended in (
       -- what lines leave together takes as much memory as a report
       c.requires-raw.1.1.1.1.1.1.1.1.0,
-      record {
-        tables = subst (λ (family : LineState). All (λ l. l.table ≡ family.table) lines) c.of-family.ensures
-            (ended_tables c.in_ok-new.field-0 steps (2 * steps + 1) c.of-family.result.value loads workers lines ended);
-        shares = omega (arith, shares, each, many, c.in_ok-first.ensures.share, c.in_ok-first.ensures.whole);
-      },
+      (
+        subst (λ (family : LineState). All (λ l. l.table ≡ family.table) lines) c.of-family.ensures
+            (ended_tables c.in_ok-new.field-0 steps (2 * steps + 1) c.of-family.result.value loads workers lines ended),
+        omega (arith, shares, each, many, c.in_ok-first.ensures.share, c.in_ok-first.ensures.whole),
+      ),
     )
 
 pub with_logs-requires : goal.with_logs-requires
@@ -68,7 +67,7 @@ returns g c =
     let each : length loads ≡ vec_len c.in_ok-first.lines = length-take-le (vec_len c.in_ok-first.lines) processors (omega (arith, c.turns-turns.ensures.sound.processors, few, many)) in
     let shares = ended_shares size steps (2 * steps + 1) family loads ws lines first ended in
     let whole = joined_whole first lines in
-    let known : KnowsAll (all_joined first lines).view (all_joined first lines).log.entries channels = closed.known.all_known (omega (arith, shares, whole, each, many, c.in_ok-first.ensures.share, c.in_ok-first.ensures.whole)) in
+    let known : IsRecordedBy (all_joined first lines).log.entries (all_joined first lines).view.seen channels = closed.known.all_known (omega (arith, shares, whole, each, many, c.in_ok-first.ensures.share, c.in_ok-first.ensures.whole)) in
     let opening : ℕ → List Event = λ k. opening_history k c.args.machine.now in
     let given = c.with_logs.ensures in
     let sized : size ≡ length c.args.machine.now.central = search rules in
@@ -76,7 +75,7 @@ returns g c =
     let same : logs_of (with_logs logs ws) ≡ flat_map (λ l. l.log.entries) lines = logs_given logs ws (logs_count size steps (2 * steps + 1) family loads ws lines logs c.in_ok-logs.ensures.logs ended)
     ∙ same_parts (λ log. log.items) (λ l. l.log.entries) logs lines c.in_ok-logs.ensures.logs in
     let seen : All (λ l. (k : ℕ) → seen_on k l.view.seen ≤ length (history_on k channels)) lines = All-weaker (λ (l : LineState). ForgetsNothing l (all_joined first lines)) (λ (l : LineState). (k : ℕ) → seen_on k l.view.seen ≤ length (history_on k channels))
-    (λ l less k. let all = known.seen k in let here = less k in omega (arith, all, here)) lines c.in_ok-logs.ensures.nothing_forgotten in
+    (λ l less k. let all = known.counted k in let here = less k in omega (arith, all, here)) lines c.in_ok-logs.ensures.nothing_forgotten in
     let begun = ended_begun size steps (2 * steps + 1) family loads ws lines (λ k. length (opening k))
     (subst (λ (line : LineState). HasSeen (λ k. length (opening k)) line) (sym c.of-family.ensures) c.in_ok-first.ensures.seen) ended in
     let worn = ended_worn size steps (2 * steps + 1) family loads ws lines logs (λ k. length (history_on k channels)) seen ended in

@@ -1,14 +1,11 @@
 use Rattle.std.proofs.Common.{None}
 use Rattle.clap.specs.Words.{found_of}
 use Rattle.pp_sim.specs.CommandLine.{AsksForMoreAmong, IsWorkAmong}
-use Rattle.pp_sim.proofs.CommandLemmas.{by_no_number, met_command, met_none, more_by_rows, more_by_values, refused_words, taken_words, work_by_rows, work_by_values}
+use Rattle.pp_sim.proofs.CommandLemmas.{met_command, met_none, more_by_rows, more_by_values, refused_words, taken_words, work_by_rows, work_by_values}
 use Rattle.pp_sim.proofs.command_words.read_words.Goals as goal
 
 pub returns-in-Err-clause-refused : goal.returns-in-Err-clause-refused
 returns-in-Err-clause-refused c = refused_words _ _ c.in-Err.error _ c.in-Ok.ensures c.in-Err.ensures.kinds c.refusal.ensures
-
-pub returns-in-Err-clause-number : goal.returns-in-Err-clause-number
-returns-in-Err-clause-number c = by_no_number _ c.in-Err.error _ c.refusal.ensures
 
 pub returns-in-Some-work_of-clause-taken : goal.returns-in-Some-work_of-clause-taken
 returns-in-Some-work_of-clause-taken c = taken_words _ _ c.in-Ok.ensures c.in-Ok-try_get_matches_from.ensures.kinds
@@ -19,8 +16,8 @@ returns-in-Some-work_of-clause-work c =
     c.in-Ok.ensures c.in-Ok-try_get_matches_from.ensures.matches c.in-Some.ensures.name c.in-Some.ensures.rows in
     rw e (work_by_rows c.in-Some.name.now (found_of c.in-Some.inner.now) c.in-Some-work_of.work c.in-Some-work_of.ensures)
 
-pub returns-in-Some-clause-number : goal.returns-in-Some-clause-number
-returns-in-Some-clause-number c =
+pub returns-in-Some-clause-refused : goal.returns-in-Some-clause-refused
+returns-in-Some-clause-refused c =
     let e = met_command _ _ c.in-Ok-try_get_matches_from.matches c.in-Some.name.now (found_of c.in-Some.inner.now)
     c.in-Ok.ensures c.in-Ok-try_get_matches_from.ensures.matches c.in-Some.ensures.name c.in-Some.ensures.rows in (
       taken_words _ _ c.in-Ok.ensures c.in-Ok-try_get_matches_from.ensures.kinds,
@@ -29,8 +26,8 @@ returns-in-Some-clause-number c =
           let is = c.asks_for_more.ensures.1 asked in let not = c.if-asks_for_more.false in cc,
     )
 
-pub returns-in-None-work_of-clause-number : goal.returns-in-None-work_of-clause-number
-returns-in-None-work_of-clause-number c =
+pub returns-in-None-work_of-clause-refused : goal.returns-in-None-work_of-clause-refused
+returns-in-None-work_of-clause-refused c =
     let e = met_command _ _ c.in-Ok-try_get_matches_from.matches c.in-Some.name.now (found_of c.in-Some.inner.now)
     c.in-Ok.ensures c.in-Ok-try_get_matches_from.ensures.matches c.in-Some.ensures.name c.in-Some.ensures.rows in (
       taken_words _ _ c.in-Ok.ensures c.in-Ok-try_get_matches_from.ensures.kinds,
@@ -38,8 +35,8 @@ returns-in-None-work_of-clause-number c =
       rw e (more_by_rows c.in-Some.name.now (found_of c.in-Some.inner.now) (c.asks_for_more.ensures.0 c.if-asks_for_more.true)),
     )
 
-pub returns-clause-number : goal.returns-clause-number
-returns-clause-number c =
+pub returns-clause-refused : goal.returns-clause-refused
+returns-clause-refused c =
     let e = met_none _ _ c.in-Ok-try_get_matches_from.matches c.in-Ok.ensures c.in-Ok-try_get_matches_from.ensures.matches c.in-None.ensures.name in (
       taken_words _ _ c.in-Ok.ensures c.in-Ok-try_get_matches_from.ensures.kinds,
       λ work k. let bad : IsWorkAmong None work = rw e at k in bad,

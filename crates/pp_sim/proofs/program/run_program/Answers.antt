@@ -6,7 +6,6 @@ pub returns-in-Err : goal.returns-in-Err
 returns-in-Err g c = inr (record {
   why = c.in-Err.fault;
   refused = c.in-Err.ensures.refused;
-  number = c.in-Err.ensures.number;
   unread = Keeps-refl _;
   told = c.tell_line_fault.ensures;
 })

@@ -7,4 +7,4 @@ use Rattle.pp_channel.proofs.channel.Channel.new.Goals as goal
 -- what is kept of a history without events
 pub invariant_of-result : goal.invariant_of-result
 invariant_of-result g c =
-    rw c.new.ensures.items (record { lawful = lawful_empty; twelve_bits = All-nil HasTwelveBitWord; flags_are = refl; register_is = refl })
+    rw c.new.ensures.items (lawful_empty, All-nil HasTwelveBitWord, refl, refl)

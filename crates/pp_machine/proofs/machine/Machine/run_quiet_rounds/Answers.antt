@@ -5,13 +5,14 @@ use Rattle.pp_machine.specs.Processor.{Processor}
 use Rattle.pp_machine.specs.PpNo.{processor_count}
 use Rattle.pp_machine.specs.Profile.{processors_in}
 use Rattle.pp_machine.specs.Quiet.{AreAhead}
+use Rattle.pp_machine.specs.declared.profile.Profile.{Profile}
 use Rattle.pp_machine.proofs.ProfileLemmas.{most_processors}
 use Rattle.pp_machine.proofs.QuietLemmas.{rounds_ahead}
 use Rattle.pp_machine.proofs.machine.Machine.run_quiet_rounds.Goals as goal
 
 pub invariant_of-self : goal.invariant_of-self
 invariant_of-self g c = record {
-  processors = omega (arith, c.run_ahead-rounds.new.processors.ok.0, c.run_ahead-rounds.ensures.as_many);
+  processors = c.run_ahead-rounds.ensures.as_many;
   channels = c.self.invariant.channels;
   opened = c.self.invariant.opened;
   central = c.self.invariant.central;
@@ -36,6 +37,7 @@ returns-clause-ran g c =
     let counted : turns ≡ min (now.turns + rounds * processors_in p) (2 ^ 64 - 1) = omega (arith, was, product, c.saturating_add-self-inside.ensures) in
     let ahead : AreAhead rounds c.round-round.result 0 now now.processors new = subst (λ (ps : List Processor). AreAhead rounds c.round-round.result 0 now ps new) old (c.run_ahead-rounds.ensures.ahead now histories) in
     let by_rounds : AreAhead rounds (processors_in p) 0 now now.processors new = subst (λ round. AreAhead rounds round 0 now now.processors new) round ahead in
-    ap (λ (n : MachineState). record n { processors = new; turns = turns }) c.self.view_is
+    ap (λ (profile : Profile). record { profile = profile; histories = c.self.inside.channels.items; central = c.self.inside.central; trace = c.self.inside.trace.items; opened = c.self.inside.opened; processors = new; turns = turns }) c.run_ahead-rounds.ensures.profile
+    ∙ ap (λ (n : MachineState). record n { processors = new; turns = turns }) c.self.view_is
     ∙ ap (λ t. record now { processors = new; turns = t }) counted
     ∙ rounds_ahead p rounds now new (omega arith) bound by_rounds

@@ -8,7 +8,7 @@ returns-in-Ok-clause-ok g c =
     record {
       deck = _;
       meant = meant;
-      run = record {
+      told = record {
         told = c.in-Ok.ensures.text;
         reads_back = c.in-Ok.ensures.reads_back c.args.deck.now (ap (λ p. deck_meaning p c.args.deck.now) c.in_ok-loaded.ensures.profile ∙ meant);
       };

@@ -22,7 +22,7 @@ returns-in-Ok-printed_state-clause-ok g c =
     record {
       deck = _;
       meant = c.in_ok-before.ensures.ok;
-      run = record {
+      told = record {
         told = c.in-Ok-printed_state.ensures.text ∙ ap (λ (m : MachineState). state_text named before m c.in-Ok.held) ran ∙ ap (λ (held : List ℕ). state_text named before (ran_on before) held) counted;
         headline = subst HoldsOnEachChannel ran c.run_counting_held.ensures.headline;
       };

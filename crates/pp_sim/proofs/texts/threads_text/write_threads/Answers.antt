@@ -25,7 +25,7 @@ returns-in-Ok-write_report-clause-answer g c = (
   record {
     deck = _;
     meant = c.in_ok-loaded.ensures.ok;
-    run = record {
+    told = record {
       report = _;
       named = c.in_ok-loaded.ensures.names;
       run = c.in-Ok.ensures;
@@ -42,7 +42,7 @@ returns-clause-answer g c = (
   record {
     deck = _;
     meant = c.in_ok-loaded.ensures.ok;
-    run = record {
+    told = record {
       report = _;
       named = c.in_ok-loaded.ensures.names;
       run = c.in-Ok.ensures;
