@@ -14,8 +14,9 @@ use Rattle.pp_channel.specs.declared.word_step.WordStep.{WordStep}
 use Rattle.pp_channel.specs.Session.{puts, takes}
 use Rattle.pp_channel.specs.History.{IsLawful, HasTwelveBitWord, HasTwelveBitWords, active, full, waiting, last_stretch}
 use Rattle.pp_channel.specs.Answer.{IsReady, IsAnswer, channel_state, only_looks, reply_shown, event_by, event_of, flags_of, flags_after, word_after, reply_made}
-use Rattle.pp_channel.specs.ChannelWord.{packed, history_word, number_in, flags_in, register_in, greatest_number, waiting_in, state_in, event_in, word_with, step_by, step_from, StepsFrom}
-use Rattle.pp_channel.proofs.AnswerLemmas.{acts_where_made, answered_where_none, look_makes_none, ready_of_table, table_of_ready, none_without_ready, lawful_with_event, flags_by_table, word_by_table}
+use Rattle.pp_channel.specs.ChannelWord.{packed, history_word, number_in, flags_in, register_in, greatest_number, waiting_in, state_in, word_with, step_by, step_from, StepsFrom}
+use Rattle.pp_channel.specs.AnswerLaws.{acts_where_made, look_makes_none}
+use Rattle.pp_channel.proofs.AnswerLemmas.{answered_where_none, ready_of_table, table_of_ready, none_without_ready, lawful_with_event, flags_by_table, word_by_table}
 
 -- what was packed is read again
 number_packed : (n : ℕ) (a f : Bool) (r : ℕ) → r < 2 ^ 12 → number_in (packed n (record { active = a; full = f }) r) ≡ n
@@ -95,7 +96,7 @@ waiting_of_word h bits =
     ∙ (ap (λ r. if active h && full h then Some r else None) (register_of_word h bits)
     ∙ waits_in (active h) (puts (last_stretch h)) (takes (last_stretch h)) (length (puts (last_stretch h)) == length (takes (last_stretch h)) + 1) refl)
 
-pub event_of_word : (op : ChanOp) (h : List Event) → HasTwelveBitWords h → event_in op (history_word h) ≡ event_of op h
+pub event_of_word : (op : ChanOp) (h : List Event) → HasTwelveBitWords h → event_by op (flags_in (history_word h)) (waiting_in (history_word h)) ≡ event_of op h
 event_of_word op h bits =
     ap (λ g. event_by op g (waiting_in (history_word h))) (flags_of_word h bits) ∙ ap (λ w. event_by op (flags_of h) w) (waiting_of_word h bits)
 
@@ -106,8 +107,8 @@ number_at_word word h bits same = ap number_in (sym same) ∙ number_of_word h b
 pub flags_at_word : (word : ℕ) (h : List Event) → HasTwelveBitWords h → history_word h ≡ word → flags_in word ≡ flags_of h
 flags_at_word word h bits same = ap flags_in (sym same) ∙ flags_of_word h bits
 
-event_at_word : (op : ChanOp) (word : ℕ) (o : Option Event) (h : List Event) → HasTwelveBitWords h → history_word h ≡ word → event_in op word ≡ o → event_of op h ≡ o
-event_at_word op word o h bits same is = sym (event_of_word op h bits) ∙ (ap (λ w. event_in op w) same ∙ is)
+event_at_word : (op : ChanOp) (word : ℕ) (o : Option Event) (h : List Event) → HasTwelveBitWords h → history_word h ≡ word → event_by op (flags_in word) (waiting_in word) ≡ o → event_of op h ≡ o
+event_at_word op word o h bits same is = sym (event_of_word op h bits) ∙ (ap (λ w. event_by op (flags_in w) (waiting_in w)) same ∙ is)
 
 state_of_word : (h : List Event) → HasTwelveBitWords h → state_in (history_word h) ≡ channel_state h
 state_of_word h bits =
@@ -135,12 +136,12 @@ room_if true most room = refl
 room_if false most room = room refl
 
 abbrev step_if : ChanOp → ℕ → Bool → WordStep
-step_if op word worn = if worn then WordStep.Worn else step_by op word (event_in op word)
+step_if op word worn = if worn then WordStep.Worn else step_by op word (event_by op (flags_in word) (waiting_in word))
 
 abbrev shown_if : Bool → Flags → WordStep
 shown_if look f = if look then WordStep.Look f else WordStep.Held f
 
-steps_below : (op : ChanOp) (word : ℕ) (o : Option Event) → (only_looks op ≡ false → number_in word ≢ greatest_number) → event_in op word ≡ o → step_from op word ≡ step_by op word o
+steps_below : (op : ChanOp) (word : ℕ) (o : Option Event) → (only_looks op ≡ false → number_in word ≢ greatest_number) → event_by op (flags_in word) (waiting_in word) ≡ o → step_from op word ≡ step_by op word o
 steps_below op word o room is =
     ap (step_if op word) (room_if (only_looks op) (number_in word == greatest_number) (λ acts. ne_eqb (number_in word) greatest_number (room acts)))
     ∙ ap (λ x. step_by op word x) is
@@ -154,16 +155,16 @@ abbrev FindsWorn : ChanOp → ℕ → WordStep → Type 0
 FindsWorn op word step = (only_looks op ≡ false) × (number_in word ≡ greatest_number) × (step ≡ WordStep.Worn)
 
 abbrev Shows : ChanOp → ℕ → WordStep → Type 0
-Shows op word step = (only_looks op ≡ false → number_in word ≢ greatest_number) × (event_in op word ≡ None) × (step ≡ step_by op word None)
+Shows op word step = (only_looks op ≡ false → number_in word ≢ greatest_number) × (event_by op (flags_in word) (waiting_in word) ≡ None) × (step ≡ step_by op word None)
 
 abbrev Makes : ChanOp → ℕ → WordStep → Type 0
 Makes op word step = (only_looks op ≡ false) × (number_in word ≢ greatest_number)
-    × ((e : Event) × (event_in op word ≡ Some e) × (step ≡ WordStep.Next (word_with word e) (reply_made e)))
+    × ((e : Event) × (event_by op (flags_in word) (waiting_in word) ≡ Some e) × (step ≡ WordStep.Next (word_with word e) (reply_made e)))
 
 abbrev Kind : ChanOp → ℕ → WordStep → Type 0
 Kind op word step = FindsWorn op word step ⊎ (Shows op word step ⊎ Makes op word step)
 
-kind_below : (op : ChanOp) (word : ℕ) (step : WordStep) → (only_looks op ≡ false → number_in word ≢ greatest_number) → step ≡ step_from op word → (o : Option Event) → event_in op word ≡ o → Kind op word step
+kind_below : (op : ChanOp) (word : ℕ) (step : WordStep) → (only_looks op ≡ false → number_in word ≢ greatest_number) → step ≡ step_from op word → (o : Option Event) → event_by op (flags_in word) (waiting_in word) ≡ o → Kind op word step
 kind_below op word step room is None at = inr (inl (room, at, is ∙ steps_below op word None room at))
 kind_below op word step room is (Some e) at =
     let acts = acts_where_made op (flags_in word) (waiting_in word) e at in
@@ -176,7 +177,7 @@ kind_by op word step is true at =
 kind_by op word step is false at =
     kind_below op word step
     (λ acts most. let less = not_worn_if (only_looks op) (number_in word == greatest_number) at acts in let same = eq-eqb (number_in word) greatest_number most in let both : true ≡ false = sym same ∙ less in cc)
-    is (event_in op word) refl
+    is (event_by op (flags_in word) (waiting_in word)) refl
 
 kind_of : (op : ChanOp) (word : ℕ) (step : WordStep) → step ≡ step_from op word → Kind op word step
 kind_of op word step is = kind_by op word step is (not (only_looks op) && (number_in word == greatest_number)) refl
@@ -204,7 +205,7 @@ worn_by_kind word op (inl k) = (k.0, k.1)
 worn_by_kind word op (inr (inl k)) = absurd (stays_where_shown op word WordStep.Worn k.2)
 worn_by_kind word op (inr (inr k)) = absurd (let is = k.2.2 in cc)
 
-shown_by_kind : (word : ℕ) (op : ChanOp) (step : WordStep) → Stays step → Kind op word step → (only_looks op ≡ false → number_in word ≢ greatest_number) × (event_in op word ≡ None)
+shown_by_kind : (word : ℕ) (op : ChanOp) (step : WordStep) → Stays step → Kind op word step → (only_looks op ≡ false → number_in word ≢ greatest_number) × (event_by op (flags_in word) (waiting_in word) ≡ None)
 shown_by_kind word op (WordStep.Look f) stays (inl k) = absurd cc
 shown_by_kind word op (WordStep.Look f) stays (inr (inl k)) = (k.0, k.1)
 shown_by_kind word op (WordStep.Look f) stays (inr (inr k)) = absurd (let is = k.2.2 in cc)
@@ -215,7 +216,7 @@ shown_by_kind word op (WordStep.Next next reply) stays kind = absurd stays
 shown_by_kind word op WordStep.Worn stays kind = absurd stays
 
 next_by_kind : (word : ℕ) (op : ChanOp) (next : ℕ) (reply : Reply) → Kind op word (WordStep.Next next reply)
-    → (only_looks op ≡ false) × (number_in word ≢ greatest_number) × ((e : Event) × (event_in op word ≡ Some e) × (next ≡ word_with word e) × (reply ≡ reply_made e))
+    → (only_looks op ≡ false) × (number_in word ≢ greatest_number) × ((e : Event) × (event_by op (flags_in word) (waiting_in word) ≡ Some e) × (next ≡ word_with word e) × (reply ≡ reply_made e))
 next_by_kind word op next reply (inl k) = absurd cc
 next_by_kind word op next reply (inr (inl k)) = absurd (stays_where_shown op word (WordStep.Next next reply) k.2)
 next_by_kind word op next reply (inr (inr k)) = (k.0, k.1, (k.2.0, k.2.1, (let is = k.2.2 in cc), (let is = k.2.2 in cc)))
@@ -225,15 +226,15 @@ pub worn_by_table : (word : ℕ) (op : ChanOp) → WordStep.Worn ≡ step_from o
 worn_by_table word op is = worn_by_kind word op (kind_of op word WordStep.Worn is)
 
 pub shown_by_table : (word : ℕ) (op : ChanOp) (step : WordStep) → Stays step → step ≡ step_from op word
-    → (only_looks op ≡ false → number_in word ≢ greatest_number) × (event_in op word ≡ None)
+    → (only_looks op ≡ false → number_in word ≢ greatest_number) × (event_by op (flags_in word) (waiting_in word) ≡ None)
 shown_by_table word op step stays is = shown_by_kind word op step stays (kind_of op word step is)
 
 pub next_by_table : (word : ℕ) (op : ChanOp) (next : ℕ) (reply : Reply) → WordStep.Next next reply ≡ step_from op word
-    → (only_looks op ≡ false) × (number_in word ≢ greatest_number) × ((e : Event) × (event_in op word ≡ Some e) × (next ≡ word_with word e) × (reply ≡ reply_made e))
+    → (only_looks op ≡ false) × (number_in word ≢ greatest_number) × ((e : Event) × (event_by op (flags_in word) (waiting_in word) ≡ Some e) × (next ≡ word_with word e) × (reply ≡ reply_made e))
 next_by_table word op next reply is = next_by_kind word op next reply (kind_of op word (WordStep.Next next reply) is)
 
 -- the same where the event is at hand
-pub next_by_event : (word : ℕ) (op : ChanOp) (e : Event) (next : ℕ) (reply : Reply) → WordStep.Next next reply ≡ step_from op word → Some e ≡ event_in op word
+pub next_by_event : (word : ℕ) (op : ChanOp) (e : Event) (next : ℕ) (reply : Reply) → WordStep.Next next reply ≡ step_from op word → Some e ≡ event_by op (flags_in word) (waiting_in word)
     → (only_looks op ≡ false) × (number_in word ≢ greatest_number) × (next ≡ word_with word e) × (reply ≡ reply_made e)
 next_by_event word op e next reply stepped made =
     let k = next_by_table word op next reply stepped in
@@ -241,7 +242,7 @@ next_by_event word op e next reply stepped made =
     (k.0, k.1, k.2.2 ∙ ap (λ x. word_with word x) same, k.2.3 ∙ ap reply_made same)
 
 -- each history of the word goes on with the event to one of the next word
-pub next_word : (word : ℕ) (op : ChanOp) (e : Event) (next : ℕ) (reply : Reply) → WordStep.Next next reply ≡ step_from op word → Some e ≡ event_in op word → HasTwelveBitWord e
+pub next_word : (word : ℕ) (op : ChanOp) (e : Event) (next : ℕ) (reply : Reply) → WordStep.Next next reply ≡ step_from op word → Some e ≡ event_by op (flags_in word) (waiting_in word) → HasTwelveBitWord e
     → (h : List Event) → IsLawful h → HasTwelveBitWords h → history_word h ≡ word
     → IsLawful (h ++ e ∷ []) × HasTwelveBitWord e × (history_word (h ++ e ∷ []) ≡ next)
 next_word word op e next reply stepped made small h l bits same =
@@ -251,10 +252,10 @@ next_word word op e next reply stepped made small h l bits same =
     (more, small, sym (word_after_event h e l bits more) ∙ (ap (λ w. word_with w e) same ∙ sym is.2))
 
 -- what the answer is on a history of the word
-pub ready_at_word : (word : ℕ) (op : ChanOp) (e : Event) → Some e ≡ event_in op word → (h : List Event) → IsLawful h → HasTwelveBitWords h → history_word h ≡ word → IsReady h op e
+pub ready_at_word : (word : ℕ) (op : ChanOp) (e : Event) → Some e ≡ event_by op (flags_in word) (waiting_in word) → (h : List Event) → IsLawful h → HasTwelveBitWords h → history_word h ≡ word → IsReady h op e
 ready_at_word word op e made h l bits same = ready_of_table h op e l (event_at_word op word (Some e) h bits same (sym made))
 
-pub answer_made : (word : ℕ) (op : ChanOp) (e : Event) (next : ℕ) (reply : Reply) → WordStep.Next next reply ≡ step_from op word → Some e ≡ event_in op word
+pub answer_made : (word : ℕ) (op : ChanOp) (e : Event) (next : ℕ) (reply : Reply) → WordStep.Next next reply ≡ step_from op word → Some e ≡ event_by op (flags_in word) (waiting_in word)
     → (h : List Event) → IsLawful h → HasTwelveBitWords h → history_word h ≡ word → IsAnswer h op reply (h ++ e ∷ [])
 answer_made word op e next reply stepped made h l bits same =
     inl (e, record { ready = ready_at_word word op e made h l bits same; answered = (next_by_event word op e next reply stepped made).3; recorded = refl })

@@ -1,25 +1,24 @@
-pub mod ChannelPlaces
-pub mod LastElements
+mod CourseLemmas
+mod ChannelStateLemmas
+mod KeptLemmas
+mod ListFacts
+mod ViewLemmas
+mod RuleLemmas
+mod StepLemmas
+mod ShareLemmas
+mod RecordedLemmas
+mod LineKeeping
+mod MonotoneLemmas
+mod SeenLemmas
+-- facts of the definitions, which proofs of other crates cite
 pub mod HistoryWalk
-pub mod CourseLemmas
 pub mod HistoryLemmas
 pub mod LawLemmas
 pub mod AnswerLemmas
-pub mod ChannelStateLemmas
 pub mod FrontLemmas
 pub mod ChannelWordLemmas
-pub mod KeptLemmas
-pub mod ListFacts
 pub mod MergeLemmas
-pub mod SeenLemmas
-pub mod ViewLemmas
-pub mod RuleLemmas
-pub mod StepLemmas
-pub mod ShareLemmas
-pub mod RecordedLemmas
 pub mod LineKnowledge
-pub mod LineKeeping
 pub mod LineAnswers
-pub mod MonotoneLemmas
 pub mod OpeningLemmas
 pub mod JoinedLines

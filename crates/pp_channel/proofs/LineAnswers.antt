@@ -1,11 +1,12 @@
 -- What a call of a line answers, from what its steps told.
 use Rattle.std.proofs.Common.{◌≡◌, ℕ, ◌+◌, ◌<◌, ◌≤◌, ◌==◌, List, [], ◌∷◌, ◌++◌, length, take, Some, None, refl, sym, ap, ◌∙◌, subst, arith, append_assoc, inl, inr}
 use Rattle.std.specs.Prelude.{Contains, Option, false, if◌then◌else◌, is_some, slice_set}
-use Rattle.std.specs.Option.{option_map, option_to_list}
+use Rattle.std.specs.Option.{option_map, option_or, option_to_list}
 use Rattle.std.proofs.lemmas.List.{append-nil, length_push, length-take-le, take_all, take_at, get_or-set_same, set-set, set-get_or}
 use Rattle.std.proofs.lemmas.List.Elements.{All-weaker, All-contains, Contains-push}
 use Rattle.std.proofs.lemmas.Bool.{cases_eq, eq-eqb, ne_eqb}
 use Rattle.pp_channel.specs.declared.chan_op.ChanOp.{ChanOp}
+use Rattle.pp_channel.specs.declared.entry.Seen.{Seen}
 use Rattle.pp_channel.specs.declared.event.Event.{Event}
 use Rattle.pp_channel.specs.declared.event.Event.TheVariants.{Activate, Disconnect, Put, Take, Function}
 use Rattle.pp_channel.specs.declared.numbered.Numbered.{Numbered}
@@ -15,21 +16,19 @@ use Rattle.pp_channel.specs.declared.flags.Flags.{Flags as FlagPair}
 use Rattle.pp_channel.specs.declared.entry.Entry.{Entry}
 use Rattle.pp_channel.specs.declared.rule.LineView.{LineView}
 use Rattle.pp_channel.specs.declared.word_step.WordStep.{WordStep}
-use Rattle.pp_channel.specs.Answer.{IsAnswer, IsReady, operation_of, reply_made, reply_shown, event_answered, flags_shown, only_looks, seen_answered, seen_with}
+use Rattle.pp_channel.specs.Answer.{IsAnswer, IsReady, operation_of, reply_made, reply_shown, event_answered, flags_shown, only_looks, seen_answered, event_by}
 use Rattle.pp_channel.specs.ChannelNo.{channel_count, channel_index}
-use Rattle.pp_channel.specs.ChannelWord.{number_in, flags_in, greatest_number, event_in, state_in, step_from}
-use Rattle.pp_channel.specs.History.{IsLawful, HasTwelveBitWords}
+use Rattle.pp_channel.specs.ChannelWord.{number_in, flags_in, greatest_number, state_in, step_from, waiting_in}
+use Rattle.pp_channel.specs.History.{IsLawful, HasTwelveBitWords, history_on}
 use Rattle.pp_channel.specs.Law.{KeepsLaw}
-use Rattle.pp_channel.specs.LineLog.{LogState, appended, looked, with_seen, event_entry, look_entry}
+use Rattle.pp_channel.specs.LineLog.{LogState, appended, looked, with_seen, event_entry, look_entry, seen_on}
 use Rattle.pp_channel.specs.LineState.{LineState, number_after, IsActed, IsWornOut, AreClosed}
 use Rattle.pp_channel.specs.LineSteps.{IsLogOf, Tells, IsLoad, IsWonExchange, IsLostExchange}
 use Rattle.pp_channel.specs.LineView.{finds, makes, Knows}
 use Rattle.pp_channel.specs.Merge.{Merges, no_opening, IsRecordedBy}
-use Rattle.pp_channel.specs.Histories.{history_on}
-use Rattle.pp_channel.specs.MonotoneLog.{seen_on}
 use Rattle.pp_channel.specs.SharedWords.{IsFound}
-use Rattle.pp_channel.proofs.AnswerLemmas.{shown_makes_none, shows_flags}
-use Rattle.pp_channel.proofs.ChannelPlaces.{place_below}
+use Rattle.pp_channel.specs.AnswerLaws.{shown_makes_none, shows_flags}
+use Rattle.pp_channel.specs.ChannelPlaces.{place_below}
 use Rattle.pp_channel.proofs.ChannelWordLemmas.{Stays, worn_by_table, shown_by_table, next_by_event, ready_at_word, answer_made, answer_shown, number_of_word}
 use Rattle.pp_channel.proofs.FrontLemmas.{lawful_take, twelve_bits_take}
 use Rattle.pp_channel.proofs.MergeLemmas.{with_more, more_is, more_here, put_before}
@@ -158,7 +157,7 @@ module _ (line : LineState) {now : LineView} {c word : ℕ} (load : IsLoad c lin
       let k = shown_by_table word op step stays stepped in
       let shows : flags_shown reply ≡ Some (flags_in word) = ap flags_shown replied ∙ shows_flags op (state_in word) in
       looked_at_once reply after is
-      (ap (λ o. with_seen line.log c (number_in word) (seen_with o (event_answered op reply))) shows)
+      (ap (λ o. with_seen line.log c (number_in word) (option_or (option_map (λ f. Seen.Saw f) o) (option_map (λ e. Seen.Did e) (event_answered op reply)))) shows)
       (shown_makes_none op reply (flags_in word) shows)
       (ap (λ (o : Option FlagPair). if is_some o then number_in word else number_in word + 1) shows)
       (let P : Reply → Type 0 = λ r. IsAnswer history op r history in subst P (sym replied) (answer_shown word op step stays stepped history now_lawful now_bits load.tells.word_is)) (λ acts. let n = k.0 acts in omega arith)
@@ -178,7 +177,7 @@ module _ (line : LineState) {now : LineView} {c word : ℕ} (load : IsLoad c lin
       }
 
   -- a line that tried an event after its load
-  module _ (e : Event) (next : ℕ) (reply : Reply) (after : LineState) (stepped : WordStep.Next next reply ≡ step_from op word) (event : Some e ≡ event_in op word) (most : number_in word ≤ greatest_number) where
+  module _ (e : Event) (next : ℕ) (reply : Reply) (after : LineState) (stepped : WordStep.Next next reply ≡ step_from op word) (event : Some e ≡ event_by op (flags_in word) (waiting_in word)) (most : number_in word ≤ greatest_number) where
     not_worn_yet : only_looks op ≡ false → number_in word < greatest_number
     not_worn_yet acts = let n = (next_by_event word op e next reply stepped event).1 in omega arith
 

@@ -12,15 +12,15 @@ use Rattle.pp_channel.specs.declared.rule.FoundWord.{FoundWord}
 use Rattle.pp_channel.specs.declared.rule.LineView.{LineView}
 use Rattle.pp_channel.specs.ChannelNo.{channel_count, channel_index}
 use Rattle.pp_channel.specs.ChannelWord.{number_in, flags_in}
-use Rattle.pp_channel.specs.LineLog.{LogState, looked, event_entry, look_entry}
+use Rattle.pp_channel.specs.LineLog.{LogState, looked, event_entry, look_entry, known_after, seen_on}
 use Rattle.pp_channel.specs.LineSteps.{IsBackedAt, IsBacked, IsLogOf, IsLoad, IsWonExchange, IsLostExchange, IsExchange}
 use Rattle.pp_channel.specs.LineView.{greater_of_each, joined_view, finds, makes}
 use Rattle.pp_channel.specs.Merge.{times_logged}
-use Rattle.pp_channel.specs.MonotoneLog.{known_after, seen_on}
-use Rattle.pp_channel.proofs.ChannelPlaces.{place_below}
+use Rattle.pp_channel.specs.ChannelPlaces.{place_below}
 use Rattle.pp_channel.proofs.LineKnowledge.{not_older_told, told_looked, all_looked}
 use Rattle.pp_channel.proofs.MergeLemmas.{told_by, times_told-append, times_told_push}
-use Rattle.pp_channel.proofs.SeenLemmas.{set_raises, within_more, greater_left, greater_right, length-greater}
+use Rattle.list_facts.specs.WrittenNumbers.{set_raises}
+use Rattle.pp_channel.proofs.SeenLemmas.{within_more, greater_left, greater_right, length-greater}
 
 -- what backs an entry backs it where the view has more
 backed_more : (v w : LineView) → ((x : Entry) → Contains v.events x → Contains w.events x) → ((x : FoundWord) → Contains v.found x → Contains w.found x) → (c number : ℕ) (what : Seen) → IsBackedAt v c number what → IsBackedAt w c number what

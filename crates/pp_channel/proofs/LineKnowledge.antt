@@ -15,19 +15,17 @@ use Rattle.pp_channel.specs.declared.rule.LineView.{LineView}
 use Rattle.pp_channel.specs.Answer.{flags_of}
 use Rattle.pp_channel.specs.ChannelNo.{channel_index}
 use Rattle.pp_channel.specs.ChannelWord.{number_in, flags_in}
-use Rattle.pp_channel.specs.History.{IsLawful, HasTwelveBitWords}
-use Rattle.pp_channel.specs.LineLog.{LogState, event_entry, looked, is_event, is_look_at, ends_in_look_at}
+use Rattle.pp_channel.specs.History.{IsLawful, HasTwelveBitWords, history_on}
+use Rattle.pp_channel.specs.LineLog.{LogState, event_entry, looked, is_event, is_look_at, ends_in_look_at, seen_on}
 use Rattle.pp_channel.specs.LineSteps.{IsBackedAt, IsBacked, IsLogOf, Tells}
 use Rattle.pp_channel.specs.LineView.{Knows}
 use Rattle.pp_channel.specs.Merge.{IsTrueAt, IsTrueOf, times_logged, Merges, no_opening}
-use Rattle.pp_channel.specs.Histories.{history_on}
-use Rattle.pp_channel.specs.MonotoneLog.{seen_on}
 use Rattle.pp_channel.specs.SharedWords.{IsFound}
 use Rattle.pp_channel.proofs.ChannelWordLemmas.{number_of_word, flags_of_word}
 use Rattle.pp_channel.proofs.FrontLemmas.{twelve_bits_take}
 use Rattle.pp_channel.proofs.MergeLemmas.{told_by, times_told_push}
 use Rattle.pp_channel.proofs.HistoryLemmas.{lawful_empty}
-use Rattle.pp_channel.proofs.LastElements.{last_or_at}
+use Rattle.list_facts.specs.LastElements.{last_or_at}
 
 -- what holds of each history, also past the last channel
 history_has : (P : List Event → Type 0) (histories : List (List Event)) (i : ℕ) → P [] → All P histories → P (slice_index_or histories i [])

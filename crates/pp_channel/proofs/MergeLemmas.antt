@@ -16,11 +16,10 @@ use Rattle.pp_channel.specs.declared.entry.Seen.TheVariants.{Did, Saw}
 use Rattle.pp_channel.specs.Answer.{flags_of}
 use Rattle.pp_channel.specs.ChannelNo.{channel_index, names_channel}
 use Rattle.pp_channel.specs.Law.{IsPrefix}
-use Rattle.pp_channel.specs.LineLog.{event_entry, is_event}
+use Rattle.pp_channel.specs.LineLog.{event_entry, is_event, known_after, seen_on, IsWithin}
 use Rattle.pp_channel.specs.Merge.{IsTrueAt, IsTrueOf, logs_event, times_logged, Merges, no_opening}
-use Rattle.pp_channel.specs.Histories.{history_on}
-use Rattle.pp_channel.specs.MonotoneLog.{known_after, seen_on, IsWithin}
-use Rattle.pp_channel.proofs.ChannelPlaces.{one_place}
+use Rattle.pp_channel.specs.History.{history_on}
+use Rattle.pp_channel.specs.ChannelPlaces.{one_place}
 
 -- 1 for a number below the end, else 0
 abbrev pub once_below : ℕ → ℕ → ℕ

@@ -9,9 +9,8 @@ use Rattle.pp_channel.specs.declared.entry.Entry.{Entry}
 use Rattle.pp_channel.specs.declared.entry.Seen.{Seen}
 use Rattle.pp_channel.specs.declared.entry.Seen.TheVariants.{Did, Saw}
 use Rattle.pp_channel.specs.declared.reply.Reply.{Reply}
-use Rattle.pp_channel.specs.LineLog.{LogState, event_entry, look_entry, appended, looked, with_seen}
+use Rattle.pp_channel.specs.LineLog.{LogState, event_entry, look_entry, appended, looked, with_seen, IsFollowedBy, IsMonotone, seen_on, IsWithin}
 use Rattle.pp_channel.specs.Answer.{seen_answered}
-use Rattle.pp_channel.specs.MonotoneLog.{IsFollowedBy, IsMonotone, seen_on, IsWithin}
 use Rattle.pp_channel.proofs.LineKnowledge.{looked_either, last_replaced}
 
 -- an entry in the place of the last one, which all before it may precede

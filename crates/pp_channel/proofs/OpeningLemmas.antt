@@ -23,7 +23,7 @@ use Rattle.pp_channel.specs.Law.{IsPrefix}
 use Rattle.pp_channel.specs.LineLog.{is_event, appended, with_seen, event_entry}
 use Rattle.pp_channel.specs.LineState.{LineState, IsActed, IsWornOut, number_after}
 use Rattle.pp_channel.specs.Merge.{IsTrueAt, IsTrueOf, logs_event, times_logged, Merges, IsOpeningLog, no_opening}
-use Rattle.pp_channel.specs.Histories.{history_on}
+use Rattle.pp_channel.specs.History.{history_on}
 use Rattle.pp_channel.proofs.AnswerLemmas.{answer_by_table}
 use Rattle.pp_channel.proofs.HistoryLemmas.{lawful_empty}
 use Rattle.pp_channel.proofs.ListFacts.{All-front, All-back}

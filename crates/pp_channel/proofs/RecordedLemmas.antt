@@ -15,8 +15,8 @@ use Rattle.pp_channel.specs.declared.entry.Seen.{Seen}
 use Rattle.pp_channel.specs.declared.entry.Seen.TheVariants.{Did, Saw}
 use Rattle.pp_channel.specs.ChannelNo.{channel_count, channel_index, channel_number}
 use Rattle.pp_channel.specs.Merge.{IsTrueAt, IsTrueOf, times_logged, Merges, no_opening, IsRecordedBy, with_recorded, with_entry}
-use Rattle.pp_channel.specs.Histories.{history_on}
-use Rattle.pp_channel.proofs.ChannelPlaces.{place_of_number}
+use Rattle.pp_channel.specs.History.{history_on}
+use Rattle.pp_channel.specs.ChannelPlaces.{place_of_number}
 use Rattle.pp_channel.proofs.MergeLemmas.{told_by, told_not}
 
 -- one event is written over: no history grows

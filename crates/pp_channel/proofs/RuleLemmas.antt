@@ -12,13 +12,12 @@ use Rattle.pp_channel.specs.declared.entry.Entry.{Entry}
 use Rattle.pp_channel.specs.declared.rule.LineView.{LineView}
 use Rattle.pp_channel.specs.ChannelNo.{channel_index, names_channel}
 use Rattle.pp_channel.specs.ChannelWord.{number_in}
-use Rattle.pp_channel.specs.History.{IsLawful, HasTwelveBitWords}
+use Rattle.pp_channel.specs.History.{IsLawful, HasTwelveBitWords, history_on}
 use Rattle.pp_channel.specs.LineSteps.{Tells}
 use Rattle.pp_channel.specs.LineView.{finds, weighs_once, Knows}
 use Rattle.pp_channel.specs.Merge.{IsRecordedBy, IsTrueOf, Merges, no_opening, logs_event, times_logged}
-use Rattle.pp_channel.specs.Histories.{history_on}
 use Rattle.pp_channel.specs.SharedWords.{word_place, IsViewOf, KeepsRule}
-use Rattle.pp_channel.proofs.ChannelPlaces.{place_below}
+use Rattle.pp_channel.specs.ChannelPlaces.{place_below}
 use Rattle.pp_channel.proofs.ListFacts.{All-read, All-part, flat_map-set_same, count_by-parts, sum_by-write, sum_by-sole}
 use Rattle.pp_channel.proofs.ChannelWordLemmas.{number_at_word}
 use Rattle.pp_channel.proofs.MergeLemmas.{once_inside, TellsOnce, tells_once, merges_by, times_within}

@@ -1,26 +1,11 @@
 -- The numbers seen, by channel, and the greater ones of two lines.
-use Rattle.std.proofs.Common.{◌≡◌, ℕ, zero, suc, ◌<◌, ◌≤◌, max, List, [], ◌∷◌, length, get_or, set, refl, sym, ap, ◌∙◌, arith}
+use Rattle.std.proofs.Common.{◌≡◌, ℕ, zero, suc, ◌<◌, ◌≤◌, max, List, [], ◌∷◌, length, get_or, refl, sym, ◌∙◌, arith}
 use Rattle.std.proofs.lemmas.List.{ext_get_or}
 use Rattle.std.proofs.lemmas.List.Elements.{All-weaker}
 use Rattle.pp_channel.specs.declared.entry.Entry.{Entry}
 use Rattle.pp_channel.specs.ChannelNo.{channel_index}
 use Rattle.pp_channel.specs.LineView.{greater_of_each}
-use Rattle.pp_channel.specs.MonotoneLog.{known_after, seen_on, IsWithin}
-
--- one of the numbers is written
-pub set_at_each : (P : ℕ → Type 0) (xs : List ℕ) (c n d : ℕ) → P (get_or xs d 0) → (d ≡ c → P n) → P (get_or (set xs c n) d 0)
-set_at_each P [] c n d old new = old
-set_at_each P (x ∷ xs) zero n zero old new = new refl
-set_at_each P (x ∷ xs) zero n (suc d) old new = old
-set_at_each P (x ∷ xs) (suc c) n zero old new = old
-set_at_each P (x ∷ xs) (suc c) n (suc d) old new = set_at_each P xs c n d old (λ e. new (ap suc e))
-
-pub set_raises : (xs : List ℕ) (c n d : ℕ) → get_or xs c 0 ≤ n → get_or xs d 0 ≤ get_or (set xs c n) d 0
-set_raises [] c n d l = omega arith
-set_raises (x ∷ xs) zero n zero l = l
-set_raises (x ∷ xs) zero n (suc d) l = omega arith
-set_raises (x ∷ xs) (suc c) n zero l = omega arith
-set_raises (x ∷ xs) (suc c) n (suc d) l = set_raises xs c n d l
+use Rattle.pp_channel.specs.LineLog.{known_after, seen_on, IsWithin}
 
 -- what lies within the numbers seen lies within greater ones
 pub within_more : (xs ys : List ℕ) → ((d : ℕ) → get_or xs d 0 ≤ get_or ys d 0) → (log : List Entry) → IsWithin xs log → IsWithin ys log

@@ -13,11 +13,10 @@ use Rattle.pp_channel.specs.declared.event.Event.{Event}
 use Rattle.pp_channel.specs.declared.rule.LineView.{LineView}
 use Rattle.pp_channel.specs.ChannelNo.{channel_count, channel_index}
 use Rattle.pp_channel.specs.ChannelWord.{history_word}
-use Rattle.pp_channel.specs.History.{IsLawful, HasTwelveBitWord, HasTwelveBitWords}
+use Rattle.pp_channel.specs.History.{IsLawful, HasTwelveBitWord, HasTwelveBitWords, history_on}
 use Rattle.pp_channel.specs.LineView.{first_view, parent_view, child_view, joined_view, spent_view}
 use Rattle.pp_channel.specs.Merge.{IsTrueOf, Merges, no_opening}
-use Rattle.pp_channel.specs.Histories.{history_on}
-use Rattle.pp_channel.specs.MonotoneLog.{seen_on}
+use Rattle.pp_channel.specs.LineLog.{seen_on}
 use Rattle.pp_channel.specs.SharedWords.{word_place, place_count, IsFound, IsViewOf, Rule}
 use Rattle.pp_channel.proofs.HistoryLemmas.{lawful_empty}
 use Rattle.pp_channel.proofs.ListFacts.{All-parts_set, flat_map-set_same, sum_by-write}

@@ -14,15 +14,13 @@ use Rattle.pp_channel.specs.declared.event.Event.{Event}
 use Rattle.pp_channel.specs.declared.rule.LineView.{LineView}
 use Rattle.pp_channel.specs.ChannelNo.{channel_count, channel_index, names_channel}
 use Rattle.pp_channel.specs.ChannelWord.{history_word, number_in}
-use Rattle.pp_channel.specs.History.{IsLawful, HasTwelveBitWord, HasTwelveBitWords}
+use Rattle.pp_channel.specs.History.{IsLawful, HasTwelveBitWord, HasTwelveBitWords, history_on}
 use Rattle.pp_channel.specs.LineSteps.{IsLoad, IsWonExchange, IsLostExchange, IsWeighing, OnChannel, exchanges}
 use Rattle.pp_channel.specs.LineView.{finds, makes, weighs_once, Knows}
 use Rattle.pp_channel.specs.Merge.{IsTrueOf}
-use Rattle.pp_channel.specs.Histories.{history_on}
-use Rattle.pp_channel.specs.MonotoneLog.{seen_on}
-use Rattle.pp_channel.specs.LineLog.{event_entry}
+use Rattle.pp_channel.specs.LineLog.{seen_on, event_entry}
 use Rattle.pp_channel.specs.SharedWords.{word_place, place_count, IsFound, IsViewOf, KeepsRule, Rule}
-use Rattle.pp_channel.proofs.ChannelPlaces.{place_below, named_below, one_place}
+use Rattle.pp_channel.specs.ChannelPlaces.{place_below, named_below, one_place}
 use Rattle.pp_channel.proofs.ListFacts.{read_written, All-parts_set, sum_by-write, read-le-sum_by}
 use Rattle.pp_channel.proofs.MergeLemmas.{once_below, TellsOnce, tells_once, merges_by, times_told_push, told_elsewhere, told_next, Grow, slice_get_last, true_later, with_more, more_is, more_here, same_elsewhere, more_grow, length-with_more, All-with_more}
 use Rattle.pp_channel.proofs.ViewLemmas.{view_later, view_makes, later_found}

@@ -12,17 +12,16 @@ use Rattle.pp_channel.specs.declared.rule.FoundWord.{FoundWord}
 use Rattle.pp_channel.specs.declared.rule.LineView.{LineView}
 use Rattle.pp_channel.specs.ChannelNo.{channel_count, channel_index, names_channel}
 use Rattle.pp_channel.specs.ChannelWord.{history_word, number_in}
-use Rattle.pp_channel.specs.History.{HasTwelveBitWords}
+use Rattle.pp_channel.specs.History.{HasTwelveBitWords, history_on}
 use Rattle.pp_channel.specs.LineView.{parent_view, child_view, greater_of_each, joined_view, spent_view, finds, makes, weighs_once}
-use Rattle.pp_channel.specs.Histories.{history_on}
-use Rattle.pp_channel.specs.MonotoneLog.{known_after, seen_on}
-use Rattle.pp_channel.specs.LineLog.{event_entry}
+use Rattle.pp_channel.specs.LineLog.{known_after, seen_on, event_entry}
 use Rattle.pp_channel.specs.SharedWords.{IsFound, IsViewOf}
-use Rattle.pp_channel.proofs.ChannelPlaces.{place_below}
+use Rattle.pp_channel.specs.ChannelPlaces.{place_below}
 use Rattle.pp_channel.proofs.FrontLemmas.{twelve_bits_take}
 use Rattle.pp_channel.proofs.ChannelWordLemmas.{number_at_word}
 use Rattle.pp_channel.proofs.MergeLemmas.{Grow}
-use Rattle.pp_channel.proofs.SeenLemmas.{set_at_each, set_raises, within_more, greater_left, greater_right, greater_at_most, length-greater}
+use Rattle.list_facts.specs.WrittenNumbers.{set_at_each, set_raises}
+use Rattle.pp_channel.proofs.SeenLemmas.{within_more, greater_left, greater_right, greater_at_most, length-greater}
 
 -- the histories grow
 pub length_later : (before after : List (List Event)) → Grow before after → (c : ℕ) → length (history_on c before) ≤ length (history_on c after)

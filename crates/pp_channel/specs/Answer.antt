@@ -1,18 +1,17 @@
 -- What a channel answers to an operation, by its history: first as a relation to lawful histories,
 -- then as a function by the table of operations. On lawful histories the two agree.
---
--- Control Data 6400/6500/6600 Computer Systems Reference Manual, publication 60100000, part on
--- peripheral and control processors: the channel instructions, of which 64 to 67 (octal) test the
--- flags of a channel, and 70 to 77 wait until its flags let them go on.
-use Rattle.std.specs.Prelude.{◌≡◌, ℕ, Bool, true, false, not, ◌&&◌, List, [], ◌∷◌, ◌++◌, Option, Some, None, ◌⊎◌, if◌then◌else◌}
-use Rattle.std.specs.Option.{option_map, option_to_list}
+-- (Manual 60100000, channel instructions: 64 to 67 (octal) test the flags of a channel, and 70 to
+-- 77 wait until its flags let them go on.)
+use Rattle.std.specs.Prelude.{◌≡◌, ℕ, Bool, true, false, not, ◌&&◌, List, [], ◌∷◌, ◌++◌, Option, Some, None, ◌⊎◌, if◌then◌else◌, option_map, option_to_list, length}
+use Rattle.std.specs.Option.{option_or}
 use Rattle.pp_channel.specs.declared.event.Event.{Event}
 use Rattle.pp_channel.specs.declared.chan_op.ChanOp.{ChanOp}
 use Rattle.pp_channel.specs.declared.channel_state.ChannelState.{ChannelState}
 use Rattle.pp_channel.specs.declared.entry.Seen.{Seen}
 use Rattle.pp_channel.specs.declared.reply.Reply.{Reply}
 use Rattle.pp_channel.specs.declared.flags.Flags.{Flags}
-use Rattle.pp_channel.specs.History.{IsLawful, active, full, waiting}
+use Rattle.pp_channel.specs.declared.numbered.Numbered.{Numbered}
+use Rattle.pp_channel.specs.History.{IsLawful, active, full, waiting, HasTwelveBitWords}
 
 -- the flags of a channel with the history h
 abbrev pub flags_of : List Event → Flags
@@ -99,12 +98,10 @@ event_answered ChanOp.Take (Reply.Word w) = Some (Event.Take w)
 event_answered op reply = None
 
 -- what an operation so answered saw or did: the flags that the reply shows, or its event
-abbrev pub seen_with : Option Flags → Option Event → Option Seen
-seen_with (Some f) made = Some (Seen.Saw f)
-seen_with None made = option_map (λ e. Seen.Did e) made
-
 abbrev pub seen_answered : ChanOp → Reply → Option Seen
-seen_answered op reply = seen_with (flags_shown reply) (event_answered op reply)
+seen_answered op reply =
+    option_or (option_map (λ f. Seen.Saw f) (flags_shown reply))
+    (option_map (λ e. Seen.Did e) (event_answered op reply))
 
 -- the flags after an event
 abbrev pub flags_after : Event → Flags
@@ -142,3 +139,14 @@ reply_to op h = state_reply op (channel_state h)
 -- The history after it: one event more, or the same.
 abbrev pub history_after : ChanOp → List Event → List Event
 history_after op h = h ++ option_to_list (event_of op h)
+
+-- The answer of a channel behind a lock: one with some lawful history of `number` events; nothing
+-- happened on the channel between the look at its history and the answer.
+pub record IsLockedAnswer (op : ChanOp) (r : Numbered) : Type 0 where
+  pub before : List Event
+  pub after : List Event
+  pub lawful : IsLawful before
+  pub twelve_bits : HasTwelveBitWords before
+  pub number : r.number ≡ length before
+  pub loaded : r.loaded ≡ r.number
+  pub answer : IsAnswer before op r.reply after

@@ -1,9 +1,7 @@
 -- The numbers of the data channels, and the place of each channel in a list of all channels. A
--- number and its place are two things: proofs know of them what the lemmas of ChannelPlaces say.
---
--- Control Data 6400/6500/6600 Computer Systems Reference Manual, publication 60100000, part on
--- peripheral and control processors: twelve data channels, numbered 0 to 13 (octal). A machine of
--- twenty peripheral processors has twelve more, numbered 20 to 33.
+-- number and its place are two things: proofs know of them what ChannelPlaces says.
+-- (Manual 60100000, data channels: twelve, numbered 0 to 13 (octal). A machine of twenty peripheral
+-- processors has twelve more, numbered 20 to 33.)
 use Rattle.std.specs.Prelude.{ℕ, ◌≡◌, ◌+◌, ◌-◌, ◌&&◌, ◌||◌, Bool, IsTrue, nat_lt, if◌then◌else◌}
 use Rattle.std.proofs.Common.{arith}
 
@@ -15,8 +13,7 @@ channel_count = 0o30
 unfoldable pub names_channel : ℕ → Bool
 names_channel number = nat_lt number 0o14 || (nat_lt 0o17 number && nat_lt number 0o34)
 
--- the place of the channel with this number in a list of all channels; past its end for a number
--- that names none
+-- the place of the channel with this number in a list of all; past its end where it names none
 unfoldable pub channel_index : ℕ → ℕ
 channel_index number =
     if nat_lt number 0o14 then number else if nat_lt number 0o20 then channel_count else number - 4

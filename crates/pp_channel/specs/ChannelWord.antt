@@ -1,10 +1,8 @@
 -- A channel as one number of 64 bits, the channel word: how many events it has had, its flags and
 -- its register; and one step of it, by the table of operations for every number of 64 bits, and by
 -- the history where the word stands for one.
---
--- Control Data 6400/6500/6600 Computer Systems Reference Manual, publication 60100000, part on
--- peripheral and control processors: a channel has a 12-bit register, an active flag and a full
--- flag. That they lie in one number beside a count of events is this project's own.
+-- (Manual 60100000, data channels: a register of 12 bits, an active flag and a full flag. That they
+-- lie in one number beside a count of events is this project's own.)
 use Rattle.std.specs.Prelude.{◌≡◌, ℕ, ◌+◌, ◌-◌, ◌*◌, ◌/◌, ◌%◌, ◌^◌, ◌<◌, ◌==◌, ◌&&◌, true, false, not, List, [], ◌∷◌, ◌++◌, length, Option, Some, None, unwrap_or, if◌then◌else◌}
 use Rattle.pp_channel.specs.declared.event.Event.{Event}
 use Rattle.pp_channel.specs.declared.chan_op.ChanOp.{ChanOp}
@@ -14,8 +12,7 @@ use Rattle.pp_channel.specs.declared.word_step.WordStep.{WordStep}
 use Rattle.pp_channel.specs.History.{waiting}
 use Rattle.pp_channel.specs.Answer.{event_by, flags_of, only_looks, flags_after, word_after, reply_made, IsReady}
 
--- bits 0 to 11 are the register, bit 12 is full, bit 13 is active, and from bit 14 on stands the
--- number of events
+-- bits 0 to 11: the register; bit 12: full; bit 13: active; from bit 14 on: the number of events
 abbrev pub packed : ℕ → Flags → ℕ → ℕ
 packed number flags register =
     number * 2 ^ 14 + (if flags.active then 2 ^ 13 else 0) + (if flags.full then 2 ^ 12 else 0)
@@ -48,10 +45,6 @@ waiting_in word =
 abbrev pub state_in : ℕ → ChannelState
 state_in word = record { flags = flags_in word; register = waiting_in word }
 
--- the event that an operation makes, by the flags and the register of a word
-abbrev pub event_in : ChanOp → ℕ → Option Event
-event_in op word = event_by op (flags_in word) (waiting_in word)
-
 -- the word after an event: one event more, and the flags and the register that the event leaves
 abbrev pub word_with : ℕ → Event → ℕ
 word_with word e = packed (number_in word + 1) (flags_after e) (unwrap_or (word_after e) 0)
@@ -66,7 +59,7 @@ step_by op word (Some e) = WordStep.Next (word_with word e) (reply_made e)
 abbrev pub step_from : ChanOp → ℕ → WordStep
 step_from op word =
     if not (only_looks op) && (number_in word == greatest_number) then WordStep.Worn
-    else step_by op word (event_in op word)
+    else step_by op word (event_by op (flags_in word) (waiting_in word))
 
 -- Then by the history. What the step of an operation has to be where the word is that of a channel
 -- with the history h; whether the operation is ready is said by the lawful histories.

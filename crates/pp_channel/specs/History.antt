@@ -1,23 +1,20 @@
 -- The history of a channel is the list of its events: which histories are lawful, and what a
 -- history says of the channel now.
---
--- Control Data 6400/6500/6600 Computer Systems Reference Manual, publication 60100000, part on
--- peripheral and control processors: a channel is active or inactive, and full or empty. Words
--- pass while it is active, function codes go out while it is inactive.
-use Rattle.std.specs.Prelude.{◌≡◌, ℕ, ◌+◌, ◌^◌, ◌<◌, Bool, true, false, ◌&&◌, ◌==◌, List, ◌∷◌, ◌++◌, length, map, All, Option, Some, None, is_some, unwrap_or, if◌then◌else◌}
-use Rattle.std.specs.Option.{option_to_list}
-use Rattle.std.specs.List.{filter_map, flat_map, last_or, after_last}
-use Rattle.pp_channel.specs.declared.event.Event.{Event}
-use Rattle.pp_channel.specs.declared.event.Event.TheVariants.{Activate, Disconnect, Put, Take, Function}
+-- (Manual 60100000, data channels: active or inactive, full or empty. Words pass while a channel is
+-- active, function codes go out while it is inactive.)
+use Rattle.std.specs.Prelude.{◌≡◌, ℕ, ◌+◌, ◌^◌, ◌<◌, Bool, true, false, ◌&&◌, ◌==◌, List, ◌∷◌, ◌++◌, length, map, All, Option, Some, None, is_some, unwrap_or, if◌then◌else◌, option_to_list, filter_map, flat_map, [], slice_index_or}
+use Rattle.std.specs.List.{last_or, after_last}
 use Rattle.pp_channel.specs.Session.{Session, body, puts, takes}
+use Rattle.pp_channel.specs.ChannelNo.{channel_count, channel_index}
+use Rattle.pp_channel.specs.declared.event.Event.{Event}
 
 -- an idle stretch: function codes alone
 abbrev pub idle_stretch : List ℕ → List Event
-idle_stretch codes = map (λ code. Function code) codes
+idle_stretch codes = map (λ code. Event.Function code) codes
 
 -- a whole session, which a Disconnect ends, and the idle stretch after it
 abbrev pub whole_session : Session × List ℕ → List Event
-whole_session (session, codes) = body session ++ Disconnect ∷ idle_stretch codes
+whole_session (session, codes) = body session ++ Event.Disconnect ∷ idle_stretch codes
 
 -- The course of a channel: an idle stretch, any number of whole sessions, each with its idle
 -- stretch, and perhaps an open session.
@@ -39,8 +36,8 @@ IsLawful h = (course : Course) × (events_of course ≡ h)
 
 -- what Activate and Disconnect make of a channel: active or not
 abbrev pub switches_to : Event → Option Bool
-switches_to Activate = Some true
-switches_to Disconnect = Some false
+switches_to Event.Activate = Some true
+switches_to Event.Disconnect = Some false
 switches_to _ = None
 
 -- A channel is active where the last of Activate and Disconnect in its history is Activate.
@@ -61,11 +58,21 @@ waiting h = if full h then last_or None (puts (last_stretch h)) else None
 
 -- the word of an event, if it has one, is a word of 12 bits
 abbrev pub HasTwelveBitWord : Event → Type 0
-HasTwelveBitWord (Put w) = w < 2 ^ 12
-HasTwelveBitWord (Take w) = w < 2 ^ 12
-HasTwelveBitWord (Function w) = w < 2 ^ 12
+HasTwelveBitWord (Event.Put w) = w < 2 ^ 12
+HasTwelveBitWord (Event.Take w) = w < 2 ^ 12
+HasTwelveBitWord (Event.Function w) = w < 2 ^ 12
 HasTwelveBitWord _ = Unit {0}
 
 -- Every word of a history has 12 bits.
 abbrev pub HasTwelveBitWords : List Event → Type 0
 HasTwelveBitWords h = All HasTwelveBitWord h
+
+-- the history of channel c, of the histories of all channels in order
+abbrev pub history_on : ℕ → List (List Event) → List Event
+history_on c histories = slice_index_or histories (channel_index c) []
+
+-- A history for each channel, in their order: each is lawful, and its words have 12 bits.
+pub record AreHistories (histories : List (List Event)) : Type 0 where
+  pub each_channel : length histories ≡ channel_count
+  pub lawful : All IsLawful histories
+  pub twelve_bits : All HasTwelveBitWords histories

@@ -6,15 +6,14 @@
 use Rattle.std.specs.Prelude.{◌≡◌, ◌≢◌, ℕ, ◌+◌, ◌≤◌, List, [], ◌∷◌, ◌++◌, length, IsTrue, All, Some, None}
 use Rattle.std.specs.List.{last_or}
 use Rattle.pp_channel.specs.declared.event.Event.{Event}
-use Rattle.pp_channel.specs.declared.event.Event.TheVariants.{Activate, Disconnect, Put, Take}
 use Rattle.pp_channel.specs.History.{active, full, waiting}
 use Rattle.pp_channel.specs.Session.{puts, takes}
 
 -- A session of h up to some moment: an Activate after the events `before`, and then `inside`, in
 -- which no Disconnect comes; `after` is the rest of h.
 pub record IsSession (h before inside after : List Event) : Type 0 where
-  pub place : h ≡ before ++ Activate ∷ inside ++ after
-  pub unbroken : All (λ e. e ≢ Disconnect) inside
+  pub place : h ≡ before ++ Event.Activate ∷ inside ++ after
+  pub unbroken : All (λ e. e ≢ Event.Disconnect) inside
 
 abbrev pub IsPrefix : {X : Type 0} → List X → List X → Type 0
 IsPrefix {X} some all = (others : List X) × (some ++ others ≡ all)
@@ -32,7 +31,7 @@ IsUntaken inside w = puts inside ≡ takes inside ++ w ∷ []
 pub record IsFullWith (h : List Event) (w : ℕ) : Type 0 where
   pub is_full : IsTrue (full h)
   pub waits : waiting h ≡ Some w
-  pub put_last : last_or None h ≡ Some (Put w)
+  pub put_last : last_or None h ≡ Some (Event.Put w)
 
 -- The law of a history.
 pub record KeepsLaw (h : List Event) : Type 0 where
@@ -42,13 +41,13 @@ pub record KeepsLaw (h : List Event) : Type 0 where
   -- a word that is not taken when a Disconnect ends the session: the Disconnect finds the channel
   -- full with it, and comes directly after its Put
   pub lost : (before inside later : List Event) (w : ℕ)
-      → IsSession h before inside (Disconnect ∷ later) → IsUntaken inside w
-      → IsFullWith (before ++ Activate ∷ inside) w
+      → IsSession h before inside (Event.Disconnect ∷ later) → IsUntaken inside w
+      → IsFullWith (before ++ Event.Activate ∷ inside) w
   -- a word that is not taken in the session that is going on
   pub kept : (before inside : List Event) (w : ℕ)
       → IsSession h before inside [] → IsUntaken inside w → IsFullWith h w
   -- outside a session
   pub no_put_outside : (before later : List Event) (w : ℕ)
-      → h ≡ before ++ Put w ∷ later → IsTrue (active before)
+      → h ≡ before ++ Event.Put w ∷ later → IsTrue (active before)
   pub no_take_outside : (before later : List Event) (w : ℕ)
-      → h ≡ before ++ Take w ∷ later → IsTrue (active before)
+      → h ≡ before ++ Event.Take w ∷ later → IsTrue (active before)

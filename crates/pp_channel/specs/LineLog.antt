@@ -1,6 +1,7 @@
--- The log that a line writes of what it did and saw.
-use Rattle.std.specs.Prelude.{ℕ, ◌-◌, ◌==◌, ◌&&◌, Bool, true, false, not, List, [], ◌∷◌, ◌++◌, length, slice_set, Option, Some, None, if◌then◌else◌}
+-- The log that a line writes of what it did and saw, and how the numbers along it go.
+use Rattle.std.specs.Prelude.{ℕ, ◌-◌, ◌==◌, ◌&&◌, Bool, true, false, not, List, [], ◌∷◌, ◌++◌, length, slice_set, Option, Some, None, if◌then◌else◌, ◌≡◌, ◌+◌, ◌≤◌, All, AllPairs, slice_index}
 use Rattle.std.specs.List.{last_or}
+use Rattle.pp_channel.specs.ChannelNo.{channel_index}
 use Rattle.pp_channel.specs.declared.event.Event.{Event}
 use Rattle.pp_channel.specs.declared.flags.Flags.{Flags}
 use Rattle.pp_channel.specs.declared.entry.Entry.{Entry}
@@ -56,3 +57,26 @@ abbrev pub with_seen : LogState → ℕ → ℕ → Option Seen → LogState
 with_seen log c number None = log
 with_seen log c number (Some (Seen.Did e)) = appended log (event_entry c number e)
 with_seen log c number (Some (Seen.Saw f)) = looked log (look_entry c number f)
+
+-- how many events of the channel are known after an entry with this number
+abbrev pub known_after : Seen → ℕ → ℕ
+known_after (Seen.Did e) number = number + 1
+known_after (Seen.Saw f) number = number
+
+-- a later entry on the same channel has at least the number, and a greater one after an event
+abbrev pub IsFollowedBy : Entry → Entry → Type 0
+IsFollowedBy earlier later =
+    earlier.channel ≡ later.channel → known_after earlier.what earlier.number ≤ later.number
+
+-- A log is monotone where that holds of each entry and each later one: no number falls.
+abbrev pub IsMonotone : List Entry → Type 0
+IsMonotone log = AllPairs IsFollowedBy log
+
+-- how many events of channel c have been seen, of the numbers seen on all channels in order
+abbrev pub seen_on : ℕ → List ℕ → ℕ
+seen_on c seen = slice_index seen (channel_index c)
+
+-- every entry lies within the numbers seen: an event below, a look at most
+abbrev pub IsWithin : List ℕ → List Entry → Type 0
+IsWithin seen log =
+    All (λ entry. known_after entry.what entry.number ≤ seen_on entry.channel seen) log

@@ -1,8 +1,5 @@
--- A line as contracts see it: what it holds, what it knows of the channels' histories, and how its
--- calls change it.
-use Rattle.std.specs.Prelude.{◌≡◌, ◌≢◌, ℕ, ◌+◌, ◌<◌, ◌≤◌, ◌==◌, List, [], ◌∷◌, ◌++◌, length, map, take, All, slice_set, true, false, is_some, if◌then◌else◌}
-use Rattle.std.specs.List.{fold}
-use Rattle.std.specs.Option.{option_map, option_to_list}
+-- A line as contracts see it: what it holds, what it knows of histories, and how calls change it.
+use Rattle.std.specs.Prelude.{◌≡◌, ◌≢◌, ℕ, ◌+◌, ◌<◌, ◌≤◌, ◌==◌, List, [], ◌∷◌, ◌++◌, length, map, take, All, slice_set, true, false, is_some, if◌then◌else◌, fold, option_map, option_to_list}
 use Rattle.atomic_table.specs.Seated.{TableId}
 use Rattle.pp_channel.specs.declared.chan_op.ChanOp.{ChanOp}
 use Rattle.pp_channel.specs.declared.event.Event.{Event}
@@ -13,24 +10,21 @@ use Rattle.pp_channel.specs.Answer.{IsAnswer, IsReady, event_answered, flags_of,
 use Rattle.pp_channel.specs.ChannelNo.{channel_index}
 use Rattle.pp_channel.specs.ChannelWord.{number_in, greatest_number}
 use Rattle.pp_channel.specs.Law.{KeepsLaw}
-use Rattle.pp_channel.specs.LineLog.{LogState, empty_log, event_entry, with_seen}
+use Rattle.pp_channel.specs.LineLog.{LogState, empty_log, event_entry, with_seen, seen_on}
 use Rattle.pp_channel.specs.LineView.{child_view, joined_view, weighs_once, finds, Knows}
 use Rattle.pp_channel.specs.Merge.{Merges, no_opening}
-use Rattle.pp_channel.specs.Histories.{history_on}
-use Rattle.pp_channel.specs.MonotoneLog.{seen_on}
+use Rattle.pp_channel.specs.History.{history_on}
 
 -- Lines that were split from one another are a family, and share one table of words. A line has its
 -- log; its view, which is what it knows: its shares, of how many in its family, the events that it
 -- made, the words that it found, in order, how often it weighed its shares by a load that took no
--- note of the word, and how many events of each channel it has seen; and the table of the words
--- that it shares.
+-- note of the word, and how many events of each channel it has seen; and that table.
 pub record LineState : Type 0 where
   pub log : LogState
   pub view : LineView
   pub table : TableId
 
--- A line of one share that was split from another: it has seen what the other has seen, and has an
--- empty log of its own.
+-- A line of one share that was split from another: it has seen what that has, and its log is empty.
 pub record IsSplitFrom (parent : LineState) (room : ℕ) (line : LineState) : Type 0 where
   pub log : line.log ≡ empty_log room
   pub view : line.view ≡ child_view parent.view
@@ -83,8 +77,7 @@ answered line c op r words = record line {
   };
 }
 
--- What a call answers: the line afterwards knows histories of which the history of channel c gave
--- this answer.
+-- What a call answers: the line then knows histories of which that of channel c gave this answer.
 pub record IsActed (line : LineState) (c : ℕ) (op : ChanOp) (r : Numbered) (after : LineState)
     : Type 0 where
   -- it found the word that it loaded and, if the exchange was lost, the word that stood there then

@@ -6,22 +6,21 @@ use mathlib.Core.Option.{Option, none, some}
 use Rattle.atomic_table.specs.Table.{Me, Step}
 use Rattle.pp_channel.specs.declared.entry.Entry.{Entry}
 use Rattle.pp_channel.specs.declared.entry.Seen.{Seen}
-use Rattle.pp_channel.specs.declared.entry.Seen.TheVariants.{Did, Saw}
 use Rattle.pp_channel.specs.declared.event.Event.{Event}
 use Rattle.pp_channel.specs.declared.rule.LineView.{LineView}
 use Rattle.pp_channel.specs.ChannelNo.{channel_count, channel_index, names_channel}
 use Rattle.pp_channel.specs.ChannelWord.{history_word, number_in, flags_in}
-use Rattle.pp_channel.specs.LineLog.{event_entry}
+use Rattle.pp_channel.specs.LineLog.{event_entry, IsWithin}
 use Rattle.pp_channel.specs.LineView.{finds, makes, weighs_once, Knows}
 use Rattle.pp_channel.specs.Merge.{times_logged}
-use Rattle.pp_channel.specs.Histories.{history_on}
-use Rattle.pp_channel.specs.MonotoneLog.{IsWithin}
+use Rattle.pp_channel.specs.History.{history_on}
 use Rattle.pp_channel.specs.SharedWords.{word_place}
 
 -- An event in a log is one that the view has; a look was read off a word that the view found.
 abbrev pub IsBackedAt : LineView → ℕ → ℕ → Seen → Type 0
-IsBackedAt v c number (Did e) = Contains v.events (event_entry c number e)
-IsBackedAt v c number (Saw f) = (word : ℕ) × Contains v.found (record { channel = c; word = word })
+IsBackedAt v c number (Seen.Did e) = Contains v.events (event_entry c number e)
+IsBackedAt v c number (Seen.Saw f) =
+    (word : ℕ) × Contains v.found (record { channel = c; word = word })
     × (number_in word ≡ number) × (flags_in word ≡ f)
 
 abbrev pub IsBacked : LineView → Entry → Type 0
@@ -64,8 +63,7 @@ pub record IsWonExchange (c : ℕ) (before : LineView) (word : ℕ) (e : Event) 
   pub known_after : Knows after after.events
       (slice_set tells.histories (channel_index c) (history_on c tells.histories ++ e ∷ []))
 
--- An exchange that was lost is a load: more events had come than were known, so there are other
--- lines.
+-- An exchange that was lost is a load: more events had come than known, so there are other lines.
 pub record IsLostExchange (c expected : ℕ) (before : LineView) (word : ℕ) (after : LineView)
     : Type 0 where
   pub load : IsLoad c before word after

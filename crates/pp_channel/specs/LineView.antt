@@ -5,10 +5,9 @@ use Rattle.pp_channel.specs.declared.event.Event.{Event}
 use Rattle.pp_channel.specs.declared.rule.LineView.{LineView}
 use Rattle.pp_channel.specs.ChannelNo.{channel_count, channel_index}
 use Rattle.pp_channel.specs.ChannelWord.{number_in}
-use Rattle.pp_channel.specs.LineLog.{event_entry}
+use Rattle.pp_channel.specs.LineLog.{event_entry, seen_on}
 use Rattle.pp_channel.specs.Merge.{IsTrueOf, IsRecordedBy}
-use Rattle.pp_channel.specs.Histories.{AreHistories, history_on}
-use Rattle.pp_channel.specs.MonotoneLog.{seen_on}
+use Rattle.pp_channel.specs.History.{AreHistories, history_on}
 use Rattle.pp_channel.specs.SharedWords.{IsFound}
 
 -- the view of a line with these shares that made no event and found no word, and has seen so many

@@ -3,19 +3,16 @@ use Rattle.std.specs.Prelude.{◌≡◌, ℕ, ◌<◌, ◌≤◌, ◌⊎◌, ◌
 use Rattle.pp_channel.specs.declared.event.Event.{Event}
 use Rattle.pp_channel.specs.declared.entry.Entry.{Entry}
 use Rattle.pp_channel.specs.declared.entry.Seen.{Seen}
-use Rattle.pp_channel.specs.declared.entry.Seen.TheVariants.{Did, Saw}
 use Rattle.pp_channel.specs.Answer.{flags_of}
 use Rattle.pp_channel.specs.ChannelNo.{channel_index}
-use Rattle.pp_channel.specs.Histories.{AreHistories, history_on}
+use Rattle.pp_channel.specs.History.{AreHistories, history_on}
 use Rattle.pp_channel.specs.Law.{IsPrefix}
-use Rattle.pp_channel.specs.LineLog.{is_event}
-use Rattle.pp_channel.specs.MonotoneLog.{seen_on}
+use Rattle.pp_channel.specs.LineLog.{is_event, seen_on}
 
--- An event in a log is the one at its number of the history h; a look shows the flags after that
--- many events of h.
+-- An event in a log is the one at its number of h; a look shows the flags after that many events.
 abbrev pub IsTrueAt : List Event → ℕ → Seen → Type 0
-IsTrueAt h number (Did e) = slice_get h number ≡ Some e
-IsTrueAt h number (Saw f) = (number ≤ length h) × (flags_of (take number h) ≡ f)
+IsTrueAt h number (Seen.Did e) = slice_get h number ≡ Some e
+IsTrueAt h number (Seen.Saw f) = (number ≤ length h) × (flags_of (take number h) ≡ f)
 
 abbrev pub IsTrueOf : List (List Event) → Entry → Type 0
 IsTrueOf histories entry = IsTrueAt (history_on entry.channel histories) entry.number entry.what
@@ -62,9 +59,9 @@ pub record IsRecordedBy (log : List Entry) (seen : List ℕ) (histories : List (
 -- the histories of all channels in order, with the event of an entry put at its number in that of
 -- its channel (private contracts alone cite this)
 abbrev pub with_recorded : List (List Event) → ℕ → ℕ → Seen → List (List Event)
-with_recorded histories place number (Did e) =
+with_recorded histories place number (Seen.Did e) =
     slice_set histories place (slice_set (slice_index_or histories place []) number e)
-with_recorded histories place number (Saw f) = histories
+with_recorded histories place number (Seen.Saw f) = histories
 
 abbrev pub with_entry : List (List Event) → Entry → List (List Event)
 with_entry histories entry =

@@ -1,13 +1,8 @@
 -- What happens on a channel from one Activate to the next Disconnect, and the words that pass.
---
--- Control Data 6400/6500/6600 Computer Systems Reference Manual, publication 60100000, part on
--- peripheral and control processors: the channel's register holds one word. A processor puts a
--- word into the empty register, another takes it, and then the next word may come.
-use Rattle.std.specs.Prelude.{ℕ, List, [], ◌∷◌, ◌++◌, map, Option, Some, None}
-use Rattle.std.specs.Option.{option_to_list}
-use Rattle.std.specs.List.{filter_map, flat_map}
+-- (Manual 60100000, data channels: a register of one word. A processor puts a word into it while it
+-- is empty, another takes the word, and then the next may come.)
+use Rattle.std.specs.Prelude.{ℕ, List, [], ◌∷◌, ◌++◌, map, Option, Some, None, option_to_list, filter_map, flat_map}
 use Rattle.pp_channel.specs.declared.event.Event.{Event}
-use Rattle.pp_channel.specs.declared.event.Event.TheVariants.{Activate, Put, Take}
 
 -- A session: the words that were put and then taken, in order, and perhaps a lone last word that
 -- was put and not taken.
@@ -18,15 +13,15 @@ pub record Session : Type 0 where
 -- its events: Activate, a Put and a Take for each word that passed, and a Put for the lone word
 abbrev pub body : Session → List Event
 body s =
-    Activate ∷ flat_map (λ w. Put w ∷ Take w ∷ []) s.passed
-    ++ map (λ w. Put w) (option_to_list s.lone)
+    Event.Activate ∷ flat_map (λ w. Event.Put w ∷ Event.Take w ∷ []) s.passed
+    ++ map (λ w. Event.Put w) (option_to_list s.lone)
 
 abbrev pub word_put : Event → Option ℕ
-word_put (Put w) = Some w
+word_put (Event.Put w) = Some w
 word_put _ = None
 
 abbrev pub word_taken : Event → Option ℕ
-word_taken (Take w) = Some w
+word_taken (Event.Take w) = Some w
 word_taken _ = None
 
 -- the words put, in order

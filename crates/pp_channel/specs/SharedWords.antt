@@ -8,8 +8,8 @@ use Rattle.pp_channel.specs.declared.rule.LineView.{LineView}
 use Rattle.pp_channel.specs.ChannelNo.{channel_count, channel_index, names_channel}
 use Rattle.pp_channel.specs.ChannelWord.{history_word}
 use Rattle.pp_channel.specs.Merge.{Merges, no_opening}
-use Rattle.pp_channel.specs.Histories.{AreHistories, history_on}
-use Rattle.pp_channel.specs.MonotoneLog.{IsWithin, seen_on}
+use Rattle.pp_channel.specs.History.{AreHistories, history_on}
+use Rattle.pp_channel.specs.LineLog.{IsWithin, seen_on}
 
 -- The words lie 16 apart, so that no two channels share a cache line.
 abbrev pub word_place : ℕ → ℕ

@@ -60,7 +60,7 @@ impl ChannelNo {
     }
 
     /// Its place in a list of all channels in order of number.
-    #[tactic(auto, using(crate::proofs::ChannelPlaces::one_place, crate::proofs::ChannelPlaces::place_below, crate::specs::ChannelNo::place_again))]
+    #[tactic(auto, using(crate::specs::ChannelPlaces::one_place, crate::specs::ChannelPlaces::place_below, crate::specs::ChannelNo::place_again))]
     pub fn index(self) -> usize
         ensures place { result ≡ channel_index self }
         ensures below { result < channel_count }
@@ -71,7 +71,7 @@ impl ChannelNo {
     }
 
     /// The channel at a place of that list.
-    #[tactic(auto, using(crate::proofs::ChannelPlaces::number_named, crate::proofs::ChannelPlaces::place_of_number))]
+    #[tactic(auto, using(crate::specs::ChannelPlaces::number_named, crate::specs::ChannelPlaces::place_of_number))]
     pub fn at(place: usize) -> Self
         requires { place < channel_count }
         ensures number { result ≡ channel_number place }

@@ -1,9 +1,8 @@
 //! A channel that threads share under a lock.
 
 ghost use Rattle.std.specs.Prelude.{◌≡◌, true, IfOk, IsOk};
-ghost use Rattle.pp_channel.specs.Answer.{only_looks};
+ghost use Rattle.pp_channel.specs.Answer.{IsLockedAnswer, only_looks};
 ghost use Rattle.pp_channel.specs.History.{IsLawful, HasTwelveBitWords};
-ghost use Rattle.pp_channel.specs.Locked.{IsLockedAnswer};
 
 use crate::chan_op::ChanOp;
 use crate::channel::Channel;

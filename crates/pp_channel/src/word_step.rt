@@ -2,7 +2,8 @@
 
 ghost use Rattle.std.specs.Prelude.{◌≡◌, ◌<◌, ◌≤◌, List, None, IfSome};
 ghost use Rattle.pp_channel.specs.declared.event.Event.{Event};
-ghost use Rattle.pp_channel.specs.ChannelWord.{history_word, number_in, flags_in, register_in, greatest_number, step_from, step_by, event_in, state_in, waiting_in, word_with, StepsFrom};
+ghost use Rattle.pp_channel.specs.Answer.{event_by};
+ghost use Rattle.pp_channel.specs.ChannelWord.{history_word, number_in, flags_in, register_in, greatest_number, step_from, step_by, state_in, waiting_in, word_with, StepsFrom};
 ghost use Rattle.pp_channel.specs.History.{IsLawful, HasTwelveBitWord, HasTwelveBitWords};
 
 use crate::answer::{event_by, flags_after, reply_made};
@@ -70,7 +71,7 @@ fn step_shown(op: &ChanOp, word: u64) -> WordStep
 /// The event that an operation makes, by the flags and the register of a word; nothing where it
 /// only looks or is not ready.
 pub(crate) fn next_event_in(word: u64, op: &ChanOp) -> Option<Event>
-    ensures event { result ≡ event_in op.now word }
+    ensures event { result ≡ event_by op.now (flags_in word) (waiting_in word) }
     ensures twelve_bits { IfSome result HasTwelveBitWord }
 {
     event_by(op, flags_in(word), waiting_in(word))

@@ -8,7 +8,7 @@ use Rattle.std.proofs.lemmas.List.Elements.{All-cons, All-head, All-nil, All-tai
 use Rattle.std.proofs.lemmas.List.Quantifiers.{position-Some}
 use Rattle.std.proofs.lemmas.List.Splits.{slice_split_first, slice_split_none}
 use Rattle.std.proofs.lemmas.List.Sums.{fails_before_first}
-use Rattle.pp_channel.proofs.ChannelPlaces.{one_place, place_below}
+use Rattle.pp_channel.specs.ChannelPlaces.{one_place, place_below}
 use Rattle.pp_channel.specs.ChannelNo.{channel_count, channel_index, names_channel}
 use Rattle.pp_deck.proofs.FieldLemmas.{at_position, no_position}
 use Rattle.pp_deck.specs.DeckText.{Field, Fields}

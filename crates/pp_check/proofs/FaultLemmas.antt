@@ -9,7 +9,7 @@ use Rattle.std.proofs.lemmas.List.Elements.{All-get_or, All-take, filter_map-app
 use Rattle.pp_channel.specs.Answer.{channel_state}
 use Rattle.pp_channel.specs.History.{IsLawful}
 use Rattle.pp_channel.specs.declared.event.Event.{Event}
-use Rattle.pp_deck.proofs.ListLemmas.{filter_map_more}
+use Rattle.list_facts.specs.GrowingLists.{filter_map_more}
 use Rattle.pp_check.specs.LawfulTrace.{AreLawful, Fits, IsLawfulTrace, history, last_turn, lines_said, turn_of}
 use Rattle.pp_check.specs.TraceFault.{IsFault, IsFlaw, IsFlawOf}
 use Rattle.pp_check.specs.TraceLine.{line_said}

@@ -1,15 +1,15 @@
-pub mod NumeralLemmas
-pub mod TraceLemmas
-pub mod FaultLemmas
-pub mod KeepsLemmas
-pub mod VerdictLemmas
-pub mod OpeningLemmas
-pub mod CheckLemmas
-pub mod LawLemmas
-pub mod NumeralTextLemmas
-pub mod PrintedLineLemmas
-pub mod PrintedTextLemmas
-pub mod PrintedLawLemmas
-pub mod PrintedReportLemmas
-pub mod RisingTurnLemmas
-pub mod ChannelListLemmas
+mod NumeralLemmas
+mod TraceLemmas
+mod FaultLemmas
+mod KeepsLemmas
+mod VerdictLemmas
+mod OpeningLemmas
+mod CheckLemmas
+mod LawLemmas
+mod NumeralTextLemmas
+mod PrintedLineLemmas
+mod PrintedTextLemmas
+mod PrintedLawLemmas
+mod PrintedReportLemmas
+mod RisingTurnLemmas
+mod ChannelListLemmas

@@ -5,7 +5,7 @@ use Rattle.std.specs.List.{list_all}
 use Rattle.std.specs.Str.{bytes_eq}
 use Rattle.std.proofs.lemmas.Bool.{leb-true, le-leb, ltb-true, ne_eqb}
 use Rattle.std.proofs.lemmas.List.Folds.{list_all-append}
-use Rattle.pp_channel.proofs.ChannelPlaces as channel_places
+use Rattle.pp_channel.specs.ChannelPlaces as channel_places
 use Rattle.pp_channel.specs.ChannelNo.{names_channel}
 use Rattle.pp_channel.specs.History.{HasTwelveBitWord, active, waiting}
 use Rattle.pp_channel.specs.declared.channel_state.ChannelState.{ChannelState}
@@ -13,7 +13,7 @@ use Rattle.pp_channel.specs.declared.event.Event.{Event}
 use Rattle.pp_channel.specs.declared.event.Event.TheVariants.{Activate, Disconnect, Put, Take, Function}
 use Rattle.pp_deck.proofs.FieldTextLemmas.{IsField, IsTail, and_both, and_left, and_right, fields_of_plain, is_ink, is_plain, tail_blank, tail_field, tail_last}
 use Rattle.pp_deck.specs.DeckText.{fields_of}
-use Rattle.pp_machine.proofs.ProcessorPlaces as processor_places
+use Rattle.pp_machine.specs.ProcessorPlaces as processor_places
 use Rattle.pp_machine.specs.PpNo.{names_processor, processor_number}
 use Rattle.pp_machine.specs.Processor.{Processor}
 use Rattle.pp_machine.specs.declared.pp_state.PpState.{PpState}

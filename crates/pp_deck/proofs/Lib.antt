@@ -1,14 +1,15 @@
+mod DeckLawLemmas
+mod DigitLemmas
+mod HeadlineLemmas
+mod KeywordLemmas
+mod WordsLemmas
+-- facts of the definitions, which proofs of other crates cite
 pub mod DeadStartLemmas
-pub mod DeckLawLemmas
-pub mod DigitLemmas
 pub mod FieldLemmas
 pub mod FieldTextLemmas
-pub mod HeadlineLemmas
-pub mod KeywordLemmas
 pub mod LawLemmas
 pub mod LineParts
 pub mod LinesLemmas
-pub mod ListLemmas
 pub mod LoadedRangeLemmas
 pub mod MemoryLemmas
 pub mod ProgressLemmas
@@ -16,5 +17,4 @@ pub mod RangeLemmas
 pub mod ReadingLemmas
 pub mod SectionLemmas
 pub mod SectionLinesLemmas
-pub mod WordsLemmas
 pub mod NamesLemmas

@@ -7,11 +7,12 @@ use Rattle.pp_word.specs.Address.{place_count}
 use Rattle.pp_machine.specs.Processor.{Processor}
 use Rattle.pp_machine.specs.declared.profile.Profile.{Profile}
 use Rattle.pp_deck.specs.DeckLine.{Line, nothing, central_size, central_words, section, start, words, dead_start}
-use Rattle.pp_deck.specs.DeckLoad.{word_for, central_word_for, start_in, is_for, section_of, lines_for, memory_of, central_loaded, processor_with, processor_loaded, tabulate}
+use Rattle.list_facts.specs.Tables.{tabulate, length-tabulate, get_or-tabulate}
+use Rattle.pp_deck.specs.DeckLoad.{word_for, central_word_for, start_in, is_for, section_of, lines_for, memory_of, central_loaded, processor_with, processor_loaded}
 use Rattle.std.specs.Result.{result_ok}
 use Rattle.pp_deck.specs.DeckMeaning.{has_fields, begins_section, line_at, size_of, lines_said}
 use Rattle.pp_deck.specs.declared.flaw.Flaw.{Flaw}
-use Rattle.pp_deck.proofs.ListLemmas.{last_of, length-tabulate, get_or-tabulate}
+use Rattle.list_facts.specs.GrowingLists.{last_of}
 use Rattle.pp_deck.proofs.RangeLemmas.{Holds, InRange, line_holds}
 use Rattle.pp_deck.proofs.SectionLinesLemmas.{AllLines}
 

@@ -1,5 +1,4 @@
--- What holds of each loaded deck, stated by its lines one beside another: what the last line sets,
--- holds.
+-- What holds of each loaded deck, by its lines one beside another: what the last line sets, holds.
 use Rattle.std.specs.Prelude.{◌≡◌, ℕ, ◌+◌, ◌<◌, ◌↔◌, Contains, IsTrue, Bool, true, false, List, [], length, None, Some, slice_get, slice_index, slice_index_or}
 use Rattle.pp_word.specs.Address.{place_count}
 use Rattle.pp_channel.specs.ChannelNo.{channel_count, names_channel}
@@ -10,7 +9,6 @@ use Rattle.pp_machine.specs.Processor.{Processor, word_at}
 use Rattle.pp_machine.specs.PpNo.{names_processor, processor_count, processor_index}
 use Rattle.pp_machine.specs.Profile.{has_processor}
 use Rattle.pp_machine.specs.declared.pp_state.PpState.{PpState}
-use Rattle.pp_machine.specs.declared.pp_state.PpState.TheVariants.{Running, Stopped}
 use Rattle.pp_machine.specs.declared.profile.Profile.{Profile}
 use Rattle.pp_deck.specs.DeckLine.{Line, nothing, central_words, section, start, words, dead_start}
 use Rattle.pp_deck.specs.DeckMeaning.{LoadedDeck}
@@ -51,11 +49,11 @@ abbrev pub registers_of : Processor → Registers
 registers_of pp = record { state = pp.state; p = pp.p; a = pp.a }
 
 abbrev pub at_rest : Registers
-at_rest = record { state = Stopped; p = 0; a = 0 }
+at_rest = record { state = PpState.Stopped; p = 0; a = 0 }
 
 -- a line starts its processor with these registers
 abbrev pub Starts : Line → Registers → Type 0
-Starts (start p a) registers = registers ≡ record { state = Running; p = p; a = a }
+Starts (start p a) registers = registers ≡ record { state = PpState.Running; p = p; a = a }
 Starts line registers = ⊥
 
 -- a value is what the last line sets that sets it, and `otherwise` where no line does

@@ -1,16 +1,13 @@
 -- What one line of a deck says, by its fields and by the lines before it.
-use Rattle.std.specs.Prelude.{ℕ, ◌+◌, ◌&&◌, Bool, List, [], ◌∷◌, Result, Ok, Err, nat_lt, nat_le, codes, slice_index, if◌then◌else◌}
+use Rattle.std.specs.Prelude.{ℕ, ◌+◌, ◌&&◌, Bool, List, [], ◌∷◌, Result, Ok, Err, nat_lt, nat_le, codes, slice_index, if◌then◌else◌, bytes_eq}
 use Rattle.std.specs.Char.{is_ascii_digit}
-use Rattle.std.specs.Str.{bytes_eq}
 use Rattle.pp_word.specs.Address.{place_count}
 use Rattle.pp_machine.specs.Profile.{has_processor}
 use Rattle.pp_machine.specs.declared.profile.Profile.{Profile}
 use Rattle.pp_deck.specs.DeckText.{Field, Fields}
 use Rattle.pp_deck.specs.OctalNumber.{number}
 use Rattle.pp_deck.specs.declared.flaw.Flaw.{Flaw}
-use Rattle.pp_deck.specs.declared.flaw.Flaw.TheVariants.{UnknownLine, BadProcessor, NoProcessor, PastEnd, CentralRange}
 use Rattle.pp_deck.specs.declared.keyword.Keyword.{Keyword}
-use Rattle.pp_deck.specs.declared.keyword.Keyword.TheVariants.{Central, CentralWords, Processor, Start, DeadStart, Words, Unknown}
 
 -- what a line may say: nothing; `CENTRAL n`: central memory has n words; `CM a w w ..`: central
 -- words from a on; `PP n`: what follows is for processor n; `START p a`: it starts at P = p with A
@@ -28,13 +25,13 @@ pub data Line : Type 0 where
 
 unfoldable pub keyword_of : Field → Keyword
 keyword_of field =
-    if bytes_eq field (codes "CENTRAL") then Central
-    else if bytes_eq field (codes "CM") then CentralWords
-    else if bytes_eq field (codes "PP") then Processor
-    else if bytes_eq field (codes "START") then Start
-    else if bytes_eq field (codes "DEAD") then DeadStart
-    else if is_ascii_digit (slice_index field 0) then Words
-    else Unknown
+    if bytes_eq field (codes "CENTRAL") then Keyword.Central
+    else if bytes_eq field (codes "CM") then Keyword.CentralWords
+    else if bytes_eq field (codes "PP") then Keyword.Processor
+    else if bytes_eq field (codes "START") then Keyword.Start
+    else if bytes_eq field (codes "DEAD") then Keyword.DeadStart
+    else if is_ascii_digit (slice_index field 0) then Keyword.Words
+    else Keyword.Unknown
 
 -- ---- the fields after it
 
@@ -46,13 +43,13 @@ abbrev pub ◌>>=◌ : {A B : Type 0} → Result A Flaw → (A → Result B Flaw
 
 -- a number of at most this many digits, which must be there, and what the fields after it say
 abbrev pub number_then : ℕ → Fields → (ℕ → Fields → Result Line Flaw) → Result Line Flaw
-number_then most [] next = Err UnknownLine
+number_then most [] next = Err Flaw.UnknownLine
 number_then most (field ∷ fields) next = number most field >>= λ n. next n fields
 
 -- the end of a line: a field more is one too many
 abbrev pub ends_with : Line → Fields → Result Line Flaw
 ends_with line [] = Ok line
-ends_with line (field ∷ fields) = Err UnknownLine
+ends_with line (field ∷ fields) = Err Flaw.UnknownLine
 
 -- words of at most this many digits, in places from the first on; a word whose place is not below
 -- the end is past it
@@ -67,19 +64,19 @@ words_in most place end past (field ∷ fields) = do
 unfoldable pub central_line : Fields → Result Line Flaw
 central_line fields =
     number_then 6 fields (λ n more. if nat_le 1 n && nat_le n 0o400000
-    then ends_with (central_size n) more else Err CentralRange)
+    then ends_with (central_size n) more else Err Flaw.CentralRange)
 
 -- `CM a w w ..` in a central memory of this size
 unfoldable pub central_words_line : ℕ → Fields → Result Line Flaw
 central_words_line size fields =
-    number_then 6 fields (λ a more. words_in 20 a size CentralRange more >>= λ ws.
+    number_then 6 fields (λ a more. words_in 20 a size Flaw.CentralRange more >>= λ ws.
     Ok (central_words a ws))
 
 -- `PP n`, where the machine has processor n
 unfoldable pub section_line : Profile → Fields → Result Line Flaw
 section_line profile fields =
     number_then 2 fields (λ n more. if has_processor profile n then ends_with (section n) more
-    else Err BadProcessor)
+    else Err Flaw.BadProcessor)
 
 -- `START p`, where A is 0, or `START p a`
 abbrev pub start_from : ℕ → Fields → Result Line Flaw
@@ -92,7 +89,7 @@ start_line fields = number_then 4 fields start_from
 -- `x w w ..`
 unfoldable pub words_line : Field → Fields → Result Line Flaw
 words_line field fields =
-    number 4 field >>= λ x. words_in 4 x place_count PastEnd fields >>= λ ws. Ok (words x ws)
+    number 4 field >>= λ x. words_in 4 x place_count Flaw.PastEnd fields >>= λ ws. Ok (words x ws)
 
 -- ---- the whole line
 
@@ -101,22 +98,18 @@ words_line field fields =
 -- comes before every line with fields, and starts and words belong to the section of a processor: a
 -- line that is misplaced has that flaw, whatever follows its first field
 abbrev pub line_by : Profile → ℕ → Bool → Bool → Keyword → Field → Fields → Result Line Flaw
-line_by profile size is_after_fields is_in_section Central field fields =
-    if is_after_fields then Err UnknownLine else central_line fields
-line_by profile size is_after_fields is_in_section CentralWords field fields =
-    central_words_line size fields
-line_by profile size is_after_fields is_in_section Processor field fields =
-    section_line profile fields
-line_by profile size is_after_fields is_in_section Start field fields =
-    if is_in_section then start_line fields else Err NoProcessor
-line_by profile size is_after_fields is_in_section DeadStart field fields =
-    ends_with dead_start fields
-line_by profile size is_after_fields is_in_section Words field fields =
-    if is_in_section then words_line field fields else Err NoProcessor
-line_by profile size is_after_fields is_in_section Unknown field fields = Err UnknownLine
+line_by _ _ is_after_fields _ Keyword.Central _ fields =
+    if is_after_fields then Err Flaw.UnknownLine else central_line fields
+line_by _ size _ _ Keyword.CentralWords _ fields = central_words_line size fields
+line_by profile _ _ _ Keyword.Processor _ fields = section_line profile fields
+line_by _ _ _ is_in_section Keyword.Start _ fields =
+    if is_in_section then start_line fields else Err Flaw.NoProcessor
+line_by _ _ _ _ Keyword.DeadStart _ fields = ends_with dead_start fields
+line_by _ _ _ is_in_section Keyword.Words field fields =
+    if is_in_section then words_line field fields else Err Flaw.NoProcessor
+line_by _ _ _ _ Keyword.Unknown _ _ = Err Flaw.UnknownLine
 
--- what a line says after such lines, for a machine of this profile with a central memory of this
--- size
+-- what a line says after such lines, for this profile and this size of central memory
 unfoldable pub line_after : Profile → ℕ → Bool → Bool → Fields → Result Line Flaw
 line_after profile size is_after_fields is_in_section [] = Ok nothing
 line_after profile size is_after_fields is_in_section (field ∷ fields) =

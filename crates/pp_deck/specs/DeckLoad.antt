@@ -1,6 +1,7 @@
 -- What the lines of a deck load, taken all together: the last line that sets something holds.
-use Rattle.std.specs.Prelude.{ℕ, ◌-◌, ◌==◌, Bool, true, false, List, length, map, take, Option, None, Some, slice_get, slice_index_or, unwrap_or, nat_le, filter_map, if◌then◌else◌}
+use Rattle.std.specs.Prelude.{ℕ, ◌-◌, ◌==◌, Bool, true, false, List, length, take, Option, None, Some, slice_get, slice_index_or, unwrap_or, nat_le, filter_map, if◌then◌else◌}
 use Rattle.std.specs.List.{last_or, list_any, range_with_len}
+use Rattle.list_facts.specs.Tables.{tabulate}
 use Rattle.pp_word.specs.Address.{place_count}
 use Rattle.pp_machine.specs.MachineState.{MachineState, new_machine}
 use Rattle.pp_machine.specs.Processor.{Processor, new_processor, runs_from}
@@ -45,10 +46,6 @@ abbrev pub start_in : Line → Option (ℕ × ℕ)
 start_in (start p a) = Some (p, a)
 start_in line = None
 
--- f 0, f 1, .., f (n - 1)
-unfoldable pub tabulate : {A : Type 0} → ℕ → (ℕ → A) → List A
-tabulate n f = map f (range_with_len 0 n)
-
 -- the memory that lines leave: each place holds the last word that they set there, else 0
 unfoldable pub memory_of : List Line → List ℕ
 memory_of lines =
@@ -88,8 +85,7 @@ asks_dead_start lines = list_any is_dead_start lines
 abbrev pub each_processor : {A : Type 0} → (ℕ → A) → List A
 each_processor of = tabulate processor_count (λ place. of (processor_number place))
 
--- a machine of this profile and this central size in which all is set that lines set, before any
--- dead start
+-- a machine of this profile and this central size with all that lines set, before any dead start
 abbrev pub machine_loaded : Profile → ℕ → List Line → MachineState
 machine_loaded profile size lines = record (new_machine profile size) {
   processors = each_processor (processor_loaded profile lines);

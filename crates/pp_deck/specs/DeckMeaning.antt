@@ -1,5 +1,4 @@
--- What a whole deck means: the machine that it loads and the processors that it names, or why it is
--- refused.
+-- What a whole deck means: the machine that it loads, the processors that it names, or its fault.
 use Rattle.std.specs.Prelude.{ℕ, ◌+◌, ◌&&◌, Bool, true, false, not, List, [], ◌∷◌, length, take, Option, None, Some, Result, Ok, Err, slice_index_or, nat_lt, nat_le, count_by, find, filter_map, position, if◌then◌else◌}
 use Rattle.std.specs.List.{list_any, range_with_len}
 use Rattle.std.specs.Result.{result_ok}
@@ -16,7 +15,6 @@ use Rattle.pp_deck.specs.declared.deck_fault.DeckCode.TheVariants.{TooLong, NotA
 use Rattle.pp_deck.specs.declared.deck_fault.DeckFault.{DeckFault}
 use Rattle.pp_deck.specs.declared.flaw.Flaw.{Flaw}
 use Rattle.pp_deck.specs.declared.keyword.Keyword.{Keyword}
-use Rattle.pp_deck.specs.declared.keyword.Keyword.TheVariants as keywords
 
 -- the machine that a deck loads, and whether it names each processor, in the order of the barrel;
 -- no processor is named that the machine lacks
@@ -31,8 +29,7 @@ unnamed_in profile named =
     each_processor (λ n. has_processor profile n
     && not (slice_index_or named (processor_index n) false))
 
--- dead start, where a deck asks for it: the processors that it does not name wait for their
--- programs
+-- dead start, where a deck asks for it: processors that it does not name wait for their programs
 abbrev pub with_dead_start : Bool → LoadedDeck → LoadedDeck
 with_dead_start true deck =
     record deck { machine = dead_started (unnamed_in deck.machine.profile deck.named) deck.machine }
@@ -53,7 +50,7 @@ abbrev pub has_fields : Fields → Bool
 has_fields fields = nat_lt 0 (length fields)
 
 abbrev pub is_processor_keyword : Keyword → Bool
-is_processor_keyword keywords.Processor = true
+is_processor_keyword Keyword.Processor = true
 is_processor_keyword keyword = false
 
 -- whether a line begins with `PP`
@@ -75,7 +72,7 @@ size_said (Ok (central_size n)) = n
 size_said line = 0o10000
 
 abbrev pub size_by : Keyword → Fields → ℕ
-size_by keywords.Central fields = size_said (central_line fields)
+size_by Keyword.Central fields = size_said (central_line fields)
 size_by keyword fields = 0o10000
 
 abbrev pub size_in : Option Fields → ℕ
@@ -126,8 +123,7 @@ abbrev pub unless_foreign : Profile → List ℕ → Option ℕ → Result Loade
 unless_foreign profile text (Some i) = Err (record { line = line_of_byte text i; code = NotAscii })
 unless_foreign profile text None = meaning_of_lines profile (lines_of text)
 
--- what a deck means for a machine of this profile, by the bytes of its text: at most 1,048,576
--- (decimal), all ASCII
+-- what a deck means for a machine of this profile: at most 1,048,576 (decimal) bytes, all ASCII
 unfoldable pub deck_meaning : Profile → List ℕ → Result LoadedDeck DeckFault
 deck_meaning profile text =
     if nat_lt 1048576 (length text) then Err (record { line = 0; code = TooLong })

@@ -1,5 +1,5 @@
 -- The lines of a deck's text, and the fields of a line. Bytes are ASCII codes in decimal: a tab is
--- 9, LF is 10, a space is 32, `*` is 42; a CR, 13, before an LF is no part of its line.
+-- 9, LF is 10, a space is 32, `*` is 42; a CR, 13, at the end of a line is no part of it.
 use Rattle.std.specs.Prelude.{ℕ, ◌==◌, Bool, true, false, not, ◌||◌, List, [], ◌∷◌, map, filter, slice_index, Option, None, Some}
 use Rattle.std.specs.Borrow.{Bor}
 use Rattle.std.specs.List.{slice_split, take_while}

@@ -3,7 +3,6 @@ use Rattle.std.specs.Prelude.{ℕ, ◌+◌, ◌*◌, ◌-◌, ◌&&◌, Bool, Li
 use Rattle.std.specs.List.{list_all}
 use Rattle.pp_deck.specs.DeckText.{Field}
 use Rattle.pp_deck.specs.declared.flaw.Flaw.{Flaw}
-use Rattle.pp_deck.specs.declared.flaw.Flaw.TheVariants.{BadDigits}
 
 -- the characters 0 to 7 are the codes 48 to 55 (decimal)
 abbrev pub is_octal_digit : ℕ → Bool
@@ -18,4 +17,4 @@ unfoldable pub number : ℕ → Field → Result ℕ Flaw
 number most field =
     if nat_le 1 (length field) && nat_le (length field) most && list_all is_octal_digit field
     then Ok (octal_value field)
-    else Err BadDigits
+    else Err Flaw.BadDigits

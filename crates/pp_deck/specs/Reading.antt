@@ -1,5 +1,4 @@
--- A deck as far as its lines have been read, and what one line more changes: the meaning once more,
--- line by line.
+-- A deck as far as it has been read, and what one line more changes: its meaning, line by line.
 use Rattle.std.specs.Prelude.{◌≡◌, ℕ, ◌+◌, Bool, true, false, List, [], ◌∷◌, Option, None, Some, Result, Ok, Err, slice_set, replicate, fold}
 use Rattle.pp_machine.specs.MachineState.{MachineState, processor_of, new_machine}
 use Rattle.pp_machine.specs.Processor.{Processor, runs_from}
@@ -10,8 +9,7 @@ use Rattle.pp_deck.specs.DeckLoad.{section_of, asks_dead_start}
 use Rattle.pp_deck.specs.DeckMeaning.{LoadedDeck, set_by}
 use Rattle.pp_deck.specs.declared.flaw.Flaw.{Flaw}
 
--- the machine so far, the processors named so far, the one whose section it is, and whether dead
--- start was asked for
+-- machine and names so far, whose section it is, and whether dead start was asked for
 pub record Progress : Type 0 where
   pub machine : MachineState
   pub named : List Bool

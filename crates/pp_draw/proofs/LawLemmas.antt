@@ -10,7 +10,7 @@ use Rattle.pp_machine.specs.Headline.{HoldsOnEachChannel, events_on, opening_his
 use Rattle.pp_machine.specs.MachineState.{MachineState, history_of, is_opened}
 use Rattle.pp_machine.specs.Run.{run}
 use Rattle.pp_machine.specs.declared.trace.Trace.{Trace}
-use Rattle.pp_machine.proofs.RunLemmas.{run-append}
+use Rattle.pp_machine.specs.RunLaws.{run-append}
 use Rattle.pp_steps.specs.StepsText.{run_steps, steps_from}
 use Rattle.pp_draw.specs.Condition.{condition_after, goes_on}
 use Rattle.pp_draw.specs.DrawingLaw.{condition_in, first_turn, opening_turns, seen, turns_on}

@@ -1,10 +1,10 @@
-pub mod RowLemmas
-pub mod LaneLemmas
-pub mod SeenLemmas
-pub mod BandLemmas
-pub mod LawLemmas
-pub mod ReadLemmas
-pub mod ElementLemmas
-pub mod WellFormedLemmas
-pub mod ConditionLemmas
-pub mod TurnLemmas
+mod RowLemmas
+mod LaneLemmas
+mod SeenLemmas
+mod BandLemmas
+mod LawLemmas
+mod ReadLemmas
+mod ElementLemmas
+mod WellFormedLemmas
+mod ConditionLemmas
+mod TurnLemmas

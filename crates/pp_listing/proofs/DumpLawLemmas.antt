@@ -6,7 +6,7 @@ use Rattle.std.proofs.lemmas.Grind.{get_or_default_zero}
 use Rattle.std.proofs.lemmas.List.{get_or-replicate, length-map}
 use Rattle.std.proofs.Math.ListN.{get_or-map}
 use Rattle.pp_channel.specs.ChannelNo.{channel_count, channel_index, names_channel}
-use Rattle.pp_channel.proofs.ChannelPlaces as channel_places
+use Rattle.pp_channel.specs.ChannelPlaces as channel_places
 use Rattle.pp_machine.specs.MachineState.{MachineState, processor_of, is_opened}
 use Rattle.pp_machine.specs.Processor.{Processor, IsProcessor, new_processor, no_processor}
 use Rattle.pp_machine.specs.PpNo.{names_processor, processor_count, processor_index, processor_number}
@@ -15,10 +15,10 @@ use Rattle.pp_machine.specs.declared.block.Block.{Block}
 use Rattle.pp_machine.specs.declared.pp_state.PpState.{PpState}
 use Rattle.pp_machine.specs.declared.pp_state.PpState.TheVariants.{Running, Stopped, Fault}
 use Rattle.pp_machine.specs.declared.profile.Profile.{Profile}
-use Rattle.pp_machine.proofs.ProcessorPlaces.{number_of_place, place_below}
+use Rattle.pp_machine.specs.ProcessorPlaces.{number_of_place, place_below, number_fits}
 use Rattle.pp_deck.specs.DeckLoad.{processor_with}
 use Rattle.pp_deck.specs.DeckMeaning.{LoadedDeck, deck_meaning}
-use Rattle.pp_deck.proofs.ListLemmas.{length-tabulate, get_or-tabulate}
+use Rattle.list_facts.specs.Tables.{length-tabulate, get_or-tabulate}
 use Rattle.pp_deck.proofs.LoadedRangeLemmas.{IsSmall}
 use Rattle.pp_listing.specs.Dump.{in_processor, processor_going_on, channel_going_on, all_going_on, first_going_on, left_of, is_in_use, deck_to_go_on, dump, after, GoesOnFrom}
 use Rattle.pp_listing.specs.Listing.{is_opened_channel, listing, numbers}
@@ -26,7 +26,6 @@ use Rattle.pp_listing.proofs.FreshDeckLemmas.{IsFresh, fresh_listing}
 use Rattle.pp_listing.proofs.GoingOnLemmas.{none_given}
 use Rattle.pp_listing.proofs.ListingLemmas.{dead_of, names_of, none_opened, numbered, processors_of}
 use Rattle.pp_listing.proofs.LoadedDeckLemmas.{deck_for}
-use Rattle.pp_machine.proofs.ProcessorPlaces.{number_fits}
 use Rattle.pp_listing.proofs.RunDeckLemmas.{IsDeckFor, run_stays}
 use Rattle.pp_listing.proofs.RunWidthLemmas.{HasWidths, widths_of_run}
 

@@ -11,7 +11,7 @@ use Rattle.pp_machine.specs.declared.pp_state.PpState.TheVariants.{Running, Stop
 use Rattle.pp_deck.specs.DeckLine.{central_size, section, dead_start}
 use Rattle.pp_deck.specs.DeckLoad.{each_processor}
 use Rattle.pp_deck.specs.DeckMeaning.{LoadedDeck}
-use Rattle.pp_deck.proofs.ListLemmas.{tabulate_is}
+use Rattle.list_facts.specs.Tables.{tabulate_is}
 use Rattle.pp_listing.specs.Dump.{deck_to_go_on, dump, is_in_use, left_of}
 use Rattle.pp_listing.specs.ListedLine.{ListedLine, bare, text_line}
 use Rattle.pp_listing.specs.Listing.{central_word_line, dead_start_line, instruction_lines, is_named, listing, named_section, numbers, section_lines, start_line}

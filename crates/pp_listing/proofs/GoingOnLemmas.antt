@@ -5,7 +5,7 @@ use Rattle.std.specs.List.{cons_option, range_with_len}
 use Rattle.std.specs.Option.{option_to_list}
 use Rattle.std.proofs.lemmas.List.Elements.{filter_map-append}
 use Rattle.pp_machine.specs.MachineState.{MachineState}
-use Rattle.pp_deck.proofs.ListLemmas.{range_more, range_append, filter_map_more}
+use Rattle.list_facts.specs.GrowingLists.{range_more, range_append, filter_map_more}
 use Rattle.pp_listing.specs.Dump.{all_going_on, processor_going_on, channel_going_on}
 use Rattle.pp_listing.specs.Listing.{numbers}
 use Rattle.pp_listing.specs.declared.going_on.GoingOn.{GoingOn}

@@ -10,7 +10,7 @@ use Rattle.pp_machine.specs.declared.pp_state.PpState.TheVariants.{Running, Stop
 use Rattle.pp_machine.specs.declared.profile.Profile.{Profile}
 use Rattle.pp_deck.specs.DeckLine.{Line, nothing, central_size, central_words, section, start, words, dead_start, line_after}
 use Rattle.pp_deck.specs.DeckLoad.{word_among, word_for, central_word_for, start_in, is_dead_start}
-use Rattle.pp_deck.proofs.ListLemmas.{last_of}
+use Rattle.list_facts.specs.GrowingLists.{last_of}
 use Rattle.pp_deck.proofs.SectionLemmas.{names}
 use Rattle.pp_deck.proofs.LineParts.{current_after}
 use Rattle.pp_listing.specs.InstructionText.{is_long}

@@ -1,20 +1,20 @@
-pub mod DumpLawLemmas
-pub mod DumpLemmas
-pub mod FreshDeckLemmas
-pub mod GoingOnLemmas
-pub mod InstructionLemmas
-pub mod InstructionTextLemmas
-pub mod ListedLemmas
-pub mod ListedLineLemmas
-pub mod ListingLemmas
-pub mod LoadedDeckLemmas
-pub mod NumberLemmas
-pub mod OctalDigitLemmas
-pub mod PrintedLineLemmas
-pub mod PrintedTextLemmas
-pub mod ProfileLemmas
-pub mod RunDeckLemmas
-pub mod RunWidthLemmas
-pub mod StepWidthLemmas
-pub mod TextLemmas
-pub mod WordWidthLemmas
+mod DumpLawLemmas
+mod DumpLemmas
+mod FreshDeckLemmas
+mod GoingOnLemmas
+mod InstructionLemmas
+mod InstructionTextLemmas
+mod ListedLemmas
+mod ListedLineLemmas
+mod ListingLemmas
+mod LoadedDeckLemmas
+mod NumberLemmas
+mod OctalDigitLemmas
+mod PrintedLineLemmas
+mod PrintedTextLemmas
+mod ProfileLemmas
+mod RunDeckLemmas
+mod RunWidthLemmas
+mod StepWidthLemmas
+mod TextLemmas
+mod WordWidthLemmas

@@ -7,14 +7,15 @@ use Rattle.pp_machine.specs.Processor.{Processor, new_processor}
 use Rattle.pp_machine.specs.PpNo.{names_processor, processor_count, processor_number}
 use Rattle.pp_machine.specs.Profile.{has_processor}
 use Rattle.pp_machine.specs.declared.profile.Profile.{Profile}
-use Rattle.pp_machine.proofs.ProcessorPlaces.{channel_of_processor}
+use Rattle.pp_machine.specs.ProcessorPlaces.{channel_of_processor}
 use Rattle.pp_deck.specs.DeckLine.{Line}
 use Rattle.pp_deck.specs.DeckLoad.{start_in, lines_for, memory_of, processor_with, processor_loaded, asks_dead_start}
 use Rattle.pp_deck.specs.DeckLoad as load
 use Rattle.pp_deck.specs.DeckMeaning.{LoadedDeck, deck_meaning, loaded, set_by, with_dead_start}
 use Rattle.pp_deck.proofs.DeadStartLemmas as dead
 use Rattle.pp_deck.proofs.LawLemmas as law
-use Rattle.pp_deck.proofs.ListLemmas.{last_of, length-tabulate}
+use Rattle.list_facts.specs.GrowingLists.{last_of}
+use Rattle.list_facts.specs.Tables.{length-tabulate}
 use Rattle.pp_deck.proofs.SectionLinesLemmas.{unnamed_empty}
 use Rattle.pp_listing.specs.Dump.{is_in_use}
 use Rattle.pp_listing.proofs.FreshDeckLemmas.{no_words}

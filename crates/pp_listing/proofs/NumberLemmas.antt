@@ -3,9 +3,9 @@ use Rattle.std.proofs.Common.{◌≡◌, ℕ, ◌<◌, refl, arith}
 use Rattle.std.specs.Prelude.{IsTrue}
 use Rattle.std.specs.List.{range_with_len}
 use Rattle.pp_channel.specs.ChannelNo.{names_channel}
-use Rattle.pp_channel.proofs.ChannelPlaces as channel_places
+use Rattle.pp_channel.specs.ChannelPlaces as channel_places
 use Rattle.pp_machine.specs.PpNo.{names_processor}
-use Rattle.pp_machine.proofs.ProcessorPlaces as processor_places
+use Rattle.pp_machine.specs.ProcessorPlaces as processor_places
 use Rattle.pp_listing.specs.Listing.{numbers}
 
 -- how many numbers there are

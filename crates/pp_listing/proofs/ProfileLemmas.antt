@@ -9,7 +9,7 @@ use Rattle.pp_channel.specs.declared.reply.Reply.TheVariants as replies
 use Rattle.pp_machine.specs.Block.{held, cut_short, block_word, starts, counts_down, counts_up, receives, stores_at}
 use Rattle.pp_machine.specs.Effect.{faults, stops, goes_to, jumps_where, branches_where, leads_to_itself, is_negative}
 use Rattle.pp_machine.specs.InstructionTable.{row, works_on_channel}
-use Rattle.pp_machine.specs.NeedAndEffect.{answered, step_of, next_step, processor_after, after_in}
+use Rattle.pp_machine.specs.NeedAndEffect.{answered, step_of, next_step, processor_after, if_running}
 use Rattle.pp_machine.specs.Operand.{operation, lower_six}
 use Rattle.pp_machine.specs.Processor.{Processor}
 use Rattle.pp_machine.specs.Profile.{has_channel}
@@ -113,11 +113,11 @@ answered_keeps (takes channel after) pp (answers.Channel (replies.Held flags)) k
 answered_keeps (does channel op after) pp (answers.Channel (replies.Held flags)) k = held_keeps pp.block pp flags
 answered_keeps step pp answer k = refl
 
-after_in_keeps : (state : PpState) (pp : Processor) (answer : Answer) → Keeps pp (after_in state pp answer)
-after_in_keeps Running pp answer = answered_keeps (next_step pp) pp answer (step_keeps pp.block pp)
-after_in_keeps Stopped pp answer = refl
-after_in_keeps (Fault number) pp answer = refl
+if_running_keeps : (state : PpState) (pp : Processor) (answer : Answer) → Keeps pp (if_running state (answered (next_step pp) pp answer) pp)
+if_running_keeps Running pp answer = answered_keeps (next_step pp) pp answer (step_keeps pp.block pp)
+if_running_keeps Stopped pp answer = refl
+if_running_keeps (Fault number) pp answer = refl
 
 pub profile_after : (pp : Processor) (answer : Answer) → (processor_after pp answer).profile ≡ pp.profile
 unfolding processor_after
-profile_after pp answer = after_in_keeps pp.state pp answer
+profile_after pp answer = if_running_keeps pp.state pp answer

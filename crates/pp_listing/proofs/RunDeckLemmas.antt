@@ -6,13 +6,12 @@ use Rattle.std.proofs.lemmas.List.{length-set}
 use Rattle.pp_machine.specs.MachineState.{MachineState, processor_of}
 use Rattle.pp_machine.specs.MachineStep.{answer_to, stepped}
 use Rattle.pp_machine.specs.NeedAndEffect.{need, processor_after}
-use Rattle.pp_machine.specs.Processor.{Processor, new_processor, no_processor}
+use Rattle.pp_machine.specs.Processor.{Processor, new_processor, no_processor, IsAtRest}
 use Rattle.pp_machine.specs.PpNo.{names_processor, processor_count, processor_index}
 use Rattle.pp_machine.specs.Profile.{has_processor}
-use Rattle.pp_machine.specs.StepLaws.{IsAtRest}
 use Rattle.pp_machine.specs.declared.profile.Profile.{Profile}
 use Rattle.pp_machine.proofs.MachineStepLemmas.{stepped_at_rest}
-use Rattle.pp_machine.proofs.ProcessorPlaces.{place_below}
+use Rattle.pp_machine.specs.ProcessorPlaces.{place_below}
 use Rattle.pp_deck.specs.DeckMeaning.{LoadedDeck}
 use Rattle.pp_listing.specs.Dump.{after, is_in_use}
 use Rattle.pp_listing.proofs.ProfileLemmas.{profile_after}

@@ -16,14 +16,14 @@ use Rattle.pp_channel.specs.declared.event.Event.TheVariants as events
 use Rattle.pp_channel.specs.declared.flags.Flags.{Flags}
 use Rattle.pp_channel.specs.declared.reply.Reply.{Reply}
 use Rattle.pp_channel.specs.declared.reply.Reply.TheVariants as replies
-use Rattle.pp_channel.proofs.AnswerLemmas.{shows_flags}
-use Rattle.pp_channel.proofs.ChannelPlaces as channel_places
+use Rattle.pp_channel.specs.AnswerLaws.{shows_flags}
+use Rattle.pp_channel.specs.ChannelPlaces as channel_places
 use Rattle.pp_channel.proofs.ChannelWordLemmas.{waiting_small}
 use Rattle.pp_machine.specs.Central.{IsCentral}
 use Rattle.pp_machine.specs.DeadStart.{waiting_on}
 use Rattle.pp_machine.specs.MachineState.{MachineState, processor_of, history_of}
 use Rattle.pp_machine.specs.MachineStep.{answer_to, histories_after, central_after, stepped}
-use Rattle.pp_machine.specs.NeedAndEffect.{need, need_in, next_step, processor_after}
+use Rattle.pp_machine.specs.NeedAndEffect.{need, next_step, processor_after, if_running}
 use Rattle.pp_machine.specs.PpMemory.{empty_memory}
 use Rattle.pp_machine.specs.Processor.{Processor, IsProcessor, no_processor}
 use Rattle.pp_machine.specs.PpNo.{processor_count, processor_index, processor_number}
@@ -35,13 +35,13 @@ use Rattle.pp_machine.specs.declared.pp_state.PpState.{PpState}
 use Rattle.pp_machine.specs.declared.pp_state.PpState.TheVariants.{Running, Stopped, Fault}
 use Rattle.pp_machine.specs.declared.profile.Profile.{Profile}
 use Rattle.pp_machine.proofs.MemoryLemmas.{zero_memory}
-use Rattle.pp_machine.proofs.ProcessorPlaces.{number_named, place_of_number}
+use Rattle.pp_machine.specs.ProcessorPlaces.{number_named, place_of_number}
 use Rattle.pp_deck.specs.DeckLine.{Line}
 use Rattle.pp_deck.specs.DeckLoad.{asks_dead_start, processor_loaded, central_loaded}
 use Rattle.pp_deck.specs.DeckMeaning.{LoadedDeck, deck_meaning, loaded, set_by}
 use Rattle.pp_deck.proofs.DeadStartLemmas as dead
 use Rattle.pp_deck.proofs.LawLemmas as law
-use Rattle.pp_deck.proofs.ListLemmas.{length-tabulate}
+use Rattle.list_facts.specs.Tables.{length-tabulate}
 use Rattle.pp_deck.proofs.LoadedRangeLemmas.{IsSmall, processor_small, central_words_small}
 use Rattle.pp_deck.proofs.MemoryLemmas.{length-central_loaded}
 use Rattle.pp_deck.proofs.RangeLemmas.{InRange}
@@ -71,14 +71,14 @@ step_need (does channel op after) k = k.0
 step_need (reads address after) k = tt
 step_need (writes address word after) k = k.0
 
-need_in_small : (state : PpState) (pp : Processor) → IsProcessor pp → IsSmallNeed (need_in state pp)
-need_in_small Running pp h = step_need (next_step pp) (next_keeps pp h)
-need_in_small Stopped pp h = tt
-need_in_small (Fault number) pp h = tt
+if_running_small : (state : PpState) (pp : Processor) → IsProcessor pp → IsSmallNeed (if_running state (need_of (next_step pp)) Nothing)
+if_running_small Running pp h = step_need (next_step pp) (next_keeps pp h)
+if_running_small Stopped pp h = tt
+if_running_small (Fault number) pp h = tt
 
 need_small : (pp : Processor) → IsProcessor pp → IsSmallNeed (need pp)
 unfolding need
-need_small pp h = need_in_small pp.state pp h
+need_small pp h = if_running_small pp.state pp h
 
 -- the word of an event, if there is one
 abbrev OnEvent : Option Event → Type 0

@@ -14,8 +14,8 @@ use Rattle.pp_channel.specs.declared.reply.Reply.TheVariants as replies
 use Rattle.pp_machine.specs.Block.{stored_from, receives, central_from, held, cut_short, block_word, starts, ends, counts_down, counts_up, stores_at}
 use Rattle.pp_machine.specs.Effect.{goes_on, goes_to, faults, jumps_or_stops, jumps_where, branches_where, calls, leads_to_itself, is_negative, low_of, loads, stores_word, replaces}
 use Rattle.pp_machine.specs.InstructionTable.{row, works_on_channel}
-use Rattle.pp_machine.specs.NeedAndEffect.{answered, step_of, next_step, processor_after, after_in}
-use Rattle.pp_machine.specs.Operand.{place_after_p, operation, lower_six, second_word, index, constant, indirect}
+use Rattle.pp_machine.specs.NeedAndEffect.{answered, step_of, next_step, processor_after, if_running}
+use Rattle.pp_machine.specs.Operand.{place_after_p, operation, lower_six, second_word, index, constant}
 use Rattle.pp_machine.specs.PpMemory.{IsMemory}
 use Rattle.pp_machine.specs.Processor.{Processor, IsProcessor, word_at}
 use Rattle.pp_machine.specs.Profile.{has_channel}
@@ -196,14 +196,14 @@ row_keeps STD pp d h lt = word_stored pp h d 1
 row_keeps RAD pp d h lt = replaced pp h d _ 1 (sum_small pp.a (word_at pp d))
 row_keeps AOD pp d h lt = replaced pp h d _ 1 (sum_small (word_at pp d) 1)
 row_keeps SOD pp d h lt = replaced pp h d _ 1 (difference_small (word_at pp d) 1)
-row_keeps LDI pp d h lt = loaded pp h _ 1 (wide pp h (indirect pp d))
-row_keeps ADI pp d h lt = loaded pp h _ 1 (sum_small pp.a (word_at pp (indirect pp d)))
-row_keeps SBI pp d h lt = loaded pp h _ 1 (difference_small pp.a (word_at pp (indirect pp d)))
-row_keeps LMI pp d h lt = loaded pp h _ 1 (exclusive_or_small pp.a (word_at pp (indirect pp d)))
-row_keeps STI pp d h lt = word_stored pp h (indirect pp d) 1
-row_keeps RAI pp d h lt = replaced pp h (indirect pp d) _ 1 (sum_small pp.a (word_at pp (indirect pp d)))
-row_keeps AOI pp d h lt = replaced pp h (indirect pp d) _ 1 (sum_small (word_at pp (indirect pp d)) 1)
-row_keeps SOI pp d h lt = replaced pp h (indirect pp d) _ 1 (difference_small (word_at pp (indirect pp d)) 1)
+row_keeps LDI pp d h lt = loaded pp h _ 1 (wide pp h (word_at pp d))
+row_keeps ADI pp d h lt = loaded pp h _ 1 (sum_small pp.a (word_at pp (word_at pp d)))
+row_keeps SBI pp d h lt = loaded pp h _ 1 (difference_small pp.a (word_at pp (word_at pp d)))
+row_keeps LMI pp d h lt = loaded pp h _ 1 (exclusive_or_small pp.a (word_at pp (word_at pp d)))
+row_keeps STI pp d h lt = word_stored pp h (word_at pp d) 1
+row_keeps RAI pp d h lt = replaced pp h (word_at pp d) _ 1 (sum_small pp.a (word_at pp (word_at pp d)))
+row_keeps AOI pp d h lt = replaced pp h (word_at pp d) _ 1 (sum_small (word_at pp (word_at pp d)) 1)
+row_keeps SOI pp d h lt = replaced pp h (word_at pp d) _ 1 (difference_small (word_at pp (word_at pp d)) 1)
 row_keeps LDM pp d h lt = loaded pp h _ 2 (wide pp h (index pp d))
 row_keeps ADM pp d h lt = loaded pp h _ 2 (sum_small pp.a (word_at pp (index pp d)))
 row_keeps SBM pp d h lt = loaded pp h _ 2 (difference_small pp.a (word_at pp (index pp d)))
@@ -281,11 +281,11 @@ answered_keeps (takes channel after) pp (answers.Channel (replies.Held flags)) h
 answered_keeps (does channel op after) pp (answers.Channel (replies.Held flags)) h k small = held_keeps pp.block pp flags h
 answered_keeps step pp answer h k small = h
 
-after_in_keeps : (state : PpState) (pp : Processor) (answer : Answer) → IsProcessor pp → IsSmallAnswer answer → IsProcessor (after_in state pp answer)
-after_in_keeps Running pp answer h small = answered_keeps (next_step pp) pp answer h (next_keeps pp h) small
-after_in_keeps Stopped pp answer h small = h
-after_in_keeps (Fault number) pp answer h small = h
+if_running_keeps : (state : PpState) (pp : Processor) (answer : Answer) → IsProcessor pp → IsSmallAnswer answer → IsProcessor (if_running state (answered (next_step pp) pp answer) pp)
+if_running_keeps Running pp answer h small = answered_keeps (next_step pp) pp answer h (next_keeps pp h) small
+if_running_keeps Stopped pp answer h small = h
+if_running_keeps (Fault number) pp answer h small = h
 
 pub widths_after : (pp : Processor) (answer : Answer) → IsProcessor pp → IsSmallAnswer answer → IsProcessor (processor_after pp answer)
 unfolding processor_after
-widths_after pp answer h small = after_in_keeps pp.state pp answer h small
+widths_after pp answer h small = if_running_keeps pp.state pp answer h small

@@ -8,7 +8,7 @@ use Rattle.std.proofs.lemmas.List.Concat.{flat_map-append}
 use Rattle.pp_word.specs.Address.{place_count, next_place}
 use Rattle.pp_deck.specs.DeckLine.{central_size, central_words}
 use Rattle.pp_deck.specs.DeckMeaning.{LoadedDeck}
-use Rattle.pp_deck.proofs.ListLemmas.{range_more}
+use Rattle.list_facts.specs.GrowingLists.{range_more}
 use Rattle.pp_listing.specs.InstructionText.{instruction_text, is_long}
 use Rattle.pp_listing.specs.ListedLine.{ListedLine, bare, one_word, two_words, text_line}
 use Rattle.pp_listing.specs.Listing.{central_word_line, dead_start_line, instruction_lines, listed, listing, named_section, numbers}

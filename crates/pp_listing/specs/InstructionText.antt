@@ -2,7 +2,7 @@
 -- word, m the next word; after the word at place 7777 that is the one at 0000.
 use Rattle.std.specs.Prelude.{ℕ, ◌/◌, ◌%◌, ◌^◌, ◌==◌, ◌&&◌, ◌||◌, nat_le, Bool, List, [], ◌++◌, codes, if◌then◌else◌}
 use Rattle.pp_word.specs.Address.{relative_to}
-use Rattle.pp_word.specs.Opcode.{opcode_at, is_long_of, mnemonic_of}
+use Rattle.pp_word.specs.Opcode.{opcode_at, row_of, mnemonic_of}
 use Rattle.pp_listing.specs.OctalDigits.{octal}
 use Rattle.pp_listing.specs.declared.operands.Operands.{Operands}
 use Rattle.pp_listing.specs.declared.operands.Operands.TheVariants.{IndexedPlace, JumpPlace, Constant, PlaceAndNumber, Number}
@@ -41,4 +41,4 @@ instruction_text place word m =
 
 -- whether a second word belongs to the instruction in a word
 abbrev pub is_long : ℕ → Bool
-is_long word = is_long_of (opcode_at (word / 2 ^ 6))
+is_long word = (row_of (opcode_at (word / 2 ^ 6))).long

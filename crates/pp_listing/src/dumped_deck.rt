@@ -86,7 +86,7 @@ fn is_in_use<B: Allocator>(deck: &Deck<B>, n: PpNo) -> bool
 }
 
 /// Whether dead start had the processor wait for its program, on the channel of its own number.
-#[tactic(auto, using(pp_machine::proofs::ProcessorPlaces::channel_of_processor))]
+#[tactic(auto, using(pp_machine::specs::ProcessorPlaces::channel_of_processor))]
 fn has_waited<B: Allocator>(machine: &Machine<B>, n: PpNo) -> bool
     ensures { result ≡ is_opened n machine.now }
 {

@@ -1,20 +1,18 @@
-pub mod ProcessorPlaces
-pub mod ProfileLemmas
-pub mod BlockLemmas
-pub mod BlockResultLemmas
-pub mod FitLemmas
-pub mod GivenLemmas
+mod ProfileLemmas
+mod BlockLemmas
+mod BlockResultLemmas
+mod ReplayLemmas
+mod SignLemmas
+mod StoredLemmas
+mod HeadlineLemmas
+mod RunLemmas
+mod RoundLemmas
+mod DeadStartLemmas
+mod QuietLemmas
+mod TakenLemmas
+mod KeptLemmas
+-- facts of the definitions, which proofs of other crates cite
 pub mod MemoryLemmas
-pub mod ReplayLemmas
-pub mod SignLemmas
 pub mod StepLemmas
-pub mod StoredLemmas
-pub mod HeadlineLemmas
 pub mod MachineStepLemmas
 pub mod RunLawLemmas
-pub mod RunLemmas
-pub mod RoundLemmas
-pub mod DeadStartLemmas
-pub mod QuietLemmas
-pub mod TakenLemmas
-pub mod KeptLemmas

@@ -15,10 +15,10 @@ use Rattle.pp_channel.specs.declared.reply.Reply.{Reply}
 use Rattle.pp_channel.specs.declared.reply.Reply.TheVariants as replies
 use Rattle.pp_machine.specs.MachineState.{MachineState, processor_of, history_of}
 use Rattle.pp_machine.specs.MachineStep.{answer_to, counted, event_for, served, taken, stepped, step_event, step_outcome}
-use Rattle.pp_machine.specs.NeedAndEffect.{need, need_in, processor_after, outcome}
-use Rattle.pp_machine.specs.Processor.{Processor, no_processor}
+use Rattle.pp_machine.specs.NeedAndEffect.{need, processor_after, outcome, IsHeldAnswer, if_running, next_step}
+use Rattle.pp_machine.specs.Processor.{Processor, no_processor, IsAtRest, IsAtFault, KeepsMemoryAndRegisters}
+use Rattle.pp_machine.specs.Step.{need_of}
 use Rattle.pp_machine.specs.PpNo.{processor_index}
-use Rattle.pp_machine.specs.StepLaws.{IsAtRest, IsAtFault, IsHeldAnswer, KeepsMemoryAndRegisters}
 use Rattle.pp_machine.specs.declared.answer.Answer.TheVariants as answers
 use Rattle.pp_machine.specs.declared.need.Need.{Need}
 use Rattle.pp_machine.specs.declared.need.Need.TheVariants.{Nothing, Local, Channel, Read, Write}
@@ -29,7 +29,7 @@ use Rattle.pp_machine.specs.declared.pp_state.PpState.{PpState}
 use Rattle.pp_machine.specs.declared.pp_state.PpState.TheVariants.{Running, Stopped, Fault}
 use Rattle.pp_machine.proofs.StepLemmas.{at_rest, rest_changes_nothing, held_changes_nothing, held_by_answer, fault_keeps}
 
-needs_nothing : (state : PpState) (pp : Processor) → state ≢ Running → need_in state pp ≡ Nothing
+needs_nothing : (state : PpState) (pp : Processor) → state ≢ Running → if_running state (need_of (next_step pp)) Nothing ≡ Nothing
 needs_nothing Running pp rests = absurd (rests refl)
 needs_nothing Stopped pp rests = refl
 needs_nothing (Fault number) pp rests = refl

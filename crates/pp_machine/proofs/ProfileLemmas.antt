@@ -1,39 +1,18 @@
--- What proofs know of the processors and channels of a profile.
-use Rattle.std.proofs.Common.{◌≡◌, ℕ, suc, ◌+◌, ◌*◌, ◌/◌, ◌%◌, ◌<◌, ◌≤◌, Bool, true, false, refl, ap, sym, ◌∙◌, arith}
-use Rattle.std.specs.Prelude.{◌↔◌, IsTrue, nat_lt}
-use Rattle.std.proofs.lemmas.Bool.{false≢true}
+-- More of the processors and channels of a profile, and of whole rounds of its barrel.
+use Rattle.std.proofs.Common.{◌≡◌, ℕ, suc, ◌+◌, ◌*◌, ◌/◌, ◌%◌, ◌<◌, ◌≤◌, ap, ◌∙◌, arith}
+use Rattle.std.specs.Prelude.{◌↔◌, IsTrue}
 use Rattle.pp_channel.specs.ChannelNo.{channel_count, names_channel}
-use Rattle.pp_channel.proofs.ChannelPlaces as channels
-use Rattle.pp_machine.specs.PpNo.{processor_count, processor_index, processor_number, names_processor}
-use Rattle.pp_machine.specs.Profile.{processors_in, channels_in, has_processor, has_channel, processor_in_turn}
+use Rattle.pp_channel.specs.ChannelPlaces as channels
+use Rattle.pp_machine.specs.PpNo.{processor_index, processor_number}
+use Rattle.pp_machine.specs.Profile.{processors_in, channels_in, has_channel, processor_in_turn}
 use Rattle.pp_machine.specs.declared.profile.Profile.{Profile}
 use Rattle.pp_machine.specs.declared.profile.Profile.TheVariants.{Ten, Twenty}
-use Rattle.pp_machine.proofs.ProcessorPlaces.{place_of_number, named_below}
-
-pub some_processors : (p : Profile) → 1 ≤ processors_in p
-some_processors Ten = omega arith
-some_processors Twenty = omega arith
-
-pub most_processors : (p : Profile) → processors_in p ≤ processor_count
-most_processors Ten = omega arith
-most_processors Twenty = omega arith
+use Rattle.pp_machine.specs.ProcessorPlaces.{place_of_number}
+use Rattle.pp_machine.specs.ProfilePlaces.{most_processors}
 
 pub most_channels : (p : Profile) → channels_in p ≤ channel_count
 most_channels Ten = omega arith
 most_channels Twenty = omega arith
-
--- what a profile has, a number names
-pub processor_named : (p : Profile) (n : ℕ) → IsTrue (has_processor p n) → IsTrue (names_processor n)
-unfolding has_processor
-processor_named p n has = let most = most_processors p in named_below n (grind (arith))
-
--- a number that names none, no profile has
-pub unnamed_lacks : (p : Profile) (n : ℕ) → names_processor n ≡ false → has_processor p n ≡ false
-unnamed_lacks p n none = by (has_processor p n) refl
-  where
-    by : (b : Bool) → has_processor p n ≡ b → has_processor p n ≡ false
-    by true has = absurd (false≢true (sym none ∙ processor_named p n has))
-    by false has = has
 
 pub channel_named : (p : Profile) (c : ℕ) → IsTrue (has_channel p c) → IsTrue (names_channel c)
 unfolding has_channel
@@ -52,11 +31,6 @@ small_channels c below = channel_named Ten c ((channels_of_ten c).1 below)
 pub channels_of_twenty : (c : ℕ) → IsTrue (has_channel Twenty c) ↔ IsTrue (names_channel c)
 unfolding has_channel
 channels_of_twenty c = (λ has. channel_named Twenty c has, λ names. let below = channels.place_below c names in grind (arith))
-
--- a profile has the processors of the first places
-pub has_at : (p : Profile) (place : ℕ) → place < processor_count → has_processor p (processor_number place) ≡ nat_lt place (processors_in p)
-unfolding has_processor
-has_at p place within = ap (λ i. nat_lt i (processors_in p)) (place_of_number place within)
 
 -- turns within the first round come in the order of places
 pub place_in_turn : (p : Profile) (turn : ℕ) → turn < processors_in p → turn % processors_in p ≡ turn
@@ -103,10 +77,6 @@ fewer_rounds Twenty rounds more within = omega arith
 pub rounds_and_rest : (p : Profile) (turns : ℕ) → turns / processors_in p * processors_in p + turns % processors_in p ≡ turns
 rounds_and_rest Ten turns = omega arith
 rounds_and_rest Twenty turns = omega arith
-
-pub rest_within : (p : Profile) (turns : ℕ) → turns % processors_in p < processors_in p
-rest_within Ten turns = omega arith
-rest_within Twenty turns = omega arith
 
 -- no more turns than twenty a round
 pub rounds_bound : (p : Profile) (rounds : ℕ) → rounds * processors_in p ≤ 20 * rounds

@@ -5,16 +5,15 @@ use Rattle.std.proofs.lemmas.Bool.Decides.{eqb_tells}
 use Rattle.pp_machine.specs.MachineState.{MachineState, processor_of}
 use Rattle.pp_machine.specs.MachineStep.{answer_to, stepped, step_event}
 use Rattle.pp_machine.specs.NeedAndEffect.{need, processor_after}
-use Rattle.pp_machine.specs.Processor.{Processor, no_processor}
+use Rattle.pp_machine.specs.Processor.{Processor, no_processor, IsAtRest}
 use Rattle.pp_machine.specs.PpNo.{processor_count, processor_index}
 use Rattle.pp_machine.specs.Profile.{processors_in, processor_in_turn}
 use Rattle.pp_machine.specs.declared.profile.Profile.{Profile}
 use Rattle.pp_machine.specs.Rounds.{RestBetween, PassesOverRest, whole_rounds}
 use Rattle.pp_machine.specs.Run.{run, barrel}
-use Rattle.pp_machine.specs.StepLaws.{IsAtRest}
 use Rattle.pp_machine.proofs.MachineStepLemmas.{stepped_at_rest}
 use Rattle.pp_machine.proofs.ProfileLemmas.{index_in_turn, in_round, more_rounds, fewer_rounds, one_round}
-use Rattle.pp_machine.proofs.RunLemmas.{run-append, run_profile, barrel_more}
+use Rattle.pp_machine.specs.RunLaws.{run-append, run_profile, barrel_more}
 
 -- a step changes no other processor
 other_processor : (n place : ℕ) (m : MachineState) → place ≢ processor_index n → get_or (stepped n m).processors place no_processor ≡ get_or m.processors place no_processor

@@ -11,7 +11,7 @@ use Rattle.pp_channel.specs.History.{IsLawful}
 use Rattle.pp_channel.specs.declared.chan_op.ChanOp.{ChanOp}
 use Rattle.pp_channel.specs.declared.event.Event.{Event}
 use Rattle.pp_channel.proofs.AnswerLemmas.{lawful_with_event}
-use Rattle.pp_channel.proofs.ChannelPlaces.{place_below, one_place, place_past}
+use Rattle.pp_channel.specs.ChannelPlaces.{place_below, one_place, place_past}
 use Rattle.pp_channel.proofs.LawLemmas.{law_of_lawful}
 use Rattle.pp_machine.specs.Headline.{HoldsOnChannel, HoldsOnEachChannel, events_on, opening_history}
 use Rattle.pp_machine.specs.MachineState.{MachineState, processor_of, history_of}

@@ -9,12 +9,11 @@ use Rattle.pp_channel.specs.declared.reply.Reply.TheVariants as replies
 use Rattle.pp_machine.specs.Block.{held, cut_short, block_word, starts, counts_down, counts_up, receives, stores_at}
 use Rattle.pp_machine.specs.Effect.{faults, stops, goes_to, jumps_where, branches_where, leads_to_itself, is_negative}
 use Rattle.pp_machine.specs.InstructionTable.{row, works_on_channel}
-use Rattle.pp_machine.specs.NeedAndEffect.{answered, step_of, next_step, is_held, need, processor_after, outcome, need_in, after_in, outcome_in}
+use Rattle.pp_machine.specs.NeedAndEffect.{answered, step_of, next_step, is_held, need, processor_after, outcome, IsHeldAnswer, if_running}
 use Rattle.pp_machine.specs.Operand.{operation, lower_six}
-use Rattle.pp_machine.specs.Processor.{Processor}
+use Rattle.pp_machine.specs.Processor.{Processor, IsAtRest, IsAtFault, KeepsMemoryAndRegisters}
 use Rattle.pp_machine.specs.Profile.{has_channel}
 use Rattle.pp_machine.specs.Step.{Step, need_of, local, probes, takes, does, reads, writes}
-use Rattle.pp_machine.specs.StepLaws.{IsAtRest, IsAtFault, IsHeldAnswer, KeepsMemoryAndRegisters}
 use Rattle.pp_machine.specs.declared.answer.Answer.{Answer}
 use Rattle.pp_machine.specs.declared.answer.Answer.TheVariants as answers
 use Rattle.pp_machine.specs.declared.block.Block.{Block}
@@ -142,17 +141,17 @@ answered_keeps (writes address word after) pp (answers.Wrote true) h k = k
 answered_keeps (writes address word after) pp (answers.Wrote false) h k = faulted pp 4
 answered_keeps step pp answer h k = runs_on pp _ h refl
 
-after_in_keeps : (state : PpState) (pp : Processor) (answer : Answer) → pp.state ≡ Running → state ≡ Running →
-    Keeps pp (after_in state pp answer)
-after_in_keeps Running pp answer h e = answered_keeps (next_step pp) pp answer h (step_keeps pp.block pp h)
-after_in_keeps Stopped pp answer h e = cc
-after_in_keeps (Fault number) pp answer h e = cc
+if_running_keeps : (state : PpState) (pp : Processor) (answer : Answer) → pp.state ≡ Running → state ≡ Running →
+    Keeps pp (if_running state (answered (next_step pp) pp answer) pp)
+if_running_keeps Running pp answer h e = answered_keeps (next_step pp) pp answer h (step_keeps pp.block pp h)
+if_running_keeps Stopped pp answer h e = cc
+if_running_keeps (Fault number) pp answer h e = cc
 
 -- a step that ends in a fault leaves memory, A and P, and no block
 pub fault_keeps : (pp : Processor) (answer : Answer) → pp.state ≡ Running → IsAtFault (processor_after pp answer) →
     KeepsMemoryAndRegisters pp (processor_after pp answer)
 unfolding processor_after
-fault_keeps pp answer h fault = after_in_keeps pp.state pp answer h h fault.0 fault.1
+fault_keeps pp answer h fault = if_running_keeps pp.state pp answer h h fault.0 fault.1
 
 -- where a block is held and stays as it is, so does each step
 held_stays : (step : Step) (pp : Processor) (flags : Flags) → held pp.block pp flags ≡ pp →
@@ -168,14 +167,14 @@ held_same None pp step (answers.Channel (replies.Held flags)) e h = held_stays s
 held_same (Some block) pp step (answers.Channel (replies.Held flags)) e h = held_stays step pp flags (rw (e, h) refl)
 held_same block pp step answer e h = cc
 
-outcome_held : (state : PpState) (pp : Processor) (answer : Answer) → outcome_in state pp answer ≡ outcomes.Held →
+outcome_held : (state : PpState) (pp : Processor) (answer : Answer) → if_running state (if is_held pp.block answer then outcomes.Held else outcomes.Moved) outcomes.AtRest ≡ outcomes.Held →
     is_held pp.block answer ≡ true
 outcome_held Running pp answer e = elim (is_held pp.block answer) as (λ b. (if b then outcomes.Held else outcomes.Moved) ≡ outcomes.Held → b ≡ true) [ true ↦ (λ _. refl) | false ↦ (λ f. cc) ] e
 outcome_held Stopped pp answer e = cc
 outcome_held (Fault number) pp answer e = cc
 
 held_after : (state : PpState) (pp : Processor) (answer : Answer) → is_held pp.block answer ≡ true →
-    after_in state pp answer ≡ pp
+    if_running state (answered (next_step pp) pp answer) pp ≡ pp
 held_after Running pp answer h = held_same pp.block pp (next_step pp) answer refl h
 held_after Stopped pp answer h = refl
 held_after (Fault number) pp answer h = refl
@@ -196,17 +195,17 @@ unfolding outcome
 held_by_answer pp answer e = held_answer pp.block answer (outcome_held pp.state pp answer e)
 
 -- a running processor's step is no rest
-running_moves : (pp : Processor) (answer : Answer) → outcome_in Running pp answer ≢ outcomes.AtRest
+running_moves : (pp : Processor) (answer : Answer) → if_running Running (if is_held pp.block answer then outcomes.Held else outcomes.Moved) outcomes.AtRest ≢ outcomes.AtRest
 running_moves pp answer e = elim (is_held pp.block answer) as (λ b. (if b then outcomes.Held else outcomes.Moved) ≡ outcomes.AtRest → ⊥) [ true ↦ (λ f. cc) | false ↦ (λ f. cc) ] e
 
 at_rest_state : (state : PpState) (pp : Processor) (answer : Answer) →
-    outcome_in state pp answer ≡ outcomes.AtRest → state ≢ Running
+    if_running state (if is_held pp.block answer then outcomes.Held else outcomes.Moved) outcomes.AtRest ≡ outcomes.AtRest → state ≢ Running
 at_rest_state Running pp answer e h = running_moves pp answer e
 at_rest_state Stopped pp answer e h = cc
 at_rest_state (Fault number) pp answer e h = cc
 
 rest_outcome : (state : PpState) (pp : Processor) (answer : Answer) → state ≢ Running →
-    outcome_in state pp answer ≡ outcomes.AtRest
+    if_running state (if is_held pp.block answer then outcomes.Held else outcomes.Moved) outcomes.AtRest ≡ outcomes.AtRest
 rest_outcome Running pp answer h = absurd (h refl)
 rest_outcome Stopped pp answer h = refl
 rest_outcome (Fault number) pp answer h = refl
@@ -216,7 +215,7 @@ unfolding outcome
 at_rest pp answer = ((λ e h. at_rest_state pp.state pp answer e h), (λ h. rest_outcome pp.state pp answer h))
 
 -- a processor at rest is not changed
-rest_after : (state : PpState) (pp : Processor) (answer : Answer) → state ≢ Running → after_in state pp answer ≡ pp
+rest_after : (state : PpState) (pp : Processor) (answer : Answer) → state ≢ Running → if_running state (answered (next_step pp) pp answer) pp ≡ pp
 rest_after Running pp answer h = absurd (h refl)
 rest_after Stopped pp answer h = refl
 rest_after (Fault number) pp answer h = refl
@@ -234,12 +233,12 @@ need_of-some (does channel op after) e = cc
 need_of-some (reads address after) e = cc
 need_of-some (writes address word after) e = cc
 
-no_need_rest : (state : PpState) (pp : Processor) → need_in state pp ≡ needs.Nothing → state ≢ Running
+no_need_rest : (state : PpState) (pp : Processor) → if_running state (need_of (next_step pp)) needs.Nothing ≡ needs.Nothing → state ≢ Running
 no_need_rest Running pp e h = need_of-some (next_step pp) e
 no_need_rest Stopped pp e h = cc
 no_need_rest (Fault number) pp e h = cc
 
-rest_no_need : (state : PpState) (pp : Processor) → state ≢ Running → need_in state pp ≡ needs.Nothing
+rest_no_need : (state : PpState) (pp : Processor) → state ≢ Running → if_running state (need_of (next_step pp)) needs.Nothing ≡ needs.Nothing
 rest_no_need Running pp h = absurd (h refl)
 rest_no_need Stopped pp h = refl
 rest_no_need (Fault number) pp h = refl

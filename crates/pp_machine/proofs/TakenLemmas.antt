@@ -6,14 +6,14 @@ use Rattle.pp_channel.specs.ChannelNo.{channel_index}
 use Rattle.pp_channel.specs.declared.event.Event.{Event}
 use Rattle.pp_machine.specs.MachineState.{MachineState, history_of, processor_of}
 use Rattle.pp_machine.specs.MachineStep.{answer_to, counted, served, taken, stepped, step_outcome}
-use Rattle.pp_machine.specs.NeedAndEffect.{need, processor_after, outcome, outcome_in, is_held}
+use Rattle.pp_machine.specs.NeedAndEffect.{need, processor_after, outcome, is_held, if_running}
 use Rattle.pp_machine.specs.Processor.{Processor, no_processor}
 use Rattle.pp_machine.specs.PpNo.{processor_index}
 use Rattle.pp_machine.specs.declared.answer.Answer.{Answer}
 use Rattle.pp_machine.specs.declared.answer.Answer.TheVariants.{Local}
 use Rattle.pp_machine.specs.declared.block.Block.{Block}
 use Rattle.pp_machine.specs.declared.need.Need.{Need}
-use Rattle.pp_machine.specs.declared.outcome.Outcome.TheVariants.{Held, Moved}
+use Rattle.pp_machine.specs.declared.outcome.Outcome.TheVariants.{Held, Moved, AtRest}
 use Rattle.pp_machine.specs.declared.pp_state.PpState.TheVariants.{Running}
 
 -- what was read at the place of processor n is that processor
@@ -39,7 +39,7 @@ never_held (Some block) = refl
 -- what needs nothing from outside moves a running processor
 pub moved_alone : (pp : Processor) → pp.state ≡ Running → outcome pp Local ≡ Moved
 unfolding outcome
-moved_alone pp running = ap (λ s. outcome_in s pp Local) running ∙ ap (λ held. if held then Held else Moved) (never_held pp.block)
+moved_alone pp running = ap (λ s. if_running s (if is_held pp.block Local then Held else Moved) AtRest) running ∙ ap (λ held. if held then Held else Moved) (never_held pp.block)
 
 -- a choice by whether a number names something, where the search for it is known
 pub if_found : {X Y : Type 0} (found : X) (b : Bool) (t e : Y) → (IsSome (Some found) ↔ IsTrue b) → (if b then t else e) ≡ t

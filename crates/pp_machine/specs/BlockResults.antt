@@ -6,7 +6,6 @@ use Rattle.pp_word.specs.Address.{place_count, place_after, next_place}
 use Rattle.pp_word.specs.CentralWord.{parts_of, joined}
 use Rattle.pp_word.specs.OnesComplement.{sum}
 use Rattle.pp_word.specs.declared.opcode.Opcode.{Opcode}
-use Rattle.pp_word.specs.declared.opcode.Opcode.TheVariants.{IAM, OAM, CRM, CWM}
 use Rattle.pp_channel.specs.declared.chan_op.ChanOp.TheVariants.{Put, Take}
 use Rattle.pp_channel.specs.declared.reply.Reply.TheVariants.{Done, Word, Held}
 use Rattle.pp_machine.specs.Block.{keeps_place}
@@ -16,9 +15,7 @@ use Rattle.pp_machine.specs.Profile.{has_channel}
 use Rattle.pp_machine.specs.Processor.{Processor, word_at}
 use Rattle.pp_machine.specs.Replay.{replayed, given_count}
 use Rattle.pp_machine.specs.declared.answer.Answer.{Answer}
-use Rattle.pp_machine.specs.declared.answer.Answer.TheVariants.{Local, Channel, Read, Wrote}
 use Rattle.pp_machine.specs.declared.need.Need.{Need}
-use Rattle.pp_machine.specs.declared.need.Need.TheVariants as needs
 use Rattle.pp_machine.specs.declared.pp_state.PpState.TheVariants.{Running}
 
 -- the memory with the place of the second word in place 0000
@@ -38,8 +35,7 @@ pub record BeginsAt (op : Opcode) (pp : Processor) : Type 0 where
   pub free : pp.block ≡ None
   pub code : operation pp ≡ op
 
--- each answer is given; then A is this, P is after the place that is in place 0000, and the block
--- is over
+-- each answer is given; A is this, P after the place that is in place 0000, and the block is over
 pub record EndsBlock (pp : Processor) (answers : List Answer) (accumulator : ℕ) : Type 0 where
   pub given : given_count pp answers ≡ length answers
   pub a : (replayed pp answers).a ≡ accumulator
@@ -53,36 +49,36 @@ need_before_answer pp answers i = need (replayed pp (take (i + 1) answers))
 
 -- the channel was not ready, and was inactive
 abbrev pub inactive : Bool → Answer
-inactive full = Channel (Held (record { active = false; full = full }))
+inactive full = Answer.Channel (Held (record { active = false; full = full }))
 
 -- IAM: the start, and these words
 abbrev pub input_answers : List ℕ → List Answer
-input_answers words = Local ∷ map (λ word. Channel (Word word)) words
+input_answers words = Answer.Local ∷ map (λ word. Answer.Channel (Word word)) words
 
 -- OAM: the start, and this many words put
 abbrev pub output_answers : ℕ → List Answer
-output_answers count = Local ∷ replicate count (Channel Done)
+output_answers count = Answer.Local ∷ replicate count (Answer.Channel Done)
 
 -- CRM: the start, and these central words
 abbrev pub read_answers : List ℕ → List Answer
-read_answers centrals = Local ∷ map (λ central. Read (Some central)) centrals
+read_answers centrals = Answer.Local ∷ map (λ central. Answer.Read (Some central)) centrals
 
 -- CWM: the start, and this many central words written
 abbrev pub write_answers : ℕ → List Answer
-write_answers count = Local ∷ replicate count (Wrote true)
+write_answers count = Answer.Local ∷ replicate count (Answer.Wrote true)
 
 -- 71: words are taken from channel d, and come to the places from m on
 pub record TakesWords (pp : Processor) (answers : List Answer) (count : ℕ) (words : List ℕ)
     : Type 0 where
   pub takes : (i : ℕ) → i < count
-      → need_before_answer pp answers i ≡ needs.Channel (lower_six pp) Take
+      → need_before_answer pp answers i ≡ Need.Channel (lower_six pp) Take
   pub memory : BringsWords (kept_memory pp) (replayed pp answers).memory (second_word pp)
       (length words) (λ i. slice_index words i)
 
 -- 71: as many words as A says
 abbrev pub CompleteInput : Processor → Type 0
 CompleteInput pp =
-    (words : List ℕ) → BeginsAt IAM pp → has_channel pp.profile (lower_six pp) ≡ true
+    (words : List ℕ) → BeginsAt Opcode.IAM pp → has_channel pp.profile (lower_six pp) ≡ true
     → 0 < pp.a → length words ≡ pp.a → length words ≤ place_count →
     let answers = input_answers words in
     EndsBlock pp answers 0 × TakesWords pp answers (length words) words
@@ -90,7 +86,7 @@ CompleteInput pp =
 -- 71: fewer words, and then the channel was inactive: a word 0 closes them, and A is what was left
 abbrev pub ShortInput : Processor → Type 0
 ShortInput pp =
-    (words : List ℕ) (full : Bool) → BeginsAt IAM pp
+    (words : List ℕ) (full : Bool) → BeginsAt Opcode.IAM pp
     → has_channel pp.profile (lower_six pp) ≡ true
     → length words < pp.a → length words < place_count →
     let answers = input_answers words ++ inactive full ∷ [] in
@@ -100,21 +96,21 @@ ShortInput pp =
 -- 73: the words from place m on are put, and no place but 0000 changes
 pub record PutsWords (pp : Processor) (answers : List Answer) (count : ℕ) : Type 0 where
   pub puts : (i : ℕ) → i < count
-      → need_before_answer pp answers i ≡ needs.Channel (lower_six pp)
+      → need_before_answer pp answers i ≡ Need.Channel (lower_six pp)
       (Put (slice_index (kept_memory pp) (place_after (second_word pp) i)))
   pub memory : (replayed pp answers).memory ≡ kept_memory pp
 
 -- 73: as many words as A says
 abbrev pub CompleteOutput : Processor → Type 0
 CompleteOutput pp =
-    BeginsAt OAM pp → has_channel pp.profile (lower_six pp) ≡ true → 0 < pp.a →
+    BeginsAt Opcode.OAM pp → has_channel pp.profile (lower_six pp) ≡ true → 0 < pp.a →
     let answers = output_answers pp.a in
     EndsBlock pp answers 0 × PutsWords pp answers pp.a
 
 -- 73: fewer words, and then the channel was inactive
 abbrev pub ShortOutput : Processor → Type 0
 ShortOutput pp =
-    (count : ℕ) (full : Bool) → BeginsAt OAM pp
+    (count : ℕ) (full : Bool) → BeginsAt Opcode.OAM pp
     → has_channel pp.profile (lower_six pp) ≡ true → count < pp.a →
     let answers = output_answers count ++ inactive full ∷ [] in
     EndsBlock pp answers (pp.a - count) × PutsWords pp answers count
@@ -130,14 +126,14 @@ part_of centrals j = slice_index (parts_of (slice_index centrals (j / 5))) (j % 
 -- 61: central words are read, and their parts come to the places from m on
 pub record ReadsCentrals (pp : Processor) (answers : List Answer) (centrals : List ℕ) : Type 0 where
   pub reads : (i : ℕ) → i < length centrals
-      → need_before_answer pp answers i ≡ needs.Read (address_of pp.a i)
+      → need_before_answer pp answers i ≡ Need.Read (address_of pp.a i)
   pub memory : BringsWords (kept_memory pp) (replayed pp answers).memory (second_word pp)
       (5 * length centrals) (part_of centrals)
 
 -- 61: as many central words as place d says, from 1 to 819 (decimal)
 abbrev pub CentralRead : Processor → Type 0
 CentralRead pp =
-    (centrals : List ℕ) → BeginsAt CRM pp → 0 < length centrals → length centrals ≤ 819
+    (centrals : List ℕ) → BeginsAt Opcode.CRM pp → 0 < length centrals → length centrals ≤ 819
     → length centrals ≡ word_at pp (lower_six pp) →
     let answers = read_answers centrals in
     EndsBlock pp answers (sum pp.a (length centrals)) × ReadsCentrals pp answers centrals
@@ -147,17 +143,16 @@ abbrev pub five_from : List ℕ → ℕ → ℕ → ℕ
 five_from memory m j =
     joined (map (λ k. slice_index memory (place_after m (j + k))) (0 ∷ 1 ∷ 2 ∷ 3 ∷ 4 ∷ []))
 
--- 63: central words are written from the words from place m on, five each, and no place but 0000
--- changes
+-- 63: central words are written from the words from m on, five each; no place but 0000 changes
 pub record WritesCentrals (pp : Processor) (answers : List Answer) (count : ℕ) : Type 0 where
   pub writes : (i : ℕ) → i < count
-      → need_before_answer pp answers i ≡ needs.Write (address_of pp.a i)
+      → need_before_answer pp answers i ≡ Need.Write (address_of pp.a i)
       (five_from (kept_memory pp) (second_word pp) (5 * i))
   pub memory : (replayed pp answers).memory ≡ kept_memory pp
 
 -- 63: as many central words as place d says
 abbrev pub CentralWrite : Processor → Type 0
 CentralWrite pp =
-    (count : ℕ) → BeginsAt CWM pp → 0 < count → count ≡ word_at pp (lower_six pp) →
+    (count : ℕ) → BeginsAt Opcode.CWM pp → 0 < count → count ≡ word_at pp (lower_six pp) →
     let answers = write_answers count in
     EndsBlock pp answers (sum pp.a count) × WritesCentrals pp answers count

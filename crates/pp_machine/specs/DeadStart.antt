@@ -5,7 +5,6 @@ use Rattle.std.specs.Prelude.{◌≡◌, ℕ, ◌≤◌, ◌&&◌, Bool, false, 
 use Rattle.std.specs.List.{range_with_len}
 use Rattle.pp_channel.specs.ChannelNo.{channel_count, channel_index, channel_number, names_channel}
 use Rattle.pp_channel.specs.declared.event.Event.{Event}
-use Rattle.pp_channel.specs.declared.event.Event.TheVariants.{Activate}
 use Rattle.pp_machine.specs.MachineState.{MachineState, processor_of, history_of}
 use Rattle.pp_machine.specs.Processor.{Processor}
 use Rattle.pp_machine.specs.PpNo.{names_processor, processor_count, processor_index, processor_number}
@@ -45,7 +44,7 @@ processor_started waits m n = if waits n then waiting_on n (processor_of n m) el
 
 -- the history of channel c: an Activate where the processor of this number waits
 abbrev pub history_started : (ℕ → Bool) → MachineState → ℕ → List Event
-history_started waits m c = if waits c then Activate ∷ [] else history_of c m
+history_started waits m c = if waits c then Event.Activate ∷ [] else history_of c m
 
 -- all processors, all histories, and which channels are opened, each in order of place
 unfoldable pub processors_started : (ℕ → Bool) → MachineState → List Processor
@@ -77,6 +76,6 @@ dead_started waiting m = started (waits waiting) m
 abbrev pub with_waiting : ℕ → MachineState → MachineState
 with_waiting n m = record m {
   processors = slice_set m.processors (processor_index n) (waiting_on n (processor_of n m));
-  histories = slice_set m.histories (channel_index n) (Activate ∷ []);
+  histories = slice_set m.histories (channel_index n) (Event.Activate ∷ []);
   opened = slice_set m.opened (channel_index n) true;
 }

@@ -1,12 +1,12 @@
--- What holds of each channel of a machine after any list of steps.
-use Rattle.std.specs.Prelude.{◌≡◌, ℕ, IsTrue, ◌==◌, List, [], ◌∷◌, ◌++◌, Some, None, if◌then◌else◌}
-use Rattle.std.specs.List.{filter_map}
-use Rattle.pp_channel.specs.ChannelNo.{names_channel}
+-- What holds of each channel of a machine after any list of steps, and of every machine.
+use Rattle.std.specs.Prelude.{◌≡◌, ℕ, IsTrue, ◌==◌, List, [], ◌∷◌, ◌++◌, Some, None, if◌then◌else◌, filter_map, length}
+use Rattle.pp_channel.specs.ChannelNo.{names_channel, channel_count}
 use Rattle.pp_channel.specs.History.{IsLawful}
 use Rattle.pp_channel.specs.Law.{KeepsLaw}
 use Rattle.pp_channel.specs.declared.event.Event.{Event}
-use Rattle.pp_channel.specs.declared.event.Event.TheVariants.{Activate}
 use Rattle.pp_machine.specs.MachineState.{MachineState, history_of, is_opened}
+use Rattle.pp_machine.specs.Central.{IsCentral}
+use Rattle.pp_machine.specs.PpNo.{processor_count}
 use Rattle.pp_machine.specs.declared.trace.Trace.{Trace}
 
 -- the events of a trace on channel c, in order
@@ -14,10 +14,9 @@ abbrev pub events_on : ℕ → List Trace → List Event
 events_on c trace =
     filter_map (λ entry. if entry.channel == c then Some entry.event else None) trace
 
--- what had happened on channel c before the first step: where dead start opened it an Activate,
--- else nothing
+-- what had happened on channel c before the first step: an Activate where dead start opened it
 abbrev pub opening_history : ℕ → MachineState → List Event
-opening_history c m = if is_opened c m then Activate ∷ [] else []
+opening_history c m = if is_opened c m then Event.Activate ∷ [] else []
 
 -- the history of a channel is its opening history and then the events of the trace on it; it is
 -- lawful; and in every session the words taken are the first of the words put
@@ -31,3 +30,12 @@ abbrev pub HoldsOnEachChannel : MachineState → Type 0
 HoldsOnEachChannel m =
     (c : ℕ) → IsTrue (names_channel c) → HoldsOnChannel (opening_history c m) (events_on c m.trace)
     (history_of c m)
+
+-- all processors and channels are there, it is known of each channel whether dead start opened it,
+-- central memory is one, and the headline holds of each channel
+pub record IsMachine (m : MachineState) : Type 0 where
+  pub processors : length m.processors ≡ processor_count
+  pub channels : length m.histories ≡ channel_count
+  pub opened : length m.opened ≡ channel_count
+  pub central : IsCentral m.central
+  pub headline : HoldsOnEachChannel m

@@ -11,7 +11,7 @@ use Rattle.pp_word.specs.declared.opcode.Opcode.TheVariants.{PSN, LJM, RJM, UJN,
 use Rattle.pp_channel.specs.declared.chan_op.ChanOp.TheVariants.{Activate, Disconnect, Put, Function}
 use Rattle.pp_machine.specs.Block.{receives, central_from, starts}
 use Rattle.pp_machine.specs.Effect.{goes_on, goes_to, faults, jumps_or_stops, jumps_where, branches_where, calls, is_negative, low_of, loads, loads_word, adds_word, subtracts_word, differs_from_word, stores_word, replaces_by_sum, replaces_by_one_more, replaces_by_one_less}
-use Rattle.pp_machine.specs.Operand.{second_word, index, constant, indirect}
+use Rattle.pp_machine.specs.Operand.{second_word, index, constant}
 use Rattle.pp_machine.specs.Processor.{Processor, word_at, exchange_jump, no_central_processor, no_such_channel}
 use Rattle.pp_machine.specs.Profile.{has_channel}
 use Rattle.pp_machine.specs.Step.{Step, local, probes, takes, does, reads, writes}
@@ -20,7 +20,7 @@ use Rattle.pp_machine.specs.declared.block.BlockKind.TheVariants.{CentralIn, Cen
 -- Codes 30 to 57 (octal), LDD to SOM, work on one word of memory. The first octal digit of the code
 -- says where it stands: 3 at place d, 4 at the place that is the word there, 5 at the indexed place
 abbrev pub operand_places : Processor → ℕ → List ℕ
-operand_places pp d = d ∷ indirect pp d ∷ index pp d ∷ []
+operand_places pp d = d ∷ word_at pp d ∷ index pp d ∷ []
 
 -- and the last octal digit, from 0 to 7, what is done with it
 abbrev pub memory_operations : List (Processor → ℕ → ℕ → Processor)
@@ -86,8 +86,7 @@ row op pp d = table op pp d (length_of op)
 abbrev pub works_on_channel : Opcode → Bool
 works_on_channel op = nat_le 0o64 (code_of op)
 
--- an instruction: its row of the table, but fault 3 where it works on channel d and the machine has
--- none
+-- an instruction: its row, but fault 3 where it works on channel d and the machine has none
 abbrev pub instruction : Opcode → Processor → ℕ → Step
 instruction op pp d =
     if works_on_channel op && not (has_channel pp.profile d) then local (faults pp no_such_channel)

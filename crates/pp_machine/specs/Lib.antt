@@ -9,7 +9,6 @@ pub mod Block
 pub mod InstructionTable
 pub mod NeedAndEffect
 pub mod Replay
-pub mod StepLaws
 pub mod BlockResults
 pub mod Central
 pub mod MachineState
@@ -18,9 +17,14 @@ pub mod Run
 pub mod Headline
 pub mod DeadStart
 pub mod Lending
-pub mod MachineInvariant
 -- cited by private contracts alone: nobody has to read these to believe what the crate promises
 pub mod Processors
 pub mod Rounds
 pub mod NextStep
 pub mod Quiet
+-- laws of the definitions, which proofs of other crates cite; nobody has to read these either
+pub mod ProcessorPlaces
+pub mod ProfilePlaces
+pub mod FitLaws
+pub mod ReplayLaws
+pub mod RunLaws

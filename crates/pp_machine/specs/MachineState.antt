@@ -3,7 +3,7 @@
 -- their own and share central memory and the data channels.)
 use Rattle.std.specs.Prelude.{ℕ, Bool, false, List, [], slice_index_or, replicate}
 use Rattle.pp_channel.specs.ChannelNo.{channel_count, channel_index}
-use Rattle.pp_channel.specs.Histories.{history_on}
+use Rattle.pp_channel.specs.History.{history_on}
 use Rattle.pp_channel.specs.declared.event.Event.{Event}
 use Rattle.pp_machine.specs.Processor.{Processor, new_processor, no_processor}
 use Rattle.pp_machine.specs.PpNo.{processor_count, processor_index}

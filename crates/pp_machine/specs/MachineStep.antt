@@ -1,50 +1,46 @@
--- One step of one processor of a machine.
+-- One step of one processor of a machine: one trip through the slot of the barrel.
 -- (Manual 60100000, part on peripheral and control processors: a processor works on its own memory,
--- exchanges words with the data channels, and reads and writes central memory. One step is one trip
--- of it through the slot of the barrel: Thornton, Design of a Computer.)
-use Rattle.std.specs.Prelude.{ℕ, ◌+◌, ◌-◌, ◌^◌, min, List, ◌++◌, length, map, nat_lt, Option, None, slice_set}
-use Rattle.std.specs.Option.{option_to_list}
+-- exchanges words with data channels, reads and writes central memory; Thornton, on the barrel.)
+use Rattle.std.specs.Prelude.{ℕ, ◌+◌, ◌-◌, ◌^◌, min, List, ◌++◌, length, map, nat_lt, Option, None, slice_set, option_to_list}
 use Rattle.pp_channel.specs.Answer.{event_of, reply_to, history_after}
 use Rattle.pp_channel.specs.ChannelNo.{channel_index}
 use Rattle.pp_channel.specs.declared.event.Event.{Event}
-use Rattle.pp_machine.specs.Central.{central_word, with_central_word}
+use Rattle.pp_machine.specs.Central.{central_word}
 use Rattle.pp_machine.specs.MachineState.{MachineState, processor_of, history_of}
 use Rattle.pp_machine.specs.NeedAndEffect.{need, processor_after, outcome}
 use Rattle.pp_machine.specs.PpNo.{processor_index}
 use Rattle.pp_machine.specs.declared.answer.Answer.{Answer}
-use Rattle.pp_machine.specs.declared.answer.Answer.TheVariants as answers
 use Rattle.pp_machine.specs.declared.need.Need.{Need}
-use Rattle.pp_machine.specs.declared.need.Need.TheVariants.{Nothing, Local, Channel, Read, Write}
 use Rattle.pp_machine.specs.declared.outcome.Outcome.{Outcome}
 use Rattle.pp_machine.specs.declared.trace.Trace.{Trace}
 
 -- what the channels and central memory answer to a need
 abbrev pub answer_to : Need → MachineState → Answer
-answer_to Nothing m = answers.Local
-answer_to Local m = answers.Local
-answer_to (Channel c op) m = answers.Channel (reply_to op (history_of c m))
-answer_to (Read a) m = answers.Read (central_word a m.central)
-answer_to (Write a w) m = answers.Wrote (nat_lt a (length m.central))
+answer_to Need.Nothing m = Answer.Local
+answer_to Need.Local m = Answer.Local
+answer_to (Need.Channel c op) m = Answer.Channel (reply_to op (history_of c m))
+answer_to (Need.Read a) m = Answer.Read (central_word a m.central)
+answer_to (Need.Write a w) m = Answer.Wrote (nat_lt a (length m.central))
 
 -- the event that it makes
 abbrev pub event_for : Need → MachineState → Option Event
-event_for (Channel c op) m = event_of op (history_of c m)
+event_for (Need.Channel c op) m = event_of op (history_of c m)
 event_for _ m = None
 
 -- the histories after it
 abbrev pub histories_after : Need → MachineState → List (List Event)
-histories_after (Channel c op) m =
+histories_after (Need.Channel c op) m =
     slice_set m.histories (channel_index c) (history_after op (history_of c m))
 histories_after _ m = m.histories
 
--- the central words after it
+-- the central words after it; at or past the size nothing changes
 abbrev pub central_after : Need → MachineState → List ℕ
-central_after (Write a w) m = with_central_word a w m.central
+central_after (Need.Write a w) m = slice_set m.central a w
 central_after _ m = m.central
 
 -- the trace after it, where it is processor n's
 abbrev pub trace_after : ℕ → Need → MachineState → List Trace
-trace_after n (Channel c op) m =
+trace_after n (Need.Channel c op) m =
     m.trace ++ map (λ e. record { turn = m.turns; pp = n; channel = c; event = e })
     (option_to_list (event_of op (history_of c m)))
 trace_after n _ m = m.trace

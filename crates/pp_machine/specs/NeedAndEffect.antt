@@ -1,7 +1,7 @@
--- What the next step of a processor needs from outside, the processor after its answer, and the
--- outcome.
-use Rattle.std.specs.Prelude.{Bool, true, false, Option, None, Some, if◌then◌else◌}
-use Rattle.pp_channel.specs.declared.reply.Reply.TheVariants.{Flags, Done, Word, Held}
+-- What a processor's next step needs from outside, what its answer leaves, and the outcome.
+use Rattle.std.specs.Prelude.{◌≡◌, Bool, true, false, Option, None, Some, if◌then◌else◌}
+use Rattle.pp_channel.specs.declared.flags.Flags.{Flags}
+use Rattle.pp_channel.specs.declared.reply.Reply.{Reply}
 use Rattle.pp_machine.specs.Block.{block_word, held}
 use Rattle.pp_machine.specs.Effect.{faults}
 use Rattle.pp_machine.specs.InstructionTable.{instruction}
@@ -12,9 +12,7 @@ use Rattle.pp_machine.specs.declared.answer.Answer.{Answer}
 use Rattle.pp_machine.specs.declared.answer.Answer.TheVariants.{Local, Channel, Read, Wrote}
 use Rattle.pp_machine.specs.declared.block.Block.{Block}
 use Rattle.pp_machine.specs.declared.need.Need.{Need}
-use Rattle.pp_machine.specs.declared.need.Need.TheVariants.{Nothing}
 use Rattle.pp_machine.specs.declared.outcome.Outcome.{Outcome}
-use Rattle.pp_machine.specs.declared.outcome.Outcome.TheVariants as outcomes
 use Rattle.pp_machine.specs.declared.pp_state.PpState.{PpState}
 use Rattle.pp_machine.specs.declared.pp_state.PpState.TheVariants.{Running, Stopped, Fault}
 
@@ -30,48 +28,43 @@ next_step pp = step_of pp.block pp
 -- channel that was not ready holds what it was to give, take or do; no other answer fits
 abbrev pub answered : Step → Processor → Answer → Processor
 answered (local after) pp Local = after
-answered (probes channel after) pp (Channel (Flags flags)) = after flags
-answered (takes channel after) pp (Channel (Word word)) = after word
-answered (does channel operation after) pp (Channel Done) = after
+answered (probes channel after) pp (Channel (Reply.Flags flags)) = after flags
+answered (takes channel after) pp (Channel (Reply.Word word)) = after word
+answered (does channel operation after) pp (Channel Reply.Done) = after
 answered (reads address after) pp (Read (Some central)) = after central
 answered (reads address after) pp (Read None) = faults pp past_central_memory
 answered (writes address word after) pp (Wrote true) = after
 answered (writes address word after) pp (Wrote false) = faults pp past_central_memory
-answered (takes channel after) pp (Channel (Held flags)) = held pp.block pp flags
-answered (does channel operation after) pp (Channel (Held flags)) = held pp.block pp flags
+answered (takes channel after) pp (Channel (Reply.Held flags)) = held pp.block pp flags
+answered (does channel operation after) pp (Channel (Reply.Held flags)) = held pp.block pp flags
 answered step pp answer = pp
+
+-- an answer by which a channel was not ready
+abbrev pub IsHeldAnswer : Answer → Type 0
+IsHeldAnswer answer = (flags : Flags) × (answer ≡ Channel (Reply.Held flags))
 
 -- a channel that was not ready holds an instruction, and a block only where it is active
 abbrev pub is_held : Option Block → Answer → Bool
-is_held None (Channel (Held flags)) = true
-is_held (Some block) (Channel (Held flags)) = flags.active
+is_held None (Channel (Reply.Held flags)) = true
+is_held (Some block) (Channel (Reply.Held flags)) = flags.active
 is_held block answer = false
 
--- only a running processor has a next step: what it needs, what an answer leaves, and the outcome,
--- by the state
-abbrev pub need_in : PpState → Processor → Need
-need_in Running pp = need_of (next_step pp)
-need_in Stopped pp = Nothing
-need_in (Fault number) pp = Nothing
-
-abbrev pub after_in : PpState → Processor → Answer → Processor
-after_in Running pp answer = answered (next_step pp) pp answer
-after_in Stopped pp answer = pp
-after_in (Fault number) pp answer = pp
-
-abbrev pub outcome_in : PpState → Processor → Answer → Outcome
-outcome_in Running pp answer = if is_held pp.block answer then outcomes.Held else outcomes.Moved
-outcome_in Stopped pp answer = outcomes.AtRest
-outcome_in (Fault number) pp answer = outcomes.AtRest
+-- only a running processor has a next step: the first where it runs, else the second
+abbrev pub if_running : {X : Type 0} → PpState → X → X → X
+if_running Running step rest = step
+if_running Stopped step rest = rest
+if_running (Fault number) step rest = rest
 
 -- what the next step needs: nothing where there is none
 unfoldable pub need : Processor → Need
-need pp = need_in pp.state pp
+need pp = if_running pp.state (need_of (next_step pp)) Need.Nothing
 
 -- the processor after the answer to its next step
 unfoldable pub processor_after : Processor → Answer → Processor
-processor_after pp answer = after_in pp.state pp answer
+processor_after pp answer = if_running pp.state (answered (next_step pp) pp answer) pp
 
 -- what the answer did
 unfoldable pub outcome : Processor → Answer → Outcome
-outcome pp answer = outcome_in pp.state pp answer
+outcome pp answer =
+    if_running pp.state
+    (if is_held pp.block answer then Outcome.Held else Outcome.Moved) Outcome.AtRest

@@ -3,7 +3,6 @@
 use Rattle.std.specs.Prelude.{◌≡◌, ℕ, Bool, true, false, Option, None, Some, IsSome, nat_lt}
 use Rattle.pp_word.specs.Opcode.{code_of}
 use Rattle.pp_word.specs.declared.opcode.Opcode.{Opcode}
-use Rattle.pp_word.specs.declared.opcode.Opcode.TheVariants.{UJN, EXN, RPN}
 use Rattle.pp_machine.specs.Effect.{leads_to_itself}
 use Rattle.pp_machine.specs.Operand.{operation, lower_six}
 use Rattle.pp_machine.specs.Processor.{Processor}
@@ -21,14 +20,13 @@ abbrev pub IsNext : Option Opcode → ℕ → Processor → Type 0
 IsNext None d pp = (pp.state ≡ Running) × IsSome pp.block
 IsNext (Some op) d pp = IsAtInstruction op d pp
 
--- whether an operation needs nothing from outside, whatever its operands, and begins no block:
--- codes 00 to 57
+-- whether an operation, of codes 00 to 57, needs nothing from outside and begins no block
 abbrev pub is_inner : Opcode → Bool
 is_inner op = nat_lt (code_of op) 0o60
 
 -- whether an instruction leaves its processor at rest: UJN may stop it, EXN and RPN are faults
 abbrev pub ends : Opcode → ℕ → Bool
-ends UJN d = leads_to_itself d
-ends EXN d = true
-ends RPN d = true
+ends Opcode.UJN d = leads_to_itself d
+ends Opcode.EXN d = true
+ends Opcode.RPN d = true
 ends op d = false

@@ -30,7 +30,3 @@ index pp d = if d == 0 then second_word pp else indexed (second_word pp) (word_a
 -- the constant dm: 18 bits, of which d is the upper six
 abbrev pub constant : Processor → ℕ → ℕ
 constant pp d = d * 2 ^ 12 + second_word pp
-
--- the place that stands at place d
-abbrev pub indirect : Processor → ℕ → ℕ
-indirect pp d = word_at pp d

@@ -1,10 +1,8 @@
 -- The numbers of the peripheral processors, the place of each in a list of all processors, and
--- their turns. A number and its place are two things: proofs know of them what the lemmas of
--- ProcessorPlaces say.
---
--- Control Data 6400/6500/6600 Computer Systems Reference Manual, publication 60100000, part on
--- peripheral and control processors: ten processors, numbered 0 to 11 (octal), which take turns in
--- a barrel. A machine of twenty has ten more, numbered 20 to 31, which follow them in the barrel.
+-- their turns. A number and its place are two things, of which proofs know what ProcessorPlaces
+-- says.
+-- (Manual 60100000, peripheral processors: ten, numbered 0 to 11 (octal), which take turns in a
+-- barrel. A machine of twenty has ten more, numbered 20 to 31, which follow them in the barrel.)
 use Rattle.std.specs.Prelude.{ℕ, ◌≡◌, ◌+◌, ◌-◌, ◌&&◌, ◌||◌, Bool, IsTrue, nat_lt, if◌then◌else◌}
 use Rattle.std.proofs.Common.{arith}
 

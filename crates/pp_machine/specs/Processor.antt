@@ -1,14 +1,12 @@
 -- A peripheral processor as contracts see it.
 -- (Manual 60100000, peripheral processors: memory, the accumulator A, the program address P.)
-use Rattle.std.specs.Prelude.{◌≡◌, ℕ, ◌<◌, ◌≤◌, ◌^◌, List, Option, None, Some, slice_index}
+use Rattle.std.specs.Prelude.{◌≡◌, ℕ, ◌<◌, ◌≤◌, ◌^◌, List, Option, None, Some, slice_index, ◌≢◌}
 use Rattle.pp_machine.specs.PpMemory.{IsMemory, empty_memory}
 use Rattle.pp_machine.specs.declared.block.Block.{Block}
 use Rattle.pp_machine.specs.declared.block.BlockKind.{BlockKind}
-use Rattle.pp_machine.specs.declared.block.BlockKind.TheVariants.{CentralIn, CentralOut}
 use Rattle.pp_machine.specs.declared.pp_state.PpState.{PpState}
 use Rattle.pp_machine.specs.declared.pp_state.PpState.TheVariants.{Running, Stopped, Fault}
 use Rattle.pp_machine.specs.declared.profile.Profile.{Profile}
-use Rattle.pp_machine.specs.declared.profile.Profile.TheVariants.{Ten}
 
 -- the profile of its machine, memory, A of 18 bits, P of 12 bits, whether it goes on, and perhaps a
 -- block transfer in progress
@@ -35,7 +33,7 @@ runs_from p a pp = record pp { p = p; a = a; state = Running; block = None }
 
 -- what stands for a processor past the end of a list
 abbrev pub no_processor : Processor
-no_processor = new_processor Ten
+no_processor = new_processor Profile.Ten
 
 -- the faults: an exchange jump, the program address of a central processor that is not there, a
 -- channel that is not there, and a central address at or past the size
@@ -63,8 +61,8 @@ HasFaultNumber state = Unit {0}
 
 -- a transfer with central memory has at least one word left
 abbrev pub HasWordsLeft : BlockKind → Type 0
-HasWordsLeft (CentralIn left) = 1 ≤ left
-HasWordsLeft (CentralOut left) = 1 ≤ left
+HasWordsLeft (BlockKind.CentralIn left) = 1 ≤ left
+HasWordsLeft (BlockKind.CentralOut left) = 1 ≤ left
 HasWordsLeft kind = Unit {0}
 
 -- only a running processor is in a block, and a block with central memory has words left
@@ -77,3 +75,18 @@ pub record IsProcessor (pp : Processor) : Type 0 where
   pub memory : IsMemory pp.memory
   pub a : pp.a < 2 ^ 18
   pub p : pp.p < 2 ^ 12
+
+-- a processor that is stopped or at fault
+abbrev pub IsAtRest : Processor → Type 0
+IsAtRest pp = pp.state ≢ Running
+
+-- a processor at a fault
+abbrev pub IsAtFault : Processor → Type 0
+IsAtFault pp = (number : ℕ) × (pp.state ≡ Fault number)
+
+-- memory, A and P are as before, and no block is in progress
+pub record KeepsMemoryAndRegisters (old new : Processor) : Type 0 where
+  pub memory : new.memory ≡ old.memory
+  pub a : new.a ≡ old.a
+  pub p : new.p ≡ old.p
+  pub block : new.block ≡ None

@@ -1,10 +1,8 @@
 -- Profiles: how many processors and channels a machine has. Its processors stand at the first
 -- places of the barrel, its channels at the first places in order of number.
---
--- Control Data 6400/6500/6600 Computer Systems Reference Manual, publication 60100000, part on
--- peripheral and control processors: ten processors and twelve channels. A machine of twenty has
+-- (Manual 60100000: ten peripheral processors and twelve data channels. A machine of twenty has
 -- twice as many of both: this project's own profile, with a gap in the numbers after the first ten
--- and the first twelve.
+-- and the first twelve.)
 use Rattle.std.specs.Prelude.{ℕ, ◌%◌, Bool, nat_lt}
 use Rattle.pp_channel.specs.ChannelNo.{channel_count, channel_index}
 use Rattle.pp_machine.specs.PpNo.{processor_count, processor_index, processor_number}

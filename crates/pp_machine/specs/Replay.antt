@@ -1,43 +1,31 @@
 -- A replay: a processor is given answers in order, up to the first that does not fit its need.
-use Rattle.std.specs.Prelude.{ℕ, ◌+◌, Bool, true, false, List, [], ◌∷◌, ◌++◌, map, if◌then◌else◌}
-use Rattle.std.specs.Option.{option_to_list}
-use Rattle.pp_channel.specs.Answer.{event_answered, seen_answered}
+use Rattle.std.specs.Prelude.{ℕ, ◌+◌, Bool, true, false, List, [], ◌∷◌, ◌++◌, map, if◌then◌else◌, option_to_list, not, Option, None, is_some}
+use Rattle.pp_channel.specs.Answer.{event_answered, seen_answered, only_looks, event_with}
 use Rattle.pp_channel.specs.declared.chan_op.ChanOp.{ChanOp}
-use Rattle.pp_channel.specs.declared.chan_op.ChanOp.TheVariants as operations
 use Rattle.pp_channel.specs.declared.entry.Seen.{Seen}
 use Rattle.pp_channel.specs.declared.event.Event.{Event}
 use Rattle.pp_channel.specs.declared.reply.Reply.{Reply}
-use Rattle.pp_channel.specs.declared.reply.Reply.TheVariants as replies
 use Rattle.pp_machine.specs.NeedAndEffect.{need, processor_after}
 use Rattle.pp_machine.specs.Processor.{Processor}
 use Rattle.pp_machine.specs.declared.answer.Answer.{Answer}
-use Rattle.pp_machine.specs.declared.answer.Answer.TheVariants as answers
 use Rattle.pp_machine.specs.declared.need.Need.{Need}
-use Rattle.pp_machine.specs.declared.need.Need.TheVariants as needs
 
--- whether a reply fits an operation: Probe goes with Flags, Take with Word or Held, the other four
--- with Done or Held
+-- whether a reply fits an operation: flags go with one that only looks, a word with Take, Done with
+-- one whose event needs no word from the channel; and each that acts may be held
 abbrev pub reply_fits : ChanOp → Reply → Bool
-reply_fits operations.Probe (replies.Flags flags) = true
-reply_fits operations.Take (replies.Word word) = true
-reply_fits operations.Take (replies.Held flags) = true
-reply_fits operations.Activate replies.Done = true
-reply_fits operations.Activate (replies.Held flags) = true
-reply_fits operations.Disconnect replies.Done = true
-reply_fits operations.Disconnect (replies.Held flags) = true
-reply_fits (operations.Put word) replies.Done = true
-reply_fits (operations.Put word) (replies.Held flags) = true
-reply_fits (operations.Function code) replies.Done = true
-reply_fits (operations.Function code) (replies.Held flags) = true
-reply_fits operation reply = false
+reply_fits operation (Reply.Flags flags) = only_looks operation
+reply_fits operation (Reply.Held flags) = not (only_looks operation)
+reply_fits operation Reply.Done = is_some (event_with operation None)
+reply_fits ChanOp.Take (Reply.Word word) = true
+reply_fits operation (Reply.Word word) = false
 
 -- whether an answer fits a need
 abbrev pub fits : Need → Answer → Bool
-fits needs.Nothing answers.Local = true
-fits needs.Local answers.Local = true
-fits (needs.Channel channel operation) (answers.Channel reply) = reply_fits operation reply
-fits (needs.Read address) (answers.Read word) = true
-fits (needs.Write address word) (answers.Wrote written) = true
+fits Need.Nothing Answer.Local = true
+fits Need.Local Answer.Local = true
+fits (Need.Channel channel operation) (Answer.Channel reply) = reply_fits operation reply
+fits (Need.Read address) (Answer.Read word) = true
+fits (Need.Write address word) (Answer.Wrote written) = true
 fits need answer = false
 
 -- the processor after the answers, up to the first that does not fit
@@ -52,41 +40,30 @@ given_count pp [] = 0
 given_count pp (answer ∷ more) =
     if fits (need pp) answer then given_count (processor_after pp answer) more + 1 else 0
 
--- an event, and an event or a look, each with the channel's number
-pub record ChannelEvent : Type 0 where
+-- an event, say, with the number of its channel
+pub record OfChannel (X : Type 0) : Type 0 where
   pub channel : ℕ
-  pub event : Event
+  pub what : X
 
-pub record ChannelSight : Type 0 where
-  pub channel : ℕ
-  pub what : Seen
-
--- the event of an answer to a need, if it gives one
-abbrev pub events_of : Need → Answer → List ChannelEvent
-events_of (needs.Channel channel operation) (answers.Channel reply) =
-    map (λ e. record { channel = channel; event = e })
-    (option_to_list (event_answered operation reply))
-events_of need answer = []
-
--- the event or the look of an answer to a need, if it gives one
-abbrev pub sights_of : Need → Answer → List ChannelSight
-sights_of (needs.Channel channel operation) (answers.Channel reply) =
-    map (λ what. record { channel = channel; what = what })
-    (option_to_list (seen_answered operation reply))
-sights_of need answer = []
+-- what an answer to a need gives, which is told by the operation and its reply
+abbrev pub given_by : {X : Type 0} → (ChanOp → Reply → Option X) → Need → Answer
+    → List (OfChannel X)
+given_by tells (Need.Channel channel operation) (Answer.Channel reply) =
+    map (λ what. record { channel = channel; what = what }) (option_to_list (tells operation reply))
+given_by tells need answer = []
 
 -- what each answer gives, along a replay, end to end
-unfoldable pub told_along : {X : Type 0} → (Need → Answer → List X) → Processor → List Answer
-    → List X
+unfoldable pub told_along : {X : Type 0} → (ChanOp → Reply → Option X) → Processor → List Answer
+    → List (OfChannel X)
 told_along tells pp [] = []
 told_along tells pp (answer ∷ more) =
-    if fits (need pp) answer then tells (need pp) answer
+    if fits (need pp) answer then given_by tells (need pp) answer
     ++ told_along tells (processor_after pp answer) more else []
 
 -- the events of a replay, in order
-abbrev pub events_given : Processor → List Answer → List ChannelEvent
-events_given pp given = told_along events_of pp given
+abbrev pub events_given : Processor → List Answer → List (OfChannel Event)
+events_given = told_along event_answered
 
 -- the events and the looks of a replay together, in order
-abbrev pub sights_given : Processor → List Answer → List ChannelSight
-sights_given pp given = told_along sights_of pp given
+abbrev pub sights_given : Processor → List Answer → List (OfChannel Seen)
+sights_given = told_along seen_answered

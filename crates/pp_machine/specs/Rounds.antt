@@ -2,23 +2,20 @@
 -- and does nothing else.
 -- (Private contracts alone cite this.)
 use Rattle.std.specs.Prelude.{ℕ, ◌*◌, ◌<◌, ◌≤◌, List, slice_index, slice_index_or}
-use Rattle.pp_machine.specs.Processor.{Processor, no_processor}
+use Rattle.pp_machine.specs.Processor.{Processor, no_processor, IsAtRest}
 use Rattle.pp_machine.specs.PpNo.{processor_count}
 use Rattle.pp_machine.specs.Profile.{processors_in}
 use Rattle.pp_machine.specs.Run.{barrel}
-use Rattle.pp_machine.specs.StepLaws.{IsAtRest}
 use Rattle.pp_machine.specs.declared.profile.Profile.{Profile}
 
--- place and running are places of the barrel, or their number; from one to the other all processors
--- are at rest
+-- from one place of the barrel, or its end, to another all processors are at rest
 pub record RestBetween (place running : ℕ) (processors : List Processor) : Type 0 where
   pub forward : place ≤ running
   pub within : running ≤ processor_count
   pub at_rest : (between : ℕ) → place ≤ between → between < running
       → IsAtRest (slice_index_or processors between no_processor)
 
--- a list that has for each place of the barrel, and for its end, a place to which all processors
--- are at rest
+-- a list that has for each place of the barrel, and for its end, one to which all are at rest
 abbrev pub PassesOverRest : List ℕ → List Processor → Type 0
 PassesOverRest next processors =
     (place : ℕ) → place ≤ processor_count → RestBetween place (slice_index next place) processors

@@ -1,6 +1,4 @@
--- Lists of steps.
--- (Thornton, Design of a Computer: the peripheral processors take their turns in a barrel, one
--- after another.)
+-- Lists of steps. (Thornton, Design of a Computer: the processors take turns in a barrel.)
 use Rattle.std.specs.Prelude.{ℕ, zero, suc, List, [], ◌∷◌, ◌++◌, fold}
 use Rattle.pp_machine.specs.MachineState.{MachineState}
 use Rattle.pp_machine.specs.MachineStep.{stepped}

@@ -1,11 +1,9 @@
 -- One step of a processor: what it needs from outside, and the processor that the answer leaves.
 use Rattle.std.specs.Prelude.{ℕ}
 use Rattle.pp_channel.specs.declared.chan_op.ChanOp.{ChanOp}
-use Rattle.pp_channel.specs.declared.chan_op.ChanOp.TheVariants as operations
 use Rattle.pp_channel.specs.declared.flags.Flags.{Flags}
 use Rattle.pp_machine.specs.Processor.{Processor}
 use Rattle.pp_machine.specs.declared.need.Need.{Need}
-use Rattle.pp_machine.specs.declared.need.Need.TheVariants as needs
 
 -- local: nothing, and then this processor
 -- probes, takes: the flags of a channel or a word from it, and the processor that each leaves
@@ -22,9 +20,9 @@ pub data Step : Type 0 where
 
 -- what a step needs
 abbrev pub need_of : Step → Need
-need_of (local after) = needs.Local
-need_of (probes channel after) = needs.Channel channel operations.Probe
-need_of (takes channel after) = needs.Channel channel operations.Take
-need_of (does channel operation after) = needs.Channel channel operation
-need_of (reads address after) = needs.Read address
-need_of (writes address word after) = needs.Write address word
+need_of (local after) = Need.Local
+need_of (probes channel after) = Need.Channel channel ChanOp.Probe
+need_of (takes channel after) = Need.Channel channel ChanOp.Take
+need_of (does channel operation after) = Need.Channel channel operation
+need_of (reads address after) = Need.Read address
+need_of (writes address word after) = Need.Write address word

@@ -1,6 +1,6 @@
 //! Central memory.
 
-ghost use Rattle.std.specs.Prelude.{◌≡◌, ◌<◌, ◌↔◌, length, replicate, IsTrue, IsErrOf, IfOk, OnOk};
+ghost use Rattle.std.specs.Prelude.{◌≡◌, ◌<◌, ◌↔◌, length, replicate, slice_set, IsTrue, IsErrOf, IfOk, OnOk};
 ghost use Rattle.std.specs.Bool.{OnFalse};
 
 use pp_word::{Word18, Word60};
@@ -63,7 +63,7 @@ impl<A: Allocator> Model for Central<A> {
 }
 
 impl<A: Allocator> Central<A> {
-    ghost use Rattle.pp_machine.specs.Central.{IsCentral, IsCentralSize, central_word, with_central_word};
+    ghost use Rattle.pp_machine.specs.Central.{IsCentral, IsCentralSize, central_word};
 
     /// Central memory of this many words, all 0.
     pub fn new(alloc: A, size: u32) -> Result<Self, CentralFault>
@@ -89,7 +89,7 @@ impl<A: Allocator> Central<A> {
     /// Writes the word at an address; at or past the size it answers false, and nothing changes.
     pub fn write(&mut self, a: Word18, w: Word60) -> bool
         ensures within { IsTrue result ↔ (a < length self.old) }
-        ensures written { self.new ≡ with_central_word a w self.old }
+        ensures written { self.new ≡ slice_set self.old a w }
         ensures refused { OnFalse result (self.new ≡ self.old) }
         ensures sound { IsCentral self.new }
     {

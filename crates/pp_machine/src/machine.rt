@@ -1,6 +1,6 @@
 //! The machine: processors, channels, central memory, turns and events.
 
-ghost use Rattle.std.specs.Prelude.{◌≡◌, ◌<◌, ℕ, ◌++◌, [], length, replicate, slice_index_or, IfOk, OnOk, OnErr, IsErrOf, IsTrue, ◌↔◌};
+ghost use Rattle.std.specs.Prelude.{◌≡◌, ◌<◌, ℕ, ◌++◌, [], length, replicate, slice_index_or, slice_set, IfOk, OnOk, OnErr, IsErrOf, IsTrue, ◌↔◌};
 ghost use Rattle.std.specs.Bool.{OnFalse};
 ghost use Rattle.pp_channel.specs.ChannelNo.{channel_count};
 ghost use Rattle.pp_channel.specs.History.{IsLawful};
@@ -31,7 +31,7 @@ pub struct Machine<A: Allocator> {
 
 impl<A: Allocator> Model for Machine<A> {
     ghost use Rattle.pp_machine.specs.MachineState.{MachineState};
-    ghost use Rattle.pp_machine.specs.MachineInvariant.{IsMachine};
+    ghost use Rattle.pp_machine.specs.Headline.{IsMachine};
 
     ghost Value = { MachineState };
 
@@ -57,15 +57,14 @@ impl<A: Allocator> Model for Machine<A> {
 }
 
 impl<A: Allocator> Machine<A> {
-    ghost use Rattle.pp_machine.specs.Central.{IsCentralSize, with_central_word};
-    ghost use Rattle.pp_machine.specs.Headline.{events_on, opening_history};
-    ghost use Rattle.pp_machine.specs.MachineInvariant.{IsMachine};
+    ghost use Rattle.pp_machine.specs.Central.{IsCentralSize};
+    ghost use Rattle.pp_machine.specs.Headline.{events_on, opening_history, IsMachine};
     ghost use Rattle.pp_machine.specs.MachineState.{history_of, new_machine, processor_of};
 
     /// A machine of this profile, with central memory of this many words, all 0: its processors as
     /// `Pp::new(profile)`, its channels without history, no turn counted. Processors and channels
     /// that the profile lacks come after the others, and no turn of the barrel is theirs.
-    #[tactic(auto, using(pp_channel::proofs::ChannelPlaces::place_below))]
+    #[tactic(auto, using(pp_channel::specs::ChannelPlaces::place_below))]
     pub fn new(alloc: A, profile: Profile, size: u32) -> Result<Self, CentralFault>
     where
         A: Copy,
@@ -134,7 +133,7 @@ impl<A: Allocator> Machine<A> {
     pub fn write_central(&mut self, a: Word18, w: Word60) -> bool
         ensures within { IsTrue result ↔ (a < length self.old.central) }
         ensures written { self.new
-            ≡ record self.old { central = with_central_word a w self.old.central } }
+            ≡ record self.old { central = slice_set self.old.central a w } }
         ensures refused { OnFalse result (self.new ≡ self.old) }
     {
         self.central.write(a, w)

@@ -60,7 +60,7 @@ impl PpNo {
     }
 
     /// Its place in a list of all processors in the barrel's order.
-    #[tactic(auto, using(crate::proofs::ProcessorPlaces::one_place, crate::proofs::ProcessorPlaces::place_below, crate::specs::PpNo::place_again))]
+    #[tactic(auto, using(crate::specs::ProcessorPlaces::one_place, crate::specs::ProcessorPlaces::place_below, crate::specs::PpNo::place_again))]
     pub fn index(self) -> usize
         ensures place { result ≡ processor_index self }
         ensures below { result < processor_count }
@@ -71,7 +71,7 @@ impl PpNo {
     }
 
     /// The processor at a place in the barrel's order.
-    #[tactic(auto, using(crate::proofs::ProcessorPlaces::number_named, crate::proofs::ProcessorPlaces::place_of_number))]
+    #[tactic(auto, using(crate::specs::ProcessorPlaces::number_named, crate::specs::ProcessorPlaces::place_of_number))]
     pub fn at(place: usize) -> Self
         requires { place < processor_count }
         ensures number { result ≡ processor_number place }
@@ -81,7 +81,7 @@ impl PpNo {
     }
 
     /// The processor at the next place of twenty; after the last comes the first.
-    #[tactic(auto, using(crate::proofs::ProcessorPlaces::place_below))]
+    #[tactic(auto, using(crate::specs::ProcessorPlaces::place_below))]
     pub fn next(self) -> Self
         ensures { result ≡ processor_number ((processor_index self + 1) % processor_count) }
     {

@@ -3,7 +3,7 @@
 ghost use Rattle.std.specs.Prelude.{◌≡◌};
 ghost use Rattle.pp_machine.specs.BlockResults.{CompleteInput, ShortInput, CompleteOutput, ShortOutput, CentralRead, CentralWrite};
 ghost use Rattle.pp_machine.specs.Replay.{fits, reply_fits, replayed, given_count};
-ghost use Rattle.pp_machine.specs.StepLaws.{IsAtRest};
+ghost use Rattle.pp_machine.specs.Processor.{IsAtRest};
 
 use crate::answer::Answer;
 use crate::need::Need;
@@ -14,12 +14,14 @@ use pp_channel::{ChanOp, Reply};
 fn reply_fits(operation: &ChanOp, reply: &Reply) -> bool
     ensures { result ≡ reply_fits operation.now reply.now }
 {
-    match operation {
-        ChanOp::Probe => matches!(reply, Reply::Flags(_)),
-        ChanOp::Take => matches!(reply, Reply::Word(_) | Reply::Held(_)),
-        ChanOp::Activate | ChanOp::Disconnect | ChanOp::Put(_) | ChanOp::Function(_) => {
-            matches!(reply, Reply::Done | Reply::Held(_))
-        }
+    match reply {
+        Reply::Flags(_) => operation.only_looks(),
+        Reply::Held(_) => !operation.only_looks(),
+        Reply::Done => match operation {
+            ChanOp::Probe | ChanOp::Take => false,
+            ChanOp::Activate | ChanOp::Disconnect | ChanOp::Put(_) | ChanOp::Function(_) => true,
+        },
+        Reply::Word(_) => matches!(operation, ChanOp::Take),
     }
 }
 

@@ -40,7 +40,7 @@ impl<A: Allocator> Machine<A> {
     ghost use Rattle.pp_machine.specs.Run.{run, barrel};
 
     /// One step of each processor of a list, in order, with any repeats.
-    #[tactic(auto, using(crate::proofs::RunLemmas::run_more, crate::proofs::RunLemmas::some_event))]
+    #[tactic(auto, using(crate::specs::RunLaws::run_more, crate::proofs::RunLemmas::some_event))]
     pub fn run_turns(&mut self, turns: &[PpNo]) -> Result<(), Cut>
         ensures ok { OnOk result (self.new ≡ run turns.now self.old) }
         ensures cut { IfErr result (λ c. self.new ≡ run (take c.done turns.now) self.old) }
@@ -212,7 +212,7 @@ impl<A: Allocator> Machine<A> {
 
     /// The first turns of a round of the barrel, where `next` says which processors at rest to pass
     /// over. Refused, it says how many steps were done.
-    #[tactic(auto, using(crate::proofs::RunLemmas::barrel_more, crate::proofs::RunLemmas::some_event, crate::proofs::RoundLemmas::rest_to, crate::proofs::RoundLemmas::passes_over_stepped))]
+    #[tactic(auto, using(crate::specs::RunLaws::barrel_more, crate::proofs::RunLemmas::some_event, crate::proofs::RoundLemmas::rest_to, crate::proofs::RoundLemmas::passes_over_stepped))]
     fn run_round(&mut self, turns: usize, next: &[usize; PROCESSORS + 1]) -> Result<(), usize>
         requires round { turns ≤ processors_in self.old.profile }
         requires passes { PassesOverRest next.now self.old.processors }

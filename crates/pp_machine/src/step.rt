@@ -11,7 +11,7 @@ ghost use Rattle.pp_machine.specs.NeedAndEffect.{need};
 ghost use Rattle.pp_machine.specs.PpNo.{processor_index};
 ghost use Rattle.pp_machine.specs.Profile.{has_channel, processors_in};
 ghost use Rattle.pp_machine.specs.Replay.{fits};
-ghost use Rattle.pp_machine.specs.StepLaws.{IsAtRest, IsAtFault, KeepsMemoryAndRegisters};
+ghost use Rattle.pp_machine.specs.Processor.{IsAtRest, IsAtFault, KeepsMemoryAndRegisters};
 
 use crate::answer::Answer;
 use crate::machine::Machine;

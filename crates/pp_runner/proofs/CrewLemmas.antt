@@ -5,11 +5,11 @@ use Rattle.std.proofs.lemmas.List.{take_more, length-append}
 use Rattle.std.proofs.lemmas.List.Elements.{All-pop, All-push, All-weaker}
 use Rattle.pp_channel.specs.LineState.{LineState, IsSplitFrom}
 use Rattle.pp_channel.specs.LineView.{parent_view}
-use Rattle.pp_channel.specs.MonotoneLog.{seen_on}
+use Rattle.pp_channel.specs.LineLog.{seen_on}
 use Rattle.pp_machine.specs.MachineState.{MachineState, processor_of}
 use Rattle.pp_machine.specs.Processor.{Processor, no_processor}
 use Rattle.pp_machine.specs.PpNo.{processor_count, processor_index, processor_number}
-use Rattle.pp_machine.proofs.ProcessorPlaces.{place_of_number}
+use Rattle.pp_machine.specs.ProcessorPlaces.{place_of_number}
 use Rattle.pp_runner.proofs.LogLemmas.{settles, stands_settled}
 use Rattle.pp_runner.proofs.LineLemmas.{operated_least, same_line_still, same_line_twice}
 use Rattle.pp_runner.specs.Crew.{AreReady, IsEnded, HasEnded, AreEnded}

@@ -2,17 +2,16 @@
 use Rattle.std.proofs.Common.{◌≡◌, ℕ, ◌+◌, ◌-◌, ◌*◌, ◌<◌, ◌≤◌, true, false, List, [], ◌∷◌, ◌++◌, length, map, take, Option, None, Some, refl, sym, ap, ◌∙◌, subst, inl, inr, arith}
 use Rattle.std.specs.Prelude.{IsTrue, slice_get}
 use Rattle.std.specs.List.{last_or, filter_map}
-use Rattle.std.specs.Option.{option_map, option_to_list}
+use Rattle.std.specs.Option.{option_map, option_or, option_to_list}
 use Rattle.std.proofs.lemmas.Bool.{both_ways, eq-eqb, cases_Bool, cases_lt}
 use Rattle.std.proofs.lemmas.List.{append-nil, length-append, take-append-le}
 use Rattle.std.proofs.lemmas.Option.{slice_get_within, slice_get-get_or}
 use Rattle.std.proofs.Math.ListN.{get_or-append}
 use Rattle.std.proofs.Math.Seq.{take-append_seam, get_or-append_seam}
-use Rattle.pp_channel.proofs.AnswerLemmas.{shown_makes_none}
-use Rattle.pp_channel.proofs.LastElements.{last_or-push}
-use Rattle.pp_channel.specs.LineLog.{LogState, empty_log, appended, looked, with_seen, is_look_at}
-use Rattle.pp_channel.specs.Answer.{event_answered, flags_shown, seen_with}
-use Rattle.pp_channel.specs.MonotoneLog.{IsMonotone}
+use Rattle.pp_channel.specs.AnswerLaws.{shown_makes_none}
+use Rattle.list_facts.specs.LastElements.{last_or-push}
+use Rattle.pp_channel.specs.LineLog.{LogState, empty_log, appended, looked, with_seen, is_look_at, IsMonotone}
+use Rattle.pp_channel.specs.Answer.{event_answered, flags_shown, seen_answered}
 use Rattle.pp_channel.specs.declared.chan_op.ChanOp.{ChanOp}
 use Rattle.pp_channel.specs.declared.entry.Entry.{Entry}
 use Rattle.pp_channel.specs.declared.entry.Seen.{Seen}
@@ -21,12 +20,11 @@ use Rattle.pp_channel.specs.declared.event.Event.{Event}
 use Rattle.pp_channel.specs.declared.flags.Flags.{Flags}
 use Rattle.pp_channel.specs.declared.reply.Reply.{Reply}
 use Rattle.pp_channel.specs.declared.reply.Reply.TheVariants as replies
-use Rattle.pp_machine.proofs.FitLemmas.{acts_where_held}
-use Rattle.pp_machine.proofs.GivenLemmas.{replayed-push, given_count-push, told_along-push}
-use Rattle.pp_machine.specs.NeedAndEffect.{need, processor_after, outcome}
+use Rattle.pp_machine.specs.FitLaws.{acts_where_held}
+use Rattle.pp_machine.specs.ReplayLaws.{replayed-push, given_count-push, told_along-push}
+use Rattle.pp_machine.specs.NeedAndEffect.{need, processor_after, outcome, IsHeldAnswer}
 use Rattle.pp_machine.specs.Processor.{Processor}
-use Rattle.pp_machine.specs.Replay.{ChannelEvent, ChannelSight, fits, replayed, given_count, told_along, events_given, sights_given, events_of, sights_of}
-use Rattle.pp_machine.specs.StepLaws.{IsHeldAnswer}
+use Rattle.pp_machine.specs.Replay.{OfChannel, fits, replayed, given_count, told_along, events_given, sights_given, given_by}
 use Rattle.pp_machine.specs.declared.answer.Answer.{Answer}
 use Rattle.pp_machine.specs.declared.answer.Answer.TheVariants as answers
 use Rattle.pp_machine.specs.declared.need.Need.{Need}
@@ -34,10 +32,9 @@ use Rattle.pp_machine.specs.declared.need.Need.TheVariants as needs
 use Rattle.pp_machine.specs.declared.outcome.Outcome.TheVariants.{Moved}
 use Rattle.pp_runner.proofs.LogLemmas.{looked_at, settled_kept, settled_look, IsSettled, settles, events_settled, events_in-push, sights_in-push, stands_push, stands_settled}
 use Rattle.pp_runner.proofs.ReplyLemmas.{sight_of, reply_to_channel}
-use Rattle.pp_runner.specs.AnswersGiven.{OfEachAnswer, IsBySize}
+use Rattle.pp_runner.specs.WorkerReport.{OfEachAnswer, IsBySize, event_in, events_in, sights_in, IsSubsequence}
 use Rattle.pp_runner.specs.Labour.{IsAtWork, IsAnswered, IsNoted, settled}
 use Rattle.pp_runner.specs.End.{WasHeld, NeedsChannel}
-use Rattle.pp_runner.specs.WorkerLog.{event_in, events_in, sights_in, IsSubsequence}
 
 -- what is true of each answer is true of each of one more
 each_front : (P : Processor → Answer → Type 0) (load : Processor) (xs : List Answer) (x : Answer) (i : ℕ) (y : Answer) → OfEachAnswer P load xs →
@@ -66,24 +63,24 @@ each_push P load xs x h p i y is =
     ]
 
 -- the events among sights
-abbrev events_among : List ChannelSight → List ChannelEvent
+abbrev events_among : List (OfChannel Seen) → List (OfChannel Event)
 events_among ss = filter_map (λ s. event_in s.channel s.what) ss
 
 among_event : (c : ℕ) (e : Option Event) →
-    events_among (map (λ what. record { channel = c; what = what }) (option_to_list (option_map (λ e. Did e) e))) ≡ map (λ e. record { channel = c; event = e }) (option_to_list e)
+    events_among (map (λ what. record { channel = c; what = what }) (option_to_list (option_map (λ e. Did e) e))) ≡ map (λ e. record { channel = c; what = e }) (option_to_list e)
 among_event c None = refl
 among_event c (Some e) = refl
 
 among_shown : (c : ℕ) (operation : ChanOp) (reply : Reply) (shown : Option Flags) → flags_shown reply ≡ shown →
-    events_among (map (λ what. record { channel = c; what = what }) (option_to_list (seen_with shown (event_answered operation reply)))) ≡ events_of (needs.Channel c operation) (answers.Channel reply)
+    events_among (map (λ what. record { channel = c; what = what }) (option_to_list (option_or (option_map (λ f. Saw f) shown) (option_map (λ e. Did e) (event_answered operation reply))))) ≡ given_by event_answered (needs.Channel c operation) (answers.Channel reply)
 among_shown c operation reply (Some f) shows = rw (shown_makes_none operation reply f shows) refl
 among_shown c operation reply None shows = among_event c (event_answered operation reply)
 
 among_seen : (c : ℕ) (operation : ChanOp) (reply : Reply) →
-    events_among (sights_of (needs.Channel c operation) (answers.Channel reply)) ≡ events_of (needs.Channel c operation) (answers.Channel reply)
+    events_among (given_by seen_answered (needs.Channel c operation) (answers.Channel reply)) ≡ given_by event_answered (needs.Channel c operation) (answers.Channel reply)
 among_seen c operation reply = among_shown c operation reply (flags_shown reply) refl
 
-among_sights : (n : Need) (x : Answer) → events_among (sights_of n x) ≡ events_of n x
+among_sights : (n : Need) (x : Answer) → events_among (given_by seen_answered n x) ≡ given_by event_answered n x
 among_sights (needs.Channel c operation) (answers.Channel reply) = among_seen c operation reply
 among_sights (needs.Channel c operation) answers.Local = refl
 among_sights (needs.Channel c operation) (answers.Read word) = refl
@@ -94,14 +91,14 @@ among_sights (needs.Read a) x = refl
 among_sights (needs.Write a w) x = refl
 
 -- a log after the sights of an answer
-record IsLogged (ss : List ChannelSight) (before after : LogState) : Type 0 where
+record IsLogged (ss : List (OfChannel Seen)) (before after : LogState) : Type 0 where
   pub events : events_in after.entries ≡ events_in before.entries ++ events_among ss
-  pub sights : (old : List ChannelSight) → IsSubsequence old (sights_in (settled before)) → IsSubsequence (old ++ ss) (sights_in after.entries)
+  pub sights : (old : List (OfChannel Seen)) → IsSubsequence old (sights_in (settled before)) → IsSubsequence (old ++ ss) (sights_in after.entries)
   pub few : length after.entries ≤ length (settled before) + 2 * length ss
   pub room : after.room + length after.entries ≡ before.room + length before.entries
 
 -- where the log does not end with an entry that is to stay, it ends with a look at the channel of the only sight
-record IsHeldAt (ss : List ChannelSight) (log : LogState) : Type 0 where
+record IsHeldAt (ss : List (OfChannel Seen)) (log : LogState) : Type 0 where
   pub channel : ℕ
   pub what : Seen
   pub only : ss ≡ record { channel = channel; what = what } ∷ []
@@ -115,7 +112,7 @@ logged_did c number what before after room s is =
     let n : length after.entries ≡ length before.entries + 1 = ap length entries ∙ length-append before.entries (entry ∷ []) in
     let left : after.room ≡ before.room - 1 = ap (λ l. l.room) is in record {
       events = ap events_in entries ∙ events_in-push before.entries (entry ∷ []);
-      sights = λ old h. subst (λ (l : List ChannelSight). IsSubsequence (old ++ record { channel = c; what = what } ∷ []) l) (sym (ap sights_in entries ∙ sights_in-push before.entries (entry ∷ []))) (stands_push old (sights_in before.entries) (record { channel = c; what = what }) (stands_settled before old s h));
+      sights = λ old h. subst (λ (l : List (OfChannel Seen)). IsSubsequence (old ++ record { channel = c; what = what } ∷ []) l) (sym (ap sights_in entries ∙ sights_in-push before.entries (entry ∷ []))) (stands_push old (sights_in before.entries) (record { channel = c; what = what }) (stands_settled before old s h));
       few = omega (arith, s.few, n);
       room = omega (arith, n, left);
     }
@@ -127,7 +124,7 @@ logged_saw c number what before after room s held is =
     let look = looked_at before entry held in
     let entries : after.entries ≡ settled before ++ entry ∷ [] = ap (λ l. l.entries) is ∙ look.entries in record {
       events = ap events_in entries ∙ (events_in-push (settled before) (entry ∷ []) ∙ ap (λ l. l ++ events_in (entry ∷ [])) (events_settled before s));
-      sights = λ old h. subst (λ (l : List ChannelSight). IsSubsequence (old ++ record { channel = c; what = what } ∷ []) l) (sym (ap sights_in entries ∙ sights_in-push (settled before) (entry ∷ []))) (stands_push old (sights_in (settled before)) (record { channel = c; what = what }) h);
+      sights = λ old h. subst (λ (l : List (OfChannel Seen)). IsSubsequence (old ++ record { channel = c; what = what } ∷ []) l) (sym (ap sights_in entries ∙ sights_in-push (settled before) (entry ∷ []))) (stands_push old (sights_in (settled before)) (record { channel = c; what = what }) h);
       few = omega (arith, ap length entries, length-append (settled before) (entry ∷ []));
       room = ap (λ l. l.room + length l.entries) is ∙ look.room room;
     }
@@ -151,7 +148,7 @@ logged_none before after k is =
     let whole : settled before ≡ before.entries = settled_kept before k in
     let entries : after.entries ≡ before.entries = ap (λ l. l.entries) is in record {
       events = ap events_in entries ∙ sym (append-nil (events_in before.entries));
-      sights = λ old h. subst (λ (l : List ChannelSight). IsSubsequence l (sights_in after.entries)) (sym (append-nil old)) (subst (λ (l : List Entry). IsSubsequence old (sights_in l)) (whole ∙ sym entries) h);
+      sights = λ old h. subst (λ (l : List (OfChannel Seen)). IsSubsequence l (sights_in after.entries)) (sym (append-nil old)) (subst (λ (l : List Entry). IsSubsequence old (sights_in l)) (whole ∙ sym entries) h);
       few = omega (arith, ap length entries, ap length whole);
       room = ap (λ l. l.room + length l.entries) is;
     }
@@ -160,34 +157,34 @@ logged_none before after k is =
 held_at_channel : (c : ℕ) (what : Seen) (log : LogState) → IsHeldAt (record { channel = c; what = what } ∷ []) log → IsTrue (is_look_at c (last_or None log.entries))
 held_at_channel c what log h =
     let same : record { channel = c; what = what } ≡ record { channel = h.channel; what = h.what } = heads _ _ h.only in
-    subst (λ (k : ℕ). IsTrue (is_look_at k (last_or None log.entries))) (sym (ap (λ (s : ChannelSight). s.channel) same)) h.looked
+    subst (λ (k : ℕ). IsTrue (is_look_at k (last_or None log.entries))) (sym (ap (λ (s : OfChannel Seen). s.channel) same)) h.looked
 
-logged : (ss : List ChannelSight) (before after : LogState) → 1 ≤ before.room → (before.kept ≡ false → IsHeldAt ss before) → IsNoted ss before after → IsLogged ss before after
+logged : (ss : List (OfChannel Seen)) (before after : LogState) → 1 ≤ before.room → (before.kept ≡ false → IsHeldAt ss before) → IsNoted ss before after → IsLogged ss before after
 logged [] before after room held is = elim (cases_Bool before.kept) [ inl k ↦ logged_none before after k is | inr k ↦ absurd (none_held before (held k)) ]
 logged (s ∷ []) before after room held is =
     logged_as s.channel is.0 s.what before after room (settles before (λ k. (s.channel, held_at_channel s.channel s.what before (held k)))) (λ k. held_at_channel s.channel s.what before (held k)) is.1
 logged (s ∷ t ∷ more) before after room held is = absurd is
 
 -- where the processor was held and the answer fits, the only sight is at the channel at which it was held
-held_sight : (pp : Processor) (x : Answer) (log : LogState) → WasHeld pp log.entries → fits (need pp) x ≡ true → IsHeldAt (sights_of (need pp) x) log
+held_sight : (pp : Processor) (x : Answer) (log : LogState) → WasHeld pp log.entries → fits (need pp) x ≡ true → IsHeldAt (given_by seen_answered (need pp) x) log
 held_sight pp x log h fit =
     let n : need pp ≡ needs.Channel h.channel h.needs.operation = h.needs.is in
     let r = reply_to_channel h.channel h.needs.operation x (ap (λ m. fits m x) (sym n) ∙ fit) in
     let s = sight_of h.channel h.needs.operation r.reply r.fits in record {
       channel = h.channel;
       what = s.what;
-      only = ap (λ m. sights_of m x) n ∙ (ap (λ y. sights_of (needs.Channel h.channel h.needs.operation) y) r.is ∙ s.is);
+      only = ap (λ m. given_by seen_answered m x) n ∙ (ap (λ y. given_by seen_answered (needs.Channel h.channel h.needs.operation) y) r.is ∙ s.is);
       looked = h.looked;
     }
 
 -- an answer that fits is one event or one look at most
-one_sight : (n : Need) (x : Answer) → fits n x ≡ true → length (sights_of n x) ≤ 1
+one_sight : (n : Need) (x : Answer) → fits n x ≡ true → length (given_by seen_answered n x) ≤ 1
 one_sight needs.Nothing x fit = omega arith
 one_sight needs.Local x fit = omega arith
 one_sight (needs.Channel c operation) x fit =
     let r = reply_to_channel c operation x fit in
     let s = sight_of c operation r.reply r.fits in
-    omega (arith, ap (λ y. length (sights_of (needs.Channel c operation) y)) r.is, ap length s.is)
+    omega (arith, ap (λ y. length (given_by seen_answered (needs.Channel c operation) y)) r.is, ap length s.is)
 one_sight (needs.Read a) x fit = omega arith
 one_sight (needs.Write a w) x fit = omega arith
 
@@ -208,20 +205,20 @@ work_moved load size steps pp new xs x before after kept work fewer told moved n
     let same : pp ≡ replayed load xs = work.pp_is in
     let fit : fits (need (replayed load xs)) x ≡ true = subst (λ (q : Processor). fits (need q) x ≡ true) same told.fits in
     let room : 1 ≤ before.room = room_left load size steps pp xs before work fewer in
-    let log = logged (sights_of (need pp) x) before after room (λ k. held_sight pp x before (work.held k) told.fits) told.noted in
+    let log = logged (given_by seen_answered (need pp) x) before after room (λ k. held_sight pp x before (work.held k) told.fits) told.noted in
     let stays : settled kept ≡ after.entries = settled_kept kept (ap (λ l. l.kept) kept_is) ∙ ap (λ l. l.entries) kept_is in
     let n : length (xs ++ x ∷ []) ≡ length xs + 1 = length-append xs (x ∷ []) in
-    let more : sights_given load (xs ++ x ∷ []) ≡ sights_given load xs ++ sights_of (need pp) x =
-    told_along-push sights_of xs load x work.all_given fit ∙ ap (λ q. sights_given load xs ++ sights_of (need q) x) (sym same) in
-    let count : length (sights_given load (xs ++ x ∷ [])) ≡ length (sights_given load xs) + length (sights_of (need pp) x) =
-    ap length more ∙ length-append (sights_given load xs) (sights_of (need pp) x) in record {
+    let more : sights_given load (xs ++ x ∷ []) ≡ sights_given load xs ++ given_by seen_answered (need pp) x =
+    told_along-push seen_answered xs load x work.all_given fit ∙ ap (λ q. sights_given load xs ++ given_by seen_answered (need q) x) (sym same) in
+    let count : length (sights_given load (xs ++ x ∷ [])) ≡ length (sights_given load xs) + length (given_by seen_answered (need pp) x) =
+    ap length more ∙ length-append (sights_given load xs) (given_by seen_answered (need pp) x) in record {
       pp_is = new_is ∙ (ap (λ q. processor_after q x) same ∙ sym (replayed-push xs load x work.all_given fit));
       all_given = given_count-push xs load x work.all_given fit;
       all_moved = each_push (λ q y. outcome q y ≡ Moved) load xs x work.all_moved (ap (λ q. outcome q x) (sym same) ∙ moved);
       by_size = each_push (λ q y. IsBySize size (need q) y) load xs x work.by_size (subst (λ (q : Processor). IsBySize size (need q) x) same told.by_size);
-      events = ap (λ l. events_in l.entries) kept_is ∙ (log.events ∙ ((λ i. work.events i ++ among_sights (need pp) x i) ∙ (ap (λ q. events_given load xs ++ events_of (need q) x) same ∙ sym (told_along-push events_of xs load x work.all_given fit))));
-      sights = subst (λ (ss : List ChannelSight). IsSubsequence ss (sights_in (settled kept))) (sym more)
-          (subst (λ (l : List Entry). IsSubsequence (sights_given load xs ++ sights_of (need pp) x) (sights_in l)) (sym stays) (log.sights (sights_given load xs) work.sights));
+      events = ap (λ l. events_in l.entries) kept_is ∙ (log.events ∙ ((λ i. work.events i ++ among_sights (need pp) x i) ∙ (ap (λ q. events_given load xs ++ given_by event_answered (need q) x) same ∙ sym (told_along-push event_answered xs load x work.all_given fit))));
+      sights = subst (λ (ss : List (OfChannel Seen)). IsSubsequence ss (sights_in (settled kept))) (sym more)
+          (subst (λ (l : List Entry). IsSubsequence (sights_given load xs ++ given_by seen_answered (need pp) x) (sights_in l)) (sym stays) (log.sights (sights_given load xs) work.sights));
       monotone = subst (λ (l : List Entry). IsMonotone l) (sym (ap (λ l. l.entries) kept_is)) (told.monotone work.monotone);
       few_entries = omega (arith, ap length stays, log.few, work.few_entries, count);
       few_sights = omega (arith, work.few_sights, count, one_sight (need pp) x told.fits, n);
@@ -234,7 +231,7 @@ record IsHold (pp : Processor) (x : Answer) : Type 0 where
   pub channel : ℕ
   pub needs : NeedsChannel (need pp) channel
   pub flags : Flags
-  pub only : sights_of (need pp) x ≡ record { channel = channel; what = Saw flags } ∷ []
+  pub only : given_by seen_answered (need pp) x ≡ record { channel = channel; what = Saw flags } ∷ []
 
 hold_of : (n : Need) (pp : Processor) (f : Flags) → need pp ≡ n → fits n (answers.Channel (replies.Held f)) ≡ true → IsHold pp (answers.Channel (replies.Held f))
 hold_of (needs.Channel c operation) pp f n fit = record { channel = c; needs = record { operation = operation; is = n; acts = acts_where_held operation f fit }; flags = f; only = rw n refl }
@@ -257,10 +254,10 @@ pub work_held : (load : Processor) (size steps : ℕ) (pp new : Processor) (xs :
 work_held load size steps pp new xs x before after work fewer told held new_is =
     let room : 1 ≤ before.room = room_left load size steps pp xs before work fewer in
     let h = hold pp x held told.fits in
-    let noted : IsNoted (record { channel = h.channel; what = Saw h.flags } ∷ []) before after = subst (λ (ss : List ChannelSight). IsNoted ss before after) h.only told.noted in
+    let noted : IsNoted (record { channel = h.channel; what = Saw h.flags } ∷ []) before after = subst (λ (ss : List (OfChannel Seen)). IsNoted ss before after) h.only told.noted in
     let entry : Entry = record { channel = h.channel; number = noted.0; what = Saw h.flags } in
     let before_held : before.kept ≡ false → IsTrue (is_look_at h.channel (last_or None before.entries)) =
-    λ k. held_at_channel h.channel (Saw h.flags) before (subst (λ (ss : List ChannelSight). IsHeldAt ss before) h.only (held_sight pp x before (work.held k) told.fits)) in
+    λ k. held_at_channel h.channel (Saw h.flags) before (subst (λ (ss : List (OfChannel Seen)). IsHeldAt ss before) h.only (held_sight pp x before (work.held k) told.fits)) in
     let look = looked_at before entry before_held in
     let entries : after.entries ≡ settled before ++ entry ∷ [] = ap (λ l. l.entries) noted.1 ∙ look.entries in
     let stays : settled after ≡ settled before = ap settled noted.1 ∙ settled_look before entry look in

@@ -1,8 +1,8 @@
-pub mod LogLemmas
-pub mod ReplyLemmas
-pub mod LineLemmas
-pub mod LabourLemmas
-pub mod EndLemmas
-pub mod CrewLemmas
-pub mod OpeningLemmas
-pub mod ReportLemmas
+mod LogLemmas
+mod ReplyLemmas
+mod LineLemmas
+mod LabourLemmas
+mod EndLemmas
+mod CrewLemmas
+mod OpeningLemmas
+mod ReportLemmas

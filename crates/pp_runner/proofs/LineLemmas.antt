@@ -9,14 +9,13 @@ use Rattle.std.proofs.lemmas.List.Elements.{All-append, All-cons, All-head, All-
 use Rattle.std.proofs.Math.Nat.{suc-mul, mul-one, zero-mul}
 use Rattle.pp_channel.proofs.LineAnswers.{number_later}
 use Rattle.pp_channel.proofs.LineKnowledge.{all_looked}
-use Rattle.pp_channel.proofs.SeenLemmas.{set_raises}
+use Rattle.list_facts.specs.WrittenNumbers.{set_raises}
 use Rattle.pp_channel.specs.ChannelNo.{channel_index}
 use Rattle.pp_channel.specs.ChannelWord.{number_in}
-use Rattle.pp_channel.specs.LineLog.{LogState, with_seen}
+use Rattle.pp_channel.specs.LineLog.{LogState, with_seen, seen_on}
 use Rattle.pp_channel.specs.Answer.{flags_shown}
 use Rattle.pp_channel.specs.LineState.{LineState, IsActed, IsAnsweredBy, IsWornOut, number_after}
-use Rattle.pp_channel.specs.Histories.{history_on}
-use Rattle.pp_channel.specs.MonotoneLog.{seen_on}
+use Rattle.pp_channel.specs.History.{history_on}
 use Rattle.pp_channel.specs.declared.chan_op.ChanOp.{ChanOp}
 use Rattle.pp_channel.specs.declared.entry.Entry.{Entry}
 use Rattle.pp_channel.specs.declared.event.Event.{Event}

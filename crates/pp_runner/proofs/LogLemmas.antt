@@ -6,14 +6,14 @@ use Rattle.std.proofs.lemmas.List.{map-append, append-nil, length-append}
 use Rattle.std.proofs.lemmas.List.Elements.{filter_map-append}
 use Rattle.std.proofs.lemmas.Bool.{and_parts, cases_Bool}
 use Rattle.std.proofs.Math.Seq.{take-append_seam, set-append_seam}
-use Rattle.pp_channel.proofs.LastElements.{last_or-push}
+use Rattle.list_facts.specs.LastElements.{last_or-push}
 use Rattle.pp_channel.specs.LineLog.{LogState, appended, looked, is_event, is_look_at}
 use Rattle.pp_channel.specs.declared.entry.Entry.{Entry}
 use Rattle.pp_channel.specs.declared.entry.Seen.{Seen}
 use Rattle.pp_channel.specs.declared.entry.Seen.TheVariants.{Did, Saw}
-use Rattle.pp_machine.specs.Replay.{ChannelSight}
+use Rattle.pp_machine.specs.Replay.{OfChannel}
 use Rattle.pp_runner.specs.Labour.{settled}
-use Rattle.pp_runner.specs.WorkerLog.{event_in, events_in, sights_in, IsSubsequence}
+use Rattle.pp_runner.specs.WorkerReport.{event_in, events_in, sights_in, IsSubsequence}
 
 -- a list that is not empty ends in an element
 pub record IsPushed {X : Type 0} (xs : List X) : Type 0 where
@@ -159,6 +159,6 @@ stands_push (x ∷ xs) (y ∷ ys) z h =
     elim h [ inl p ↦ inl (p.0, stands_push xs ys z p.1) | inr q ↦ inr (stands_push (x ∷ xs) ys z q) ]
 
 -- what stays of a log stands in it
-pub stands_settled : (log : LogState) (xs : List ChannelSight) → IsSettled log → IsSubsequence xs (sights_in (settled log)) → IsSubsequence xs (sights_in log.entries)
+pub stands_settled : (log : LogState) (xs : List (OfChannel Seen)) → IsSettled log → IsSubsequence xs (sights_in (settled log)) → IsSubsequence xs (sights_in log.entries)
 stands_settled log xs s h =
-    subst (λ (l : List ChannelSight). IsSubsequence xs l) (sym (ap sights_in s.is ∙ sights_in-push (settled log) s.rest)) (stands_more xs (sights_in (settled log)) (sights_in s.rest) h)
+    subst (λ (l : List (OfChannel Seen)). IsSubsequence xs l) (sym (ap sights_in s.is ∙ sights_in-push (settled log) s.rest)) (stands_more xs (sights_in (settled log)) (sights_in s.rest) h)

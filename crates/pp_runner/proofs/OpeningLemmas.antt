@@ -5,14 +5,13 @@ use native.Mathlib.Decide.{ℕ_discrete}
 use Rattle.std.specs.Prelude.{if◌then◌else◌, nat_lt}
 use Rattle.std.proofs.lemmas.Bool.{cases_lt, lt-ltb, le-ltb}
 use Rattle.std.proofs.lemmas.List.{get_or_past}
-use Rattle.pp_channel.proofs.ChannelPlaces.{one_place, place_of_number, number_named}
+use Rattle.pp_channel.specs.ChannelPlaces.{one_place, place_of_number, number_named}
 use Rattle.pp_channel.specs.ChannelNo.{channel_count, channel_index, channel_number}
 use Rattle.pp_channel.specs.LineState.{LineState}
 use Rattle.pp_channel.specs.Merge.{IsOpeningLog, times_logged}
-use Rattle.pp_channel.specs.MonotoneLog.{IsWithin}
+use Rattle.pp_channel.specs.LineLog.{IsWithin, event_entry}
 use Rattle.pp_channel.specs.declared.entry.Entry.{Entry}
 use Rattle.pp_channel.specs.declared.event.Event.{Event}
-use Rattle.pp_channel.specs.LineLog.{event_entry}
 use Rattle.pp_channel.specs.declared.event.Event.TheVariants.{Activate}
 use Rattle.pp_channel.proofs.MergeLemmas.{times_within}
 use Rattle.pp_channel.proofs.OpeningLemmas.{opening_more, opening_same, opening_none}

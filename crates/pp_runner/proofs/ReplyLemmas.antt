@@ -3,18 +3,17 @@ use Rattle.std.proofs.Common.{◌≡◌, ℕ, true, List, [], ◌∷◌, map, So
 use Rattle.std.specs.Prelude.{take}
 use Rattle.std.specs.Option.{option_to_list}
 use Rattle.std.proofs.lemmas.Bool.{cases_eq}
-use Rattle.pp_channel.specs.Answer.{IsAnswer, channel_state, seen_answered}
-use Rattle.pp_channel.specs.LineLog.{LogState, with_seen}
+use Rattle.pp_channel.specs.Answer.{IsAnswer, channel_state, seen_answered, flags_of}
+use Rattle.pp_channel.specs.LineLog.{LogState, with_seen, IsMonotone}
 use Rattle.pp_channel.specs.LineState.{LineState, IsActed, IsAnsweredBy, IsLost}
-use Rattle.pp_channel.specs.Histories.{history_on}
-use Rattle.pp_channel.specs.MonotoneLog.{IsMonotone}
+use Rattle.pp_channel.specs.History.{history_on}
 use Rattle.pp_channel.specs.declared.chan_op.ChanOp.{ChanOp}
 use Rattle.pp_channel.specs.declared.entry.Seen.{Seen}
 use Rattle.pp_channel.specs.declared.event.Event.{Event}
 use Rattle.pp_channel.specs.declared.numbered.Numbered.{Numbered}
 use Rattle.pp_channel.specs.declared.reply.Reply.{Reply}
-use Rattle.pp_machine.proofs.FitLemmas.{held_fits, made_fits, shown_fits, tells_where_fits}
-use Rattle.pp_machine.specs.Replay.{ChannelSight, fits, reply_fits, sights_of}
+use Rattle.pp_machine.specs.FitLaws.{held_fits, made_fits, shown_fits, tells_where_fits}
+use Rattle.pp_machine.specs.Replay.{OfChannel, fits, reply_fits, given_by}
 use Rattle.pp_machine.specs.declared.answer.Answer.{Answer}
 use Rattle.pp_machine.specs.declared.answer.Answer.TheVariants as answers
 use Rattle.pp_machine.specs.declared.need.Need.TheVariants as needs
@@ -28,7 +27,7 @@ answer_fits h after op reply is =
     ]
 
 lost_fits : (h : List Event) (op : ChanOp) (r : Numbered) → IsLost h op r → reply_fits op r.reply ≡ true
-lost_fits h op r lost = rw (lost.held, ← lost.was_ready.1.operation) (held_fits lost.was_ready.0 _)
+lost_fits h op r lost = rw (lost.held, ← lost.was_ready.1.operation) (held_fits lost.was_ready.0 (flags_of h))
 
 -- the reply of a line goes with its operation
 pub line_reply_fits : (h : List Event) (op : ChanOp) (r : Numbered) → IsAnsweredBy h op r → reply_fits op r.reply ≡ true
@@ -41,7 +40,7 @@ line_reply_fits h op r by =
 -- what a reply did or saw on channel c, and how the log takes it
 pub record IsSight (c : ℕ) (op : ChanOp) (reply : Reply) : Type 0 where
   pub what : Seen
-  pub is : sights_of (needs.Channel c op) (answers.Channel reply) ≡ record { channel = c; what = what } ∷ []
+  pub is : given_by seen_answered (needs.Channel c op) (answers.Channel reply) ≡ record { channel = c; what = what } ∷ []
   pub noted : (log : LogState) (number : ℕ) → with_seen log c number (seen_answered op reply) ≡ with_seen log c number (Some what)
 
 pub sight_of : (c : ℕ) (op : ChanOp) (reply : Reply) → reply_fits op reply ≡ true → IsSight c op reply
@@ -73,6 +72,6 @@ acted_answer size c op r before after acted monotone =
     let log : after.log ≡ with_seen before.log c r.number (Some s.what) = ap (λ l. l.log) acted.after_is ∙ s.noted before.log r.number in record {
       fits = fit;
       by_size = tt;
-      noted = subst (λ (ss : List ChannelSight). IsNoted ss before.log after.log) (sym s.is) (r.number, log);
+      noted = subst (λ (ss : List (OfChannel Seen)). IsNoted ss before.log after.log) (sym s.is) (r.number, log);
       monotone = monotone;
     }

@@ -6,7 +6,7 @@ use Rattle.std.specs.declared.vec.Vec.{Vec}
 use Rattle.std.proofs.lemmas.List.Elements.{All-append, All-cons, All-head, All-nil, All-tail}
 use Rattle.std.proofs.lemmas.Option.{slice_get_within}
 use Rattle.pp_channel.specs.LineState.{LineState, joined, all_joined}
-use Rattle.pp_channel.specs.MonotoneLog.{seen_on}
+use Rattle.pp_channel.specs.LineLog.{seen_on}
 use Rattle.pp_channel.specs.declared.entry.Entry.{Entry}
 use Rattle.pp_machine.specs.Processor.{Processor}
 use Rattle.pp_runner.proofs.CrewLemmas.{same_seen}

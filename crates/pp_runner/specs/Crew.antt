@@ -2,7 +2,7 @@
 -- (Private contracts alone cite this.)
 use Rattle.std.specs.Prelude.{◌≡◌, ◌<◌, ◌≤◌, ℕ, List, [], ◌∷◌, All, length}
 use Rattle.pp_channel.specs.LineState.{LineState, IsSplitFrom}
-use Rattle.pp_channel.specs.MonotoneLog.{seen_on}
+use Rattle.pp_channel.specs.LineLog.{seen_on}
 use Rattle.pp_machine.specs.MachineState.{MachineState}
 use Rattle.pp_machine.specs.Processor.{Processor}
 use Rattle.pp_machine.specs.PpNo.{processor_count}
@@ -11,8 +11,7 @@ use Rattle.pp_runner.specs.End.{WornWithCause}
 use Rattle.pp_runner.specs.WorkerReport.{IsLoggedWorker}
 use Rattle.pp_runner.specs.declared.worker.Worker.{Worker}
 
--- The workers of the barrel's first processors are ready to begin, each on one of these lines,
--- which were split from one.
+-- The workers of the barrel's first processors are ready, each on one of lines split from one.
 pub record AreReady (m : MachineState) (room : ℕ) (family : LineState) (lines : List LineState)
     : Type 0 where
   pub each : length m.processors ≡ processor_count

@@ -10,7 +10,6 @@ use Rattle.pp_machine.specs.NeedAndEffect.{need}
 use Rattle.pp_machine.specs.Processor.{Processor, IsFaultNumber}
 use Rattle.pp_machine.specs.declared.answer.Answer.{Answer}
 use Rattle.pp_machine.specs.declared.need.Need.{Need}
-use Rattle.pp_machine.specs.declared.need.Need.TheVariants.{Channel}
 use Rattle.pp_machine.specs.declared.pp_state.PpState.TheVariants as states
 use Rattle.pp_runner.specs.declared.end.End.{End}
 use Rattle.pp_runner.specs.declared.end.End.TheVariants.{Stopped, Fault, Steps, Patience, Memory, Worn}
@@ -23,7 +22,7 @@ pub record HasStepsLeft (steps : ℕ) (pp : Processor) (answers : List Answer) :
 -- A step needs an operation on this channel that does more than look.
 pub record NeedsChannel (needed : Need) (channel : ℕ) : Type 0 where
   pub operation : ChanOp
-  pub is : needed ≡ Channel channel operation
+  pub is : needed ≡ Need.Channel channel operation
   pub acts : only_looks operation ≡ false
 
 -- It was held at a channel: the log ends with a look at it.

@@ -1,25 +1,21 @@
 -- What holds of a worker between any two tries of a step.
 -- (Private contracts alone cite this.)
-use Rattle.std.specs.Prelude.{◌≡◌, ◌<◌, ◌≤◌, ◌+◌, ◌-◌, ◌*◌, ℕ, true, false, List, [], ◌∷◌, ◌++◌, length, take, All, Some, if◌then◌else◌}
-use Rattle.std.specs.List.{flat_map}
+use Rattle.std.specs.Prelude.{◌≡◌, ◌<◌, ◌≤◌, ◌+◌, ◌-◌, ◌*◌, ℕ, true, false, List, [], ◌∷◌, ◌++◌, length, take, All, Some, if◌then◌else◌, flat_map}
+use Rattle.pp_channel.specs.Answer.{seen_answered}
 use Rattle.pp_channel.specs.ChannelWord.{greatest_number, number_in}
-use Rattle.pp_channel.specs.LineLog.{LogState, with_seen}
+use Rattle.pp_channel.specs.LineLog.{LogState, with_seen, IsMonotone, seen_on}
 use Rattle.pp_channel.specs.LineState.{LineState, IsActed}
-use Rattle.pp_channel.specs.MonotoneLog.{IsMonotone, seen_on}
 use Rattle.pp_channel.specs.declared.entry.Entry.{Entry}
+use Rattle.pp_channel.specs.declared.entry.Seen.{Seen}
 use Rattle.pp_channel.specs.declared.numbered.Numbered.{Numbered}
 use Rattle.pp_channel.specs.declared.rule.FoundWord.{FoundWord}
 use Rattle.pp_machine.specs.Processor.{Processor}
-use Rattle.pp_machine.specs.Replay.{ChannelSight, fits, replayed, given_count, events_given, sights_of, sights_given}
+use Rattle.pp_machine.specs.Replay.{OfChannel, fits, given_by, replayed, given_count, events_given, sights_given}
 use Rattle.pp_machine.specs.declared.answer.Answer.{Answer}
-use Rattle.pp_machine.specs.declared.answer.Answer.TheVariants as answers
 use Rattle.pp_machine.specs.declared.need.Need.{Need}
-use Rattle.pp_machine.specs.declared.need.Need.TheVariants as needs
 use Rattle.pp_runner.specs.declared.end.End.{End}
-use Rattle.pp_runner.specs.declared.end.End.TheVariants.{Patience}
-use Rattle.pp_runner.specs.AnswersGiven.{AllMoved, AllBySize, IsBySize}
+use Rattle.pp_runner.specs.WorkerReport.{AllMoved, AllBySize, IsBySize, events_in, sights_in, IsSubsequence}
 use Rattle.pp_runner.specs.End.{WasHeld}
-use Rattle.pp_runner.specs.WorkerLog.{events_in, sights_in, IsSubsequence}
 
 -- the entries that stay whatever follows: all but a last look that held the processor
 abbrev pub settled : LogState → List Entry
@@ -43,7 +39,7 @@ pub record IsAtWork (load : Processor) (size steps : ℕ) (pp : Processor) (answ
   pub room : log.room + length log.entries ≡ 2 * steps + 1
 
 -- the log after an answer tells what the answer did or saw, and nothing else
-abbrev pub IsNoted : List ChannelSight → LogState → LogState → Type 0
+abbrev pub IsNoted : List (OfChannel Seen) → LogState → LogState → Type 0
 IsNoted [] before after = after ≡ before
 IsNoted (sight ∷ []) before after =
     (number : ℕ) × (after ≡ with_seen before sight.channel number (Some sight.what))
@@ -54,24 +50,23 @@ pub record IsAnswered (size : ℕ) (needed : Need) (answer : Answer) (before aft
     : Type 0 where
   pub fits : fits needed answer ≡ true
   pub by_size : IsBySize size needed answer
-  pub noted : IsNoted (sights_of needed answer) before after
+  pub noted : IsNoted (given_by seen_answered needed answer) before after
   pub monotone : IsMonotone before.entries → IsMonotone after.entries
 
--- What the operation of a step did to the line: it gave this answer. A step without one leaves the
--- line as it was.
+-- What the operation of a step did to the line: it gave this answer. Without one the line stays.
 abbrev pub HasActed : Need → LineState → Answer → LineState → Type 0
-HasActed (needs.Channel channel operation) before answer after =
-    (numbered : Numbered) × (answer ≡ answers.Channel numbered.reply)
+HasActed (Need.Channel channel operation) before answer after =
+    (numbered : Numbered) × (answer ≡ Answer.Channel numbered.reply)
     × IsActed before channel operation numbered after
 HasActed needed before answer after = after ≡ before
 
 -- how many operations on channels one try of a step makes
 abbrev pub operations : Need → ℕ
-operations needs.Nothing = 0
-operations needs.Local = 0
-operations (needs.Channel channel operation) = 1
-operations (needs.Read address) = 0
-operations (needs.Write address word) = 0
+operations Need.Nothing = 0
+operations Need.Local = 0
+operations (Need.Channel channel operation) = 1
+operations (Need.Read address) = 0
+operations (Need.Write address word) = 0
 
 -- What one operation finds: a word and, if its exchange was lost, a later one of the same channel.
 abbrev pub AreFoundByOne : List FoundWord → Type 0
@@ -90,7 +85,7 @@ pub record HasOperated (count : ℕ) (before after : LineState) : Type 0 where
 -- Only a worker that made at least as many operations as its patience has given up.
 abbrev pub GaveUpWithCause : ℕ → LineState → End → LineState → Type 0
 GaveUpWithCause patience before finish after =
-    finish ≡ Patience → length before.view.found + patience ≤ length after.view.found
+    finish ≡ End.Patience → length before.view.found + patience ≤ length after.view.found
 
 -- Of each channel the line has seen so many events, no more than its word can count.
 pub record HasSeen (happened : ℕ → ℕ) (line : LineState) : Type 0 where

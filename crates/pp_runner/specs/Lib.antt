@@ -1,6 +1,4 @@
 pub mod Limits
-pub mod WorkerLog
-pub mod AnswersGiven
 pub mod End
 pub mod WorkerReport
 pub mod Report

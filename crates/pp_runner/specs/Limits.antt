@@ -1,8 +1,7 @@
 -- How long each worker of a run goes on.
 use Rattle.std.specs.Prelude.{ℕ, ◌≤◌}
 
--- the steps that a worker makes at most, and how often in a row it is held at one step before it
--- gives up
+-- the steps that a worker makes at most, and how often in a row it is held before it gives up
 pub record RunLimits : Type 0 where
   pub steps : ℕ
   pub patience : ℕ

@@ -3,10 +3,9 @@ use Rattle.std.specs.Prelude.{◌≡◌, ◌≤◌, length, take, All}
 use Rattle.std.specs.Borrow.{RattleType}
 use Rattle.std.specs.Mem.{FitsInMemory}
 use Rattle.std.specs.declared.alloc.Allocator.{Ghosts}
-use Rattle.pp_channel.specs.History.{IsLawful, HasTwelveBitWords}
+use Rattle.pp_channel.specs.History.{IsLawful, HasTwelveBitWords, history_on}
 use Rattle.pp_channel.specs.Law.{KeepsLaw}
 use Rattle.pp_channel.specs.Merge.{Merges}
-use Rattle.pp_channel.specs.Histories.{history_on}
 use Rattle.pp_machine.specs.Headline.{opening_history}
 use Rattle.pp_machine.specs.MachineState.{MachineState}
 use Rattle.pp_machine.specs.Profile.{processors_in}

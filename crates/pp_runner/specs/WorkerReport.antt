@@ -1,27 +1,67 @@
--- What a worker leaves.
-use Rattle.std.specs.Prelude.{◌≡◌, ◌≤◌, ◌+◌, ◌*◌, ℕ, List, [], ◌∷◌, length}
+-- What a worker leaves: its answers, its log, and the whole.
+use Rattle.std.specs.Prelude.{◌≡◌, ◌≤◌, ◌+◌, ◌*◌, ℕ, List, [], ◌∷◌, length, ◌↔◌, ◌<◌, IsNone, IsTrue, Some, slice_get, take, ◌⊎◌, map, Option, None, filter_map}
 use Rattle.std.specs.List.{AllZip, flat_map}
 use Rattle.std.specs.declared.vec.Vec.{Vec}
-use Rattle.pp_channel.specs.MonotoneLog.{IsMonotone}
+use Rattle.pp_channel.specs.LineLog.{IsMonotone}
 use Rattle.pp_channel.specs.declared.entry.Entry.{Entry}
+use Rattle.pp_channel.specs.declared.entry.Seen.{Seen}
+use Rattle.pp_channel.specs.declared.event.Event.{Event}
 use Rattle.pp_machine.specs.Processor.{Processor}
-use Rattle.pp_machine.specs.Replay.{replayed, given_count, events_given, sights_given}
-use Rattle.pp_runner.specs.AnswersGiven.{AllMoved, AllBySize}
+use Rattle.pp_machine.specs.Replay.{replayed, given_count, events_given, sights_given, OfChannel}
+use Rattle.pp_machine.specs.NeedAndEffect.{need, outcome}
+use Rattle.pp_machine.specs.declared.answer.Answer.{Answer}
+use Rattle.pp_machine.specs.declared.need.Need.{Need}
+use Rattle.pp_machine.specs.declared.outcome.Outcome.TheVariants.{Moved}
 use Rattle.pp_runner.specs.End.{IsEnd}
-use Rattle.pp_runner.specs.WorkerLog.{events_in, sights_in, IsSubsequence}
 use Rattle.pp_runner.specs.declared.worker.Worker.{Worker}
 
+-- a statement holds of each answer and of the processor that the answers before it leave
+abbrev pub OfEachAnswer : (Processor → Answer → Type 0) → Processor → List Answer → Type 0
+OfEachAnswer P load xs =
+    (i : ℕ) (x : Answer) → slice_get xs i ≡ Some x → P (replayed load (take i xs)) x
+
+-- each answer moved its processor: none held it, and none was given to a processor at rest
+abbrev pub AllMoved : Processor → List Answer → Type 0
+AllMoved load xs = OfEachAnswer (λ pp x. outcome pp x ≡ Moved) load xs
+
+-- central memory of this size has no word exactly where the address is at or past its size, and
+-- takes one exactly where it is below
+abbrev pub IsBySize : ℕ → Need → Answer → Type 0
+IsBySize size (Need.Read address) (Answer.Read word) = IsNone word ↔ (size ≤ address)
+IsBySize size (Need.Write address word) (Answer.Wrote written) = IsTrue written ↔ (address < size)
+IsBySize size needed answer = Unit {0}
+
+abbrev pub AllBySize : ℕ → Processor → List Answer → Type 0
+AllBySize size load xs = OfEachAnswer (λ pp x. IsBySize size (need pp) x) load xs
+
+-- the event of an entry, with its channel, and none where it is a look
+abbrev pub event_in : ℕ → Seen → Option (OfChannel Event)
+event_in channel (Seen.Did e) = Some (record { channel = channel; what = e })
+event_in channel (Seen.Saw f) = None
+
+-- the events of a log, in order
+abbrev pub events_in : List Entry → List (OfChannel Event)
+events_in log = filter_map (λ entry. event_in entry.channel entry.what) log
+
+-- the events and the looks of a log, in order
+abbrev pub sights_in : List Entry → List (OfChannel Seen)
+sights_in log = map (λ entry. record { channel = entry.channel; what = entry.what }) log
+
+-- The first list stands in the second: in its order, each item at a place of its own.
+abbrev pub IsSubsequence : {X : Type 0} → List X → List X → Type 0
+IsSubsequence [] ys = Unit {0}
+IsSubsequence (x ∷ xs) [] = ⊥
+IsSubsequence (x ∷ xs) (y ∷ ys) = ((x ≡ y) × IsSubsequence xs ys) ⊎ IsSubsequence (x ∷ xs) ys
+
 -- A worker that began with this processor, beside central memory of this size, and was to make this
--- many steps at most: what it leaves is the replay of its answers, and this log records what that
--- replay did and saw.
+-- many steps at most: it leaves the replay of its answers; this log records what that did and saw.
 pub record IsLoggedWorker {A : Type 0} (load : Processor) (size steps : ℕ) (log : List Entry)
     (w : Worker A) : Type 0 where
   pub pp : w.pp ≡ replayed load w.answers.items
   pub all_given : given_count load w.answers.items ≡ length w.answers.items
   pub all_moved : AllMoved load w.answers.items
   pub by_size : AllBySize size load w.answers.items
-  -- the events that it made are those of the replay, each look that moved its processor stands in
-  -- its log
+  -- its events are those of the replay, and each look that moved its processor stands in its log
   pub events : events_in log ≡ events_given load w.answers.items
   pub sights : IsSubsequence (sights_given load w.answers.items) (sights_in log)
   pub monotone : IsMonotone log

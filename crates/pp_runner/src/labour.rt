@@ -1,8 +1,7 @@
 //! A worker, from its load to its end.
 
 ghost use Rattle.std.specs.Prelude.{◌≡◌, ◌<◌, ◌≤◌, ◌+◌, ◌-◌, ◌*◌, ◌^◌, ◌++◌, ◌∷◌, [], true, ℕ, List, vec_len, vec_capacity, IfOk, IfErr, IfSome, IfNone, OnErr};
-ghost use Rattle.pp_channel.specs.LineLog.{empty_log};
-ghost use Rattle.pp_channel.specs.MonotoneLog.{seen_on};
+ghost use Rattle.pp_channel.specs.LineLog.{empty_log, seen_on};
 ghost use Rattle.pp_channel.specs.declared.entry.Entry.{Entry};
 ghost use Rattle.pp_machine.specs.NeedAndEffect.{need};
 ghost use Rattle.pp_machine.specs.declared.answer.Answer.{Answer};

@@ -1,9 +1,8 @@
 //! The line that opens channels before the workers begin.
 
 ghost use Rattle.std.specs.Prelude.{◌≡◌, ◌≤◌, IfOk, length};
-ghost use Rattle.pp_channel.specs.LineLog.{appended};
+ghost use Rattle.pp_channel.specs.LineLog.{appended, IsWithin};
 ghost use Rattle.pp_channel.specs.Merge.{IsOpeningLog, times_logged};
-ghost use Rattle.pp_channel.specs.MonotoneLog.{IsWithin};
 ghost use Rattle.pp_channel.specs.declared.entry.Seen.TheVariants.{Did};
 ghost use Rattle.pp_channel.specs.declared.event.Event.TheVariants.{Activate};
 ghost use Rattle.pp_machine.specs.Headline.{opening_history};

@@ -2,9 +2,10 @@
 use Rattle.std.proofs.Common.{◌≡◌, ◌≢◌, ℕ, ◌+◌, ◌%◌, ◌<◌, ◌≤◌, ◌⊎◌, inl, inr, zero, suc, add-one, set, get_or, Bool, true, false, cond, eqb, List, [], ◌∷◌, ◌++◌, length, refl, sym, ap, subst, ◌∙◌, arith}
 use Rattle.std.specs.Prelude.{IsTrue, count_by, replicate}
 use Rattle.std.proofs.lemmas.Bool.{cases_eq, eq-eqb, ne_eqb, cond-true, cond-false}
-use Rattle.std.proofs.lemmas.List.{length-set, length_push, get_or-set_same, get_or-set_other}
+use Rattle.std.proofs.lemmas.List.{length-set, get_or-set_same, get_or-set_other}
 use Rattle.std.proofs.lemmas.List.Sums.{count_by-le-length, sum_by-cons}
 use Rattle.pp_machine.specs.MachineState.{MachineState}
+use Rattle.pp_machine.specs.RunLaws.{length-barrel}
 use Rattle.pp_machine.specs.MachineStep.{step_outcome, stepped}
 use Rattle.pp_machine.specs.Run.{barrel, run}
 use Rattle.pp_machine.specs.declared.outcome.Outcome.{Outcome}
@@ -12,9 +13,9 @@ use Rattle.pp_machine.specs.declared.outcome.Outcome.TheVariants.{AtRest, Held, 
 use Rattle.pp_machine.specs.PpNo.{names_processor, processor_count, processor_index, processor_number}
 use Rattle.pp_machine.specs.Profile.{processor_in_turn, processors_in}
 use Rattle.pp_machine.specs.declared.profile.Profile.{Profile}
-use Rattle.pp_machine.proofs.ProcessorPlaces.{one_place, place_below, place_of_number, number_named}
-use Rattle.pp_machine.proofs.ProfileLemmas.{most_processors, rest_within}
-use Rattle.pp_deck.proofs.ListLemmas.{tabulate_is}
+use Rattle.pp_machine.specs.ProcessorPlaces.{one_place, place_below, place_of_number, number_named}
+use Rattle.pp_machine.specs.ProfilePlaces.{most_processors, rest_within}
+use Rattle.list_facts.specs.Tables.{tabulate_is}
 use Rattle.pp_state.specs.HeldSteps.{outcomes}
 use Rattle.pp_sessions.specs.StepCounts.{counts_of, each_step_counts, is_at_rest, is_held, is_moved, no_steps, step_counts}
 use Rattle.pp_sessions.specs.declared.step_counts.StepCounts.{StepCounts}
@@ -66,10 +67,6 @@ few_held n steps m = omega (arith, few_outcomes n steps m, count_by-le-length is
 
 pub few_at_rest : (n : ℕ) (steps : List ℕ) (m : MachineState) → (step_counts n steps m).at_rest ≤ length steps
 few_at_rest n steps m = omega (arith, few_outcomes n steps m, count_by-le-length is_at_rest (outcomes n steps m))
-
-pub length-barrel : (p : Profile) (turns : ℕ) → length (barrel p turns) ≡ turns
-length-barrel p zero = refl
-length-barrel p (suc turns) = omega (arith, length_push (barrel p turns) (processor_in_turn p turns), length-barrel p turns)
 
 -- each outcome is counted once
 three_counts : (os : List Outcome) → count_by is_moved os + count_by is_held os + count_by is_at_rest os ≡ length os

@@ -1,8 +1,8 @@
-pub mod TallyLemmas
-pub mod LineLemmas
-pub mod CutLemmas
-pub mod TakeInLemmas
-pub mod HistoryLemmas
-pub mod CountLemmas
-pub mod CourseLemmas
-pub mod StretchLawLemmas
+mod TallyLemmas
+mod LineLemmas
+mod CutLemmas
+mod TakeInLemmas
+mod HistoryLemmas
+mod CountLemmas
+mod CourseLemmas
+mod StretchLawLemmas

@@ -1,8 +1,8 @@
-pub mod AnswerLemmas
-pub mod ByteLemmas
-pub mod CommandLemmas
-pub mod DumpTextLemmas
-pub mod NumeralLemmas
-pub mod ReportLemmas
-pub mod StateLemmas
-pub mod PrintedLemmas
+mod AnswerLemmas
+mod ByteLemmas
+mod CommandLemmas
+mod DumpTextLemmas
+mod NumeralLemmas
+mod ReportLemmas
+mod StateLemmas
+mod PrintedLemmas

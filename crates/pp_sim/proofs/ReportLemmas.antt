@@ -19,7 +19,6 @@ use Rattle.pp_runner.specs.declared.report.Report.{Report}
 use Rattle.pp_runner.specs.declared.worker.Worker.{Worker}
 use Rattle.pp_text.specs.PrintedText.{is_named}
 use Rattle.pp_text.specs.ReportLaw.{ShownEnd, end_of, shown_end, shown_of}
-use Rattle.pp_text.proofs.ReportLawLemmas.{HasNumberedEnds}
 use Rattle.pp_text.specs.TextLaw.{NameAlike}
 
 each_numbered : {Z : Type 0} (size steps : ℕ) (loads : List Processor) (workers : List (Worker Z))
@@ -31,7 +30,7 @@ each_numbered {Z} size steps (load ∷ loads) (w ∷ ws) each =
     All-cons (λ (v : Worker Z). HasEndNumber v.finish) w ws each.0.finish.numbered (each_numbered size steps loads ws each.1)
 
 -- a worker of a run that ended at a fault is at a numbered one
-pub report_numbered : {Z : Type 0} (limits : RunLimits) (machine : MachineState) (report : Report Z) → IsReportOf limits machine report → HasNumberedEnds report
+pub report_numbered : {Z : Type 0} (limits : RunLimits) (machine : MachineState) (report : Report Z) → IsReportOf limits machine report → All (λ (w : Worker Z). HasEndNumber w.finish) report.ends.items
 report_numbered {Z} limits machine report is = each_numbered _ limits.steps (take (processors_in machine.profile) machine.processors) report.ends.items is.workers
 
 -- where each that is named is shown, it is named just where it is shown

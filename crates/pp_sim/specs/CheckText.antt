@@ -7,7 +7,6 @@ use Rattle.pp_check.specs.Verdict.{verdict_line, verdict_of}
 use Rattle.pp_deck.specs.DeckText.{lines_of}
 use Rattle.pp_text.specs.Written.{AppendsFront}
 use Rattle.pp_sim.specs.declared.text_fault.TextFault.{TextFault}
-use Rattle.pp_sim.specs.declared.text_fault.TextFault.TheVariants as fault
 
 -- the line of what is counted in a lawful trace of these bytes
 abbrev pub verdict_text : List Bool → List ℕ → List ℕ
@@ -19,23 +18,23 @@ abbrev pub IsCheck : List Bool → Result (Unit {0}) TextFault → List ℕ → 
     → Option (List ℕ) → Type 0
 IsCheck opened (Ok done) bytes old new =
     AreLawful opened (lines_of bytes) × Appends old new (verdict_text opened bytes)
-IsCheck opened (Err fault.Write) bytes old new =
+IsCheck opened (Err TextFault.Write) bytes old new =
     AreLawful opened (lines_of bytes) × AppendsFront old new (verdict_text opened bytes)
-IsCheck opened (Err (fault.Trace f)) bytes old new =
+IsCheck opened (Err (TextFault.Trace f)) bytes old new =
     IsFault opened (lines_of bytes) f × Keeps old new
-IsCheck opened (Err fault.Read) bytes old new = Keeps old new
-IsCheck opened (Err fault.Memory) bytes old new = Keeps old new
+IsCheck opened (Err TextFault.Read) bytes old new = Keeps old new
+IsCheck opened (Err TextFault.Memory) bytes old new = Keeps old new
 IsCheck opened (Err other) bytes old new = ⊥
 
 -- the trace was judged, so that its reader is at its end
 abbrev pub IsAtEndIfJudged : Result (Unit {0}) TextFault → Option (List ℕ) → Type 0
 IsAtEndIfJudged (Ok done) after = IsAtEnd after
-IsAtEndIfJudged (Err fault.Write) after = IsAtEnd after
-IsAtEndIfJudged (Err (fault.Trace f)) after = IsAtEnd after
-IsAtEndIfJudged (Err fault.Read) after = Unit {0}
-IsAtEndIfJudged (Err fault.Memory) after = Unit {0}
-IsAtEndIfJudged (Err (fault.Deck f)) after = Unit {0}
-IsAtEndIfJudged (Err (fault.NotBetweenPrograms going_on)) after = Unit {0}
+IsAtEndIfJudged (Err TextFault.Write) after = IsAtEnd after
+IsAtEndIfJudged (Err (TextFault.Trace f)) after = IsAtEnd after
+IsAtEndIfJudged (Err TextFault.Read) after = Unit {0}
+IsAtEndIfJudged (Err TextFault.Memory) after = Unit {0}
+IsAtEndIfJudged (Err (TextFault.Deck f)) after = Unit {0}
+IsAtEndIfJudged (Err (TextFault.NotBetweenPrograms going_on)) after = Unit {0}
 
 -- One call, whatever its reader is: these bytes were consumed; the answer is that to the trace that
 -- they spell; and where it was judged, they were all that the reader had.
@@ -52,4 +51,4 @@ pub record AnswersTrace (opened : List Bool) (answer : Result (Unit {0}) TextFau
   pub every_reader : (bytes : List ℕ) × Checks opened answer before after old new bytes
   pub telling_reader : IfSome before (λ bytes. IsCheck opened answer bytes old new)
   -- every fault but Write comes before the first byte is written
-  pub unwritten : IfErr answer (λ f. f ≢ fault.Write → Keeps old new)
+  pub unwritten : IfErr answer (λ f. f ≢ TextFault.Write → Keeps old new)

@@ -10,12 +10,9 @@ use Rattle.pp_check.specs.ChannelList.{AreListed}
 use Rattle.pp_draw.specs.declared.window.Window.{Window}
 use Rattle.pp_machine.specs.Profile.{has_processor, processors_in}
 use Rattle.pp_machine.specs.declared.profile.Profile.{Profile}
-use Rattle.pp_machine.specs.declared.profile.Profile.TheVariants.{Ten}
 use Rattle.pp_runner.specs.Limits.{AreLimits}
 use Rattle.pp_sim.specs.declared.line_fault.LineFault.{LineFault}
-use Rattle.pp_sim.specs.declared.line_fault.LineFault.TheVariants.{Memory, Refused, Number, Picture}
 use Rattle.pp_sim.specs.declared.work.Work.{Work}
-use Rattle.pp_sim.specs.declared.work.Work.TheVariants as works
 
 -- THE COMMAND LINE, as clap sees it: `ppsim barrel --turns N`, `ppsim threads --steps N --patience
 -- N`, `ppsim list`, `ppsim dump --turns N`, `ppsim steps --turns N`, `ppsim state --turns N`,
@@ -96,7 +93,7 @@ ReadsNumber (Some text) n = ParsesUnsigned {E = ℕ} 32 10 text (Ok n)
 
 -- the profile with this many processors; the 6600's own where none is said
 abbrev pub ReadsProfile : Option Text → Profile → Type 0
-ReadsProfile None profile = profile ≡ Ten
+ReadsProfile None profile = profile ≡ Profile.Ten
 ReadsProfile (Some text) profile = ReadsNumber (Some text) (processors_in profile)
 
 -- a processor of a machine of this profile, by its number in octal; or none is said
@@ -132,34 +129,34 @@ ReadsChannels (Some text) flags = AreListed text flags
 
 -- the command of this name, with these texts of its options, asks for this work
 abbrev pub IsWorkOf : Text → (Text → Option Text) → Work → Type 0
-IsWorkOf name text_of (works.Barrel profile turns) =
+IsWorkOf name text_of (Work.Barrel profile turns) =
     (name ≡ codes "barrel") × ReadsProfile (text_of (codes "processors")) profile
     × ReadsNumber (text_of (codes "turns")) turns × (turns ≤ 999999)
-IsWorkOf name text_of (works.Threads profile limits) =
+IsWorkOf name text_of (Work.Threads profile limits) =
     (name ≡ codes "threads") × ReadsProfile (text_of (codes "processors")) profile
     × ReadsNumber (text_of (codes "steps")) limits.steps
     × ReadsNumber (text_of (codes "patience")) limits.patience
     × AreLimits limits
-IsWorkOf name text_of (works.List profile) =
+IsWorkOf name text_of (Work.List profile) =
     (name ≡ codes "list") × ReadsProfile (text_of (codes "processors")) profile
-IsWorkOf name text_of (works.Dump profile turns) =
+IsWorkOf name text_of (Work.Dump profile turns) =
     (name ≡ codes "dump") × ReadsProfile (text_of (codes "processors")) profile
     × ReadsNumber (text_of (codes "turns")) turns × (turns ≤ 999999)
-IsWorkOf name text_of (works.State profile turns) =
+IsWorkOf name text_of (Work.State profile turns) =
     (name ≡ codes "state") × ReadsProfile (text_of (codes "processors")) profile
     × ReadsNumber (text_of (codes "turns")) turns × (turns ≤ 999999)
-IsWorkOf name text_of (works.Sessions profile turns) =
+IsWorkOf name text_of (Work.Sessions profile turns) =
     (name ≡ codes "sessions") × ReadsProfile (text_of (codes "processors")) profile
     × ReadsNumber (text_of (codes "turns")) turns × (turns ≤ 999999)
-IsWorkOf name text_of (works.Steps profile turns only from) =
+IsWorkOf name text_of (Work.Steps profile turns only from) =
     (name ≡ codes "steps") × ReadsProfile (text_of (codes "processors")) profile
     × ReadsNumber (text_of (codes "turns")) turns × (turns ≤ 999999)
     × ReadsProcessor profile (text_of (codes "pp")) only
     × ReadsTurn (text_of (codes "from")) from
-IsWorkOf name text_of (works.Draw profile window) =
+IsWorkOf name text_of (Work.Draw profile window) =
     (name ≡ codes "draw") × ReadsProfile (text_of (codes "processors")) profile
     × ReadsWindow text_of window × (window.to - window.from ≤ 2000)
-IsWorkOf name text_of (works.Check opened) =
+IsWorkOf name text_of (Work.Check opened) =
     (name ≡ codes "check") × ReadsChannels (text_of (codes "opened")) opened
 
 abbrev pub IsWorkAmong : Option (Text × List Row) → Work → Type 0
@@ -183,18 +180,18 @@ AskFor words work = IsWorkAmong (subcommand_of ppsim words) work
 -- words are a command line, and no work is asked for within the ranges: `Picture` where they ask
 -- for a picture of more turns than one has, `Number` in all other cases
 abbrev pub IsRefused : List Text → LineFault → Type 0
-IsRefused words Memory = Unit {0}
-IsRefused words (Refused error) =
+IsRefused words LineFault.Memory = Unit {0}
+IsRefused words (LineFault.Refused error) =
     IsAmong (kind_of error) (refusals words) × (kind_of error ≢ OutOfMemory)
-IsRefused words Number =
+IsRefused words LineFault.Number =
     (refusals words ≡ []) × ((work : Work) → ¬ AskFor words work)
     × ¬ AsksForMoreAmong (subcommand_of ppsim words)
-IsRefused words Picture =
+IsRefused words LineFault.Picture =
     (refusals words ≡ []) × ((work : Work) → ¬ AskFor words work)
     × AsksForMoreAmong (subcommand_of ppsim words)
 
 -- the fault that clap's error makes: want of memory is told as such
 abbrev pub IsFaultBy : Error → LineFault → Type 0
-IsFaultBy error Memory = kind_of error ≡ OutOfMemory
-IsFaultBy error (Refused told) = (told ≡ error) × (kind_of error ≢ OutOfMemory)
+IsFaultBy error LineFault.Memory = kind_of error ≡ OutOfMemory
+IsFaultBy error (LineFault.Refused told) = (told ≡ error) × (kind_of error ≢ OutOfMemory)
 IsFaultBy error other = ⊥

@@ -1,5 +1,4 @@
--- What a run of the program comes to, by its words, by what was read and written, and by the status
--- that it answers.
+-- What a run of the program comes to, by its words, what was read and written, and its status.
 use Rattle.std.specs.Prelude.{◌≡◌, ℕ, List, [], Option, Result, Ok, Err, ◌⊎◌}
 use Rattle.std.specs.Io.KnownBytes.{Appends, Keeps}
 use Rattle.clap.specs.Words.{Text, kind_of}
@@ -18,11 +17,8 @@ use Rattle.pp_sim.specs.TextAnswer.{AnswersDeck, AnswersDeckUnless}
 use Rattle.pp_text.specs.Written.{AppendsFront}
 use Rattle.pp_sim.specs.ThreadsText.{IsThreadsText}
 use Rattle.pp_sim.specs.declared.line_fault.LineFault.{LineFault}
-use Rattle.pp_sim.specs.declared.line_fault.LineFault.TheVariants as line
 use Rattle.pp_sim.specs.declared.text_fault.TextFault.{TextFault}
-use Rattle.pp_sim.specs.declared.text_fault.TextFault.TheVariants as fault
 use Rattle.pp_sim.specs.declared.work.Work.{Work}
-use Rattle.pp_sim.specs.declared.work.Work.TheVariants as works
 
 -- ---- words that ask for work
 
@@ -30,28 +26,27 @@ use Rattle.pp_sim.specs.declared.work.Work.TheVariants as works
 -- of the trace that was read. Z is the allocator's type, of which a report is made.
 abbrev pub IsDone : Type 0 → Work → Result (Unit {0}) TextFault → Option (List ℕ) → Option (List ℕ)
     → Option (List ℕ) → Option (List ℕ) → Type 0
-IsDone Z (works.Barrel profile turns) = AnswersDeck profile (IsBarrelText turns)
-IsDone Z (works.Threads profile limits) = AnswersDeck profile (IsThreadsText Z limits)
-IsDone Z (works.List profile) = AnswersDeck profile IsListText
-IsDone Z (works.Dump profile turns) =
+IsDone Z (Work.Barrel profile turns) = AnswersDeck profile (IsBarrelText turns)
+IsDone Z (Work.Threads profile limits) = AnswersDeck profile (IsThreadsText Z limits)
+IsDone Z (Work.List profile) = AnswersDeck profile IsListText
+IsDone Z (Work.Dump profile turns) =
     AnswersDeckUnless profile (HindersDump turns) (IsDumpText turns)
-IsDone Z (works.State profile turns) = AnswersDeck profile (IsStateText turns)
-IsDone Z (works.Sessions profile turns) = AnswersDeck profile (IsSessionsText turns)
-IsDone Z (works.Steps profile turns only from) =
+IsDone Z (Work.State profile turns) = AnswersDeck profile (IsStateText turns)
+IsDone Z (Work.Sessions profile turns) = AnswersDeck profile (IsSessionsText turns)
+IsDone Z (Work.Steps profile turns only from) =
     AnswersDeck profile (IsStepsText turns only from)
-IsDone Z (works.Draw profile window) = AnswersDeck profile (IsDrawing window)
-IsDone Z (works.Check opened) = AnswersTrace opened
+IsDone Z (Work.Draw profile window) = AnswersDeck profile (IsDrawing window)
+IsDone Z (Work.Check opened) = AnswersTrace opened
 
--- the status of a work that was done, or failed: by what was read, by a device, or for want of
--- memory
+-- the status of a work that was done, or failed: by what was read, a device, or want of memory
 abbrev pub status_of : Result (Unit {0}) TextFault → ℕ
 status_of (Ok done) = 0
-status_of (Err (fault.Deck f)) = 1
-status_of (Err (fault.NotBetweenPrograms going_on)) = 1
-status_of (Err (fault.Trace f)) = 1
-status_of (Err fault.Read) = 3
-status_of (Err fault.Write) = 3
-status_of (Err fault.Memory) = 4
+status_of (Err (TextFault.Deck f)) = 1
+status_of (Err (TextFault.NotBetweenPrograms going_on)) = 1
+status_of (Err (TextFault.Trace f)) = 1
+status_of (Err TextFault.Read) = 3
+status_of (Err TextFault.Write) = 3
+status_of (Err TextFault.Memory) = 4
 
 -- the words are a command line that asks for a work, and the status is that of its answer
 pub record HasWorked (Z : Type 0) (words : List Text) (status : ℕ)
@@ -69,20 +64,18 @@ pub record HasWorked (Z : Type 0) (words : List Text) (status : ℕ)
 abbrev pub IsHelp : Error → Type 0
 IsHelp error = (kind_of error ≡ DisplayHelp) ⊎ (kind_of error ≡ DisplayVersion)
 
--- a text was printed, or a first part of it, or nothing for want of memory, and the status tells
--- which
+-- a text was printed, or a first part of it, or nothing for want of memory; the status says which
 abbrev pub IsPrinted : List ℕ → ℕ → Option (List ℕ) → Option (List ℕ) → Type 0
 IsPrinted text status old new =
     ((status ≡ 0) × Appends old new text) ⊎ (((status ≡ 3) × AppendsFront old new text)
     ⊎ ((status ≡ 4) × Keeps old new))
 
--- the status of a refusal: that of printing, where help was asked for; in all other cases nothing
--- is printed
+-- the status of a refusal: that of printing where help was asked for; else nothing is printed
 abbrev pub IsTold : LineFault → ℕ → Option (List ℕ) → Option (List ℕ) → Type 0
-IsTold line.Memory status old new = (status ≡ 4) × Keeps old new
-IsTold line.Number status old new = (status ≡ 2) × Keeps old new
-IsTold line.Picture status old new = (status ≡ 2) × Keeps old new
-IsTold (line.Refused error) status old new =
+IsTold LineFault.Memory status old new = (status ≡ 4) × Keeps old new
+IsTold LineFault.Number status old new = (status ≡ 2) × Keeps old new
+IsTold LineFault.Picture status old new = (status ≡ 2) × Keeps old new
+IsTold (LineFault.Refused error) status old new =
     (IsHelp error × ((text : List ℕ) × IsPrinted text status old new))
     ⊎ (¬ IsHelp error × (status ≡ 2) × Keeps old new)
 

@@ -8,14 +8,12 @@ use Rattle.pp_deck.specs.declared.deck_fault.DeckFault.{DeckFault}
 use Rattle.pp_text.specs.Written.{AppendsFront}
 use Rattle.pp_listing.specs.declared.going_on.GoingOn.{GoingOn}
 use Rattle.pp_sim.specs.declared.text_fault.TextFault.{TextFault}
-use Rattle.pp_sim.specs.declared.text_fault.TextFault.TheVariants as fault
 
 -- how many bytes are read at most (decimal): one more than a deck may have
 abbrev pub most_bytes : ℕ
 most_bytes = 1048577
 
--- the bytes are refused as a deck for a machine of this profile by this fault, which is no lack of
--- memory
+-- these bytes are no deck for this profile, by this fault, which is no lack of memory
 pub record IsFaultOf (profile : Profile) (bytes : List ℕ) (f : DeckFault) : Type 0 where
   pub told : deck_meaning profile bytes ≡ Err f
   pub no_memory : f.code ≢ code.Memory
@@ -35,15 +33,15 @@ abbrev pub IsAnswerUnless : Profile → (LoadedDeck → GoingOn → Type 0)
     → Option (List ℕ) → Type 0
 IsAnswerUnless profile Hinders IsDeckText (Ok done) bytes old new =
     (text : List ℕ) × IsOfDeck profile IsDeckText bytes text × Appends old new text
-IsAnswerUnless profile Hinders IsDeckText (Err fault.Write) bytes old new =
+IsAnswerUnless profile Hinders IsDeckText (Err TextFault.Write) bytes old new =
     (text : List ℕ) × IsOfDeck profile IsDeckText bytes text × AppendsFront old new text
-IsAnswerUnless profile Hinders IsDeckText (Err (fault.NotBetweenPrograms going_on)) bytes old new =
+IsAnswerUnless profile Hinders _ (Err (TextFault.NotBetweenPrograms going_on)) bytes old new =
     IsOfDeck profile Hinders bytes going_on × Keeps old new
-IsAnswerUnless profile Hinders IsDeckText (Err (fault.Deck f)) bytes old new =
+IsAnswerUnless profile Hinders IsDeckText (Err (TextFault.Deck f)) bytes old new =
     IsFaultOf profile bytes f × Keeps old new
-IsAnswerUnless profile Hinders IsDeckText (Err (fault.Trace f)) bytes old new = ⊥
-IsAnswerUnless profile Hinders IsDeckText (Err fault.Read) bytes old new = Keeps old new
-IsAnswerUnless profile Hinders IsDeckText (Err fault.Memory) bytes old new = Keeps old new
+IsAnswerUnless profile Hinders IsDeckText (Err (TextFault.Trace f)) bytes old new = ⊥
+IsAnswerUnless profile Hinders IsDeckText (Err TextFault.Read) bytes old new = Keeps old new
+IsAnswerUnless profile Hinders IsDeckText (Err TextFault.Memory) bytes old new = Keeps old new
 
 -- One call, whatever its reader is: these bytes were consumed, no more than a deck may have and
 -- one; the answer is that to the deck that they spell; and where it is Ok, they were all that the
@@ -66,7 +64,7 @@ pub record AnswersDeckUnless (profile : Profile) (Hinders : LoadedDeck → Going
   pub telling_reader : IfSome before (λ bytes.
       IsAnswerUnless profile Hinders IsDeckText answer (take most_bytes bytes) old new)
   -- every fault but Write comes before the first byte is written
-  pub unwritten : IfErr answer (λ f. f ≢ fault.Write → Keeps old new)
+  pub unwritten : IfErr answer (λ f. f ≢ TextFault.Write → Keeps old new)
 
 -- most works have a text of every deck: nothing stands in their way
 abbrev pub Never : LoadedDeck → GoingOn → Type 0
@@ -84,17 +82,17 @@ AnswersDeck profile IsDeckText = AnswersDeckUnless profile Never IsDeckText
 
 -- reading fails by the reader or for lack of memory
 abbrev pub IsReadFault : TextFault → Type 0
-IsReadFault fault.Read = Unit {0}
-IsReadFault fault.Memory = Unit {0}
+IsReadFault TextFault.Read = Unit {0}
+IsReadFault TextFault.Memory = Unit {0}
 IsReadFault other = ⊥
 
 -- making a text fails by the deck, by what stands in its way, or for lack of memory
 abbrev pub IsRunFaultUnless : Profile → (LoadedDeck → GoingOn → Type 0) → List ℕ → TextFault
     → Type 0
-IsRunFaultUnless profile Hinders bytes (fault.Deck f) = IsFaultOf profile bytes f
-IsRunFaultUnless profile Hinders bytes (fault.NotBetweenPrograms going_on) =
+IsRunFaultUnless profile Hinders bytes (TextFault.Deck f) = IsFaultOf profile bytes f
+IsRunFaultUnless profile Hinders bytes (TextFault.NotBetweenPrograms going_on) =
     IsOfDeck profile Hinders bytes going_on
-IsRunFaultUnless profile Hinders bytes fault.Memory = Unit {0}
+IsRunFaultUnless profile Hinders bytes TextFault.Memory = Unit {0}
 IsRunFaultUnless profile Hinders bytes other = ⊥
 
 abbrev pub IsRunFault : Profile → List ℕ → TextFault → Type 0

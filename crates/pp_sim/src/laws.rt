@@ -3,7 +3,7 @@
 
 ghost use Rattle.std.specs.Prelude.{◌≡◌, ℕ, ◌<◌, ◌^◌, IsTrue, List, Ok, length};
 ghost use Rattle.pp_channel.specs.ChannelNo.{names_channel};
-ghost use Rattle.pp_channel.specs.Histories.{history_on};
+ghost use Rattle.pp_channel.specs.History.{history_on};
 ghost use Rattle.pp_check.specs.LawfulTrace.{AreLawful};
 ghost use Rattle.pp_deck.specs.DeckMeaning.{LoadedDeck, deck_meaning};
 ghost use Rattle.pp_deck.specs.DeckText.{lines_of};

@@ -4,7 +4,7 @@ use Rattle.std.specs.Prelude.{IsTrue, replicate}
 use Rattle.std.specs.List.{after_last}
 use Rattle.std.proofs.lemmas.Bool.{cases_eq, eq-eqb, ne_eqb, cond-true, cond-false}
 use Rattle.std.proofs.lemmas.List.{length_push, length-set, get_or-set_same, get_or-set_other}
-use Rattle.pp_channel.proofs.LastElements.{after_last-found, after_last-push}
+use Rattle.list_facts.specs.LastElements.{after_last-found, after_last-push}
 use Rattle.pp_machine.specs.MachineState.{MachineState}
 use Rattle.pp_machine.specs.MachineStep.{step_outcome, stepped}
 use Rattle.pp_machine.specs.Run.{barrel, run}
@@ -13,8 +13,8 @@ use Rattle.pp_machine.specs.declared.outcome.Outcome.TheVariants.{AtRest, Held, 
 use Rattle.pp_machine.specs.PpNo.{names_processor, processor_count, processor_index, processor_number}
 use Rattle.pp_machine.specs.Profile.{processor_in_turn}
 use Rattle.pp_machine.specs.declared.profile.Profile.{Profile}
-use Rattle.pp_machine.proofs.ProcessorPlaces.{one_place, place_below, place_of_number, number_named}
-use Rattle.pp_deck.proofs.ListLemmas.{tabulate_is}
+use Rattle.pp_machine.specs.ProcessorPlaces.{one_place, place_below, place_of_number, number_named}
+use Rattle.list_facts.specs.Tables.{tabulate_is}
 use Rattle.pp_state.specs.HeldSteps.{each_held_steps, held_steps, is_not_held, outcomes}
 
 -- one step more of another processor

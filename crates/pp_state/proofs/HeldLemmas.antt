@@ -1,6 +1,6 @@
 -- Where a step is held.
 use Rattle.std.proofs.Common.{◌≡◌, ◌≢◌, ℕ, Bool, true, false, cond, List, Option, Some, None, refl, sym, ap, ◌∙◌}
-use Rattle.std.specs.Prelude.{IsTrue, is_some}
+use Rattle.std.specs.Prelude.{IsTrue, is_some, if◌then◌else◌}
 use Rattle.pp_channel.specs.Answer.{channel_state, event_of, flags_of, only_looks, reply_by, reply_made, reply_shown}
 use Rattle.pp_channel.specs.History.{active, waiting}
 use Rattle.pp_channel.specs.declared.chan_op.ChanOp.{ChanOp}
@@ -9,29 +9,30 @@ use Rattle.pp_channel.specs.declared.event.Event.TheVariants as events
 use Rattle.pp_channel.specs.declared.flags.Flags.{Flags}
 use Rattle.pp_channel.specs.declared.reply.Reply.{Reply}
 use Rattle.pp_channel.specs.declared.reply.Reply.TheVariants as replies
-use Rattle.pp_channel.proofs.AnswerLemmas.{held_at, look_makes_none, look_not_held}
+use Rattle.pp_channel.specs.AnswerLaws.{held_at, look_makes_none, look_not_held}
 use Rattle.pp_machine.specs.MachineState.{MachineState, history_of, processor_of}
 use Rattle.pp_machine.specs.MachineStep.{answer_to, step_outcome}
-use Rattle.pp_machine.specs.NeedAndEffect.{is_held, need, need_in, outcome, outcome_in}
+use Rattle.pp_machine.specs.NeedAndEffect.{is_held, need, outcome, if_running, next_step}
 use Rattle.pp_machine.specs.Processor.{Processor}
+use Rattle.pp_machine.specs.Step.{need_of}
 use Rattle.pp_machine.specs.declared.answer.Answer.{Answer}
 use Rattle.pp_machine.specs.declared.answer.Answer.TheVariants as answers
 use Rattle.pp_machine.specs.declared.block.Block.{Block}
 use Rattle.pp_machine.specs.declared.need.Need.TheVariants as needs
 use Rattle.pp_machine.specs.declared.outcome.Outcome.{Outcome}
-use Rattle.pp_machine.specs.declared.outcome.Outcome.TheVariants.{Held, Moved}
+use Rattle.pp_machine.specs.declared.outcome.Outcome.TheVariants.{Held, Moved, AtRest}
 use Rattle.pp_machine.specs.declared.pp_state.PpState.{PpState}
 use Rattle.pp_machine.specs.declared.pp_state.PpState.TheVariants.{Running, Stopped, Fault}
 
 -- a processor that needs a channel is running
-running : (state : PpState) (pp : Processor) (c : ℕ) (op : ChanOp) → need_in state pp ≡ needs.Channel c op → state ≡ Running
+running : (state : PpState) (pp : Processor) (c : ℕ) (op : ChanOp) → if_running state (need_of (next_step pp)) needs.Nothing ≡ needs.Channel c op → state ≡ Running
 running Running pp c op e = refl
 running Stopped pp c op e = cc
 running (Fault number) pp c op e = cc
 
 outcome_running : (pp : Processor) (c : ℕ) (op : ChanOp) (answer : Answer) → need pp ≡ needs.Channel c op → outcome pp answer ≡ cond (is_held pp.block answer) Held Moved
 unfolding need outcome
-outcome_running pp c op answer e = ap (λ s. outcome_in s pp answer) (running pp.state pp c op e)
+outcome_running pp c op answer e = ap (λ s. if_running s (if is_held pp.block answer then Held else Moved) AtRest) (running pp.state pp c op e)
 
 -- what the step does, by the answer of the channel
 by_answer : (n c : ℕ) (op : ChanOp) (m : MachineState) → need (processor_of n m) ≡ needs.Channel c op

@@ -1,6 +1,7 @@
-pub mod TextLemmas
+mod TextLemmas
+mod CountLemmas
+mod NeighbourLemmas
+mod ChangeLemmas
+mod WaitLemmas
+-- facts of the definitions, which proofs of other crates cite
 pub mod HeldLemmas
-pub mod CountLemmas
-pub mod NeighbourLemmas
-pub mod ChangeLemmas
-pub mod WaitLemmas

@@ -5,13 +5,11 @@ use Rattle.std.proofs.lemmas.Bool.{eq-eqb, ne_eqb}
 use Rattle.std.proofs.lemmas.List.{append-nil}
 use Rattle.std.proofs.lemmas.List.Concat.{flat_map-append}
 use Rattle.pp_word.specs.Address.{place_count}
-use Rattle.pp_deck.proofs.ListLemmas.{range_more}
+use Rattle.list_facts.specs.GrowingLists.{range_more}
 use Rattle.pp_listing.specs.Listing.{numbers}
 use Rattle.pp_listing.specs.OctalDigits.{octal, short_octal}
-use Rattle.pp_text.specs.PrintedText.{each_below}
+use Rattle.pp_text.specs.PrintedText.{each_below, processor_line, state_text as running_or_not}
 use Rattle.pp_state.specs.Changes.{central_line, places}
-use Rattle.pp_text.specs.PrintedText.{processor_line}
-use Rattle.pp_text.specs.PrintedText.{state_text as running_or_not}
 use Rattle.pp_machine.specs.MachineState.{MachineState, processor_of}
 use Rattle.pp_machine.specs.MachineStep.{step_outcome}
 use Rattle.pp_machine.specs.NeedAndEffect.{need}

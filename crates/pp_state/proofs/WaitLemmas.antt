@@ -7,14 +7,14 @@ use Rattle.pp_channel.specs.ChannelNo.{channel_count, channel_index, names_chann
 use Rattle.pp_channel.specs.History.{IsLawful, active}
 use Rattle.pp_channel.specs.declared.chan_op.ChanOp.{ChanOp}
 use Rattle.pp_channel.specs.declared.event.Event.{Event}
-use Rattle.pp_channel.proofs.AnswerLemmas.{looks_or_acts, none_without_ready, table_of_ready}
-use Rattle.pp_channel.proofs.ChannelPlaces.{place_past}
+use Rattle.pp_channel.specs.AnswerLaws.{looks_or_acts}
+use Rattle.pp_channel.proofs.AnswerLemmas.{none_without_ready, table_of_ready}
+use Rattle.pp_channel.specs.ChannelPlaces.{place_past}
 use Rattle.pp_channel.proofs.HistoryLemmas.{lawful_empty}
 use Rattle.pp_machine.specs.Headline.{HoldsOnEachChannel}
 use Rattle.pp_machine.specs.MachineState.{MachineState, history_of, processor_of}
 use Rattle.pp_machine.specs.MachineStep.{answer_to, step_outcome}
-use Rattle.pp_machine.specs.NeedAndEffect.{need}
-use Rattle.pp_machine.specs.StepLaws.{IsHeldAnswer}
+use Rattle.pp_machine.specs.NeedAndEffect.{need, IsHeldAnswer}
 use Rattle.pp_machine.specs.declared.answer.Answer.{Answer}
 use Rattle.pp_machine.specs.declared.answer.Answer.TheVariants as answers
 use Rattle.pp_machine.specs.declared.block.Block.{Block}

@@ -7,7 +7,7 @@ use Rattle.pp_channel.specs.Answer.{channel_state, history_after}
 use Rattle.pp_channel.specs.ChannelNo.{channel_count, channel_index, names_channel}
 use Rattle.pp_channel.specs.declared.channel_state.ChannelState.{ChannelState}
 use Rattle.pp_channel.specs.declared.event.Event.{Event}
-use Rattle.pp_channel.proofs.ChannelPlaces.{one_place, place_below}
+use Rattle.pp_channel.specs.ChannelPlaces.{one_place, place_below}
 use Rattle.pp_machine.specs.MachineState.{MachineState, history_of, processor_of}
 use Rattle.pp_machine.specs.MachineStep.{histories_after}
 use Rattle.pp_machine.specs.Processor.{Processor, no_processor}

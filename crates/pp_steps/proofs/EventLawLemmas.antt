@@ -18,7 +18,7 @@ use Rattle.pp_machine.specs.declared.need.Need.TheVariants.{Nothing, Local, Chan
 use Rattle.pp_machine.specs.declared.outcome.Outcome.{Outcome}
 use Rattle.pp_machine.specs.declared.outcome.Outcome.TheVariants as outcomes
 use Rattle.pp_machine.specs.declared.trace.Trace.{Trace}
-use Rattle.pp_machine.proofs.RunLemmas.{run-append}
+use Rattle.pp_machine.specs.RunLaws.{run-append}
 use Rattle.pp_state.proofs.HeldLemmas.{moves_where_made}
 use Rattle.pp_text.specs.PrintedText.{is_named}
 use Rattle.pp_steps.specs.BareMachine.{progress, progress_by}

@@ -1,9 +1,9 @@
-pub mod BareLemmas
-pub mod StoreLemmas
-pub mod LineLemmas
-pub mod PlaceLemmas
-pub mod RunCountLemmas
-pub mod CountedRuns
-pub mod TextOfSteps
-pub mod EventLawLemmas
-pub mod StepLawLemmas
+mod BareLemmas
+mod StoreLemmas
+mod LineLemmas
+mod PlaceLemmas
+mod RunCountLemmas
+mod CountedRuns
+mod TextOfSteps
+mod EventLawLemmas
+mod StepLawLemmas

@@ -4,8 +4,7 @@ use Rattle.pp_word.specs.Address.{next_place}
 use Rattle.pp_word.specs.Opcode.{mnemonic_of}
 use Rattle.pp_word.specs.declared.opcode.Opcode.{Opcode}
 use Rattle.pp_word.specs.declared.opcode.Opcode.TheVariants.{PSN, LJM, RJM, UJN, ZJN, NJN, PJN, MJN, SHN, LMN, LPN, SCN, LDN, LCN, ADN, SBN, LDC, ADC, LPC, LMC, PSN24, PSN25, EXN, RPN, LDD, ADD, SBD, LMD, STD, RAD, AOD, SOD, LDI, ADI, SBI, LMI, STI, RAI, AOI, SOI, LDM, ADM, SBM, LMM, STM, RAM, AOM, SOM, CRD, CRM, CWD, CWM, AJM, IJM, FJM, EJM, IAN, IAM, OAN, OAM, ACN, DCN, FAN, FNC}
-use Rattle.pp_deck.specs.DeckLoad.{tabulate}
-use Rattle.pp_deck.proofs.ListLemmas.{tabulate_is}
+use Rattle.list_facts.specs.Tables.{tabulate, tabulate_is}
 use Rattle.pp_machine.specs.MachineState.{MachineState, processor_of}
 use Rattle.pp_machine.specs.MachineStep.{answer_to, central_after, stepped}
 use Rattle.pp_machine.specs.PpNo.{processor_index}

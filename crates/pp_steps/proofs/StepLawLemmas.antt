@@ -6,7 +6,7 @@ use Rattle.std.proofs.lemmas.Bool.{cases_eq, eq-eqb, eqb-true, le-leb, ne_eqb}
 use Rattle.pp_channel.specs.declared.flags.Flags.{Flags}
 use Rattle.pp_machine.specs.MachineState.{MachineState}
 use Rattle.pp_machine.specs.Run.{run}
-use Rattle.pp_machine.proofs.RunLemmas.{run-append}
+use Rattle.pp_machine.specs.RunLaws.{run-append}
 use Rattle.pp_steps.specs.BareMachine.{progress}
 use Rattle.pp_steps.specs.HeldRuns.{is_held_with, last_of, progress_along}
 use Rattle.pp_steps.specs.StepsLaw.{is_of, is_running, line_steps, steps_on}

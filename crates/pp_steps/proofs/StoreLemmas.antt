@@ -11,7 +11,7 @@ use Rattle.pp_channel.specs.declared.reply.Reply.TheVariants as replies
 use Rattle.pp_machine.specs.Block.{block_word, cut_short, held, stored_from}
 use Rattle.pp_machine.specs.Effect.{branches_where, faults, goes_to, is_negative, jumps_where, leads_to_itself}
 use Rattle.pp_machine.specs.InstructionTable.{row, works_on_channel}
-use Rattle.pp_machine.specs.NeedAndEffect.{after_in, answered, next_step, processor_after, step_of}
+use Rattle.pp_machine.specs.NeedAndEffect.{answered, next_step, processor_after, step_of, if_running}
 use Rattle.pp_machine.specs.Operand.{lower_six, operation}
 use Rattle.pp_machine.specs.Processor.{Processor, word_at}
 use Rattle.pp_machine.specs.Profile.{has_channel}
@@ -144,7 +144,7 @@ answered_same (writes address word after) pp (answers.Wrote true) place holds h 
 answered_same (writes address word after) pp (answers.Wrote false) place holds h = refl
 answered_same step pp answer place holds h = refl
 
-after_same : (state : PpState) (pp : Processor) (answer : Answer) (place : ℕ) → (stores_of pp.block pp).first < place_count → IsApart place (stores_of pp.block pp) → Same place pp (after_in state pp answer)
+after_same : (state : PpState) (pp : Processor) (answer : Answer) (place : ℕ) → (stores_of pp.block pp).first < place_count → IsApart place (stores_of pp.block pp) → Same place pp (if_running state (answered (next_step pp) pp answer) pp)
 after_same Running pp answer place low apart = answered_same (next_step pp) pp answer place (λ flags. held_same pp.block pp flags place low apart) (step_same pp.block pp place low apart)
 after_same Stopped pp answer place low apart = refl
 after_same (Fault number) pp answer place low apart = refl

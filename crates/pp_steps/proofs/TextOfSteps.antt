@@ -10,8 +10,8 @@ use Rattle.pp_machine.specs.PpNo.{names_processor, processor_count, processor_in
 use Rattle.pp_machine.specs.Profile.{processor_in_turn}
 use Rattle.pp_machine.specs.Run.{barrel, run}
 use Rattle.pp_machine.specs.declared.profile.Profile.{Profile}
-use Rattle.pp_machine.proofs.ProcessorPlaces.{one_place}
-use Rattle.pp_machine.proofs.RunLemmas.{barrel_more}
+use Rattle.pp_machine.specs.ProcessorPlaces.{one_place}
+use Rattle.pp_machine.specs.RunLaws.{barrel_more}
 use Rattle.pp_text.specs.PrintedText.{is_named}
 use Rattle.pp_steps.specs.BareMachine.{progress}
 use Rattle.pp_steps.specs.Cursor.{CountsOf, Passes, no_cursor}

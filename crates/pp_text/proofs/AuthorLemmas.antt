@@ -1,17 +1,18 @@
 -- Authors of events, log after log, and the lines that name them.
 use Rattle.std.proofs.Common.{◌≡◌, ◌∙◌, ℕ, ◌+◌, ◌<◌, ◌≤◌, Bool, true, false, cond, List, [], ◌∷◌, ◌++◌, length, take, Option, Some, None, option_map, slice_index_or, refl, sym, ap, subst, arith, add-one}
-use Rattle.std.specs.Prelude.{IsTrue, Result, Ok, Err, OnOk, if◌then◌else◌}
+use Rattle.pp_channel.specs.Merge.{times_logged}
+use Rattle.std.specs.Prelude.{IsTrue, Result, Ok, Err, OnOk, if◌then◌else◌, nat_lt}
 use Rattle.std.specs.List.{enumerate_from, flat_map, position, position_from}
 use Rattle.std.proofs.Math.Seq.{take-suc}
 use Rattle.std.proofs.lemmas.Iterator.Adapters.{position_from-zero}
 use Rattle.std.proofs.lemmas.List.{get_or_default, length-take-le}
 use Rattle.pp_channel.specs.ChannelNo.{channel_index, names_channel}
-use Rattle.pp_channel.specs.Histories.{history_on}
+use Rattle.pp_channel.specs.History.{history_on}
 use Rattle.pp_channel.specs.declared.event.Event.{Event}
 use Rattle.pp_machine.specs.PpNo.{processor_count, processor_number}
 use Rattle.pp_runner.specs.declared.worker.Worker.{Worker}
 use Rattle.pp_text.specs.Authors.{AreAuthors, AreAuthorsOn, or_told}
-use Rattle.pp_text.specs.PrintedReport.{author_place, channel_events, log_tells, numbered_event_line}
+use Rattle.pp_text.specs.PrintedReport.{author_place, channel_events, numbered_event_line}
 
 -- where the first does not pass, the search goes on behind it
 seek_on : (passes : Bool) (i j : ℕ) (more rest : Option ℕ) (last : Bool) → more ≡ or_told rest last j
@@ -43,10 +44,10 @@ or_told_map f None false author = refl
 pub author_push : {Z : Type 0} (c number place : ℕ) (workers : List (Worker Z)) (worker : Worker Z) (before after : Option ℕ) (author : ℕ)
     → place < length workers → length workers ≤ processor_count → worker ≡ slice_index_or workers place worker → author ≡ processor_number place
     → before ≡ option_map processor_number (author_place c (take place workers) number)
-    → after ≡ or_told before (log_tells c number worker.log.items) author
+    → after ≡ or_told before (nat_lt 0 (times_logged c number worker.log.items)) author
     → after ≡ option_map processor_number (author_place c (take (place + 1) workers) number)
 author_push {Z} c number place workers worker before after author l few at by was now =
-    let test : Worker Z → Bool = λ w. log_tells c number w.log.items in
+    let test : Worker Z → Bool = λ w. nat_lt 0 (times_logged c number w.log.items) in
     let more : take (place + 1) workers ≡ take place workers ++ worker ∷ [] =
     ap (λ n. take n workers) (add-one place) ∙ take-suc workers place worker l ∙ ap (λ w. take place workers ++ w ∷ []) (sym at) in
     let found : author_place c (take (place + 1) workers) number ≡ or_told (author_place c (take place workers) number) (test worker) place =

@@ -1,10 +1,11 @@
+mod AuthorLemmas
+mod EventLineLemmas
+mod PairLemmas
+mod TextLawLemmas
+mod TextLemmas
+mod HistoryLawLemmas
+mod WriteLemmas
+mod TextWriterLemmas
+mod ReportLawLemmas
+-- facts of the definitions, which proofs of other crates cite
 pub mod AuthorLawLemmas
-pub mod AuthorLemmas
-pub mod EventLineLemmas
-pub mod PairLemmas
-pub mod ReportLawLemmas
-pub mod TextLawLemmas
-pub mod TextLemmas
-pub mod HistoryLawLemmas
-pub mod WriteLemmas
-pub mod TextWriterLemmas

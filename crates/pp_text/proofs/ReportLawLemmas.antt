@@ -9,16 +9,15 @@ use Rattle.std.proofs.lemmas.Option.{slice_get_cases}
 use Rattle.std.proofs.Math.Bool.{and-false}
 use Rattle.std.proofs.Math.Seq.{drop-append_seam, drop-nil, take-suc}
 use Rattle.pp_channel.specs.ChannelNo.{names_channel}
-use Rattle.pp_channel.proofs.ChannelPlaces as channel_places
-use Rattle.pp_channel.specs.History.{IsLawful, active, waiting}
+use Rattle.pp_channel.specs.ChannelPlaces as channel_places
+use Rattle.pp_channel.specs.History.{IsLawful, active, waiting, history_on}
 use Rattle.pp_channel.specs.Merge.{Merges}
-use Rattle.pp_channel.specs.Histories.{history_on}
 use Rattle.pp_channel.specs.declared.event.Event.{Event}
 use Rattle.pp_channel.proofs.LineKnowledge.{lawful_on}
 use Rattle.pp_machine.specs.Headline.{opening_history}
 use Rattle.pp_machine.specs.MachineState.{MachineState, is_opened}
 use Rattle.pp_machine.specs.PpNo.{processor_index, processor_number}
-use Rattle.pp_machine.proofs.ProcessorPlaces as processor_places
+use Rattle.pp_machine.specs.ProcessorPlaces as processor_places
 use Rattle.pp_runner.specs.End.{HasEndNumber}
 use Rattle.pp_runner.specs.declared.end.End.{End}
 use Rattle.pp_runner.specs.declared.end.End.TheVariants.{Stopped, Fault, Steps, Patience, Memory, Worn}
@@ -500,11 +499,11 @@ same_one n None (Some t) _ _ e = absurd cc
 same_one n (Some s) None _ _ e = absurd cc
 same_one n (Some s) (Some t) clear also e = ap Some (same_shown n s t clear also (one_is (end_body n s) (end_body n t) e))
 
--- what is shown of the worker of processor n is clear, where each end is
 -- each worker that ended at a fault is at a numbered one
 abbrev pub HasNumberedEnds : {Z : Type 0} → Report Z → Type 0
 HasNumberedEnds report = All (λ worker. HasEndNumber worker.finish) report.ends.items
 
+-- what is shown of the worker of processor n is clear, where each end is
 clear_end : {Z : Type 0} (n : ℕ) (report : Report Z) → IfSome (end_of n report) FitsItsEnd → HasNumberedEnds report → IfSome (end_of n report) IsClear
 clear_end {Z} n report fits numbered = elim (slice_get_cases report.ends.items (processor_index n)).1 [
   | inl within ↦

@@ -1,19 +1,9 @@
 -- Steps of what prints.
-use Rattle.std.proofs.Common.{◌≡◌, ◌≢◌, ℕ, ◌+◌, ◌-◌, ◌/◌, ◌%◌, ◌^◌, ◌<◌, zero, suc, List, [], ◌++◌, refl, add-one, append_assoc, arith, codes}
+use Rattle.std.proofs.Common.{◌≡◌, ◌≢◌, ℕ, ◌-◌, ◌/◌, ◌%◌, ◌^◌, ◌<◌, zero, suc, List, ◌++◌, append_assoc, arith, codes}
 use Rattle.pp_machine.specs.Processor.{Processor}
 use Rattle.pp_machine.specs.declared.trace.Trace.{Trace}
 use Rattle.pp_text.specs.Numeral.{decimal, digit, digits, octal, unpadded}
-use Rattle.pp_text.specs.PrintedText.{each_below, event_line, event_text, line_end, processor_line}
-
--- what is said of no number
-pub nothing_said : (said : ℕ → List ℕ) → each_below 0 said ≡ []
-unfolding each_below
-nothing_said said = refl
-
--- what is said so far, and of one number more
-pub said_goes_on : (k : ℕ) (said : ℕ → List ℕ) → each_below k said ++ said k ≡ each_below (k + 1) said
-unfolding each_below
-said_goes_on k said = rw (add-one) refl
+use Rattle.pp_text.specs.PrintedText.{event_line, event_text, line_end, processor_line}
 
 -- a number that is not 0 ends with its last digit
 pub unpadded_more : (most n : ℕ) → 0 < most → n ≢ 0 → unpadded most n ≡ unpadded (most - 1) (n / 10) ++ digit (n % 10)

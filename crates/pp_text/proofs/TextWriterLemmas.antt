@@ -1,23 +1,13 @@
 -- What a text writer has printed.
-use Rattle.std.proofs.Common.{◌≡◌, ℕ, true, false, List, [], ◌++◌, Option, Result, Ok, Err, sym, ◌∙◌, ap, append_assoc, refl, subst}
+use Rattle.std.proofs.Common.{◌≡◌, ℕ, true, false, List, [], ◌++◌, Option, Result, Ok, Err, sym, ◌∙◌, ap, append_assoc}
 use Rattle.std.proofs.lemmas.List.{append-nil}
 use Rattle.std.specs.Io.KnownBytes.{Appends}
 use Rattle.std.specs.Result.{is_err}
+use Rattle.pp_text.specs.PrintingLaws.{prints_then}
 use Rattle.pp_text.specs.TextWriter.{Prints}
 use Rattle.pp_text.specs.Written.{AppendsFront, IsWritten}
 use Rattle.pp_text.specs.declared.text_writer.TextWriter.{TextWriter}
 use Rattle.pp_text.proofs.WriteLemmas.{appends_then, front_longer, front_then}
-
--- nothing more
-pub prints_nothing : {W : Type 0} (contents : W → Option (List ℕ)) (out : TextWriter W) → Prints contents out out []
-prints_nothing contents out = record { same_writer = refl; goes_on = λ start before h. rw (append-nil before) h }
-
--- one text and then another
-pub prints_then : {W : Type 0} (contents : W → Option (List ℕ)) (a b c : TextWriter W) (xs ys : List ℕ) → Prints contents a b xs → Prints contents b c ys → Prints contents a c (xs ++ ys)
-prints_then contents a b c xs ys h k = record {
-  same_writer = k.same_writer ∙ h.same_writer;
-  goes_on = λ start before so_far. rw (← append_assoc before xs ys) (k.goes_on start (before ++ xs) (h.goes_on start before so_far));
-}
 
 -- what a piece takes in is printed
 pub prints_held : {W : Type 0} (contents : W → Option (List ℕ)) (a b : TextWriter W) (text : List ℕ) → b.writer ≡ a.writer → b.failed ≡ a.failed → b.piece ≡ a.piece ++ text → Prints contents a b text
@@ -76,7 +66,3 @@ prints_sent contents a b (Err fault) going same fails empty out = prints_front c
 -- a line that is held back, once there is room
 pub prints_line : {W : Type 0} (contents : W → Option (List ℕ)) (a b c : TextWriter W) (line : List ℕ) → Prints contents a b [] → c.writer ≡ b.writer → c.failed ≡ b.failed → c.piece ≡ b.piece ++ line → Prints contents a c line
 prints_line contents a b c line room same failed held = prints_then contents a b c [] line room (prints_held contents b c line same failed held)
-
--- some of a text, and then what makes it this text
-pub prints_on : {W : Type 0} (contents : W → Option (List ℕ)) (a b c : TextWriter W) (xs ys text : List ℕ) → Prints contents a b xs → Prints contents b c ys → xs ++ ys ≡ text → Prints contents a c text
-prints_on contents a b c xs ys text h k is = subst (Prints contents a c) is (prints_then contents a b c xs ys h k)

@@ -1,9 +1,8 @@
 -- Finding the authors of events, log after log.
 -- (Private contracts alone cite this.)
-use Rattle.std.specs.Prelude.{◌≡◌, ℕ, ◌<◌, Bool, List, [], length, slice_index_or}
-use Rattle.std.specs.Prelude.{Option, Some, None, option_map, IsTrue, if◌then◌else◌}
+use Rattle.std.specs.Prelude.{◌≡◌, ℕ, ◌<◌, Bool, List, [], length, slice_index_or, Option, Some, None, option_map, IsTrue, if◌then◌else◌}
 use Rattle.pp_channel.specs.ChannelNo.{channel_index, names_channel}
-use Rattle.pp_channel.specs.Histories.{history_on}
+use Rattle.pp_channel.specs.History.{history_on}
 use Rattle.pp_channel.specs.declared.event.Event.{Event}
 use Rattle.pp_machine.specs.PpNo.{processor_number}
 use Rattle.pp_runner.specs.declared.worker.Worker.{Worker}

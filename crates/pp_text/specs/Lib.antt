@@ -8,3 +8,5 @@ pub mod Written
 pub mod TextWriter
 -- cited by private contracts alone: nobody has to read these to believe what the crate promises
 pub mod Authors
+-- laws of the definitions, which proofs of other crates cite; nobody has to read these either
+pub mod PrintingLaws

@@ -1,5 +1,4 @@
--- Printed numbers: octal fields of a fixed width, and counts in decimal. A text is a list of ASCII
--- codes.
+-- Printed numbers: octal in a fixed width, and counts in decimal. A text is a list of ASCII codes.
 use Rattle.std.specs.Prelude.{◌≡◌, ℕ, zero, suc, ◌+◌, ◌-◌, ◌*◌, ◌<◌, ◌≤◌, fold, All, ◌/◌, ◌%◌, ◌^◌, List, [], ◌∷◌, ◌++◌, ◌==◌, if◌then◌else◌}
 use Rattle.std.specs.List.{flat_map, range_with_len}
 

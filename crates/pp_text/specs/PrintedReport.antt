@@ -1,16 +1,13 @@
--- The text of a report of a run with one thread per processor: for each channel a line for each of
--- its events, then a line for each processor that the deck names, and for each channel that has a
--- history.
+-- The text of a report of a run by threads: for each channel a line for each of its events, then a
+-- line for each processor that the deck names, and for each channel that has a history.
 use Rattle.std.specs.Prelude.{ℕ, Bool, List, [], ◌++◌, Option, Some, None, codes, nat_lt, position, slice_get, if◌then◌else◌}
 use Rattle.std.specs.List.{enumerate_from, flat_map}
 use Rattle.pp_channel.specs.ChannelNo.{names_channel}
 use Rattle.pp_channel.specs.Merge.{times_logged}
-use Rattle.pp_channel.specs.Histories.{history_on}
-use Rattle.pp_channel.specs.declared.entry.Entry.{Entry}
+use Rattle.pp_channel.specs.History.{history_on}
 use Rattle.pp_channel.specs.declared.event.Event.{Event}
 use Rattle.pp_machine.specs.PpNo.{processor_index, processor_number}
 use Rattle.pp_runner.specs.declared.end.End.{End}
-use Rattle.pp_runner.specs.declared.end.End.TheVariants.{Stopped, Fault, Steps, Patience, Memory, Worn}
 use Rattle.pp_runner.specs.declared.report.Report.{Report}
 use Rattle.pp_runner.specs.declared.worker.Worker.{Worker}
 use Rattle.pp_text.specs.Numeral.{decimal, octal}
@@ -18,15 +15,11 @@ use Rattle.pp_text.specs.PrintedText.{each_below, event_text, is_named, line_end
 
 -- ---- events, each with its number in the history of its channel
 
--- whether a log records the event of channel c with this number
-abbrev pub log_tells : ℕ → ℕ → List Entry → Bool
-log_tells c number log = nat_lt 0 (times_logged c number log)
-
--- the place of the worker in whose log the event stands: none for an opening event, else just one,
--- since the logs merge
+-- the place of the worker in whose log the event stands: where the logs merge, an opening event has
+-- none, and any other just one
 abbrev pub author_place : {Z : Type 0} → ℕ → List (Worker Z) → ℕ → Option ℕ
 author_place {Z} c workers number =
-    position (λ (worker : Worker Z). log_tells c number worker.log.items) workers
+    position (λ (worker : Worker Z). nat_lt 0 (times_logged c number worker.log.items)) workers
 
 -- `CH05 000001 PP00 PUT 0007`, by the place of its author; an opening event has no line
 abbrev pub line_by : ℕ → ℕ → Event → Option ℕ → List ℕ
@@ -48,12 +41,12 @@ channel_events workers histories c =
 -- ---- processors
 
 abbrev pub end_text : End → List ℕ
-end_text Stopped = codes "STOPPED"
-end_text (Fault number) = codes "FAULT " ++ octal 1 number
-end_text Steps = codes "STEPS"
-end_text Patience = codes "PATIENCE"
-end_text Memory = codes "MEMORY"
-end_text Worn = codes "WORN"
+end_text End.Stopped = codes "STOPPED"
+end_text (End.Fault number) = codes "FAULT " ++ octal 1 number
+end_text End.Steps = codes "STEPS"
+end_text End.Patience = codes "PATIENCE"
+end_text End.Memory = codes "MEMORY"
+end_text End.Worn = codes "WORN"
 
 abbrev pub worker_line : {Z : Type 0} → ℕ → Option (Worker Z) → List ℕ
 worker_line n None = []

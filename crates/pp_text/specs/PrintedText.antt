@@ -1,18 +1,13 @@
--- The text of a run: one line for each event, for each processor that the deck names, and for each
--- channel that has a history. A text is a list of ASCII codes, and every line ends with a line
--- feed.
-use Rattle.std.specs.Prelude.{ℕ, zero, suc, Bool, false, ◌&&◌, List, [], ◌∷◌, ◌++◌, Option, Some, None, codes, slice_index_or, if◌then◌else◌}
-use Rattle.std.specs.List.{flat_map}
+-- The text of a run: a line for each event, each processor named, and each channel with a history.
+-- A text is a list of ASCII codes, and every line ends with a line feed.
+use Rattle.std.specs.Prelude.{ℕ, zero, suc, Bool, false, ◌&&◌, List, [], ◌∷◌, ◌++◌, Option, Some, None, codes, slice_index_or, if◌then◌else◌, flat_map}
 use Rattle.pp_channel.specs.ChannelNo.{names_channel}
-use Rattle.pp_channel.specs.History.{active, waiting}
-use Rattle.pp_channel.specs.Histories.{history_on}
+use Rattle.pp_channel.specs.History.{active, waiting, history_on}
 use Rattle.pp_channel.specs.declared.event.Event.{Event}
-use Rattle.pp_channel.specs.declared.event.Event.TheVariants.{Activate, Disconnect, Put, Take, Function}
 use Rattle.pp_machine.specs.MachineState.{MachineState, processor_of}
 use Rattle.pp_machine.specs.Processor.{Processor}
 use Rattle.pp_machine.specs.PpNo.{names_processor, processor_index}
 use Rattle.pp_machine.specs.declared.pp_state.PpState.{PpState}
-use Rattle.pp_machine.specs.declared.pp_state.PpState.TheVariants.{Running, Stopped, Fault}
 use Rattle.pp_machine.specs.declared.trace.Trace.{Trace}
 use Rattle.pp_text.specs.Numeral.{decimal, octal}
 
@@ -23,11 +18,11 @@ line_end = 10 ∷ []
 
 -- `PUT 0007`
 abbrev pub event_text : Event → List ℕ
-event_text Activate = codes "ACN"
-event_text Disconnect = codes "DCN"
-event_text (Put word) = codes "PUT " ++ octal 4 word
-event_text (Take word) = codes "TAK " ++ octal 4 word
-event_text (Function word) = codes "FNC " ++ octal 4 word
+event_text Event.Activate = codes "ACN"
+event_text Event.Disconnect = codes "DCN"
+event_text (Event.Put word) = codes "PUT " ++ octal 4 word
+event_text (Event.Take word) = codes "TAK " ++ octal 4 word
+event_text (Event.Function word) = codes "FNC " ++ octal 4 word
 
 -- `000020 PP00 CH05 PUT 0007`
 unfoldable pub event_line : Trace → List ℕ
@@ -36,9 +31,9 @@ event_line e =
     ++ event_text e.event ++ line_end
 
 abbrev pub state_text : PpState → List ℕ
-state_text Running = codes "RUNNING"
-state_text Stopped = codes "STOPPED"
-state_text (Fault number) = codes "FAULT " ++ octal 1 number
+state_text PpState.Running = codes "RUNNING"
+state_text PpState.Stopped = codes "STOPPED"
+state_text (PpState.Fault number) = codes "FAULT " ++ octal 1 number
 
 -- `PP00 P=0103 A=000007 STOPPED`, with what is said of the processor last
 unfoldable pub processor_line : ℕ → Processor → List ℕ → List ℕ

@@ -2,8 +2,7 @@
 use Rattle.std.specs.Prelude.{◌≡◌, ℕ, ◌<◌, ◌^◌, List, Bool, All, Option, Some, None, IfSome, IsTrue, slice_get, option_map, if◌then◌else◌}
 use Rattle.std.specs.List.{enumerate_from, filter_map}
 use Rattle.pp_channel.specs.ChannelNo.{names_channel}
-use Rattle.pp_channel.specs.History.{HasTwelveBitWord}
-use Rattle.pp_channel.specs.Histories.{history_on}
+use Rattle.pp_channel.specs.History.{HasTwelveBitWord, history_on}
 use Rattle.pp_channel.specs.declared.event.Event.{Event}
 use Rattle.pp_machine.specs.PpNo.{names_processor, processor_index, processor_number}
 use Rattle.pp_runner.specs.declared.end.End.{End}

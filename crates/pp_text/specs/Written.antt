@@ -2,7 +2,6 @@
 use Rattle.std.specs.Prelude.{◌≤◌, ℕ, List, length, take, Option, Result, Ok, Err}
 use Rattle.std.specs.Io.KnownBytes.{Appends, Keeps}
 use Rattle.pp_text.specs.declared.report_fault.ReportFault.{ReportFault}
-use Rattle.pp_text.specs.declared.report_fault.ReportFault.TheVariants.{Memory, Write}
 
 -- known bytes stay and grow by a first part of the text
 abbrev pub AppendsFront : Option (List ℕ) → Option (List ℕ) → List ℕ → Type 0
@@ -18,5 +17,5 @@ IsWritten text (Err fault) old new = AppendsFront old new text
 abbrev pub IsReportWritten : List ℕ → Result (Unit {0}) ReportFault
     → Option (List ℕ) → Option (List ℕ) → Type 0
 IsReportWritten text (Ok done) old new = Appends old new text
-IsReportWritten text (Err Write) old new = AppendsFront old new text
-IsReportWritten text (Err Memory) old new = Keeps old new
+IsReportWritten text (Err ReportFault.Write) old new = AppendsFront old new text
+IsReportWritten text (Err ReportFault.Memory) old new = Keeps old new

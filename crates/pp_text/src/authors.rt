@@ -1,12 +1,11 @@
 //! Who made the events of the channels.
 
-ghost use Rattle.std.specs.Prelude.{◌≡◌, ◌<◌, ◌≤◌, ◌==◌, ℕ, [], None, length, slice_index_or, IfOk, IsTrue};
+ghost use Rattle.std.specs.Prelude.{◌≡◌, ◌<◌, ◌≤◌, ◌==◌, ℕ, [], None, length, slice_index_or, IfOk, IsTrue, nat_lt};
 ghost use Rattle.pp_channel.specs.ChannelNo.{channel_count, names_channel};
-ghost use Rattle.pp_channel.specs.Merge.{logs_event};
-ghost use Rattle.pp_channel.specs.Histories.{history_on};
+ghost use Rattle.pp_channel.specs.Merge.{logs_event, times_logged};
+ghost use Rattle.pp_channel.specs.History.{history_on};
 ghost use Rattle.pp_machine.specs.PpNo.{processor_count};
 ghost use Rattle.pp_text.specs.Authors.{AreAuthors, authors_on, or_told};
-ghost use Rattle.pp_text.specs.PrintedReport.{log_tells};
 
 use pp_channel::{CHANNELS, Channel, Entry, Seen};
 use pp_machine::PpNo;
@@ -108,7 +107,7 @@ fn mark<A: Allocator>(authors: &mut Vec<ChannelAuthors<A>, A>, log: &[Entry], au
         → number < length (authors_on c authors.old.items)
         → slice_index_or (authors_on c authors.new.items) number None
         ≡ or_told (slice_index_or (authors_on c authors.old.items) number None)
-        (log_tells c number log.now) author }
+        (nat_lt 0 (times_logged c number log.now)) author }
 {
     for entry in log {
         mark_entry(authors, entry, author);

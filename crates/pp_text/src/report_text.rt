@@ -3,7 +3,7 @@
 ghost use Rattle.std.specs.Prelude.{◌≡◌, ◌≢◌, ◌≤◌, ◌++◌, ℕ, All, List, Option, Err, length, slice_get, IfSome, IsTrue, option_map};
 ghost use Rattle.std.specs.List.{enumerate_from, flat_map};
 ghost use Rattle.pp_channel.specs.ChannelNo.{channel_count, names_channel};
-ghost use Rattle.pp_channel.specs.Histories.{history_on};
+ghost use Rattle.pp_channel.specs.History.{history_on};
 ghost use Rattle.pp_machine.specs.PpNo.{processor_count, processor_index, processor_number};
 ghost use Rattle.pp_runner.specs.declared.worker.Worker.{Worker};
 ghost use Rattle.pp_text.specs.Authors.{AreAuthors, AreAuthorsOn};

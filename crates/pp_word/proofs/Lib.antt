@@ -1,4 +1,5 @@
-pub mod EachBit
-pub mod LogicLemmas
+mod EachBit
+mod LogicLemmas
+mod ShiftLemmas
+-- facts of the definitions, which proofs of other crates cite
 pub mod BitsLemmas
-pub mod ShiftLemmas

@@ -1,6 +1,5 @@
 -- Addresses of the 4096 places of a processor's memory, 0000 to 7777 (octal).
--- (Manual 60100000, peripheral processors: indexed addressing, and relative jumps forward and
--- backward.)
+-- (Manual 60100000, peripheral processors: indexed addressing, relative jumps both ways.)
 use Rattle.std.specs.Prelude.{ℕ, ◌+◌, ◌-◌, ◌%◌, nat_lt, if◌then◌else◌}
 
 -- how many places there are

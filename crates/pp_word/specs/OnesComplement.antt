@@ -1,6 +1,5 @@
--- Sum and difference of the 18-bit accumulator in ones' complement, where all ones is a second
--- zero. (Manual 60100000, peripheral processors: the accumulator A. Which zero results is this
--- project's choice.)
+-- Sum and difference of the 18-bit accumulator in ones' complement, with all ones a second zero.
+-- (Manual 60100000, the accumulator A. Which zero results is this project's choice.)
 use Rattle.std.specs.Prelude.{ℕ, ◌≡◌, ◌+◌, ◌-◌, ◌%◌, ◌^◌, ◌<◌, ◌↔◌, ◌==◌, if◌then◌else◌, ◌&&◌}
 
 -- 777777, the negative zero; the words count modulo this number
@@ -13,8 +12,7 @@ pub record IsSum (a b c : ℕ) : Type 0 where
   pub congruent : c % all_ones ≡ (a + b) % all_ones
   pub negative_zero : (c ≡ all_ones) ↔ ((a ≡ all_ones) × (b ≡ all_ones))
 
--- c is a difference of a and b: c + b is congruent to a, and c is all ones exactly where a is and b
--- is 0
+-- c is a difference of a and b: c + b is congruent to a; c is all ones just where a is and b is 0
 pub record IsDifference (a b c : ℕ) : Type 0 where
   pub fits : c < 2 ^ 18
   pub congruent : (c + b) % all_ones ≡ a % all_ones

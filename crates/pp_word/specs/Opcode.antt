@@ -87,12 +87,9 @@ row_of FNC = long 0o77 (codes "FNC")
 abbrev pub code_of : Opcode → ℕ
 code_of op = (row_of op).code
 
-abbrev pub is_long_of : Opcode → Bool
-is_long_of op = (row_of op).long
-
 -- how many words an instruction has
 abbrev pub length_of : Opcode → ℕ
-length_of op = if is_long_of op then 2 else 1
+length_of op = if (row_of op).long then 2 else 1
 
 abbrev pub mnemonic_of : Opcode → List ℕ
 mnemonic_of op = (row_of op).mnemonic

@@ -1,7 +1,7 @@
 //! The operation codes.
 
 ghost use Rattle.std.specs.Prelude.{ℕ, ◌≡◌, ◌/◌, ◌%◌, ◌^◌, ◌<◌};
-ghost use Rattle.pp_word.specs.Opcode.{code_of, is_long_of, mnemonic_of, opcode_at};
+ghost use Rattle.pp_word.specs.Opcode.{code_of, row_of, mnemonic_of, opcode_at};
 
 use crate::word6::Word6;
 use crate::word12::Word12;
@@ -86,7 +86,7 @@ impl Opcode {
 
     /// Whether the instruction has a second word.
     pub fn is_long(self) -> bool
-        ensures { result ≡ is_long_of self }
+        ensures { result ≡ (row_of self).long }
     {
         matches!(
             self,

@@ -1,7 +1,6 @@
 use Rattle.std.proofs.Common.{ℕ, ◌+◌, ◌*◌, ap, ◌++◌, ◌∙◌}
 use Rattle.pp_text.specs.PrintedText.{each_below}
-use Rattle.pp_text.proofs.TextLemmas.{nothing_said, said_goes_on}
-use Rattle.pp_text.proofs.TextWriterLemmas.{prints_nothing, prints_on}
+use Rattle.pp_text.specs.PrintingLaws.{nothing_said, said_goes_on, prints_nothing, prints_on}
 use Rattle.pp_draw.specs.Frame.{first_tick, tick_element, tick_turns}
 use Rattle.pp_draw.proofs.frame.print_ticks.Goals as goal
 

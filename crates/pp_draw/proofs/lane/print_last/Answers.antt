@@ -1,6 +1,6 @@
 use Rattle.std.proofs.Common.{rules, subst}
 use Rattle.pp_text.specs.TextWriter.{Prints}
-use Rattle.pp_text.proofs.TextWriterLemmas.{prints_nothing}
+use Rattle.pp_text.specs.PrintingLaws.{prints_nothing}
 use Rattle.pp_draw.proofs.LaneLemmas.{last_drawn, nothing_last}
 use Rattle.pp_draw.proofs.lane.print_last.Goals as goal
 

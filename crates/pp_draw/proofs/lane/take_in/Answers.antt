@@ -1,5 +1,5 @@
 use Rattle.std.proofs.Common.{[], Some, sym, refl, ◌∙◌}
-use Rattle.pp_text.proofs.TextWriterLemmas.{prints_nothing}
+use Rattle.pp_text.specs.PrintingLaws.{prints_nothing}
 use Rattle.pp_draw.proofs.LaneLemmas.{takes_next, takes_same}
 use Rattle.pp_draw.proofs.lane.take_in.Goals as goal
 

@@ -1,6 +1,6 @@
 use Rattle.std.proofs.Common.{◌≡◌, ◌<◌, ◌+◌, ◌∷◌, ◌++◌, [], List, length, take, sym, ap, ◌∙◌, append_assoc, arith}
 use Rattle.std.proofs.lemmas.List.{append-nil, take_all}
-use Rattle.pp_text.proofs.TextWriterLemmas.{prints_nothing, prints_on, prints_then}
+use Rattle.pp_text.specs.PrintingLaws.{prints_nothing, prints_on, prints_then}
 use Rattle.pp_machine.specs.declared.trace.Trace.{Trace}
 use Rattle.pp_draw.specs.Phases.{channel_phases, opening_phases, phases_on}
 use Rattle.pp_draw.specs.declared.part.Phase.{Phase}

@@ -1,6 +1,6 @@
 use Rattle.std.proofs.Common.{◌≡◌, ◌<◌, ◌∷◌, ◌++◌, [], List, length, take, sym, ap, arith, subst}
 use Rattle.std.proofs.lemmas.List.{take_all}
-use Rattle.pp_text.proofs.TextWriterLemmas.{prints_nothing, prints_on, prints_then}
+use Rattle.pp_text.specs.PrintingLaws.{prints_nothing, prints_on, prints_then}
 use Rattle.pp_draw.specs.Phases.{processor_phases}
 use Rattle.pp_draw.specs.declared.lane.Lane.{Lane}
 use Rattle.pp_draw.specs.declared.seen_step.SeenStep.{SeenStep}

@@ -1,6 +1,5 @@
 use Rattle.std.proofs.Common.{ℕ, ◌+◌, cond, sym, ◌∙◌, ap, arith}
-use Rattle.pp_text.proofs.TextLemmas.{nothing_said, said_goes_on}
-use Rattle.pp_text.proofs.TextWriterLemmas.{prints_nothing, prints_on}
+use Rattle.pp_text.specs.PrintingLaws.{nothing_said, said_goes_on, prints_nothing, prints_on}
 use Rattle.pp_draw.specs.DrawingText.{channel_lane, is_used}
 use Rattle.pp_draw.proofs.RowLemmas.{cond_at_most, none_below, one_more}
 use Rattle.pp_draw.proofs.rows.print_channel_lanes.Goals as goal

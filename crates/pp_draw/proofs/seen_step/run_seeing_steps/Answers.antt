@@ -3,7 +3,7 @@ use Rattle.pp_machine.specs.MachineStep.{stepped}
 use Rattle.pp_machine.specs.PpNo.{processor_number}
 use Rattle.pp_machine.specs.Profile.{processor_in_turn, processors_in}
 use Rattle.pp_machine.specs.Run.{barrel, run}
-use Rattle.pp_machine.proofs.RunLemmas.{barrel_more}
+use Rattle.pp_machine.specs.RunLaws.{barrel_more}
 use Rattle.pp_draw.specs.SeenStep.{seen_step}
 use Rattle.pp_draw.proofs.SeenLemmas.{nothing_shown, shown_more}
 use Rattle.pp_draw.proofs.seen_step.run_seeing_steps.Goals as goal

@@ -1,5 +1,5 @@
 use Rattle.std.proofs.Common.{arith}
-use Rattle.pp_machine.proofs.ProcessorPlaces.{number_fits}
+use Rattle.pp_machine.specs.ProcessorPlaces.{number_fits}
 use Rattle.pp_listing.proofs.sections.push_section.Goals as goal
 
 pub push_short_octal-requires-clause-fits : goal.push_short_octal-requires-clause-fits

@@ -5,15 +5,15 @@ use Rattle.std.proofs.lemmas.List.{length-take-le}
 use Rattle.std.proofs.lemmas.List.Elements.{All-weaker}
 use Rattle.pp_channel.specs.LineState.{LineState, IsSplitFrom, all_joined, ForgetsNothing}
 use Rattle.pp_channel.specs.Merge.{IsRecordedBy, Merges, no_opening}
-use Rattle.pp_channel.specs.Histories.{history_on}
-use Rattle.pp_channel.specs.MonotoneLog.{seen_on}
+use Rattle.pp_channel.specs.History.{history_on}
+use Rattle.pp_channel.specs.LineLog.{seen_on}
 use Rattle.pp_channel.specs.declared.entry.Entry.{Entry}
 use Rattle.pp_channel.specs.declared.event.Event.{Event}
 use Rattle.pp_channel.proofs.JoinedLines.{joined_entries, joined_whole, same_parts}
 use Rattle.pp_channel.proofs.OpeningLemmas.{merges_after}
 use Rattle.pp_machine.specs.Headline.{opening_history}
 use Rattle.pp_machine.specs.Profile.{processors_in}
-use Rattle.pp_machine.proofs.ProfileLemmas.{some_processors, most_processors}
+use Rattle.pp_machine.specs.ProfilePlaces.{some_processors, most_processors}
 use Rattle.pp_runner.proofs.CrewLemmas.{workers_count}
 use Rattle.pp_runner.proofs.ReportLemmas.{logs_count, ended_tables, ended_shares, ended_begun, ended_logged, ended_worn, logs_given}
 use Rattle.pp_runner.specs.Labour.{HasSeen}

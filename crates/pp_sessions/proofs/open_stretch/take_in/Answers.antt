@@ -1,5 +1,5 @@
 use Rattle.std.proofs.Common.{[], refl, rules}
-use Rattle.pp_text.proofs.TextWriterLemmas.{prints_nothing}
+use Rattle.pp_text.specs.PrintingLaws.{prints_nothing}
 use Rattle.pp_sessions.specs.SessionsText.{tally_line}
 use Rattle.pp_sessions.proofs.TakeInLemmas.{takes_first, takes_more, takes_next}
 use Rattle.pp_sessions.proofs.open_stretch.take_in.Goals as goal

@@ -3,7 +3,7 @@ use Rattle.std.proofs.lemmas.Bool.{eqb-true}
 use Rattle.std.proofs.lemmas.List.{nil_from_length}
 use Rattle.pp_machine.specs.Headline.{events_on, opening_history}
 use Rattle.pp_text.specs.TextWriter.{Prints}
-use Rattle.pp_text.proofs.TextWriterLemmas.{prints_nothing}
+use Rattle.pp_text.specs.PrintingLaws.{prints_nothing}
 use Rattle.pp_sessions.proofs.HistoryLemmas.{lines_of_none}
 use Rattle.pp_sessions.proofs.sessions_text.print_numbered_channel.Goals as goal
 

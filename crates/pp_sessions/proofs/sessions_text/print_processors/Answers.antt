@@ -1,5 +1,4 @@
-use Rattle.pp_text.proofs.TextLemmas.{nothing_said, said_goes_on}
-use Rattle.pp_text.proofs.TextWriterLemmas.{prints_nothing, prints_on}
+use Rattle.pp_text.specs.PrintingLaws.{nothing_said, said_goes_on, prints_nothing, prints_on}
 use Rattle.pp_sessions.specs.SessionsText.{named_counts_line}
 use Rattle.pp_sessions.proofs.sessions_text.print_processors.Goals as goal
 

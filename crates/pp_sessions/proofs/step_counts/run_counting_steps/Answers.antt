@@ -4,7 +4,7 @@ use Rattle.pp_machine.specs.PpNo.{processor_number}
 use Rattle.pp_machine.specs.Profile.{processor_in_turn, processors_in}
 use Rattle.pp_machine.specs.Run.{barrel, run}
 use Rattle.pp_machine.specs.declared.outcome.Outcome.{Outcome}
-use Rattle.pp_machine.proofs.RunLemmas.{barrel_more}
+use Rattle.pp_machine.specs.RunLaws.{barrel_more}
 use Rattle.pp_state.specs.HeldSteps.{outcomes}
 use Rattle.pp_sessions.specs.StepCounts.{counts_of, each_step_counts, no_steps}
 use Rattle.pp_sessions.proofs.CountLemmas.{all_counted, counted_at, counted_more, few_at, named_in_turn, none_counted}

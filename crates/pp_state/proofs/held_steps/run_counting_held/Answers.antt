@@ -4,9 +4,9 @@ use Rattle.pp_machine.specs.MachineStep.{step_outcome, stepped}
 use Rattle.pp_machine.specs.PpNo.{names_processor, processor_count, processor_number}
 use Rattle.pp_machine.specs.Profile.{processor_in_turn, processors_in}
 use Rattle.pp_machine.specs.Run.{barrel, run}
-use Rattle.pp_machine.proofs.ProcessorPlaces.{number_named}
-use Rattle.pp_machine.proofs.ProfileLemmas.{most_processors, rest_within}
-use Rattle.pp_machine.proofs.RunLemmas.{barrel_more}
+use Rattle.pp_machine.specs.ProcessorPlaces.{number_named}
+use Rattle.pp_machine.specs.ProfilePlaces.{most_processors, rest_within}
+use Rattle.pp_machine.specs.RunLaws.{barrel_more}
 use Rattle.pp_state.specs.HeldSteps.{each_held_steps, held_steps}
 use Rattle.pp_state.proofs.CountLemmas.{none_counted, counted_more, count_right, all_counted}
 use Rattle.pp_state.proofs.held_steps.run_counting_held.Goals as goal

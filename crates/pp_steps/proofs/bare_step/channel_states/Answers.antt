@@ -1,5 +1,5 @@
 use Rattle.std.proofs.Common.{ℕ, ◌∙◌, [], get_or, ap, arith, refl, rules}
-use Rattle.pp_channel.proofs.ChannelPlaces.{place_below}
+use Rattle.pp_channel.specs.ChannelPlaces.{place_below}
 use Rattle.pp_channel.specs.Answer.{channel_state}
 use Rattle.pp_steps.proofs.BareLemmas.{states_more}
 use Rattle.pp_steps.proofs.bare_step.channel_states.Goals as goal

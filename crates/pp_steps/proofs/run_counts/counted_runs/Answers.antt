@@ -5,9 +5,9 @@ use Rattle.pp_machine.specs.MachineStep.{stepped}
 use Rattle.pp_machine.specs.PpNo.{names_processor, processor_count, processor_number}
 use Rattle.pp_machine.specs.Profile.{processor_in_turn, processors_in}
 use Rattle.pp_machine.specs.Run.{barrel, run}
-use Rattle.pp_machine.proofs.ProcessorPlaces.{number_named}
-use Rattle.pp_machine.proofs.ProfileLemmas.{most_processors, rest_within}
-use Rattle.pp_machine.proofs.RunLemmas.{barrel_more}
+use Rattle.pp_machine.specs.ProcessorPlaces.{number_named}
+use Rattle.pp_machine.specs.ProfilePlaces.{most_processors, rest_within}
+use Rattle.pp_machine.specs.RunLaws.{barrel_more}
 use Rattle.pp_steps.specs.BareMachine.{StandsFor}
 use Rattle.pp_steps.specs.HeldRuns.{AreCounted}
 use Rattle.pp_steps.proofs.CountedRuns.{all_so_far, more_so_far, none_so_far}

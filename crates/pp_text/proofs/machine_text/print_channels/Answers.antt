@@ -1,12 +1,11 @@
 use Rattle.std.proofs.Common.{ℕ, arith}
 use Rattle.std.specs.Prelude.{IsTrue}
 use Rattle.pp_channel.specs.ChannelNo.{names_channel}
-use Rattle.pp_channel.specs.Histories.{history_on}
+use Rattle.pp_channel.specs.History.{history_on}
 use Rattle.pp_text.specs.TextLaw.{IsListed}
 use Rattle.pp_text.specs.PrintedText.{used_channel_line}
-use Rattle.pp_text.proofs.TextWriterLemmas.{prints_nothing, prints_on}
-use Rattle.pp_text.proofs.TextLemmas.{nothing_said, said_goes_on}
-use Rattle.pp_channel.proofs.ChannelPlaces.{number_fits}
+use Rattle.pp_text.specs.PrintingLaws.{prints_nothing, prints_on, nothing_said, said_goes_on}
+use Rattle.pp_channel.specs.ChannelPlaces.{number_fits}
 use Rattle.pp_text.proofs.TextLawLemmas.{below_goes_on}
 use Rattle.pp_text.proofs.machine_text.print_channels.Goals as goal
 

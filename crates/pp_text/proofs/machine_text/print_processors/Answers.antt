@@ -3,8 +3,7 @@ use Rattle.std.specs.Prelude.{IsTrue}
 use Rattle.pp_machine.specs.MachineState.{processor_of}
 use Rattle.pp_text.specs.PrintedText.{is_named, named_processor_line}
 use Rattle.pp_text.specs.TextLaw.{IsShown}
-use Rattle.pp_text.proofs.TextWriterLemmas.{prints_nothing, prints_on}
-use Rattle.pp_text.proofs.TextLemmas.{nothing_said, said_goes_on}
+use Rattle.pp_text.specs.PrintingLaws.{prints_nothing, prints_on, nothing_said, said_goes_on}
 use Rattle.pp_text.proofs.TextLawLemmas.{below_goes_on, named_digits}
 use Rattle.pp_text.proofs.machine_text.print_processors.Goals as goal
 

@@ -1,7 +1,7 @@
 use Rattle.std.proofs.Common.{ℕ, ◌<◌}
 use Rattle.std.specs.Prelude.{IsTrue}
 use Rattle.pp_channel.specs.ChannelNo.{names_channel}
-use Rattle.pp_channel.specs.Histories.{history_on}
+use Rattle.pp_channel.specs.History.{history_on}
 use Rattle.pp_text.specs.TextWriter.{Prints}
 use Rattle.pp_text.specs.PrintedText.{each_below, used_channel_line}
 use Rattle.pp_text.specs.TextLaw.{IsListed}

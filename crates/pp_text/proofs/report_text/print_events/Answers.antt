@@ -1,14 +1,13 @@
 use Rattle.std.proofs.Common.{ℕ, All, arith, subst}
 use Rattle.std.specs.Prelude.{IsTrue}
 use Rattle.pp_channel.specs.ChannelNo.{names_channel}
-use Rattle.pp_channel.specs.Histories.{history_on}
+use Rattle.pp_channel.specs.History.{history_on}
 use Rattle.pp_text.specs.TextWriter.{Prints}
 use Rattle.pp_text.specs.PrintedText.{each_below}
 use Rattle.pp_text.specs.PrintedReport.{channel_events}
 use Rattle.pp_text.specs.ReportLaw.{FitsItsLine, told_events}
-use Rattle.pp_text.proofs.TextWriterLemmas.{prints_nothing, prints_on}
-use Rattle.pp_text.proofs.TextLemmas.{nothing_said, said_goes_on}
-use Rattle.pp_channel.proofs.ChannelPlaces.{number_fits}
+use Rattle.pp_text.specs.PrintingLaws.{prints_nothing, prints_on, nothing_said, said_goes_on}
+use Rattle.pp_channel.specs.ChannelPlaces.{number_fits}
 use Rattle.pp_text.proofs.TextLawLemmas.{below_goes_on}
 use Rattle.pp_text.proofs.report_text.print_events.Goals as goal
 

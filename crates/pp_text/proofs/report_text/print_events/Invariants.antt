@@ -1,7 +1,7 @@
 use Rattle.std.proofs.Common.{ℕ, ◌<◌, List, All}
 use Rattle.std.specs.Prelude.{IsTrue}
 use Rattle.pp_channel.specs.ChannelNo.{names_channel}
-use Rattle.pp_channel.specs.Histories.{history_on}
+use Rattle.pp_channel.specs.History.{history_on}
 use Rattle.pp_runner.specs.declared.worker.Worker.{Worker}
 use Rattle.pp_text.specs.Authors.{AreAuthors}
 use Rattle.pp_text.specs.TextWriter.{Prints}

@@ -1,7 +1,8 @@
 use Rattle.std.proofs.Common.{◌<◌, ◌∙◌, List, All, length, refl, rules, subst}
 use Rattle.std.proofs.lemmas.List.{take_all}
 use Rattle.pp_channel.specs.declared.event.Event.{Event}
-use Rattle.pp_text.proofs.TextWriterLemmas.{prints_line, prints_nothing, prints_on}
+use Rattle.pp_text.specs.PrintingLaws.{prints_nothing, prints_on}
+use Rattle.pp_text.proofs.TextWriterLemmas.{prints_line}
 use Rattle.pp_text.proofs.EventLineLemmas.{lines_go_on}
 use Rattle.pp_text.proofs.ReportLawLemmas.{tellings_go_on}
 use Rattle.pp_text.specs.PrintedReport.{author_place}

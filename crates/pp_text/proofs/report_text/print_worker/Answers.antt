@@ -2,7 +2,8 @@ use Rattle.std.proofs.Common.{◌≡◌, Some, None, refl, sym, ap}
 use Rattle.std.specs.Prelude.{slice_get}
 use Rattle.std.proofs.lemmas.Option.{slice_get-get_or, slice_get_past}
 use Rattle.pp_machine.specs.PpNo.{processor_index}
-use Rattle.pp_text.proofs.TextWriterLemmas.{prints_line, prints_nothing}
+use Rattle.pp_text.specs.PrintingLaws.{prints_nothing}
+use Rattle.pp_text.proofs.TextWriterLemmas.{prints_line}
 use Rattle.pp_text.proofs.report_text.print_worker.Goals as goal
 
 -- the worker that was found is the processor's

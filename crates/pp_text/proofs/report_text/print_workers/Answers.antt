@@ -4,8 +4,7 @@ use Rattle.pp_machine.specs.PpNo.{processor_index}
 use Rattle.pp_text.specs.PrintedText.{is_named}
 use Rattle.pp_text.specs.PrintedReport.{named_worker_line}
 use Rattle.pp_text.specs.ReportLaw.{FitsItsEnd, shown_end}
-use Rattle.pp_text.proofs.TextWriterLemmas.{prints_nothing, prints_on}
-use Rattle.pp_text.proofs.TextLemmas.{nothing_said, said_goes_on}
+use Rattle.pp_text.specs.PrintingLaws.{prints_nothing, prints_on, nothing_said, said_goes_on}
 use Rattle.pp_text.proofs.TextLawLemmas.{below_goes_on, named_digits}
 use Rattle.pp_text.proofs.report_text.print_workers.Goals as goal
 

@@ -5,9 +5,8 @@ use Rattle.pp_channel.specs.declared.numbered.Numbered.{Numbered}
 use Rattle.pp_channel.specs.declared.reply.Reply.TheVariants.{Held}
 use Rattle.pp_channel.specs.Answer.{reply_shown}
 use Rattle.pp_channel.specs.ChannelWord.{number_in, flags_in, greatest_number}
-use Rattle.pp_channel.specs.LineLog.{LogState, event_entry, look_entry, appended, looked}
+use Rattle.pp_channel.specs.LineLog.{LogState, event_entry, look_entry, appended, looked, IsMonotone, IsWithin}
 use Rattle.pp_channel.specs.LineState.{LineState, IsActed}
-use Rattle.pp_channel.specs.MonotoneLog.{IsMonotone, IsWithin}
 use Rattle.pp_channel.proofs.ChannelWordLemmas.{next_word, stays_either}
 use Rattle.pp_channel.proofs.LineAnswers.{found_last, seen_last, acted_shown, worn_by_load, acted_made, acted_lost, number_later}
 use Rattle.pp_channel.proofs.MonotoneLemmas.{rising_answer}

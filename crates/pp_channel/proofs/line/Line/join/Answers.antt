@@ -1,11 +1,10 @@
 use Rattle.std.proofs.Common.{◌+◌, sym, ap, ◌∙◌, subst, arith}
 use Rattle.pp_channel.specs.declared.rule.LineView.{LineView}
 use Rattle.pp_channel.specs.ChannelNo.{channel_index}
-use Rattle.pp_channel.specs.LineLog.{LogState}
+use Rattle.pp_channel.specs.LineLog.{LogState, seen_on}
 use Rattle.pp_channel.specs.LineState.{LineState}
 use Rattle.pp_channel.specs.LineSteps.{IsLogOf}
 use Rattle.pp_channel.specs.LineView.{greater_of_each, joined_view, weighs_once}
-use Rattle.pp_channel.specs.MonotoneLog.{seen_on}
 use Rattle.pp_channel.proofs.LineKeeping.{log_of_same, log_of_joined}
 use Rattle.pp_channel.proofs.SeenLemmas.{greater_left, greater_right}
 use Rattle.pp_channel.proofs.line.Line.join.Goals as goal

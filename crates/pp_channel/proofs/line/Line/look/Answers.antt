@@ -1,10 +1,9 @@
 use Rattle.std.proofs.Common.{◌≡◌, ◌≤◌, sym, subst}
 use Rattle.std.specs.Prelude.{Contains}
 use Rattle.pp_channel.specs.ChannelWord.{number_in, flags_in}
-use Rattle.pp_channel.specs.LineLog.{LogState, looked, look_entry}
+use Rattle.pp_channel.specs.LineLog.{LogState, looked, look_entry, seen_on}
 use Rattle.pp_channel.specs.LineState.{LineState}
 use Rattle.pp_channel.specs.LineSteps.{IsLogOf}
-use Rattle.pp_channel.specs.MonotoneLog.{seen_on}
 use Rattle.pp_channel.proofs.LineKeeping.{log_of_look}
 use Rattle.pp_channel.proofs.line.Line.look.Goals as goal
 

@@ -1,7 +1,7 @@
 use Rattle.std.proofs.Common.{ℕ, Bool, arith, rules, true, false, ◌≡◌, ◌+◌, sym, ap, ◌∙◌, length}
 use Rattle.std.specs.Prelude.{IsTrue, slice_set, if◌then◌else◌}
 use Rattle.pp_channel.specs.ChannelNo.{channel_count, names_channel}
-use Rattle.pp_channel.proofs.ChannelPlaces.{named_below}
+use Rattle.pp_channel.specs.ChannelPlaces.{named_below}
 use Rattle.pp_check.specs.Judge.{standing, standing_of}
 use Rattle.pp_check.specs.LawfulTrace.{history}
 use Rattle.pp_check.specs.Verdict.{is_activate}

@@ -1,7 +1,7 @@
 use Rattle.std.proofs.Common.{ℕ, arith, rules, refl, ◌≡◌, ◌≢◌, ◌<◌, sym, ap, ◌∙◌, subst, length, Option}
 use Rattle.std.specs.Prelude.{IfSome, IsTrue}
 use Rattle.pp_channel.specs.ChannelNo.{channel_count, names_channel}
-use Rattle.pp_channel.proofs.ChannelPlaces.{named_below}
+use Rattle.pp_channel.specs.ChannelPlaces.{named_below}
 use Rattle.pp_check.specs.Judge.{next_number, standing}
 use Rattle.pp_check.specs.LawfulTrace.{last_turn}
 use Rattle.pp_check.specs.declared.trace_line.TraceLine.TheVariants.{AtTurn, Numbered}

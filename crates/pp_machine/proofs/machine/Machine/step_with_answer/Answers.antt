@@ -1,7 +1,7 @@
-use Rattle.std.proofs.Common.{◌≡◌, length, arith, refl, sym, ap, ◌∙◌, subst}
+use Rattle.std.proofs.Common.{◌≡◌, length, arith, refl, sym, ap, ◌∙◌, subst, slice_set}
 use Rattle.std.specs.Prelude.{IsTrue, nat_lt}
 use Rattle.std.proofs.lemmas.List.{length-set}
-use Rattle.pp_machine.specs.Central.{central_word, with_central_word}
+use Rattle.pp_machine.specs.Central.{central_word}
 use Rattle.pp_machine.specs.NextStep.{IsNext}
 use Rattle.pp_machine.specs.MachineState.{MachineState, processor_of}
 use Rattle.pp_machine.specs.MachineStep.{answer_to, served, taken}
@@ -132,7 +132,7 @@ returns-in-Write-clause-ok g c =
     ap (λ a. answers.Wrote (nat_lt a c.size.result)) c.get.ensures.value
     ∙ (ap (λ k. answers.Wrote (nat_lt c.in-Write.address k)) c.size.ensures.value
     ∙ ap (λ (k : MachineState). answers.Wrote (nat_lt c.in-Write.address (length k.central))) c.self.view_is) in
-    let view = ap (λ (k : MachineState). record k { central = with_central_word c.in-Write.address c.in-Write.word k.central }) c.self.view_is in
+    let view = ap (λ (k : MachineState). record k { central = slice_set k.central c.in-Write.address c.in-Write.word }) c.self.view_is in
     let turn = rw c.write-written.ensures.written at c.count_turn-in-Write.ensures.turn in
     taken_by n (answers.Wrote (nat_lt c.get.result c.size.result)) view c.index-i.ensures.place own c.give_written.ensures.after turn
     ∙ (ap (λ (y : Answer). taken n y (served n x m)) within ∙ sym (stepped_for n x m needs))

@@ -3,8 +3,8 @@ use Rattle.std.specs.Prelude.{IsTrue}
 use Rattle.std.proofs.lemmas.List.{get_or_read}
 use Rattle.pp_channel.specs.Answer.{channel_state, history_after}
 use Rattle.pp_channel.specs.ChannelNo.{channel_count, names_channel}
-use Rattle.pp_channel.proofs.ChannelPlaces.{named_below}
-use Rattle.pp_machine.proofs.FitLemmas.{state_fits}
+use Rattle.pp_channel.specs.ChannelPlaces.{named_below}
+use Rattle.pp_machine.specs.FitLaws.{state_fits}
 use Rattle.pp_machine.specs.MachineState.{history_of}
 use Rattle.pp_steps.proofs.BareLemmas.{states_set}
 use Rattle.pp_steps.proofs.bare_machine.BareMachine.serve.Goals as goal

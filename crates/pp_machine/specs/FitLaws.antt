@@ -1,4 +1,5 @@
--- Which replies fit an operation: those of a channel do, and each that does tells what was seen or done.
+-- Which replies fit an operation: those of a channel do, and each that does tells what was seen or
+-- done.
 use Rattle.std.proofs.Common.{◌≡◌, ℕ, Bool, true, false, Option, None, Some, refl}
 use Rattle.std.specs.Prelude.{if◌then◌else◌}
 use Rattle.pp_channel.specs.Answer.{event_with, only_looks, operation_of, ready_at, reply_by, reply_made, reply_shown, seen_answered, state_reply}
@@ -28,7 +29,8 @@ shown_fits operations.Probe state = refl
 shown_fits op state = refl
 
 -- so each reply of a channel fits
-fits_where : (ready : Bool) (op : ChanOp) (state : ChannelState) (word : Option ℕ) → reply_fits op (reply_by op state (if ready then event_with op word else None)) ≡ true
+fits_where : (ready : Bool) (op : ChanOp) (state : ChannelState) (word : Option ℕ)
+    → reply_fits op (reply_by op state (if ready then event_with op word else None)) ≡ true
 fits_where false op state word = shown_fits op state
 fits_where true operations.Take state None = refl
 fits_where true operations.Take state (Some w) = refl
@@ -46,12 +48,14 @@ held_fits (events.Take w) f = refl
 held_fits (events.Function w) f = refl
 
 -- and none that only looks
-pub acts_where_held : (op : ChanOp) (f : Flags) → reply_fits op (replies.Held f) ≡ true → only_looks op ≡ false
+pub acts_where_held : (op : ChanOp) (f : Flags) → reply_fits op (replies.Held f) ≡ true
+    → only_looks op ≡ false
 acts_where_held operations.Probe f fits = absurd cc
 acts_where_held op f fits = refl
 
 -- a reply that fits tells what the operation did or saw
-pub tells_where_fits : (op : ChanOp) (reply : Reply) → reply_fits op reply ≡ true → (what : Seen) × (seen_answered op reply ≡ Some what)
+pub tells_where_fits : (op : ChanOp) (reply : Reply) → reply_fits op reply ≡ true
+    → (what : Seen) × (seen_answered op reply ≡ Some what)
 tells_where_fits op (replies.Flags f) fits = (Saw f, refl)
 tells_where_fits op (replies.Held f) fits = (Saw f, refl)
 tells_where_fits operations.Activate replies.Done fits = (Did events.Activate, refl)

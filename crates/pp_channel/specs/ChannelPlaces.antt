@@ -16,7 +16,8 @@ unfolding names_channel channel_index
 named_below c below = grind (arith)
 
 -- two channels at one place are the same
-same_place : (c d : ℕ) → IsTrue (names_channel c) → IsTrue (names_channel d) → channel_index c ≡ channel_index d → c ≡ d
+same_place : (c d : ℕ) → IsTrue (names_channel c) → IsTrue (names_channel d)
+    → channel_index c ≡ channel_index d → c ≡ d
 unfolding names_channel channel_index
 same_place c d names other same = grind (arith)
 
@@ -28,18 +29,25 @@ one_place c d names same =
 
 -- a number that names no channel has a place past the list
 pub place_past : (c : ℕ) → (IsTrue (names_channel c) → ⊥) → channel_count ≤ channel_index c
-place_past c none = dite (dec_lt (channel_index c) channel_count) (λ below. absurd (none (named_below c below))) (λ no. omega arith)
+place_past c none =
+    dite (dec_lt (channel_index c) channel_count) (λ below. absurd (none (named_below c below)))
+    (λ no. omega arith)
 
 -- the number of a place names the channel there
-pub place_of_number : (place : ℕ) → place < channel_count → channel_index (channel_number place) ≡ place
+pub place_of_number : (place : ℕ) → place < channel_count
+    → channel_index (channel_number place) ≡ place
 unfolding channel_index channel_number
 place_of_number place below = grind (arith)
 
-pub number_named : (place : ℕ) → place < channel_count → IsTrue (names_channel (channel_number place))
-number_named place below = let at = place_of_number place below in named_below (channel_number place) (omega arith)
+pub number_named : (place : ℕ) → place < channel_count
+    → IsTrue (names_channel (channel_number place))
+number_named place below =
+    let at = place_of_number place below in named_below (channel_number place) (omega arith)
 
 pub number_of_place : (c : ℕ) → IsTrue (names_channel c) → channel_number (channel_index c) ≡ c
-number_of_place c names = one_place c (channel_number (channel_index c)) names (place_of_number (channel_index c) (place_below c names))
+number_of_place c names =
+    one_place c (channel_number (channel_index c)) names
+    (place_of_number (channel_index c) (place_below c names))
 
 -- a channel's number has two octal digits
 pub number_fits : (c : ℕ) → IsTrue (names_channel c) → c < 0o100

@@ -1,0 +1,4 @@
+pub mod LastElements
+pub mod Tables
+pub mod GrowingLists
+pub mod WrittenNumbers
