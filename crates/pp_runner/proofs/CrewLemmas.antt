@@ -10,7 +10,8 @@ use Rattle.pp_machine.specs.MachineState.{MachineState, processor_of}
 use Rattle.pp_machine.specs.Processor.{Processor, no_processor}
 use Rattle.pp_machine.specs.PpNo.{processor_count, processor_index, processor_number}
 use Rattle.pp_machine.specs.ProcessorPlaces.{place_of_number}
-use Rattle.pp_runner.proofs.LogLemmas.{settles, stands_settled}
+use Rattle.pp_runner.proofs.LabourLemmas.{work_begun}
+use Rattle.pp_runner.proofs.LogLemmas.{stands_done}
 use Rattle.pp_runner.proofs.LineLemmas.{operated_least, same_line_still, same_line_twice}
 use Rattle.pp_runner.specs.Crew.{AreReady, IsEnded, HasEnded, AreEnded}
 use Rattle.pp_runner.specs.Labour.{IsAtWork, HasSeen, IsSameLine, HasOperated, GaveUpWithCause}
@@ -43,14 +44,14 @@ ended_push (p ∷ loads) size steps room family (v ∷ ws) (k ∷ ls) load w l a
 pub work_ended : {A : Type 0} (load : Processor) (size steps : ℕ) (line : LineState) (w : Worker A) → IsAtWork load size steps w.pp w.answers.items line.log → length w.answers.items ≤ steps
     → IsEnd steps w.finish w.pp w.answers.items line.log.entries → WornWithCause (λ c. seen_on c line.view.seen) w.finish w.pp → IsEnded load size steps line w line
 work_ended load size steps line w work few finish worn =
-    let s = settles line.log (λ k. ((work.held k).channel, (work.held k).looked)) in record {
+    let s = work_begun work in record {
       worker = record {
         pp = work.pp_is;
         all_given = work.all_given;
         all_moved = work.all_moved;
         by_size = work.by_size;
         events = work.events;
-        sights = stands_settled line.log _ s work.sights;
+        sights = stands_done work.done line.log _ s work.sights;
         monotone = work.monotone;
         few_answers = few;
         few_entries = omega (arith, s.few, work.few_entries);

@@ -1,6 +1,6 @@
 -- What a try of a step keeps of what a worker has.
 use Rattle.std.proofs.Common.{◌≡◌, ℕ, ◌+◌, ◌-◌, ◌*◌, ◌<◌, ◌≤◌, true, false, List, [], ◌∷◌, ◌++◌, length, map, take, Option, None, Some, refl, sym, ap, ◌∙◌, subst, inl, inr, arith}
-use Rattle.std.specs.Prelude.{IsTrue, slice_get}
+use Rattle.std.specs.Prelude.{IsTrue, not, is_some, slice_get}
 use Rattle.std.specs.List.{last_or, filter_map}
 use Rattle.std.specs.Option.{option_map, option_or, option_to_list}
 use Rattle.std.proofs.lemmas.Bool.{both_ways, eq-eqb, cases_Bool, cases_lt}
@@ -30,10 +30,10 @@ use Rattle.pp_machine.specs.declared.answer.Answer.TheVariants as answers
 use Rattle.pp_machine.specs.declared.need.Need.{Need}
 use Rattle.pp_machine.specs.declared.need.Need.TheVariants as needs
 use Rattle.pp_machine.specs.declared.outcome.Outcome.TheVariants.{Moved}
-use Rattle.pp_runner.proofs.LogLemmas.{looked_at, settled_kept, settled_look, IsSettled, settles, events_settled, events_in-push, sights_in-push, stands_push, stands_settled}
+use Rattle.pp_runner.proofs.LogLemmas.{looked_at, HasEntries, BeginsWith, begins_with, events_done, events_in-push, sights_in-push, stands_push, stands_done}
 use Rattle.pp_runner.proofs.ReplyLemmas.{sight_of, reply_to_channel}
 use Rattle.pp_runner.specs.WorkerReport.{OfEachAnswer, IsBySize, event_in, events_in, sights_in, IsSubsequence}
-use Rattle.pp_runner.specs.Labour.{IsAtWork, IsAnswered, IsNoted, settled}
+use Rattle.pp_runner.specs.Labour.{IsAtWork, IsAnswered, IsNoted}
 use Rattle.pp_runner.specs.End.{WasHeld, NeedsChannel}
 
 -- what is true of each answer is true of each of one more
@@ -90,11 +90,11 @@ among_sights needs.Local x = refl
 among_sights (needs.Read a) x = refl
 among_sights (needs.Write a w) x = refl
 
--- a log after the sights of an answer
-record IsLogged (ss : List (OfChannel Seen)) (before after : LogState) : Type 0 where
+-- a log after the sights of an answer, where the steps before it have these entries
+record IsLogged (ss : List (OfChannel Seen)) (done : List Entry) (before after : LogState) : Type 0 where
   pub events : events_in after.entries ≡ events_in before.entries ++ events_among ss
-  pub sights : (old : List (OfChannel Seen)) → IsSubsequence old (sights_in (settled before)) → IsSubsequence (old ++ ss) (sights_in after.entries)
-  pub few : length after.entries ≤ length (settled before) + 2 * length ss
+  pub sights : (old : List (OfChannel Seen)) → IsSubsequence old (sights_in done) → IsSubsequence (old ++ ss) (sights_in after.entries)
+  pub few : length after.entries ≤ length done + 2 * length ss
   pub room : after.room + length after.entries ≡ before.room + length before.entries
 
 -- where the log does not end with an entry that is to stay, it ends with a look at the channel of the only sight
@@ -104,35 +104,37 @@ record IsHeldAt (ss : List (OfChannel Seen)) (log : LogState) : Type 0 where
   pub only : ss ≡ record { channel = channel; what = what } ∷ []
   pub looked : IsTrue (is_look_at channel (last_or None log.entries))
 
-logged_did : (c number : ℕ) (what : Seen) (before after : LogState) → 1 ≤ before.room → IsSettled before → after ≡ appended before (record { channel = c; number = number; what = what })
-    → IsLogged (record { channel = c; what = what } ∷ []) before after
-logged_did c number what before after room s is =
+logged_did : (c number : ℕ) (what : Seen) (done : List Entry) (before after : LogState) → 1 ≤ before.room → BeginsWith done before → after ≡ appended before (record { channel = c; number = number; what = what })
+    → IsLogged (record { channel = c; what = what } ∷ []) done before after
+logged_did c number what done before after room s is =
     let entry : Entry = record { channel = c; number = number; what = what } in
     let entries : after.entries ≡ before.entries ++ entry ∷ [] = ap (λ l. l.entries) is in
     let n : length after.entries ≡ length before.entries + 1 = ap length entries ∙ length-append before.entries (entry ∷ []) in
     let left : after.room ≡ before.room - 1 = ap (λ l. l.room) is in record {
       events = ap events_in entries ∙ events_in-push before.entries (entry ∷ []);
-      sights = λ old h. subst (λ (l : List (OfChannel Seen)). IsSubsequence (old ++ record { channel = c; what = what } ∷ []) l) (sym (ap sights_in entries ∙ sights_in-push before.entries (entry ∷ []))) (stands_push old (sights_in before.entries) (record { channel = c; what = what }) (stands_settled before old s h));
+      sights = λ old h. subst (λ (l : List (OfChannel Seen)). IsSubsequence (old ++ record { channel = c; what = what } ∷ []) l) (sym (ap sights_in entries ∙ sights_in-push before.entries (entry ∷ []))) (stands_push old (sights_in before.entries) (record { channel = c; what = what }) (stands_done done before old s h));
       few = omega (arith, s.few, n);
       room = omega (arith, n, left);
     }
 
-logged_saw : (c number : ℕ) (what : Seen) (before after : LogState) → 1 ≤ before.room → IsSettled before → (before.kept ≡ false → IsTrue (is_look_at c (last_or None before.entries)))
-    → after ≡ looked before (record { channel = c; number = number; what = what }) → IsLogged (record { channel = c; what = what } ∷ []) before after
-logged_saw c number what before after room s held is =
+logged_saw : (c number : ℕ) (what : Seen) (done : List Entry) (look : Option Entry) (before after : LogState) → 1 ≤ before.room → HasEntries done look before → BeginsWith done before
+    → (before.kept ≡ false → IsTrue (is_look_at c (last_or None before.entries))) → after ≡ looked before (record { channel = c; number = number; what = what })
+    → IsLogged (record { channel = c; what = what } ∷ []) done before after
+logged_saw c number what done look before after room b s held is =
     let entry : Entry = record { channel = c; number = number; what = what } in
-    let look = looked_at before entry held in
-    let entries : after.entries ≡ settled before ++ entry ∷ [] = ap (λ l. l.entries) is ∙ look.entries in record {
-      events = ap events_in entries ∙ (events_in-push (settled before) (entry ∷ []) ∙ ap (λ l. l ++ events_in (entry ∷ [])) (events_settled before s));
-      sights = λ old h. subst (λ (l : List (OfChannel Seen)). IsSubsequence (old ++ record { channel = c; what = what } ∷ []) l) (sym (ap sights_in entries ∙ sights_in-push (settled before) (entry ∷ []))) (stands_push old (sights_in (settled before)) (record { channel = c; what = what }) h);
-      few = omega (arith, ap length entries, length-append (settled before) (entry ∷ []));
-      room = ap (λ l. l.room + length l.entries) is ∙ look.room room;
+    let l = looked_at done look before entry b held in
+    let entries : after.entries ≡ done ++ entry ∷ [] = ap (λ l. l.entries) is ∙ l.entries in record {
+      events = ap events_in entries ∙ (events_in-push done (entry ∷ []) ∙ ap (λ l. l ++ events_in (entry ∷ [])) (events_done done before s));
+      sights = λ old h. subst (λ (l : List (OfChannel Seen)). IsSubsequence (old ++ record { channel = c; what = what } ∷ []) l) (sym (ap sights_in entries ∙ sights_in-push done (entry ∷ []))) (stands_push old (sights_in done) (record { channel = c; what = what }) h);
+      few = omega (arith, ap length entries, length-append done (entry ∷ []));
+      room = ap (λ l. l.room + length l.entries) is ∙ l.room room;
     }
 
-logged_as : (c number : ℕ) (what : Seen) (before after : LogState) → 1 ≤ before.room → IsSettled before → (before.kept ≡ false → IsTrue (is_look_at c (last_or None before.entries)))
-    → after ≡ with_seen before c number (Some what) → IsLogged (record { channel = c; what = what } ∷ []) before after
-logged_as c number (Did e) before after room s held is = logged_did c number (Did e) before after room s is
-logged_as c number (Saw f) before after room s held is = logged_saw c number (Saw f) before after room s held is
+logged_as : (c number : ℕ) (what : Seen) (done : List Entry) (look : Option Entry) (before after : LogState) → 1 ≤ before.room → HasEntries done look before → BeginsWith done before
+    → (before.kept ≡ false → IsTrue (is_look_at c (last_or None before.entries))) → after ≡ with_seen before c number (Some what)
+    → IsLogged (record { channel = c; what = what } ∷ []) done before after
+logged_as c number (Did e) done look before after room b s held is = logged_did c number (Did e) done before after room s is
+logged_as c number (Saw f) done look before after room b s held is = logged_saw c number (Saw f) done look before after room b s held is
 
 heads : {X : Type 0} (x y : X) → (x ∷ []) ≡ (y ∷ []) → x ≡ y
 heads x y e = cc
@@ -143,15 +145,17 @@ nil_only x e = cc
 none_held : (log : LogState) → IsHeldAt [] log → ⊥
 none_held log h = nil_only _ h.only
 
-logged_none : (before after : LogState) → before.kept ≡ true → after ≡ before → IsLogged [] before after
-logged_none before after k is =
-    let whole : settled before ≡ before.entries = settled_kept before k in
-    let entries : after.entries ≡ before.entries = ap (λ l. l.entries) is in record {
+-- without a sight the log stays, and has no look that held the processor
+logged_none : (done : List Entry) (look : Option Entry) (before after : LogState) → HasEntries done look before → (before.kept ≡ false → ⊥) → after ≡ before → IsLogged [] done before after
+logged_none done None before after b held is =
+    let entries : after.entries ≡ before.entries = ap (λ l. l.entries) is in
+    let whole : before.entries ≡ done = b.all ∙ append-nil done in record {
       events = ap events_in entries ∙ sym (append-nil (events_in before.entries));
-      sights = λ old h. subst (λ (l : List (OfChannel Seen)). IsSubsequence l (sights_in after.entries)) (sym (append-nil old)) (subst (λ (l : List Entry). IsSubsequence old (sights_in l)) (whole ∙ sym entries) h);
+      sights = λ old h. subst (λ (l : List (OfChannel Seen)). IsSubsequence l (sights_in after.entries)) (sym (append-nil old)) (subst (λ (l : List Entry). IsSubsequence old (sights_in l)) (sym (entries ∙ whole)) h);
       few = omega (arith, ap length entries, ap length whole);
       room = ap (λ l. l.room + length l.entries) is;
     }
+logged_none done (Some look) before after b held is = absurd (held b.kept)
 
 -- a single sight is at the channel at which the log ends with a look
 held_at_channel : (c : ℕ) (what : Seen) (log : LogState) → IsHeldAt (record { channel = c; what = what } ∷ []) log → IsTrue (is_look_at c (last_or None log.entries))
@@ -159,11 +163,13 @@ held_at_channel c what log h =
     let same : record { channel = c; what = what } ≡ record { channel = h.channel; what = h.what } = heads _ _ h.only in
     subst (λ (k : ℕ). IsTrue (is_look_at k (last_or None log.entries))) (sym (ap (λ (s : OfChannel Seen). s.channel) same)) h.looked
 
-logged : (ss : List (OfChannel Seen)) (before after : LogState) → 1 ≤ before.room → (before.kept ≡ false → IsHeldAt ss before) → IsNoted ss before after → IsLogged ss before after
-logged [] before after room held is = elim (cases_Bool before.kept) [ inl k ↦ logged_none before after k is | inr k ↦ absurd (none_held before (held k)) ]
-logged (s ∷ []) before after room held is =
-    logged_as s.channel is.0 s.what before after room (settles before (λ k. (s.channel, held_at_channel s.channel s.what before (held k)))) (λ k. held_at_channel s.channel s.what before (held k)) is.1
-logged (s ∷ t ∷ more) before after room held is = absurd is
+logged : (ss : List (OfChannel Seen)) (done : List Entry) (look : Option Entry) (before after : LogState) → 1 ≤ before.room → HasEntries done look before → (before.kept ≡ false → IsHeldAt ss before) → IsNoted ss before after
+    → IsLogged ss done before after
+logged [] done look before after room b held is = logged_none done look before after b (λ k. none_held before (held k)) is
+logged (s ∷ []) done look before after room b held is =
+    let at : before.kept ≡ false → IsTrue (is_look_at s.channel (last_or None before.entries)) = λ k. held_at_channel s.channel s.what before (held k) in
+    logged_as s.channel is.0 s.what done look before after room b (begins_with done look before b (λ k. (s.channel, at k))) at is.1
+logged (s ∷ t ∷ more) done look before after room b held is = absurd is
 
 -- where the processor was held and the answer fits, the only sight is at the channel at which it was held
 held_sight : (pp : Processor) (x : Answer) (log : LogState) → WasHeld pp log.entries → fits (need pp) x ≡ true → IsHeldAt (given_by seen_answered (need pp) x) log
@@ -188,10 +194,17 @@ one_sight (needs.Channel c operation) x fit =
 one_sight (needs.Read a) x fit = omega arith
 one_sight (needs.Write a w) x fit = omega arith
 
+-- the log of a worker has the entries of its steps, and begins with them
+entries_at : {load pp : Processor} {size steps : ℕ} {xs : List Answer} {log : LogState} → (work : IsAtWork load size steps pp xs log) → HasEntries work.done work.look log
+entries_at work = record { all = work.entries; kept = work.kept }
+
+pub work_begun : {load pp : Processor} {size steps : ℕ} {xs : List Answer} {log : LogState} → (work : IsAtWork load size steps pp xs log) → BeginsWith work.done log
+work_begun {log = log} work = begins_with work.done work.look log (entries_at work) (λ k. ((work.held k).channel, (work.held k).looked))
+
 -- how much room a worker with steps left has
 pub room_left : (load : Processor) (size steps : ℕ) (pp : Processor) (xs : List Answer) (log : LogState) → IsAtWork load size steps pp xs log → length xs < steps → 1 ≤ log.room
 room_left load size steps pp xs log work fewer =
-    let s = settles log (λ k. ((work.held k).channel, (work.held k).looked)) in
+    let s = work_begun work in
     omega (arith, s.few, work.few_entries, work.few_sights, work.room)
 
 true_kept : (kept after : LogState) → kept ≡ record after { kept = true } → kept.kept ≡ false → ⊥
@@ -205,8 +218,7 @@ work_moved load size steps pp new xs x before after kept work fewer told moved n
     let same : pp ≡ replayed load xs = work.pp_is in
     let fit : fits (need (replayed load xs)) x ≡ true = subst (λ (q : Processor). fits (need q) x ≡ true) same told.fits in
     let room : 1 ≤ before.room = room_left load size steps pp xs before work fewer in
-    let log = logged (given_by seen_answered (need pp) x) before after room (λ k. held_sight pp x before (work.held k) told.fits) told.noted in
-    let stays : settled kept ≡ after.entries = settled_kept kept (ap (λ l. l.kept) kept_is) ∙ ap (λ l. l.entries) kept_is in
+    let log = logged (given_by seen_answered (need pp) x) work.done work.look before after room (entries_at work) (λ k. held_sight pp x before (work.held k) told.fits) told.noted in
     let n : length (xs ++ x ∷ []) ≡ length xs + 1 = length-append xs (x ∷ []) in
     let more : sights_given load (xs ++ x ∷ []) ≡ sights_given load xs ++ given_by seen_answered (need pp) x =
     told_along-push seen_answered xs load x work.all_given fit ∙ ap (λ q. sights_given load xs ++ given_by seen_answered (need q) x) (sym same) in
@@ -216,11 +228,14 @@ work_moved load size steps pp new xs x before after kept work fewer told moved n
       all_given = given_count-push xs load x work.all_given fit;
       all_moved = each_push (λ q y. outcome q y ≡ Moved) load xs x work.all_moved (ap (λ q. outcome q x) (sym same) ∙ moved);
       by_size = each_push (λ q y. IsBySize size (need q) y) load xs x work.by_size (subst (λ (q : Processor). IsBySize size (need q) x) same told.by_size);
+      done = after.entries;
+      look = None;
+      entries = ap (λ l. l.entries) kept_is ∙ sym (append-nil after.entries);
+      kept = ap (λ l. l.kept) kept_is;
       events = ap (λ l. events_in l.entries) kept_is ∙ (log.events ∙ ((λ i. work.events i ++ among_sights (need pp) x i) ∙ (ap (λ q. events_given load xs ++ given_by event_answered (need q) x) same ∙ sym (told_along-push event_answered xs load x work.all_given fit))));
-      sights = subst (λ (ss : List (OfChannel Seen)). IsSubsequence ss (sights_in (settled kept))) (sym more)
-          (subst (λ (l : List Entry). IsSubsequence (sights_given load xs ++ given_by seen_answered (need pp) x) (sights_in l)) (sym stays) (log.sights (sights_given load xs) work.sights));
+      sights = subst (λ (ss : List (OfChannel Seen)). IsSubsequence ss (sights_in after.entries)) (sym more) (log.sights (sights_given load xs) work.sights);
       monotone = subst (λ (l : List Entry). IsMonotone l) (sym (ap (λ l. l.entries) kept_is)) (told.monotone work.monotone);
-      few_entries = omega (arith, ap length stays, log.few, work.few_entries, count);
+      few_entries = omega (arith, log.few, work.few_entries, count);
       few_sights = omega (arith, work.few_sights, count, one_sight (need pp) x told.fits, n);
       held = λ k. absurd (true_kept kept after kept_is k);
       room = ap (λ l. l.room + length l.entries) kept_is ∙ (log.room ∙ work.room);
@@ -258,12 +273,10 @@ work_held load size steps pp new xs x before after work fewer told held new_is =
     let entry : Entry = record { channel = h.channel; number = noted.0; what = Saw h.flags } in
     let before_held : before.kept ≡ false → IsTrue (is_look_at h.channel (last_or None before.entries)) =
     λ k. held_at_channel h.channel (Saw h.flags) before (subst (λ (ss : List (OfChannel Seen)). IsHeldAt ss before) h.only (held_sight pp x before (work.held k) told.fits)) in
-    let look = looked_at before entry before_held in
-    let entries : after.entries ≡ settled before ++ entry ∷ [] = ap (λ l. l.entries) noted.1 ∙ look.entries in
-    let stays : settled after ≡ settled before = ap settled noted.1 ∙ settled_look before entry look in
-    let s = settles before (λ k. (h.channel, before_held k)) in
-    let log = logged_as h.channel noted.0 (Saw h.flags) before after room s before_held noted.1 in
-    let last : last_or None after.entries ≡ Some entry = ap (last_or None) entries ∙ last_or-push None (settled before) entry in
+    let look = looked_at work.done work.look before entry (entries_at work) before_held in
+    let entries : after.entries ≡ work.done ++ entry ∷ [] = ap (λ l. l.entries) noted.1 ∙ look.entries in
+    let log = logged_as h.channel noted.0 (Saw h.flags) work.done work.look before after room (entries_at work) (work_begun work) before_held noted.1 in
+    let last : last_or None after.entries ≡ Some entry = ap (last_or None) entries ∙ last_or-push None work.done entry in
     let was : WasHeld pp after.entries = record { channel = h.channel; needs = h.needs; looked = ap (is_look_at h.channel) last ∙ eq-eqb h.channel h.channel refl } in
     let new_was : WasHeld new after.entries = subst (λ (q : Processor). WasHeld q after.entries) (sym new_is) was in
     let same : IsAtWork load size steps new xs after = record {
@@ -271,10 +284,14 @@ work_held load size steps pp new xs x before after work fewer told held new_is =
       all_given = work.all_given;
       all_moved = work.all_moved;
       by_size = work.by_size;
+      done = work.done;
+      look = Some entry;
+      entries = entries;
+      kept = ap (λ l. l.kept) noted.1 ∙ look.kept;
       events = log.events ∙ (append-nil (events_in before.entries) ∙ work.events);
-      sights = subst (λ (l : List Entry). IsSubsequence (sights_given load xs) (sights_in l)) (sym stays) work.sights;
+      sights = work.sights;
       monotone = told.monotone work.monotone;
-      few_entries = omega (arith, ap length stays, work.few_entries);
+      few_entries = work.few_entries;
       few_sights = work.few_sights;
       held = λ k. new_was;
       room = log.room ∙ work.room;
@@ -285,16 +302,19 @@ work_held load size steps pp new xs x before after work fewer told held new_is =
 pub work_begins : (load pp : Processor) (size steps : ℕ) (xs : List Answer) (log : LogState) → pp ≡ load → xs ≡ [] → log ≡ empty_log (2 * steps + 1) → IsAtWork load size steps pp xs log
 unfolding replayed given_count told_along
 work_begins load pp size steps xs log pp_is none is =
-    let entries : log.entries ≡ [] = ap (λ l. l.entries) is in
-    let stays : settled log ≡ [] = settled_kept log (ap (λ l. l.kept) is) ∙ entries in record {
+    let entries : log.entries ≡ [] = ap (λ l. l.entries) is in record {
       pp_is = rw none pp_is;
       all_given = rw none refl;
       all_moved = rw none (λ i x e. absurd cc);
       by_size = rw none (λ i x e. absurd cc);
+      done = [];
+      look = None;
+      entries = entries;
+      kept = ap (λ l. l.kept) is;
       events = rw (none, entries) refl;
       sights = rw none tt;
       monotone = rw entries (λ i j d below within. absurd (omega arith));
-      few_entries = omega (arith, ap length stays);
+      few_entries = omega arith;
       few_sights = rw none (omega arith);
       held = λ k. absurd (both_ways log.kept k (ap (λ l. l.kept) is));
       room = omega (arith, ap length entries, ap (λ l. l.room) is);

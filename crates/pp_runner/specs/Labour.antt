@@ -1,6 +1,6 @@
 -- What holds of a worker between any two tries of a step.
 -- (Private contracts alone cite this.)
-use Rattle.std.specs.Prelude.{◌≡◌, ◌<◌, ◌≤◌, ◌+◌, ◌-◌, ◌*◌, ℕ, true, false, List, [], ◌∷◌, ◌++◌, length, take, All, Some, if◌then◌else◌, flat_map}
+use Rattle.std.specs.Prelude.{◌≡◌, ◌<◌, ◌≤◌, ◌+◌, ◌*◌, ℕ, true, false, not, List, [], ◌∷◌, ◌++◌, length, All, Option, Some, is_some, option_to_list, flat_map}
 use Rattle.pp_channel.specs.Answer.{seen_answered}
 use Rattle.pp_channel.specs.ChannelWord.{greatest_number, number_in}
 use Rattle.pp_channel.specs.LineLog.{LogState, with_seen, IsMonotone, seen_on}
@@ -17,23 +17,24 @@ use Rattle.pp_runner.specs.declared.end.End.{End}
 use Rattle.pp_runner.specs.WorkerReport.{AllMoved, AllBySize, IsBySize, events_in, sights_in, IsSubsequence}
 use Rattle.pp_runner.specs.End.{WasHeld}
 
--- the entries that stay whatever follows: all but a last look that held the processor
-abbrev pub settled : LogState → List Entry
-settled log = if log.kept then log.entries else take (length log.entries - 1) log.entries
-
--- The processor is the replay of its answers, and the log tells what that replay did and saw. Each
--- event and each look of the replay has two entries at most, and there is one more while the
--- processor is held; the log has room for the rest.
+-- The processor is the replay of its answers, and the log tells what that replay did and saw: the
+-- steps that are done have two entries at most for each event and each look of the replay. While
+-- the processor is held, a look follows that need not stay. The log has room for the rest.
 pub record IsAtWork (load : Processor) (size steps : ℕ) (pp : Processor) (answers : List Answer)
     (log : LogState) : Type 0 where
   pub pp_is : pp ≡ replayed load answers
   pub all_given : given_count load answers ≡ length answers
   pub all_moved : AllMoved load answers
   pub by_size : AllBySize size load answers
+  -- the entries of the steps that are done, and the look that held the processor
+  pub done : List Entry
+  pub look : Option Entry
+  pub entries : log.entries ≡ done ++ option_to_list look
+  pub kept : log.kept ≡ not (is_some look)
   pub events : events_in log.entries ≡ events_given load answers
-  pub sights : IsSubsequence (sights_given load answers) (sights_in (settled log))
+  pub sights : IsSubsequence (sights_given load answers) (sights_in done)
   pub monotone : IsMonotone log.entries
-  pub few_entries : length (settled log) ≤ 2 * length (sights_given load answers)
+  pub few_entries : length done ≤ 2 * length (sights_given load answers)
   pub few_sights : length (sights_given load answers) ≤ length answers
   pub held : log.kept ≡ false → WasHeld pp log.entries
   pub room : log.room + length log.entries ≡ 2 * steps + 1
