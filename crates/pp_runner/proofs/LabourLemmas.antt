@@ -1,9 +1,9 @@
 -- What a try of a step keeps of what a worker has.
 use Rattle.std.proofs.Common.{◌≡◌, ℕ, ◌+◌, ◌-◌, ◌*◌, ◌<◌, ◌≤◌, true, false, List, [], ◌∷◌, ◌++◌, length, map, take, Option, None, Some, refl, sym, ap, ◌∙◌, subst, inl, inr, arith}
-use Rattle.std.specs.Prelude.{IsTrue, not, is_some, slice_get}
+use Rattle.std.specs.Prelude.{IsTrue, slice_get}
 use Rattle.std.specs.List.{last_or, filter_map}
 use Rattle.std.specs.Option.{option_map, option_or, option_to_list}
-use Rattle.std.proofs.lemmas.Bool.{both_ways, eq-eqb, cases_Bool, cases_lt}
+use Rattle.std.proofs.lemmas.Bool.{both_ways, eq-eqb, cases_lt}
 use Rattle.std.proofs.lemmas.List.{append-nil, length-append, take-append-le}
 use Rattle.std.proofs.lemmas.Option.{slice_get_within, slice_get-get_or}
 use Rattle.std.proofs.Math.ListN.{get_or-append}
@@ -30,10 +30,10 @@ use Rattle.pp_machine.specs.declared.answer.Answer.TheVariants as answers
 use Rattle.pp_machine.specs.declared.need.Need.{Need}
 use Rattle.pp_machine.specs.declared.need.Need.TheVariants as needs
 use Rattle.pp_machine.specs.declared.outcome.Outcome.TheVariants.{Moved}
-use Rattle.pp_runner.proofs.LogLemmas.{looked_at, HasEntries, BeginsWith, begins_with, events_done, events_in-push, sights_in-push, stands_push, stands_done}
+use Rattle.pp_runner.proofs.LogLemmas.{looked_at, BeginsWith, begins_with, events_done, events_in-push, sights_in-push, stands_push, stands_done}
 use Rattle.pp_runner.proofs.ReplyLemmas.{sight_of, reply_to_channel}
 use Rattle.pp_runner.specs.WorkerReport.{OfEachAnswer, IsBySize, event_in, events_in, sights_in, IsSubsequence}
-use Rattle.pp_runner.specs.Labour.{IsAtWork, IsAnswered, IsNoted}
+use Rattle.pp_runner.specs.Labour.{HasEntries, IsAtWork, IsAnswered, IsNoted}
 use Rattle.pp_runner.specs.End.{WasHeld, NeedsChannel}
 
 -- what is true of each answer is true of each of one more
@@ -194,12 +194,9 @@ one_sight (needs.Channel c operation) x fit =
 one_sight (needs.Read a) x fit = omega arith
 one_sight (needs.Write a w) x fit = omega arith
 
--- the log of a worker has the entries of its steps, and begins with them
-entries_at : {load pp : Processor} {size steps : ℕ} {xs : List Answer} {log : LogState} → (work : IsAtWork load size steps pp xs log) → HasEntries work.done work.look log
-entries_at work = record { all = work.entries; kept = work.kept }
-
+-- the log of a worker begins with the entries of its steps
 pub work_begun : {load pp : Processor} {size steps : ℕ} {xs : List Answer} {log : LogState} → (work : IsAtWork load size steps pp xs log) → BeginsWith work.done log
-work_begun {log = log} work = begins_with work.done work.look log (entries_at work) (λ k. ((work.held k).channel, (work.held k).looked))
+work_begun {log = log} work = begins_with work.done work.look log work.has (λ k. ((work.held k).channel, (work.held k).looked))
 
 -- how much room a worker with steps left has
 pub room_left : (load : Processor) (size steps : ℕ) (pp : Processor) (xs : List Answer) (log : LogState) → IsAtWork load size steps pp xs log → length xs < steps → 1 ≤ log.room
@@ -218,7 +215,7 @@ work_moved load size steps pp new xs x before after kept work fewer told moved n
     let same : pp ≡ replayed load xs = work.pp_is in
     let fit : fits (need (replayed load xs)) x ≡ true = subst (λ (q : Processor). fits (need q) x ≡ true) same told.fits in
     let room : 1 ≤ before.room = room_left load size steps pp xs before work fewer in
-    let log = logged (given_by seen_answered (need pp) x) work.done work.look before after room (entries_at work) (λ k. held_sight pp x before (work.held k) told.fits) told.noted in
+    let log = logged (given_by seen_answered (need pp) x) work.done work.look before after room work.has (λ k. held_sight pp x before (work.held k) told.fits) told.noted in
     let n : length (xs ++ x ∷ []) ≡ length xs + 1 = length-append xs (x ∷ []) in
     let more : sights_given load (xs ++ x ∷ []) ≡ sights_given load xs ++ given_by seen_answered (need pp) x =
     told_along-push seen_answered xs load x work.all_given fit ∙ ap (λ q. sights_given load xs ++ given_by seen_answered (need q) x) (sym same) in
@@ -230,8 +227,7 @@ work_moved load size steps pp new xs x before after kept work fewer told moved n
       by_size = each_push (λ q y. IsBySize size (need q) y) load xs x work.by_size (subst (λ (q : Processor). IsBySize size (need q) x) same told.by_size);
       done = after.entries;
       look = None;
-      entries = ap (λ l. l.entries) kept_is ∙ sym (append-nil after.entries);
-      kept = ap (λ l. l.kept) kept_is;
+      has = record { all = ap (λ l. l.entries) kept_is ∙ sym (append-nil after.entries); kept = ap (λ l. l.kept) kept_is };
       events = ap (λ l. events_in l.entries) kept_is ∙ (log.events ∙ ((λ i. work.events i ++ among_sights (need pp) x i) ∙ (ap (λ q. events_given load xs ++ given_by event_answered (need q) x) same ∙ sym (told_along-push event_answered xs load x work.all_given fit))));
       sights = subst (λ (ss : List (OfChannel Seen)). IsSubsequence ss (sights_in after.entries)) (sym more) (log.sights (sights_given load xs) work.sights);
       monotone = subst (λ (l : List Entry). IsMonotone l) (sym (ap (λ l. l.entries) kept_is)) (told.monotone work.monotone);
@@ -273,9 +269,9 @@ work_held load size steps pp new xs x before after work fewer told held new_is =
     let entry : Entry = record { channel = h.channel; number = noted.0; what = Saw h.flags } in
     let before_held : before.kept ≡ false → IsTrue (is_look_at h.channel (last_or None before.entries)) =
     λ k. held_at_channel h.channel (Saw h.flags) before (subst (λ (ss : List (OfChannel Seen)). IsHeldAt ss before) h.only (held_sight pp x before (work.held k) told.fits)) in
-    let look = looked_at work.done work.look before entry (entries_at work) before_held in
+    let look = looked_at work.done work.look before entry work.has before_held in
     let entries : after.entries ≡ work.done ++ entry ∷ [] = ap (λ l. l.entries) noted.1 ∙ look.entries in
-    let log = logged_as h.channel noted.0 (Saw h.flags) work.done work.look before after room (entries_at work) (work_begun work) before_held noted.1 in
+    let log = logged_as h.channel noted.0 (Saw h.flags) work.done work.look before after room work.has (work_begun work) before_held noted.1 in
     let last : last_or None after.entries ≡ Some entry = ap (last_or None) entries ∙ last_or-push None work.done entry in
     let was : WasHeld pp after.entries = record { channel = h.channel; needs = h.needs; looked = ap (is_look_at h.channel) last ∙ eq-eqb h.channel h.channel refl } in
     let new_was : WasHeld new after.entries = subst (λ (q : Processor). WasHeld q after.entries) (sym new_is) was in
@@ -286,8 +282,7 @@ work_held load size steps pp new xs x before after work fewer told held new_is =
       by_size = work.by_size;
       done = work.done;
       look = Some entry;
-      entries = entries;
-      kept = ap (λ l. l.kept) noted.1 ∙ look.kept;
+      has = record { all = entries; kept = ap (λ l. l.kept) noted.1 ∙ look.kept };
       events = log.events ∙ (append-nil (events_in before.entries) ∙ work.events);
       sights = work.sights;
       monotone = told.monotone work.monotone;
@@ -309,8 +304,7 @@ work_begins load pp size steps xs log pp_is none is =
       by_size = rw none (λ i x e. absurd cc);
       done = [];
       look = None;
-      entries = entries;
-      kept = ap (λ l. l.kept) is;
+      has = record { all = entries; kept = ap (λ l. l.kept) is };
       events = rw (none, entries) refl;
       sights = rw none tt;
       monotone = rw entries (λ i j d below within. absurd (omega arith));

@@ -1,6 +1,6 @@
 -- Logs with one entry more, and the lists that stand in them.
 use Rattle.std.proofs.Common.{◌≡◌, ℕ, ◌+◌, ◌-◌, ◌≤◌, true, false, List, [], ◌∷◌, ◌++◌, length, Option, None, Some, refl, sym, ap, ◌∙◌, subst, inl, inr, arith}
-use Rattle.std.specs.Prelude.{◌==◌, not, IsTrue, slice_set, is_some, option_to_list}
+use Rattle.std.specs.Prelude.{◌==◌, not, IsTrue, slice_set}
 use Rattle.std.specs.List.{last_or}
 use Rattle.std.proofs.lemmas.List.{map-append, append-nil, length-append}
 use Rattle.std.proofs.lemmas.List.Elements.{filter_map-append}
@@ -12,17 +12,13 @@ use Rattle.pp_channel.specs.declared.entry.Entry.{Entry}
 use Rattle.pp_channel.specs.declared.entry.Seen.{Seen}
 use Rattle.pp_channel.specs.declared.entry.Seen.TheVariants.{Did, Saw}
 use Rattle.pp_machine.specs.Replay.{OfChannel}
+use Rattle.pp_runner.specs.Labour.{HasEntries}
 use Rattle.pp_runner.specs.WorkerReport.{event_in, events_in, sights_in, IsSubsequence}
 
 set_last : {X : Type 0} (front : List X) (x y : X) → slice_set (front ++ x ∷ []) (length (front ++ x ∷ []) - 1) y ≡ front ++ y ∷ []
 set_last front x y =
     let n : length (front ++ x ∷ []) - 1 ≡ length front = omega (arith, length-append front (x ∷ [])) in
     ap (λ k. slice_set (front ++ x ∷ []) k y) n ∙ set-append_seam front x [] y
-
--- The log has these entries, and then the look, if there is one, which need not stay.
-pub record HasEntries (done : List Entry) (look : Option Entry) (log : LogState) : Type 0 where
-  pub all : log.entries ≡ done ++ option_to_list look
-  pub kept : log.kept ≡ not (is_some look)
 
 -- The log begins with these entries, and has one more at most, which is no event.
 pub record BeginsWith (done : List Entry) (log : LogState) : Type 0 where

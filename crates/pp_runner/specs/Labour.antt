@@ -17,20 +17,24 @@ use Rattle.pp_runner.specs.declared.end.End.{End}
 use Rattle.pp_runner.specs.WorkerReport.{AllMoved, AllBySize, IsBySize, events_in, sights_in, IsSubsequence}
 use Rattle.pp_runner.specs.End.{WasHeld}
 
+-- The log has the entries of the steps that are done, and then the look, if there is one, that has
+-- held the processor since. Such a look need not stay: the next one takes its place.
+pub record HasEntries (done : List Entry) (look : Option Entry) (log : LogState) : Type 0 where
+  pub all : log.entries ≡ done ++ option_to_list look
+  pub kept : log.kept ≡ not (is_some look)
+
 -- The processor is the replay of its answers, and the log tells what that replay did and saw: the
--- steps that are done have two entries at most for each event and each look of the replay. While
--- the processor is held, a look follows that need not stay. The log has room for the rest.
+-- steps that are done have two entries at most for each event and each look of the replay. The log
+-- has room for the rest.
 pub record IsAtWork (load : Processor) (size steps : ℕ) (pp : Processor) (answers : List Answer)
     (log : LogState) : Type 0 where
   pub pp_is : pp ≡ replayed load answers
   pub all_given : given_count load answers ≡ length answers
   pub all_moved : AllMoved load answers
   pub by_size : AllBySize size load answers
-  -- the entries of the steps that are done, and the look that held the processor
   pub done : List Entry
   pub look : Option Entry
-  pub entries : log.entries ≡ done ++ option_to_list look
-  pub kept : log.kept ≡ not (is_some look)
+  pub has : HasEntries done look log
   pub events : events_in log.entries ≡ events_given load answers
   pub sights : IsSubsequence (sights_given load answers) (sights_in done)
   pub monotone : IsMonotone log.entries
