@@ -15,7 +15,7 @@ use Rattle.pp_machine.specs.declared.outcome.Outcome.{Outcome}
 use Rattle.pp_machine.specs.declared.outcome.Outcome.TheVariants.{Moved, Held, AtRest}
 use Rattle.pp_machine.specs.declared.pp_state.PpState.{PpState}
 use Rattle.pp_machine.specs.declared.pp_state.PpState.TheVariants as states
-use Rattle.pp_draw.specs.Condition.{goes_on, is_faulted, is_held_by, is_in_block, is_running, is_stopped}
+use Rattle.pp_draw.specs.Condition.{goes_on}
 use Rattle.pp_draw.specs.DrawingLaw.{condition_in, goes_on_from}
 use Rattle.pp_draw.specs.Phases.{changes, phases_from}
 use Rattle.pp_draw.specs.SeenStep.{condition_by, condition_of, held_by, moving, running}
@@ -26,7 +26,7 @@ use Rattle.pp_draw.proofs.LaneLemmas.{changes_next, changes_none, no_changes}
 
 -- ---- a condition that goes on is the same
 
-runs_on : (next : Condition) → is_running next ≡ true → Running ≡ next
+runs_on : (next : Condition) → goes_on Running next ≡ true → Running ≡ next
 runs_on Inactive h = absurd (cc)
 runs_on Empty h = absurd (cc)
 runs_on (Full word) h = absurd (cc)
@@ -37,7 +37,7 @@ runs_on (HeldBy other) h = absurd (cc)
 runs_on Stopped h = absurd (cc)
 runs_on Faulted h = absurd (cc)
 
-blocks_on : (next : Condition) → is_in_block next ≡ true → InBlock ≡ next
+blocks_on : (next : Condition) → goes_on InBlock next ≡ true → InBlock ≡ next
 blocks_on Inactive h = absurd (cc)
 blocks_on Empty h = absurd (cc)
 blocks_on (Full word) h = absurd (cc)
@@ -48,7 +48,7 @@ blocks_on (HeldBy other) h = absurd (cc)
 blocks_on Stopped h = absurd (cc)
 blocks_on Faulted h = absurd (cc)
 
-stops_on : (next : Condition) → is_stopped next ≡ true → Stopped ≡ next
+stops_on : (next : Condition) → goes_on Stopped next ≡ true → Stopped ≡ next
 stops_on Inactive h = absurd (cc)
 stops_on Empty h = absurd (cc)
 stops_on (Full word) h = absurd (cc)
@@ -59,7 +59,7 @@ stops_on (HeldBy other) h = absurd (cc)
 stops_on Stopped h = refl
 stops_on Faulted h = absurd (cc)
 
-faults_on : (next : Condition) → is_faulted next ≡ true → Faulted ≡ next
+faults_on : (next : Condition) → goes_on Faulted next ≡ true → Faulted ≡ next
 faults_on Inactive h = absurd (cc)
 faults_on Empty h = absurd (cc)
 faults_on (Full word) h = absurd (cc)
@@ -70,7 +70,7 @@ faults_on (HeldBy other) h = absurd (cc)
 faults_on Stopped h = absurd (cc)
 faults_on Faulted h = refl
 
-held_on : (c : ℕ) (next : Condition) → is_held_by c next ≡ true → HeldBy c ≡ next
+held_on : (c : ℕ) (next : Condition) → goes_on (HeldBy c) next ≡ true → HeldBy c ≡ next
 held_on c Inactive h = absurd (cc)
 held_on c Empty h = absurd (cc)
 held_on c (Full word) h = absurd (cc)

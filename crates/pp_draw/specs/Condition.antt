@@ -1,5 +1,5 @@
 -- How a channel or a processor stands.
-use Rattle.std.specs.Prelude.{ℕ, Bool, true, false, ◌==◌}
+use Rattle.std.specs.Prelude.{Bool, true, false, ◌==◌}
 use Rattle.pp_channel.specs.declared.event.Event.{Event}
 use Rattle.pp_channel.specs.declared.event.Event.TheVariants.{Activate, Disconnect, Put, Take, Function}
 use Rattle.pp_draw.specs.declared.condition.Condition.{Condition}
@@ -12,26 +12,6 @@ condition_after Disconnect = Inactive
 condition_after (Put word) = Full word
 condition_after (Take word) = Empty
 condition_after (Function code) = Sent code
-
-abbrev pub is_running : Condition → Bool
-is_running Running = true
-is_running condition = false
-
-abbrev pub is_in_block : Condition → Bool
-is_in_block InBlock = true
-is_in_block condition = false
-
-abbrev pub is_held_by : ℕ → Condition → Bool
-is_held_by c (HeldBy other) = other == c
-is_held_by c condition = false
-
-abbrev pub is_stopped : Condition → Bool
-is_stopped Stopped = true
-is_stopped condition = false
-
-abbrev pub is_faulted : Condition → Bool
-is_faulted Faulted = true
-is_faulted condition = false
 
 abbrev pub is_full : Condition → Bool
 is_full (Full word) = true
@@ -47,15 +27,12 @@ is_sent condition = false
 
 -- whether the condition of a processor goes on; each event of a channel begins another
 abbrev pub goes_on : Condition → Condition → Bool
-goes_on Running next = is_running next
-goes_on InBlock next = is_in_block next
-goes_on (HeldBy c) next = is_held_by c next
-goes_on Stopped next = is_stopped next
-goes_on Faulted next = is_faulted next
-goes_on Inactive next = false
-goes_on Empty next = false
-goes_on (Full word) next = false
-goes_on (Sent code) next = false
+goes_on Running Running = true
+goes_on InBlock InBlock = true
+goes_on (HeldBy c) (HeldBy other) = other == c
+goes_on Stopped Stopped = true
+goes_on Faulted Faulted = true
+goes_on condition next = false
 
 -- whether a word, a function code or a channel is told above its band
 abbrev pub has_label : Condition → Bool

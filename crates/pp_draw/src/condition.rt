@@ -1,7 +1,7 @@
 //! How a channel or a processor stands.
 
 ghost use Rattle.std.specs.Prelude.{◌≡◌, Option};
-ghost use Rattle.pp_draw.specs.Condition.{condition_after, goes_on, has_label, is_faulted, is_full, is_held_by, is_in_block, is_inactive, is_running, is_sent, is_stopped};
+ghost use Rattle.pp_draw.specs.Condition.{condition_after, goes_on, has_label, is_full, is_inactive, is_sent};
 
 use pp_channel::{ChannelNo, Event};
 use pp_word::Word12;
@@ -46,48 +46,14 @@ impl Condition {
     pub(crate) fn goes_on(&self, next: &Condition) -> bool
         ensures { result ≡ goes_on self.now next.now }
     {
-        match self {
-            Condition::Running => next.is_running(),
-            Condition::InBlock => next.is_in_block(),
-            Condition::HeldBy(c) => next.is_held_by(*c),
-            Condition::Stopped => next.is_stopped(),
-            Condition::Faulted => next.is_faulted(),
-            Condition::Inactive | Condition::Empty | Condition::Full(_) | Condition::Sent(_) =>
-                false,
-        }
-    }
-
-    fn is_running(&self) -> bool
-        ensures { result ≡ is_running self.now }
-    {
-        matches!(self, Condition::Running)
-    }
-
-    fn is_in_block(&self) -> bool
-        ensures { result ≡ is_in_block self.now }
-    {
-        matches!(self, Condition::InBlock)
-    }
-
-    fn is_held_by(&self, c: ChannelNo) -> bool
-        ensures { result ≡ is_held_by c self.now }
-    {
-        match self {
-            Condition::HeldBy(other) => other.get() == c.get(),
+        match (self, next) {
+            (Condition::HeldBy(c), Condition::HeldBy(other)) => other.get() == c.get(),
+            (Condition::Running, Condition::Running)
+            | (Condition::InBlock, Condition::InBlock)
+            | (Condition::Stopped, Condition::Stopped)
+            | (Condition::Faulted, Condition::Faulted) => true,
             _ => false,
         }
-    }
-
-    fn is_stopped(&self) -> bool
-        ensures { result ≡ is_stopped self.now }
-    {
-        matches!(self, Condition::Stopped)
-    }
-
-    fn is_faulted(&self) -> bool
-        ensures { result ≡ is_faulted self.now }
-    {
-        matches!(self, Condition::Faulted)
     }
 
     /// Whether a channel is full.
@@ -115,14 +81,9 @@ impl Condition {
     pub(crate) fn has_label(&self) -> bool
         ensures { result ≡ has_label self.now }
     {
-        match self {
-            Condition::Full(_) | Condition::Sent(_) | Condition::HeldBy(_) => true,
-            Condition::Inactive
-            | Condition::Empty
-            | Condition::Running
-            | Condition::InBlock
-            | Condition::Stopped
-            | Condition::Faulted => false,
-        }
+        matches!(
+            self,
+            Condition::Full(_) | Condition::Sent(_) | Condition::HeldBy(_)
+        )
     }
 }
