@@ -58,10 +58,7 @@ pub fn write_steps<A: Allocator + Copy, W: Write>(
         turns,
         from,
     );
-    match text.finish() {
-        Ok(()) => Ok(()),
-        Err(_) => Err(ReportFault::Write),
-    }
+    text.finish().map_err(|_| ReportFault::Write)
 }
 
 /// Prints the steps of a machine, from two that stand for it: one goes a step ahead of the other.

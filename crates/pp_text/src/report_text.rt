@@ -45,10 +45,7 @@ pub fn write_report<A: Allocator + Copy, W: Write>(
     let Ok(authors) = authors(alloc, report.ends.as_slice(), &report.channels) else {
         return Err(ReportFault::Memory);
     };
-    match print_report(writer, report, &authors, named) {
-        Ok(()) => Ok(()),
-        Err(_) => Err(ReportFault::Write),
-    }
+    print_report(writer, report, &authors, named).map_err(|_| ReportFault::Write)
 }
 
 /// Prints the text of a report whose authors are known.

@@ -80,9 +80,6 @@ impl<'a, W: Write> TextWriter<'a, W> {
         if self.failed {
             return Err(WriteFault);
         }
-        match self.writer.flush() {
-            Ok(()) => Ok(()),
-            Err(_) => Err(WriteFault),
-        }
+        self.writer.flush().map_err(|_| WriteFault)
     }
 }
