@@ -1,15 +1,22 @@
 -- From what was read, and the answer to it, to what a call promises of every reader.
-use Rattle.std.proofs.Common.{◌≢◌, refl, ℕ, ◌≤◌, ◌<◌, List, length, take, Option, Some, None, Result, Ok, Err}
-use Rattle.std.specs.Prelude.{IfErr, IfSome, OnOk}
-use Rattle.std.specs.Io.KnownBytes.{Consumes, IsAtEnd, Keeps}
+use Rattle.std.proofs.Common.{◌≡◌, ◌≢◌, refl, ℕ, ◌≤◌, ◌<◌, List, length, take, Option, Some, None, Result, Ok, Err}
+use Rattle.std.specs.Prelude.{IfErr, IfSome, OnErr, OnOk}
+use Rattle.std.specs.Io.KnownBytes.{Appends, Consumes, IsAtEnd, Keeps}
 use Rattle.std.proofs.lemmas.Bool.{cases_lt}
 use Rattle.pp_sim.proofs.ByteLemmas.{read_front}
 use Rattle.pp_machine.specs.declared.profile.Profile.{Profile}
 use Rattle.pp_deck.specs.DeckMeaning.{LoadedDeck}
-use Rattle.pp_sim.specs.TextAnswer.{AnswersDeckUnless, IsAnswerUnless, IsReadFault, most_bytes}
+use Rattle.pp_text.specs.Written.{AppendsFront}
+use Rattle.pp_sim.specs.TextAnswer.{AnswersDeckUnless, IsAnswerUnless, IsOfDeck, IsReadFault, IsRunFaultUnless, most_bytes}
 use Rattle.pp_listing.specs.declared.going_on.GoingOn.{GoingOn}
 use Rattle.pp_sim.specs.declared.text_fault.TextFault.{TextFault}
 use Rattle.pp_sim.specs.declared.text_fault.TextFault.TheVariants as fault
+
+-- a text of the deck was written, or a first part of it
+pub written : (profile : Profile) (Hinders : LoadedDeck → GoingOn → Type 0) (IsDeckText : LoadedDeck → List ℕ → Type 0) (bytes text : List ℕ) (answer : Result (Unit {0}) TextFault) (old new : Option (List ℕ))
+    → IsOfDeck profile IsDeckText bytes text → OnOk answer (Appends old new text) → IfErr answer (λ f. f ≡ fault.Write) → OnErr answer (AppendsFront old new text) → IsAnswerUnless profile Hinders IsDeckText answer bytes old new
+written profile Hinders IsDeckText bytes text (Ok done) old new is ok err front = (text, is, ok)
+written profile Hinders IsDeckText bytes text (Err f) old new is ok err front = rw err (text, is, front)
 
 -- the answer to the bytes that were read is that to the first bytes that the reader had
 told_answer : (profile : Profile) (before after old new : Option (List ℕ)) (Hinders : LoadedDeck → GoingOn → Type 0) (IsDeckText : LoadedDeck → List ℕ → Type 0) (front : List ℕ) (most : ℕ) (answer : Result (Unit {0}) TextFault)
@@ -53,6 +60,20 @@ answered_deck profile before after old new Hinders IsDeckText front answer answe
   unwritten = unwritten_answer profile Hinders IsDeckText answer front old new answered;
 }
 
+kept_as_it_was : (kept : Option (List ℕ)) → Keeps kept kept
+kept_as_it_was None = tt
+kept_as_it_was (Some bytes) = refl
+
+-- where no text was made, nothing was written
+pub refused : (profile : Profile) (Hinders : LoadedDeck → GoingOn → Type 0) (IsDeckText : LoadedDeck → List ℕ → Type 0) (f : TextFault) (bytes : List ℕ) (kept : Option (List ℕ))
+    → IsRunFaultUnless profile Hinders bytes f → IsAnswerUnless profile Hinders IsDeckText (Err f) bytes kept kept
+refused profile Hinders IsDeckText (fault.Deck f) bytes kept is = (is, kept_as_it_was kept)
+refused profile Hinders IsDeckText (fault.NotBetweenPrograms going_on) bytes kept is = (is, kept_as_it_was kept)
+refused profile Hinders IsDeckText fault.Memory bytes kept is = kept_as_it_was kept
+refused profile Hinders IsDeckText fault.Read bytes kept is = absurd is
+refused profile Hinders IsDeckText fault.Write bytes kept is = absurd is
+refused profile Hinders IsDeckText (fault.Trace f) bytes kept is = absurd is
+
 -- where reading failed, the answer to all bytes is that nothing was written
 unread : (profile : Profile) (Hinders : LoadedDeck → GoingOn → Type 0) (IsDeckText : LoadedDeck → List ℕ → Type 0) (f : TextFault) (bytes : List ℕ) (kept : Option (List ℕ))
     → IsReadFault f → Keeps kept kept → IsAnswerUnless profile Hinders IsDeckText (Err f) bytes kept kept
@@ -62,10 +83,6 @@ unread profile Hinders IsDeckText fault.Write bytes kept is keeps = absurd is
 unread profile Hinders IsDeckText (fault.Deck f) bytes kept is keeps = absurd is
 unread profile Hinders IsDeckText (fault.NotBetweenPrograms going_on) bytes kept is keeps = absurd is
 unread profile Hinders IsDeckText (fault.Trace f) bytes kept is keeps = absurd is
-
-kept_as_it_was : (kept : Option (List ℕ)) → Keeps kept kept
-kept_as_it_was None = tt
-kept_as_it_was (Some bytes) = refl
 
 told_unread : (profile : Profile) (before kept : Option (List ℕ)) (Hinders : LoadedDeck → GoingOn → Type 0) (IsDeckText : LoadedDeck → List ℕ → Type 0) (f : TextFault) (most : ℕ)
     → IsReadFault f → IfSome before (λ bytes. IsAnswerUnless profile Hinders IsDeckText (Err f) (take most bytes) kept kept)

@@ -1,6 +1,6 @@
 //! The command line that the program takes, by clap.
 
-ghost use Rattle.std.specs.Prelude.{◌≡◌, codes, false, IfOk};
+ghost use Rattle.std.specs.Prelude.{◌≡◌, false, IfOk};
 ghost use Rattle.clap.specs.Words.{app_of, new_app, rule_of, with_rule};
 ghost use Rattle.clap.specs.declared.builder.command.Command.TheViews.{out-Command as fields_of};
 ghost use Rattle.pp_sim.specs.CommandLine.{bare, check, draw, list, number_option, optional_value, processors_option, ppsim, steps, threads, turns_command};
@@ -100,14 +100,6 @@ fn turns_command<'a>(alloc: Global, name: &'a str, help: Help) -> Result<Command
     command.arg(processors_option(alloc))
 }
 
-/// `barrel --turns N [--processors N]`
-fn barrel_command<'a>(alloc: Global) -> Result<Command<'a>, AllocError>
-    ensures app { IfOk result (λ c. app_of c ≡ turns_command (codes "barrel")) }
-    ensures local { IfOk result (λ c. (fields_of c).has_globals ≡ false) }
-{
-    turns_command(alloc, "barrel", BARREL_HELP)
-}
-
 /// `threads --steps N --patience N [--processors N]`
 fn threads_command<'a>(alloc: Global) -> Result<Command<'a>, AllocError>
     ensures app { IfOk result (λ c. app_of c ≡ threads) }
@@ -128,22 +120,6 @@ fn list_command<'a>(alloc: Global) -> Result<Command<'a>, AllocError>
     command.arg(processors_option(alloc))
 }
 
-/// `dump --turns N [--processors N]`
-fn dump_command<'a>(alloc: Global) -> Result<Command<'a>, AllocError>
-    ensures app { IfOk result (λ c. app_of c ≡ turns_command (codes "dump")) }
-    ensures local { IfOk result (λ c. (fields_of c).has_globals ≡ false) }
-{
-    turns_command(alloc, "dump", DUMP_HELP)
-}
-
-/// `state --turns N [--processors N]`
-fn state_command<'a>(alloc: Global) -> Result<Command<'a>, AllocError>
-    ensures app { IfOk result (λ c. app_of c ≡ turns_command (codes "state")) }
-    ensures local { IfOk result (λ c. (fields_of c).has_globals ≡ false) }
-{
-    turns_command(alloc, "state", STATE_HELP)
-}
-
 /// `steps --turns N [--pp N] [--from N] [--processors N]`
 fn steps_command<'a>(alloc: Global) -> Result<Command<'a>, AllocError>
     ensures app { IfOk result (λ c. app_of c ≡ steps) }
@@ -154,14 +130,6 @@ fn steps_command<'a>(alloc: Global) -> Result<Command<'a>, AllocError>
     let command = with_optional_number(alloc, command, "pp", PP_HELP)?;
     let command = with_optional_number(alloc, command, "from", FROM.help)?;
     command.arg(processors_option(alloc))
-}
-
-/// `sessions --turns N [--processors N]`
-fn sessions_command<'a>(alloc: Global) -> Result<Command<'a>, AllocError>
-    ensures app { IfOk result (λ c. app_of c ≡ turns_command (codes "sessions")) }
-    ensures local { IfOk result (λ c. (fields_of c).has_globals ≡ false) }
-{
-    turns_command(alloc, "sessions", SESSIONS_HELP)
 }
 
 /// `draw --turns N [--from N] [--to N] [--processors N]`
@@ -203,13 +171,13 @@ fn bare_command<'a>(alloc: Global) -> Command<'a>
 pub(crate) fn command<'a>(alloc: Global) -> Result<Command<'a>, AllocError>
     ensures { IfOk result (λ c. app_of c ≡ ppsim) }
 {
-    let barrel = barrel_command(alloc)?;
+    let barrel = turns_command(alloc, "barrel", BARREL_HELP)?;
     let threads = threads_command(alloc)?;
     let list = list_command(alloc)?;
-    let dump = dump_command(alloc)?;
+    let dump = turns_command(alloc, "dump", DUMP_HELP)?;
     let steps = steps_command(alloc)?;
-    let state = state_command(alloc)?;
-    let sessions = sessions_command(alloc)?;
+    let state = turns_command(alloc, "state", STATE_HELP)?;
+    let sessions = turns_command(alloc, "sessions", SESSIONS_HELP)?;
     let draw = draw_command(alloc)?;
     let check = check_command(alloc)?;
     let bare = bare_command(alloc);

@@ -27,13 +27,7 @@ fn number_of(matches: &ArgMatches<'_>, id: &str) -> Option<u32>
         (first_value (found_of matches.now) id.now) n)
         (ReadsNumber (first_value (found_of matches.now) id.now)) }
 {
-    match matches.get_str(id) {
-        Some(text) => match text.parse::<u32>() {
-            Ok(number) => Some(number),
-            Err(_) => None,
-        },
-        None => None,
-    }
+    matches.get_str(id)?.parse::<u32>().ok()
 }
 
 /// The profile with as many processors as the options say, if there is one; the 6600's own where
@@ -92,13 +86,9 @@ fn only_of(matches: &ArgMatches<'_>, profile: Profile) -> Option<Option<PpNo>>
     let Some(text) = matches.get_str("pp") else {
         return Some(None);
     };
-    match u8::from_str_radix(text, 8) {
-        Ok(number) => match profile.processor(number) {
-            Some(n) => Some(Some(n)),
-            None => None,
-        },
-        Err(_) => None,
-    }
+    let number = u8::from_str_radix(text, 8).ok()?;
+    let n = profile.processor(number)?;
+    Some(Some(n))
 }
 
 /// The turn from which on lines are printed, if it is in range; 0 where the options do not say it.
@@ -181,73 +171,6 @@ fn opened_of(matches: &ArgMatches<'_>) -> Option<[bool; CHANNELS]>
     }
 }
 
-/// The work that `barrel` asks for.
-fn barrel_work(matches: &ArgMatches<'_>) -> Option<Work>
-    ensures { MatchOption result
-        ((work : Work) → ¬ IsWorkOf (codes "barrel") (first_value (found_of matches.now)) work)
-        (IsWorkOf (codes "barrel") (first_value (found_of matches.now))) }
-{
-    let profile = profile_of(matches)?;
-    let turns = turns_of(matches)?;
-    Some(Work::Barrel { profile, turns })
-}
-
-/// The work that `threads` asks for.
-fn threads_work(matches: &ArgMatches<'_>) -> Option<Work>
-    ensures { MatchOption result
-        ((work : Work) → ¬ IsWorkOf (codes "threads") (first_value (found_of matches.now)) work)
-        (IsWorkOf (codes "threads") (first_value (found_of matches.now))) }
-{
-    let profile = profile_of(matches)?;
-    let steps = number_of(matches, "steps")?;
-    let patience = number_of(matches, "patience")?;
-    let limits = limits_of(steps, patience)?;
-    Some(Work::Threads { profile, limits })
-}
-
-/// The work that `list` asks for.
-fn list_work(matches: &ArgMatches<'_>) -> Option<Work>
-    ensures { MatchOption result
-        ((work : Work) → ¬ IsWorkOf (codes "list") (first_value (found_of matches.now)) work)
-        (IsWorkOf (codes "list") (first_value (found_of matches.now))) }
-{
-    let profile = profile_of(matches)?;
-    Some(Work::List { profile })
-}
-
-/// The work that `dump` asks for.
-fn dump_work(matches: &ArgMatches<'_>) -> Option<Work>
-    ensures { MatchOption result
-        ((work : Work) → ¬ IsWorkOf (codes "dump") (first_value (found_of matches.now)) work)
-        (IsWorkOf (codes "dump") (first_value (found_of matches.now))) }
-{
-    let profile = profile_of(matches)?;
-    let turns = turns_of(matches)?;
-    Some(Work::Dump { profile, turns })
-}
-
-/// The work that `state` asks for.
-fn state_work(matches: &ArgMatches<'_>) -> Option<Work>
-    ensures { MatchOption result
-        ((work : Work) → ¬ IsWorkOf (codes "state") (first_value (found_of matches.now)) work)
-        (IsWorkOf (codes "state") (first_value (found_of matches.now))) }
-{
-    let profile = profile_of(matches)?;
-    let turns = turns_of(matches)?;
-    Some(Work::State { profile, turns })
-}
-
-/// The work that `sessions` asks for.
-fn sessions_work(matches: &ArgMatches<'_>) -> Option<Work>
-    ensures { MatchOption result
-        ((work : Work) → ¬ IsWorkOf (codes "sessions") (first_value (found_of matches.now)) work)
-        (IsWorkOf (codes "sessions") (first_value (found_of matches.now))) }
-{
-    let profile = profile_of(matches)?;
-    let turns = turns_of(matches)?;
-    Some(Work::Sessions { profile, turns })
-}
-
 /// The work that `steps` asks for.
 fn steps_work(matches: &ArgMatches<'_>) -> Option<Work>
     ensures { MatchOption result
@@ -280,16 +203,6 @@ fn draw_work(matches: &ArgMatches<'_>) -> Option<Work>
     Some(Work::Draw { profile, window })
 }
 
-/// The work that `check` asks for.
-fn check_work(matches: &ArgMatches<'_>) -> Option<Work>
-    ensures { MatchOption result
-        ((work : Work) → ¬ IsWorkOf (codes "check") (first_value (found_of matches.now)) work)
-        (IsWorkOf (codes "check") (first_value (found_of matches.now))) }
-{
-    let opened = opened_of(matches)?;
-    Some(Work::Check { opened })
-}
-
 /// The work that a command asks for, if its numbers are in range.
 fn work_of(name: &str, matches: &ArgMatches<'_>) -> Option<Work>
     ensures { MatchOption result ((work : Work)
@@ -297,15 +210,43 @@ fn work_of(name: &str, matches: &ArgMatches<'_>) -> Option<Work>
         (IsWorkOf name.now (first_value (found_of matches.now))) }
 {
     match name {
-        "barrel" => barrel_work(matches),
-        "threads" => threads_work(matches),
-        "list" => list_work(matches),
-        "dump" => dump_work(matches),
-        "state" => state_work(matches),
-        "sessions" => sessions_work(matches),
+        "barrel" => {
+            let profile = profile_of(matches)?;
+            let turns = turns_of(matches)?;
+            Some(Work::Barrel { profile, turns })
+        }
+        "threads" => {
+            let profile = profile_of(matches)?;
+            let steps = number_of(matches, "steps")?;
+            let patience = number_of(matches, "patience")?;
+            let limits = limits_of(steps, patience)?;
+            Some(Work::Threads { profile, limits })
+        }
+        "list" => {
+            let profile = profile_of(matches)?;
+            Some(Work::List { profile })
+        }
+        "dump" => {
+            let profile = profile_of(matches)?;
+            let turns = turns_of(matches)?;
+            Some(Work::Dump { profile, turns })
+        }
+        "state" => {
+            let profile = profile_of(matches)?;
+            let turns = turns_of(matches)?;
+            Some(Work::State { profile, turns })
+        }
+        "sessions" => {
+            let profile = profile_of(matches)?;
+            let turns = turns_of(matches)?;
+            Some(Work::Sessions { profile, turns })
+        }
         "steps" => steps_work(matches),
         "draw" => draw_work(matches),
-        "check" => check_work(matches),
+        "check" => {
+            let opened = opened_of(matches)?;
+            Some(Work::Check { opened })
+        }
         _ => None,
     }
 }

@@ -1,7 +1,7 @@
 //! What the program does from its words to its exit status. It stands in a library, so that several
 //! programs with other words, decks and statuses can be run on it.
 
-use crate::program::run_program;
+use crate::program::{LINE_REFUSED, NO_MEMORY, run_program};
 use std::alloc::{AllocError, Global};
 use std::env::Env;
 use std::io::{ErrorKind, Read, Write};
@@ -9,12 +9,6 @@ use std::process::ExitCode;
 use std::sync::Wait;
 use std::thread::Threads;
 use std::{env, io};
-
-/// The status where a word is not UTF-8.
-const LINE_REFUSED: u8 = 2;
-
-/// The status where memory was refused.
-const NO_MEMORY: u8 = 4;
 
 /// Does what the words of the command line ask for, over these three streams, and answers the
 /// status to exit with: 0 done, 1 deck or trace refused, 2 command line refused, 3 a device failed,

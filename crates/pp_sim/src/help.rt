@@ -1,5 +1,43 @@
 //! The texts of the program's help.
 
+/// An example of a command, over a deck in which one processor hands a word to another; and what
+/// stands before it.
+macro_rules! handoff_example {
+    ($words:literal) => {
+        handoff_example!("", $words)
+    };
+    ($front:literal, $words:literal) => {
+        concat!(
+            $front,
+            "Example:\n  ppsim ",
+            $words,
+            " < handoff.deck
+where handoff.deck has the lines
+  PP 0
+  0100 7405 1407 7205 0300
+  START 0100
+  PP 1
+  0200 7005 0300
+  START 0200"
+        )
+    };
+}
+
+/// An example of a command, over a deck of four instructions.
+macro_rules! four_example {
+    ($words:literal) => {
+        concat!(
+            "Example:\n  ppsim ",
+            $words,
+            " < four.deck
+where four.deck has the lines
+  PP 0
+  0100 1405 1603 3450 0300
+  START 0100"
+        )
+    };
+}
+
 /// The help of a command.
 #[derive(Clone, Copy)]
 pub(crate) struct Help {
@@ -15,7 +53,8 @@ pub(crate) const ABOUT: &str =
     "Simulates the peripheral processors and data channels of a Control Data 6600";
 
 /// The end of the long help.
-pub(crate) const MANUAL: &str = "\
+pub(crate) const MANUAL: &str = handoff_example!(
+    "\
 A deck has these lines. All its numbers are octal:
   CENTRAL 10000     the size of central memory; only as the first line
   PP 0              what follows is for processor 0
@@ -43,27 +82,12 @@ after a read or write fault, and 4 when memory runs out.
 The pages TUTORIAL.md, docs/MACHINE.md (the instructions), docs/DECK.md, docs/OUTPUT.md and
 docs/VIEWS.md of the repository say more.
 
-Example:
-  ppsim barrel --turns 40 < handoff.deck
-where handoff.deck has the lines
-  PP 0
-  0100 7405 1407 7205 0300
-  START 0100
-  PP 1
-  0200 7005 0300
-  START 0200";
+",
+    "barrel --turns 40"
+);
 
 /// The end of the short help.
-pub(crate) const EXAMPLE: &str = "\
-Example:
-  ppsim barrel --turns 40 < handoff.deck
-where handoff.deck has the lines
-  PP 0
-  0100 7405 1407 7205 0300
-  START 0100
-  PP 1
-  0200 7005 0300
-  START 0200";
+pub(crate) const EXAMPLE: &str = handoff_example!("barrel --turns 40");
 
 pub(crate) const BARREL_HELP: Help = Help {
     about: "Runs a deck in the barrel, one step a turn, and prints what happened",
@@ -105,16 +129,7 @@ each channel that has a history. What goes wrong is one line on standard error.
 
 Where the deck has a line DEAD, the processors without a section wait for their programs, each on
 the channel of its own number, as at a dead start.",
-    example: "\
-Example:
-  ppsim threads --steps 100 --patience 1000000 < handoff.deck
-where handoff.deck has the lines
-  PP 0
-  0100 7405 1407 7205 0300
-  START 0100
-  PP 1
-  0200 7005 0300
-  START 0200",
+    example: handoff_example!("threads --steps 100 --patience 1000000"),
 };
 
 pub(crate) const LIST_HELP: Help = Help {
@@ -129,13 +144,7 @@ deck names. What goes wrong is one line on standard error.
 
 The listing is itself a deck, and loads the same machine, where it is no longer than a deck may be,
 1048576 bytes (decimal).",
-    example: "\
-Example:
-  ppsim list < four.deck
-where four.deck has the lines
-  PP 0
-  0100 1405 1603 3450 0300
-  START 0100",
+    example: four_example!("list"),
 };
 
 pub(crate) const DUMP_HELP: Help = Help {
@@ -149,13 +158,7 @@ Reads the deck from standard input. What is printed to standard output is a deck
 where it is no longer than a deck may be, 1048576 bytes (decimal): histories and turns are gone.
 Where a processor is within a block or at fault, or a channel is active, nothing is printed, and the
 first of these is told on standard error. Any other fault is one line there too.",
-    example: "\
-Example:
-  ppsim dump --turns 40 < four.deck
-where four.deck has the lines
-  PP 0
-  0100 1405 1603 3450 0300
-  START 0100",
+    example: four_example!("dump --turns 40"),
 };
 
 pub(crate) const STATE_HELP: Help = Help {
@@ -172,13 +175,7 @@ state of each channel that has a history. What goes wrong is one line on standar
 
 FAULT 1 is an exchange jump, FAULT 2 a request to the central processor, FAULT 3 a channel that the
 machine does not have, and FAULT 4 an address past the end of central memory.",
-    example: "\
-Example:
-  ppsim state --turns 40 < four.deck
-where four.deck has the lines
-  PP 0
-  0100 1405 1603 3450 0300
-  START 0100",
+    example: four_example!("state --turns 40"),
 };
 
 pub(crate) const SESSIONS_HELP: Help = Help {
@@ -194,16 +191,7 @@ put and not taken, which was LOST by the disconnect or is WAITING; and a line fo
 with function codes. Then, for each processor that the deck names, how many of its turns MOVED it,
 were HELD, and found it at REST. Turns and counts are decimal, words octal. What goes wrong is one
 line on standard error.",
-    example: "\
-Example:
-  ppsim sessions --turns 40 < handoff.deck
-where handoff.deck has the lines
-  PP 0
-  0100 7405 1407 7205 0300
-  START 0100
-  PP 1
-  0200 7005 0300
-  START 0200",
+    example: handoff_example!("sessions --turns 40"),
 };
 
 pub(crate) const STEPS_HELP: Help = Help {
@@ -220,13 +208,7 @@ flags, and how many there are. What goes wrong is one line on standard error.
 
 FAULT 1 is an exchange jump, FAULT 2 a request to the central processor, FAULT 3 a channel that the
 machine does not have, and FAULT 4 an address past the end of central memory.",
-    example: "\
-Example:
-  ppsim steps --turns 40 --pp 0 < four.deck
-where four.deck has the lines
-  PP 0
-  0100 1405 1603 3450 0300
-  START 0100",
+    example: four_example!("steps --turns 40 --pp 0"),
 };
 
 pub(crate) const DRAW_HELP: Help = Help {
@@ -242,16 +224,7 @@ line on standard error.
 
 A picture has at most 2000 turns. Of a longer run, give the first turn to draw and the one before
 which the picture ends: --turns 999999 --from 5000 --to 6000.",
-    example: "\
-Example:
-  ppsim draw --turns 40 < handoff.deck
-where handoff.deck has the lines
-  PP 0
-  0100 7405 1407 7205 0300
-  START 0100
-  PP 1
-  0200 7005 0300
-  START 0200",
+    example: handoff_example!("draw --turns 40"),
 };
 
 pub(crate) const CHECK_HELP: Help = Help {

@@ -29,11 +29,11 @@ const DONE: u8 = 0;
 /// The deck was refused, or can't be dumped as it stands; or a trace is not lawful.
 const INPUT_REFUSED: u8 = 1;
 /// The command line was refused.
-const LINE_REFUSED: u8 = 2;
+pub(crate) const LINE_REFUSED: u8 = 2;
 /// The input or the output failed.
 const DEVICE_FAILED: u8 = 3;
 /// Memory was refused.
-const NO_MEMORY: u8 = 4;
+pub(crate) const NO_MEMORY: u8 = 4;
 
 /// Does what the words ask for, the program's name first, and answers the status to exit with.
 /// The words are read first: where they are refused, nothing is read from `input`. A fault in

@@ -71,11 +71,6 @@ pub(crate) fn write_whole<W: Write>(writer: &mut W, text: &[u8]) -> Result<(), T
     ensures front { OnErr result (AppendsFront (W.contents writer.old)
         (W.contents writer.new) text.now) }
 {
-    if write_bytes(writer, text).is_err() {
-        return Err(TextFault::Write);
-    }
-    match writer.flush() {
-        Ok(()) => Ok(()),
-        Err(_) => Err(TextFault::Write),
-    }
+    write_bytes(writer, text).map_err(|_| TextFault::Write)?;
+    writer.flush().map_err(|_| TextFault::Write)
 }

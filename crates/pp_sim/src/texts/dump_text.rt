@@ -1,8 +1,8 @@
 //! Reading a deck, running it and writing its dump.
 
-ghost use Rattle.std.specs.Prelude.{◌<◌, length, OnOk, IfOk, IfErr};
+ghost use Rattle.std.specs.Prelude.{◌<◌, length, OnOk};
 ghost use Rattle.pp_sim.specs.DumpText.{HindersDump, IsDumpText};
-ghost use Rattle.pp_sim.specs.TextAnswer.{AnswersDeckUnless, IsAnswerUnless, IsRunFaultUnless, IsOfDeck, most_bytes};
+ghost use Rattle.pp_sim.specs.TextAnswer.{AnswersDeckUnless, IsAnswerUnless, most_bytes};
 
 use crate::loaded_deck::loaded_deck;
 use crate::streams::{read_front, write_whole};
@@ -30,7 +30,7 @@ pub fn dump_text<A: Allocator + Copy, R: Read, W: Write>(
     write_dump(alloc, profile, deck.as_slice(), writer, turns)
 }
 
-/// Writes the dump of a deck.
+/// Runs a deck, and then writes its dump.
 fn write_dump<A: Allocator + Copy, W: Write>(
     alloc: A,
     profile: Profile,
@@ -42,27 +42,12 @@ fn write_dump<A: Allocator + Copy, W: Write>(
         (W.contents writer.old) (W.contents writer.new) }
     ensures bounded { OnOk result (length deck.now < most_bytes) }
 {
-    let text = dump_of(alloc, profile, deck, turns)?;
-    write_whole(writer, text.as_slice())
-}
-
-/// The dump of a deck.
-fn dump_of<A: Allocator + Copy>(
-    alloc: A,
-    profile: Profile,
-    deck: &[u8],
-    turns: u32,
-) -> Result<Vec<u8, A>, TextFault>
-    ensures ok { IfOk result (λ text. IsOfDeck profile (IsDumpText turns) deck.now text.items) }
-    ensures bounded { OnOk result (length deck.now < most_bytes) }
-    ensures fault { IfErr result (IsRunFaultUnless profile (HindersDump turns) deck.now) }
-{
     let mut loaded = loaded_deck(alloc, profile, deck)?;
     let Ok(()) = loaded.machine.run_barrel(turns) else {
         return Err(TextFault::Memory);
     };
     match dump(alloc, &loaded) {
-        Ok(text) => Ok(text),
+        Ok(text) => write_whole(writer, text.as_slice()),
         Err(DumpFault::NotBetweenPrograms(first)) => Err(TextFault::NotBetweenPrograms(first)),
         Err(DumpFault::Memory) => Err(TextFault::Memory),
     }

@@ -1,8 +1,8 @@
 //! Reading a deck and writing its listing.
 
-ghost use Rattle.std.specs.Prelude.{◌<◌, length, OnOk, IfOk, IfErr};
+ghost use Rattle.std.specs.Prelude.{◌<◌, length, OnOk};
 ghost use Rattle.pp_sim.specs.ListText.{IsListText};
-ghost use Rattle.pp_sim.specs.TextAnswer.{AnswersDeck, IsAnswer, IsRunFault, IsOfDeck, most_bytes};
+ghost use Rattle.pp_sim.specs.TextAnswer.{AnswersDeck, IsAnswer, most_bytes};
 
 use crate::loaded_deck::loaded_deck;
 use crate::streams::{read_front, write_whole};
@@ -38,23 +38,9 @@ fn write_listing<A: Allocator + Copy, W: Write>(
         (W.contents writer.old) (W.contents writer.new) }
     ensures bounded { OnOk result (length deck.now < most_bytes) }
 {
-    let text = listing_of(alloc, profile, deck)?;
-    write_whole(writer, text.as_slice())
-}
-
-/// The listing of a deck.
-fn listing_of<A: Allocator + Copy>(
-    alloc: A,
-    profile: Profile,
-    deck: &[u8],
-) -> Result<Vec<u8, A>, TextFault>
-    ensures ok { IfOk result (λ text. IsOfDeck profile IsListText deck.now text.items) }
-    ensures bounded { OnOk result (length deck.now < most_bytes) }
-    ensures fault { IfErr result (IsRunFault profile deck.now) }
-{
     let loaded = loaded_deck(alloc, profile, deck)?;
-    match listing(alloc, &loaded) {
-        Ok(text) => Ok(text),
-        Err(_) => Err(TextFault::Memory),
-    }
+    let Ok(text) = listing(alloc, &loaded) else {
+        return Err(TextFault::Memory);
+    };
+    write_whole(writer, text.as_slice())
 }

@@ -1,8 +1,8 @@
 //! Reading a deck, running it and writing how things stand then.
 
-ghost use Rattle.std.specs.Prelude.{◌<◌, length, OnOk, IfOk, IfErr};
+ghost use Rattle.std.specs.Prelude.{◌<◌, length, OnOk};
 ghost use Rattle.pp_sim.specs.StateText.{IsStateText};
-ghost use Rattle.pp_sim.specs.TextAnswer.{AnswersDeck, IsAnswer, IsRunFault, IsOfDeck, most_bytes};
+ghost use Rattle.pp_sim.specs.TextAnswer.{AnswersDeck, IsAnswer, most_bytes};
 
 use crate::loaded_deck::loaded_deck;
 use crate::streams::{read_front, write_whole};
@@ -30,7 +30,7 @@ pub fn state_text<A: Allocator + Copy, R: Read, W: Write>(
     write_state(alloc, profile, deck.as_slice(), writer, turns)
 }
 
-/// Writes how things stand after a run of a deck.
+/// Writes how things stand after a run of a deck, which is loaded twice, once to be compared with.
 fn write_state<A: Allocator + Copy, W: Write>(
     alloc: A,
     profile: Profile,
@@ -42,28 +42,14 @@ fn write_state<A: Allocator + Copy, W: Write>(
         (W.contents writer.old) (W.contents writer.new) }
     ensures bounded { OnOk result (length deck.now < most_bytes) }
 {
-    let text = state_of(alloc, profile, deck, turns)?;
-    write_whole(writer, text.as_slice())
-}
-
-/// How things stand after a run of a deck, which is loaded twice, once to be compared with.
-fn state_of<A: Allocator + Copy>(
-    alloc: A,
-    profile: Profile,
-    deck: &[u8],
-    turns: u32,
-) -> Result<Vec<u8, A>, TextFault>
-    ensures ok { IfOk result (λ text. IsOfDeck profile (IsStateText turns) deck.now text.items) }
-    ensures bounded { OnOk result (length deck.now < most_bytes) }
-    ensures fault { IfErr result (IsRunFault profile deck.now) }
-{
     let before = loaded_deck(alloc, profile, deck)?;
     let mut after = loaded_deck(alloc, profile, deck)?;
     let Ok(held) = run_counting_held(&mut after.machine, turns) else {
         return Err(TextFault::Memory);
     };
-    match printed_state(alloc, &before.named, &before.machine, &after.machine, &held) {
-        Ok(text) => Ok(text),
-        Err(_) => Err(TextFault::Memory),
-    }
+    let Ok(text) = printed_state(alloc, &before.named, &before.machine, &after.machine, &held)
+    else {
+        return Err(TextFault::Memory);
+    };
+    write_whole(writer, text.as_slice())
 }

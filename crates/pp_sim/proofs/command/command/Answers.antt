@@ -1,4 +1,5 @@
 use Rattle.std.proofs.Common.{◌≡◌, ◌∙◌, ap, ap₂}
+use Rattle.std.proofs.lemmas.Result.{err_from_is_err_and}
 use Rattle.clap.specs.Words.{App, app_of, with_subcommand}
 use Rattle.pp_sim.specs.CommandLine.{bare, ppsim}
 use Rattle.pp_sim.proofs.command.command.Goals as goal
@@ -23,3 +24,13 @@ returns c =
     let drawn_are : app_of c.in_ok-with_draw.with_draw ≡ with_subcommand (with_subcommand (with_subcommand (with_subcommand (with_subcommand (with_subcommand (with_subcommand (with_subcommand bare _) _) _) _) _) _) _) _ =
     c.in_ok-with_draw.ensures.shape c.in_ok-draw.ensures.local ∙ ap₂ with_subcommand sessions_are (ap (λ (a : App). a.top) c.in_ok-draw.ensures.app) in
     c.in_ok-whole.ensures.shape c.in_ok-check.ensures.local ∙ ap₂ with_subcommand drawn_are (ap (λ (a : App). a.top) c.in_ok-check.ensures.app)
+
+pub returns-in_err-check : goal.returns-in_err-check
+returns-in_err-check c =
+    let p = err_from_is_err_and c.from_residual-in_err-check.result c.from_residual-in_err-check.ensures.1 in
+    rw p.1 tt
+
+pub returns-in_err-subcommand : goal.returns-in_err-subcommand
+returns-in_err-subcommand c =
+    let p = err_from_is_err_and c.from_residual-in_err-subcommand.result c.from_residual-in_err-subcommand.ensures.1 in
+    rw p.1 tt

@@ -1,15 +1,19 @@
 use Rattle.std.proofs.Common.{◌≡◌, List, ℕ, ap, ◌∙◌, subst}
+use Rattle.std.proofs.lemmas.Result.{err_from_is_err_and}
 use Rattle.pp_machine.specs.Headline.{HoldsOnEachChannel}
 use Rattle.pp_machine.specs.MachineState.{MachineState}
 use Rattle.pp_machine.specs.Run.{barrel, run}
 use Rattle.pp_deck.specs.DeckMeaning.{LoadedDeck, deck_meaning}
 use Rattle.pp_state.specs.HeldSteps.{each_held_steps}
 use Rattle.pp_state.specs.StateText.{state_text}
+use Rattle.pp_sim.proofs.AnswerLemmas.{refused, written}
 use Rattle.pp_sim.proofs.StateLemmas.{one_deck}
-use Rattle.pp_sim.proofs.texts.state_text.state_of.Goals as goal
+use Rattle.pp_sim.proofs.texts.state_text.write_state.Goals as goal
+use Rattle.pp_sim.specs.StateText.{IsStateText}
+use Rattle.pp_sim.specs.TextAnswer.{IsOfDeck, Never}
 
-pub returns-in-Ok-printed_state-clause-ok : goal.returns-in-Ok-printed_state-clause-ok
-returns-in-Ok-printed_state-clause-ok g c =
+pub returns-clause-answer : goal.returns-clause-answer
+returns-clause-answer g c =
     let turns = c.args.turns in
     let before = c.in_ok-before.before.machine in
     let named = c.in_ok-before.before.named in
@@ -19,11 +23,18 @@ returns-in-Ok-printed_state-clause-ok g c =
     let ran : c.run_counting_held.new.machine ≡ ran_on before = c.in-Ok.ensures.ran ∙ ap ran_on same in
     let counted : c.in-Ok.held ≡ each_held_steps (barrel before.profile turns) before =
     c.in-Ok.ensures.held ∙ ap (λ (m : MachineState). each_held_steps (barrel m.profile turns) m) same in
-    record {
+    let stands : IsOfDeck c.args.profile (IsStateText turns) c.args.deck.now c.in-Ok-printed_state.text.items = record {
       deck = _;
       meant = c.in_ok-before.ensures.ok;
       told = record {
         told = c.in-Ok-printed_state.ensures.text ∙ ap (λ (m : MachineState). state_text named before m c.in-Ok.held) ran ∙ ap (λ (held : List ℕ). state_text named before (ran_on before) held) counted;
         headline = subst HoldsOnEachChannel ran c.run_counting_held.ensures.headline;
       };
-    }
+    } in
+    written c.args.profile Never (IsStateText turns) c.args.deck.now c.in-Ok-printed_state.text.items c.write_whole.result _ _ stands
+    (rw c.as_slice.ensures.value at c.write_whole.ensures.ok) c.write_whole.ensures.err (rw c.as_slice.ensures.value at c.write_whole.ensures.front)
+
+pub returns-in_err-after-clause-answer : goal.returns-in_err-after-clause-answer
+returns-in_err-after-clause-answer g c =
+    let p = err_from_is_err_and c.from_residual-in_err-after.result c.from_residual-in_err-after.ensures.1 in
+    rw (p.1, p.2) (refused c.args.profile Never (IsStateText c.args.turns) _ c.args.deck.now _ c.in_err-after.ensures.fault)
