@@ -10,7 +10,8 @@ use test_bench::{
     EMPTY, INACTIVE, channel, first, processor, put_program, put_words, waiting, word,
 };
 
-/// All processors of a profile but 0 wait; this one has a program at 0100 (octal), and a table at 0200.
+/// All processors of a profile but 0 wait; this one has a program at 0100 (octal), and a table at
+/// 0200.
 fn dead(
     alloc: Global,
     profile: Profile,
@@ -40,8 +41,8 @@ fn channel_shown(
     ))
 }
 
-/// The channels of the numbers 1 to 11 (octal) are opened, on the greater machine 20 to 31 too, and no
-/// other.
+/// The channels of the numbers 1 to 11 (octal) are opened, on the greater machine 20 to 31 too, and
+/// no other.
 #[test]
 fn opened_channels(rt: HostRuntime) -> Result<(), Fail> {
     for (profile, far) in [(Profile::Ten, false), (Profile::Twenty, true)] {
@@ -176,8 +177,8 @@ fn whole_memory(rt: HostRuntime) -> Result<(), Fail> {
     Ok(())
 }
 
-/// A disconnect before the first word: the closing zero goes to place 0000, and the program begins at
-/// one more than that.
+/// A disconnect before the first word: the closing zero goes to place 0000, and the program begins
+/// at one more than that.
 #[test]
 fn a_load_of_nothing(rt: HostRuntime) -> Result<(), Fail> {
     for (profile, disconnect, turns, number) in [

@@ -1,4 +1,5 @@
-//! Tests of words, channels, processors and the machine by calls, with values that were worked by hand.
+//! Tests of words, channels, processors and the machine by calls, with values that were worked by
+//! hand.
 #![tactic(auto)]
 
 #[cfg(test)]

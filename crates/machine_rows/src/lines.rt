@@ -50,8 +50,8 @@ fn join_lines<A: Allocator + Copy>(line: Line<A>, other: Line<A>) -> Result<Line
     }
 }
 
-/// Closes a line: the channel at this place has to have this history, and each of the twenty-three others
-/// none.
+/// Closes a line: the channel at this place has to have this history, and each of the twenty-three
+/// others none.
 fn expect_history(
     rt: &impl Abort,
     line: Line<Global>,

@@ -94,8 +94,8 @@ fn ends_of_words<R: Abort + AllocGlobal>(
     Ok((faults, stopped, running))
 }
 
-/// Twelve codes name a channel: 52 numbers d are no channel of the smaller machine, and 40 none of the
-/// greater one (decimal).
+/// Twelve codes name a channel: 52 numbers d are no channel of the smaller machine, and 40 none of
+/// the greater one (decimal).
 #[test]
 fn every_word(rt: HostRuntime) -> Result<(), Fail> {
     let ten = ends_of_words(&rt, Profile::Ten)?;

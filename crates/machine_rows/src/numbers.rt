@@ -17,7 +17,8 @@ const NUMBERS_OF_CHANNELS: [u8; 24] = [
     0o25, 0o26, 0o27, 0o30, 0o31, 0o32, 0o33,
 ];
 
-/// The number and the place that a processor or channel of this number has to have, if it is one of these.
+/// The number and the place that a processor or channel of this number has to have, if it is one of
+/// these.
 fn expected(numbers: &[u8], number: u8) -> Option<(u8, usize)> {
     let place = numbers.iter().position(|named| *named == number)?;
     Some((number, place))
@@ -63,7 +64,8 @@ fn numbers_of_channels(rt: HostRuntime) {
     }
 }
 
-/// A profile has just these processors and channels, at the places that they have in the greater one.
+/// A profile has just these processors and channels, at the places that they have in the greater
+/// one.
 fn expect_numbers(rt: &impl Abort, profile: Profile, processors: &[u8], channels: &[u8]) {
     assert_eq!(rt; profile.processors(), processors.len());
     assert_eq!(rt; profile.channels(), channels.len());

@@ -8,7 +8,8 @@ use std::alloc::Global;
 use std::test::Fail;
 use test_bench::{EMPTY, channel, first, processor, put_program, word};
 
-/// PP 20 puts a word on channel 33 for PP 31, ten and nineteen turns after the beginning of a round.
+/// PP 20 puts a word on channel 33 for PP 31, ten and nineteen turns after the beginning of a
+/// round.
 #[test]
 fn far_processors(rt: HostRuntime) -> Result<(), Fail> {
     let (sender, receiver) = (processor(0o20)?, processor(0o31)?);
@@ -55,7 +56,8 @@ fn ends_of_pair(alloc: Global, profile: Profile, words: [u16; 2]) -> Result<[PpS
     Ok([machine.pp(zero).state(), machine.pp(one).state()])
 }
 
-/// The first and the last number past each stretch of channels, and the first and the last of the far ones.
+/// The first and the last number past each stretch of channels, and the first and the last of the
+/// far ones.
 #[test]
 fn far_faults(rt: HostRuntime) -> Result<(), Fail> {
     let faults = [PpState::Fault(3); 2];
@@ -80,8 +82,8 @@ fn count_steps(pp: &mut Pp) {
     pp.start(word(0), Word18::ZERO);
 }
 
-/// Whether the processors at the first places made this many steps, the others of the barrel this many, and
-/// those after it none.
+/// Whether the processors at the first places made this many steps, the others of the barrel this
+/// many, and those after it none.
 fn made_steps(machine: &Machine<Global>, more: usize, barrel: usize, steps: [u32; 2]) -> bool {
     for place in 0..PROCESSORS {
         let made = if place < more {

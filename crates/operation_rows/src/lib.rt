@@ -1,5 +1,5 @@
-//! A row for each operation code: P, A, the state and the memory after one step, worked out from the
-//! rules of docs/MACHINE.md.
+//! A row for each operation code: P, A, the state and the memory after one step, worked out from
+//! the rules of docs/MACHINE.md.
 #![tactic(auto)]
 
 #[cfg(test)]

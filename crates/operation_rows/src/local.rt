@@ -6,13 +6,14 @@ use pp_word::Word18;
 use std::test::Fail;
 use test_bench::{put_program, put_words, word};
 
-/// The word and the next one, A, and after the step P, A, the state, and the place that has changed with
-/// its word. The program stands at 1000; place 0005 holds 0070, place 0070 holds 4321, place 0270 holds
-/// 1357 (all octal).
+/// The word and the next one, A, and after the step P, A, the state, and the place that has changed
+/// with its word. The program stands at 1000; place 0005 holds 0070, place 0070 holds 4321, place
+/// 0270 holds 1357 (all octal).
 type Row = ([u16; 2], u32, u16, u32, PpState, Option<(u16, u16)>);
 
 const ROWS: [Row; 66] = [
-    // Passes, and jumps to an index: m where d is 00, else m and the word at d, past 7777 less 7777.
+    // Passes, and jumps to an index: m where d is 00, else m and the word at d, past 7777 less
+    // 7777.
     ([0o0077, 0o0000], 0o123477, 0o1001, 0o123477, Running, None),
     ([0o0100, 0o2345], 0o123477, 0o2345, 0o123477, Running, None),
     ([0o0105, 0o0200], 0o123477, 0o0270, 0o123477, Running, None),
@@ -72,7 +73,8 @@ const ROWS: [Row; 66] = [
     ([0o2512, 0o0000], 0o123477, 0o1001, 0o123477, Running, None),
     ([0o2600, 0o0000], 0o123477, 0o1000, 0o123477, Fault(1), None),
     ([0o2700, 0o0000], 0o123477, 0o1000, 0o123477, Fault(2), None),
-    // The eight operations on place d: load, add, subtract, logical difference, store, and the three that replace.
+    // The eight operations on place d: load, add, subtract, logical difference, store, and the
+    // three that replace.
     ([0o3070, 0o0000], 0o123477, 0o1001, 0o004321, Running, None),
     ([0o3170, 0o0000], 0o123477, 0o1001, 0o130020, Running, None),
     ([0o3270, 0o0000], 0o123477, 0o1001, 0o117156, Running, None),

@@ -6,8 +6,8 @@ use pp_word::{Word18, Word60};
 use std::test::Fail;
 use test_bench::{channel, put_program, put_words, word};
 
-/// A processor at an instruction at 1000, with A; place 0005 holds 0002, and ten words from 0070 on hold
-/// 0001 to 0012 (all octal).
+/// A processor at an instruction at 1000, with A; place 0005 holds 0002, and ten words from 0070 on
+/// hold 0001 to 0012 (all octal).
 fn before(profile: Profile, words: [u16; 2], a: u32) -> Pp {
     let mut pp = Pp::new(profile);
     put_words(&mut pp, 0o0005, &[0o0002]);
@@ -44,6 +44,7 @@ fn shown(pp: &Pp) -> (u16, u32) {
 fn one_word_on_a_channel(rt: HostRuntime) -> Result<(), Fail> {
     let low = word(0o3477);
     let code = word(0o2345);
+    let kept = 0o123477;
     let rows = [
         (
             [0o7005, 0],
@@ -52,33 +53,27 @@ fn one_word_on_a_channel(rt: HostRuntime) -> Result<(), Fail> {
             0o1001,
             0o004567,
         ),
-        ([0o7205, 0], ChanOp::Put(low), Reply::Done, 0o1001, 0o123477),
-        ([0o7405, 0], ChanOp::Activate, Reply::Done, 0o1001, 0o123477),
-        (
-            [0o7505, 0],
-            ChanOp::Disconnect,
-            Reply::Done,
-            0o1001,
-            0o123477,
-        ),
+        ([0o7205, 0], ChanOp::Put(low), Reply::Done, 0o1001, kept),
+        ([0o7405, 0], ChanOp::Activate, Reply::Done, 0o1001, kept),
+        ([0o7505, 0], ChanOp::Disconnect, Reply::Done, 0o1001, kept),
         (
             [0o7605, 0],
             ChanOp::Function(low),
             Reply::Done,
             0o1001,
-            0o123477,
+            kept,
         ),
         (
             [0o7705, 0o2345],
             ChanOp::Function(code),
             Reply::Done,
             0o1002,
-            0o123477,
+            kept,
         ),
     ];
     for profile in [Profile::Ten, Profile::Twenty] {
         for (words, op, reply, p, a) in &rows {
-            let old = before(profile, *words, 0o123477);
+            let old = before(profile, *words, kept);
             let mut pp = old.copy();
             let need = Need::Channel(channel(5)?, *op);
             assert!(rt; goes_on(&mut pp, need, Answer::Channel(*reply)));
@@ -191,8 +186,8 @@ fn channel_of(profile: Profile, code: u16) -> Option<u8> {
     }
 }
 
-/// A d from 14 on is fault 3 on the smaller machine, on the greater one from 14 to 17 and from 34 on
-/// (octal).
+/// A d from 14 on is fault 3 on the smaller machine, on the greater one from 14 to 17 and from 34
+/// on (octal).
 #[test]
 fn channels_of_each_profile(rt: HostRuntime) {
     for d in 0..0o100u8 {

@@ -10,7 +10,8 @@ use Rattle.pp_channel.specs.declared.chan_op.ChanOp.{ChanOp}
 use Rattle.pp_channel.specs.declared.reply.Reply.{Reply}
 use Rattle.pp_channel.specs.declared.flags.Flags.{Flags}
 use Rattle.pp_channel.specs.History.{IsLawful, HasTwelveBitWord, HasTwelveBitWords, full, waiting}
-use Rattle.pp_channel.specs.Answer.{operation_of, IsReady, IsAnswer, channel_state, event_by, event_of, flags_of, flags_after, word_after, reply_by, reply_shown, reply_to, history_after}
+use Rattle.pp_channel.specs.Answer.{operation_of, IsReady, IsAnswer, channel_state, event_by, event_of, flags_of, flags_after, reply_by, reply_shown, reply_to, history_after}
+use Rattle.pp_channel.specs.Session.{word_put}
 use Rattle.pp_channel.proofs.HistoryWalk.{State, Inactive, Empty, Holding, step, step_take, walk, walk-append}
 use Rattle.pp_channel.proofs.HistoryLemmas.{is_active, held_word, Fits, active_at, full_at, waiting_at, state_at, lawful_next}
 
@@ -30,7 +31,7 @@ event_is op h s f =
 
 -- a step leads to the flags and the register that the table has after its event
 abbrev LeadsTo : State → Event → State → Type 0
-LeadsTo s e t = (flags_at t ≡ flags_after e) × (held_word t ≡ word_after e)
+LeadsTo s e t = (flags_at t ≡ flags_after e) × (held_word t ≡ word_put e)
 
 leads_as : (s : State) (e : Event) (u t : State) → Some u ≡ Some t → LeadsTo s e u → LeadsTo s e t
 leads_as s e u t same q = let is : u ≡ t = cc in let P : State → Type 0 = λ x. LeadsTo s e x in subst P is q
@@ -150,7 +151,7 @@ flags_by_table h e l more =
     let s = step_before h e l more in
     flags_are (h ++ e ∷ []) s.2.0 s.2.2 ∙ (leads s.0 e s.2.0 s.2.1).0
 
-pub word_by_table : (h : List Event) (e : Event) → IsLawful h → IsLawful (h ++ e ∷ []) → waiting (h ++ e ∷ []) ≡ word_after e
+pub word_by_table : (h : List Event) (e : Event) → IsLawful h → IsLawful (h ++ e ∷ []) → waiting (h ++ e ∷ []) ≡ word_put e
 word_by_table h e l more =
     let s = step_before h e l more in
     waiting_at (h ++ e ∷ []) s.2.0 s.2.2 ∙ (leads s.0 e s.2.0 s.2.1).1
@@ -197,7 +198,7 @@ IsKept flags register h =
     IsLawful h × HasTwelveBitWords h × (flags ≡ flags_of h) × (register ≡ waiting h)
 
 -- the same with one more event
-pub kept_with_event : {flags flags' : Flags} {register register' : Option ℕ} {value h h' : List Event} → (e : Event) → IsKept flags register h → h ≡ value → IsLawful (value ++ e ∷ []) → HasTwelveBitWord e → flags' ≡ flags_after e → register' ≡ word_after e → h' ≡ h ++ e ∷ [] → IsKept flags' register' h'
+pub kept_with_event : {flags flags' : Flags} {register register' : Option ℕ} {value h h' : List Event} → (e : Event) → IsKept flags register h → h ≡ value → IsLawful (value ++ e ∷ []) → HasTwelveBitWord e → flags' ≡ flags_after e → register' ≡ word_put e → h' ≡ h ++ e ∷ [] → IsKept flags' register' h'
 kept_with_event {h} e k same more bits flags_is register_is history_is =
     let lawful_more : IsLawful (h ++ e ∷ []) = rw same more in
     rw (flags_is, register_is, history_is) (

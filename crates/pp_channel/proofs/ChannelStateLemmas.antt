@@ -2,7 +2,8 @@
 use Rattle.std.proofs.Common.{◌≡◌, List, [], ◌∷◌, ◌++◌, refl, ap}
 use Rattle.std.specs.Prelude.{Option, Some}
 use Rattle.std.specs.Option.{option_to_list}
-use Rattle.pp_channel.specs.Answer.{channel_state, event_of, flags_after, history_after, word_after}
+use Rattle.pp_channel.specs.Answer.{channel_state, event_of, flags_after, history_after}
+use Rattle.pp_channel.specs.Session.{word_put}
 use Rattle.pp_channel.specs.History.{IsLawful}
 use Rattle.pp_channel.specs.declared.chan_op.ChanOp.{ChanOp}
 use Rattle.pp_channel.specs.declared.event.Event.{Event}
@@ -10,7 +11,7 @@ use Rattle.pp_channel.proofs.AnswerLemmas.{flags_by_table, lawful_with_event, wo
 
 -- the state after an event
 pub state_after : (h : List Event) (op : ChanOp) (e : Event) → IsLawful h → event_of op h ≡ Some e
-    → record { flags = flags_after e; register = word_after e } ≡ channel_state (history_after op h)
+    → record { flags = flags_after e; register = word_put e } ≡ channel_state (history_after op h)
 state_after h op e lawful made =
     let more : IsLawful (h ++ e ∷ []) = lawful_with_event h op e lawful made in
     let after : history_after op h ≡ h ++ e ∷ [] = ap (λ (o : Option Event). h ++ option_to_list o) made in

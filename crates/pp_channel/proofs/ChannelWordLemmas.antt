@@ -11,9 +11,9 @@ use Rattle.pp_channel.specs.declared.chan_op.ChanOp.{ChanOp}
 use Rattle.pp_channel.specs.declared.flags.Flags.{Flags}
 use Rattle.pp_channel.specs.declared.reply.Reply.{Reply}
 use Rattle.pp_channel.specs.declared.word_step.WordStep.{WordStep}
-use Rattle.pp_channel.specs.Session.{puts, takes}
+use Rattle.pp_channel.specs.Session.{puts, takes, word_put}
 use Rattle.pp_channel.specs.History.{IsLawful, HasTwelveBitWord, HasTwelveBitWords, active, full, waiting, last_stretch}
-use Rattle.pp_channel.specs.Answer.{IsReady, IsAnswer, channel_state, only_looks, reply_shown, event_by, event_of, flags_of, flags_after, word_after, reply_made}
+use Rattle.pp_channel.specs.Answer.{IsReady, IsAnswer, channel_state, only_looks, reply_shown, event_by, event_of, flags_of, flags_after, reply_made}
 use Rattle.pp_channel.specs.ChannelWord.{packed, history_word, number_in, flags_in, register_in, greatest_number, waiting_in, state_in, word_with, step_by, step_from, StepsFrom}
 use Rattle.pp_channel.specs.AnswerLaws.{acts_where_made, look_makes_none}
 use Rattle.pp_channel.proofs.AnswerLemmas.{answered_where_none, ready_of_table, table_of_ready, none_without_ready, lawful_with_event, flags_by_table, word_by_table}
@@ -118,8 +118,8 @@ state_of_word h bits =
 word_after_event : (h : List Event) (e : Event) → IsLawful h → HasTwelveBitWords h → IsLawful (h ++ e ∷ []) → word_with (history_word h) e ≡ history_word (h ++ e ∷ [])
 word_after_event h e l bits more =
     let n : number_in (history_word h) + 1 ≡ length (h ++ e ∷ []) = ap (λ x. x + 1) (number_of_word h bits) ∙ sym (length_push h e) in
-    ap (λ x. packed x (flags_after e) (unwrap_or (word_after e) 0)) n
-    ∙ (ap (λ g. packed (length (h ++ e ∷ [])) g (unwrap_or (word_after e) 0)) (sym (flags_by_table h e l more))
+    ap (λ x. packed x (flags_after e) (unwrap_or (word_put e) 0)) n
+    ∙ (ap (λ g. packed (length (h ++ e ∷ [])) g (unwrap_or (word_put e) 0)) (sym (flags_by_table h e l more))
     ∙ ap (λ w. packed (length (h ++ e ∷ [])) (flags_of (h ++ e ∷ [])) (unwrap_or w 0)) (sym (word_by_table h e l more)))
 
 -- an operation that does more than look, on a word that can count no more

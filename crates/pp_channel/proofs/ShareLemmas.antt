@@ -14,7 +14,7 @@ use Rattle.pp_channel.specs.declared.rule.LineView.{LineView}
 use Rattle.pp_channel.specs.ChannelNo.{channel_count, channel_index}
 use Rattle.pp_channel.specs.ChannelWord.{history_word}
 use Rattle.pp_channel.specs.History.{IsLawful, HasTwelveBitWord, HasTwelveBitWords, history_on}
-use Rattle.pp_channel.specs.LineView.{first_view, parent_view, child_view, joined_view, spent_view}
+use Rattle.pp_channel.specs.LineView.{blank_view, first_view, parent_view, child_view, joined_view}
 use Rattle.pp_channel.specs.Merge.{IsTrueOf, Merges, no_opening}
 use Rattle.pp_channel.specs.LineLog.{seen_on}
 use Rattle.pp_channel.specs.SharedWords.{word_place, place_count, IsFound, IsViewOf, Rule}
@@ -87,7 +87,7 @@ split_allowed whole id v two s r at =
     )
 
 -- two views become one, and the other is spent
-pub join_allowed : (whole id : ℕ) (v : LineView) (other : ℕ) (w : LineView) → 0 < v.shares → 0 < w.shares → Joins (Rule whole) id v other w (joined_view v w) spent_view
+pub join_allowed : (whole id : ℕ) (v : LineView) (other : ℕ) (w : LineView) → 0 < v.shares → 0 < w.shares → Joins (Rule whole) id v other w (joined_view v w) (blank_view 0 0 [])
 join_allowed whole id v other w live live_other s r at apart there =
     let h = r.0 in
     let k = r.1 in
@@ -95,21 +95,21 @@ join_allowed whole id v other w live live_other s r at apart there =
     let rest : List LineView = set s.views id b in
     let was : get_elem? s.views other ≡ some w = ⊎_elim (λ (t : (other ≡ id) × (b ≡ w)). absurd (apart t.0)) (λ (t : (other ≢ id) × (get_elem? s.views other ≡ some w)). t.1) (at_set s.views id other b w there) in
     let entries : All (IsTrueOf h) b.events = All-append (IsTrueOf h) v.events w.events (events_at whole s.words s.views h k id v at) (events_at whole s.words s.views h k other w was) in
-    let once : TellsOnce h (all_events (set rest other spent_view)) = λ c number.
+    let once : TellsOnce h (all_events (set rest other (blank_view 0 0 []))) = λ c number.
     let t = times-write c number s.views id v b at in
-    let u = times-write c number rest other w spent_view there in
+    let u = times-write c number rest other w (blank_view 0 0 []) there in
     let m = times_told-append c number v.events w.events in
     let o = tells_once h (all_events s.views) k.merged c number in
     omega arith in (
       h,
       record {
         sound = k.sound;
-        merged = merges_by h (all_events (set rest other spent_view)) once
-            (All-parts_set events_in (IsTrueOf h) rest other spent_view (All-parts_set events_in (IsTrueOf h) s.views id b k.merged.entries_true entries) (All-nil (IsTrueOf h)));
+        merged = merges_by h (all_events (set rest other (blank_view 0 0 []))) once
+            (All-parts_set events_in (IsTrueOf h) rest other (blank_view 0 0 []) (All-parts_set events_in (IsTrueOf h) s.views id b k.merged.entries_true entries) (All-nil (IsTrueOf h)));
         places = k.places;
         words_are = k.words_are;
-        shares = let t = sum_by-write shares_in s.views id v b at in let u = sum_by-write shares_in rest other w spent_view there in let o = k.shares in omega arith;
-        views_are = All-set (IsViewOf h whole) rest other spent_view (view_spent h whole)
+        shares = let t = sum_by-write shares_in s.views id v b at in let u = sum_by-write shares_in rest other w (blank_view 0 0 []) there in let o = k.shares in omega arith;
+        views_are = All-set (IsViewOf h whole) rest other (blank_view 0 0 []) (view_spent h whole)
             (All-set (IsViewOf h whole) s.views id b (view_joined h whole v w live live_other (view_at whole s.words s.views h k id v at) (view_at whole s.words s.views h k other w was)) k.views_are);
       },
     )

@@ -13,7 +13,7 @@ use Rattle.pp_channel.specs.declared.rule.LineView.{LineView}
 use Rattle.pp_channel.specs.ChannelNo.{channel_count, channel_index, names_channel}
 use Rattle.pp_channel.specs.ChannelWord.{history_word, number_in}
 use Rattle.pp_channel.specs.History.{HasTwelveBitWords, history_on}
-use Rattle.pp_channel.specs.LineView.{parent_view, child_view, greater_of_each, joined_view, spent_view, finds, makes, weighs_once}
+use Rattle.pp_channel.specs.LineView.{blank_view, parent_view, child_view, greater_of_each, joined_view, finds, makes, weighs_once}
 use Rattle.pp_channel.specs.LineLog.{known_after, seen_on, event_entry}
 use Rattle.pp_channel.specs.SharedWords.{IsFound, IsViewOf}
 use Rattle.pp_channel.specs.ChannelPlaces.{place_below}
@@ -134,7 +134,7 @@ view_joined histories whole v w live other f g =
       spent = λ z. absurd (omega arith);
     }
 
-pub view_spent : (histories : List (List Event)) (whole : ℕ) → IsViewOf histories whole spent_view
+pub view_spent : (histories : List (List Event)) (whole : ℕ) → IsViewOf histories whole (blank_view 0 0 [])
 view_spent histories whole = record {
   events_seen = λ k d l. absurd (omega arith);
   seen_happened = λ c. omega arith;

@@ -111,11 +111,6 @@ flags_after (Event.Put w) = record { active = true; full = true }
 flags_after (Event.Take w) = record { active = true; full = false }
 flags_after (Event.Function w) = record { active = false; full = false }
 
--- the word in the register after an event
-abbrev pub word_after : Event → Option ℕ
-word_after (Event.Put w) = Some w
-word_after _ = None
-
 -- the event of an operation, by the flags and the register
 abbrev pub event_by : ChanOp → Flags → Option ℕ → Option Event
 event_by op f word = if ready_at op f then event_with op word else None

@@ -2,8 +2,7 @@
 -- number and its place are two things: proofs know of them what ChannelPlaces says.
 -- (Manual 60100000, data channels: twelve, numbered 0 to 13 (octal). A machine of twenty peripheral
 -- processors has twelve more, numbered 20 to 33.)
-use Rattle.std.specs.Prelude.{ℕ, ◌≡◌, ◌+◌, ◌-◌, ◌&&◌, ◌||◌, Bool, IsTrue, nat_lt, if◌then◌else◌}
-use Rattle.std.proofs.Common.{arith}
+use Rattle.std.specs.Prelude.{ℕ, ◌+◌, ◌-◌, ◌&&◌, ◌||◌, Bool, nat_lt, if◌then◌else◌}
 
 -- how many channels there are
 abbrev pub channel_count : ℕ
@@ -21,9 +20,3 @@ channel_index number =
 -- the number of the channel at a place of that list
 unfoldable pub channel_number : ℕ → ℕ
 channel_number place = if nat_lt place 0o14 then place else place + 4
-
--- the number of a channel gives its place
-pub place_again : (place : ℕ) → IsTrue (names_channel (channel_number place))
-    → channel_index (channel_number place) ≡ place
-unfolding names_channel channel_number channel_index
-place_again place names = grind (arith)

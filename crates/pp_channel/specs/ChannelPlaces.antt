@@ -5,6 +5,12 @@ use native.Mathlib.Decide.{dec_lt}
 use Rattle.std.specs.Prelude.{IsTrue}
 use Rattle.pp_channel.specs.ChannelNo.{channel_count, names_channel, channel_index, channel_number}
 
+-- the number of a channel gives its place
+pub place_again : (place : ℕ) → IsTrue (names_channel (channel_number place))
+    → channel_index (channel_number place) ≡ place
+unfolding names_channel channel_number channel_index
+place_again place names = grind (arith)
+
 -- a channel's place is one of the list
 pub place_below : (c : ℕ) → IsTrue (names_channel c) → channel_index c < channel_count
 unfolding names_channel channel_index

@@ -10,7 +10,8 @@ use Rattle.pp_channel.specs.declared.channel_state.ChannelState.{ChannelState}
 use Rattle.pp_channel.specs.declared.flags.Flags.{Flags}
 use Rattle.pp_channel.specs.declared.word_step.WordStep.{WordStep}
 use Rattle.pp_channel.specs.History.{waiting}
-use Rattle.pp_channel.specs.Answer.{event_by, flags_of, only_looks, flags_after, word_after, reply_made, IsReady}
+use Rattle.pp_channel.specs.Answer.{event_by, flags_of, only_looks, flags_after, reply_made, IsReady}
+use Rattle.pp_channel.specs.Session.{word_put}
 
 -- bits 0 to 11: the register; bit 12: full; bit 13: active; from bit 14 on: the number of events
 abbrev pub packed : ℕ → Flags → ℕ → ℕ
@@ -47,7 +48,7 @@ state_in word = record { flags = flags_in word; register = waiting_in word }
 
 -- the word after an event: one event more, and the flags and the register that the event leaves
 abbrev pub word_with : ℕ → Event → ℕ
-word_with word e = packed (number_in word + 1) (flags_after e) (unwrap_or (word_after e) 0)
+word_with word e = packed (number_in word + 1) (flags_after e) (unwrap_or (word_put e) 0)
 
 -- the step where it makes this event, or none
 abbrev pub step_by : ChanOp → ℕ → Option Event → WordStep

@@ -93,10 +93,9 @@ pub record IsActed (line : LineState) (c : ℕ) (op : ChanOp) (r : Numbered) (af
   -- on a worn channel none is answered but an operation that only looks
   pub not_worn : only_looks op ≡ false → r.loaded < greatest_number
   -- a line that holds every share knew the whole histories before this answer
-  pub alone : line.view.shares ≡ line.view.whole
-      → (r.number ≡ r.loaded) × Merges no_opening
-      (slice_set histories (channel_index c)
-      (take r.loaded (history_on c histories))) line.log.entries
+  pub alone : line.view.shares ≡ line.view.whole → (r.number ≡ r.loaded) × Merges no_opening
+      (slice_set histories (channel_index c) (take r.loaded (history_on c histories)))
+      line.log.entries
 
 -- The channel has had as many events as its word can count, the line has now seen them all, and the
 -- operation does more than look.

@@ -1,6 +1,5 @@
 -- The atomic steps of a line on the shared words: what each makes of the line's view, and what it
--- tells; and how the line's log goes with its view.
--- (Private contracts alone cite this.)
+-- tells; and how the line's log goes with its view. (Private contracts alone cite this.)
 use Rattle.std.specs.Prelude.{◌≡◌, ◌≢◌, ℕ, ◌<◌, ◌≤◌, ◌==◌, MatchBool, IsTrue, List, [], ◌∷◌, ◌++◌, length, All, Contains, slice_set}
 use mathlib.Core.Option.{Option, none, some}
 use Rattle.atomic_table.specs.Table.{Me, Step}

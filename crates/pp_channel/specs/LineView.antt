@@ -41,9 +41,6 @@ joined_view v w = record v {
   seen = greater_of_each v.seen w.seen;
 }
 
-abbrev pub spent_view : LineView
-spent_view = blank_view 0 0 []
-
 -- the view after a word was found on channel c
 abbrev pub finds : LineView → ℕ → ℕ → LineView
 finds v c word = record v {

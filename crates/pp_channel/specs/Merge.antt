@@ -33,8 +33,7 @@ pub record Merges (opening : ℕ → List Event) (histories : List (List Event))
   pub once : (c number : ℕ) → length (opening c) ≤ number → number < length (history_on c histories)
       → times_logged c number log ≡ 1
   pub no_other : (c number : ℕ) → (number < length (opening c))
-      ⊎ (length (history_on c histories) ≤ number)
-      → times_logged c number log ≡ 0
+      ⊎ (length (history_on c histories) ≤ number) → times_logged c number log ≡ 0
   pub begins : (c : ℕ) → IsPrefix (opening c) (history_on c histories)
   pub entries_true : All (IsTrueOf histories) log
 

@@ -20,8 +20,7 @@ place_count = 16 * (channel_count + 1)
 
 -- A found word is that of its channel's history after some number of its events.
 abbrev pub IsFound : List (List Event) → FoundWord → Type 0
-IsFound histories found = (number : ℕ)
-    × (number ≤ length (history_on found.channel histories))
+IsFound histories found = (number : ℕ) × (number ≤ length (history_on found.channel histories))
     × (history_word (take number (history_on found.channel histories)) ≡ found.word)
 
 -- What a line knows: its events lie within what it has seen, what it has seen within the histories,

@@ -6,7 +6,8 @@ ghost use Rattle.pp_channel.specs.declared.chan_op.ChanOp.{ChanOp};
 ghost use Rattle.pp_channel.specs.declared.event.Event.{Event};
 ghost use Rattle.pp_channel.specs.declared.reply.Reply.{Reply};
 ghost use Rattle.pp_channel.specs.History.{IsLawful, HasTwelveBitWord};
-ghost use Rattle.pp_channel.specs.Answer.{IsReady, IsAnswer, event_by, event_of, reply_made, reply_shown, reply_to, history_after, flags_of, flags_after, word_after};
+ghost use Rattle.pp_channel.specs.Answer.{IsReady, IsAnswer, event_by, event_of, reply_made, reply_shown, reply_to, history_after, flags_of, flags_after};
+ghost use Rattle.pp_channel.specs.Session.{word_put};
 
 use crate::chan_op::ChanOp;
 use crate::channel_state::ChannelState;
@@ -101,8 +102,8 @@ pub fn flags_after(event: &Event) -> Flags
 
 /// The word in the register after an event.
 #[inline(always)]
-pub fn word_after(event: &Event) -> Option<Word12>
-    ensures { result ≡ word_after event.now }
+pub fn word_put(event: &Event) -> Option<Word12>
+    ensures { result ≡ word_put event.now }
 {
     match event {
         Event::Put(word) => Some(*word),

@@ -5,7 +5,7 @@ ghost use Rattle.pp_channel.specs.History.{IsLawful, HasTwelveBitWord, HasTwelve
 ghost use Rattle.pp_channel.specs.Answer.{IsAnswer, channel_state, event_of, reply_shown, reply_to, history_after, flags_of};
 ghost use Rattle.pp_channel.specs.Law.{KeepsLaw};
 
-use crate::answer::{event_by, flags_after, reply_made, reply_shown, word_after};
+use crate::answer::{event_by, flags_after, reply_made, reply_shown, word_put};
 use crate::chan_op::ChanOp;
 use crate::channel_state::ChannelState;
 use crate::event::Event;
@@ -67,7 +67,7 @@ impl<A: Allocator> Channel<A> {
         let mut register = None;
         if let Some(last) = events.last() {
             flags = flags_after(last);
-            register = word_after(last);
+            register = word_put(last);
         }
         Channel {
             flags,
@@ -182,7 +182,7 @@ impl<A: Allocator> Channel<A> {
         ensures unchanged_after_memory { OnErr result (self.new ≡ self.old) }
     {
         let flags = flags_after(&event);
-        let register = word_after(&event);
+        let register = word_put(&event);
         self.events.push(event)?;
         self.flags = flags;
         self.register = register;

@@ -18,7 +18,8 @@ pub struct ChannelNo {
 impl Model for ChannelNo {
     ghost use Rattle.std.specs.Prelude.{ℕ, IsTrue};
     ghost use Rattle.std.proofs.Common.{ap};
-    ghost use Rattle.pp_channel.specs.ChannelNo.{names_channel, channel_index, channel_number, place_again};
+    ghost use Rattle.pp_channel.specs.ChannelNo.{names_channel, channel_index, channel_number};
+    ghost use Rattle.pp_channel.specs.ChannelPlaces.{place_again};
 
     ghost Value = { ℕ };
 
@@ -60,7 +61,7 @@ impl ChannelNo {
     }
 
     /// Its place in a list of all channels in order of number.
-    #[tactic(auto, using(crate::specs::ChannelPlaces::one_place, crate::specs::ChannelPlaces::place_below, crate::specs::ChannelNo::place_again))]
+    #[tactic(auto, using(crate::specs::ChannelPlaces::one_place, crate::specs::ChannelPlaces::place_below, crate::specs::ChannelPlaces::place_again))]
     pub fn index(self) -> usize
         ensures place { result ≡ channel_index self }
         ensures below { result < channel_count }

@@ -5,7 +5,7 @@ ghost use Rattle.pp_channel.specs.Answer.{channel_state, event_by, event_of, his
 ghost use Rattle.pp_channel.specs.History.{HasTwelveBitWord, IsLawful};
 ghost use Rattle.pp_channel.specs.declared.event.Event.{Event};
 
-use crate::answer::{answer_law, event_by, flags_after, reply_made, reply_shown, word_after};
+use crate::answer::{answer_law, event_by, flags_after, reply_made, reply_shown, word_put};
 use crate::chan_op::ChanOp;
 use crate::channel::Channel;
 use crate::event::Event;
@@ -84,7 +84,7 @@ impl ChannelState {
         }
         Some(ChannelState {
             flags: flags_after(event),
-            register: word_after(event),
+            register: word_put(event),
         })
     }
 
@@ -101,7 +101,7 @@ impl ChannelState {
             return reply_shown(&op, self);
         };
         self.flags = flags_after(&event);
-        self.register = word_after(&event);
+        self.register = word_put(&event);
         reply_made(&event)
     }
 }

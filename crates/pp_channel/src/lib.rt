@@ -22,7 +22,7 @@ mod shared_words;
 mod word_step;
 mod worn;
 
-pub use answer::{answer_law, event_by, flags_after, reply_made, reply_shown, word_after};
+pub use answer::{answer_law, event_by, flags_after, reply_made, reply_shown, word_put};
 pub use chan_op::ChanOp;
 pub use channel::Channel;
 pub use channel_no::{CHANNELS, ChannelNo};

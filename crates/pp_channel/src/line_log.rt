@@ -1,6 +1,6 @@
 //! A log with room for this many entries.
 
-ghost use Rattle.std.specs.Prelude.{◌≡◌, ◌<◌, ◌++◌, [], ◌∷◌, true, IfOk, OnOk, OnErr};
+ghost use Rattle.std.specs.Prelude.{◌≡◌, ◌<◌, ◌++◌, true, IfOk, OnOk, OnErr};
 ghost use Rattle.pp_channel.specs.LineLog.{LogState, empty_log, event_entry, look_entry, appended, looked, ends_in_look_at};
 
 use crate::channel_no::ChannelNo;

@@ -77,9 +77,10 @@ impl Split<LineView> for Share {
 }
 
 impl Join<LineView> for Share {
-    ghost use Rattle.pp_channel.specs.LineView.{joined_view, spent_view};
+    ghost use Rattle.std.specs.Prelude.{[]};
+    ghost use Rattle.pp_channel.specs.LineView.{blank_view, joined_view};
 
     ghost both = { joined_view };
 
-    ghost spent = { spent_view };
+    ghost spent = { blank_view 0 0 [] };
 }

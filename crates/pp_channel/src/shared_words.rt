@@ -1,14 +1,13 @@
 //! The words that lines share, and a line's seat at them.
 
-ghost use Rattle.std.specs.Prelude.{◌≡◌, ◌≢◌, ◌+◌, ◌-◌, ◌<◌, ◌≤◌, ◌==◌, ℕ, [], List, ◌∷◌, ◌++◌, IfOk, OnErr, IsTrue};
+ghost use Rattle.std.specs.Prelude.{◌≡◌, ◌+◌, ◌-◌, ◌<◌, ◌≤◌, ℕ, [], List, ◌∷◌, ◌++◌, IfOk, OnErr};
 ghost use Rattle.std.specs.Arc.{arc_value};
 ghost use Rattle.pp_channel.specs.declared.event.Event.{Event};
 ghost use Rattle.pp_channel.specs.declared.rule.LineView.{LineView};
-ghost use Rattle.pp_channel.specs.ChannelNo.{names_channel};
-ghost use Rattle.pp_channel.specs.ChannelWord.{history_word, number_in};
+ghost use Rattle.pp_channel.specs.ChannelWord.{history_word};
 ghost use Rattle.pp_channel.specs.History.{IsLawful, HasTwelveBitWords, HasTwelveBitWord};
 ghost use Rattle.pp_channel.specs.SharedWords.{place_count, word_place};
-ghost use Rattle.pp_channel.specs.LineSteps.{IsLoad, IsExchange, IsWeighing, Tells};
+ghost use Rattle.pp_channel.specs.LineSteps.{IsLoad, IsExchange, Tells};
 ghost use Rattle.pp_channel.specs.LineView.{first_view, parent_view, child_view, joined_view, finds, weighs_once};
 
 use crate::channel_no::{CHANNELS, ChannelNo};

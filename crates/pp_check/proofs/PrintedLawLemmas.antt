@@ -19,7 +19,8 @@ use Rattle.pp_machine.specs.Headline as headline
 use Rattle.pp_machine.specs.MachineState.{MachineState, history_of}
 use Rattle.pp_machine.specs.declared.trace.Trace.{Trace}
 use Rattle.pp_deck.specs.DeckText.{lines_of}
-use Rattle.pp_text.specs.PrintedText.{is_named, printed}
+use Rattle.pp_machine.specs.PpNo.{is_named}
+use Rattle.pp_text.specs.PrintedText.{printed}
 use Rattle.pp_text.specs.TextLaw.{IsTold}
 use Rattle.pp_check.specs.LawfulTrace.{AreLawful, Fits, IsLawfulTrace, event_on, events_on, history, is_opened, last_turn, lines_said, opening, turn_of, turns}
 use Rattle.pp_check.specs.PrintedTrace.{AreOpenedBy, IsPrintable}

@@ -16,14 +16,14 @@ use Rattle.pp_channel.specs.declared.event.Event.TheVariants.{Activate}
 use Rattle.pp_deck.specs.DeckText.{lines_of}
 use Rattle.pp_machine.specs.Headline.{opening_history}
 use Rattle.pp_machine.specs.MachineState.{MachineState}
-use Rattle.pp_machine.specs.PpNo.{names_processor, processor_index, processor_number}
+use Rattle.pp_machine.specs.PpNo.{names_processor, processor_index, processor_number, is_named}
 use Rattle.pp_runner.specs.Limits.{RunLimits}
 use Rattle.pp_runner.specs.WorkerReport.{logs_of}
 use Rattle.pp_runner.specs.declared.report.Report.{Report}
 use Rattle.pp_runner.specs.declared.worker.Worker.{Worker}
 use Rattle.pp_text.proofs.AuthorLawLemmas.{only_openings}
 use Rattle.pp_text.specs.PrintedReport.{author_place, channel_events, end_text, line_by, named_worker_line, numbered_event_line, printed_report, worker_line}
-use Rattle.pp_text.specs.PrintedText.{each_below, is_named, used_channel_line}
+use Rattle.pp_text.specs.PrintedText.{each_below, used_channel_line}
 use Rattle.pp_text.specs.ReportLaw.{FitsItsLine, FitsItsReport, told_by}
 use Rattle.pp_check.specs.LawfulTrace.{AreLawful, IsLawfulTrace, event_on, events_on, history, is_opened, lines_said, opening}
 use Rattle.pp_check.specs.PrintedTrace.{AreOpenedBy, IsPrintableReport}

@@ -13,9 +13,9 @@ use Rattle.pp_channel.specs.declared.event.Event.{Event}
 use Rattle.pp_deck.proofs.FieldTextLemmas.{is_plain, no_fields, plain_least}
 use Rattle.pp_deck.specs.DeckText.{fields_of, is_line_feed, lines_of}
 use Rattle.pp_machine.specs.MachineState.{MachineState, processor_of}
-use Rattle.pp_machine.specs.PpNo.{names_processor, processor_index}
+use Rattle.pp_machine.specs.PpNo.{names_processor, processor_index, is_named}
 use Rattle.pp_machine.specs.declared.trace.Trace.{Trace}
-use Rattle.pp_text.specs.PrintedText.{each_below, event_line, channel_line, is_named, line_end, named_processor_line, printed, state_text, used_channel_line}
+use Rattle.pp_text.specs.PrintedText.{each_below, event_line, channel_line, line_end, named_processor_line, printed, state_text, used_channel_line}
 use Rattle.pp_text.specs.TextLaw.{IsListed, IsTold}
 use Rattle.pp_check.specs.LawfulTrace.{lines_said}
 use Rattle.pp_check.specs.PrintedTrace.{IsPrintable}

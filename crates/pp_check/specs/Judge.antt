@@ -1,5 +1,4 @@
--- What the judge keeps of the lines so far.
--- (Private contracts alone cite this.)
+-- What the judge keeps of the lines so far. (Private contracts alone cite this.)
 use Rattle.std.specs.Prelude.{◌≡◌, ℕ, ◌+◌, Bool, List, [], ◌∷◌, ◌++◌, length, false, IsTrue, count_by, slice_index_or, Result, Ok, Err, Option, None, Some, if◌then◌else◌}
 use Rattle.pp_channel.specs.Answer.{channel_state}
 use Rattle.pp_channel.specs.ChannelNo.{channel_count, channel_index, names_channel}

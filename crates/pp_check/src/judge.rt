@@ -1,7 +1,6 @@
 //! The judge of a trace, line by line.
 
-ghost use Rattle.std.specs.Prelude.{◌≡◌, ◌∷◌, ◌++◌, ◌+◌, ◌*◌, ◌<◌, ◌≤◌, ◌^◌, [], ℕ, Bool, List, Some, IsTrue, IsErr, OnOk, length};
-ghost use Rattle.pp_channel.specs.ChannelNo.{names_channel};
+ghost use Rattle.std.specs.Prelude.{◌≡◌, ◌+◌, ◌*◌, ◌<◌, ◌≤◌, ◌^◌, [], Bool, List, Some, IsErr, OnOk, length};
 ghost use Rattle.pp_deck.specs.DeckText.{fields_of};
 ghost use Rattle.pp_check.specs.Judge.{Happens, IsJudged, IsRead, Keeps, KeepsEvents, KeepsSome};
 ghost use Rattle.pp_check.specs.LawfulTrace.{Fits, event_on};

@@ -1,7 +1,6 @@
 //! What a line of a trace says.
 
-ghost use Rattle.std.specs.Prelude.{◌≡◌, ◌∷◌, ◌<◌, ◌^◌, Some, None, IfSome, MatchOption, is_some, length, take, drop, codes, if◌then◌else◌};
-ghost use Rattle.std.specs.Str.{bytes_eq};
+ghost use Rattle.std.specs.Prelude.{◌≡◌, ◌<◌, Some, None, MatchOption, is_some, length, if◌then◌else◌};
 ghost use Rattle.pp_check.specs.TraceLine.{active_said, are_over, behind_channel, behind_processor, channel_in, channel_line, event_said, is_processor, last_word, line_said, number_behind, numbered_line, state_said, turn_line};
 
 use crate::numeral::numeral;

@@ -63,8 +63,7 @@ pub record HoldsLast {A : Type 0} (lines : List Line) (Sets : ℕ → A → Type
       → ((j : ℕ) (y : A) → k < j → j < length lines → Sets j y → ⊥) → value ≡ x
   pub none : ((k : ℕ) (x : A) → k < length lines → Sets k x → ⊥) → value ≡ otherwise
 
--- processor n of such a machine waits for its program: dead start is asked for, and no line names
--- it
+-- processor n of such a machine waits: dead start is asked for, and no line names it
 pub record Waits (profile : Profile) (lines : List Line) (n : ℕ) : Type 0 where
   pub processor : IsTrue (has_processor profile n)
   pub asked : Contains lines dead_start
@@ -93,8 +92,7 @@ pub record KeepsDeckLaw (lines : List Line) (deck : LoadedDeck) : Type 0 where
   -- a processor is named where some line names it
   pub named : (n : ℕ) → IsTrue (names_processor n)
       → (slice_index_or deck.named (processor_index n) false ≡ true) ↔ Contains lines (section n)
-  -- a processor that waits does so on the channel of its own number; in all others no block is in
-  -- progress
+  -- one that waits does so on the channel of its own number; in all others no block is in progress
   pub waits : (n : ℕ) → Waits deck.machine.profile lines n
       → processor_of n deck.machine ≡ waiting_on n (processor_of n deck.machine)
   pub no_block : (n : ℕ) → IsTrue (names_processor n) → (Waits deck.machine.profile lines n → ⊥)

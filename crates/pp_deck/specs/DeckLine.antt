@@ -62,8 +62,7 @@ words_in most place end past (field ∷ fields) = do
 
 -- `CENTRAL n`: 1 to 400000 (octal) words
 unfoldable pub central_line : Fields → Result Line Flaw
-central_line fields =
-    number_then 6 fields (λ n more. if nat_le 1 n && nat_le n 0o400000
+central_line fields = number_then 6 fields (λ n more. if nat_le 1 n && nat_le n 0o400000
     then ends_with (central_size n) more else Err Flaw.CentralRange)
 
 -- `CM a w w ..` in a central memory of this size

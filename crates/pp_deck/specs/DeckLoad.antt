@@ -23,8 +23,7 @@ is_for n None = false
 
 -- the lines that are for processor n: those of which the last `PP` line before is `PP n`
 unfoldable pub lines_for : ℕ → List Line → List Line
-lines_for n lines =
-    filter_map (λ k. if is_for n (section_of (take k lines))
+lines_for n lines = filter_map (λ k. if is_for n (section_of (take k lines))
     then Some (slice_index_or lines k nothing) else None) (range_with_len 0 (length lines))
 
 -- the word that stands at a place where words stand from a first place on
@@ -59,14 +58,12 @@ processor_with profile memory (Some s) =
 
 -- processor n as the lines for it leave it: the last start holds
 unfoldable pub processor_loaded : Profile → List Line → ℕ → Processor
-processor_loaded profile lines n =
-    processor_with profile (memory_of (lines_for n lines))
+processor_loaded profile lines n = processor_with profile (memory_of (lines_for n lines))
     (last_or None (filter_map start_in (lines_for n lines)))
 
 -- central memory of this size: each address holds the last word that a line sets there, else 0
 unfoldable pub central_loaded : ℕ → List Line → List ℕ
-central_loaded size lines =
-    tabulate size
+central_loaded size lines = tabulate size
     (λ address. unwrap_or (last_or None (filter_map (central_word_for address) lines)) 0)
 
 -- whether some line names processor n

@@ -16,17 +16,14 @@ use Rattle.pp_deck.specs.declared.deck_fault.DeckFault.{DeckFault}
 use Rattle.pp_deck.specs.declared.flaw.Flaw.{Flaw}
 use Rattle.pp_deck.specs.declared.keyword.Keyword.{Keyword}
 
--- the machine that a deck loads, and whether it names each processor, in the order of the barrel;
--- no processor is named that the machine lacks
+-- the machine that a deck loads, and whether it names each processor, in the order of the barrel
 pub record LoadedDeck : Type 0 where
   pub machine : MachineState
   pub named : List Bool
 
--- whether each processor is to wait at dead start, in the order of the barrel: those of the profile
--- that are not named
+-- whether each processor is to wait at dead start: those of the profile that are not named
 abbrev pub unnamed_in : Profile → List Bool → List Bool
-unnamed_in profile named =
-    each_processor (λ n. has_processor profile n
+unnamed_in profile named = each_processor (λ n. has_processor profile n
     && not (slice_index_or named (processor_index n) false))
 
 -- dead start, where a deck asks for it: processors that it does not name wait for their programs
@@ -60,12 +57,10 @@ begins_section (field ∷ fields) = is_processor_keyword (keyword_of field)
 
 -- what line k says
 unfoldable pub line_at : Profile → ℕ → List Fields → ℕ → Result Line Flaw
-line_at profile size lines k =
-    line_after profile size (list_any has_fields (take k lines))
+line_at profile size lines k = line_after profile size (list_any has_fields (take k lines))
     (list_any begins_section (take k lines)) (slice_index_or lines k [])
 
--- ---- the size of central memory: n of a line `CENTRAL n` that is the first with fields, else
--- 10000 (octal)
+-- ---- the size of central memory: n of a first line with fields `CENTRAL n`, else 10000 (octal)
 
 abbrev pub size_said : Result Line Flaw → ℕ
 size_said (Ok (central_size n)) = n
@@ -91,14 +86,12 @@ fault_in k (Err flaw) = Some (record { line = k + 1; code = code_of flaw })
 
 -- all faults of lines, in their order
 unfoldable pub faults_in : Profile → List Fields → List DeckFault
-faults_in profile lines =
-    filter_map (λ k. fault_in k (line_at profile (size_of lines) lines k))
+faults_in profile lines = filter_map (λ k. fault_in k (line_at profile (size_of lines) lines k))
     (range_with_len 0 (length lines))
 
 -- what lines without a fault say, one after another
 unfoldable pub lines_said : Profile → List Fields → List Line
-lines_said profile lines =
-    filter_map (λ k. result_ok (line_at profile (size_of lines) lines k))
+lines_said profile lines = filter_map (λ k. result_ok (line_at profile (size_of lines) lines k))
     (range_with_len 0 (length lines))
 
 abbrev pub unless_faulty : List DeckFault → LoadedDeck → Result LoadedDeck DeckFault
@@ -107,9 +100,8 @@ unless_faulty [] deck = Ok deck
 
 -- what lines mean: the first fault, else what they load
 unfoldable pub meaning_of_lines : Profile → List Fields → Result LoadedDeck DeckFault
-meaning_of_lines profile lines =
-    unless_faulty (faults_in profile lines) (loaded profile (size_of lines)
-    (lines_said profile lines))
+meaning_of_lines profile lines = unless_faulty (faults_in profile lines)
+    (loaded profile (size_of lines) (lines_said profile lines))
 
 -- a byte that is not ASCII: from 200 (octal) on
 abbrev pub is_foreign : ℕ → Bool

@@ -1,7 +1,6 @@
 -- The lines of a deck's text, and the fields of a line. Bytes are ASCII codes in decimal: a tab is
 -- 9, LF is 10, a space is 32, `*` is 42; a CR, 13, at the end of a line is no part of it.
-use Rattle.std.specs.Prelude.{ℕ, ◌==◌, Bool, true, false, not, ◌||◌, List, [], ◌∷◌, map, filter, slice_index, Option, None, Some}
-use Rattle.std.specs.Borrow.{Bor}
+use Rattle.std.specs.Prelude.{ℕ, ◌==◌, Bool, true, false, not, ◌||◌, List, [], ◌∷◌, map, filter, slice_index}
 use Rattle.std.specs.List.{slice_split, take_while}
 use Rattle.std.specs.Str.Lines.{strip_carriage_return}
 
@@ -39,8 +38,3 @@ fields_of line = fields_in (strip_carriage_return line)
 -- the lines of a text, each as its fields. What comes after the last LF is a line too
 unfoldable pub lines_of : List ℕ → List Fields
 lines_of text = map fields_of (slice_split is_line_feed text)
-
--- the lines of what is left of a text; none where nothing is left
-abbrev pub lines_left : Option (Bor (List ℕ)) → List Fields
-lines_left None = []
-lines_left (Some text) = lines_of text.now

@@ -16,5 +16,4 @@ octal_value digits = fold (λ value digit. value * 8 + (digit - 48)) 0 digits
 unfoldable pub number : ℕ → Field → Result ℕ Flaw
 number most field =
     if nat_le 1 (length field) && nat_le (length field) most && list_all is_octal_digit field
-    then Ok (octal_value field)
-    else Err Flaw.BadDigits
+    then Ok (octal_value field) else Err Flaw.BadDigits

@@ -18,13 +18,12 @@ pub record Progress : Type 0 where
 
 -- before the first line, for a machine of this profile with central memory of this size
 unfoldable pub before_lines : Profile → ℕ → Progress
-before_lines profile size =
-    record {
-      machine = new_machine profile size;
-      named = replicate processor_count false;
-      current = None;
-      asks_dead_start = false;
-    }
+before_lines profile size = record {
+  machine = new_machine profile size;
+  named = replicate processor_count false;
+  current = None;
+  asks_dead_start = false;
+}
 
 -- a memory in which words come to a place and those after it
 abbrev pub with_words : ℕ → List ℕ → List ℕ → List ℕ
@@ -45,9 +44,8 @@ with_processor (Some n) change m =
 abbrev pub with_central_words : ℕ → List ℕ → MachineState → MachineState
 with_central_words a ws m = record m { central = with_words a ws m.central }
 
--- what one line more leaves: the words that it sets, in central memory or in the current processor;
--- the processor that it names, which is then the current one; where the current one starts; or that
--- dead start was asked for
+-- what one line more leaves: the words that it sets; the processor that it names, which is then the
+-- current one; where the current one starts; or that dead start was asked for
 unfoldable pub after_line : Progress → Line → Progress
 after_line progress (central_words a ws) =
     record progress { machine = with_central_words a ws progress.machine }

@@ -15,12 +15,13 @@ pub(crate) struct Lines<'a> {
 }
 
 impl<'a> Model for Lines<'a> {
-    ghost use Rattle.std.specs.Prelude.{ℕ, List};
-    ghost use Rattle.pp_deck.specs.DeckText.{lines_left};
+    ghost use Rattle.std.specs.Prelude.{ℕ, List, []};
+    ghost use Rattle.std.specs.Option.{option_map_or};
+    ghost use Rattle.pp_deck.specs.DeckText.{lines_of};
 
     ghost Value = { List (List (List ℕ)) };
 
-    ghost view = { λ lines. lines_left lines.text };
+    ghost view = { λ lines. option_map_or (λ text. lines_of text.now) lines.text [] };
 }
 
 impl<'a> Lines<'a> {

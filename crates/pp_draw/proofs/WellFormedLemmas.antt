@@ -5,7 +5,8 @@ use Rattle.pp_machine.specs.MachineState.{MachineState, history_of, processor_of
 use Rattle.pp_machine.specs.declared.pp_state.PpState.{PpState}
 use Rattle.pp_machine.specs.declared.pp_state.PpState.TheVariants.{Running, Stopped, Fault}
 use Rattle.pp_text.specs.Numeral.{octal}
-use Rattle.pp_text.specs.PrintedText.{channel_text, each_below, is_named, state_text}
+use Rattle.pp_machine.specs.PpNo.{is_named}
+use Rattle.pp_text.specs.PrintedText.{channel_text, each_below, state_text}
 use Rattle.pp_draw.specs.DrawingText.{channel_lane, count_below, drawing, is_used, lane_text, lanes, processor_lane, used_channels}
 use Rattle.pp_draw.specs.Elements.{band_element, channel_name, free_after, label_element, lane_foot, lane_head, part_elements, processor_name}
 use Rattle.pp_draw.specs.Frame.{caption_text, classes_text, colours_text, first_tick, foot_text, head_text, lane_top, legend_text, picture_height, picture_width, processor_legend_text, size_text, tick_count, tick_element, tick_line, tick_number, tick_turns, ticks_text, view_text}

@@ -6,7 +6,8 @@ use Rattle.pp_channel.specs.History.{active, waiting}
 use Rattle.pp_machine.specs.MachineState.{MachineState, history_of, processor_of}
 use Rattle.pp_machine.specs.Run.{barrel, run}
 use Rattle.pp_deck.specs.DeckMeaning.{LoadedDeck}
-use Rattle.pp_text.specs.PrintedText.{channel_text, each_below, is_named, state_text}
+use Rattle.pp_machine.specs.PpNo.{is_named}
+use Rattle.pp_text.specs.PrintedText.{channel_text, each_below, state_text}
 use Rattle.pp_draw.specs.Elements.{channel_name, lane_foot, lane_head, processor_name}
 use Rattle.pp_draw.specs.Frame.{classes_text, colours_text, foot_text, head_text, lane_top, legend_text, processor_legend_text, ticks_text}
 use Rattle.pp_draw.specs.Lane.{drawn}

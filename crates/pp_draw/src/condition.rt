@@ -1,6 +1,6 @@
 //! How a channel or a processor stands.
 
-ghost use Rattle.std.specs.Prelude.{◌≡◌, Option};
+ghost use Rattle.std.specs.Prelude.{◌≡◌};
 ghost use Rattle.pp_draw.specs.Condition.{condition_after, goes_on, has_label, is_full, is_inactive, is_sent};
 
 use pp_channel::{ChannelNo, Event};

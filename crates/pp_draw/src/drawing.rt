@@ -1,6 +1,4 @@
 //! The drawing of a run.
-
-ghost use Rattle.std.specs.Prelude.{◌≡◌};
 ghost use Rattle.pp_text.specs.Written.{IsWritten};
 ghost use Rattle.pp_draw.specs.DrawingText.{drawing};
 

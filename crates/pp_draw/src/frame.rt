@@ -2,7 +2,6 @@
 
 ghost use Rattle.std.specs.Prelude.{◌≡◌, ◌+◌, ◌*◌, ◌≤◌, ◌<◌, ◌^◌, ◌++◌, length, max};
 ghost use Rattle.pp_text.specs.Piece.{HasRoom};
-ghost use Rattle.pp_text.specs.PrintedText.{each_below};
 ghost use Rattle.pp_text.specs.TextWriter.{Prints};
 ghost use Rattle.pp_draw.specs.Frame.{caption_text, classes_text, colours_text, first_tick, foot_text, head_text, lane_top, legend_text, picture_width, processor_legend_text, size_text, tick_count, tick_element, tick_line, tick_number, tick_turns, ticks_text, view_text};
 

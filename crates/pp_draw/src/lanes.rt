@@ -1,6 +1,6 @@
 //! The lanes of channels and of processors.
 
-ghost use Rattle.std.specs.Prelude.{◌≡◌, ◌≤◌, ◌∷◌, [], ℕ, List};
+ghost use Rattle.std.specs.Prelude.{◌≤◌, ◌∷◌, [], ℕ, List};
 ghost use Rattle.pp_channel.specs.History.{active, waiting};
 ghost use Rattle.pp_machine.specs.MachineState.{history_of};
 ghost use Rattle.pp_text.specs.PrintedText.{channel_text, state_text};

@@ -80,8 +80,8 @@ pub fn drawing_law()
         (more : List Phase) → IsTrue (is_visible (part_of w phase (next_in more)))
         → StandsWithin (band_element name (part_of w phase (next_in more)))
         (drawn_from w name free (before ++ phase ∷ more)) }
-    // Numbers have two octal digits. The lane of a channel that is not used is empty, and so is that
-    // of a processor that is not named.
+    // Numbers have two octal digits. The lane of a channel that is not used is empty, and so is
+    // that of a processor that is not named.
     ensures each_lane { (w : Window) (named : List Bool) (m : MachineState)
         (steps : List SeenStep) (k : ℕ) → k < 0o100
         → StandsWithin (channel_lane w m k) (drawing w named m steps)

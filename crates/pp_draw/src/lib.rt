@@ -1,16 +1,16 @@
 //! The drawing of a run: an SVG with a lane for each channel that the run used and for each
 //! processor that the deck names, over a scale of turns (decimal), with a legend.
 //!
-//! `run_seeing_steps` runs a machine to the end of a window of turns, and `write_drawing` writes the
-//! picture. What is drawn is a function of the steps of the run (specs/DrawingText): each lane is a
-//! list of phases, each of which lasts until the next. The phases of a channel begin with its
+//! `run_seeing_steps` runs a machine to the end of a window of turns, and `write_drawing` writes
+//! the picture. What is drawn is a function of the steps of the run (specs/DrawingText): each lane
+//! is a list of phases, each of which lasts until the next. The phases of a channel begin with its
 //! events, those of a processor with the steps that find it under another condition than the step
 //! before (specs/Phases). A phase that falls into the window is drawn as a band (specs/Part), with
 //! its word, its function code or its channel above it where there is room (specs/Lane), and with a
 //! title that tells it. After the last turn stands how the lane ends.
 //!
-//! The text is well-formed XML (specs/WellFormed, by `drawing_law`), and a run decides nothing of it
-//! but digits, classes and which elements there are. It has no script and no reference, and its
+//! The text is well-formed XML (specs/WellFormed, by `drawing_law`), and a run decides nothing of
+//! it but digits, classes and which elements there are. It has no script and no reference, and its
 //! colours are light or dark as the reader's are.
 #![tactic(auto)]
 

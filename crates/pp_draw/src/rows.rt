@@ -1,7 +1,8 @@
 //! The rows of lanes, channels before processors.
 
 ghost use Rattle.std.specs.Prelude.{◌≡◌, ◌+◌, ◌≤◌, ◌<◌, ◌↔◌, IfSome, IsSome, IsTrue, if◌then◌else◌};
-ghost use Rattle.pp_text.specs.PrintedText.{each_below, is_named};
+ghost use Rattle.pp_machine.specs.PpNo.{is_named};
+ghost use Rattle.pp_text.specs.PrintedText.{each_below};
 ghost use Rattle.pp_text.specs.TextWriter.{Prints};
 ghost use Rattle.pp_draw.specs.DrawingText.{channel_lane, count_below, is_used, processor_lane, used_channels};
 

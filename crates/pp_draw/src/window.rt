@@ -1,6 +1,6 @@
 //! The turns that are drawn, and their places.
 
-ghost use Rattle.std.specs.Prelude.{◌≡◌, ◌+◌, ◌≤◌, ◌<◌, ◌^◌};
+ghost use Rattle.std.specs.Prelude.{◌≡◌, ◌≤◌, ◌<◌, ◌^◌};
 ghost use Rattle.pp_draw.specs.Window.{band_width, place, turn_width};
 
 /// How many turns a picture has at most, to be readable (decimal).

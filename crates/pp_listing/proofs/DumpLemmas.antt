@@ -5,7 +5,7 @@ use Rattle.std.specs.List.{flat_map, range_with_len}
 use Rattle.std.proofs.lemmas.List.{append-nil, length-set}
 use Rattle.pp_machine.specs.MachineState.{processor_of}
 use Rattle.pp_machine.specs.Processor.{Processor, word_at}
-use Rattle.pp_machine.specs.PpNo.{processor_count, processor_number}
+use Rattle.pp_machine.specs.PpNo.{processor_count, processor_number, is_named}
 use Rattle.pp_machine.specs.declared.pp_state.PpState.{PpState}
 use Rattle.pp_machine.specs.declared.pp_state.PpState.TheVariants.{Running, Stopped, Fault}
 use Rattle.pp_deck.specs.DeckLine.{central_size, section, dead_start}
@@ -14,7 +14,7 @@ use Rattle.pp_deck.specs.DeckMeaning.{LoadedDeck}
 use Rattle.list_facts.specs.Tables.{tabulate_is}
 use Rattle.pp_listing.specs.Dump.{deck_to_go_on, dump, is_in_use, left_of}
 use Rattle.pp_listing.specs.ListedLine.{ListedLine, bare, text_line}
-use Rattle.pp_listing.specs.Listing.{central_word_line, dead_start_line, instruction_lines, is_named, listing, named_section, numbers, section_lines, start_line}
+use Rattle.pp_listing.specs.Listing.{central_word_line, dead_start_line, instruction_lines, listing, named_section, numbers, section_lines, start_line}
 use Rattle.pp_listing.proofs.TextLemmas.{listing_from_pieces}
 use Rattle.pp_listing.proofs.DumpLawLemmas.{left_there, none_open}
 

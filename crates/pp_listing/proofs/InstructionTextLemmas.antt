@@ -3,7 +3,7 @@ use Rattle.std.proofs.Common.{◌≡◌, ℕ, ◌/◌, ◌%◌, ◌^◌, Bool, t
 use Rattle.std.specs.Prelude.{codes}
 use Rattle.std.specs.List.{list_all}
 use Rattle.std.proofs.lemmas.List.Folds.{list_all-append}
-use Rattle.pp_word.specs.Opcode.{opcode_at, mnemonic_of}
+use Rattle.pp_word.specs.Opcode.{opcode_at, row_of}
 use Rattle.pp_word.specs.declared.opcode.Opcode.{Opcode}
 use Rattle.pp_word.specs.declared.opcode.Opcode.TheVariants.{PSN, LJM, RJM, UJN, ZJN, NJN, PJN, MJN, SHN, LMN, LPN, SCN, LDN, LCN, ADN, SBN, LDC, ADC, LPC, LMC, PSN24, PSN25, EXN, RPN, LDD, ADD, SBD, LMD, STD, RAD, AOD, SOD, LDI, ADI, SBI, LMI, STI, RAI, AOI, SOI, LDM, ADM, SBM, LMM, STM, RAM, AOM, SOM, CRD, CRM, CWD, CWM, AJM, IJM, FJM, EJM, IAN, IAM, OAN, OAM, ACN, DCN, FAN, FNC}
 use Rattle.pp_word.specs.Address.{relative_to}
@@ -21,7 +21,7 @@ IsPlain text = list_all is_plain text ≡ true
 pub plain_append : (xs ys : List ℕ) → IsPlain xs → IsPlain ys → IsPlain (xs ++ ys)
 plain_append xs ys h k = list_all-append is_plain xs ys ∙ and_both (list_all is_plain xs) (list_all is_plain ys) h k
 
-mnemonic_plain : (op : Opcode) → IsPlain (mnemonic_of op)
+mnemonic_plain : (op : Opcode) → IsPlain ((row_of op).mnemonic)
 mnemonic_plain PSN = refl
 mnemonic_plain LJM = refl
 mnemonic_plain RJM = refl
@@ -105,6 +105,6 @@ operands_plain Number place d m = octal_plain 2 d
 pub instruction_plain : (place word m : ℕ) → IsPlain (instruction_text place word m)
 unfolding instruction_text
 instruction_plain place word m =
-    plain_append (mnemonic_of (opcode_at (word / 2 ^ 6)) ++ codes " ") (operands_text (operands_of (word / 2 ^ 6)) place (word % 2 ^ 6) m)
-    (plain_append (mnemonic_of (opcode_at (word / 2 ^ 6))) (codes " ") (mnemonic_plain (opcode_at (word / 2 ^ 6))) refl)
+    plain_append ((row_of (opcode_at (word / 2 ^ 6))).mnemonic ++ codes " ") (operands_text (operands_of (word / 2 ^ 6)) place (word % 2 ^ 6) m)
+    (plain_append ((row_of (opcode_at (word / 2 ^ 6))).mnemonic) (codes " ") (mnemonic_plain (opcode_at (word / 2 ^ 6))) refl)
     (operands_plain (operands_of (word / 2 ^ 6)) place (word % 2 ^ 6) m)

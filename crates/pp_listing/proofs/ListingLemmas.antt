@@ -8,7 +8,7 @@ use Rattle.pp_channel.specs.ChannelNo.{names_channel}
 use Rattle.pp_machine.specs.MachineState.{MachineState, processor_of, is_opened}
 use Rattle.pp_machine.specs.DeadStart.{waiting_on}
 use Rattle.pp_machine.specs.Processor.{Processor, word_at}
-use Rattle.pp_machine.specs.PpNo.{names_processor, processor_index}
+use Rattle.pp_machine.specs.PpNo.{names_processor, processor_index, is_named}
 use Rattle.pp_machine.specs.Profile.{has_processor}
 use Rattle.pp_machine.specs.declared.profile.Profile.{Profile}
 use Rattle.pp_deck.specs.DeckLine.{Line, nothing, central_size, central_words, section, start, words, dead_start}
@@ -25,7 +25,7 @@ use Rattle.pp_deck.proofs.NamesLemmas.{named_within}
 use Rattle.pp_deck.proofs.RangeLemmas.{InRange, size_in_range}
 use Rattle.pp_deck.proofs.SectionLinesLemmas.{AllLines, all_append, any_none, any_false, section_if}
 use Rattle.pp_listing.specs.ListedLine.{ListedLine, bare, says, text_line}
-use Rattle.pp_listing.specs.Listing.{ReadsBackAs, central_word_line, dead_start_line, instruction_lines, is_named, is_opened_channel, listed, listing, named_section, numbers, section_lines, start_line}
+use Rattle.pp_listing.specs.Listing.{ReadsBackAs, central_word_line, dead_start_line, instruction_lines, is_opened_channel, listed, listing, named_section, numbers, section_lines, start_line}
 use Rattle.pp_listing.proofs.InstructionLemmas.{word_lines, start_by, says_words, says_start, IsOwn, IsReadInSection, instructions_read, start_is_read}
 use Rattle.pp_listing.proofs.ListedLemmas.{body_of, body_own, word_line, central_lines, dead_line, lines_of_parts, asked_held, set_again}
 use Rattle.pp_listing.proofs.ListedLineLemmas.{fields_said}

@@ -1,7 +1,7 @@
 -- A step leaves the words and registers of a processor their widths.
 use Rattle.std.proofs.Common.{ℕ, zero, suc, ◌+◌, ◌-◌, ◌*◌, ◌%◌, ◌^◌, ◌==◌, ◌<◌, ◌&&◌, not, Bool, true, false, List, [], ◌∷◌, Option, None, Some, if◌then◌else◌, slice_set, get_or, arith, ◌∙◌}
 use Rattle.std.proofs.lemmas.List.{length-set}
-use Rattle.pp_word.specs.Address.{place_count, next_place, relative_to}
+use Rattle.pp_word.specs.Address.{place_after, place_count, next_place, relative_to}
 use Rattle.pp_word.specs.CentralWord.{parts_of}
 use Rattle.pp_word.specs.OnesComplement.{sum, difference}
 use Rattle.pp_word.specs.declared.opcode.Opcode.{Opcode}
@@ -15,7 +15,7 @@ use Rattle.pp_machine.specs.Block.{stored_from, receives, central_from, held, cu
 use Rattle.pp_machine.specs.Effect.{goes_on, goes_to, faults, jumps_or_stops, jumps_where, branches_where, calls, leads_to_itself, is_negative, low_of, loads, stores_word, replaces}
 use Rattle.pp_machine.specs.InstructionTable.{row, works_on_channel}
 use Rattle.pp_machine.specs.NeedAndEffect.{answered, step_of, next_step, processor_after, if_running}
-use Rattle.pp_machine.specs.Operand.{place_after_p, operation, lower_six, second_word, index, constant}
+use Rattle.pp_machine.specs.Operand.{operation, lower_six, second_word, index, constant}
 use Rattle.pp_machine.specs.PpMemory.{IsMemory}
 use Rattle.pp_machine.specs.Processor.{Processor, IsProcessor, word_at}
 use Rattle.pp_machine.specs.Profile.{has_channel}
@@ -62,11 +62,11 @@ module _ (pp : Processor) (h : IsProcessor pp) where
   at_p : (p : ℕ) → p < 2 ^ 12 → IsProcessor (goes_to pp p)
   at_p p small = record { memory = h.memory; a = h.a; p = small }
 
-  behind_small : (n : ℕ) → place_after_p pp n < 2 ^ 12
+  behind_small : (n : ℕ) → place_after pp.p n < 2 ^ 12
   behind_small n = omega arith
 
   on : (n : ℕ) → IsProcessor (goes_on pp n)
-  on n = at_p (place_after_p pp n) (behind_small n)
+  on n = at_p (place_after pp.p n) (behind_small n)
 
   at_rest : (state : PpState) (block : Option Block) → IsProcessor (record pp { state = state; block = block })
   at_rest state block = record { memory = h.memory; a = h.a; p = h.p }
@@ -86,14 +86,14 @@ module _ (pp : Processor) (h : IsProcessor pp) where
   jumped_or_stopped d = either (leads_to_itself d) _ (goes_to pp (relative_to pp.p d)) (at_rest Stopped pp.block) (at_p (relative_to pp.p d) (relative_small pp.p d))
 
   branched : (test : Bool) → IsProcessor (branches_where test pp 2)
-  branched true = at_p (second_word pp) (word_small (place_after_p pp 1))
+  branched true = at_p (second_word pp) (word_small (place_after pp.p 1))
   branched false = on 2
 
   index_small : (d : ℕ) → index pp d < 2 ^ 12
-  index_small d = one_of (d == 0) (second_word pp) _ (2 ^ 12) (word_small (place_after_p pp 1)) (indexed_small (second_word pp) (word_at pp d) (word_small (place_after_p pp 1)) (word_small d))
+  index_small d = one_of (d == 0) (second_word pp) _ (2 ^ 12) (word_small (place_after pp.p 1)) (indexed_small (second_word pp) (word_at pp d) (word_small (place_after pp.p 1)) (word_small d))
 
   called : (target : ℕ) → IsProcessor (calls pp target 2)
-  called target = record { memory = stored pp.memory target (place_after_p pp 2) h.memory (behind_small 2); a = h.a; p = next_small target }
+  called target = record { memory = stored pp.memory target (place_after pp.p 2) h.memory (behind_small 2); a = h.a; p = next_small target }
 
   word_stored : (place n : ℕ) → IsProcessor (stores_word pp place n)
   word_stored place n = record { memory = stored pp.memory place (low_of pp.a) h.memory (omega arith); a = h.a; p = behind_small n }
@@ -105,7 +105,7 @@ module _ (pp : Processor) (h : IsProcessor pp) where
   wide place = omega (arith, word_small place)
 
   constant_small : (d : ℕ) → d < 0o100 → constant pp d < 2 ^ 18
-  constant_small d lt = omega (arith, lt, word_small (place_after_p pp 1))
+  constant_small d lt = omega (arith, lt, word_small (place_after pp.p 1))
 
   put_at : (place word : ℕ) → word < 2 ^ 12 → IsProcessor (stores_at pp place word)
   put_at place word small = record { memory = stored pp.memory place word h.memory small; a = h.a; p = h.p }
@@ -227,7 +227,7 @@ row_keeps OAM pp d h lt = started pp h _ _
 row_keeps ACN pp d h lt = (tt, on pp h 1)
 row_keeps DCN pp d h lt = (tt, on pp h 1)
 row_keeps FAN pp d h lt = (low_small pp.a, on pp h 1)
-row_keeps FNC pp d h lt = (word_small pp h (place_after_p pp 1), on pp h 2)
+row_keeps FNC pp d h lt = (word_small pp h (place_after pp.p 1), on pp h 2)
 
 block_keeps : (kind : BlockKind) (place : ℕ) (pp : Processor) → IsProcessor pp → StepKeeps (block_word kind place pp)
 block_keeps (CentralIn left) place pp h = λ central. counted_up (receives pp place central) (received pp h place central) (left - 1) (CentralIn (left - 1)) place

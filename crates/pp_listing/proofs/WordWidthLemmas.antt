@@ -1,12 +1,13 @@
 -- The numbers that operations on words give have the widths of words.
-use Rattle.std.proofs.Common.{◌≡◌, ℕ, ◌+◌, ◌-◌, ◌*◌, ◌%◌, ◌^◌, ◌<◌, ◌≤◌, Bool, true, false, not, List, [], ◌∷◌, ◌++◌, length, map, take, drop, replicate, refl, arith, lit<}
+use Rattle.std.proofs.Common.{◌≡◌, ℕ, ◌+◌, ◌-◌, ◌*◌, ◌%◌, ◌^◌, ◌<◌, ◌≤◌, Bool, true, false, not, List, [], ◌∷◌, ◌++◌, length, map, zip, take, drop, replicate, refl, arith, lit<}
 use Rattle.std.proofs.Common.{length-append, length-take}
 use Rattle.std.specs.Prelude.{min, nat_lt, if◌then◌else◌, ◌&&◌}
 use Rattle.std.proofs.Math.Nat.{pow-le-pow_right, pow-suc, pow-zero}
+use Rattle.std.proofs.lemmas.Slice.Zip.{length-zip}
 use Rattle.std.proofs.lemmas.Bool.{ltb-true}
 use Rattle.std.proofs.lemmas.List.{length-drop, length-map, length-replicate}
 use Rattle.pp_word.specs.Address.{place_count, next_place, indexed, relative_to}
-use Rattle.pp_word.specs.Bits.{number_of, bits_of, rotation, right_shift, shift, complement, bit_by_bit, combination, logical_product, logical_difference, selective_clear}
+use Rattle.pp_word.specs.Bits.{number_of, bits_of, rotation, right_shift, shift, complement, combination, logical_product, logical_difference, selective_clear}
 use Rattle.pp_word.specs.OnesComplement.{all_ones, sum, difference}
 use Rattle.pp_word.proofs.BitsLemmas.{length-lowest_bits}
 
@@ -25,13 +26,10 @@ number_small (false ∷ bs) = rw (pow-suc 2 (length bs)) (none_more (number_of b
 number_fits : (bs : List Bool) → length bs ≤ 18 → number_of bs < 2 ^ 18
 number_fits bs short = omega (arith, number_small bs, pow-le-pow_right {n = 2} (lit< tt) {i = length bs} {j = 18} short)
 
-by_place : (f : Bool → Bool → Bool) (xs ys : List Bool) → length (bit_by_bit f xs ys) ≤ length xs
-by_place f [] ys = omega arith
-by_place f (x ∷ xs) [] = omega arith
-by_place f (x ∷ xs) (y ∷ ys) = omega (arith, by_place f xs ys)
-
 combined_small : (f : Bool → Bool → Bool) (a b : ℕ) → combination f a b < 2 ^ 18
-combined_small f a b = number_fits (bit_by_bit f (bits_of a) (bits_of b)) (omega (arith, by_place f (bits_of a) (bits_of b), length-lowest_bits 18 a))
+combined_small f a b =
+    let pairs = zip (bits_of a) (bits_of b) in
+    number_fits (map (λ pair. f pair.0 pair.1) pairs) (omega (arith, length-map pairs (λ pair. f pair.0 pair.1), length-zip (bits_of a) (bits_of b), length-lowest_bits 18 a, length-lowest_bits 18 b))
 
 pub conjunction_small : (a b : ℕ) → logical_product a b < 2 ^ 18
 conjunction_small a b = combined_small (λ x y. x && y) a b

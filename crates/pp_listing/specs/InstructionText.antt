@@ -2,7 +2,7 @@
 -- word, m the next word; after the word at place 7777 that is the one at 0000.
 use Rattle.std.specs.Prelude.{ℕ, ◌/◌, ◌%◌, ◌^◌, ◌==◌, ◌&&◌, ◌||◌, nat_le, Bool, List, [], ◌++◌, codes, if◌then◌else◌}
 use Rattle.pp_word.specs.Address.{relative_to}
-use Rattle.pp_word.specs.Opcode.{opcode_at, row_of, mnemonic_of}
+use Rattle.pp_word.specs.Opcode.{opcode_at, row_of}
 use Rattle.pp_listing.specs.OctalDigits.{octal}
 use Rattle.pp_listing.specs.declared.operands.Operands.{Operands}
 use Rattle.pp_listing.specs.declared.operands.Operands.TheVariants.{IndexedPlace, JumpPlace, Constant, PlaceAndNumber, Number}
@@ -36,7 +36,7 @@ operands_text Number place d m = octal 2 d
 -- the text of the instruction in a word at a place, before the next word m
 unfoldable pub instruction_text : ℕ → ℕ → ℕ → List ℕ
 instruction_text place word m =
-    mnemonic_of (opcode_at (word / 2 ^ 6)) ++ codes " "
+    (row_of (opcode_at (word / 2 ^ 6))).mnemonic ++ codes " "
     ++ operands_text (operands_of (word / 2 ^ 6)) place (word % 2 ^ 6) m
 
 -- whether a second word belongs to the instruction in a word

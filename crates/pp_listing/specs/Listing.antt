@@ -1,10 +1,10 @@
 -- The listing of a deck: the lines that load it, printed.
-use Rattle.std.specs.Prelude.{◌≡◌, ◌≤◌, Ok, ℕ, ◌+◌, ◌==◌, ◌&&◌, Bool, false, List, [], ◌∷◌, ◌++◌, length, slice_index, slice_index_or, if◌then◌else◌}
+use Rattle.std.specs.Prelude.{◌≡◌, ◌≤◌, Ok, ℕ, ◌+◌, ◌==◌, ◌&&◌, Bool, List, [], ◌∷◌, ◌++◌, length, slice_index, if◌then◌else◌}
 use Rattle.std.specs.List.{flat_map, list_any, range_with_len}
 use Rattle.pp_channel.specs.ChannelNo.{names_channel}
 use Rattle.pp_machine.specs.MachineState.{MachineState, processor_of, is_opened}
 use Rattle.pp_machine.specs.Processor.{Processor, word_at}
-use Rattle.pp_machine.specs.PpNo.{names_processor, processor_index}
+use Rattle.pp_machine.specs.PpNo.{is_named}
 use Rattle.pp_machine.specs.declared.pp_state.PpState.{PpState}
 use Rattle.pp_machine.specs.declared.pp_state.PpState.TheVariants.{Running}
 use Rattle.pp_deck.specs.DeckLine.{central_size, central_words, section, start, dead_start}
@@ -35,10 +35,6 @@ start_line state p a = []
 abbrev pub section_lines : ℕ → Processor → List ListedLine
 section_lines n pp =
     bare (section n) ∷ instruction_lines (word_at pp 0) 0 pp.memory ++ start_line pp.state pp.p pp.a
-
--- whether there is a processor with this number and the deck names it
-abbrev pub is_named : List Bool → ℕ → Bool
-is_named named n = names_processor n && slice_index_or named (processor_index n) false
 
 -- the section of processor n, where it is named
 abbrev pub named_section : List Bool → MachineState → ℕ → List ListedLine

@@ -7,7 +7,7 @@ use Rattle.pp_word.specs.OnesComplement.{all_ones, sum, difference}
 use Rattle.pp_channel.specs.declared.chan_op.ChanOp.TheVariants.{Put, Take}
 use Rattle.pp_channel.specs.declared.reply.Reply.TheVariants.{Done, Word}
 use Rattle.pp_machine.specs.Block.{central_from, stored_from}
-use Rattle.pp_machine.specs.BlockResults.{inactive, five_from, address_of}
+use Rattle.pp_machine.specs.BlockResults.{inactive, address_of}
 use Rattle.pp_machine.specs.NeedAndEffect.{need, processor_after}
 use Rattle.pp_machine.specs.Processor.{Processor}
 use Rattle.pp_machine.specs.Replay.{fits}
@@ -227,24 +227,13 @@ module _ (profile : Profile) where
   unfolding need
   central_in_need left memory a p place h = rw (position-some left memory a p (CentralIn left) place h) refl
 
-  central_from-place_from : (memory : List ℕ) (a p : ℕ) (kind : BlockKind) (m j : ℕ) →
-      central_from (midway memory a p kind (place_after m j)) (place_after m j) ≡ five_from memory m j
-  central_from-place_from memory a p kind m j =
-      let none : j + 0 ≡ j = omega arith in
-      let one : (place_after m j + 1) % place_count ≡ place_after m (j + 1) = omega arith in
-      let two : (place_after m j + 2) % place_count ≡ place_after m (j + 2) = omega arith in
-      let three : (place_after m j + 3) % place_count ≡ place_after m (j + 3) = omega arith in
-      let four : (place_after m j + 4) % place_count ≡ place_after m (j + 4) = omega arith in
-      rw (none, one, two, three, four) refl
-
   central_out_need_midway : (left : ℕ) (memory : List ℕ) (a p place : ℕ) →
       need (midway memory a p (CentralOut left) place) ≡ needs.Write a (central_from (midway memory a p (CentralOut left) place) place)
   unfolding need
   central_out_need_midway left memory a p place = refl
 
-  pub central_out_need : (left : ℕ) (memory : List ℕ) (a p m j : ℕ) → 0 < left →
-      need (position left memory a p (CentralOut left) (place_after m j)) ≡ needs.Write a (five_from memory m j)
-  central_out_need left memory a p m j h =
-      ap (λ t. need t) (position-some left memory a p (CentralOut left) (place_after m j) h)
-      ∙ central_out_need_midway left memory a p (place_after m j)
-      ∙ ap (λ word. needs.Write a word) (central_from-place_from memory a p (CentralOut left) m j)
+  pub central_out_need : (left : ℕ) (memory : List ℕ) (a p place : ℕ) → 0 < left →
+      need (position left memory a p (CentralOut left) place) ≡ needs.Write a (central_from (midway memory a p (CentralOut left) place) place)
+  central_out_need left memory a p place h =
+      ap (λ t. need t) (position-some left memory a p (CentralOut left) place h)
+      ∙ central_out_need_midway left memory a p place

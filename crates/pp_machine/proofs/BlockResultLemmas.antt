@@ -7,8 +7,8 @@ use Rattle.pp_word.specs.OnesComplement.{sum}
 use Rattle.pp_word.specs.declared.opcode.Opcode.TheVariants.{IAM, OAM, CRM, CWM}
 use Rattle.pp_channel.specs.declared.chan_op.ChanOp.TheVariants.{Put, Take}
 use Rattle.pp_channel.specs.declared.reply.Reply.TheVariants.{Done, Word}
-use Rattle.pp_machine.specs.Block.{starts}
-use Rattle.pp_machine.specs.BlockResults.{kept_memory, BringsWords, EndsBlock, need_before_answer, inactive, input_answers, output_answers, read_answers, write_answers, TakesWords, PutsWords, ReadsCentrals, WritesCentrals, CompleteInput, ShortInput, CompleteOutput, ShortOutput, CentralRead, CentralWrite, address_of, five_from}
+use Rattle.pp_machine.specs.Block.{central_from, keeps_place, starts}
+use Rattle.pp_machine.specs.BlockResults.{kept_memory, BringsWords, EndsBlock, need_before_answer, inactive, input_answers, output_answers, TakesWords, PutsWords, ReadsCentrals, WritesCentrals, CompleteInput, ShortInput, CompleteOutput, ShortOutput, CentralRead, CentralWrite, address_of}
 use Rattle.pp_machine.specs.InstructionTable.{instruction}
 use Rattle.pp_machine.specs.NeedAndEffect.{need, processor_after}
 use Rattle.pp_machine.specs.Operand.{operation, lower_six, second_word}
@@ -27,6 +27,14 @@ use Rattle.pp_machine.specs.declared.profile.Profile.{Profile}
 use Rattle.pp_machine.proofs.BlockLemmas.{idle, position, over, inputs, input_closed, input_need, outputs, output_cut, output_need, centrals_in, central_in_need, centrals_out, central_out_need, address_of-some}
 use Rattle.pp_machine.specs.ReplayLaws.{Gives, Gives-cons, Gives-append, Gives-to, replayed-Gives, given_count-Gives}
 use Rattle.pp_machine.proofs.StoredLemmas.{stored, stored-append, stored-cons, stored-nil, BringsWords-stored, parts_of_all, length-parts_of_all, slice_index-parts_of_all}
+
+-- CRM: the start, and these central words
+abbrev read_answers : List ℕ → List Answer
+read_answers centrals = Local ∷ map (λ central. Read (Some central)) centrals
+
+-- CWM: the start, and this many central words written
+abbrev write_answers : ℕ → List Answer
+write_answers count = Local ∷ replicate count (Wrote true)
 
 module _ (profile : Profile) where
   -- the start of a block
@@ -274,13 +282,13 @@ module _ (profile : Profile) where
   central_out_writes : (memory : List ℕ) (a p count i : ℕ) → IsProcessor (idle profile memory a p) →
       operation (idle profile memory a p) ≡ CWM → count ≡ word_at (idle profile memory a p) (lower_six (idle profile memory a p)) →
       i < count →
-      need_before_answer (idle profile memory a p) (write_answers count) i ≡ needs.Write (address_of a i) (five_from (kept_memory (idle profile memory a p)) (second_word (idle profile memory a p)) (5 * i))
+      need_before_answer (idle profile memory a p) (write_answers count) i ≡ needs.Write (address_of a i) (central_from (keeps_place (idle profile memory a p)) (place_after (second_word (idle profile memory a p)) (5 * i)))
   central_out_writes memory a p count i ok code e k =
       let pp = idle profile memory a p in
       let here : 0 + 5 * i ≡ 5 * i = omega arith in
       met pp _ Local (replicate count (Wrote true)) (replicate i (Wrote true)) i (take-replicate i count (Wrote true) (omega arith)) (central_out_gives memory a p count i ok code e (omega arith))
-      ∙ central_out_need profile (count - i) (kept_memory pp) (address_of a i) p (second_word pp) (0 + 5 * i) (omega arith)
-      ∙ ap (λ j. needs.Write (address_of a i) (five_from (kept_memory pp) (second_word pp) j)) here
+      ∙ central_out_need profile (count - i) (kept_memory pp) (address_of a i) p (place_after (second_word pp) (0 + 5 * i)) (omega arith)
+      ∙ ap (λ j. needs.Write (address_of a i) (central_from (keeps_place pp) (place_after (second_word pp) j))) here
 
   central_write_idle : (memory : List ℕ) (a p count : ℕ) → IsProcessor (idle profile memory a p) →
       operation (idle profile memory a p) ≡ CWM → 0 < count →

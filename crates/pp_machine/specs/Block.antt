@@ -79,8 +79,7 @@ block_word (Output channel) place pp =
 abbrev pub cut_short : BlockKind → ℕ → Processor → Processor
 cut_short (Input channel) place pp = ends (stores_at pp place 0)
 cut_short (Output channel) place pp = ends pp
-cut_short (CentralIn left) place pp = pp
-cut_short (CentralOut left) place pp = pp
+cut_short kind place pp = pp
 
 -- a channel that was not ready holds an instruction, and ends a block where it is inactive
 abbrev pub held : Option Block → Processor → Flags → Processor

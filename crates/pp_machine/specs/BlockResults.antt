@@ -3,12 +3,12 @@
 -- word. (Manual 60100000, peripheral processors: CRM, CWM, IAM, OAM.)
 use Rattle.std.specs.Prelude.{ℕ, ◌≡◌, ◌≢◌, ◌+◌, ◌-◌, ◌*◌, ◌/◌, ◌%◌, ◌<◌, ◌≤◌, ◌==◌, Bool, true, false, List, [], ◌∷◌, ◌++◌, None, Some, if◌then◌else◌, length, map, replicate, take, slice_index}
 use Rattle.pp_word.specs.Address.{place_count, place_after, next_place}
-use Rattle.pp_word.specs.CentralWord.{parts_of, joined}
+use Rattle.pp_word.specs.CentralWord.{parts_of}
 use Rattle.pp_word.specs.OnesComplement.{sum}
 use Rattle.pp_word.specs.declared.opcode.Opcode.{Opcode}
 use Rattle.pp_channel.specs.declared.chan_op.ChanOp.TheVariants.{Put, Take}
 use Rattle.pp_channel.specs.declared.reply.Reply.TheVariants.{Done, Word, Held}
-use Rattle.pp_machine.specs.Block.{keeps_place}
+use Rattle.pp_machine.specs.Block.{central_from, keeps_place}
 use Rattle.pp_machine.specs.NeedAndEffect.{need}
 use Rattle.pp_machine.specs.Operand.{operation, lower_six, second_word}
 use Rattle.pp_machine.specs.Profile.{has_channel}
@@ -58,14 +58,6 @@ input_answers words = Answer.Local ∷ map (λ word. Answer.Channel (Word word))
 -- OAM: the start, and this many words put
 abbrev pub output_answers : ℕ → List Answer
 output_answers count = Answer.Local ∷ replicate count (Answer.Channel Done)
-
--- CRM: the start, and these central words
-abbrev pub read_answers : List ℕ → List Answer
-read_answers centrals = Answer.Local ∷ map (λ central. Answer.Read (Some central)) centrals
-
--- CWM: the start, and this many central words written
-abbrev pub write_answers : ℕ → List Answer
-write_answers count = Answer.Local ∷ replicate count (Answer.Wrote true)
 
 -- 71: words are taken from channel d, and come to the places from m on
 pub record TakesWords (pp : Processor) (answers : List Answer) (count : ℕ) (words : List ℕ)
@@ -135,24 +127,19 @@ abbrev pub CentralRead : Processor → Type 0
 CentralRead pp =
     (centrals : List ℕ) → BeginsAt Opcode.CRM pp → 0 < length centrals → length centrals ≤ 819
     → length centrals ≡ word_at pp (lower_six pp) →
-    let answers = read_answers centrals in
+    let answers = Answer.Local ∷ map (λ central. Answer.Read (Some central)) centrals in
     EndsBlock pp answers (sum pp.a (length centrals)) × ReadsCentrals pp answers centrals
-
--- the central word of places j to j + 4 from m on
-abbrev pub five_from : List ℕ → ℕ → ℕ → ℕ
-five_from memory m j =
-    joined (map (λ k. slice_index memory (place_after m (j + k))) (0 ∷ 1 ∷ 2 ∷ 3 ∷ 4 ∷ []))
 
 -- 63: central words are written from the words from m on, five each; no place but 0000 changes
 pub record WritesCentrals (pp : Processor) (answers : List Answer) (count : ℕ) : Type 0 where
   pub writes : (i : ℕ) → i < count
       → need_before_answer pp answers i ≡ Need.Write (address_of pp.a i)
-      (five_from (kept_memory pp) (second_word pp) (5 * i))
+      (central_from (keeps_place pp) (place_after (second_word pp) (5 * i)))
   pub memory : (replayed pp answers).memory ≡ kept_memory pp
 
 -- 63: as many central words as place d says
 abbrev pub CentralWrite : Processor → Type 0
 CentralWrite pp =
     (count : ℕ) → BeginsAt Opcode.CWM pp → 0 < count → count ≡ word_at pp (lower_six pp) →
-    let answers = write_answers count in
+    let answers = Answer.Local ∷ replicate count (Answer.Wrote true) in
     EndsBlock pp answers (sum pp.a count) × WritesCentrals pp answers count

@@ -1,6 +1,6 @@
 -- Central memory, as the peripheral processors see it: words of 60 bits, by addresses from 0 on.
 -- (Manual 60100000, part on central memory: up to 131,072 words of 60 bits.)
-use Rattle.std.specs.Prelude.{ℕ, ◌<◌, ◌≤◌, ◌^◌, List, Option, length, slice_index, slice_get}
+use Rattle.std.specs.Prelude.{ℕ, ◌<◌, ◌≤◌, ◌^◌, List, length, slice_index}
 
 -- a size that central memory may have: 1 to 400000 words (octal)
 pub record IsCentralSize (size : ℕ) : Type 0 where
@@ -11,7 +11,3 @@ pub record IsCentralSize (size : ℕ) : Type 0 where
 pub record IsCentral (words : List ℕ) : Type 0 where
   pub size : IsCentralSize (length words)
   pub small : (a : ℕ) → slice_index words a < 2 ^ 60
-
--- the word at address a, or none at or past the size
-abbrev pub central_word : ℕ → List ℕ → Option ℕ
-central_word a words = slice_get words a

@@ -2,16 +2,16 @@
 -- instruction has.
 -- (Manual 60100000, peripheral processors: descriptions of the instructions.)
 use Rattle.std.specs.Prelude.{ℕ, ◌%◌, ◌^◌, ◌==◌, ◌||◌, Bool, None, if◌then◌else◌, slice_set}
-use Rattle.pp_word.specs.Address.{next_place, relative_to}
+use Rattle.pp_word.specs.Address.{next_place, place_after, relative_to}
 use Rattle.pp_word.specs.Bits.{bit, logical_difference}
 use Rattle.pp_word.specs.OnesComplement.{sum, difference}
-use Rattle.pp_machine.specs.Operand.{place_after_p, second_word}
+use Rattle.pp_machine.specs.Operand.{second_word}
 use Rattle.pp_machine.specs.Processor.{Processor, word_at}
 use Rattle.pp_machine.specs.declared.pp_state.PpState.TheVariants.{Stopped, Fault}
 
 -- P goes on after the instruction
 abbrev pub goes_on : Processor → ℕ → Processor
-goes_on pp n = record pp { p = place_after_p pp n }
+goes_on pp n = record pp { p = place_after pp.p n }
 
 -- P becomes a place
 abbrev pub goes_to : Processor → ℕ → Processor
@@ -46,7 +46,7 @@ branches_where test pp n = if test then goes_to pp (second_word pp) else goes_on
 -- RJM: the place after the instruction is stored at the target, and the program goes on after that
 abbrev pub calls : Processor → ℕ → ℕ → Processor
 calls pp target n =
-    record pp { memory = slice_set pp.memory target (place_after_p pp n); p = next_place target }
+    record pp { memory = slice_set pp.memory target (place_after pp.p n); p = next_place target }
 
 -- A is negative: its uppermost bit, 17 (decimal), is 1
 abbrev pub is_negative : Processor → Bool
@@ -58,7 +58,7 @@ low_of a = a % 2 ^ 12
 
 -- A becomes a value
 abbrev pub loads : Processor → ℕ → ℕ → Processor
-loads pp value n = record pp { a = value; p = place_after_p pp n }
+loads pp value n = record pp { a = value; p = place_after pp.p n }
 
 -- the eight operations on the word at a place, by the last octal digit of the code
 
@@ -81,16 +81,11 @@ differs_from_word pp place n = loads pp (logical_difference pp.a (word_at pp pla
 -- 4: the word becomes the low twelve bits of A
 abbrev pub stores_word : Processor → ℕ → ℕ → Processor
 stores_word pp place n =
-    record pp { memory = slice_set pp.memory place (low_of pp.a); p = place_after_p pp n }
+    record pp { memory = slice_set pp.memory place (low_of pp.a); p = place_after pp.p n }
 
 -- 5, 6, 7: A becomes a value, and the word its low twelve bits
 abbrev pub replaces : Processor → ℕ → ℕ → ℕ → Processor
-replaces pp place value n =
-    record pp {
-      memory = slice_set pp.memory place (low_of value);
-      a = value;
-      p = place_after_p pp n;
-    }
+replaces pp place value n = stores_word (record pp { a = value }) place n
 
 -- 5: replace add: the sum of A and the word
 abbrev pub replaces_by_sum : Processor → ℕ → ℕ → Processor

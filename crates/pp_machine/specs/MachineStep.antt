@@ -1,11 +1,10 @@
 -- One step of one processor of a machine: one trip through the slot of the barrel.
 -- (Manual 60100000, part on peripheral and control processors: a processor works on its own memory,
 -- exchanges words with data channels, reads and writes central memory; Thornton, on the barrel.)
-use Rattle.std.specs.Prelude.{ℕ, ◌+◌, ◌-◌, ◌^◌, min, List, ◌++◌, length, map, nat_lt, Option, None, slice_set, option_to_list}
+use Rattle.std.specs.Prelude.{ℕ, ◌+◌, ◌-◌, ◌^◌, min, List, ◌++◌, length, map, nat_lt, Option, None, slice_get, slice_set, option_to_list}
 use Rattle.pp_channel.specs.Answer.{event_of, reply_to, history_after}
 use Rattle.pp_channel.specs.ChannelNo.{channel_index}
 use Rattle.pp_channel.specs.declared.event.Event.{Event}
-use Rattle.pp_machine.specs.Central.{central_word}
 use Rattle.pp_machine.specs.MachineState.{MachineState, processor_of, history_of}
 use Rattle.pp_machine.specs.NeedAndEffect.{need, processor_after, outcome}
 use Rattle.pp_machine.specs.PpNo.{processor_index}
@@ -19,7 +18,7 @@ abbrev pub answer_to : Need → MachineState → Answer
 answer_to Need.Nothing m = Answer.Local
 answer_to Need.Local m = Answer.Local
 answer_to (Need.Channel c op) m = Answer.Channel (reply_to op (history_of c m))
-answer_to (Need.Read a) m = Answer.Read (central_word a m.central)
+answer_to (Need.Read a) m = Answer.Read (slice_get m.central a)
 answer_to (Need.Write a w) m = Answer.Wrote (nat_lt a (length m.central))
 
 -- the event that it makes

@@ -14,7 +14,7 @@ use Rattle.pp_machine.specs.declared.block.Block.{Block}
 use Rattle.pp_machine.specs.declared.need.Need.{Need}
 use Rattle.pp_machine.specs.declared.outcome.Outcome.{Outcome}
 use Rattle.pp_machine.specs.declared.pp_state.PpState.{PpState}
-use Rattle.pp_machine.specs.declared.pp_state.PpState.TheVariants.{Running, Stopped, Fault}
+use Rattle.pp_machine.specs.declared.pp_state.PpState.TheVariants.{Running}
 
 -- the next step of a running processor: the next word of its block, else the instruction at P
 abbrev pub step_of : Option Block → Processor → Step
@@ -52,8 +52,7 @@ is_held block answer = false
 -- only a running processor has a next step: the first where it runs, else the second
 abbrev pub if_running : {X : Type 0} → PpState → X → X → X
 if_running Running step rest = step
-if_running Stopped step rest = rest
-if_running (Fault number) step rest = rest
+if_running state step rest = rest
 
 -- what the next step needs: nothing where there is none
 unfoldable pub need : Processor → Need

@@ -1,5 +1,4 @@
--- What a processor's next step is made of, told beforehand.
--- (Private contracts alone cite this.)
+-- What a processor's next step is made of, told beforehand. (Private contracts alone cite this.)
 use Rattle.std.specs.Prelude.{◌≡◌, ℕ, Bool, true, false, Option, None, Some, IsSome, nat_lt}
 use Rattle.pp_word.specs.Opcode.{code_of}
 use Rattle.pp_word.specs.declared.opcode.Opcode.{Opcode}

@@ -7,10 +7,6 @@ use Rattle.pp_word.specs.Opcode.{opcode_at}
 use Rattle.pp_word.specs.declared.opcode.Opcode.{Opcode}
 use Rattle.pp_machine.specs.Processor.{Processor, word_at}
 
--- the place n places after P
-abbrev pub place_after_p : Processor → ℕ → ℕ
-place_after_p pp n = place_after pp.p n
-
 -- the operation of the instruction at P: the upper six bits of its first word
 abbrev pub operation : Processor → Opcode
 operation pp = opcode_at (word_at pp pp.p / 2 ^ 6)
@@ -21,7 +17,7 @@ lower_six pp = word_at pp pp.p % 2 ^ 6
 
 -- m: the second word of a long instruction
 abbrev pub second_word : Processor → ℕ
-second_word pp = word_at pp (place_after_p pp 1)
+second_word pp = word_at pp (place_after pp.p 1)
 
 -- the indexed place: m where d is 0, else m indexed by the word at place d
 abbrev pub index : Processor → ℕ → ℕ

@@ -1,5 +1,5 @@
 -- Numbers of processors and their places: all that proofs know of them.
-use Rattle.std.proofs.Common.{◌≡◌, ◌≢◌, ℕ, ◌+◌, ◌%◌, ◌<◌, ◌≤◌, eqb, ⊎_elim, sym, ap, ◌∙◌, arith}
+use Rattle.std.proofs.Common.{◌≡◌, ◌≢◌, ℕ, ◌<◌, eqb, ⊎_elim, sym, ap, ◌∙◌, arith}
 use mathlib.Core.Logic.{dite}
 use native.Mathlib.Decide.{dec_lt}
 use Rattle.std.specs.Prelude.{IsTrue}
@@ -7,6 +7,12 @@ use Rattle.std.proofs.lemmas.Bool.{cases_eq, eq-eqb, ne_eqb}
 use Rattle.pp_channel.specs.ChannelNo.{names_channel}
 use Rattle.pp_channel.specs.ChannelPlaces as channel_places
 use Rattle.pp_machine.specs.PpNo.{processor_count, names_processor, processor_index, processor_number}
+
+-- the number of a processor gives its place
+pub place_again : (place : ℕ) → IsTrue (names_processor (processor_number place))
+    → processor_index (processor_number place) ≡ place
+unfolding names_processor processor_number processor_index
+place_again place names = grind (arith)
 
 -- a processor's place is one of the list
 pub place_below : (n : ℕ) → IsTrue (names_processor n) → processor_index n < processor_count

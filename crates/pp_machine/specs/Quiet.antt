@@ -1,7 +1,6 @@
 -- Quiet steps: they make no event and write no central word, so they change nothing but their own
 -- processor. Where all steps of some rounds of the barrel are quiet, those of different processors
--- can change places.
--- (Private contracts alone cite this.)
+-- can change places. (Private contracts alone cite this.)
 use Rattle.std.specs.Prelude.{◌≡◌, ℕ, zero, suc, ◌<◌, ◌≤◌, Bool, true, false, IsTrue, List, Option, Some, None, length, slice_index_or}
 use Rattle.pp_channel.specs.Answer.{event_of}
 use Rattle.pp_channel.specs.declared.event.Event.{Event}

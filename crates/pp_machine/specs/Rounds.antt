@@ -1,6 +1,5 @@
 -- Rounds of the barrel in which processors at rest are passed over: a step of theirs counts a turn,
--- and does nothing else.
--- (Private contracts alone cite this.)
+-- and does nothing else. (Private contracts alone cite this.)
 use Rattle.std.specs.Prelude.{ℕ, ◌*◌, ◌<◌, ◌≤◌, List, slice_index, slice_index_or}
 use Rattle.pp_machine.specs.Processor.{Processor, no_processor, IsAtRest}
 use Rattle.pp_machine.specs.PpNo.{processor_count}

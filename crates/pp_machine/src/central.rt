@@ -1,6 +1,6 @@
 //! Central memory.
 
-ghost use Rattle.std.specs.Prelude.{◌≡◌, ◌<◌, ◌↔◌, length, replicate, slice_set, IsTrue, IsErrOf, IfOk, OnOk};
+ghost use Rattle.std.specs.Prelude.{◌≡◌, ◌<◌, ◌↔◌, length, replicate, slice_set, IsTrue, IsErrOf, IfOk, OnOk, slice_get};
 ghost use Rattle.std.specs.Bool.{OnFalse};
 
 use pp_word::{Word18, Word60};
@@ -63,7 +63,7 @@ impl<A: Allocator> Model for Central<A> {
 }
 
 impl<A: Allocator> Central<A> {
-    ghost use Rattle.pp_machine.specs.Central.{IsCentral, IsCentralSize, central_word};
+    ghost use Rattle.pp_machine.specs.Central.{IsCentral, IsCentralSize};
 
     /// Central memory of this many words, all 0.
     pub fn new(alloc: A, size: u32) -> Result<Self, CentralFault>
@@ -81,7 +81,7 @@ impl<A: Allocator> Central<A> {
 
     /// The word at an address, or nothing at or past the size.
     pub fn read(&self, a: Word18) -> Option<Word60>
-        ensures { result ≡ central_word a self.now }
+        ensures { result ≡ slice_get self.now a }
     {
         self.words.get(a.get() as usize).copied()
     }

@@ -18,7 +18,8 @@ pub struct PpNo {
 impl Model for PpNo {
     ghost use Rattle.std.specs.Prelude.{ℕ, IsTrue};
     ghost use Rattle.std.proofs.Common.{ap};
-    ghost use Rattle.pp_machine.specs.PpNo.{names_processor, processor_index, processor_number, place_again};
+    ghost use Rattle.pp_machine.specs.PpNo.{names_processor, processor_index, processor_number};
+    ghost use Rattle.pp_machine.specs.ProcessorPlaces.{place_again};
 
     ghost Value = { ℕ };
 
@@ -60,7 +61,7 @@ impl PpNo {
     }
 
     /// Its place in a list of all processors in the barrel's order.
-    #[tactic(auto, using(crate::specs::ProcessorPlaces::one_place, crate::specs::ProcessorPlaces::place_below, crate::specs::PpNo::place_again))]
+    #[tactic(auto, using(crate::specs::ProcessorPlaces::one_place, crate::specs::ProcessorPlaces::place_below, crate::specs::ProcessorPlaces::place_again))]
     pub fn index(self) -> usize
         ensures place { result ≡ processor_index self }
         ensures below { result < processor_count }

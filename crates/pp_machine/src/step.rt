@@ -1,7 +1,6 @@
 //! One step of a machine.
 
-ghost use Rattle.std.specs.Prelude.{◌≡◌, ◌<◌, ◌++◌, [], None, Some, IsTrue, vec_len, map, slice_set, slice_index_or, if◌then◌else◌, IfOk, IsOk, IsNone, OnOk, OnErr};
-ghost use Rattle.std.specs.Option.{option_to_list};
+ghost use Rattle.std.specs.Prelude.{◌≡◌, ◌<◌, [], None, Some, vec_len, slice_set, slice_index_or, if◌then◌else◌, IfOk, IsOk, IsNone, OnOk, OnErr};
 ghost use Rattle.pp_channel.specs.Answer.{event_of, reply_to, history_after};
 ghost use Rattle.pp_channel.specs.ChannelNo.{channel_count, channel_index};
 ghost use Rattle.pp_channel.specs.History.{IsLawful, HasTwelveBitWord};
@@ -10,7 +9,6 @@ ghost use Rattle.pp_machine.specs.NextStep.{IsAtInstruction, IsNext};
 ghost use Rattle.pp_machine.specs.NeedAndEffect.{need};
 ghost use Rattle.pp_machine.specs.PpNo.{processor_index};
 ghost use Rattle.pp_machine.specs.Profile.{has_channel, processors_in};
-ghost use Rattle.pp_machine.specs.Replay.{fits};
 ghost use Rattle.pp_machine.specs.Processor.{IsAtRest, IsAtFault, KeepsMemoryAndRegisters};
 
 use crate::answer::Answer;

@@ -14,7 +14,7 @@ use Rattle.pp_runner.proofs.LabourLemmas.{work_begun}
 use Rattle.pp_runner.proofs.LogLemmas.{stands_done}
 use Rattle.pp_runner.proofs.LineLemmas.{operated_least, same_line_still, same_line_twice}
 use Rattle.pp_runner.specs.Crew.{AreReady, IsEnded, HasEnded, AreEnded}
-use Rattle.pp_runner.specs.Labour.{IsAtWork, HasSeen, IsSameLine, HasOperated, GaveUpWithCause}
+use Rattle.pp_runner.specs.Labour.{IsAtWork, HasSeen, IsSameLine, HasOperated}
 use Rattle.pp_runner.specs.End.{IsEnd, WornWithCause}
 use Rattle.pp_runner.specs.WorkerReport.{AreWorkers}
 use Rattle.pp_runner.specs.declared.crew.Crew.{Crew}
@@ -69,14 +69,14 @@ ended_since load size steps line mid ended same one =
 
 -- a worker that has given up, with the line that it had at first, at the beginning of its last step, and at its end
 pub gave_up : {A : Type 0} (patience : ℕ) (line mid after : LineState) (finish : End) (ended : Ended A) → length line.view.found ≤ length mid.view.found → (finish ≡ Patience → HasOperated patience mid after)
-    → ended.line ≡ after → ended.worker.finish ≡ finish → GaveUpWithCause patience line ended.worker.finish ended.line
+    → ended.line ≡ after → ended.worker.finish ≡ finish → (ended.worker.finish ≡ Patience → length line.view.found + patience ≤ length ended.line.view.found)
 gave_up patience line mid after finish ended more operated same was = λ is.
     let last = operated (sym was ∙ is) in
     omega (arith, more, operated_least patience mid after last, ap (λ l. length l.view.found) same)
 
 -- one that has not
 pub not_given_up : {A : Type 0} (patience : ℕ) (line : LineState) (finish : End) (ended : Ended A) → (finish ≡ Patience → ⊥)
-    → ended.worker.finish ≡ finish → GaveUpWithCause patience line ended.worker.finish ended.line
+    → ended.worker.finish ≡ finish → (ended.worker.finish ≡ Patience → length line.view.found + patience ≤ length ended.line.view.found)
 not_given_up patience line finish ended other was = λ is. absurd (other (sym was ∙ is))
 
 -- the processor of the place behind so many

@@ -1,13 +1,6 @@
 -- The banks of central memory under locks: 32 of them with 4,096 words each (decimal), which have
--- room for central memory of any size.
--- (Private contracts alone cite this.)
+-- room for central memory of any size. (Private contracts alone cite this.)
 use Rattle.std.specs.Prelude.{◌≡◌, ◌<◌, ◌+◌, ◌*◌, ℕ, List, length, slice_index}
-use Rattle.pp_machine.specs.Central.{IsCentralSize}
-
--- all banks, and a size that central memory may have
-pub record AreBanks (count size : ℕ) : Type 0 where
-  pub banks : count ≡ 32
-  pub sized : IsCentralSize size
 
 -- The word of this address stands in this bank, at this place: neighbours stand in different banks.
 pub record StandsAt (address bank place : ℕ) : Type 0 where

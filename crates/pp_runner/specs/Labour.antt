@@ -1,5 +1,4 @@
--- What holds of a worker between any two tries of a step.
--- (Private contracts alone cite this.)
+-- What holds of a worker between any two tries of a step. (Private contracts alone cite this.)
 use Rattle.std.specs.Prelude.{◌≡◌, ◌<◌, ◌≤◌, ◌+◌, ◌*◌, ℕ, true, false, not, List, [], ◌∷◌, ◌++◌, length, All, Option, Some, is_some, option_to_list, flat_map}
 use Rattle.pp_channel.specs.Answer.{seen_answered}
 use Rattle.pp_channel.specs.ChannelWord.{greatest_number, number_in}
@@ -13,7 +12,6 @@ use Rattle.pp_machine.specs.Processor.{Processor}
 use Rattle.pp_machine.specs.Replay.{OfChannel, fits, given_by, replayed, given_count, events_given, sights_given}
 use Rattle.pp_machine.specs.declared.answer.Answer.{Answer}
 use Rattle.pp_machine.specs.declared.need.Need.{Need}
-use Rattle.pp_runner.specs.declared.end.End.{End}
 use Rattle.pp_runner.specs.WorkerReport.{AllMoved, AllBySize, IsBySize, events_in, sights_in, IsSubsequence}
 use Rattle.pp_runner.specs.End.{WasHeld}
 
@@ -23,9 +21,7 @@ pub record HasEntries (done : List Entry) (look : Option Entry) (log : LogState)
   pub all : log.entries ≡ done ++ option_to_list look
   pub kept : log.kept ≡ not (is_some look)
 
--- The processor is the replay of its answers, and the log tells what that replay did and saw: the
--- steps that are done have two entries at most for each event and each look of the replay. The log
--- has room for the rest.
+-- The processor is the replay of its answers, and the log tells what that replay did and saw.
 pub record IsAtWork (load : Processor) (size steps : ℕ) (pp : Processor) (answers : List Answer)
     (log : LogState) : Type 0 where
   pub pp_is : pp ≡ replayed load answers
@@ -67,11 +63,8 @@ HasActed needed before answer after = after ≡ before
 
 -- how many operations on channels one try of a step makes
 abbrev pub operations : Need → ℕ
-operations Need.Nothing = 0
-operations Need.Local = 0
 operations (Need.Channel channel operation) = 1
-operations (Need.Read address) = 0
-operations (Need.Write address word) = 0
+operations needed = 0
 
 -- What one operation finds: a word and, if its exchange was lost, a later one of the same channel.
 abbrev pub AreFoundByOne : List FoundWord → Type 0
@@ -86,11 +79,6 @@ pub record HasOperated (count : ℕ) (before after : LineState) : Type 0 where
   pub each : All AreFoundByOne finds
   pub number : length finds ≡ count
   pub found : after.view.found ≡ before.view.found ++ flat_map (λ words. words) finds
-
--- Only a worker that made at least as many operations as its patience has given up.
-abbrev pub GaveUpWithCause : ℕ → LineState → End → LineState → Type 0
-GaveUpWithCause patience before finish after =
-    finish ≡ End.Patience → length before.view.found + patience ≤ length after.view.found
 
 -- Of each channel the line has seen so many events, no more than its word can count.
 pub record HasSeen (happened : ℕ → ℕ) (line : LineState) : Type 0 where

@@ -66,7 +66,6 @@ pub record IsLoggedWorker {A : Type 0} (load : Processor) (size steps : ℕ) (lo
   pub sights : IsSubsequence (sights_given load w.answers.items) (sights_in log)
   pub monotone : IsMonotone log
   pub few_answers : length w.answers.items ≤ steps
-  -- two entries at most for each event and each look of the replay, and one more
   pub few_entries : length log ≤ 2 * length (sights_given load w.answers.items) + 1
   pub finish : IsEnd steps w.finish w.pp w.answers.items log
 

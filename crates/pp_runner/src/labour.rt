@@ -1,12 +1,12 @@
 //! A worker, from its load to its end.
 
-ghost use Rattle.std.specs.Prelude.{◌≡◌, ◌<◌, ◌≤◌, ◌+◌, ◌-◌, ◌*◌, ◌^◌, ◌++◌, ◌∷◌, [], true, ℕ, List, vec_len, vec_capacity, IfOk, IfErr, IfSome, IfNone, OnErr};
+ghost use Rattle.std.specs.Prelude.{◌≡◌, ◌<◌, ◌≤◌, ◌+◌, ◌-◌, ◌*◌, ◌^◌, ◌++◌, ◌∷◌, [], true, ℕ, List, length, vec_len, vec_capacity, IfOk, IfSome, IfNone, OnErr};
 ghost use Rattle.pp_channel.specs.LineLog.{empty_log, seen_on};
 ghost use Rattle.pp_channel.specs.declared.entry.Entry.{Entry};
 ghost use Rattle.pp_machine.specs.NeedAndEffect.{need};
 ghost use Rattle.pp_machine.specs.declared.answer.Answer.{Answer};
 ghost use Rattle.pp_runner.specs.Crew.{IsEnded};
-ghost use Rattle.pp_runner.specs.Labour.{IsAtWork, IsAnswered, IsSameLine, HasActed, HasOperated, GaveUpWithCause, operations};
+ghost use Rattle.pp_runner.specs.Labour.{IsAtWork, IsAnswered, IsSameLine, HasActed, HasOperated, operations};
 ghost use Rattle.pp_runner.specs.End.{IsEnd, NeedsWornChannel, WornWithCause, WasHeld};
 
 use crate::end::End;
@@ -232,8 +232,8 @@ pub fn work<R: Wait, G: Gate, A: Allocator + Copy>(
     requires { line.log ≡ empty_log (2 * site.now.limits.steps + 1) }
     ensures ended { IsEnded load.now site.now.central site.now.limits.steps line result.worker
         result.line }
-    ensures patience { GaveUpWithCause site.now.limits.patience line result.worker.finish
-        result.line }
+    ensures patience { result.worker.finish ≡ End.Patience
+        → length line.view.found + site.now.limits.patience ≤ length result.line.view.found }
 {
     // This call tells the proof that the patience has 32 bits, so that tries can be counted.
     let _patience = site.limits.patience();

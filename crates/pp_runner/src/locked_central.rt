@@ -20,14 +20,14 @@ pub struct LockedCentral<A: Allocator> {
 }
 
 impl<A: Allocator> Model for LockedCentral<A> {
-    ghost use Rattle.std.specs.Prelude.{ℕ, vec_len};
-    ghost use Rattle.pp_runner.specs.Banks.{AreBanks};
+    ghost use Rattle.std.specs.Prelude.{ℕ, ◌≡◌, vec_len};
+    ghost use Rattle.pp_machine.specs.Central.{IsCentralSize};
 
     ghost Value = { ℕ };
 
     ghost view = { λ c. c.size };
 
-    ghost invariant = { λ c. AreBanks (vec_len c.banks) c.size };
+    ghost invariant = { λ c. (vec_len c.banks ≡ 32) × IsCentralSize c.size };
 }
 
 impl<A: Allocator + Copy> LockedCentral<A> {

@@ -1,6 +1,5 @@
 -- How far the lines of a channel are printed: the stretch that is not over yet, and the number of
--- the next session.
--- (Private contracts alone cite this.)
+-- the next session. (Private contracts alone cite this.)
 use Rattle.std.specs.Prelude.{◌≡◌, ℕ, ◌+◌, ◌≤◌, Bool, false, List, [], ◌∷◌, ◌++◌, Option, None, Some, IfSome}
 use Rattle.pp_channel.specs.declared.event.Event.{Event}
 use Rattle.pp_channel.specs.declared.event.Event.TheVariants.{Put, Take}

@@ -3,11 +3,11 @@
 use Rattle.std.specs.Prelude.{ℕ, ◌+◌, Bool, List, [], ◌∷◌, ◌++◌, Option, None, Some, codes, slice_index_or, if◌then◌else◌}
 use Rattle.pp_channel.specs.ChannelNo.{names_channel}
 use Rattle.pp_machine.specs.MachineState.{MachineState}
-use Rattle.pp_machine.specs.PpNo.{processor_index}
+use Rattle.pp_machine.specs.PpNo.{processor_index, is_named}
 use Rattle.pp_machine.specs.Run.{run}
 use Rattle.pp_deck.specs.DeckMeaning.{LoadedDeck}
 use Rattle.pp_text.specs.Numeral.{decimal, octal, short_decimal}
-use Rattle.pp_text.specs.PrintedText.{each_below, is_named, line_end}
+use Rattle.pp_text.specs.PrintedText.{each_below, line_end}
 use Rattle.pp_sessions.specs.StepCounts.{each_step_counts, no_steps}
 use Rattle.pp_sessions.specs.Stretches.{is_session, stretches, tally_of}
 use Rattle.pp_sessions.specs.TimedEvents.{timed_events}

@@ -6,7 +6,7 @@ ghost use Rattle.pp_machine.specs.MachineStep.{step_event};
 ghost use Rattle.pp_machine.specs.Profile.{processor_in_turn};
 ghost use Rattle.pp_machine.specs.Run.{barrel, run};
 ghost use Rattle.pp_machine.specs.declared.outcome.Outcome.{Outcome};
-ghost use Rattle.pp_sessions.specs.StepCounts.{counts_of, each_step_counts, no_steps};
+ghost use Rattle.pp_sessions.specs.StepCounts.{counts_of, each_step_counts};
 
 use pp_machine::{Cut, Machine, Outcome, PROCESSORS, PpNo};
 use std::alloc::Allocator;

@@ -7,7 +7,7 @@ use Rattle.std.proofs.lemmas.List.Elements.{All-cons, All-nil}
 use Rattle.std.specs.List.{AllZip}
 use Rattle.pp_machine.specs.MachineState.{MachineState}
 use Rattle.pp_machine.specs.Processor.{Processor}
-use Rattle.pp_machine.specs.PpNo.{names_processor, processor_index}
+use Rattle.pp_machine.specs.PpNo.{names_processor, processor_index, is_named}
 use Rattle.pp_machine.specs.Profile.{processors_in, has_processor}
 use Rattle.pp_machine.specs.declared.profile.Profile.{Profile}
 use Rattle.pp_deck.specs.DeckLaw.{NamesWithin}
@@ -17,7 +17,6 @@ use Rattle.pp_runner.specs.End.{HasEndNumber}
 use Rattle.pp_runner.specs.WorkerReport.{IsLoggedWorker}
 use Rattle.pp_runner.specs.declared.report.Report.{Report}
 use Rattle.pp_runner.specs.declared.worker.Worker.{Worker}
-use Rattle.pp_text.specs.PrintedText.{is_named}
 use Rattle.pp_text.specs.ReportLaw.{ShownEnd, end_of, shown_end, shown_of}
 use Rattle.pp_text.specs.TextLaw.{NameAlike}
 

@@ -9,7 +9,7 @@ use Rattle.pp_machine.specs.MachineState.{MachineState, history_of, processor_of
 use Rattle.pp_machine.specs.MachineStep.{step_outcome}
 use Rattle.pp_machine.specs.NeedAndEffect.{need}
 use Rattle.pp_machine.specs.Processor.{Processor, word_at}
-use Rattle.pp_machine.specs.PpNo.{processor_index}
+use Rattle.pp_machine.specs.PpNo.{processor_index, is_named}
 use Rattle.pp_machine.specs.Run.{run}
 use Rattle.pp_machine.specs.declared.block.Block.{Block}
 use Rattle.pp_machine.specs.declared.need.Need.{Need}
@@ -22,7 +22,7 @@ use Rattle.pp_listing.specs.InstructionText.{instruction_text}
 use Rattle.pp_listing.specs.ListedLine.{line_text}
 use Rattle.pp_listing.specs.OctalDigits.{octal}
 use Rattle.pp_text.specs.Numeral.{unpadded}
-use Rattle.pp_text.specs.PrintedText.{each_below, is_named, line_end, processor_line, used_channel_line}
+use Rattle.pp_text.specs.PrintedText.{each_below, line_end, processor_line, used_channel_line}
 use Rattle.pp_text.specs.PrintedText.{state_text as running_or_not}
 use Rattle.pp_state.specs.Changes.{changed_central, changed_sections}
 use Rattle.pp_state.specs.HeldSteps.{each_held_steps}

@@ -1,6 +1,6 @@
 //! The whole text of how things stand.
 
-ghost use Rattle.std.specs.Prelude.{◌≡◌, ◌++◌, IfOk, OnOk, map};
+ghost use Rattle.std.specs.Prelude.{◌≡◌, ◌++◌, IfOk, OnOk};
 ghost use Rattle.std.specs.List.{flat_map};
 ghost use Rattle.pp_text.specs.PrintedText.{each_below, used_channel_line};
 ghost use Rattle.pp_state.specs.Changes.{changed_section, changed_sections};

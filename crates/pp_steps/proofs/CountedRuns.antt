@@ -5,13 +5,12 @@ use Rattle.std.proofs.lemmas.Bool.{cases_eq, eq-eqb, ne_eqb, cond-true, cond-fal
 use Rattle.std.proofs.lemmas.List.{append-nil, length-set, get_or-set_same, get_or-set_other}
 use Rattle.pp_machine.specs.MachineState.{MachineState}
 use Rattle.pp_machine.specs.MachineStep.{stepped}
-use Rattle.pp_machine.specs.PpNo.{names_processor, processor_count, processor_index}
+use Rattle.pp_machine.specs.PpNo.{names_processor, processor_count, processor_index, is_named}
 use Rattle.pp_machine.specs.Profile.{processor_in_turn}
 use Rattle.pp_machine.specs.Run.{barrel, run}
 use Rattle.pp_machine.specs.declared.profile.Profile.{Profile}
 use Rattle.pp_machine.specs.ProcessorPlaces.{one_place, place_below}
 use Rattle.pp_machine.specs.RunLaws.{barrel_more}
-use Rattle.pp_text.specs.PrintedText.{is_named}
 use Rattle.pp_steps.specs.BareMachine.{progress}
 use Rattle.pp_steps.specs.HeldRuns.{AreCounted, HeldTimes, all_times, held_counts, no_times, open_time, progress_along}
 use Rattle.pp_steps.specs.declared.progress.Progress.{Progress}

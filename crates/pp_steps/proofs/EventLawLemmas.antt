@@ -20,7 +20,7 @@ use Rattle.pp_machine.specs.declared.outcome.Outcome.TheVariants as outcomes
 use Rattle.pp_machine.specs.declared.trace.Trace.{Trace}
 use Rattle.pp_machine.specs.RunLaws.{run-append}
 use Rattle.pp_state.proofs.HeldLemmas.{moves_where_made}
-use Rattle.pp_text.specs.PrintedText.{is_named}
+use Rattle.pp_machine.specs.PpNo.{is_named}
 use Rattle.pp_steps.specs.BareMachine.{progress, progress_by}
 use Rattle.pp_steps.specs.HeldRuns.{last_of, progress_along}
 use Rattle.pp_steps.specs.StepsLaw.{entry_of, event_on, is_shown_event, line_event}

@@ -1,7 +1,7 @@
 -- The line of a step, put together from its parts.
 use Rattle.std.proofs.Common.{get_or-set_same, ◌≡◌, ℕ, suc, ◌-◌, ◌/◌, ◌%◌, ◌^◌, ◌<◌, List, [], ◌∷◌, ◌++◌, codes, length, get_or, replicate, refl, sym, ap, ◌∙◌, append_assoc, arith}
 use Rattle.pp_word.specs.Address.{next_place}
-use Rattle.pp_word.specs.Opcode.{mnemonic_of}
+use Rattle.pp_word.specs.Opcode.{row_of}
 use Rattle.pp_word.specs.declared.opcode.Opcode.{Opcode}
 use Rattle.pp_word.specs.declared.opcode.Opcode.TheVariants.{PSN, LJM, RJM, UJN, ZJN, NJN, PJN, MJN, SHN, LMN, LPN, SCN, LDN, LCN, ADN, SBN, LDC, ADC, LPC, LMC, PSN24, PSN25, EXN, RPN, LDD, ADD, SBD, LMD, STD, RAD, AOD, SOD, LDI, ADI, SBI, LMI, STI, RAI, AOI, SOI, LDM, ADM, SBM, LMM, STM, RAM, AOM, SOM, CRD, CRM, CWD, CWM, AJM, IJM, FJM, EJM, IAN, IAM, OAN, OAM, ACN, DCN, FAN, FNC}
 use Rattle.list_facts.specs.Tables.{tabulate, tabulate_is}
@@ -28,7 +28,7 @@ unfolding tabulate
 three xs long = sym (tabulate_is 0 xs 3 (λ i. get_or xs i 0) long (λ i below. refl))
 
 -- a mnemonic has three letters
-pub three_letters : (op : Opcode) → length (mnemonic_of op) ≡ 3
+pub three_letters : (op : Opcode) → length ((row_of op).mnemonic) ≡ 3
 three_letters PSN = refl
 three_letters LJM = refl
 three_letters RJM = refl
@@ -100,9 +100,9 @@ padded_more a b c text =
     let left : 13 - suc (suc (suc (suc (length text)))) ≡ 9 - length text = omega arith in
     ap (λ (n : ℕ). a ∷ b ∷ c ∷ 32 ∷ text ++ replicate n 32) left
 
-pub instruction_in_pieces : (name operands text : List ℕ) (op : Opcode) → name ≡ mnemonic_of op → length operands ≡ 9 → operands ≡ padded 9 text
+pub instruction_in_pieces : (name operands text : List ℕ) (op : Opcode) → name ≡ (row_of op).mnemonic → length operands ≡ 9 → operands ≡ padded 9 text
     → get_or name 0 0 ∷ get_or name 1 0 ∷ get_or name 2 0 ∷ 32 ∷ get_or operands 0 0 ∷ get_or operands 1 0 ∷ get_or operands 2 0 ∷ get_or operands 3 0 ∷ get_or operands 4 0 ∷ get_or operands 5 0 ∷ get_or operands 6 0 ∷ get_or operands 7 0 ∷ get_or operands 8 0 ∷ []
-    ≡ padded 13 (mnemonic_of op ++ codes " " ++ text)
+    ≡ padded 13 ((row_of op).mnemonic ++ codes " " ++ text)
 instruction_in_pieces name operands text op is long are =
     ap (λ (xs : List ℕ). get_or name 0 0 ∷ get_or name 1 0 ∷ get_or name 2 0 ∷ 32 ∷ xs) (nine operands long ∙ are)
     ∙ sym (padded_more (get_or name 0 0) (get_or name 1 0) (get_or name 2 0) text)

@@ -10,7 +10,7 @@ use Rattle.pp_machine.specs.RunLaws.{run-append}
 use Rattle.pp_steps.specs.BareMachine.{progress}
 use Rattle.pp_steps.specs.HeldRuns.{is_held_with, last_of, progress_along}
 use Rattle.pp_steps.specs.StepsLaw.{is_of, is_running, line_steps, steps_on}
-use Rattle.pp_text.specs.PrintedText.{is_named}
+use Rattle.pp_machine.specs.PpNo.{is_named}
 use Rattle.pp_steps.specs.StepsText.{RunStep, is_shown, line_kind, next_step, run_steps, steps_from}
 use Rattle.pp_steps.specs.declared.line_kind.LineKind.TheVariants.{HeldSteps, NoLine}
 use Rattle.pp_steps.specs.declared.progress.Progress.{Progress}

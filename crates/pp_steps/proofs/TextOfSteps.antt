@@ -6,13 +6,12 @@ use Rattle.std.proofs.lemmas.Bool.{cases_eq}
 use Rattle.std.proofs.lemmas.List.{append-nil}
 use Rattle.pp_machine.specs.MachineState.{MachineState}
 use Rattle.pp_machine.specs.MachineStep.{stepped}
-use Rattle.pp_machine.specs.PpNo.{names_processor, processor_count, processor_index}
+use Rattle.pp_machine.specs.PpNo.{names_processor, processor_count, processor_index, is_named}
 use Rattle.pp_machine.specs.Profile.{processor_in_turn}
 use Rattle.pp_machine.specs.Run.{barrel, run}
 use Rattle.pp_machine.specs.declared.profile.Profile.{Profile}
 use Rattle.pp_machine.specs.ProcessorPlaces.{one_place}
 use Rattle.pp_machine.specs.RunLaws.{barrel_more}
-use Rattle.pp_text.specs.PrintedText.{is_named}
 use Rattle.pp_steps.specs.BareMachine.{progress}
 use Rattle.pp_steps.specs.Cursor.{CountsOf, Passes, no_cursor}
 use Rattle.pp_steps.specs.HeldRuns.{AreCounted, HeldTimes, held_counts, last_of, no_times, progress_along}

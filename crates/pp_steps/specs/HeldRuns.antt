@@ -4,8 +4,7 @@ use Rattle.std.specs.List.{fold, prefix_len}
 use Rattle.pp_channel.specs.declared.flags.Flags.{Flags}
 use Rattle.pp_machine.specs.MachineState.{MachineState}
 use Rattle.pp_machine.specs.MachineStep.{stepped}
-use Rattle.pp_machine.specs.PpNo.{processor_count, processor_index}
-use Rattle.pp_text.specs.PrintedText.{is_named}
+use Rattle.pp_machine.specs.PpNo.{processor_count, processor_index, is_named}
 use Rattle.pp_steps.specs.BareMachine.{progress}
 use Rattle.pp_steps.specs.declared.progress.Progress.{Progress}
 use Rattle.pp_steps.specs.declared.progress.Progress.TheVariants.{AtRest, Held}

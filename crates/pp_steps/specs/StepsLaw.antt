@@ -7,7 +7,7 @@ use Rattle.pp_machine.specs.NeedAndEffect.{need}
 use Rattle.pp_machine.specs.declared.need.Need.{Need}
 use Rattle.pp_machine.specs.declared.need.Need.TheVariants.{Channel}
 use Rattle.pp_machine.specs.declared.trace.Trace.{Trace}
-use Rattle.pp_text.specs.PrintedText.{is_named}
+use Rattle.pp_machine.specs.PpNo.{is_named}
 use Rattle.pp_steps.specs.BareMachine.{progress}
 use Rattle.pp_steps.specs.StepsText.{RunStep}
 use Rattle.pp_steps.specs.declared.line_kind.LineKind.{LineKind}

@@ -4,7 +4,7 @@ use Rattle.std.specs.List.{filter, flat_map, prefix_len}
 use Rattle.pp_machine.specs.MachineState.{MachineState}
 use Rattle.pp_machine.specs.MachineStep.{stepped}
 use Rattle.pp_machine.specs.Run.{run}
-use Rattle.pp_text.specs.PrintedText.{is_named}
+use Rattle.pp_machine.specs.PpNo.{is_named}
 use Rattle.pp_steps.specs.BareMachine.{progress}
 use Rattle.pp_steps.specs.HeldRuns.{is_held_with, last_of, progress_along}
 use Rattle.pp_steps.specs.StepLine.{held_line, step_line}

@@ -1,8 +1,7 @@
 //! How far a processor has come in the times that it is held.
 
 ghost use Rattle.std.specs.Prelude.{◌≡◌, ◌≢◌, ℕ, ◌+◌, ◌<◌, ◌≤◌, ◌^◌, IsTrue, false, length, slice_index_or};
-ghost use Rattle.pp_machine.specs.PpNo.{processor_count, processor_index};
-ghost use Rattle.pp_text.specs.PrintedText.{is_named};
+ghost use Rattle.pp_machine.specs.PpNo.{processor_count, processor_index, is_named};
 ghost use Rattle.pp_steps.specs.Cursor.{Passes, no_cursor};
 ghost use Rattle.pp_steps.specs.HeldRuns.{no_times};
 ghost use Rattle.pp_steps.specs.declared.line_kind.LineKind.TheVariants.{NoLine};

@@ -5,7 +5,7 @@ ghost use Rattle.std.specs.Prelude.{◌≡◌, ℕ, Bool, IsTrue, List, drop, le
 ghost use Rattle.std.specs.List.{filter, flat_map};
 ghost use Rattle.pp_machine.specs.MachineState.{MachineState};
 ghost use Rattle.pp_machine.specs.Run.{run};
-ghost use Rattle.pp_text.specs.PrintedText.{is_named};
+ghost use Rattle.pp_machine.specs.PpNo.{is_named};
 ghost use Rattle.pp_steps.specs.HeldRuns.{progress_along};
 ghost use Rattle.pp_steps.specs.StepsLaw.{is_of, is_running, is_shown_event, line_event, line_steps};
 ghost use Rattle.pp_steps.specs.StepsText.{is_shown, run_steps};

@@ -1,9 +1,8 @@
 //! The held steps of a run, counted.
 
-ghost use Rattle.std.specs.Prelude.{◌≡◌, ◌≢◌, ℕ, ◌+◌, ◌<◌, ◌≤◌, ◌^◌, ◌∷◌, [], length, List, IfOk, OnOk, IsTrue, replicate, slice_index_or, vec_len};
-ghost use Rattle.pp_machine.specs.PpNo.{processor_count, processor_index};
+ghost use Rattle.std.specs.Prelude.{◌≡◌, ◌≢◌, ℕ, ◌+◌, ◌<◌, ◌≤◌, ◌^◌, ◌∷◌, [], length, List, IfOk, OnOk, IsTrue, replicate, slice_index_or};
+ghost use Rattle.pp_machine.specs.PpNo.{processor_count, processor_index, is_named};
 ghost use Rattle.pp_machine.specs.Run.{barrel};
-ghost use Rattle.pp_text.specs.PrintedText.{is_named};
 ghost use Rattle.pp_steps.specs.HeldRuns.{AreCounted, all_times, no_times};
 ghost use Rattle.pp_steps.specs.declared.progress.Progress.{Progress};
 

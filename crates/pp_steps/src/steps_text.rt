@@ -1,9 +1,8 @@
 //! The text of the steps of a run.
 
-ghost use Rattle.std.specs.Prelude.{◌≡◌, ◌&&◌, ◌+◌, ◌<◌, ◌^◌, [], List, nat_le, if◌then◌else◌};
+ghost use Rattle.std.specs.Prelude.{◌≡◌, ◌+◌, ◌<◌, nat_le, if◌then◌else◌};
 ghost use Rattle.pp_machine.specs.MachineState.{MachineState};
 ghost use Rattle.pp_machine.specs.MachineStep.{stepped};
-ghost use Rattle.pp_machine.specs.PpNo.{processor_count};
 ghost use Rattle.pp_machine.specs.Run.{barrel};
 ghost use Rattle.pp_text.specs.TextWriter.{Prints};
 ghost use Rattle.pp_text.specs.Written.{IsReportWritten};

@@ -16,7 +16,7 @@ use Rattle.pp_channel.specs.declared.event.Event.{Event}
 use Rattle.pp_channel.proofs.LineKnowledge.{lawful_on}
 use Rattle.pp_machine.specs.Headline.{opening_history}
 use Rattle.pp_machine.specs.MachineState.{MachineState, is_opened}
-use Rattle.pp_machine.specs.PpNo.{processor_index, processor_number}
+use Rattle.pp_machine.specs.PpNo.{processor_index, processor_number, is_named}
 use Rattle.pp_machine.specs.ProcessorPlaces as processor_places
 use Rattle.pp_runner.specs.End.{HasEndNumber}
 use Rattle.pp_runner.specs.declared.end.End.{End}
@@ -26,7 +26,7 @@ use Rattle.pp_runner.specs.WorkerReport.{logs_of}
 use Rattle.pp_runner.specs.declared.worker.Worker.{Worker}
 use Rattle.pp_text.specs.Numeral.{decimal, digits, octal, unpadded}
 use Rattle.pp_text.specs.PrintedReport.{author_place, channel_events, end_text, line_by, named_worker_line, numbered_event_line, printed_report, worker_line}
-use Rattle.pp_text.specs.PrintedText.{channel_text, each_below, event_text, is_named, line_end, processor_line, used_channel_line}
+use Rattle.pp_text.specs.PrintedText.{channel_text, each_below, event_text, line_end, processor_line, used_channel_line}
 use Rattle.pp_text.specs.ReportLaw.{AgreeOnReport, FitsItsEnd, FitsItsLine, FitsItsReport, ShownEnd, ToldEvent, end_of, shown_end, shown_of, told_by, told_events, told_of}
 use Rattle.pp_text.specs.TextLaw.{IsListed, IsToldAlike}
 use Rattle.pp_text.proofs.AuthorLawLemmas.{only_openings}

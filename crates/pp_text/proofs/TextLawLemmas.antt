@@ -17,14 +17,14 @@ use Rattle.pp_channel.specs.declared.event.Event.{Event}
 use Rattle.pp_channel.specs.declared.event.Event.TheVariants.{Activate, Disconnect, Put, Take, Function}
 use Rattle.pp_machine.specs.MachineState.{MachineState, processor_of}
 use Rattle.pp_machine.specs.Processor.{Processor, HasFaultNumber}
-use Rattle.pp_machine.specs.PpNo.{names_processor, processor_index}
+use Rattle.pp_machine.specs.PpNo.{names_processor, processor_index, is_named}
 use Rattle.pp_machine.specs.ProcessorPlaces as processor_places
 use Rattle.pp_machine.specs.declared.pp_state.PpState.{PpState}
 use Rattle.pp_machine.specs.declared.pp_state.PpState.TheVariants.{Running, Stopped, Fault}
 use Rattle.pp_machine.specs.declared.trace.Trace.{Trace}
 use Rattle.pp_text.specs.Numeral.{decimal, digit, digits, octal, unpadded}
 use Rattle.pp_text.specs.TextLaw.{IsTold, IsShown, IsListed, IsShownAlike, IsToldAlike, FitsItsText, AgreeOnText}
-use Rattle.pp_text.specs.PrintedText.{channel_line, channel_text, each_below, event_line, event_text, is_named, line_end, named_processor_line, printed, processor_line, state_text, used_channel_line}
+use Rattle.pp_text.specs.PrintedText.{channel_line, channel_text, each_below, event_line, event_text, line_end, named_processor_line, printed, processor_line, state_text, used_channel_line}
 
 -- ---- lists of characters
 

@@ -1,5 +1,4 @@
--- Finding the authors of events, log after log.
--- (Private contracts alone cite this.)
+-- Finding the authors of events, log after log. (Private contracts alone cite this.)
 use Rattle.std.specs.Prelude.{◌≡◌, ℕ, ◌<◌, Bool, List, [], length, slice_index_or, Option, Some, None, option_map, IsTrue, if◌then◌else◌}
 use Rattle.pp_channel.specs.ChannelNo.{channel_index, names_channel}
 use Rattle.pp_channel.specs.History.{history_on}
@@ -19,8 +18,7 @@ authors_on c authors = slice_index_or authors (channel_index c) []
 
 -- The authors of the events of channel c, by number: of each the processor in whose log it stands,
 -- by the workers in order; an opening event has none.
-abbrev pub AreAuthorsOn : {Z : Type 0} → ℕ → List (Worker Z) → List Event
-    → List (Option ℕ) → Type 0
+abbrev pub AreAuthorsOn : {Z : Type 0} → ℕ → List (Worker Z) → List Event → List (Option ℕ) → Type 0
 AreAuthorsOn c workers history authors = (number : ℕ) → number < length history
     → slice_index_or authors number None ≡ option_map processor_number
     (author_place c workers number)

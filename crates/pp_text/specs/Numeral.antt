@@ -20,13 +20,11 @@ abbrev pub unpadded : ℕ → ℕ → List ℕ
 unpadded zero n = []
 unpadded (suc most) n = if n == 0 then [] else unpadded most (n / 10) ++ digit (n % 10)
 
--- a count in decimal digits, without zeros in front: one digit at least. Twenty digits are enough
--- for every count of 64 bits.
+-- a count of 64 bits in decimal digits, without zeros in front: one digit at least
 unfoldable pub short_decimal : ℕ → List ℕ
 short_decimal n = unpadded 19 (n / 10) ++ digit (n % 10)
 
--- a count in decimal: six digits, with leading zeros, and more digits only where it needs more.
--- Twenty digits are enough for every count of 64 bits.
+-- a count of 64 bits in decimal: six digits, with leading zeros, and more only where it needs more
 unfoldable pub decimal : ℕ → List ℕ
 decimal n = unpadded 14 (n / 10 ^ 6) ++ digits 10 6 (n % 10 ^ 6)
 

@@ -9,7 +9,6 @@ piece_length = 8192
 abbrev pub HasRoom : ℕ → List ℕ → Type 0
 HasRoom count piece = length piece + count ≤ piece_length
 
--- the length of the longest line (decimal): that of an event whose turn, or number, has twenty
--- digits
+-- the length of the longest line (decimal): an event whose turn, or number, has twenty digits
 abbrev pub longest_line : ℕ
 longest_line = 40

@@ -6,12 +6,12 @@ use Rattle.pp_channel.specs.ChannelNo.{names_channel}
 use Rattle.pp_channel.specs.Merge.{times_logged}
 use Rattle.pp_channel.specs.History.{history_on}
 use Rattle.pp_channel.specs.declared.event.Event.{Event}
-use Rattle.pp_machine.specs.PpNo.{processor_index, processor_number}
+use Rattle.pp_machine.specs.PpNo.{processor_index, processor_number, is_named}
 use Rattle.pp_runner.specs.declared.end.End.{End}
 use Rattle.pp_runner.specs.declared.report.Report.{Report}
 use Rattle.pp_runner.specs.declared.worker.Worker.{Worker}
 use Rattle.pp_text.specs.Numeral.{decimal, octal}
-use Rattle.pp_text.specs.PrintedText.{each_below, event_text, is_named, line_end, processor_line, used_channel_line}
+use Rattle.pp_text.specs.PrintedText.{each_below, event_text, line_end, processor_line, used_channel_line}
 
 -- ---- events, each with its number in the history of its channel
 
@@ -56,8 +56,6 @@ worker_line n (Some worker) = processor_line n worker.pp (end_text worker.finish
 abbrev pub named_worker_line : {Z : Type 0} → List Bool → List (Worker Z) → ℕ → List ℕ
 named_worker_line named workers n =
     if is_named named n then worker_line n (slice_get workers (processor_index n)) else []
-
--- ---- the whole text
 
 -- the text of a report
 unfoldable pub printed_report : {Z : Type 0} → List Bool → Report Z → List ℕ

@@ -1,12 +1,12 @@
 -- The text of a run: a line for each event, each processor named, and each channel with a history.
 -- A text is a list of ASCII codes, and every line ends with a line feed.
-use Rattle.std.specs.Prelude.{ℕ, zero, suc, Bool, false, ◌&&◌, List, [], ◌∷◌, ◌++◌, Option, Some, None, codes, slice_index_or, if◌then◌else◌, flat_map}
+use Rattle.std.specs.Prelude.{ℕ, zero, suc, Bool, List, [], ◌∷◌, ◌++◌, Option, Some, None, codes, if◌then◌else◌, flat_map}
 use Rattle.pp_channel.specs.ChannelNo.{names_channel}
 use Rattle.pp_channel.specs.History.{active, waiting, history_on}
 use Rattle.pp_channel.specs.declared.event.Event.{Event}
 use Rattle.pp_machine.specs.MachineState.{MachineState, processor_of}
 use Rattle.pp_machine.specs.Processor.{Processor}
-use Rattle.pp_machine.specs.PpNo.{names_processor, processor_index}
+use Rattle.pp_machine.specs.PpNo.{is_named}
 use Rattle.pp_machine.specs.declared.pp_state.PpState.{PpState}
 use Rattle.pp_machine.specs.declared.trace.Trace.{Trace}
 use Rattle.pp_text.specs.Numeral.{decimal, octal}
@@ -60,15 +60,10 @@ unfoldable pub each_below : ℕ → (ℕ → List ℕ) → List ℕ
 each_below zero said = []
 each_below (suc k) said = each_below k said ++ said k
 
--- whether there is a processor with this number and the deck names it
-abbrev pub is_named : List Bool → ℕ → Bool
-is_named named n = names_processor n && slice_index_or named (processor_index n) false
-
 -- the line of the processor with this number, where the deck names it
 abbrev pub named_processor_line : List Bool → MachineState → ℕ → List ℕ
-named_processor_line named m n =
-    if is_named named n then (let pp = processor_of n m in
-    processor_line n pp (state_text pp.state)) else []
+named_processor_line named m n = if is_named named n
+    then (let pp = processor_of n m in processor_line n pp (state_text pp.state)) else []
 
 -- the line of the channel with this number, where there is one and it has a history
 abbrev pub used_channel_line : List (List Event) → ℕ → List ℕ

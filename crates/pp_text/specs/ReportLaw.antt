@@ -4,16 +4,14 @@ use Rattle.std.specs.List.{enumerate_from, filter_map}
 use Rattle.pp_channel.specs.ChannelNo.{names_channel}
 use Rattle.pp_channel.specs.History.{HasTwelveBitWord, history_on}
 use Rattle.pp_channel.specs.declared.event.Event.{Event}
-use Rattle.pp_machine.specs.PpNo.{names_processor, processor_index, processor_number}
+use Rattle.pp_machine.specs.PpNo.{names_processor, processor_index, processor_number, is_named}
 use Rattle.pp_runner.specs.declared.end.End.{End}
 use Rattle.pp_runner.specs.declared.report.Report.{Report}
 use Rattle.pp_runner.specs.declared.worker.Worker.{Worker}
 use Rattle.pp_text.specs.PrintedReport.{author_place}
-use Rattle.pp_text.specs.PrintedText.{is_named}
 use Rattle.pp_text.specs.TextLaw.{IsListed, IsToldAlike}
 
--- an event as a report's text shows it: its number in the history, the processor that made it, and
--- what happened
+-- an event as a report's text shows it: its number in the history, its author, and what happened
 pub record ToldEvent : Type 0 where
   pub number : ℕ
   pub author : ℕ
@@ -27,8 +25,7 @@ told_by number event (Some place) =
 
 -- the events of channel c that the text shows, in order
 abbrev pub told_events : {Z : Type 0} → ℕ → List (Worker Z) → List Event → List ToldEvent
-told_events {Z} c workers history =
-    filter_map
+told_events {Z} c workers history = filter_map
     (λ ((number, event) : ℕ × Event). told_by number event (author_place c workers number))
     (enumerate_from 0 history)
 

@@ -5,9 +5,8 @@ use Rattle.pp_channel.specs.History.{HasTwelveBitWord, active, waiting, history_
 use Rattle.pp_channel.specs.declared.event.Event.{Event}
 use Rattle.pp_machine.specs.MachineState.{MachineState, processor_of}
 use Rattle.pp_machine.specs.Processor.{Processor, HasFaultNumber}
-use Rattle.pp_machine.specs.PpNo.{names_processor}
+use Rattle.pp_machine.specs.PpNo.{names_processor, is_named}
 use Rattle.pp_machine.specs.declared.trace.Trace.{Trace}
-use Rattle.pp_text.specs.PrintedText.{is_named}
 
 -- an event fits its line: a turn of 64 bits, a processor, a channel, a word of 12 bits
 pub record IsTold (e : Trace) : Type 0 where
@@ -31,8 +30,6 @@ pub record FitsItsText (named : List Bool) (m : MachineState) : Type 0 where
   pub trace : All IsTold m.trace
   pub processors : (n : ℕ) → IsTrue (is_named named n) → IsShown (processor_of n m)
   pub channels : (c : ℕ) → IsTrue (names_channel c) → IsListed (history_on c m.histories)
-
--- ---- what two machines with one text agree on
 
 -- two processors with one line
 pub record IsShownAlike (pp other : Processor) : Type 0 where

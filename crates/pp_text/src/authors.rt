@@ -1,6 +1,6 @@
 //! Who made the events of the channels.
 
-ghost use Rattle.std.specs.Prelude.{◌≡◌, ◌<◌, ◌≤◌, ◌==◌, ℕ, [], None, length, slice_index_or, IfOk, IsTrue, nat_lt};
+ghost use Rattle.std.specs.Prelude.{◌≡◌, ◌<◌, ◌≤◌, ◌==◌, ℕ, None, length, slice_index_or, IfOk, IsTrue, nat_lt};
 ghost use Rattle.pp_channel.specs.ChannelNo.{channel_count, names_channel};
 ghost use Rattle.pp_channel.specs.Merge.{logs_event, times_logged};
 ghost use Rattle.pp_channel.specs.History.{history_on};

@@ -1,12 +1,13 @@
 //! The whole printed text of a machine.
 
-ghost use Rattle.std.specs.Prelude.{◌≡◌, ◌++◌, ℕ, All, IsTrue};
+ghost use Rattle.std.specs.Prelude.{ℕ, All, IsTrue};
 ghost use Rattle.std.specs.List.{flat_map};
 ghost use Rattle.pp_channel.specs.ChannelNo.{names_channel};
 ghost use Rattle.pp_channel.specs.History.{history_on};
 ghost use Rattle.pp_machine.specs.MachineState.{processor_of};
 ghost use Rattle.pp_text.specs.TextWriter.{Prints};
-ghost use Rattle.pp_text.specs.PrintedText.{each_below, event_line, is_named, named_processor_line, printed, used_channel_line};
+ghost use Rattle.pp_machine.specs.PpNo.{is_named};
+ghost use Rattle.pp_text.specs.PrintedText.{each_below, event_line, named_processor_line, printed, used_channel_line};
 ghost use Rattle.pp_text.specs.TextLaw.{FitsItsText, IsListed, IsShown, IsTold};
 ghost use Rattle.pp_text.specs.Written.{IsWritten};
 

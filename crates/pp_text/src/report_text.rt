@@ -4,12 +4,12 @@ ghost use Rattle.std.specs.Prelude.{◌≡◌, ◌≢◌, ◌≤◌, ◌++◌, �
 ghost use Rattle.std.specs.List.{enumerate_from, flat_map};
 ghost use Rattle.pp_channel.specs.ChannelNo.{channel_count, names_channel};
 ghost use Rattle.pp_channel.specs.History.{history_on};
-ghost use Rattle.pp_machine.specs.PpNo.{processor_count, processor_index, processor_number};
+ghost use Rattle.pp_machine.specs.PpNo.{processor_count, processor_index, processor_number, is_named};
 ghost use Rattle.pp_runner.specs.declared.worker.Worker.{Worker};
 ghost use Rattle.pp_text.specs.Authors.{AreAuthors, AreAuthorsOn};
 ghost use Rattle.pp_text.specs.TextWriter.{Prints};
 ghost use Rattle.pp_text.specs.Piece.{HasRoom, longest_line};
-ghost use Rattle.pp_text.specs.PrintedText.{each_below, is_named, used_channel_line};
+ghost use Rattle.pp_text.specs.PrintedText.{each_below, used_channel_line};
 ghost use Rattle.pp_text.specs.PrintedReport.{channel_events, line_by, named_worker_line, numbered_event_line, printed_report, worker_line};
 ghost use Rattle.pp_text.specs.ReportLaw.{FitsItsEnd, FitsItsLine, FitsItsReport, shown_end, told_by, told_events};
 ghost use Rattle.pp_text.specs.TextLaw.{IsListed};

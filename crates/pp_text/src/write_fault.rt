@@ -1,6 +1,4 @@
 //! Writing all of some bytes.
-
-ghost use Rattle.std.specs.Prelude.{◌≡◌, length};
 ghost use Rattle.pp_text.specs.Written.{IsWritten};
 
 use std::io::Write;

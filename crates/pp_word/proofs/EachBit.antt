@@ -1,8 +1,8 @@
 -- What shifts and logic do to each bit.
-use Rattle.std.proofs.Common.{◌≡◌, ℕ, zero, suc, ◌+◌, ◌-◌, ◌*◌, ◌/◌, ◌%◌, ◌<◌, ◌≤◌, Bool, true, false, not, List, [], ◌∷◌, ◌++◌, map, take, drop, replicate, min, length, get_or, refl, sym, ap, ◌∙◌, arith, if◌then◌else◌, ◌⊎◌, inl, inr, nat_lt, lt-ltb, le-ltb}
+use Rattle.std.proofs.Common.{◌≡◌, ℕ, zero, suc, ◌+◌, ◌-◌, ◌*◌, ◌/◌, ◌%◌, ◌<◌, ◌≤◌, Bool, true, false, not, List, [], ◌∷◌, ◌++◌, map, zip, take, drop, replicate, min, length, get_or, refl, sym, ap, ◌∙◌, arith, if◌then◌else◌, ◌⊎◌, inl, inr, nat_lt, lt-ltb, le-ltb}
 use Rattle.std.proofs.lemmas.List.{get_or_append_left, get_or-append_right, get_or-drop, get_or-take, get_or-map, get_or_past, length-drop, length-take, length-replicate, length-map}
 use Rattle.std.proofs.Math.ListN.{length-append}
-use Rattle.pp_word.specs.Bits.{lowest_bits, number_of, bits_of, bit, shift, rotation, right_shift, bit_by_bit, combination, complement}
+use Rattle.pp_word.specs.Bits.{lowest_bits, number_of, bits_of, bit, shift, rotation, right_shift, combination, complement}
 use Rattle.pp_word.proofs.BitsLemmas.{length-lowest_bits}
 
 -- the bits of a number that was made of bits
@@ -26,24 +26,27 @@ bit-number_of bs i long =
     ap (λ xs. get_or xs i false) (ap (λ w. lowest_bits w (number_of bs)) (sym long) ∙ lowest_bits-number_of bs)
 
 -- logic, bit by bit
-length-bit_by_bit : (f : Bool → Bool → Bool) (xs ys : List Bool) → length xs ≡ length ys → length (bit_by_bit f xs ys) ≡ length xs
-length-bit_by_bit f [] ys e = refl
-length-bit_by_bit f (x ∷ xs) [] e = sym e
-length-bit_by_bit f (x ∷ xs) (y ∷ ys) e = let rest = length-bit_by_bit f xs ys (omega (arith, e)) in omega (arith, rest)
+abbrev pairwise : (Bool → Bool → Bool) → List Bool → List Bool → List Bool
+pairwise f xs ys = map (λ pair. f pair.0 pair.1) (zip xs ys)
 
-get_or-bit_by_bit : (f : Bool → Bool → Bool) (xs ys : List Bool) (i : ℕ) → length xs ≡ length ys → i < length xs → get_or (bit_by_bit f xs ys) i false ≡ f (get_or xs i false) (get_or ys i false)
-get_or-bit_by_bit f [] ys i e h = absurd (omega arith)
-get_or-bit_by_bit f (x ∷ xs) [] i e h = absurd (omega (arith, e))
-get_or-bit_by_bit f (x ∷ xs) (y ∷ ys) zero e h = refl
-get_or-bit_by_bit f (x ∷ xs) (y ∷ ys) (suc i) e h = get_or-bit_by_bit f xs ys i (omega (arith, e)) (omega (arith, h))
+length-pairwise : (f : Bool → Bool → Bool) (xs ys : List Bool) → length xs ≡ length ys → length (pairwise f xs ys) ≡ length xs
+length-pairwise f [] ys e = refl
+length-pairwise f (x ∷ xs) [] e = sym e
+length-pairwise f (x ∷ xs) (y ∷ ys) e = let rest = length-pairwise f xs ys (omega (arith, e)) in omega (arith, rest)
+
+get_or-pairwise : (f : Bool → Bool → Bool) (xs ys : List Bool) (i : ℕ) → length xs ≡ length ys → i < length xs → get_or (pairwise f xs ys) i false ≡ f (get_or xs i false) (get_or ys i false)
+get_or-pairwise f [] ys i e h = absurd (omega arith)
+get_or-pairwise f (x ∷ xs) [] i e h = absurd (omega (arith, e))
+get_or-pairwise f (x ∷ xs) (y ∷ ys) zero e h = refl
+get_or-pairwise f (x ∷ xs) (y ∷ ys) (suc i) e h = get_or-pairwise f xs ys i (omega (arith, e)) (omega (arith, h))
 
 pub bit-combination : (f : Bool → Bool → Bool) (a b i : ℕ) → i < 18 → bit (combination f a b) i ≡ f (bit a i) (bit b i)
 bit-combination f a b i h =
     let la = length-bits_of a in
     let lb = length-bits_of b in
     let same : length (bits_of a) ≡ length (bits_of b) = la ∙ sym lb in
-    let long : length (bit_by_bit f (bits_of a) (bits_of b)) ≡ 18 = length-bit_by_bit f (bits_of a) (bits_of b) same ∙ la in
-    bit-number_of (bit_by_bit f (bits_of a) (bits_of b)) i long ∙ get_or-bit_by_bit f (bits_of a) (bits_of b) i same (omega (arith, la))
+    let long : length (pairwise f (bits_of a) (bits_of b)) ≡ 18 = length-pairwise f (bits_of a) (bits_of b) same ∙ la in
+    bit-number_of (pairwise f (bits_of a) (bits_of b)) i long ∙ get_or-pairwise f (bits_of a) (bits_of b) i same (omega (arith, la))
 
 pub bit-complement : (a i : ℕ) → i < 18 → bit (complement a) i ≡ not (bit a i)
 bit-complement a i h =

@@ -1,8 +1,8 @@
-use Rattle.std.proofs.Common.{◌≡◌, ℕ, zero, suc, ◌+◌, ◌-◌, ◌*◌, ◌/◌, ◌%◌, ◌^◌, ◌<◌, ◌==◌, Bool, not, ◌&&◌, refl, sym, ◌∙◌, arith, if◌then◌else◌, bit_and}
+use Rattle.std.proofs.Common.{◌≡◌, ℕ, zero, suc, ◌+◌, ◌-◌, ◌*◌, ◌/◌, ◌%◌, ◌^◌, ◌<◌, ◌==◌, Bool, not, map, zip, ◌&&◌, refl, sym, ◌∙◌, arith, if◌then◌else◌, bit_and}
 use Rattle.std.specs.Int.RustNames.{bit_xor}
 use Rattle.std.proofs.lemmas.Grind.{common_steps}
 use Rattle.std.proofs.lemmas.Nat.{mod-pow-add, and_block, xor_block, and-not, and_mod, xor_mod, and_le_l, and_comm}
-use Rattle.pp_word.specs.Bits.{lowest_bits, number_of, bit_by_bit, logical_product, logical_difference, selective_clear}
+use Rattle.pp_word.specs.Bits.{lowest_bits, number_of, logical_product, logical_difference, selective_clear}
 
 -- f is what op does to one bit, and op goes bit by bit
 pub record IsBitwise (op : ℕ → ℕ → ℕ) (f : Bool → Bool → Bool) : Type 0 where
@@ -15,7 +15,7 @@ split_lowest : (w n : ℕ) → n % 2 ^ suc w ≡ n / 2 % 2 ^ w * 2 + n % 2
 split_lowest w n = let whole = mod-pow-add n w 1 in let more : w + 1 ≡ suc w = omega arith in rw (← more) whole
 
 -- an operation on numbers, bit by bit
-pub bitwise : (op : ℕ → ℕ → ℕ) (f : Bool → Bool → Bool) → IsBitwise op f → (w a b : ℕ) → number_of (bit_by_bit f (lowest_bits w a) (lowest_bits w b)) ≡ op (a % 2 ^ w) (b % 2 ^ w)
+pub bitwise : (op : ℕ → ℕ → ℕ) (f : Bool → Bool → Bool) → IsBitwise op f → (w a b : ℕ) → number_of (map (λ pair. f pair.0 pair.1) (zip (lowest_bits w a) (lowest_bits w b))) ≡ op (a % 2 ^ w) (b % 2 ^ w)
 unfolding lowest_bits
 bitwise op f h zero a b =
     let x : a % 2 ^ 0 ≡ 0 = omega arith in

@@ -1,7 +1,7 @@
 -- Words as bits; bit 0 is the lowest, bit 17 (decimal) the uppermost of an 18-bit word. Values of d
 -- are octal, counts of bits decimal. (Manual 60100000, peripheral processors: SHN, LMN, LPN, SCN,
 -- LCN and their long forms.)
-use Rattle.std.specs.Prelude.{ℕ, ◌+◌, ◌-◌, ◌*◌, ◌/◌, ◌%◌, ◌==◌, nat_lt, if◌then◌else◌, Bool, false, List, [], ◌∷◌, ◌++◌, map, take, drop, replicate, min, not, ◌&&◌, zero, suc, slice_index_or}
+use Rattle.std.specs.Prelude.{ℕ, ◌+◌, ◌-◌, ◌*◌, ◌/◌, ◌%◌, ◌==◌, nat_lt, if◌then◌else◌, Bool, false, List, [], ◌∷◌, ◌++◌, map, take, drop, replicate, min, not, ◌&&◌, zero, suc, slice_index_or, zip}
 
 -- the lowest bits of a number as truth values, bit 0 first
 unfoldable pub lowest_bits : ℕ → ℕ → List Bool
@@ -39,15 +39,9 @@ shift word d =
 abbrev pub complement : ℕ → ℕ
 complement word = number_of (map not (bits_of word))
 
--- two lists of bits, bit by bit
-abbrev pub bit_by_bit : (Bool → Bool → Bool) → List Bool → List Bool → List Bool
-bit_by_bit f [] _ = []
-bit_by_bit f (x ∷ xs) [] = []
-bit_by_bit f (x ∷ xs) (y ∷ ys) = f x y ∷ bit_by_bit f xs ys
-
 -- an 18-bit word from two, bit by bit
 abbrev pub combination : (Bool → Bool → Bool) → ℕ → ℕ → ℕ
-combination f a b = number_of (bit_by_bit f (bits_of a) (bits_of b))
+combination f a b = number_of (map (λ pair. f pair.0 pair.1) (zip (bits_of a) (bits_of b)))
 
 -- LPN: 1 where both are
 abbrev pub logical_product : ℕ → ℕ → ℕ

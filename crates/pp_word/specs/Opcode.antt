@@ -91,9 +91,6 @@ code_of op = (row_of op).code
 abbrev pub length_of : Opcode → ℕ
 length_of op = if (row_of op).long then 2 else 1
 
-abbrev pub mnemonic_of : Opcode → List ℕ
-mnemonic_of op = (row_of op).mnemonic
-
 -- the operations in the order of their codes, eight a line
 abbrev pub operations : List Opcode
 operations =

@@ -1,6 +1,6 @@
 //! Addresses of the places of a processor's memory, modulo 10000 (octal).
 
-ghost use Rattle.std.specs.Prelude.{ℕ, ◌≡◌, ◌+◌, ◌-◌, ◌%◌, ◌<◌, ◌≤◌};
+ghost use Rattle.std.specs.Prelude.{◌≡◌, ◌+◌, ◌-◌, ◌%◌, ◌<◌, ◌≤◌};
 ghost use Rattle.pp_word.specs.Address.{indexed, next_place, place_count, relative_to};
 
 use crate::word6::Word6;

@@ -1,6 +1,6 @@
 //! A central word and its five parts.
 
-ghost use Rattle.std.specs.Prelude.{ℕ, ◌≡◌, ◌%◌, ◌^◌};
+ghost use Rattle.std.specs.Prelude.{◌≡◌, ◌%◌, ◌^◌};
 ghost use Rattle.pp_word.specs.CentralWord.{parts_of, joined};
 
 use crate::word12::Word12;

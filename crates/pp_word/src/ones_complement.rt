@@ -1,6 +1,6 @@
 //! Sum and difference in ones' complement.
 
-ghost use Rattle.std.specs.Prelude.{ℕ, ◌≡◌};
+ghost use Rattle.std.specs.Prelude.{◌≡◌};
 ghost use Rattle.pp_word.specs.OnesComplement.{sum, difference, IsSum, IsDifference};
 
 use crate::word18::Word18;

@@ -1,7 +1,7 @@
 //! The operation codes.
 
-ghost use Rattle.std.specs.Prelude.{ℕ, ◌≡◌, ◌/◌, ◌%◌, ◌^◌, ◌<◌};
-ghost use Rattle.pp_word.specs.Opcode.{code_of, row_of, mnemonic_of, opcode_at};
+ghost use Rattle.std.specs.Prelude.{◌≡◌, ◌/◌, ◌%◌, ◌^◌, ◌<◌};
+ghost use Rattle.pp_word.specs.Opcode.{code_of, row_of, opcode_at};
 
 use crate::word6::Word6;
 use crate::word12::Word12;
@@ -118,7 +118,7 @@ impl Opcode {
 
     /// The manual's mnemonic, three letters.
     pub fn mnemonic(self) -> &'static str
-        ensures { result.now ≡ mnemonic_of self }
+        ensures { result.now ≡ (row_of self).mnemonic }
     {
         match self {
             Opcode::PSN => "PSN",

@@ -16,7 +16,7 @@ pub struct Word60 {
 impl Model for Word60 {
     ghost use Rattle.std.specs.Prelude.{ℕ, ◌+◌, ◌*◌, ◌/◌, ◌%◌, ◌^◌, ◌<◌};
     ghost use Rattle.std.proofs.Common.{ap₂};
-    ghost use Rattle.pp_word.specs.Word60.{lower_again, upper_again};
+    ghost use Rattle.std.proofs.lemmas.Nat.{div-mul-add, mod-mul-add};
 
     ghost Value = { ℕ };
 
@@ -27,7 +27,7 @@ impl Model for Word60 {
     ghost inverse = { λ n. record { upper = n / 2 ^ 32; lower = n % 2 ^ 32 } };
 
     ghost inverse_ok = { λ w is. ap₂ (λ u l. record { upper = u; lower = l })
-        (upper_again w.upper w.lower is.1) (lower_again w.upper w.lower is.1) };
+        (div-mul-add w.upper (2 ^ 32) w.lower is.1) (mod-mul-add w.upper (2 ^ 32) w.lower is.1) };
 }
 
 impl Word60 {

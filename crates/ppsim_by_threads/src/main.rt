@@ -1,4 +1,5 @@
-//! The program with one thread per processor: six words on its command line, and the text of the run.
+//! The program with one thread per processor: six words on its command line, and the text of the
+//! run.
 #![tactic(auto)]
 
 use pp_sim::run_main;

@@ -7,8 +7,8 @@ use std::process::Abort;
 use std::test::Fail;
 use test_bench::{EMPTY, FULL, INACTIVE, word};
 
-/// Acts where a request may be refused, which is Memory. Nothing has changed then, and the operation
-/// is answered as ever once memory is there.
+/// Acts where a request may be refused, which is Memory. Nothing has changed then, and the
+/// operation is answered as ever once memory is there.
 fn act_again(
     rt: &(impl Abort + AllocGlobal),
     heap: &Rationed<Global>,

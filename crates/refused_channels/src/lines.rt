@@ -21,8 +21,8 @@ fn act<A: Allocator + Copy>(line: &mut Line<A>, channel: ChannelNo, op: ChanOp) 
     Ok(())
 }
 
-/// What a line shows: its log, of at most four entries, its room, whether a look is kept, how many events
-/// of channel 5 it has seen, and its shares.
+/// What a line shows: its log, of at most four entries, its room, whether a look is kept, how many
+/// events of channel 5 it has seen, and its shares.
 type Shown = ([Option<Entry>; 4], u32, bool, u64, u32);
 
 fn shown<A: Allocator + Copy>(line: &Line<A>, five: ChannelNo) -> Shown {

@@ -8,8 +8,8 @@ use std::sync::Wait;
 use std::test::Fail;
 use test_bench::{FULL, INACTIVE, numbered, word};
 
-/// The same operations behind the lock and on a channel in ample memory, which answer the same, until
-/// a request is refused. Gives how many were made.
+/// The same operations behind the lock and on a channel in ample memory, which answer the same,
+/// until a request is refused. Gives how many were made.
 fn act_until_refused(
     rt: &(impl Abort + Wait + AllocGlobal),
     heap: &Rationed<Global>,

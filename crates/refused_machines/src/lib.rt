@@ -1,5 +1,5 @@
-//! Central memory and the machine where a growth is refused, one request after another: tests over the
-//! allocator `Rationed`.
+//! Central memory and the machine where a growth is refused, one request after another: tests over
+//! the allocator `Rationed`.
 #![tactic(auto)]
 
 #[cfg(test)]

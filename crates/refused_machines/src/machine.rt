@@ -92,8 +92,8 @@ fn a_bad_size_comes_before_memory(rt: HostRuntime) {
     assert_eq!(rt; heap.asked(), 0);
 }
 
-/// A step on both machines. Where its request is refused it leaves the first as it is, and is made once
-/// memory is there.
+/// A step on both machines. Where its request is refused it leaves the first as it is, and is made
+/// once memory is there.
 fn step_both(
     rt: &impl Abort,
     heap: &Rationed<Global>,
@@ -161,8 +161,8 @@ fn step_refused(rt: HostRuntime) -> Result<(), Fail> {
     Ok(())
 }
 
-/// A run that is cut is as after the steps that it did, and goes on from there. This says whether the
-/// request of this number was made.
+/// A run that is cut is as after the steps that it did, and goes on from there. This says whether
+/// the request of this number was made.
 fn run_refused(
     rt: &(impl Abort + AllocGlobal),
     heap: &Rationed<Global>,
@@ -317,8 +317,8 @@ fn barrel_refused(rt: HostRuntime) -> Result<(), Fail> {
     Ok(())
 }
 
-/// All processors but one wait, with this request refused: whether it was made. After a refusal the machine
-/// is as one that was never started.
+/// All processors but one wait, with this request refused: whether it was made. After a refusal the
+/// machine is as one that was never started.
 fn waiting_refused(
     rt: &(impl Abort + AllocGlobal),
     heap: &Rationed<Global>,

@@ -1,5 +1,5 @@
-//! Calls of central memory and of a machine that make no event answer as ever where the first request
-//! would be refused. Words and processors hold no allocator and take none.
+//! Calls of central memory and of a machine that make no event answer as ever where the first
+//! request would be refused. Words and processors hold no allocator and take none.
 
 use pp_machine::{Central, CentralFault, Machine, Outcome, PpNo, PpState, Profile};
 use pp_word::{Word18, Word60};

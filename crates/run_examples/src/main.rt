@@ -150,8 +150,8 @@ fn main(rt: HostRuntime) -> anyhow::Result<()> {
     Ok(())
 }
 
-/// Says whether twenty processors give the text of ten with the turns of its events changed, and these
-/// lines after it.
+/// Says whether twenty processors give the text of ten with the turns of its events changed, and
+/// these lines after it.
 fn compare_on_twenty<R: Files + Print + Alloc<A = Global> + Threads + Wait + Sync>(
     rt: &R,
     name: &str,

@@ -1,6 +1,6 @@
-//! What the crates of tests share: decks with their texts, devices that fail and texts from and onto
-//! them, a plain check of histories, words, channels, processors and programs by number, odd numbers,
-//! and which processors wait.
+//! What the crates of tests share: decks with their texts, devices that fail and texts from and
+//! onto them, a plain check of histories, words, channels, processors and programs by number, odd
+//! numbers, and which processors wait.
 #![tactic(auto)]
 
 mod chance;

@@ -1,6 +1,4 @@
 //! Whole block transfers.
-
-ghost use Rattle.std.specs.Prelude.{◌≡◌};
 ghost use Rattle.pp_machine.specs.Processor.{IsProcessor};
 ghost use Rattle.pp_machine.specs.BlockResults.{CompleteInput, ShortInput, CompleteOutput, ShortOutput, CentralRead, CentralWrite};
 

@@ -1,7 +1,8 @@
 //! The instruction at P, and the places and constants that it means.
 
 ghost use Rattle.std.specs.Prelude.{◌≡◌};
-ghost use Rattle.pp_machine.specs.Operand.{place_after_p, operation, lower_six, second_word, index, constant};
+ghost use Rattle.pp_word.specs.Address.{place_after};
+ghost use Rattle.pp_machine.specs.Operand.{operation, lower_six, second_word, index, constant};
 ghost use Rattle.pp_machine.specs.Processor.{word_at};
 
 use crate::pp::Pp;
@@ -10,7 +11,7 @@ use pp_word::{Opcode, Word6, Word12, Word18, decode, index_address};
 impl Pp {
     /// The place this many places after P.
     pub(super) fn place_after_p(&self, words: u8) -> Word12
-        ensures { result ≡ place_after_p self.now words }
+        ensures { result ≡ place_after self.now.p words }
     {
         Word12::truncated(u32::from(self.p.get()) + u32::from(words))
     }

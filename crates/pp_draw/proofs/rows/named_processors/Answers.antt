@@ -1,5 +1,5 @@
 use Rattle.std.proofs.Common.{sym, arith}
-use Rattle.pp_text.specs.PrintedText.{is_named}
+use Rattle.pp_machine.specs.PpNo.{is_named}
 use Rattle.pp_draw.proofs.RowLemmas.{counted_more, none_below, one_at_most}
 use Rattle.pp_draw.proofs.rows.named_processors.Goals as goal
 

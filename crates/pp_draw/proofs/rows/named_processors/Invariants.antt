@@ -1,5 +1,5 @@
 use Rattle.std.proofs.Common.{◌≡◌, ◌≤◌}
-use Rattle.pp_text.specs.PrintedText.{is_named}
+use Rattle.pp_machine.specs.PpNo.{is_named}
 use Rattle.pp_draw.specs.DrawingText.{count_below}
 use Rattle.pp_draw.proofs.rows.named_processors.Given as goal
 

@@ -1,5 +1,5 @@
 use Rattle.std.proofs.Common.{arith}
-use Rattle.pp_text.specs.PrintedText.{is_named}
+use Rattle.pp_machine.specs.PpNo.{is_named}
 use Rattle.pp_text.specs.PrintingLaws.{nothing_said, said_goes_on, prints_nothing, prints_on}
 use Rattle.pp_draw.specs.DrawingText.{processor_lane}
 use Rattle.pp_draw.proofs.RowLemmas.{cond_at_most, none_below, one_more}

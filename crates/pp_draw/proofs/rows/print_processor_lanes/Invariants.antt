@@ -1,5 +1,6 @@
 use Rattle.std.proofs.Common.{◌≡◌, ◌+◌, ◌≤◌}
-use Rattle.pp_text.specs.PrintedText.{each_below, is_named}
+use Rattle.pp_machine.specs.PpNo.{is_named}
+use Rattle.pp_text.specs.PrintedText.{each_below}
 use Rattle.pp_text.specs.TextWriter.{Prints}
 use Rattle.pp_draw.specs.DrawingText.{count_below, processor_lane}
 use Rattle.pp_draw.proofs.rows.print_processor_lanes.Given as goal

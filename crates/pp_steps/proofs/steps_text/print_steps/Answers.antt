@@ -2,13 +2,12 @@ use Rattle.std.proofs.Common.{◌≡◌, ◌<◌, ◌+◌, ◌-◌, ◌%◌, ◌
 use Rattle.std.specs.Prelude.{IsTrue}
 use Rattle.pp_machine.specs.MachineState.{MachineState}
 use Rattle.pp_machine.specs.MachineStep.{stepped}
-use Rattle.pp_machine.specs.PpNo.{names_processor, processor_count, processor_number}
+use Rattle.pp_machine.specs.PpNo.{names_processor, processor_count, processor_number, is_named}
 use Rattle.pp_machine.specs.Profile.{processor_in_turn, processors_in}
 use Rattle.pp_machine.specs.Run.{barrel, run}
 use Rattle.pp_machine.specs.ProcessorPlaces.{number_named}
 use Rattle.pp_machine.specs.ProfilePlaces.{most_processors, rest_within}
 use Rattle.pp_machine.specs.RunLaws.{barrel_more}
-use Rattle.pp_text.specs.PrintedText.{is_named}
 use Rattle.pp_text.specs.TextWriter.{Prints}
 use Rattle.pp_text.specs.PrintingLaws.{prints_nothing, prints_then}
 use Rattle.pp_steps.specs.BareMachine.{StandsFor, progress}

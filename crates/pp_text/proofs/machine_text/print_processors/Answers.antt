@@ -1,7 +1,8 @@
 use Rattle.std.proofs.Common.{ℕ, arith}
 use Rattle.std.specs.Prelude.{IsTrue}
 use Rattle.pp_machine.specs.MachineState.{processor_of}
-use Rattle.pp_text.specs.PrintedText.{is_named, named_processor_line}
+use Rattle.pp_machine.specs.PpNo.{is_named}
+use Rattle.pp_text.specs.PrintedText.{named_processor_line}
 use Rattle.pp_text.specs.TextLaw.{IsShown}
 use Rattle.pp_text.specs.PrintingLaws.{prints_nothing, prints_on, nothing_said, said_goes_on}
 use Rattle.pp_text.proofs.TextLawLemmas.{below_goes_on, named_digits}

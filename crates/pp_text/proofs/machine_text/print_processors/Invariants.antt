@@ -2,7 +2,8 @@ use Rattle.std.proofs.Common.{ℕ, ◌<◌}
 use Rattle.std.specs.Prelude.{IsTrue}
 use Rattle.pp_machine.specs.MachineState.{processor_of}
 use Rattle.pp_text.specs.TextWriter.{Prints}
-use Rattle.pp_text.specs.PrintedText.{each_below, is_named, named_processor_line}
+use Rattle.pp_machine.specs.PpNo.{is_named}
+use Rattle.pp_text.specs.PrintedText.{each_below, named_processor_line}
 use Rattle.pp_text.specs.TextLaw.{IsShown}
 use Rattle.pp_text.proofs.machine_text.print_processors.Given as goal
 

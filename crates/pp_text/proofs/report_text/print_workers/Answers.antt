@@ -1,7 +1,6 @@
 use Rattle.std.proofs.Common.{ℕ, arith}
 use Rattle.std.specs.Prelude.{IfSome, IsTrue, option_map, slice_get}
-use Rattle.pp_machine.specs.PpNo.{processor_index}
-use Rattle.pp_text.specs.PrintedText.{is_named}
+use Rattle.pp_machine.specs.PpNo.{processor_index, is_named}
 use Rattle.pp_text.specs.PrintedReport.{named_worker_line}
 use Rattle.pp_text.specs.ReportLaw.{FitsItsEnd, shown_end}
 use Rattle.pp_text.specs.PrintingLaws.{prints_nothing, prints_on, nothing_said, said_goes_on}

@@ -1,8 +1,8 @@
 use Rattle.std.proofs.Common.{ℕ, ◌<◌}
 use Rattle.std.specs.Prelude.{IfSome, IsTrue, option_map, slice_get}
-use Rattle.pp_machine.specs.PpNo.{processor_index}
+use Rattle.pp_machine.specs.PpNo.{processor_index, is_named}
 use Rattle.pp_text.specs.TextWriter.{Prints}
-use Rattle.pp_text.specs.PrintedText.{each_below, is_named}
+use Rattle.pp_text.specs.PrintedText.{each_below}
 use Rattle.pp_text.specs.PrintedReport.{named_worker_line}
 use Rattle.pp_text.specs.ReportLaw.{FitsItsEnd, shown_end}
 use Rattle.pp_text.proofs.report_text.print_workers.Given as goal

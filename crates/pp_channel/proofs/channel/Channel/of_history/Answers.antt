@@ -9,6 +9,6 @@ invariant_of-result g c =
     let items = c.args.events.items in
     let last = rw c.deref.ensures.value at c.last.ensures.value in
     elim c.match-last.branch [
-      | in-Some w ↦ rw (w.flags-is, w.register-is, w.flags_after-flags.ensures, w.word_after-register.ensures) (kept_by_last items w.in-Some.last.now (sym last ∙ ap option_copied w.in-Some.is) c.requires.lawful c.requires.twelve_bits)
+      | in-Some w ↦ rw (w.flags-is, w.register-is, w.flags_after-flags.ensures, w.word_put-register.ensures) (kept_by_last items w.in-Some.last.now (sym last ∙ ap option_copied w.in-Some.is) c.requires.lawful c.requires.twelve_bits)
       | in_default w ↦ rw (w.flags-is, w.register-is) (kept_by_none items (sym last ∙ ap option_copied w.in_default.is) c.requires.lawful c.requires.twelve_bits)
     ]

@@ -1,5 +1,6 @@
 use Rattle.std.proofs.Common.{◌≡◌, ◌∙◌, sym, ap, nat_eq}
-use Rattle.pp_channel.specs.ChannelNo.{channel_index, place_again}
+use Rattle.pp_channel.specs.ChannelNo.{channel_index}
+use Rattle.pp_channel.specs.ChannelPlaces.{place_again}
 use Rattle.pp_channel.proofs.channel_no.ChannelNoPartialEq.eq.Goals as goal
 
 pub returns : goal.returns

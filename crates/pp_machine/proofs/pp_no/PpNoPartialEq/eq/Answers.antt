@@ -1,5 +1,6 @@
 use Rattle.std.proofs.Common.{◌≡◌, ◌∙◌, sym, ap, nat_eq}
-use Rattle.pp_machine.specs.PpNo.{processor_index, place_again}
+use Rattle.pp_machine.specs.PpNo.{processor_index}
+use Rattle.pp_machine.specs.ProcessorPlaces.{place_again}
 use Rattle.pp_machine.proofs.pp_no.PpNoPartialEq.eq.Goals as goal
 
 pub returns : goal.returns
