@@ -7,7 +7,7 @@ use Rattle.pp_sim.proofs.ByteLemmas.{read_front}
 use Rattle.pp_machine.specs.declared.profile.Profile.{Profile}
 use Rattle.pp_deck.specs.DeckMeaning.{LoadedDeck}
 use Rattle.pp_text.specs.Written.{AppendsFront}
-use Rattle.pp_sim.specs.TextAnswer.{AnswersDeckUnless, IsAnswerUnless, IsOfDeck, IsReadFault, IsRunFaultUnless, most_bytes}
+use Rattle.pp_sim.specs.TextAnswer.{AnswersDeckUnless, IsAnswerUnless, IsOfDeck, IsLoadFault, IsReadFault, most_bytes}
 use Rattle.pp_listing.specs.declared.going_on.GoingOn.{GoingOn}
 use Rattle.pp_sim.specs.declared.text_fault.TextFault.{TextFault}
 use Rattle.pp_sim.specs.declared.text_fault.TextFault.TheVariants as fault
@@ -60,15 +60,15 @@ answered_deck profile before after old new Hinders IsDeckText front answer answe
   unwritten = unwritten_answer profile Hinders IsDeckText answer front old new answered;
 }
 
-kept_as_it_was : (kept : Option (List ℕ)) → Keeps kept kept
+pub kept_as_it_was : (kept : Option (List ℕ)) → Keeps kept kept
 kept_as_it_was None = tt
 kept_as_it_was (Some bytes) = refl
 
 -- where no text was made, nothing was written
 pub refused : (profile : Profile) (Hinders : LoadedDeck → GoingOn → Type 0) (IsDeckText : LoadedDeck → List ℕ → Type 0) (f : TextFault) (bytes : List ℕ) (kept : Option (List ℕ))
-    → IsRunFaultUnless profile Hinders bytes f → IsAnswerUnless profile Hinders IsDeckText (Err f) bytes kept kept
+    → IsLoadFault profile bytes f → IsAnswerUnless profile Hinders IsDeckText (Err f) bytes kept kept
 refused profile Hinders IsDeckText (fault.Deck f) bytes kept is = (is, kept_as_it_was kept)
-refused profile Hinders IsDeckText (fault.NotBetweenPrograms going_on) bytes kept is = (is, kept_as_it_was kept)
+refused profile Hinders IsDeckText (fault.NotBetweenPrograms going_on) bytes kept is = absurd is
 refused profile Hinders IsDeckText fault.Memory bytes kept is = kept_as_it_was kept
 refused profile Hinders IsDeckText fault.Read bytes kept is = absurd is
 refused profile Hinders IsDeckText fault.Write bytes kept is = absurd is

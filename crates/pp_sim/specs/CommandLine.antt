@@ -21,57 +21,48 @@ use Rattle.pp_sim.specs.declared.work.Work.{Work}
 -- `draw` `--from N` and `--to N`, for `check` `--opened N,N,..`, which may be left out; or
 -- `ppsim --version`
 
--- a required option whose value is a number
-abbrev pub number_option : Text → Rule
-number_option id =
-    record (new_rule id) { long = Some id; action = Some Set; required = true; value_names = 1 }
-
 -- an option that may be left out, with one value
 abbrev pub optional_value : Text → Rule
-optional_value id =
-    record (new_rule id) { long = Some id; action = Some Set; value_names = 1 }
+optional_value id = record (new_rule id) { long = Some id; action = Some Set; value_names = 1 }
+
+-- a required option whose value is a number
+abbrev pub number_option : Text → Rule
+number_option id = record (optional_value id) { required = true }
 
 -- the option that says how many processors the machine has
 abbrev pub processors_option : Rule
 processors_option = optional_value (codes "processors")
 
+-- a command with these options
+abbrev pub command : Text → List Rule → App
+command name options = fold with_rule (new_app name) options
+
 -- a command that makes a run of so many turns
 abbrev pub turns_command : Text → App
-turns_command name =
-    with_rule (with_rule (new_app name) (number_option (codes "turns"))) processors_option
+turns_command name = command name (number_option (codes "turns") ∷ processors_option ∷ [])
 
 abbrev pub threads : App
-threads =
-    with_rule (with_rule (with_rule (new_app (codes "threads")) (number_option (codes "steps")))
-    (number_option (codes "patience")))
-    processors_option
+threads = command (codes "threads")
+    (number_option (codes "steps") ∷ number_option (codes "patience") ∷ processors_option ∷ [])
 
 abbrev pub list : App
-list = with_rule (new_app (codes "list")) processors_option
+list = command (codes "list") (processors_option ∷ [])
 
 abbrev pub steps : App
-steps =
-    with_rule (with_rule (with_rule (with_rule (new_app (codes "steps"))
-    (number_option (codes "turns"))) (optional_value (codes "pp")))
-    (optional_value (codes "from")))
-    processors_option
+steps = command (codes "steps") (number_option (codes "turns") ∷ optional_value (codes "pp")
+    ∷ optional_value (codes "from") ∷ processors_option ∷ [])
 
 abbrev pub draw : App
-draw =
-    with_rule (with_rule (with_rule (with_rule (new_app (codes "draw"))
-    (number_option (codes "turns"))) (optional_value (codes "from")))
-    (optional_value (codes "to")))
-    processors_option
+draw = command (codes "draw") (number_option (codes "turns") ∷ optional_value (codes "from")
+    ∷ optional_value (codes "to") ∷ processors_option ∷ [])
 
 abbrev pub check : App
-check = with_rule (new_app (codes "check")) (optional_value (codes "opened"))
+check = command (codes "check") (optional_value (codes "opened") ∷ [])
 
 abbrev pub bare : App
-bare =
-    record (new_app (codes "ppsim")) {
-      top = record
-          (new_app (codes "ppsim")).top { has_version = true; subcommand_required = true };
-    }
+bare = record (new_app (codes "ppsim")) {
+  top = record (new_app (codes "ppsim")).top { has_version = true; subcommand_required = true };
+}
 
 -- with all its commands
 unfoldable pub ppsim : App
@@ -115,8 +106,7 @@ ReadsEnd turns (Some text) to = ReadsNumber (Some text) to × (to ≤ turns)
 
 -- the turns to draw of a run of so many turns: from one on, and before another
 unfoldable pub ReadsWindow : (Text → Option Text) → Window → Type 0
-ReadsWindow text_of w =
-    (turns : ℕ) × ReadsNumber (text_of (codes "turns")) turns × (turns ≤ 999999)
+ReadsWindow text_of w = (turns : ℕ) × ReadsNumber (text_of (codes "turns")) turns × (turns ≤ 999999)
     × ReadsEnd turns (text_of (codes "to")) w.to × ReadsTurn (text_of (codes "from")) w.from
     × (w.from ≤ w.to)
 
@@ -135,8 +125,7 @@ IsWorkOf name text_of (Work.Barrel profile turns) =
 IsWorkOf name text_of (Work.Threads profile limits) =
     (name ≡ codes "threads") × ReadsProfile (text_of (codes "processors")) profile
     × ReadsNumber (text_of (codes "steps")) limits.steps
-    × ReadsNumber (text_of (codes "patience")) limits.patience
-    × AreLimits limits
+    × ReadsNumber (text_of (codes "patience")) limits.patience × AreLimits limits
 IsWorkOf name text_of (Work.List profile) =
     (name ≡ codes "list") × ReadsProfile (text_of (codes "processors")) profile
 IsWorkOf name text_of (Work.Dump profile turns) =
@@ -151,8 +140,7 @@ IsWorkOf name text_of (Work.Sessions profile turns) =
 IsWorkOf name text_of (Work.Steps profile turns only from) =
     (name ≡ codes "steps") × ReadsProfile (text_of (codes "processors")) profile
     × ReadsNumber (text_of (codes "turns")) turns × (turns ≤ 999999)
-    × ReadsProcessor profile (text_of (codes "pp")) only
-    × ReadsTurn (text_of (codes "from")) from
+    × ReadsProcessor profile (text_of (codes "pp")) only × ReadsTurn (text_of (codes "from")) from
 IsWorkOf name text_of (Work.Draw profile window) =
     (name ≡ codes "draw") × ReadsProfile (text_of (codes "processors")) profile
     × ReadsWindow text_of window × (window.to - window.from ≤ 2000)
@@ -183,11 +171,9 @@ abbrev pub IsRefused : List Text → LineFault → Type 0
 IsRefused words LineFault.Memory = Unit {0}
 IsRefused words (LineFault.Refused error) =
     IsAmong (kind_of error) (refusals words) × (kind_of error ≢ OutOfMemory)
-IsRefused words LineFault.Number =
-    (refusals words ≡ []) × ((work : Work) → ¬ AskFor words work)
+IsRefused words LineFault.Number = (refusals words ≡ []) × ((work : Work) → ¬ AskFor words work)
     × ¬ AsksForMoreAmong (subcommand_of ppsim words)
-IsRefused words LineFault.Picture =
-    (refusals words ≡ []) × ((work : Work) → ¬ AskFor words work)
+IsRefused words LineFault.Picture = (refusals words ≡ []) × ((work : Work) → ¬ AskFor words work)
     × AsksForMoreAmong (subcommand_of ppsim words)
 
 -- the fault that clap's error makes: want of memory is told as such

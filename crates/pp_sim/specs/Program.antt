@@ -33,8 +33,7 @@ IsDone Z (Work.Dump profile turns) =
     AnswersDeckUnless profile (HindersDump turns) (IsDumpText turns)
 IsDone Z (Work.State profile turns) = AnswersDeck profile (IsStateText turns)
 IsDone Z (Work.Sessions profile turns) = AnswersDeck profile (IsSessionsText turns)
-IsDone Z (Work.Steps profile turns only from) =
-    AnswersDeck profile (IsStepsText turns only from)
+IsDone Z (Work.Steps profile turns only from) = AnswersDeck profile (IsStepsText turns only from)
 IsDone Z (Work.Draw profile window) = AnswersDeck profile (IsDrawing window)
 IsDone Z (Work.Check opened) = AnswersTrace opened
 

@@ -18,8 +18,7 @@ pub record IsFaultOf (profile : Profile) (bytes : List ℕ) (f : DeckFault) : Ty
   pub told : deck_meaning profile bytes ≡ Err f
   pub no_memory : f.code ≢ code.Memory
 
--- the bytes are a deck for such a machine, of which this is told: a text that a work prints of it,
--- or what stands in the way of one
+-- the bytes are a deck for such a machine, of which this is told: a text, or what stands in its way
 pub record IsOfDeck {X : Type 0} (profile : Profile) (Tells : LoadedDeck → X → Type 0)
     (bytes : List ℕ) (x : X) : Type 0 where
   pub deck : LoadedDeck
@@ -43,9 +42,8 @@ IsAnswerUnless profile Hinders IsDeckText (Err (TextFault.Trace f)) bytes old ne
 IsAnswerUnless profile Hinders IsDeckText (Err TextFault.Read) bytes old new = Keeps old new
 IsAnswerUnless profile Hinders IsDeckText (Err TextFault.Memory) bytes old new = Keeps old new
 
--- One call, whatever its reader is: these bytes were consumed, no more than a deck may have and
--- one; the answer is that to the deck that they spell; and where it is Ok, they were all that the
--- reader had.
+-- One call, whatever its reader is: these bytes were consumed; the answer is that to the deck that
+-- they spell; and where it is Ok, they were all that the reader had.
 pub record AnswersUnless (profile : Profile) (Hinders : LoadedDeck → GoingOn → Type 0)
     (IsDeckText : LoadedDeck → List ℕ → Type 0) (answer : Result (Unit {0}) TextFault)
     (before after old new : Option (List ℕ)) (bytes : List ℕ) : Type 0 where
@@ -86,14 +84,8 @@ IsReadFault TextFault.Read = Unit {0}
 IsReadFault TextFault.Memory = Unit {0}
 IsReadFault other = ⊥
 
--- making a text fails by the deck, by what stands in its way, or for lack of memory
-abbrev pub IsRunFaultUnless : Profile → (LoadedDeck → GoingOn → Type 0) → List ℕ → TextFault
-    → Type 0
-IsRunFaultUnless profile Hinders bytes (TextFault.Deck f) = IsFaultOf profile bytes f
-IsRunFaultUnless profile Hinders bytes (TextFault.NotBetweenPrograms going_on) =
-    IsOfDeck profile Hinders bytes going_on
-IsRunFaultUnless profile Hinders bytes TextFault.Memory = Unit {0}
-IsRunFaultUnless profile Hinders bytes other = ⊥
-
-abbrev pub IsRunFault : Profile → List ℕ → TextFault → Type 0
-IsRunFault profile = IsRunFaultUnless profile Never
+-- loading fails by the deck or for lack of memory
+abbrev pub IsLoadFault : Profile → List ℕ → TextFault → Type 0
+IsLoadFault profile bytes (TextFault.Deck f) = IsFaultOf profile bytes f
+IsLoadFault profile bytes TextFault.Memory = Unit {0}
+IsLoadFault profile bytes other = ⊥

@@ -3,11 +3,11 @@
 
 mod command;
 mod command_words;
+mod deck_text;
 mod entry;
 mod help;
 mod laws;
 mod line_fault;
-mod loaded_deck;
 mod number_range;
 mod numeral;
 mod program;

@@ -1,11 +1,9 @@
 //! Reading a deck, running it and drawing its run.
 
-ghost use Rattle.std.specs.Prelude.{◌<◌, length, OnOk};
 ghost use Rattle.pp_sim.specs.DrawingText.{IsDrawing};
-ghost use Rattle.pp_sim.specs.TextAnswer.{AnswersDeck, IsAnswer, most_bytes};
+ghost use Rattle.pp_sim.specs.TextAnswer.{AnswersDeck};
 
-use crate::loaded_deck::loaded_deck;
-use crate::streams::read_front;
+use crate::deck_text::{DeckBytes, DeckText, deck_text};
 use crate::text_fault::TextFault;
 use pp_draw::{Window, run_seeing_steps, write_drawing};
 use pp_machine::Profile;
@@ -26,29 +24,25 @@ pub fn drawing_text<A: Allocator + Copy, R: Read, W: Write>(
         (R.remaining reader.old) (R.remaining reader.new)
         (W.contents writer.old) (W.contents writer.new) }
 {
-    let deck = read_front(alloc, reader)?;
-    write_drawing_of(alloc, profile, deck.as_slice(), writer, window)
+    deck_text(alloc, profile, reader, writer, &DrawingText(window))
 }
 
-/// Runs a deck, and then draws its run.
-fn write_drawing_of<A: Allocator + Copy, W: Write>(
-    alloc: A,
-    profile: Profile,
-    deck: &[u8],
-    writer: &mut W,
-    window: Window,
-) -> Result<(), TextFault>
-    ensures answer { IsAnswer profile (IsDrawing window) result deck.now
-        (W.contents writer.old) (W.contents writer.new) }
-    ensures bounded { OnOk result (length deck.now < most_bytes) }
-{
-    let mut loaded = loaded_deck(alloc, profile, deck)?;
-    let Ok(steps) = run_seeing_steps(alloc, &mut loaded.machine, window) else {
-        return Err(TextFault::Memory);
-    };
-    let named = &loaded.named;
-    match write_drawing(writer, &loaded.machine, named, steps.as_slice(), window) {
-        Ok(()) => Ok(()),
-        Err(_) => Err(TextFault::Write),
+/// The drawing of a run in the barrel, in this window of turns.
+#[derive(Drop)]
+struct DrawingText(Window);
+
+impl<A: Allocator + Copy, W: Write> DeckText<A, W> for DrawingText {
+    ghost IsText = { λ text. IsDrawing text.0 };
+
+    fn write(&self, alloc: A, deck: &DeckBytes, writer: &mut W) -> Result<(), TextFault> {
+        let mut loaded = deck.load(alloc)?;
+        let Ok(steps) = run_seeing_steps(alloc, &mut loaded.machine, self.0) else {
+            return Err(TextFault::Memory);
+        };
+        let (machine, named) = (&loaded.machine, &loaded.named);
+        match write_drawing(writer, machine, named, steps.as_slice(), self.0) {
+            Ok(()) => Ok(()),
+            Err(_) => Err(TextFault::Write),
+        }
     }
 }

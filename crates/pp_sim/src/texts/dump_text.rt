@@ -1,11 +1,10 @@
 //! Reading a deck, running it and writing its dump.
 
-ghost use Rattle.std.specs.Prelude.{◌<◌, length, OnOk};
 ghost use Rattle.pp_sim.specs.DumpText.{HindersDump, IsDumpText};
-ghost use Rattle.pp_sim.specs.TextAnswer.{AnswersDeckUnless, IsAnswerUnless, most_bytes};
+ghost use Rattle.pp_sim.specs.TextAnswer.{AnswersDeckUnless};
 
-use crate::loaded_deck::loaded_deck;
-use crate::streams::{read_front, write_whole};
+use crate::deck_text::{DeckBytes, DeckText, deck_text};
+use crate::streams::write_whole;
 use crate::text_fault::TextFault;
 use pp_listing::{DumpFault, dump};
 use pp_machine::Profile;
@@ -26,29 +25,27 @@ pub fn dump_text<A: Allocator + Copy, R: Read, W: Write>(
         (R.remaining reader.old) (R.remaining reader.new)
         (W.contents writer.old) (W.contents writer.new) }
 {
-    let deck = read_front(alloc, reader)?;
-    write_dump(alloc, profile, deck.as_slice(), writer, turns)
+    deck_text(alloc, profile, reader, writer, &DumpText(turns))
 }
 
-/// Runs a deck, and then writes its dump.
-fn write_dump<A: Allocator + Copy, W: Write>(
-    alloc: A,
-    profile: Profile,
-    deck: &[u8],
-    writer: &mut W,
-    turns: u32,
-) -> Result<(), TextFault>
-    ensures answer { IsAnswerUnless profile (HindersDump turns) (IsDumpText turns) result deck.now
-        (W.contents writer.old) (W.contents writer.new) }
-    ensures bounded { OnOk result (length deck.now < most_bytes) }
-{
-    let mut loaded = loaded_deck(alloc, profile, deck)?;
-    let Ok(()) = loaded.machine.run_barrel(turns) else {
-        return Err(TextFault::Memory);
-    };
-    match dump(alloc, &loaded) {
-        Ok(text) => write_whole(writer, text.as_slice()),
-        Err(DumpFault::NotBetweenPrograms(first)) => Err(TextFault::NotBetweenPrograms(first)),
-        Err(DumpFault::Memory) => Err(TextFault::Memory),
+/// The dump of a run of this many turns in the barrel.
+#[derive(Drop)]
+struct DumpText(u32);
+
+impl<A: Allocator + Copy, W: Write> DeckText<A, W> for DumpText {
+    ghost Hinders = { λ text. HindersDump text.0 };
+
+    ghost IsText = { λ text. IsDumpText text.0 };
+
+    fn write(&self, alloc: A, deck: &DeckBytes, writer: &mut W) -> Result<(), TextFault> {
+        let mut loaded = deck.load(alloc)?;
+        let Ok(()) = loaded.machine.run_barrel(self.0) else {
+            return Err(TextFault::Memory);
+        };
+        match dump(alloc, &loaded) {
+            Ok(text) => write_whole(writer, text.as_slice()),
+            Err(DumpFault::NotBetweenPrograms(first)) => Err(TextFault::NotBetweenPrograms(first)),
+            Err(DumpFault::Memory) => Err(TextFault::Memory),
+        }
     }
 }

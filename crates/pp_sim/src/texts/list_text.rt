@@ -1,11 +1,10 @@
 //! Reading a deck and writing its listing.
 
-ghost use Rattle.std.specs.Prelude.{◌<◌, length, OnOk};
 ghost use Rattle.pp_sim.specs.ListText.{IsListText};
-ghost use Rattle.pp_sim.specs.TextAnswer.{AnswersDeck, IsAnswer, most_bytes};
+ghost use Rattle.pp_sim.specs.TextAnswer.{AnswersDeck};
 
-use crate::loaded_deck::loaded_deck;
-use crate::streams::{read_front, write_whole};
+use crate::deck_text::{DeckBytes, DeckText, deck_text};
+use crate::streams::write_whole;
 use crate::text_fault::TextFault;
 use pp_listing::listing;
 use pp_machine::Profile;
@@ -23,24 +22,21 @@ pub fn list_text<A: Allocator + Copy, R: Read, W: Write>(
         (R.remaining reader.old) (R.remaining reader.new)
         (W.contents writer.old) (W.contents writer.new) }
 {
-    let deck = read_front(alloc, reader)?;
-    write_listing(alloc, profile, deck.as_slice(), writer)
+    deck_text(alloc, profile, reader, writer, &ListText)
 }
 
-/// Writes the listing of a deck.
-fn write_listing<A: Allocator + Copy, W: Write>(
-    alloc: A,
-    profile: Profile,
-    deck: &[u8],
-    writer: &mut W,
-) -> Result<(), TextFault>
-    ensures answer { IsAnswer profile IsListText result deck.now
-        (W.contents writer.old) (W.contents writer.new) }
-    ensures bounded { OnOk result (length deck.now < most_bytes) }
-{
-    let loaded = loaded_deck(alloc, profile, deck)?;
-    let Ok(text) = listing(alloc, &loaded) else {
-        return Err(TextFault::Memory);
-    };
-    write_whole(writer, text.as_slice())
+/// The listing.
+#[derive(Drop)]
+struct ListText;
+
+impl<A: Allocator + Copy, W: Write> DeckText<A, W> for ListText {
+    ghost IsText = { λ text. IsListText };
+
+    fn write(&self, alloc: A, deck: &DeckBytes, writer: &mut W) -> Result<(), TextFault> {
+        let loaded = deck.load(alloc)?;
+        let Ok(text) = listing(alloc, &loaded) else {
+            return Err(TextFault::Memory);
+        };
+        write_whole(writer, text.as_slice())
+    }
 }

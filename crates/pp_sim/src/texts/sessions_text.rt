@@ -1,11 +1,9 @@
 //! Reading a deck, running it and writing the sessions of its run.
 
-ghost use Rattle.std.specs.Prelude.{◌<◌, length, OnOk};
 ghost use Rattle.pp_sim.specs.SessionsText.{IsSessionsText};
-ghost use Rattle.pp_sim.specs.TextAnswer.{AnswersDeck, IsAnswer, most_bytes};
+ghost use Rattle.pp_sim.specs.TextAnswer.{AnswersDeck};
 
-use crate::loaded_deck::loaded_deck;
-use crate::streams::read_front;
+use crate::deck_text::{DeckBytes, DeckText, deck_text};
 use crate::text_fault::TextFault;
 use pp_machine::Profile;
 use pp_sessions::{run_counting_steps, write_sessions};
@@ -26,28 +24,24 @@ pub fn sessions_text<A: Allocator + Copy, R: Read, W: Write>(
         (R.remaining reader.old) (R.remaining reader.new)
         (W.contents writer.old) (W.contents writer.new) }
 {
-    let deck = read_front(alloc, reader)?;
-    write_sessions_of(alloc, profile, deck.as_slice(), writer, turns)
+    deck_text(alloc, profile, reader, writer, &SessionsText(turns))
 }
 
-/// Runs a deck, and then writes the sessions of its run.
-fn write_sessions_of<A: Allocator + Copy, W: Write>(
-    alloc: A,
-    profile: Profile,
-    deck: &[u8],
-    writer: &mut W,
-    turns: u32,
-) -> Result<(), TextFault>
-    ensures answer { IsAnswer profile (IsSessionsText turns) result deck.now
-        (W.contents writer.old) (W.contents writer.new) }
-    ensures bounded { OnOk result (length deck.now < most_bytes) }
-{
-    let mut loaded = loaded_deck(alloc, profile, deck)?;
-    let Ok(counts) = run_counting_steps(&mut loaded.machine, turns) else {
-        return Err(TextFault::Memory);
-    };
-    match write_sessions(writer, &loaded.machine, &loaded.named, &counts) {
-        Ok(()) => Ok(()),
-        Err(_) => Err(TextFault::Write),
+/// The sessions of a run of this many turns in the barrel.
+#[derive(Drop)]
+struct SessionsText(u32);
+
+impl<A: Allocator + Copy, W: Write> DeckText<A, W> for SessionsText {
+    ghost IsText = { λ text. IsSessionsText text.0 };
+
+    fn write(&self, alloc: A, deck: &DeckBytes, writer: &mut W) -> Result<(), TextFault> {
+        let mut loaded = deck.load(alloc)?;
+        let Ok(counts) = run_counting_steps(&mut loaded.machine, self.0) else {
+            return Err(TextFault::Memory);
+        };
+        match write_sessions(writer, &loaded.machine, &loaded.named, &counts) {
+            Ok(()) => Ok(()),
+            Err(_) => Err(TextFault::Write),
+        }
     }
 }

@@ -1,11 +1,10 @@
 //! Reading a deck, running it and writing how things stand then.
 
-ghost use Rattle.std.specs.Prelude.{◌<◌, length, OnOk};
 ghost use Rattle.pp_sim.specs.StateText.{IsStateText};
-ghost use Rattle.pp_sim.specs.TextAnswer.{AnswersDeck, IsAnswer, most_bytes};
+ghost use Rattle.pp_sim.specs.TextAnswer.{AnswersDeck};
 
-use crate::loaded_deck::loaded_deck;
-use crate::streams::{read_front, write_whole};
+use crate::deck_text::{DeckBytes, DeckText, deck_text};
+use crate::streams::write_whole;
 use crate::text_fault::TextFault;
 use pp_machine::Profile;
 use pp_state::{printed_state, run_counting_held};
@@ -26,30 +25,27 @@ pub fn state_text<A: Allocator + Copy, R: Read, W: Write>(
         (R.remaining reader.old) (R.remaining reader.new)
         (W.contents writer.old) (W.contents writer.new) }
 {
-    let deck = read_front(alloc, reader)?;
-    write_state(alloc, profile, deck.as_slice(), writer, turns)
+    deck_text(alloc, profile, reader, writer, &StateText(turns))
 }
 
-/// Writes how things stand after a run of a deck, which is loaded twice, once to be compared with.
-fn write_state<A: Allocator + Copy, W: Write>(
-    alloc: A,
-    profile: Profile,
-    deck: &[u8],
-    writer: &mut W,
-    turns: u32,
-) -> Result<(), TextFault>
-    ensures answer { IsAnswer profile (IsStateText turns) result deck.now
-        (W.contents writer.old) (W.contents writer.new) }
-    ensures bounded { OnOk result (length deck.now < most_bytes) }
-{
-    let before = loaded_deck(alloc, profile, deck)?;
-    let mut after = loaded_deck(alloc, profile, deck)?;
-    let Ok(held) = run_counting_held(&mut after.machine, turns) else {
-        return Err(TextFault::Memory);
-    };
-    let Ok(text) = printed_state(alloc, &before.named, &before.machine, &after.machine, &held)
-    else {
-        return Err(TextFault::Memory);
-    };
-    write_whole(writer, text.as_slice())
+/// How things stand after a run of this many turns in the barrel. The deck is loaded twice, once to
+/// be compared with.
+#[derive(Drop)]
+struct StateText(u32);
+
+impl<A: Allocator + Copy, W: Write> DeckText<A, W> for StateText {
+    ghost IsText = { λ text. IsStateText text.0 };
+
+    fn write(&self, alloc: A, deck: &DeckBytes, writer: &mut W) -> Result<(), TextFault> {
+        let before = deck.load(alloc)?;
+        let mut after = deck.load(alloc)?;
+        let Ok(held) = run_counting_held(&mut after.machine, self.0) else {
+            return Err(TextFault::Memory);
+        };
+        let Ok(text) = printed_state(alloc, &before.named, &before.machine, &after.machine, &held)
+        else {
+            return Err(TextFault::Memory);
+        };
+        write_whole(writer, text.as_slice())
+    }
 }

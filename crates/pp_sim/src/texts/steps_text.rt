@@ -1,11 +1,10 @@
 //! Reading a deck and writing the steps of its run.
 
-ghost use Rattle.std.specs.Prelude.{◌≡◌, ◌<◌, length, OnOk};
+ghost use Rattle.std.specs.Prelude.{◌≡◌};
 ghost use Rattle.pp_sim.specs.StepsText.{IsStepsText, shown};
-ghost use Rattle.pp_sim.specs.TextAnswer.{AnswersDeck, IsAnswer, most_bytes};
+ghost use Rattle.pp_sim.specs.TextAnswer.{AnswersDeck};
 
-use crate::loaded_deck::loaded_deck;
-use crate::streams::read_front;
+use crate::deck_text::{DeckBytes, DeckText, deck_text};
 use crate::text_fault::TextFault;
 use pp_machine::{PROCESSORS, PpNo, Profile};
 use pp_steps::write_steps;
@@ -29,30 +28,30 @@ pub fn steps_text<A: Allocator + Copy, R: Read, W: Write>(
         (R.remaining reader.old) (R.remaining reader.new)
         (W.contents writer.old) (W.contents writer.new) }
 {
-    let deck = read_front(alloc, reader)?;
-    write_steps_of(alloc, profile, deck.as_slice(), writer, turns, only, from)
+    let text = StepsText { turns, only, from };
+    deck_text(alloc, profile, reader, writer, &text)
 }
 
-/// Writes the steps of a deck.
-fn write_steps_of<A: Allocator + Copy, W: Write>(
-    alloc: A,
-    profile: Profile,
-    deck: &[u8],
-    writer: &mut W,
+/// The steps of a run in the barrel.
+#[derive(Drop)]
+struct StepsText {
     turns: u32,
     only: Option<PpNo>,
     from: u32,
-) -> Result<(), TextFault>
-    ensures answer { IsAnswer profile (IsStepsText turns only from) result deck.now
-        (W.contents writer.old) (W.contents writer.new) }
-    ensures bounded { OnOk result (length deck.now < most_bytes) }
-{
-    let loaded = loaded_deck(alloc, profile, deck)?;
-    let shown = shown(only, &loaded.named);
-    match write_steps(alloc, writer, &loaded.machine, &shown, turns, from) {
-        Ok(()) => Ok(()),
-        Err(ReportFault::Memory) => Err(TextFault::Memory),
-        Err(ReportFault::Write) => Err(TextFault::Write),
+}
+
+impl<A: Allocator + Copy, W: Write> DeckText<A, W> for StepsText {
+    ghost IsText = { λ text. IsStepsText text.turns text.only text.from };
+
+    fn write(&self, alloc: A, deck: &DeckBytes, writer: &mut W) -> Result<(), TextFault> {
+        let loaded = deck.load(alloc)?;
+        let shown = shown(self.only, &loaded.named);
+        let machine = &loaded.machine;
+        match write_steps(alloc, writer, machine, &shown, self.turns, self.from) {
+            Ok(()) => Ok(()),
+            Err(ReportFault::Memory) => Err(TextFault::Memory),
+            Err(ReportFault::Write) => Err(TextFault::Write),
+        }
     }
 }
 

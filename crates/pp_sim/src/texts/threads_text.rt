@@ -5,7 +5,7 @@ ghost use Rattle.pp_runner.specs.Report.{ReportFitsInMemory};
 ghost use Rattle.pp_sim.specs.TextAnswer.{AnswersDeck, IsAnswer, most_bytes};
 ghost use Rattle.pp_sim.specs.ThreadsText.{IsThreadsText};
 
-use crate::loaded_deck::loaded_deck;
+use crate::deck_text::DeckBytes;
 use crate::streams::read_front;
 use crate::text_fault::TextFault;
 use pp_machine::Profile;
@@ -36,11 +36,14 @@ pub fn threads_text<T: Threads + Wait + Sync, R: Read, A: Allocator + Copy + Sen
         (R.remaining reader.old) (R.remaining reader.new)
         (W.contents writer.old) (W.contents writer.new) }
 {
-    let deck = read_front(alloc, reader)?;
-    write_threads(rt, &NoGate, alloc, profile, deck.as_slice(), writer, limits)
+    let front = read_front(alloc, reader)?;
+    let bytes = front.as_slice();
+    let deck = DeckBytes { profile, bytes };
+    write_threads(rt, &NoGate, alloc, &deck, writer, limits)
 }
 
-/// Runs a deck, and then writes the text of its run.
+/// Runs a deck, and then writes the text of its run. This is no method of a `DeckText`: in one, the
+/// checker does not cover a call that starts threads.
 fn write_threads<
     T: Threads + Wait + Sync,
     G: Gate + Sync,
@@ -50,17 +53,16 @@ fn write_threads<
     rt: &T,
     gate: &G,
     alloc: A,
-    profile: Profile,
-    deck: &[u8],
+    deck: &DeckBytes,
     writer: &mut W,
     limits: Limits,
 ) -> Result<(), TextFault>
     requires { ReportFitsInMemory A.row A.Allocator }
-    ensures answer { IsAnswer profile (IsThreadsText A limits) result deck.now
+    ensures answer { IsAnswer deck.now.profile (IsThreadsText A limits) result deck.now.bytes.now
         (W.contents writer.old) (W.contents writer.new) }
-    ensures bounded { OnOk result (length deck.now < most_bytes) }
+    ensures bounded { OnOk result (length deck.now.bytes.now < most_bytes) }
 {
-    let loaded = loaded_deck(alloc, profile, deck)?;
+    let loaded = deck.load(alloc)?;
     let Ok(report) = run_threads(rt, alloc, &loaded.machine, limits, gate) else {
         return Err(TextFault::Memory);
     };

@@ -1,20 +1,20 @@
 use Rattle.std.proofs.Common.{◌∙◌, ap}
 use Rattle.pp_deck.specs.DeckMeaning.{deck_meaning}
 use Rattle.pp_sim.proofs.AnswerLemmas.{written}
-use Rattle.pp_sim.proofs.texts.list_text.write_listing.Goals as goal
+use Rattle.pp_sim.proofs.texts.list_text.ListTextDeckText.write.Goals as goal
 use Rattle.pp_sim.specs.ListText.{IsListText}
 use Rattle.pp_sim.specs.TextAnswer.{IsOfDeck, Never}
 
 pub returns-clause-answer : goal.returns-clause-answer
 returns-clause-answer g c =
     let meant = c.in_ok-loaded.ensures.ok in
-    let listed : IsOfDeck c.args.profile IsListText c.args.deck.now c.in-Ok.text.items = record {
+    let listed : IsOfDeck c.args.deck.now.profile IsListText c.args.deck.now.bytes.now c.in-Ok.text.items = record {
       deck = _;
       meant = meant;
       told = record {
         told = c.in-Ok.ensures.text;
-        reads_back = c.in-Ok.ensures.reads_back c.args.deck.now (ap (λ p. deck_meaning p c.args.deck.now) c.in_ok-loaded.ensures.profile ∙ meant);
+        reads_back = c.in-Ok.ensures.reads_back c.args.deck.now.bytes.now (ap (λ p. deck_meaning p c.args.deck.now.bytes.now) c.in_ok-loaded.ensures.profile ∙ meant);
       };
     } in
-    written c.args.profile Never IsListText c.args.deck.now c.in-Ok.text.items c.write_whole.result _ _ listed
+    written c.args.deck.now.profile Never IsListText c.args.deck.now.bytes.now c.in-Ok.text.items c.write_whole.result _ _ listed
     (rw c.as_slice.ensures.value at c.write_whole.ensures.ok) c.write_whole.ensures.err (rw c.as_slice.ensures.value at c.write_whole.ensures.front)

@@ -8,22 +8,22 @@ use Rattle.pp_state.specs.HeldSteps.{each_held_steps}
 use Rattle.pp_state.specs.StateText.{state_text}
 use Rattle.pp_sim.proofs.AnswerLemmas.{refused, written}
 use Rattle.pp_sim.proofs.StateLemmas.{one_deck}
-use Rattle.pp_sim.proofs.texts.state_text.write_state.Goals as goal
+use Rattle.pp_sim.proofs.texts.state_text.StateTextDeckText.write.Goals as goal
 use Rattle.pp_sim.specs.StateText.{IsStateText}
 use Rattle.pp_sim.specs.TextAnswer.{IsOfDeck, Never}
 
 pub returns-clause-answer : goal.returns-clause-answer
 returns-clause-answer g c =
-    let turns = c.args.turns in
+    let turns = c.args.self.now.0 in
     let before = c.in_ok-before.before.machine in
     let named = c.in_ok-before.before.named in
     let ran_on : MachineState → MachineState = λ (m : MachineState). run (barrel m.profile turns) m in
     let same : c.in_ok-after.after.machine ≡ before =
-    ap (λ (deck : LoadedDeck). deck.machine) (one_deck (deck_meaning c.args.profile c.args.deck.now) _ _ c.in_ok-after.ensures.ok c.in_ok-before.ensures.ok) in
+    ap (λ (deck : LoadedDeck). deck.machine) (one_deck (deck_meaning c.args.deck.now.profile c.args.deck.now.bytes.now) _ _ c.in_ok-after.ensures.ok c.in_ok-before.ensures.ok) in
     let ran : c.run_counting_held.new.machine ≡ ran_on before = c.in-Ok.ensures.ran ∙ ap ran_on same in
     let counted : c.in-Ok.held ≡ each_held_steps (barrel before.profile turns) before =
     c.in-Ok.ensures.held ∙ ap (λ (m : MachineState). each_held_steps (barrel m.profile turns) m) same in
-    let stands : IsOfDeck c.args.profile (IsStateText turns) c.args.deck.now c.in-Ok-printed_state.text.items = record {
+    let stands : IsOfDeck c.args.deck.now.profile (IsStateText turns) c.args.deck.now.bytes.now c.in-Ok-printed_state.text.items = record {
       deck = _;
       meant = c.in_ok-before.ensures.ok;
       told = record {
@@ -31,10 +31,10 @@ returns-clause-answer g c =
         headline = subst HoldsOnEachChannel ran c.run_counting_held.ensures.headline;
       };
     } in
-    written c.args.profile Never (IsStateText turns) c.args.deck.now c.in-Ok-printed_state.text.items c.write_whole.result _ _ stands
+    written c.args.deck.now.profile Never (IsStateText turns) c.args.deck.now.bytes.now c.in-Ok-printed_state.text.items c.write_whole.result _ _ stands
     (rw c.as_slice.ensures.value at c.write_whole.ensures.ok) c.write_whole.ensures.err (rw c.as_slice.ensures.value at c.write_whole.ensures.front)
 
 pub returns-in_err-after-clause-answer : goal.returns-in_err-after-clause-answer
 returns-in_err-after-clause-answer g c =
     let p = err_from_is_err_and c.from_residual-in_err-after.result c.from_residual-in_err-after.ensures.1 in
-    rw (p.1, p.2) (refused c.args.profile Never (IsStateText c.args.turns) _ c.args.deck.now _ c.in_err-after.ensures.fault)
+    rw (p.1, p.2) (refused c.args.deck.now.profile Never (IsStateText c.args.self.now.0) _ c.args.deck.now.bytes.now _ c.in_err-after.ensures.fault)

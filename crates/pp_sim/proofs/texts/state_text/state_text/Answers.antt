@@ -1,9 +1,0 @@
-use Rattle.pp_sim.proofs.AnswerLemmas.{answered_deck}
-use Rattle.pp_sim.proofs.texts.state_text.state_text.Goals as goal
-use Rattle.pp_sim.specs.StateText.{IsStateText}
-use Rattle.pp_sim.specs.TextAnswer.{Never}
-
-pub returns : goal.returns
-returns g c =
-    answered_deck c.args.profile _ _ _ _ Never (IsStateText c.args.turns) c.in_ok-deck.deck.items c.write_state.result (rw c.as_slice.ensures.value at c.write_state.ensures.answer)
-    c.in_ok-deck.ensures.read c.in_ok-deck.ensures.bounded c.in_ok-deck.ensures.end (rw c.as_slice.ensures.value at c.write_state.ensures.bounded)
