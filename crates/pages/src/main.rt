@@ -1,47 +1,95 @@
-//! Runs the commands that the pages show, and says of each whether it prints what the page has.
+//! Runs the commands that pages show, and reports each that ends otherwise than its page says.
 #![tactic(auto)]
 
+mod ending;
+mod escapes;
 mod page;
 mod session;
 
-use page::{Shown, first_runs, transcript};
+use page::{Case, cases_of, first_runs};
 use session::Session;
-use std::fs;
+use std::alloc::Global;
+use std::fs::{self, Files};
+use std::io::Print;
+use std::sync::Wait;
+use std::thread::Threads;
 
-/// The pages whose commands are run. At the top of the repository links lead to them.
-const PAGES: [&str; 2] = ["README.md", "TUTORIAL.md"];
+/// The pages whose commands are run. Links at the top of the repository lead to the first three.
+const PAGES: [&str; 20] = [
+    "README.md",
+    "TUTORIAL.md",
+    "examples/README.md",
+    "cases/barrel.md",
+    "cases/dead_start.md",
+    "cases/threads.md",
+    "cases/list.md",
+    "cases/dump.md",
+    "cases/steps.md",
+    "cases/state.md",
+    "cases/sessions.md",
+    "cases/draw.md",
+    "cases/races.md",
+    "cases/races_by_chance.md",
+    "cases/check.md",
+    "cases/decks.md",
+    "cases/operations.md",
+    "cases/command_line.md",
+    "cases/help.md",
+    "cases/examples_on_twenty.md",
+];
 
 fn main(rt: HostRuntime) -> anyhow::Result<()> {
     for name in PAGES {
-        println!(rt; "{name}")?;
         let page = String::from_utf8(fs::read(&rt, name)?)?;
-        let all = transcript(rt.alloc(), &page)?;
+        let cases = cases_of(rt.alloc(), &page)?;
         for run in &first_runs(rt.alloc(), &page)? {
-            println!(rt; "first run {run}: {}", verdict(is_shown(&all, run)))?;
+            if !is_shown(&cases, run) {
+                println!(rt; "{name}: {run} is not on the page")?;
+            }
         }
-        let mut session = Session::new(rt.alloc());
-        for shown in &all {
-            let runs = session.runs(&rt, shown)?;
-            println!(rt; "{}: {}", shown.command, verdict(runs))?;
-        }
+        let good = run_cases(&rt, name, &cases)?;
+        println!(rt;
+            "{name}: {good} of {} cases as the page has them",
+            cases.len()
+        )?;
     }
     Ok(())
 }
 
-/// Whether the page shows what this command prints.
-fn is_shown(all: &[Shown], command: &str) -> bool {
-    for shown in all {
-        if shown.command.as_str() == command {
+/// Runs the cases of a page, reports those that differ, and counts the others.
+fn run_cases<R: Files + Print + Alloc<A = Global> + Threads + Wait + Sync>(
+    rt: &R,
+    name: &str,
+    cases: &[Case],
+) -> anyhow::Result<u32> {
+    let mut session = Session::new(rt.alloc(), name)?;
+    let mut good = 0u32;
+    for case in cases {
+        match session.run(rt, case)? {
+            None => good = good.saturating_add(1),
+            Some(difference) => report(rt, name, case, difference.as_str())?,
+        }
+    }
+    Ok(good)
+}
+
+/// Says where a case stands, and what differs in it.
+fn report<R: Print>(rt: &R, name: &str, case: &Case, difference: &str) -> anyhow::Result<()> {
+    println!(rt; "{name}, {}", case.heading)?;
+    println!(rt; "  $ {}", case.command)?;
+    if let Some(text) = &case.text {
+        println!(rt; "  {text}")?;
+    }
+    println!(rt; "  {difference}")?;
+    Ok(())
+}
+
+/// Whether the page shows this command.
+fn is_shown(cases: &[Case], command: &str) -> bool {
+    for case in cases {
+        if case.command.as_str() == command {
             return true;
         }
     }
     false
-}
-
-fn verdict(as_shown: bool) -> &'static str {
-    if as_shown {
-        "as the page has it"
-    } else {
-        "DIFFERS"
-    }
 }

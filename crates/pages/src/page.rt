@@ -1,36 +1,146 @@
-//! What a page shows of a session at a terminal.
+//! The cases that a page shows.
 
+use crate::ending::{Ending, status_in};
+use crate::escapes::text_of;
 use std::alloc::Global;
 
-/// A command, and the lines that the page has after it.
-#[derive(Debug, Drop)]
-pub struct Shown {
+/// A command with all that the page says of it.
+#[derive(Drop)]
+pub struct Case {
+    /// The heading that it stands under.
+    pub heading: String,
     pub command: String,
-    pub lines: String,
+    /// The text that stands in place of `{}`, or is the whole input.
+    pub text: Option<String>,
+    /// Whether the page shows no more than some lines of the output.
+    pub is_part: bool,
+    /// It ends in one of these ways.
+    pub endings: Vec<Ending>,
 }
 
-/// The commands in the blocks `console` of a page, in order. A line that begins with a dollar sign
-/// has a command, and what follows up to the next one is what it prints.
-pub fn transcript(alloc: Global, page: &str) -> anyhow::Result<Vec<Shown>> {
-    let mut all: Vec<Shown> = Vec::new(alloc);
-    let mut is_console = false;
+impl Case {
+    fn new(alloc: Global, heading: &str, command: &str) -> anyhow::Result<Case> {
+        Ok(Case {
+            heading: heading.to_string(alloc)?,
+            command: command.to_string(alloc)?,
+            text: None,
+            is_part: false,
+            endings: vec![in alloc; Ending::new(alloc)]?,
+        })
+    }
+}
+
+/// The block of a page in which a line stands.
+#[derive(Clone, Copy)]
+enum Block<'a> {
+    /// Text, or a block that shows no command.
+    Other,
+    Console,
+    /// A command may end in several ways.
+    Either,
+    /// Lines that are in the output, and texts that are not.
+    Lines,
+    /// Of each of these commands a line is a case.
+    Each(&'a str),
+}
+
+/// The cases of a page, in order.
+pub fn cases_of(alloc: Global, page: &str) -> anyhow::Result<Vec<Case>> {
+    let mut cases: Vec<Case> = Vec::new(alloc);
+    let mut block = Block::Other;
+    let mut is_inside = false;
+    let mut heading = String::new(alloc);
     for line in page.lines() {
-        if line.starts_with("```") {
-            is_console = line == "```console";
-        } else if is_console {
-            if let Some(command) = line.strip_prefix("$ ") {
-                let command = command.to_string(alloc)?;
-                all.push(Shown {
-                    command,
-                    lines: String::new(alloc),
-                })?;
-            } else if let Some(last) = all.last_mut() {
-                last.lines.push_str(line)?;
-                last.lines.push('\n')?;
-            }
+        if let Some(kind) = line.strip_prefix("```") {
+            is_inside = !is_inside;
+            block = block_of(kind);
+        } else if is_inside {
+            add_line(alloc, &mut cases, block, &heading, line)?;
+        } else if line.starts_with("#") {
+            heading = line.trim_start_matches('#').trim_start().to_string(alloc)?;
         }
     }
-    Ok(all)
+    Ok(cases)
+}
+
+fn block_of(kind: &str) -> Block<'_> {
+    match kind {
+        "console" => Block::Console,
+        "either" => Block::Either,
+        "lines" => Block::Lines,
+        _ => match kind.strip_prefix("each ") {
+            Some(commands) => Block::Each(commands),
+            None => Block::Other,
+        },
+    }
+}
+
+/// Adds a line of a block.
+fn add_line(
+    alloc: Global,
+    cases: &mut Vec<Case>,
+    block: Block<'_>,
+    heading: &str,
+    line: &str,
+) -> anyhow::Result<()> {
+    match block {
+        Block::Other => Ok(()),
+        Block::Each(commands) => add_cases(alloc, cases, commands, heading, line),
+        Block::Console | Block::Either | Block::Lines => {
+            if let Some(command) = line.strip_prefix("$ ") {
+                let mut case = Case::new(alloc, heading, command)?;
+                case.is_part = matches!(block, Block::Lines);
+                cases.push(case)?;
+                return Ok(());
+            }
+            let Some(case) = cases.last_mut() else {
+                return Ok(());
+            };
+            if matches!(block, Block::Either) && line == "or" {
+                case.endings.push(Ending::new(alloc))?;
+            } else if let Some(ending) = case.endings.last_mut() {
+                ending.add(line)?;
+            }
+            Ok(())
+        }
+    }
+}
+
+/// Adds a line of a block `each` as a case of each of the commands: a text, and after two blanks
+/// what comes of it.
+fn add_cases(
+    alloc: Global,
+    cases: &mut Vec<Case>,
+    commands: &str,
+    heading: &str,
+    line: &str,
+) -> anyhow::Result<()> {
+    if line.is_empty() {
+        return Ok(());
+    }
+    let (commands, status) = match commands.rsplit_once(" ") {
+        Some((words, last)) => match status_in(last) {
+            Some(status) => (words, status),
+            None => (commands, 0),
+        },
+        None => (commands, 0),
+    };
+    let (text, shown) = line.split_once("  ").unwrap_or((line, ""));
+    let shown = shown.trim_start();
+    for command in commands.split(" and ") {
+        let mut case = Case::new(alloc, heading, command)?;
+        case.text = Some(text.to_string(alloc)?);
+        if let Some(ending) = case.endings.last_mut() {
+            if !shown.is_empty() {
+                ending.add(text_of(alloc, shown)?.as_str())?;
+            }
+            if shown.starts_with("!") {
+                ending.status = status;
+            }
+        }
+        cases.push(case)?;
+    }
+    Ok(())
 }
 
 /// The lines of a page that build the program and run it on an example, as in

@@ -2,6 +2,7 @@ mod CourseLemmas
 mod ChannelStateLemmas
 mod KeptLemmas
 mod ListFacts
+mod CentralLemmas
 mod ViewLemmas
 mod RuleLemmas
 mod StepLemmas
@@ -22,3 +23,4 @@ pub mod LineKnowledge
 pub mod LineAnswers
 pub mod OpeningLemmas
 pub mod JoinedLines
+pub mod OrderLemmas

@@ -24,7 +24,9 @@ use Rattle.pp_channel.specs.Law.{KeepsLaw}
 use Rattle.pp_channel.specs.LineLog.{LogState, appended, looked, with_seen, event_entry, look_entry, seen_on}
 use Rattle.pp_channel.specs.LineState.{LineState, number_after, IsActed, IsWornOut, AreClosed}
 use Rattle.pp_channel.specs.LineSteps.{IsLogOf, Tells, IsLoad, IsWonExchange, IsLostExchange}
-use Rattle.pp_channel.specs.LineView.{finds, makes, Knows}
+use Rattle.pp_channel.specs.LineView.{finds, makes, look_by, Knows}
+use Rattle.pp_channel.specs.Order.{extended, on_channels}
+use Rattle.pp_channel.proofs.OrderLemmas.{extended_twice}
 use Rattle.pp_channel.specs.Merge.{Merges, no_opening, IsRecordedBy}
 use Rattle.pp_channel.specs.SharedWords.{IsFound}
 use Rattle.pp_channel.specs.AnswerLaws.{shown_makes_none, shows_flags}
@@ -136,6 +138,7 @@ module _ (line : LineState) {now : LineView} {c word : ℕ} (load : IsLoad c lin
         events = none_made line.view.events c (number_in word) (event_answered op reply) none i;
         seen = slice_set line.view.seen (channel_index c) (sym counted i);
         found = line.view.found ++ record { channel = c; word = word } ∷ [];
+        program_orders = extended line.view.program_orders (on_channels (none_made (look_by c word ∷ []) c (number_in word) (event_answered op reply) none i));
       }))) j;
       table = is.table_is j;
     };
@@ -216,8 +219,8 @@ module _ (line : LineState) {now : LineView} {c word : ℕ} (load : IsLoad c lin
       written : with_seen line.log c (number_in word) (seen_answered op reply) ≡ appended line.log (event_entry c (number_in word) e)
       written = ap (λ r. with_seen line.log c (number_in word) (seen_answered op r)) reply_is ∙ (ap (λ o. with_seen line.log c (number_in word) (seen_answered o (reply_made e))) (sym operation_is) ∙ written_by line.log c (number_in word) e)
 
-      made : with_made line.view.events c (number_in word) (event_answered op reply) ≡ line.view.events ++ event_entry c (number_in word) e ∷ []
-      made = ap (λ r. with_made line.view.events c (number_in word) (event_answered op r)) reply_is ∙ (ap (λ o. with_made line.view.events c (number_in word) (event_answered o (reply_made e))) (sym operation_is) ∙ made_by line.view.events c (number_in word) e)
+      made : (events : List Entry) → with_made events c (number_in word) (event_answered op reply) ≡ events ++ event_entry c (number_in word) e ∷ []
+      made events = ap (λ r. with_made events c (number_in word) (event_answered op r)) reply_is ∙ (ap (λ o. with_made events c (number_in word) (event_answered o (reply_made e))) (sym operation_is) ∙ made_by events c (number_in word) e)
 
       opening : slice_set (with_more made_on c (e ∷ [])) (channel_index c) (take (number_in word) longer) ≡ made_on
       opening = ap (λ h. slice_set (with_more made_on c (e ∷ [])) (channel_index c) h) front ∙ put_before made_on c (e ∷ [])
@@ -226,11 +229,13 @@ module _ (line : LineState) {now : LineView} {c word : ℕ} (load : IsLoad c lin
         events = with_made line.view.events c (number_in word) (event_answered op reply);
         seen = slice_set line.view.seen (channel_index c) (number_after (number_in word) reply);
         found = line.view.found ++ record { channel = c; word = word } ∷ [];
+        program_orders = extended line.view.program_orders (on_channels (with_made (look_by c word ∷ []) c (number_in word) (event_answered op reply)));
       }
       view_made = won.after_is ∙ (ap (λ v. makes v c (number_in word) e) load.after_is ∙ (λ j. record line.view {
-        events = sym made j;
+        events = sym (made line.view.events) j;
         seen = (set-set line.view.seen (channel_index c) (number_in word) (number_in word + 1) ∙ ap (λ n. slice_set line.view.seen (channel_index c) n) (sym counted)) j;
         found = line.view.found ++ record { channel = c; word = word } ∷ [];
+        program_orders = (extended_twice line.view.program_orders (on_channels (look_by c word ∷ [])) (on_channels (event_entry c (number_in word) e ∷ [])) ∙ ap (λ (es : List Entry). extended line.view.program_orders (on_channels es)) (sym (made (look_by c word ∷ [])))) j;
       }))
 
       pub acted_made : IsActed line c op (record { reply = reply; loaded = number_in word; number = number_in word }) after
@@ -283,11 +288,14 @@ module _ (line : LineState) {now : LineView} {c word : ℕ} (load : IsLoad c lin
         events = with_made line.view.events c (number_in found) (event_answered op (Held (flags_in found)));
         seen = slice_set line.view.seen (channel_index c) (number_in found);
         found = line.view.found ++ record { channel = c; word = word } ∷ record { channel = c; word = found } ∷ [];
+        program_orders = extended line.view.program_orders (on_channels (with_made (look_by c word ∷ look_by c found ∷ []) c (number_in found) (event_answered op (Held (flags_in found)))));
       }
       view_lost = lost.load.after_is ∙ (ap (λ v. finds v c found) load.after_is ∙ (λ j. record line.view {
         events = none_made line.view.events c (number_in found) (event_answered op (Held (flags_in found))) (shown_makes_none op (Held (flags_in found)) (flags_in found) refl) j;
         seen = set-set line.view.seen (channel_index c) (number_in word) (number_in found) j;
         found = append_assoc line.view.found (record { channel = c; word = word } ∷ []) (record { channel = c; word = found } ∷ []) j;
+        program_orders = (extended_twice line.view.program_orders (on_channels (look_by c word ∷ [])) (on_channels (look_by c found ∷ []))
+            ∙ ap (λ (es : List Entry). extended line.view.program_orders (on_channels es)) (none_made (look_by c word ∷ look_by c found ∷ []) c (number_in found) (event_answered op (Held (flags_in found))) (shown_makes_none op (Held (flags_in found)) (flags_in found) refl))) j;
       }))
 
       pub acted_lost : IsActed line c op (record { reply = Held (flags_in found); loaded = number_in word; number = number_in found }) after

@@ -1,27 +1,33 @@
 -- What the rule of the shared words gives at one view, and a view in place of another.
-use Rattle.std.proofs.Common.{◌≡◌, ℕ, ◌+◌, ◌-◌, ◌<◌, List, [], length, get_or, set, refl, sym, ap, ◌∙◌, subst, arith}
+use Rattle.std.proofs.Common.{◌≡◌, ℕ, ◌+◌, ◌-◌, ◌<◌, List, [], ◌∷◌, ◌++◌, length, get_or, set, refl, sym, ap, ◌∙◌, subst, arith}
 use mathlib.Core.Logic.{dite}
 use mathlib.Core.Option.{some}
 use native.Mathlib.Decide.{ℕ_discrete}
 use lib.ListN.{get_elem?}
 use Rattle.std.specs.Prelude.{IsTrue}
 use Rattle.std.specs.List.{All, flat_map, sum_by}
+use Rattle.std.proofs.lemmas.List.{append-nil}
 use Rattle.std.proofs.lemmas.List.Elements.{All-set, All-weaker}
 use Rattle.pp_channel.specs.declared.event.Event.{Event}
+use Rattle.pp_channel.specs.declared.access.Access.{Access}
+use Rattle.pp_channel.specs.declared.access.Access.TheVariants.{OnChannel}
 use Rattle.pp_channel.specs.declared.entry.Entry.{Entry}
 use Rattle.pp_channel.specs.declared.rule.LineView.{LineView}
 use Rattle.pp_channel.specs.ChannelNo.{channel_index, names_channel}
-use Rattle.pp_channel.specs.ChannelWord.{number_in}
+use Rattle.pp_channel.specs.ChannelWord.{number_in, flags_in}
+use Rattle.pp_channel.specs.Answer.{flags_of}
 use Rattle.pp_channel.specs.History.{IsLawful, HasTwelveBitWords, history_on}
 use Rattle.pp_channel.specs.LineSteps.{Tells}
-use Rattle.pp_channel.specs.LineView.{finds, weighs_once, Knows}
+use Rattle.pp_channel.specs.LineView.{finds, look_by, with_unrecorded_load, Knows}
+use Rattle.pp_channel.specs.Order.{IsTotalOrderOf, ExtendsEach, FindsWords, AreMade, entries_among}
 use Rattle.pp_channel.specs.Merge.{IsRecordedBy, IsTrueOf, Merges, no_opening, logs_event, times_logged}
 use Rattle.pp_channel.specs.SharedWords.{word_place, IsViewOf, KeepsRule}
 use Rattle.pp_channel.specs.ChannelPlaces.{place_below}
 use Rattle.pp_channel.proofs.ListFacts.{All-read, All-part, flat_map-set_same, count_by-parts, sum_by-write, sum_by-sole}
-use Rattle.pp_channel.proofs.ChannelWordLemmas.{number_at_word}
+use Rattle.pp_channel.proofs.ChannelWordLemmas.{number_at_word, flags_of_word}
+use Rattle.pp_channel.proofs.OrderLemmas.{order_look, extends_more, extends_push}
 use Rattle.pp_channel.proofs.MergeLemmas.{once_inside, TellsOnce, tells_once, merges_by, times_within}
-use Rattle.pp_channel.proofs.ViewLemmas.{view_finds, view_weighs}
+use Rattle.pp_channel.proofs.ViewLemmas.{view_finds, view_checks}
 
 -- the events of all views, how often they tell one, and the shares
 abbrev pub events_in : LineView → List Entry
@@ -63,15 +69,23 @@ module _ (whole : ℕ) (words : List ℕ) (views : List LineView) (histories : L
   pub word_on : (c : ℕ) → IsTrue (names_channel c) → number_in (get_or words (word_place c) 0) ≡ length (history_on c histories)
   word_on c names = number_at_word (get_or words (word_place c) 0) (history_on c histories) (low_on c names) (sym (k.words_are c names))
 
-  -- a view with the same events and shares in place of another
-  pub rewritten : (id : ℕ) (v w : LineView) → get_elem? views id ≡ some v → w.events ≡ v.events → w.shares ≡ v.shares → IsViewOf histories whole w → KeepsRule whole words (set views id w) histories
-  rewritten id v w at events shares f = record {
+  pub extends_at : (id : ℕ) (v : LineView) → get_elem? views id ≡ some v → ExtendsEach k.order v.program_orders
+  extends_at id v at = All-read (λ x. ExtendsEach k.order x.program_orders) views id v k.program_orders at
+
+  -- a view with the same events and shares in place of another, where the order goes on
+  abbrev pub rewritten : (id : ℕ) (v w : LineView) → get_elem? views id ≡ some v → w.events ≡ v.events → w.shares ≡ v.shares → IsViewOf histories whole w
+      → (more : List Access) → IsTotalOrderOf no_opening histories (entries_among (k.order ++ more)) → ExtendsEach (k.order ++ more) w.program_orders → KeepsRule whole words (set views id w) histories
+  rewritten id v w at events shares f more total program_orders = record {
     sound = k.sound;
     merged = subst (Merges no_opening histories) (sym (flat_map-set_same events_in views id v w at events)) k.merged;
     places = k.places;
     words_are = k.words_are;
     shares = let t = sum_by-write shares_in views id v w at in let o = k.shares in omega arith;
     views_are = All-set (IsViewOf histories whole) views id w f k.views_are;
+    order = k.order ++ more;
+    total = total;
+    program_orders = All-set (λ x. ExtendsEach (k.order ++ more) x.program_orders) views id w program_orders
+        (All-weaker (λ x. ExtendsEach k.order x.program_orders) (λ x. ExtendsEach (k.order ++ more) x.program_orders) (λ x. extends_more k.order more x.program_orders) views k.program_orders);
   }
 
   -- a view with every share has every event
@@ -104,15 +118,28 @@ module _ (whole : ℕ) (words : List ℕ) (views : List LineView) (histories : L
         all_known = λ all. alone id v at (all ∙ f.whole_is live);
       }
 
-  abbrev pub tells : (id : ℕ) (v : LineView) (c : ℕ) → IsTrue (names_channel c) → get_elem? views id ≡ some v → 0 < v.shares → Tells v c (get_or words (word_place c) 0)
-  tells id v c names at live = record { named = names; histories = histories; known = knows id v at live; word_is = sym (k.words_are c names) }
+  abbrev pub tells : (id : ℕ) (v : LineView) (c : ℕ) → IsTrue (names_channel c) → get_elem? views id ≡ some v → 0 < v.shares → FindsWords v.central k.order → (v.shares ≡ v.whole → AreMade v.written k.order) → Tells v c (get_or words (word_place c) 0)
+  tells id v c names at live finds made = record {
+    named = names;
+    histories = histories;
+    known = knows id v at live;
+    word_is = sym (k.words_are c names);
+    order = k.order;
+    total = k.total;
+    finds = finds;
+    made = made;
+    program_orders = extends_at id v at;
+  }
 
   -- the view of a line that found the word of a channel
-  pub found_kept : (id : ℕ) (v : LineView) (c : ℕ) → IsTrue (names_channel c) → get_elem? views id ≡ some v → KeepsRule whole words (set views id (finds v c (get_or words (word_place c) 0))) histories
+  abbrev pub found_kept : (id : ℕ) (v : LineView) (c : ℕ) → IsTrue (names_channel c) → get_elem? views id ≡ some v → KeepsRule whole words (set views id (finds v c (get_or words (word_place c) 0))) histories
   found_kept id v c names at =
       let n : ℕ = get_or words (word_place c) 0 in
-      rewritten id v (finds v c n) at refl refl (view_finds histories whole v c n (sym (k.words_are c names)) (word_on c names) (view_at id v at))
+      let flags : flags_in n ≡ flags_of (history_on c histories) = ap flags_in (k.words_are c names) ∙ flags_of_word (history_on c histories) (low_on c names) in
+      rewritten id v (finds v c n) at refl refl (view_finds histories whole v c n (sym (k.words_are c names)) (word_on c names) (view_at id v at)) (OnChannel (look_by c n) ∷ [])
+      (order_look histories k.order c (number_in n) (flags_in n) (word_on c names) flags k.total) (extends_push k.order (OnChannel (look_by c n)) v.program_orders (extends_at id v at))
 
-  -- the view of a line that weighed
-  pub weighed_kept : (id : ℕ) (v : LineView) → get_elem? views id ≡ some v → KeepsRule whole words (set views id (weighs_once v)) histories
-  weighed_kept id v at = rewritten id v (weighs_once v) at refl refl (view_weighs histories whole v (view_at id v at))
+  -- the view of a line that checked its shares
+  abbrev pub check_kept : (id : ℕ) (v : LineView) → get_elem? views id ≡ some v → KeepsRule whole words (set views id (with_unrecorded_load v)) histories
+  check_kept id v at = rewritten id v (with_unrecorded_load v) at refl refl (view_checks histories whole v (view_at id v at)) []
+      (subst (λ (order : List Access). IsTotalOrderOf no_opening histories (entries_among order)) (sym (append-nil k.order)) k.total) (extends_more k.order [] v.program_orders (extends_at id v at))

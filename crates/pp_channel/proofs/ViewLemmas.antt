@@ -6,6 +6,7 @@ use Rattle.std.specs.Prelude.{IsTrue, slice_index_or}
 use Rattle.std.specs.List.{All}
 use Rattle.std.proofs.lemmas.List.{length-append, length-set, take-append-le, take_all, get_or-set_same, length_push, get_or_push, length-take-le}
 use Rattle.std.proofs.lemmas.List.Elements.{All-nil, All-append, All-push, All-weaker}
+use Rattle.pp_channel.specs.declared.access.Access.{Access}
 use Rattle.pp_channel.specs.declared.event.Event.{Event}
 use Rattle.pp_channel.specs.declared.entry.Entry.{Entry}
 use Rattle.pp_channel.specs.declared.rule.FoundWord.{FoundWord}
@@ -13,7 +14,7 @@ use Rattle.pp_channel.specs.declared.rule.LineView.{LineView}
 use Rattle.pp_channel.specs.ChannelNo.{channel_count, channel_index, names_channel}
 use Rattle.pp_channel.specs.ChannelWord.{history_word, number_in}
 use Rattle.pp_channel.specs.History.{HasTwelveBitWords, history_on}
-use Rattle.pp_channel.specs.LineView.{blank_view, parent_view, child_view, greater_of_each, joined_view, finds, makes, weighs_once}
+use Rattle.pp_channel.specs.LineView.{blank_view, parent_view, child_view, greater_of_each, joined_view, finds, makes, with_unrecorded_load}
 use Rattle.pp_channel.specs.LineLog.{known_after, seen_on, event_entry}
 use Rattle.pp_channel.specs.SharedWords.{IsFound, IsViewOf}
 use Rattle.pp_channel.specs.ChannelPlaces.{place_below}
@@ -66,8 +67,19 @@ view_finds histories whole v c word is number f =
     }
 
 -- a word is loaded, and counted alone
-pub view_weighs : (histories : List (List Event)) (whole : ℕ) (v : LineView) → IsViewOf histories whole v → IsViewOf histories whole (weighs_once v)
-view_weighs histories whole v f = record {
+pub view_checks : (histories : List (List Event)) (whole : ℕ) (v : LineView) → IsViewOf histories whole v → IsViewOf histories whole (with_unrecorded_load v)
+view_checks histories whole v f = record {
+  events_seen = f.events_seen;
+  seen_happened = f.seen_happened;
+  words_found = f.words_found;
+  whole_is = f.whole_is;
+  each_channel = f.each_channel;
+  spent = f.spent;
+}
+
+-- its program_orders go on, and perhaps it wrote
+pub view_beside : (histories : List (List Event)) (whole : ℕ) (v : LineView) (written : List ℕ) (program_orders : List (List Access)) → IsViewOf histories whole v → IsViewOf histories whole (record v { written = written; program_orders = program_orders })
+view_beside histories whole v written program_orders f = record {
   events_seen = f.events_seen;
   seen_happened = f.seen_happened;
   words_found = f.words_found;
@@ -134,7 +146,7 @@ view_joined histories whole v w live other f g =
       spent = λ z. absurd (omega arith);
     }
 
-pub view_spent : (histories : List (List Event)) (whole : ℕ) → IsViewOf histories whole (blank_view 0 0 [])
+pub view_spent : (histories : List (List Event)) (whole : ℕ) → IsViewOf histories whole (blank_view 0 0 [] [])
 view_spent histories whole = record {
   events_seen = λ k d l. absurd (omega arith);
   seen_happened = λ c. omega arith;

@@ -6,6 +6,7 @@ pub mod Law
 pub mod ChannelWord
 pub mod LineLog
 pub mod Merge
+pub mod Order
 pub mod SharedWords
 pub mod LineView
 pub mod LineState

@@ -1,7 +1,8 @@
 -- A line as contracts see it: what it holds, what it knows of histories, and how calls change it.
-use Rattle.std.specs.Prelude.{◌≡◌, ◌≢◌, ℕ, ◌+◌, ◌<◌, ◌≤◌, ◌==◌, List, [], ◌∷◌, ◌++◌, length, map, take, All, slice_set, true, false, is_some, if◌then◌else◌, fold, option_map, option_to_list}
+use Rattle.std.specs.Prelude.{flat_map, ◌≡◌, ◌≢◌, ℕ, ◌+◌, ◌<◌, ◌≤◌, ◌==◌, List, [], ◌∷◌, ◌++◌, length, map, take, All, slice_set, true, false, is_some, if◌then◌else◌, fold, option_map, option_to_list}
 use Rattle.atomic_table.specs.Seated.{TableId}
 use Rattle.pp_channel.specs.declared.chan_op.ChanOp.{ChanOp}
+use Rattle.pp_channel.specs.declared.access.Access.{Access}
 use Rattle.pp_channel.specs.declared.event.Event.{Event}
 use Rattle.pp_channel.specs.declared.numbered.Numbered.{Numbered}
 use Rattle.pp_channel.specs.declared.reply.Reply.{Reply}
@@ -11,14 +12,15 @@ use Rattle.pp_channel.specs.ChannelNo.{channel_index}
 use Rattle.pp_channel.specs.ChannelWord.{number_in, greatest_number}
 use Rattle.pp_channel.specs.Law.{KeepsLaw}
 use Rattle.pp_channel.specs.LineLog.{LogState, empty_log, event_entry, with_seen, seen_on}
-use Rattle.pp_channel.specs.LineView.{child_view, joined_view, weighs_once, finds, Knows}
+use Rattle.pp_channel.specs.LineView.{child_view, joined_view, with_unrecorded_load, finds, look_by, Knows}
 use Rattle.pp_channel.specs.Merge.{Merges, no_opening}
 use Rattle.pp_channel.specs.History.{history_on}
+use Rattle.pp_channel.specs.Order.{extended, IsTotalOrderOf, ExtendsEach, IsDrawnFrom, entries_among, on_channels, FindsWords, AreMade}
 
 -- Lines that were split from one another are a family, and share one table of words. A line has its
 -- log; its view, which is what it knows: its shares, of how many in its family, the events that it
--- made, the words that it found, in order, how often it weighed its shares by a load that took no
--- note of the word, and how many events of each channel it has seen; and that table.
+-- made, the words that it found, in order, how many loads it made whose words were not noted, how
+-- many events of each channel it has seen, and its program orders; and that table.
 pub record LineState : Type 0 where
   pub log : LogState
   pub view : LineView
@@ -31,11 +33,11 @@ pub record IsSplitFrom (parent : LineState) (room : ℕ) (line : LineState) : Ty
   pub table : line.table ≡ parent.table
 
 -- Two lines as one: the entries of the first and then those of the second, the room of the first,
--- and what both know, with the shares of both, which it has weighed once more.
+-- and what both know, with the shares of both, which one more load has shown to be no more than all.
 abbrev pub joined : LineState → LineState → LineState
 joined line other = record line {
   log = record line.log { entries = line.log.entries ++ other.log.entries; kept = true };
-  view = weighs_once (joined_view line.view other.view);
+  view = with_unrecorded_load (joined_view line.view other.view);
 }
 
 -- a line and others as one, joined in their order
@@ -65,7 +67,8 @@ pub record IsAnsweredBy (history : List Event) (op : ChanOp) (r : Numbered) : Ty
   pub lost : r.number ≢ r.loaded → IsLost history op r
 
 -- The line after an answer to an operation on channel c that found these words: its log tells what
--- the operation saw or did, and its view has the event, if there was one.
+-- the operation saw or did, its view has the event, if there was one, and its program orders grow by a
+-- look for each word and then that event.
 abbrev pub answered : LineState → ℕ → ChanOp → Numbered → List ℕ → LineState
 answered line c op r words = record line {
   log = with_seen line.log c r.number (seen_answered op r.reply);
@@ -74,6 +77,8 @@ answered line c op r words = record line {
         ++ option_to_list (option_map (event_entry c r.number) (event_answered op r.reply));
     seen = slice_set line.view.seen (channel_index c) (number_after r.number r.reply);
     found = line.view.found ++ map (λ word. record { channel = c; word = word }) words;
+    program_orders = extended line.view.program_orders (on_channels (map (look_by c) words
+        ++ option_to_list (option_map (event_entry c r.number) (event_answered op r.reply))));
   };
 }
 
@@ -114,3 +119,15 @@ pub record AreClosed (line : LineState) (histories : List (List Event)) : Type 0
   pub known : Knows line.view line.log.entries histories
   pub law : All KeepsLaw histories
   pub merged : Merges no_opening histories line.log.entries
+
+-- There is one total order of all accesses, over these first words of central memory, which extends
+-- each program order of each line. Each read in it finds the word that was written last, each write
+-- is one that one line made, and the log of each line is drawn from the line's program orders.
+pub record AreInOneOrder (central : List ℕ) (histories : List (List Event)) (lines : List LineState)
+    : Type 0 where
+  pub order : List Access
+  pub total : IsTotalOrderOf no_opening histories (entries_among order)
+  pub finds : FindsWords central order
+  pub made : AreMade (flat_map (λ line. line.view.written) lines) order
+  pub program_orders : All (λ line. ExtendsEach order line.view.program_orders) lines
+  pub logs : All (λ line. IsDrawnFrom line.view.program_orders line.log.entries) lines

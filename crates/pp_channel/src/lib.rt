@@ -1,6 +1,7 @@
 //! Data channels: operations, events, and the answer of a channel by its history.
 #![tactic(auto)]
 
+mod access;
 mod answer;
 mod chan_op;
 mod channel;
@@ -31,7 +32,7 @@ pub use entry::{Entry, Seen};
 pub use event::Event;
 pub use flags::Flags;
 pub use law::session_law;
-pub use line::{Closed, Line, open_lines};
+pub use line::{Closed, Line, open_lines, open_lines_beside};
 pub use locked::Locked;
 pub use memory::Memory;
 pub use numbered::Numbered;

@@ -2,14 +2,14 @@
 
 mod closing;
 
-ghost use Rattle.std.specs.Prelude.{◌≡◌, ◌≤◌, ◌+◌, ◌-◌, List, [], ◌∷◌, ◌++◌, Contains, true, IfOk, OnOk, OnErr, IfErr, length};
+ghost use Rattle.std.specs.Prelude.{◌≡◌, ◌<◌, ◌≤◌, ◌+◌, ◌-◌, ◌^◌, ◌↔◌, ℕ, List, [], ◌∷◌, ◌++◌, Contains, true, IfOk, OnOk, OnErr, IfErr, IfSome, IfNone, IsTrue, MatchBool, length, slice_index};
 ghost use Rattle.pp_channel.specs.declared.event.Event.{Event};
 ghost use Rattle.pp_channel.specs.ChannelNo.{channel_count};
 ghost use Rattle.pp_channel.specs.LineLog.{IsMonotone, IsWithin, seen_on, empty_log, event_entry, look_entry, appended, looked};
 ghost use Rattle.pp_channel.specs.declared.rule.LineView.{LineView};
-ghost use Rattle.pp_channel.specs.LineState.{LineState, IsSplitFrom, joined, ForgetsNothing, IsActed, IsWornOut, AreClosed};
+ghost use Rattle.pp_channel.specs.LineState.{LineState, IsSplitFrom, joined, ForgetsNothing, IsActed, IsWornOut, AreClosed, AreInOneOrder};
 ghost use Rattle.pp_channel.specs.LineSteps.{IsLoad, IsWonExchange, IsLostExchange, IsLogOf};
-ghost use Rattle.pp_channel.specs.LineView.{first_view, finds, parent_view, weighs_once, greater_of_each};
+ghost use Rattle.pp_channel.specs.LineView.{first_view, finds, reads, writes, parent_view, with_unrecorded_load, greater_of_each};
 ghost use Rattle.pp_channel.specs.ChannelWord.{history_word, number_in, flags_in};
 ghost use Rattle.pp_channel.specs.History.{IsLawful, HasTwelveBitWord, HasTwelveBitWords};
 
@@ -28,6 +28,7 @@ use crate::shared_words::SharedWords;
 use crate::word_step::{WordStep, advance, flags_in, next_event_in, number_in, state_in};
 use crate::worn::Worn;
 pub use closing::Closed;
+use pp_word::{Word18, Word60};
 use std::alloc::Allocator;
 use std::marker::Model;
 
@@ -67,10 +68,26 @@ impl<A: Allocator> Model for Line<A> {
 pub fn open_lines<A: Allocator + Copy>(alloc: A, room: u32, lines: u32) -> Result<Line<A>, Memory>
     requires { 1 ≤ lines }
     ensures log { IfOk result (λ line. line.log ≡ empty_log room) }
-    ensures view { IfOk result (λ line. line.view ≡ first_view lines) }
+    ensures view { IfOk result (λ line. line.view ≡ first_view lines []) }
+{
+    let central = Vec::new(alloc);
+    open_lines_beside(alloc, room, lines, central.as_slice())
+}
+
+/// The same, beside central memory of these words, which the lines share too.
+pub fn open_lines_beside<A: Allocator + Copy>(
+    alloc: A,
+    room: u32,
+    lines: u32,
+    central: &[Word60],
+) -> Result<Line<A>, Memory>
+    requires lines { 1 ≤ lines }
+    requires small { (address : ℕ) → slice_index central.now address < 2 ^ 60 }
+    ensures log { IfOk result (λ line. line.log ≡ empty_log room) }
+    ensures view { IfOk result (λ line. line.view ≡ first_view lines central.now) }
 {
     let log = LineLog::new(alloc, room)?;
-    let words = SharedWords::open(alloc, u64::from(lines))?;
+    let words = SharedWords::open(alloc, u64::from(lines), central)?;
     Ok(Line {
         alloc,
         words,
@@ -138,7 +155,7 @@ impl<A: Allocator + Copy> Line<A> {
 
     /// A line of one share, for another thread, with room for `room` entries in a log of its own.
     /// It has seen what this line has seen. This line needs at least 2 shares and has one less
-    /// afterwards; after `Memory` nothing has changed.
+    /// afterwards. It makes one load; after `Memory` nothing has changed.
     pub fn split(&mut self, room: u32) -> Result<Line<A>, Memory>
         requires { 2 ≤ self.old.view.shares }
         ensures parent { IfOk result (λ line.
@@ -215,6 +232,29 @@ impl<A: Allocator + Copy> Line<A> {
         }
     }
 
+    /// The word of central memory at an address, or nothing at or past the size. It makes one load.
+    pub fn read(&mut self, address: Word18) -> Option<Word60>
+        ensures read { IfSome result (λ word. self.new
+            ≡ record self.old { view = reads self.old.view address word }) }
+        ensures inside { IfSome result (λ word. address < length self.old.view.central) }
+        ensures outside { IfNone result (length self.old.view.central ≤ address) }
+        ensures unchanged_outside { IfNone result (self.new ≡ self.old) }
+    {
+        self.words.read(address)
+    }
+
+    /// Writes the word of central memory at an address, by one store; at or past the size it
+    /// answers false, and nothing changes.
+    pub fn write(&mut self, address: Word18, word: Word60) -> bool
+        ensures inside { IsTrue result ↔ (address < length self.old.view.central) }
+        ensures written { MatchBool result
+            ((number : ℕ) × (self.new
+            ≡ record self.old { view = writes self.old.view address word number }))
+            (self.new ≡ self.old) }
+    {
+        self.words.write(address, word)
+    }
+
     /// The word of the channel. The line has then seen all events that the word counts.
     fn load(&mut self, channel: ChannelNo) -> u64
         ensures load { IsLoad channel self.old.view result self.new.view }
@@ -228,11 +268,11 @@ impl<A: Allocator + Copy> Line<A> {
         word
     }
 
-    /// Writes down a look, by a word that the line found on the channel.
+    /// Writes down a look, by the word that the line found last, on the channel.
     fn look(&mut self, channel: ChannelNo, word: u64)
         requires room { 1 ≤ self.old.log.room }
-        requires found { Contains self.old.view.found (record { channel = channel; word = word }) }
-        requires seen { number_in word ≤ seen_on channel self.old.view.seen }
+        requires found { (v : LineView) × IsLogOf v self.old.log.entries
+            × IsLoad channel v word self.old.view }
         ensures written { self.new.log ≡ looked self.old.log
             (look_entry channel (number_in word) (flags_in word)) }
         ensures view { self.new.view ≡ self.old.view }
@@ -281,7 +321,7 @@ impl<A: Allocator + Copy> Line<A> {
 
     /// This line and another of its family (from the same `open_lines`) as one: the log has this
     /// line's entries and then the other's, the room is this line's, shares add up, and `seen` is
-    /// the greater of the two for each channel. It makes one load. After `Memory` both come back
+    /// the greater of the two for each channel. It makes two loads. After `Memory` both come back
     /// unchanged.
     pub fn join(mut self, other: Line<A>) -> Result<Line<A>, (Line<A>, Line<A>, Memory)>
         requires { other.table ≡ self.table }
@@ -303,22 +343,25 @@ impl<A: Allocator + Copy> Line<A> {
             whole: _,
         } = other;
         self.words.join(words);
-        self.words.weigh(ChannelNo::at(0));
+        self.words.check_shares(ChannelNo::at(0));
         self.shares += shares;
         self.seen = greater_of_each(&self.seen, &seen);
         Ok(self)
     }
 
     /// The channels, from the line that holds every share of its family: their histories are the
-    /// events of its log, each at its number. It makes one load; a line that comes back after
-    /// `Memory` differs in nothing else.
+    /// events of its log, each at its number; and one total order over all channels extends its
+    /// program orders. It makes one load; a line that comes back after `Memory` differs in nothing
+    /// else.
     pub fn close(mut self) -> Result<[Channel<A>; CHANNELS], (Line<A>, Memory)>
         requires { self.view.shares ≡ self.view.whole }
         ensures ok { IfOk result (λ channels. AreClosed self channels) }
+        ensures order { IfOk result (λ channels. AreInOneOrder self.view.central channels
+            (self ∷ [])) }
         ensures unchanged_after_memory { IfErr result (λ refused.
-            refused.0 ≡ record self { view = weighs_once self.view }) }
+            refused.0 ≡ record self { view = with_unrecorded_load self.view }) }
     {
-        self.words.weigh(ChannelNo::at(0));
+        self.words.check_shares(ChannelNo::at(0));
         let line = &self;
         let others = Vec::new(line.alloc);
         match recorded_channels(

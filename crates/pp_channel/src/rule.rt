@@ -1,8 +1,10 @@
 //! The rule of the shared words, and the kinds of step on them.
 
+use crate::access::Access;
 use crate::entry::Entry;
 use crate::event::Event;
 use atomic_table::{Join, Play, Split, TableRule};
+use std::alloc::Allocator;
 use std::collections::LinkedList;
 
 /// A word that was found on a channel. No value of it is made.
@@ -20,22 +22,36 @@ pub struct LineView {
     pub events: LinkedList<Entry>,
     /// The words that it found.
     pub found: LinkedList<FoundWord>,
-    /// How often it loaded a word and took no note of it.
-    pub weighed: u64,
+    /// How many loads it made whose words were not noted.
+    pub unrecorded_loads: u64,
     /// How many events of each channel it has seen.
     pub seen: LinkedList<u64>,
+    /// The words of central memory when the first line was made.
+    pub central: LinkedList<u64>,
+    /// How many writes of all lines came before each of those that it made.
+    pub written: LinkedList<u64>,
+    /// Its program orders: its accesses, in order, and those of each line joined to it.
+    pub program_orders: LinkedList<LinkedList<Access>>,
+}
+
+/// What lines share at first: so many shares, and these words, those of channels without history
+/// and then those of central memory.
+#[derive(Drop)]
+pub struct Opening<A: Allocator> {
+    pub whole: u64,
+    pub words: Vec<u64, A>,
 }
 
 /// The rule of the shared words.
 pub struct ChannelRule;
 
-impl TableRule<Event, LineView, u64> for ChannelRule {
-    ghost use Rattle.pp_channel.specs.SharedWords.{Rule};
+impl<A: Allocator> TableRule<Event, LineView, Opening<A>> for ChannelRule {
+    ghost use Rattle.pp_channel.specs.SharedWords.{Rule, central_in};
     ghost use Rattle.pp_channel.specs.LineView.{first_view};
 
-    ghost holds = { Rule };
+    ghost holds = { λ opening. Rule opening.whole (central_in opening.words.items) };
 
-    ghost first = { first_view };
+    ghost first = { λ opening. first_view opening.whole (central_in opening.words.items) };
 }
 
 /// A load.
@@ -57,12 +73,30 @@ impl Play<Event, LineView> for Exchange {
 }
 
 /// A load that is counted, after which the line knows no more of the channels than before.
-pub struct Weigh;
+pub struct CheckShares;
 
-impl Play<Event, LineView> for Weigh {
-    ghost use Rattle.pp_channel.specs.LineSteps.{OnChannel, IsWeighing};
+impl Play<Event, LineView> for CheckShares {
+    ghost use Rattle.pp_channel.specs.LineSteps.{OnChannel, IsShareCheck};
 
-    ghost then = { OnChannel IsWeighing };
+    ghost then = { OnChannel IsShareCheck };
+}
+
+/// A read of a word of central memory.
+pub struct Read;
+
+impl Play<Event, LineView> for Read {
+    ghost use Rattle.pp_channel.specs.LineSteps.{OnCentral, IsRead};
+
+    ghost then = { OnCentral IsRead };
+}
+
+/// A write of a word of central memory.
+pub struct Write;
+
+impl Play<Event, LineView> for Write {
+    ghost use Rattle.pp_channel.specs.LineSteps.{OnCentral, IsWrite};
+
+    ghost then = { OnCentral IsWrite };
 }
 
 /// A share for another line.
@@ -82,5 +116,5 @@ impl Join<LineView> for Share {
 
     ghost both = { joined_view };
 
-    ghost spent = { blank_view 0 0 [] };
+    ghost spent = { blank_view 0 0 [] [] };
 }

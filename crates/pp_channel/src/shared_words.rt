@@ -1,20 +1,23 @@
 //! The words that lines share, and a line's seat at them.
 
-ghost use Rattle.std.specs.Prelude.{◌≡◌, ◌+◌, ◌-◌, ◌<◌, ◌≤◌, ℕ, [], List, ◌∷◌, ◌++◌, IfOk, OnErr};
+ghost use Rattle.std.specs.Prelude.{◌≡◌, ◌+◌, ◌-◌, ◌<◌, ◌≤◌, ◌^◌, ◌↔◌, ℕ, [], List, ◌∷◌, ◌++◌, length, replicate, slice_index, IfOk, IfSome, IfNone, IsTrue, MatchBool, OnErr};
 ghost use Rattle.std.specs.Arc.{arc_value};
 ghost use Rattle.pp_channel.specs.declared.event.Event.{Event};
 ghost use Rattle.pp_channel.specs.declared.rule.LineView.{LineView};
 ghost use Rattle.pp_channel.specs.ChannelWord.{history_word};
 ghost use Rattle.pp_channel.specs.History.{IsLawful, HasTwelveBitWords, HasTwelveBitWord};
-ghost use Rattle.pp_channel.specs.SharedWords.{place_count, word_place};
+ghost use Rattle.pp_channel.specs.SharedWords.{place_count, word_place, central_place};
 ghost use Rattle.pp_channel.specs.LineSteps.{IsLoad, IsExchange, Tells};
-ghost use Rattle.pp_channel.specs.LineView.{first_view, parent_view, child_view, joined_view, finds, weighs_once};
+ghost use Rattle.pp_channel.specs.LineView.{first_view, parent_view, child_view, joined_view, finds, reads, writes, with_unrecorded_load};
 
 use crate::channel_no::{CHANNELS, ChannelNo};
 use crate::event::Event;
 use crate::memory::Memory;
-use crate::rule::{ChannelRule, Exchange, LineView, Load, Share, Weigh};
+use crate::rule::{
+    ChannelRule, CheckShares, Exchange, LineView, Load, Opening, Read, Share, Write,
+};
 use atomic_table::{Seat, Table};
+use pp_word::{Word18, Word60};
 use std::alloc::Allocator;
 use std::sync::Arc;
 
@@ -25,24 +28,30 @@ const APART: usize = 16;
 /// How many words there are: none lies at the place of a channel before the first.
 const PLACES: usize = APART * (CHANNELS + 1);
 
-/// The channels' words, which all lines of a family share, and one line's seat at them.
+/// The words of the channels and of central memory, which all lines of a family share, and one
+/// line's seat at them.
 #[derive(Drop)]
 pub struct SharedWords<A: Allocator> {
-    table: Arc<Table<Event, LineView, u64, ChannelRule, A>, A>,
+    table: Arc<Table<Event, LineView, Opening<A>, ChannelRule, A>, A>,
     pub seat: Seat<Event, LineView>,
-    ghost places: { (arc_value table).shared.table_id.words ≡ place_count },
+    ghost places: { (arc_value table).shared.table_id.words
+        ≡ place_count + length seat.me.0.central },
     ghost seated: { seat.table_id ≡ (arc_value table).shared.table_id },
     ghost no_slots: { seat.me.1 ≡ [] },
     ghost unspent: { 0 < seat.me.0.shares },
 }
 
 impl<A: Allocator + Copy> SharedWords<A> {
-    /// The words of all channels without history, and the seat of the first line, with all shares.
-    pub fn open(alloc: A, whole: u64) -> Result<SharedWords<A>, Memory>
-        requires { 0 < whole }
-        ensures { IfOk result (λ words. words.seat.me.0 ≡ first_view whole) }
+    /// The words of all channels without history and those of central memory, and the seat of the
+    /// first line, with all shares.
+    pub fn open(alloc: A, whole: u64, central: &[Word60]) -> Result<SharedWords<A>, Memory>
+        requires shares { 0 < whole }
+        requires small { (address : ℕ) → slice_index central.now address < 2 ^ 60 }
+        ensures { IfOk result (λ words. words.seat.me.0 ≡ first_view whole central.now) }
     {
-        let (table, seat) = Table::of_words(alloc, &[0; PLACES], &whole)?;
+        let words = opening_words(alloc, central)?;
+        let opening = Opening { whole, words };
+        let (table, seat) = Table::of_words(alloc, opening.words.as_slice(), &opening)?;
         let table = Arc::new(alloc, table)?;
         Ok(SharedWords { table, seat })
     }
@@ -99,17 +108,71 @@ impl<A: Allocator + Copy> SharedWords<A> {
             .compare_exchange_with::<Exchange>(&mut self.seat, place(channel), expected, new, event)
     }
 
-    /// A load that is counted, after which the line knows no more of the channels than before.
-    pub fn weigh(&mut self, channel: ChannelNo)
+    /// The word of central memory at an address, or nothing at or past the size.
+    pub fn read(&mut self, address: Word18) -> Option<Word60>
         ensures table { self.new.seat.table_id ≡ self.old.seat.table_id }
-        ensures view { self.new.seat.me.0 ≡ weighs_once self.old.seat.me.0 }
+        ensures read { IfSome result (λ word.
+            self.new.seat.me.0 ≡ reads self.old.seat.me.0 address word) }
+        ensures inside { IfSome result (λ word. address < length self.old.seat.me.0.central) }
+        ensures outside { IfNone result (length self.old.seat.me.0.central ≤ address) }
+        ensures unchanged_outside { IfNone result (self.new.seat.me.0 ≡ self.old.seat.me.0) }
+    {
+        let place = central_place(address);
+        if place >= self.table.word_count() {
+            return None;
+        }
+        let word = self.table.shared.load::<Read>(&mut self.seat, place);
+        Some(Word60::truncated(word))
+    }
+
+    /// Writes the word of central memory at an address; at or past the size it answers false, and
+    /// writes nothing.
+    pub fn write(&mut self, address: Word18, word: Word60) -> bool
+        ensures table { self.new.seat.table_id ≡ self.old.seat.table_id }
+        ensures inside { IsTrue result ↔ (address < length self.old.seat.me.0.central) }
+        ensures written { MatchBool result
+            ((number : ℕ) × (self.new.seat.me.0 ≡ writes self.old.seat.me.0 address word number))
+            (self.new.seat.me.0 ≡ self.old.seat.me.0) }
+    {
+        let place = central_place(address);
+        if place >= self.table.word_count() {
+            return false;
+        }
+        self.table
+            .shared
+            .store::<Write>(&mut self.seat, place, word.get());
+        true
+    }
+
+    /// A load that is counted, after which the line knows no more of the channels than before.
+    pub fn check_shares(&mut self, channel: ChannelNo)
+        ensures table { self.new.seat.table_id ≡ self.old.seat.table_id }
+        ensures view { self.new.seat.me.0 ≡ with_unrecorded_load self.old.seat.me.0 }
         ensures shares_fit { self.old.seat.me.0.shares ≤ self.old.seat.me.0.whole }
         ensures tells { (word : ℕ) × Tells self.old.seat.me.0 channel word }
     {
         self.table
             .shared
-            .load::<Weigh>(&mut self.seat, place(channel));
+            .load::<CheckShares>(&mut self.seat, place(channel));
     }
+}
+
+/// The words of channels without history, and then those of central memory.
+fn opening_words<A: Allocator + Copy>(alloc: A, central: &[Word60]) -> Result<Vec<u64, A>, Memory>
+    ensures { IfOk result (λ words. words.items ≡ replicate place_count 0 ++ central.now) }
+{
+    let mut words = vec![in alloc; 0; PLACES]?;
+    for word in central {
+        words.push(word.get())?;
+    }
+    Ok(words)
+}
+
+/// Where a word of central memory lies.
+fn central_place(address: Word18) -> usize
+    ensures { result ≡ central_place address }
+{
+    PLACES + address.get() as usize
 }
 
 /// Where the word of a channel lies.

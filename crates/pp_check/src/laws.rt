@@ -24,7 +24,8 @@ ghost use Rattle.pp_check.specs.declared.trace_fault.TraceFault.{TraceFault};
 ghost use Rattle.pp_check.specs.declared.trace_line.TraceLine.{TraceLine};
 
 use pp_channel::session_law;
-use pp_deck::{deck_law, headline_law};
+use pp_deck::deck_law;
+use pp_machine::run_law;
 use std::alloc::Allocator;
 
 /// The fault of a text is the first line at which no lawful history is left: the lines before it
@@ -54,7 +55,7 @@ pub fn trace_law()
 /// What the barrel prints is lawful: the text of a machine whose histories are those of its trace,
 /// and whose turns rise and have at most 19 decimal digits, where the channels said to be open are
 /// those that dead start opened. On each channel the events that are read are those of the trace.
-/// The histories are so after every run (`headline_law` of `pp_deck`), and a machine that is
+/// The histories are so after every run (`run_law` of `pp_machine`), and a machine that is
 /// printed fits its text (`write_text`).
 pub fn printed_law()
     ensures lawful { (named : List Bool) (m : MachineState) (opened : List Bool)
@@ -76,7 +77,7 @@ pub fn barrel_law()
         → AreLawful opened (lines_of (printed deck.named m))) }
 {
     deck_law();
-    headline_law();
+    run_law();
 }
 
 /// What threads print is lawful: the text of a report of any run of a machine by threads that fits

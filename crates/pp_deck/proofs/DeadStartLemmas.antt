@@ -13,7 +13,7 @@ use Rattle.pp_channel.specs.ChannelPlaces as channel_places
 use Rattle.pp_machine.specs.DeadStart.{WaitsWithin, waiting_on, waits, processor_started, history_started, processors_started, histories_started, opened_where, dead_started}
 use Rattle.pp_machine.specs.MachineState.{MachineState, processor_of, history_of, is_opened}
 use Rattle.pp_machine.specs.Processor.{no_processor}
-use Rattle.pp_machine.specs.PpNo.{names_processor, processor_count, processor_index, processor_number}
+use Rattle.pp_machine.specs.PpNo.{names_processor, processor_count, processor_index, processor_number, each_processor}
 use Rattle.pp_machine.specs.Profile.{processors_in, has_processor}
 use Rattle.pp_machine.specs.ProcessorPlaces.{channel_of_processor}
 use Rattle.pp_machine.specs.ProcessorPlaces as processor_places
@@ -21,7 +21,7 @@ use Rattle.pp_machine.specs.ProfilePlaces.{unnamed_lacks, has_at}
 use Rattle.pp_deck.specs.DeckLaw.{Waits}
 use Rattle.pp_deck.specs.DeckLine.{Line, nothing, central_size, central_words, section, start, words, dead_start}
 use Rattle.list_facts.specs.Tables.{tabulate, length-tabulate, get_or-tabulate, tabulate_is, tabulate_const}
-use Rattle.pp_deck.specs.DeckLoad.{is_dead_start, asks_dead_start, is_named, each_processor, processor_loaded}
+use Rattle.pp_deck.specs.DeckLoad.{is_dead_start, asks_dead_start, is_named, processor_loaded}
 use Rattle.pp_deck.specs.DeckMeaning.{LoadedDeck, set_by, unnamed_in, with_dead_start}
 use Rattle.pp_deck.proofs.LawLemmas.{named_here, some_name, named_some}
 use Rattle.pp_machine.specs.declared.profile.Profile.{Profile}

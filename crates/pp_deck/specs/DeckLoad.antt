@@ -5,7 +5,7 @@ use Rattle.list_facts.specs.Tables.{tabulate}
 use Rattle.pp_word.specs.Address.{place_count}
 use Rattle.pp_machine.specs.MachineState.{MachineState, new_machine}
 use Rattle.pp_machine.specs.Processor.{Processor, new_processor, runs_from}
-use Rattle.pp_machine.specs.PpNo.{processor_count, processor_number}
+use Rattle.pp_machine.specs.PpNo.{each_processor}
 use Rattle.pp_machine.specs.declared.profile.Profile.{Profile}
 use Rattle.pp_deck.specs.DeckLine.{Line, nothing, central_words, section, start, words, dead_start}
 
@@ -77,10 +77,6 @@ is_dead_start line = false
 
 abbrev pub asks_dead_start : List Line → Bool
 asks_dead_start lines = list_any is_dead_start lines
-
--- something for each processor, in the order of the barrel
-abbrev pub each_processor : {A : Type 0} → (ℕ → A) → List A
-each_processor of = tabulate processor_count (λ place. of (processor_number place))
 
 -- a machine of this profile and this central size with all that lines set, before any dead start
 abbrev pub machine_loaded : Profile → ℕ → List Line → MachineState

@@ -16,4 +16,4 @@ mod reading;
 pub use deck::{Deck, read_deck};
 pub use deck_fault::{DeckCode, DeckFault};
 pub use fields::Fields;
-pub use laws::{deck_law, headline_law, reading_law};
+pub use laws::{deck_law, reading_law};

@@ -8,32 +8,14 @@ use Rattle.pp_channel.specs.declared.event.Event.{Event}
 use Rattle.pp_channel.specs.declared.event.Event.TheVariants.{Activate, Disconnect, Function, Put, Take}
 use Rattle.pp_machine.specs.Headline.{HoldsOnEachChannel, events_on, opening_history}
 use Rattle.pp_machine.specs.MachineState.{MachineState, history_of, is_opened}
-use Rattle.pp_machine.specs.Run.{run}
 use Rattle.pp_machine.specs.declared.trace.Trace.{Trace}
-use Rattle.pp_machine.specs.RunLaws.{run-append}
-use Rattle.pp_steps.specs.StepsText.{run_steps, steps_from}
 use Rattle.pp_draw.specs.Condition.{condition_after, goes_on}
-use Rattle.pp_draw.specs.DrawingLaw.{condition_in, first_turn, opening_turns, seen, turns_on}
+use Rattle.pp_draw.specs.DrawingLaw.{condition_in, first_turn, opening_turns, turns_on}
 use Rattle.pp_draw.specs.Part.{is_lost}
 use Rattle.pp_draw.specs.Phases.{changes, channel_phases, opening_phases, phase_after, phases_from, phases_on}
-use Rattle.pp_draw.specs.SeenStep.{seen_step, seen_steps}
 use Rattle.pp_draw.specs.declared.condition.Condition.{Condition}
 use Rattle.pp_draw.specs.declared.part.Phase.{Phase}
-use Rattle.pp_draw.specs.declared.seen_step.SeenStep.{SeenStep}
 use Rattle.pp_draw.proofs.LaneLemmas.{changes_next, no_changes}
-
--- ---- steps
-
-steps_to_come : (past steps : List ℕ) (m : MachineState) → map seen (steps_from past steps m) ≡ seen_steps steps (run past m)
-unfolding seen_steps
-steps_to_come past [] m = refl
-steps_to_come past (n ∷ steps) m =
-    ap (λ (ss : List SeenStep). seen_step n (run past m) ∷ ss)
-    (steps_to_come (past ++ n ∷ []) steps m ∙ ap (seen_steps steps) (run-append past n m))
-
-pub seen_are_steps : (steps : List ℕ) (m : MachineState) → seen_steps steps m ≡ map seen (run_steps steps m)
-unfolding run_steps
-seen_are_steps steps m = sym (steps_to_come [] steps m)
 
 -- ---- a channel
 

@@ -1,6 +1,5 @@
 mod RowLemmas
 mod LaneLemmas
-mod SeenLemmas
 mod BandLemmas
 mod LawLemmas
 mod ReadLemmas

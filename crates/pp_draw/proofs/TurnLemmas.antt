@@ -8,19 +8,18 @@ use Rattle.pp_machine.specs.MachineState.{MachineState}
 use Rattle.pp_machine.specs.MachineStep.{counted, stepped}
 use Rattle.pp_machine.specs.PpNo.{processor_count}
 use Rattle.pp_machine.specs.Run.{barrel}
-use Rattle.pp_steps.specs.StepsText.{RunStep, run_steps}
+use Rattle.pp_run.specs.RunSteps.{RunStep, run_steps}
 use Rattle.pp_draw.specs.Condition.{goes_on}
-use Rattle.pp_draw.specs.DrawingLaw.{condition_at, condition_in, last_step, seen}
+use Rattle.pp_draw.specs.DrawingLaw.{condition_at, condition_in, last_step}
 use Rattle.pp_draw.specs.DrawingText.{count_below}
 use Rattle.pp_draw.specs.Phases.{changes, phase_in, phases_from, processor_phases}
-use Rattle.pp_draw.specs.SeenStep.{is_shown, seen_in_window, seen_steps}
+use Rattle.pp_draw.specs.SeenStep.{is_shown, seen, seen_in_window}
 use Rattle.pp_draw.specs.declared.condition.Condition.{Condition}
 use Rattle.pp_draw.specs.declared.part.Phase.{Phase}
 use Rattle.pp_draw.specs.declared.seen_step.SeenStep.{SeenStep}
 use Rattle.pp_draw.specs.declared.window.Window.{Window}
 use Rattle.pp_draw.proofs.ConditionLemmas.{same_on}
 use Rattle.pp_draw.proofs.LaneLemmas.{changes_next, changes_none}
-use Rattle.pp_draw.proofs.LawLemmas.{seen_are_steps}
 
 -- ---- in order
 
@@ -45,12 +44,11 @@ turns_counted : (n : ℕ) (m : MachineState) → (stepped n m).turns ≡ counted
 unfolding stepped
 turns_counted n m = refl
 
-steps_in_order : (steps : List ℕ) (m : MachineState) → m.turns < 2 ^ 64 → AreInOrder m.turns (seen_steps steps m)
-unfolding seen_steps
+steps_in_order : (steps : List ℕ) (m : MachineState) → m.turns < 2 ^ 64 → AreInOrder m.turns (map seen (run_steps steps m))
 steps_in_order [] m low = tt
 steps_in_order (n ∷ steps) m low =
     let counts = turns_counted n m in
-    (omega arith, order_since m.turns (stepped n m).turns (seen_steps steps (stepped n m)) (omega (arith, low, counts)) (steps_in_order steps (stepped n m) (omega (arith, low, counts))))
+    (omega arith, order_since m.turns (stepped n m).turns (map seen (run_steps steps (stepped n m))) (omega (arith, low, counts)) (steps_in_order steps (stepped n m) (omega (arith, low, counts))))
 
 shown_step : (b : Bool) (turn : ℕ) (s : SeenStep) (steps : List SeenStep) → turn ≤ s.turn → AreInOrder s.turn steps → AreInOrder turn (cond b (s ∷ steps) steps)
 shown_step true turn s steps low h = (low, h)
@@ -225,11 +223,11 @@ last_of_run n turn o q (s ∷ more) same =
 abbrev drawn_at : Window → ℕ → MachineState → ℕ → Option Condition
 drawn_at w n m turn = condition_at turn (phases_from None (processor_phases n (seen_in_window w m)))
 
-by_last : (w : Window) (n : ℕ) (m : MachineState) (turn : ℕ) → m.turns < 2 ^ 64 → (last : Option RunStep) → last_begun n turn None (seen_steps (barrel m.profile w.to) m) ≡ option_map phase_of last
+by_last : (w : Window) (n : ℕ) (m : MachineState) (turn : ℕ) → m.turns < 2 ^ 64 → (last : Option RunStep) → last_begun n turn None (map seen (run_steps (barrel m.profile w.to) m)) ≡ option_map phase_of last
     → IfSome last (λ (step : RunStep). w.from ≤ step.before.turns + processor_count → drawn_at w n m turn ≡ Some (seen step).condition)
 by_last w n m turn low None is = tt
 by_last w n m turn low (Some step) is = λ near.
-    let steps = seen_steps (barrel m.profile w.to) m in
+    let steps = map seen (run_steps (barrel m.profile w.to) m) in
     let order = steps_in_order (barrel m.profile w.to) m low in
     joined_at turn m.turns (processor_phases n (seen_in_window w m)) (phases_in_order n m.turns (filter (is_shown w) steps) (shown_in_order w m.turns steps order))
     ∙ ap (option_map condition_in) (last_shown w n turn m.turns (phase_of step) (le-leb (w.from - processor_count) step.before.turns (omega (arith, near))) None steps order (λ none. absurd (cc)) is)
@@ -238,7 +236,7 @@ pub last_at_turn : (w : Window) (n : ℕ) (m : MachineState) (turn : ℕ) → m.
     → IfSome (last_step n turn (run_steps (barrel m.profile w.to) m)) (λ (step : RunStep). w.from ≤ step.before.turns + processor_count → drawn_at w n m turn ≡ Some (seen step).condition)
 last_at_turn w n m turn low =
     by_last w n m turn low (last_step n turn (run_steps (barrel m.profile w.to) m))
-    (ap (last_begun n turn None) (seen_are_steps (barrel m.profile w.to) m) ∙ last_of_run n turn None None (run_steps (barrel m.profile w.to) m) refl)
+    (last_of_run n turn None None (run_steps (barrel m.profile w.to) m) refl)
 
 -- ---- lanes below one another
 

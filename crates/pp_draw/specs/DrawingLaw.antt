@@ -4,19 +4,13 @@ use Rattle.std.specs.List.{filter, filter_map, last_or}
 use Rattle.std.specs.Option.{option_map}
 use Rattle.pp_machine.specs.MachineState.{MachineState, is_opened}
 use Rattle.pp_machine.specs.declared.trace.Trace.{Trace}
-use Rattle.pp_steps.specs.StepsText.{RunStep}
+use Rattle.pp_run.specs.RunSteps.{RunStep}
 use Rattle.pp_draw.specs.Condition.{goes_on}
-use Rattle.pp_draw.specs.SeenStep.{seen_step}
 use Rattle.pp_draw.specs.Window.{band_width}
 use Rattle.pp_draw.specs.declared.condition.Condition.{Condition}
 use Rattle.pp_draw.specs.declared.part.Part.{Part}
 use Rattle.pp_draw.specs.declared.part.Phase.{Phase}
-use Rattle.pp_draw.specs.declared.seen_step.SeenStep.{SeenStep}
 use Rattle.pp_draw.specs.declared.window.Window.{Window}
-
--- how a step of a run finds its processor
-abbrev pub seen : RunStep → SeenStep
-seen step = seen_step step.processor step.before
 
 abbrev pub condition_in : Phase → Condition
 condition_in phase = phase.condition

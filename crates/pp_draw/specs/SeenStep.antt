@@ -1,12 +1,11 @@
 -- How the steps of a run found their processors.
-use Rattle.std.specs.Prelude.{◌≡◌, ℕ, ◌+◌, ◌-◌, ◌<◌, ◌⊎◌, Bool, IsSome, IsTrue, nat_le, List, [], ◌∷◌, Option, None, Some}
+use Rattle.std.specs.Prelude.{ℕ, ◌-◌, Bool, IsTrue, nat_le, List, map, Option, None, Some}
 use Rattle.std.specs.List.{filter}
 use Rattle.pp_machine.specs.MachineState.{MachineState, processor_of}
-use Rattle.pp_machine.specs.MachineStep.{step_event, step_outcome, stepped}
+use Rattle.pp_machine.specs.MachineStep.{step_outcome}
 use Rattle.pp_machine.specs.NeedAndEffect.{need}
 use Rattle.pp_machine.specs.PpNo.{processor_count}
-use Rattle.pp_machine.specs.Profile.{processor_in_turn}
-use Rattle.pp_machine.specs.Run.{barrel, run}
+use Rattle.pp_machine.specs.Run.{barrel}
 use Rattle.pp_machine.specs.declared.block.Block.{Block}
 use Rattle.pp_machine.specs.declared.need.Need.{Need}
 use Rattle.pp_machine.specs.declared.need.Need.TheVariants.{Nothing, Local, Channel, Read, Write}
@@ -14,9 +13,11 @@ use Rattle.pp_machine.specs.declared.outcome.Outcome.{Outcome}
 use Rattle.pp_machine.specs.declared.outcome.Outcome.TheVariants.{Moved, Held, AtRest}
 use Rattle.pp_machine.specs.declared.pp_state.PpState.{PpState}
 use Rattle.pp_machine.specs.declared.pp_state.PpState.TheVariants as states
+use Rattle.pp_run.specs.RunSteps.{RunStep, run_steps}
 use Rattle.pp_draw.specs.declared.condition.Condition.{Condition}
 use Rattle.pp_draw.specs.declared.condition.Condition.TheVariants.{InBlock, HeldBy, Stopped, Faulted}
 use Rattle.pp_draw.specs.declared.condition.Condition.TheVariants as conditions
+use Rattle.pp_draw.specs.declared.seen_step.Found.{Found}
 use Rattle.pp_draw.specs.declared.seen_step.SeenStep.{SeenStep}
 use Rattle.pp_draw.specs.declared.window.Window.{Window}
 
@@ -50,14 +51,19 @@ condition_of n m =
     let pp = processor_of n m in
     condition_by pp.state (step_outcome n m) (need pp) pp.block
 
--- the next step of processor n
-abbrev pub seen_step : ℕ → MachineState → SeenStep
-seen_step n m = record { turn = m.turns; pp = n; condition = condition_of n m }
+-- how a step of a run finds its processor
+abbrev pub seen : RunStep → SeenStep
+seen step = record {
+  turn = step.before.turns;
+  pp = step.processor;
+  condition = condition_of step.processor step.before;
+}
 
--- all steps, where a machine takes these
-unfoldable pub seen_steps : List ℕ → MachineState → List SeenStep
-seen_steps [] m = []
-seen_steps (n ∷ steps) m = seen_step n m ∷ seen_steps steps (stepped n m)
+-- what is noted before it
+abbrev pub found_in : RunStep → Found
+found_in step =
+    let pp = processor_of step.processor step.before in
+    record { turn = step.before.turns; state = pp.state; need = need pp; block = pp.block }
 
 -- whether a step is shown: of a turn in the window, which the run does not go past, or in the round
 -- before it, whose steps say how the processors stand where the window begins
@@ -66,22 +72,8 @@ is_shown w step = nat_le (w.from - processor_count) step.turn
 
 -- the steps that are shown, of a run of a machine to the end of the window
 abbrev pub seen_in_window : Window → MachineState → List SeenStep
-seen_in_window w m = filter (is_shown w) (seen_steps (barrel m.profile w.to) m)
+seen_in_window w m = filter (is_shown w) (map seen (run_steps (barrel m.profile w.to) m))
 
--- whether the step of the barrel after this many turns makes an event, which is kept in the trace
-abbrev pub MakesEvent : MachineState → ℕ → Type 0
-MakesEvent m turns =
-    IsSome (step_event (processor_in_turn m.profile turns) (run (barrel m.profile turns) m))
-
--- whether it is shown, and so kept to be drawn
-abbrev pub IsKept : Window → MachineState → ℕ → Type 0
-IsKept w m turns =
-    IsTrue (is_shown w
-    (seen_step (processor_in_turn m.profile turns) (run (barrel m.profile turns) m)))
-
--- a run to the end of a window is cut after this many turns where something had to be kept: in
--- front of a step that makes an event, or behind one that is shown
-abbrev pub IsCutAtGrowth : Window → MachineState → ℕ → Type 0
-IsCutAtGrowth w m done =
-    ((done < w.to) × MakesEvent m done)
-    ⊎ ((last : ℕ) × (done ≡ last + 1) × (last < w.to) × IsKept w m last)
+-- whether a step is shown, and so kept to be drawn
+abbrev pub IsKept : Window → RunStep → Type 0
+IsKept w step = IsTrue (is_shown w (seen step))

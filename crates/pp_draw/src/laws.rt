@@ -12,15 +12,15 @@ ghost use Rattle.pp_machine.specs.MachineState.{MachineState, history_of};
 ghost use Rattle.pp_machine.specs.MachineStep.{counted};
 ghost use Rattle.pp_machine.specs.PpNo.{processor_count};
 ghost use Rattle.pp_machine.specs.Run.{barrel};
-ghost use Rattle.pp_steps.specs.StepsText.{run_steps};
+ghost use Rattle.pp_run.specs.RunSteps.{run_steps};
 ghost use Rattle.pp_draw.specs.Condition.{condition_after, goes_on, is_sent};
 ghost use Rattle.pp_draw.specs.DrawingText.{channel_lane, count_below, drawing, processor_lane};
-ghost use Rattle.pp_draw.specs.DrawingLaw.{Adjoin, GoesToEnd, IsTurnOf, StandsWithin, condition_at, condition_in, first_turn, goes_on_from, last_step, opening_turns, seen, turns_on};
+ghost use Rattle.pp_draw.specs.DrawingLaw.{Adjoin, GoesToEnd, IsTurnOf, StandsWithin, condition_at, condition_in, first_turn, goes_on_from, last_step, opening_turns, turns_on};
 ghost use Rattle.pp_draw.specs.Elements.{band_element};
 ghost use Rattle.pp_draw.specs.Lane.{drawn_from, next_in};
 ghost use Rattle.pp_draw.specs.Part.{is_lost, is_visible, part_of};
 ghost use Rattle.pp_draw.specs.Phases.{channel_phases, phases_from, processor_phases};
-ghost use Rattle.pp_draw.specs.SeenStep.{condition_of, is_shown, seen_in_window, seen_steps};
+ghost use Rattle.pp_draw.specs.SeenStep.{condition_of, is_shown, seen, seen_in_window};
 ghost use Rattle.pp_draw.specs.WellFormed.{IsWellFormed};
 ghost use Rattle.pp_draw.specs.declared.condition.Condition.{Condition};
 ghost use Rattle.pp_draw.specs.declared.part.Phase.{Phase};
@@ -36,8 +36,6 @@ ghost use Rattle.pp_draw.specs.declared.window.Window.{Window};
 /// is drawn as lost where a Disconnect comes next after its Put. And every drawing is well-formed
 /// XML.
 pub fn drawing_law()
-    ensures steps { (steps : List ℕ) (m : MachineState)
-        → seen_steps steps m ≡ map seen (run_steps steps m) }
     ensures history { (c : ℕ) (m : MachineState) → IsTrue (names_channel c)
         → HoldsOnEachChannel m
         → map condition_in (channel_phases c m) ≡ map condition_after (history_of c m) }

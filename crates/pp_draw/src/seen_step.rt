@@ -1,16 +1,17 @@
 //! Runs that see how each step found its processor.
 
-ghost use Rattle.std.specs.Prelude.{◌≡◌, ◌≤◌, ◌++◌, ◌∷◌, [], IfErr, IfOk, IsSome, IsTrue, OnErr, OnOk};
+ghost use Rattle.std.specs.Prelude.{◌≡◌, ◌++◌, ◌∷◌, [], map, IfErr, IfOk, IsTrue, OnErr, OnOk};
 ghost use Rattle.std.specs.List.{filter};
 ghost use Rattle.pp_machine.specs.Headline.{HoldsOnEachChannel};
-ghost use Rattle.pp_machine.specs.MachineStep.{step_event, stepped};
 ghost use Rattle.pp_machine.specs.Run.{barrel, run};
-ghost use Rattle.pp_draw.specs.SeenStep.{IsCutAtGrowth, condition_by, held_by, is_shown, moving, running, seen_in_window, seen_step};
+ghost use Rattle.pp_run.specs.RunSteps.{IsCutAt};
+ghost use Rattle.pp_draw.specs.SeenStep.{IsKept, condition_by, found_in, held_by, is_shown, moving, running, seen, seen_in_window};
 
 use crate::condition::Condition;
 use crate::window::Window;
 use pp_channel::Memory;
 use pp_machine::{Block, Cut, Machine, Need, Outcome, PROCESSORS, PpNo, PpState};
+use pp_run::{Observer, run_observed};
 use std::alloc::Allocator;
 
 /// A step of a run.
@@ -36,49 +37,69 @@ pub fn run_seeing_steps<A: Allocator>(
     ensures seen { IfOk result (λ steps. steps.items ≡ seen_in_window window machine.old) }
     ensures cut { IfErr result (λ c.
         machine.new ≡ run (barrel machine.old.profile c.done) machine.old) }
-    ensures within { IfErr result (λ c. c.done ≤ window.to) }
     // A run is cut only where an event or a step had to be kept.
-    ensures cut_at_growth { IfErr result (λ c. IsCutAtGrowth window machine.old c.done) }
+    ensures cut_at { IfErr result (λ c.
+        IsCutAt (IsKept window) window.to machine.old c.done) }
     ensures headline { HoldsOnEachChannel machine.new }
 {
-    // The call says to the proof that the machine is sound.
-    let _sound = machine.turns();
-    let round = machine.profile().processors() as u32;
-    let mut steps = Vec::new(alloc);
-    for turn in 0..window.to {
-        let n = PpNo::at((turn % round) as usize);
-        let Ok(step) = see_step(machine, n) else {
-            return Err(Cut {
-                done: u64::from(turn),
-            });
-        };
-        let Ok(()) = keep_step(&mut steps, window, step) else {
-            return Err(Cut {
-                done: u64::from(turn) + 1,
-            });
-        };
-    }
-    Ok(steps)
+    let mut shown = ShownSteps {
+        window,
+        steps: Vec::new(alloc),
+    };
+    run_observed(machine, window.to, &mut shown)?;
+    Ok(shown.steps)
 }
 
-/// One step of a processor, and how it found it.
-fn see_step<A: Allocator>(machine: &mut Machine<A>, n: PpNo) -> Result<SeenStep, Memory>
-    ensures stepped { OnOk result (machine.new ≡ stepped n machine.old) }
-    ensures seen { IfOk result (λ step. step ≡ seen_step n machine.old) }
-    ensures unchanged_after_memory { OnErr result (machine.new ≡ machine.old) }
-    ensures cut_at_event { OnErr result (IsSome (step_event n machine.old)) }
-    ensures headline { HoldsOnEachChannel machine.new }
-{
-    let turn = machine.turns();
-    let need = machine.pp(n).wants();
-    let block = machine.pp(n).block();
-    let state = machine.pp(n).state();
-    let outcome = machine.step(n)?;
-    Ok(SeenStep {
-        turn,
-        pp: n,
-        condition: condition_by(state, outcome, &need, &block),
-    })
+/// The steps that are shown in a window.
+#[derive(Drop)]
+struct ShownSteps<A: Allocator> {
+    window: Window,
+    steps: Vec<SeenStep, A>,
+}
+
+/// What is noted of a machine and a processor before a step.
+#[derive(Clone, Copy, Debug)]
+struct Found {
+    turn: u64,
+    state: PpState,
+    need: Need,
+    block: Option<Block>,
+}
+
+impl<A: Allocator> Observer<A> for ShownSteps<A> {
+    type Note = Found;
+
+    ghost HasSeen = { λ start steps shown. (shown.window ≡ start.window)
+        × (shown.steps.items ≡ filter (is_shown start.window) (map seen steps)) };
+
+    ghost IsNote = { λ found step. found ≡ found_in step };
+
+    ghost Keeps = { λ start step. IsKept start.window step };
+
+    fn note(&self, machine: &Machine<A>, n: PpNo) -> Found {
+        Found {
+            turn: machine.turns(),
+            state: machine.pp(n).state(),
+            need: machine.pp(n).wants(),
+            block: machine.pp(n).block(),
+        }
+    }
+
+    fn see(
+        &mut self,
+        found: &Found,
+        _machine: &Machine<A>,
+        n: PpNo,
+        outcome: Outcome,
+    ) -> Result<(), Memory> {
+        let condition = condition_by(found.state, outcome, &found.need, &found.block);
+        let step = SeenStep {
+            turn: found.turn,
+            pp: n,
+            condition,
+        };
+        keep_step(&mut self.steps, self.window, step)
+    }
 }
 
 /// Keeps a step that is shown, where it is: in the window, or in the round before it.

@@ -5,11 +5,10 @@ use Rattle.std.specs.List.{flat_map, range_with_len}
 use Rattle.std.proofs.lemmas.List.{append-nil, length-set}
 use Rattle.pp_machine.specs.MachineState.{processor_of}
 use Rattle.pp_machine.specs.Processor.{Processor, word_at}
-use Rattle.pp_machine.specs.PpNo.{processor_count, processor_number, is_named}
+use Rattle.pp_machine.specs.PpNo.{processor_count, processor_number, is_named, each_processor}
 use Rattle.pp_machine.specs.declared.pp_state.PpState.{PpState}
 use Rattle.pp_machine.specs.declared.pp_state.PpState.TheVariants.{Running, Stopped, Fault}
 use Rattle.pp_deck.specs.DeckLine.{central_size, section, dead_start}
-use Rattle.pp_deck.specs.DeckLoad.{each_processor}
 use Rattle.pp_deck.specs.DeckMeaning.{LoadedDeck}
 use Rattle.list_facts.specs.Tables.{tabulate_is}
 use Rattle.pp_listing.specs.Dump.{deck_to_go_on, dump, is_in_use, left_of}

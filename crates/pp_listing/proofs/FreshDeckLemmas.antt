@@ -9,12 +9,12 @@ use Rattle.pp_machine.specs.Central.{IsCentral}
 use Rattle.pp_machine.specs.MachineState.{MachineState, new_machine, is_opened}
 use Rattle.pp_machine.specs.PpMemory.{empty_memory}
 use Rattle.pp_machine.specs.Processor.{Processor, new_processor, no_processor}
-use Rattle.pp_machine.specs.PpNo.{names_processor, processor_count, processor_index, processor_number}
+use Rattle.pp_machine.specs.PpNo.{names_processor, processor_count, processor_index, processor_number, each_processor}
 use Rattle.pp_machine.specs.Profile.{has_processor}
 use Rattle.pp_machine.specs.declared.profile.Profile.{Profile}
 use Rattle.pp_machine.specs.ProcessorPlaces.{number_named, place_of_number}
 use Rattle.pp_deck.specs.DeckLine.{Line}
-use Rattle.pp_deck.specs.DeckLoad.{start_in, lines_for, is_named, each_processor, memory_of, central_loaded, processor_with, processor_loaded}
+use Rattle.pp_deck.specs.DeckLoad.{start_in, lines_for, is_named, memory_of, central_loaded, processor_with, processor_loaded}
 use Rattle.pp_deck.specs.DeckMeaning.{LoadedDeck, deck_meaning, loaded, set_by, with_dead_start, meaning_of_lines}
 use Rattle.list_facts.specs.GrowingLists.{last_of}
 use Rattle.list_facts.specs.Tables.{tabulate_is, tabulate_const}

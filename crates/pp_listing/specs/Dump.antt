@@ -4,12 +4,11 @@ use Rattle.pp_channel.specs.ChannelNo.{names_channel}
 use Rattle.pp_channel.specs.History.{active}
 use Rattle.pp_machine.specs.MachineState.{MachineState, new_machine, processor_of, history_of, is_opened}
 use Rattle.pp_machine.specs.Processor.{Processor, new_processor}
-use Rattle.pp_machine.specs.PpNo.{names_processor, is_named}
+use Rattle.pp_machine.specs.PpNo.{names_processor, is_named, each_processor}
 use Rattle.pp_machine.specs.Run.{run}
 use Rattle.pp_machine.specs.declared.block.Block.{Block}
 use Rattle.pp_machine.specs.declared.pp_state.PpState.{PpState}
 use Rattle.pp_machine.specs.declared.pp_state.PpState.TheVariants.{Running, Fault}
-use Rattle.pp_deck.specs.DeckLoad.{each_processor}
 use Rattle.pp_deck.specs.DeckMeaning.{LoadedDeck, deck_meaning}
 use Rattle.pp_listing.specs.Listing.{listing, numbers}
 use Rattle.pp_listing.specs.declared.dumped_deck.DumpFault.{DumpFault}

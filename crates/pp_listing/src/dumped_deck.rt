@@ -1,9 +1,9 @@
 //! Dumps.
 
 ghost use Rattle.std.specs.Prelude.{◌≡◌, Some, None, IfOk, IfErr, OnOk};
-ghost use Rattle.pp_deck.specs.DeckLoad.{each_processor};
 ghost use Rattle.pp_machine.specs.MachineState.{is_opened};
 ghost use Rattle.pp_listing.specs.Dump.{GoesOnFrom, IsDumpFault, dump, first_going_on, is_in_use};
+ghost use Rattle.pp_machine.specs.PpNo.{each_processor};
 
 use crate::going_on::{GoingOn, first_going_on};
 use crate::listed_deck::{push_central, push_size};

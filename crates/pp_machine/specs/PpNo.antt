@@ -3,6 +3,7 @@
 -- peripheral processors: ten, numbered 0 to 11 (octal), which take turns in a barrel. A machine of
 -- twenty has ten more, numbered 20 to 31, which follow them in the barrel.)
 use Rattle.std.specs.Prelude.{ℕ, ◌+◌, ◌-◌, ◌&&◌, ◌||◌, Bool, false, List, nat_lt, slice_index_or, if◌then◌else◌}
+use Rattle.list_facts.specs.Tables.{tabulate}
 
 -- how many processors there are
 abbrev pub processor_count : ℕ
@@ -21,6 +22,10 @@ processor_index number =
 -- the number of the processor at a place
 unfoldable pub processor_number : ℕ → ℕ
 processor_number place = if nat_lt place 0o12 then place else place + 6
+
+-- something for each processor, in the order of the barrel
+abbrev pub each_processor : {A : Type 0} → (ℕ → A) → List A
+each_processor of = tabulate processor_count (λ place. of (processor_number place))
 
 -- whether there is a processor with this number, and flags for all places name it
 abbrev pub is_named : List Bool → ℕ → Bool

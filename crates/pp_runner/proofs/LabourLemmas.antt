@@ -30,9 +30,11 @@ use Rattle.pp_machine.specs.declared.answer.Answer.TheVariants as answers
 use Rattle.pp_machine.specs.declared.need.Need.{Need}
 use Rattle.pp_machine.specs.declared.need.Need.TheVariants as needs
 use Rattle.pp_machine.specs.declared.outcome.Outcome.TheVariants.{Moved}
-use Rattle.pp_runner.proofs.LogLemmas.{looked_at, BeginsWith, begins_with, events_done, events_in-push, sights_in-push, stands_push, stands_done}
+use Rattle.pp_runner.proofs.LogLemmas.{looked_at, BeginsWith, begins_with, events_done, events_in-push, sights_in-push, stands_done}
 use Rattle.pp_runner.proofs.ReplyLemmas.{sight_of, reply_to_channel}
-use Rattle.pp_runner.specs.WorkerReport.{OfEachAnswer, IsBySize, event_in, events_in, sights_in, IsSubsequence}
+use Rattle.pp_runner.specs.WorkerReport.{OfEachAnswer, IsBySize, event_in, events_in, sights_in}
+use Rattle.list_facts.specs.Subsequence.{IsSubsequence}
+use Rattle.list_facts.specs.Subsequences.{stands_push}
 use Rattle.pp_runner.specs.Labour.{HasEntries, IsAtWork, IsAnswered, IsNoted}
 use Rattle.pp_runner.specs.End.{WasHeld, NeedsChannel}
 

@@ -1,5 +1,5 @@
 -- Logs with one entry more, and the lists that stand in them.
-use Rattle.std.proofs.Common.{◌≡◌, ℕ, ◌+◌, ◌-◌, ◌≤◌, true, false, List, [], ◌∷◌, ◌++◌, length, Option, None, Some, refl, sym, ap, ◌∙◌, subst, inl, inr, arith}
+use Rattle.std.proofs.Common.{◌≡◌, ℕ, ◌+◌, ◌-◌, ◌≤◌, true, false, List, [], ◌∷◌, ◌++◌, length, Option, None, Some, refl, sym, ap, ◌∙◌, subst, arith}
 use Rattle.std.specs.Prelude.{◌==◌, not, IsTrue, slice_set}
 use Rattle.std.specs.List.{last_or}
 use Rattle.std.proofs.lemmas.List.{map-append, append-nil, length-append}
@@ -13,7 +13,9 @@ use Rattle.pp_channel.specs.declared.entry.Seen.{Seen}
 use Rattle.pp_channel.specs.declared.entry.Seen.TheVariants.{Did, Saw}
 use Rattle.pp_machine.specs.Replay.{OfChannel}
 use Rattle.pp_runner.specs.Labour.{HasEntries}
-use Rattle.pp_runner.specs.WorkerReport.{event_in, events_in, sights_in, IsSubsequence}
+use Rattle.pp_runner.specs.WorkerReport.{event_in, events_in, sights_in}
+use Rattle.list_facts.specs.Subsequence.{IsSubsequence}
+use Rattle.list_facts.specs.Subsequences.{stands_more}
 
 set_last : {X : Type 0} (front : List X) (x y : X) → slice_set (front ++ x ∷ []) (length (front ++ x ∷ []) - 1) y ≡ front ++ y ∷ []
 set_last front x y =
@@ -90,20 +92,6 @@ events_in-push xs ys = filter_map-append (λ entry. event_in entry.channel entry
 
 pub sights_in-push : (xs ys : List Entry) → sights_in (xs ++ ys) ≡ sights_in xs ++ sights_in ys
 sights_in-push xs ys = map-append (λ entry. record { channel = entry.channel; what = entry.what }) xs ys
-
--- what stands in a list stands in it with more behind, and with the same element behind both
-pub stands_more : {X : Type 0} (xs ys zs : List X) → IsSubsequence xs ys → IsSubsequence xs (ys ++ zs)
-stands_more [] ys zs h = tt
-stands_more (x ∷ xs) [] zs h = absurd h
-stands_more (x ∷ xs) (y ∷ ys) zs h =
-    elim h [ inl p ↦ inl (p.0, stands_more xs ys zs p.1) | inr q ↦ inr (stands_more (x ∷ xs) ys zs q) ]
-
-pub stands_push : {X : Type 0} (xs ys : List X) (z : X) → IsSubsequence xs ys → IsSubsequence (xs ++ z ∷ []) (ys ++ z ∷ [])
-stands_push [] [] z h = inl (refl, tt)
-stands_push [] (y ∷ ys) z h = inr (stands_push [] ys z tt)
-stands_push (x ∷ xs) [] z h = absurd h
-stands_push (x ∷ xs) (y ∷ ys) z h =
-    elim h [ inl p ↦ inl (p.0, stands_push xs ys z p.1) | inr q ↦ inr (stands_push (x ∷ xs) ys z q) ]
 
 -- what stands in the entries with which a log begins stands in the log
 pub stands_done : (done : List Entry) (log : LogState) (xs : List (OfChannel Seen)) → BeginsWith done log → IsSubsequence xs (sights_in done) → IsSubsequence xs (sights_in log.entries)

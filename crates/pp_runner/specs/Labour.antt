@@ -12,7 +12,8 @@ use Rattle.pp_machine.specs.Processor.{Processor}
 use Rattle.pp_machine.specs.Replay.{OfChannel, fits, given_by, replayed, given_count, events_given, sights_given}
 use Rattle.pp_machine.specs.declared.answer.Answer.{Answer}
 use Rattle.pp_machine.specs.declared.need.Need.{Need}
-use Rattle.pp_runner.specs.WorkerReport.{AllMoved, AllBySize, IsBySize, events_in, sights_in, IsSubsequence}
+use Rattle.pp_runner.specs.WorkerReport.{AllMoved, AllBySize, IsBySize, events_in, sights_in}
+use Rattle.list_facts.specs.Subsequence.{IsSubsequence}
 use Rattle.pp_runner.specs.End.{WasHeld}
 
 -- The log has the entries of the steps that are done, and then the look, if there is one, that has
@@ -89,12 +90,13 @@ pub record HasSeen (happened : ℕ → ℕ) (line : LineState) : Type 0 where
 abbrev pub NoneOlder : (ℕ → ℕ) → List Entry → Type 0
 NoneOlder happened log = All (λ entry. happened entry.channel ≤ entry.number) log
 
--- The same line, later: it stands at the same channels, with as many shares. It has forgotten
--- nothing, and no entry that came is older than what it had seen.
+-- The same line, later: it stands at the same channels, with as many shares and program orders. It has
+-- forgotten nothing, and no entry that came is older than what it had seen.
 pub record IsSameLine (before after : LineState) : Type 0 where
   pub shares : after.view.shares ≡ before.view.shares
   pub whole : after.view.whole ≡ before.view.whole
   pub table : after.table ≡ before.table
+  pub program_orders : length after.view.program_orders ≡ length before.view.program_orders
   pub seen : (happened : ℕ → ℕ) → HasSeen happened before → HasSeen happened after
   pub none_older : (happened : ℕ → ℕ) → HasSeen happened before
       → NoneOlder happened before.log.entries → NoneOlder happened after.log.entries

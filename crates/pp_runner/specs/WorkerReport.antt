@@ -1,7 +1,8 @@
 -- What a worker leaves: its answers, its log, and the whole.
-use Rattle.std.specs.Prelude.{◌≡◌, ◌≤◌, ◌+◌, ◌*◌, ℕ, List, [], ◌∷◌, length, ◌↔◌, ◌<◌, IsNone, IsTrue, Some, slice_get, take, ◌⊎◌, map, Option, None, filter_map}
+use Rattle.std.specs.Prelude.{◌≡◌, ◌≤◌, ◌+◌, ◌*◌, ℕ, List, [], ◌∷◌, length, ◌↔◌, ◌<◌, IsNone, IsTrue, Some, slice_get, take, map, Option, None, filter_map}
 use Rattle.std.specs.List.{AllZip, flat_map}
 use Rattle.std.specs.declared.vec.Vec.{Vec}
+use Rattle.list_facts.specs.Subsequence.{IsSubsequence}
 use Rattle.pp_channel.specs.LineLog.{IsMonotone}
 use Rattle.pp_channel.specs.declared.entry.Entry.{Entry}
 use Rattle.pp_channel.specs.declared.entry.Seen.{Seen}
@@ -46,12 +47,6 @@ events_in log = filter_map (λ entry. event_in entry.channel entry.what) log
 -- the events and the looks of a log, in order
 abbrev pub sights_in : List Entry → List (OfChannel Seen)
 sights_in log = map (λ entry. record { channel = entry.channel; what = entry.what }) log
-
--- The first list stands in the second: in its order, each item at a place of its own.
-abbrev pub IsSubsequence : {X : Type 0} → List X → List X → Type 0
-IsSubsequence [] ys = Unit {0}
-IsSubsequence (x ∷ xs) [] = ⊥
-IsSubsequence (x ∷ xs) (y ∷ ys) = ((x ≡ y) × IsSubsequence xs ys) ⊎ IsSubsequence (x ∷ xs) ys
 
 -- A worker that began with this processor, beside central memory of this size, and was to make this
 -- many steps at most: it leaves the replay of its answers; this log records what that did and saw.

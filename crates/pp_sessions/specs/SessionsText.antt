@@ -8,6 +8,7 @@ use Rattle.pp_machine.specs.Run.{run}
 use Rattle.pp_deck.specs.DeckMeaning.{LoadedDeck}
 use Rattle.pp_text.specs.Numeral.{decimal, octal, short_decimal}
 use Rattle.pp_text.specs.PrintedText.{each_below, line_end}
+use Rattle.pp_run.specs.RunSteps.{run_steps}
 use Rattle.pp_sessions.specs.StepCounts.{each_step_counts, no_steps}
 use Rattle.pp_sessions.specs.Stretches.{is_session, stretches, tally_of}
 use Rattle.pp_sessions.specs.TimedEvents.{timed_events}
@@ -100,4 +101,4 @@ sessions_text named m counts =
 -- the text of a loaded deck after these steps
 abbrev pub sessions_after : List ℕ → LoadedDeck → List ℕ
 sessions_after steps deck =
-    sessions_text deck.named (run steps deck.machine) (each_step_counts steps deck.machine)
+    sessions_text deck.named (run steps deck.machine) (each_step_counts (run_steps steps deck.machine))

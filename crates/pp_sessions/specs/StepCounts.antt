@@ -1,11 +1,10 @@
 -- How many steps moved a processor, were held, and found it at rest.
 use Rattle.std.specs.Prelude.{ℕ, Bool, true, false, List, count_by}
-use Rattle.pp_machine.specs.MachineState.{MachineState}
 use Rattle.pp_machine.specs.declared.outcome.Outcome.{Outcome}
 use Rattle.pp_machine.specs.declared.outcome.Outcome.TheVariants.{Moved, Held, AtRest}
-use Rattle.pp_deck.specs.DeckLoad.{each_processor}
-use Rattle.pp_state.specs.HeldSteps.{outcomes}
+use Rattle.pp_run.specs.RunSteps.{RunStep, outcome_of, seen_of}
 use Rattle.pp_sessions.specs.declared.step_counts.StepCounts.{StepCounts}
+use Rattle.pp_machine.specs.PpNo.{each_processor}
 
 abbrev pub is_moved : Outcome → Bool
 is_moved Moved = true
@@ -27,13 +26,13 @@ counts_of steps = record {
   at_rest = count_by is_at_rest steps;
 }
 
--- the same of the steps of processor n, where a machine takes these steps
-abbrev pub step_counts : ℕ → List ℕ → MachineState → StepCounts
-step_counts n steps m = counts_of (outcomes n steps m)
+-- the same of the steps of processor n
+abbrev pub step_counts : ℕ → List RunStep → StepCounts
+step_counts n steps = counts_of (seen_of outcome_of n steps)
 
 -- and of each processor, in the order of the barrel
-abbrev pub each_step_counts : List ℕ → MachineState → List StepCounts
-each_step_counts steps m = each_processor (λ n. step_counts n steps m)
+abbrev pub each_step_counts : List RunStep → List StepCounts
+each_step_counts steps = each_processor (λ n. step_counts n steps)
 
 -- no steps
 abbrev pub no_steps : StepCounts

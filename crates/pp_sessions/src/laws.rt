@@ -8,6 +8,7 @@ ghost use Rattle.pp_channel.specs.History.{Course, events_of, idle_stretch};
 ghost use Rattle.pp_channel.specs.Session.{Session};
 ghost use Rattle.pp_machine.specs.Headline.{HoldsOnEachChannel};
 ghost use Rattle.pp_machine.specs.MachineState.{MachineState, history_of};
+ghost use Rattle.pp_run.specs.RunSteps.{run_steps};
 ghost use Rattle.pp_sessions.specs.SessionsLaw.{TellsIdle, TellsMoments, TellsSession, session_events, stretches_of};
 ghost use Rattle.pp_sessions.specs.SessionsText.{lines_from};
 ghost use Rattle.pp_sessions.specs.StepCounts.{step_counts};
@@ -50,6 +51,6 @@ pub fn sessions_law()
 /// steps.
 pub fn counts_law()
     ensures { (n : ℕ) (steps : List ℕ) (m : MachineState)
-        → let counts = step_counts n steps m in
+        → let counts = step_counts n (run_steps steps m) in
         counts.moved + counts.held + counts.at_rest ≡ count_by (λ k. k == n) steps }
 {}

@@ -1,14 +1,17 @@
 //! Runs that count what their steps did.
 
-ghost use Rattle.std.specs.Prelude.{◌≡◌, ◌+◌, ◌<◌, ◌^◌, ◌++◌, ◌∷◌, [], List, IfErr, IfOk, IsSome, OnOk};
+ghost use Rattle.std.specs.Prelude.{◌≡◌, ◌+◌, ◌<◌, ◌^◌, ◌++◌, ◌∷◌, [], List, length, IfErr, IfOk, IsSome, OnOk};
 ghost use Rattle.pp_machine.specs.Headline.{HoldsOnEachChannel};
 ghost use Rattle.pp_machine.specs.MachineStep.{step_event};
 ghost use Rattle.pp_machine.specs.Profile.{processor_in_turn};
 ghost use Rattle.pp_machine.specs.Run.{barrel, run};
 ghost use Rattle.pp_machine.specs.declared.outcome.Outcome.{Outcome};
+ghost use Rattle.pp_run.specs.RunSteps.{run_steps};
 ghost use Rattle.pp_sessions.specs.StepCounts.{counts_of, each_step_counts};
 
+use pp_channel::Memory;
 use pp_machine::{Cut, Machine, Outcome, PROCESSORS, PpNo};
+use pp_run::{Observer, run_observed};
 use std::alloc::Allocator;
 
 /// How many steps of a processor did what (decimal).
@@ -32,17 +35,14 @@ impl StepCounts {
 
     /// Those with a step more.
     fn with(self, outcome: Outcome) -> StepCounts
-        requires moved { self.moved + 1 < 2 ^ 32 }
-        requires held { self.held + 1 < 2 ^ 32 }
-        requires at_rest { self.at_rest + 1 < 2 ^ 32 }
-        ensures { (steps : List Outcome) → self ≡ counts_of steps
+        ensures { (steps : List Outcome) → length steps + 1 < 2 ^ 32 → self ≡ counts_of steps
             → result ≡ counts_of (steps ++ outcome ∷ []) }
     {
         let mut counts = self;
         match outcome {
-            Outcome::Moved => counts.moved += 1,
-            Outcome::Held => counts.held += 1,
-            Outcome::AtRest => counts.at_rest += 1,
+            Outcome::Moved => counts.moved = self.moved.saturating_add(1),
+            Outcome::Held => counts.held = self.held.saturating_add(1),
+            Outcome::AtRest => counts.at_rest = self.at_rest.saturating_add(1),
         }
         counts
     }
@@ -51,13 +51,14 @@ impl StepCounts {
 /// Runs so many turns of the barrel (decimal), as `Machine::run_barrel` does, and says of each
 /// processor, in the order of the barrel, how many of its steps moved it, were held, and found it
 /// at rest.
+#[tactic(auto, unfolding(list_facts::specs::Tables::tabulate))]
 pub fn run_counting_steps<A: Allocator>(
     machine: &mut Machine<A>,
     turns: u32,
 ) -> Result<[StepCounts; PROCESSORS], Cut>
     ensures ran { OnOk result (machine.new ≡ run (barrel machine.old.profile turns) machine.old) }
     ensures counts { IfOk result (λ counts.
-        counts ≡ each_step_counts (barrel machine.old.profile turns) machine.old) }
+        counts ≡ each_step_counts (run_steps (barrel machine.old.profile turns) machine.old)) }
     ensures cut { IfErr result (λ c.
         machine.new ≡ run (barrel machine.old.profile c.done) machine.old) }
     ensures within { IfErr result (λ c. c.done < turns) }
@@ -66,18 +67,31 @@ pub fn run_counting_steps<A: Allocator>(
         IsSome (step_event (processor_in_turn machine.old.profile c.done) machine.new)) }
     ensures headline { HoldsOnEachChannel machine.new }
 {
-    // The call says to the proof that the machine is sound.
-    let _sound = machine.turns();
-    let round = machine.profile().processors() as u32;
-    let mut counts = [StepCounts::NONE; PROCESSORS];
-    for turn in 0..turns {
-        let n = PpNo::at((turn % round) as usize);
-        let Ok(outcome) = machine.step(n) else {
-            return Err(Cut {
-                done: u64::from(turn),
-            });
-        };
-        counts[n.index()] = counts[n.index()].with(outcome);
+    let mut counts = EachStepCounts([StepCounts::NONE; PROCESSORS]);
+    run_observed(machine, turns, &mut counts)?;
+    Ok(counts.0)
+}
+
+/// The counts of each processor.
+#[derive(Drop)]
+struct EachStepCounts([StepCounts; PROCESSORS]);
+
+impl<A: Allocator> Observer<A> for EachStepCounts {
+    type Note = ();
+
+    ghost HasSeen = { λ start steps counts. counts.0 ≡ each_step_counts steps };
+
+    fn note(&self, _machine: &Machine<A>, _n: PpNo) {}
+
+    fn see(
+        &mut self,
+        _note: &(),
+        _machine: &Machine<A>,
+        n: PpNo,
+        outcome: Outcome,
+    ) -> Result<(), Memory> {
+        let counts = &mut self.0[n.index()];
+        *counts = counts.with(outcome);
+        Ok(())
     }
-    Ok(counts)
 }

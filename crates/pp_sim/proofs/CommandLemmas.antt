@@ -143,6 +143,8 @@ no_picture name text_of w draw reads long (works.State profile turns) k =
     let bad : 115 ≡ 100 = ap (λ (t : Text). slice_index t 0) (sym k.0 ∙ draw) in absurd (omega (arith, bad))
 no_picture name text_of w draw reads long (works.Sessions profile turns) k =
     let bad : 115 ≡ 100 = ap (λ (t : Text). slice_index t 0) (sym k.0 ∙ draw) in absurd (omega (arith, bad))
+no_picture name text_of w draw reads long (works.Races profile turns) k =
+    let bad : 114 ≡ 100 = ap (λ (t : Text). slice_index t 0) (sym k.0 ∙ draw) in absurd (omega (arith, bad))
 no_picture name text_of w draw reads long (works.Steps profile turns only from) k =
     let bad : 115 ≡ 100 = ap (λ (t : Text). slice_index t 0) (sym k.0 ∙ draw) in absurd (omega (arith, bad))
 no_picture name text_of w draw reads long (works.Check opened) k =
@@ -166,6 +168,8 @@ work_by_rows name f (works.Dump profile turns) k =
 work_by_rows name f (works.State profile turns) k =
     (k.0, rw (← first_value-rows f (codes "processors")) k.1, rw (← first_value-rows f (codes "turns")) k.2, k.3)
 work_by_rows name f (works.Sessions profile turns) k =
+    (k.0, rw (← first_value-rows f (codes "processors")) k.1, rw (← first_value-rows f (codes "turns")) k.2, k.3)
+work_by_rows name f (works.Races profile turns) k =
     (k.0, rw (← first_value-rows f (codes "processors")) k.1, rw (← first_value-rows f (codes "turns")) k.2, k.3)
 work_by_rows name f (works.Steps profile turns only from) k = (
   k.0,
@@ -199,6 +203,8 @@ work_by_values name f (works.Dump profile turns) k =
 work_by_values name f (works.State profile turns) k =
     (k.0, rw (first_value-rows f (codes "processors")) k.1, rw (first_value-rows f (codes "turns")) k.2, k.3)
 work_by_values name f (works.Sessions profile turns) k =
+    (k.0, rw (first_value-rows f (codes "processors")) k.1, rw (first_value-rows f (codes "turns")) k.2, k.3)
+work_by_values name f (works.Races profile turns) k =
     (k.0, rw (first_value-rows f (codes "processors")) k.1, rw (first_value-rows f (codes "turns")) k.2, k.3)
 work_by_values name f (works.Steps profile turns only from) k = (
   k.0,

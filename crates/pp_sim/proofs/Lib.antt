@@ -6,3 +6,4 @@ mod NumeralLemmas
 mod ReportLemmas
 mod StateLemmas
 mod PrintedLemmas
+mod RacesLemmas

@@ -16,8 +16,8 @@ use Rattle.pp_sim.specs.declared.work.Work.{Work}
 
 -- THE COMMAND LINE, as clap sees it: `ppsim barrel --turns N`, `ppsim threads --steps N --patience
 -- N`, `ppsim list`, `ppsim dump --turns N`, `ppsim steps --turns N`, `ppsim state --turns N`,
--- `ppsim sessions --turns N`, `ppsim draw --turns N` or `ppsim check`, the command and its options
--- required; for each but `check` also `--processors N`, for `steps` `--pp N` and `--from N`, for
+-- `ppsim sessions --turns N`, `ppsim races --turns N`, `ppsim draw --turns N` or `ppsim check`, the
+-- command and its options required; for each but `check` also `--processors N`, for `steps` `--pp N` and `--from N`, for
 -- `draw` `--from N` and `--to N`, for `check` `--opened N,N,..`, which may be left out; or
 -- `ppsim --version`
 
@@ -64,12 +64,19 @@ bare = record (new_app (codes "ppsim")) {
   top = record (new_app (codes "ppsim")).top { has_version = true; subcommand_required = true };
 }
 
--- with all its commands
+-- an app with these commands as well
+abbrev pub with_commands : App → List App → App
+with_commands app commands = fold (λ app command. with_subcommand app command.top) app commands
+
+-- the commands that run a deck, print what it is and what its steps do
+abbrev pub runs_and_decks : App
+runs_and_decks = with_commands bare (turns_command (codes "barrel") ∷ threads ∷ list
+    ∷ turns_command (codes "dump") ∷ steps ∷ [])
+
+-- and those that say what came of it: all there are
 unfoldable pub ppsim : App
-ppsim =
-    fold (λ app command. with_subcommand app command.top) bare
-    (turns_command (codes "barrel") ∷ threads ∷ list ∷ turns_command (codes "dump") ∷ steps
-    ∷ turns_command (codes "state") ∷ turns_command (codes "sessions") ∷ draw ∷ check ∷ [])
+ppsim = with_commands runs_and_decks (turns_command (codes "state")
+    ∷ turns_command (codes "sessions") ∷ turns_command (codes "races") ∷ draw ∷ check ∷ [])
 
 -- the kinds of refusal that clap's parse may give to the words: none where they are a command line
 unfoldable pub refusals : List Text → Kinds
@@ -136,6 +143,9 @@ IsWorkOf name text_of (Work.State profile turns) =
     × ReadsNumber (text_of (codes "turns")) turns × (turns ≤ 999999)
 IsWorkOf name text_of (Work.Sessions profile turns) =
     (name ≡ codes "sessions") × ReadsProfile (text_of (codes "processors")) profile
+    × ReadsNumber (text_of (codes "turns")) turns × (turns ≤ 999999)
+IsWorkOf name text_of (Work.Races profile turns) =
+    (name ≡ codes "races") × ReadsProfile (text_of (codes "processors")) profile
     × ReadsNumber (text_of (codes "turns")) turns × (turns ≤ 999999)
 IsWorkOf name text_of (Work.Steps profile turns only from) =
     (name ≡ codes "steps") × ReadsProfile (text_of (codes "processors")) profile

@@ -6,6 +6,7 @@ pub mod CheckText
 pub mod DumpText
 pub mod StateText
 pub mod SessionsText
+pub mod RacesText
 pub mod StepsText
 pub mod DrawingText
 pub mod CommandLine

@@ -10,6 +10,7 @@ use Rattle.pp_sim.specs.CommandLine.{AskFor, IsRefused, refusals}
 use Rattle.pp_sim.specs.DrawingText.{IsDrawing}
 use Rattle.pp_sim.specs.DumpText.{HindersDump, IsDumpText}
 use Rattle.pp_sim.specs.ListText.{IsListText}
+use Rattle.pp_sim.specs.RacesText.{IsRacesText}
 use Rattle.pp_sim.specs.SessionsText.{IsSessionsText}
 use Rattle.pp_sim.specs.StateText.{IsStateText}
 use Rattle.pp_sim.specs.StepsText.{IsStepsText}
@@ -33,6 +34,7 @@ IsDone Z (Work.Dump profile turns) =
     AnswersDeckUnless profile (HindersDump turns) (IsDumpText turns)
 IsDone Z (Work.State profile turns) = AnswersDeck profile (IsStateText turns)
 IsDone Z (Work.Sessions profile turns) = AnswersDeck profile (IsSessionsText turns)
+IsDone Z (Work.Races profile turns) = AnswersDeck profile (IsRacesText turns)
 IsDone Z (Work.Steps profile turns only from) = AnswersDeck profile (IsStepsText turns only from)
 IsDone Z (Work.Draw profile window) = AnswersDeck profile (IsDrawing window)
 IsDone Z (Work.Check opened) = AnswersTrace opened

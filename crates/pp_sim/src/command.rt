@@ -3,11 +3,12 @@
 ghost use Rattle.std.specs.Prelude.{◌≡◌, false, IfOk};
 ghost use Rattle.clap.specs.Words.{app_of, new_app, rule_of, with_rule};
 ghost use Rattle.clap.specs.declared.builder.command.Command.TheViews.{out-Command as fields_of};
-ghost use Rattle.pp_sim.specs.CommandLine.{bare, check, draw, list, number_option, optional_value, processors_option, ppsim, steps, threads, turns_command};
+ghost use Rattle.pp_sim.specs.CommandLine.{bare, check, draw, list, number_option, optional_value, processors_option, ppsim, runs_and_decks, steps, threads, turns_command};
 
 use crate::help::{
     ABOUT, BARREL_HELP, CHECK_HELP, DRAW_HELP, DUMP_HELP, EXAMPLE, Help, LIST_HELP, MANUAL,
-    OPENED_HELP, PP_HELP, PROCESSORS_HELP, SESSIONS_HELP, STATE_HELP, STEPS_HELP, THREADS_HELP,
+    OPENED_HELP, PP_HELP, PROCESSORS_HELP, RACES_HELP, SESSIONS_HELP, STATE_HELP, STEPS_HELP,
+    THREADS_HELP,
 };
 use crate::number_range::{DRAWN_FROM, DRAWN_TO, FROM, NumberRange, PATIENCE, STEPS, TURNS};
 use clap::{Arg, ArgAction, Command};
@@ -166,28 +167,39 @@ fn bare_command<'a>(alloc: Global) -> Command<'a>
         .subcommand_required(true)
 }
 
-/// The whole command line.
-#[tactic(auto, unfolding(crate::specs::CommandLine::ppsim))]
-pub(crate) fn command<'a>(alloc: Global) -> Result<Command<'a>, AllocError>
-    ensures { IfOk result (λ c. app_of c ≡ ppsim) }
+/// The commands that run a deck, print what it is and what its steps do.
+fn runs_and_decks<'a>(alloc: Global) -> Result<Command<'a>, AllocError>
+    ensures { IfOk result (λ c. app_of c ≡ runs_and_decks) }
 {
     let barrel = turns_command(alloc, "barrel", BARREL_HELP)?;
     let threads = threads_command(alloc)?;
     let list = list_command(alloc)?;
     let dump = turns_command(alloc, "dump", DUMP_HELP)?;
     let steps = steps_command(alloc)?;
+    let bare = bare_command(alloc);
+    let with_barrel = bare.subcommand(barrel)?;
+    let with_threads = with_barrel.subcommand(threads)?;
+    let with_list = with_threads.subcommand(list)?;
+    let with_dump = with_list.subcommand(dump)?;
+    let with_steps = with_dump.subcommand(steps)?;
+    Ok(with_steps)
+}
+
+/// The whole command line.
+#[tactic(auto, unfolding(crate::specs::CommandLine::ppsim))]
+pub(crate) fn command<'a>(alloc: Global) -> Result<Command<'a>, AllocError>
+    ensures { IfOk result (λ c. app_of c ≡ ppsim) }
+{
+    let first = runs_and_decks(alloc)?;
     let state = turns_command(alloc, "state", STATE_HELP)?;
     let sessions = turns_command(alloc, "sessions", SESSIONS_HELP)?;
+    let races = turns_command(alloc, "races", RACES_HELP)?;
     let draw = draw_command(alloc)?;
     let check = check_command(alloc)?;
-    let bare = bare_command(alloc);
-    let runs = bare.subcommand(barrel)?.subcommand(threads)?;
-    let texts = runs.subcommand(list)?;
-    let decks = texts.subcommand(dump)?;
-    let with_steps = decks.subcommand(steps)?;
-    let with_state = with_steps.subcommand(state)?;
+    let with_state = first.subcommand(state)?;
     let with_sessions = with_state.subcommand(sessions)?;
-    let with_draw = with_sessions.subcommand(draw)?;
-    let whole = with_draw.subcommand(check)?;
-    Ok(whole)
+    let with_races = with_sessions.subcommand(races)?;
+    let with_draw = with_races.subcommand(draw)?;
+    let with_check = with_draw.subcommand(check)?;
+    Ok(with_check)
 }

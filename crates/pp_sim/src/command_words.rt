@@ -241,6 +241,11 @@ fn work_of(name: &str, matches: &ArgMatches<'_>) -> Option<Work>
             let turns = turns_of(matches)?;
             Some(Work::Sessions { profile, turns })
         }
+        "races" => {
+            let profile = profile_of(matches)?;
+            let turns = turns_of(matches)?;
+            Some(Work::Races { profile, turns })
+        }
         "steps" => steps_work(matches),
         "draw" => draw_work(matches),
         "check" => {

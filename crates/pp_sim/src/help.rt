@@ -194,6 +194,27 @@ line on standard error.",
     example: handoff_example!("sessions --turns 40"),
 };
 
+pub(crate) const RACES_HELP: Help = Help {
+    about: "Runs a deck in the barrel, and says whether every order of steps ends the same",
+    long_about: "\
+Runs a deck in the barrel, and says whether this one run tells the result of every order of steps:
+whether the processors, in whatever order they take their steps, end the same.
+
+Reads the deck from standard input. Prints to standard output a line for each step that races with
+an event of its channel, since it would have done something else BEFORE that event, which it came
+after, or AFTER it, which it came before: the turn, the processor, P and the instruction, the
+channel, and the event with its turn and its processor. Then a line for each processor that is still
+GOING ON, or that is HELD and would not have been BEFORE an event; and one for each central word (CM)
+that was WRITTEN BY one processor and USED BY another. The last line is SAME IN EVERY ORDER if it is
+the only one, NO RACE SO FAR if all others are of processors going on, and else MAY DIFFER. What goes
+wrong is one line on standard error.
+
+A loop of several instructions that polls a channel may look any number of times, and each look
+counts: MAY DIFFER may stand where nothing differs, but SAME IN EVERY ORDER never where something
+does.",
+    example: handoff_example!("races --turns 40"),
+};
+
 pub(crate) const STEPS_HELP: Help = Help {
     about: "Runs a deck in the barrel, and prints each step",
     long_about: "\

@@ -9,13 +9,18 @@ ghost use Rattle.pp_deck.specs.DeckMeaning.{LoadedDeck, deck_meaning};
 ghost use Rattle.pp_deck.specs.DeckText.{lines_of};
 ghost use Rattle.pp_machine.specs.Run.{barrel, run};
 ghost use Rattle.pp_machine.specs.declared.profile.Profile.{Profile};
+ghost use Rattle.pp_every_order.specs.Determinacy.{AreAlike, IsQuiet, ShowsParts, StandsIn};
+ghost use Rattle.pp_races.specs.RacesText.{verdict_line};
+ghost use Rattle.pp_races.specs.declared.verdict.Verdict.TheVariants.{Same};
 ghost use Rattle.pp_runner.specs.Limits.{RunLimits};
 ghost use Rattle.pp_sim.specs.BarrelText.{IsBarrelText};
+ghost use Rattle.pp_sim.specs.RacesText.{IsRacesText};
 ghost use Rattle.pp_sim.specs.ThreadsText.{IsThreadsText};
 ghost use Rattle.pp_text.specs.ReportLaw.{AgreeOnReport};
 ghost use Rattle.pp_text.specs.TextLaw.{AgreeOnText, AreSameHistories, NameAlike};
 
 use pp_check::{barrel_law, printed_report_law};
+use pp_every_order::determinacy_law;
 use pp_text::{report_law, text_law};
 use std::alloc::Allocator;
 
@@ -63,4 +68,36 @@ pub fn checked_text_law<A: Allocator>()
 {
     barrel_law();
     printed_report_law::<A>();
+}
+
+/// Where the text of `races_text` is the one line `SAME IN EVERY ORDER`, the run ends quiet; every other
+/// list of steps of the deck's machine shows each processor and each channel only as this run showed
+/// it at some moment; and one that ends quiet, or in which the turns of this run stand with any steps
+/// between, leaves the processors, central memory, and the histories of the channels, each event made
+/// by the same processor, as this run did.
+#[tactic(auto, using(crate::proofs::RacesLemmas::same_means, crate::proofs::RacesLemmas::whole_processors, crate::proofs::RacesLemmas::whole_channels))]
+pub fn races_text_law()
+    ensures quiet { (profile : Profile) (bytes text : List ℕ) (deck : LoadedDeck) (turns : ℕ)
+        → deck_meaning profile bytes ≡ Ok deck → IsRacesText turns deck text
+        → text ≡ verdict_line Same
+        → IsQuiet (run (barrel deck.machine.profile turns) deck.machine) }
+    ensures parts { (profile : Profile) (bytes text : List ℕ) (deck : LoadedDeck)
+        (turns : ℕ) (others : List ℕ)
+        → deck_meaning profile bytes ≡ Ok deck → IsRacesText turns deck text
+        → text ≡ verdict_line Same
+        → ShowsParts (barrel deck.machine.profile turns) deck.machine (run others deck.machine) }
+    ensures result { (profile : Profile) (bytes text : List ℕ) (deck : LoadedDeck)
+        (turns : ℕ) (others : List ℕ)
+        → deck_meaning profile bytes ≡ Ok deck → IsRacesText turns deck text
+        → text ≡ verdict_line Same → IsQuiet (run others deck.machine)
+        → AreAlike (run others deck.machine)
+        (run (barrel deck.machine.profile turns) deck.machine) }
+    ensures in_time { (profile : Profile) (bytes text : List ℕ) (deck : LoadedDeck)
+        (turns : ℕ) (others : List ℕ)
+        → deck_meaning profile bytes ≡ Ok deck → IsRacesText turns deck text
+        → text ≡ verdict_line Same → StandsIn (barrel deck.machine.profile turns) others
+        → AreAlike (run others deck.machine)
+        (run (barrel deck.machine.profile turns) deck.machine) }
+{
+    determinacy_law();
 }

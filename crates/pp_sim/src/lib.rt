@@ -18,18 +18,21 @@ mod work;
 
 pub use command_words::read_words;
 pub use entry::run_main;
-pub use laws::{barrel_text_law, checked_text_law, threads_text_law};
+pub use laws::{barrel_text_law, checked_text_law, races_text_law, threads_text_law};
 pub use line_fault::LineFault;
 pub use numeral::numeral_law;
 pub use pp_check::{
     ChannelState, TraceFault, TraceFlaw, Verdict, barrel_law, check_trace, fault_law,
     listed_channels, printed_law, printed_report_law, push_verdict, trace_law,
 };
-pub use pp_deck::{Deck, DeckCode, DeckFault, deck_law, headline_law, read_deck, reading_law};
+pub use pp_deck::{Deck, DeckCode, DeckFault, deck_law, read_deck, reading_law};
 pub use pp_draw::{
     Condition, MOST_TURNS, SeenStep, Window, drawing_law, run_seeing_steps, write_drawing,
 };
+pub use pp_every_order::determinacy_law;
 pub use pp_listing::{DumpFault, GoingOn, dump, dump_law, listing, listing_law};
+pub use pp_promises::{headline_law, one_run_law};
+pub use pp_races::{AskingStep, Finding, find_races, write_races};
 pub use pp_sessions::{
     StepCounts, counts_law, course_law, run_counting_steps, sessions_law, write_sessions,
 };
@@ -42,6 +45,7 @@ pub use texts::check_text::check_text;
 pub use texts::drawing_text::drawing_text;
 pub use texts::dump_text::dump_text;
 pub use texts::list_text::list_text;
+pub use texts::races_text::races_text;
 pub use texts::sessions_text::sessions_text;
 pub use texts::state_text::state_text;
 pub use texts::steps_text::steps_text;

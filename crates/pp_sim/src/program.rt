@@ -13,6 +13,7 @@ use crate::texts::check_text::check_text;
 use crate::texts::drawing_text::drawing_text;
 use crate::texts::dump_text::dump_text;
 use crate::texts::list_text::list_text;
+use crate::texts::races_text::races_text;
 use crate::texts::sessions_text::sessions_text;
 use crate::texts::state_text::state_text;
 use crate::texts::steps_text::steps_text;
@@ -79,6 +80,7 @@ fn do_work<T: Threads + Wait + Sync, I: Read, A: Allocator + Copy + Send + Sync,
         Work::Dump { profile, turns } => dump_text(alloc, profile, input, output, turns),
         Work::State { profile, turns } => state_text(alloc, profile, input, output, turns),
         Work::Sessions { profile, turns } => sessions_text(alloc, profile, input, output, turns),
+        Work::Races { profile, turns } => races_text(alloc, profile, input, output, turns),
         Work::Steps {
             profile,
             turns,

@@ -41,6 +41,12 @@ pub enum Work {
         profile: Profile,
         turns: u32,
     },
+    /// The races of a deck that has run in the barrel of a machine of this profile, for so many turns
+    /// (decimal), 0 to 999,999.
+    Races {
+        profile: Profile,
+        turns: u32,
+    },
     /// The steps of a deck in the barrel of a machine of this profile, in so many turns (decimal),
     /// 0 to 999,999: of one processor of the machine alone, or else of those that the deck names;
     /// and from a turn on, 0 to 999,999.

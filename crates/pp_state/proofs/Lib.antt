@@ -1,5 +1,4 @@
 mod TextLemmas
-mod CountLemmas
 mod NeighbourLemmas
 mod ChangeLemmas
 mod WaitLemmas

@@ -24,6 +24,7 @@ use Rattle.pp_listing.specs.OctalDigits.{octal}
 use Rattle.pp_text.specs.Numeral.{unpadded}
 use Rattle.pp_text.specs.PrintedText.{each_below, line_end, processor_line, used_channel_line}
 use Rattle.pp_text.specs.PrintedText.{state_text as running_or_not}
+use Rattle.pp_run.specs.RunSteps.{run_steps}
 use Rattle.pp_state.specs.Changes.{changed_central, changed_sections}
 use Rattle.pp_state.specs.HeldSteps.{each_held_steps}
 
@@ -90,4 +91,4 @@ state_text named before after held =
 abbrev pub state_after : List ℕ → LoadedDeck → List ℕ
 state_after steps deck =
     state_text deck.named deck.machine (run steps deck.machine)
-    (each_held_steps steps deck.machine)
+    (each_held_steps (run_steps steps deck.machine))

@@ -24,7 +24,7 @@ use Rattle.pp_machine.specs.PpNo.{is_named}
 use Rattle.pp_steps.specs.BareMachine.{progress, progress_by}
 use Rattle.pp_steps.specs.HeldRuns.{last_of, progress_along}
 use Rattle.pp_steps.specs.StepsLaw.{entry_of, event_on, is_shown_event, line_event}
-use Rattle.pp_steps.specs.StepsText.{RunStep, is_shown, line_kind, next_step, run_steps, steps_from}
+use Rattle.pp_steps.specs.StepsText.{StepWithLine, is_shown, line_kind, next_step, steps_with_lines, steps_from}
 use Rattle.pp_steps.specs.declared.line_kind.LineKind.{LineKind}
 use Rattle.pp_steps.specs.declared.line_kind.LineKind.TheVariants.{NoLine, OneStep, HeldSteps}
 use Rattle.pp_steps.specs.declared.progress.Progress.{Progress}
@@ -96,8 +96,8 @@ traced_from past (n ∷ steps) load =
     ∙ append_assoc (run past load).trace own rest
     ∙ ap (λ (ts : List Trace). (run past load).trace ++ (ts ++ rest)) (sym (event_of_next past n steps load))
 
-traced : (steps : List ℕ) (load : MachineState) → (run steps load).trace ≡ load.trace ++ flat_map line_event (run_steps steps load)
-unfolding run_steps
+traced : (steps : List ℕ) (load : MachineState) → (run steps load).trace ≡ load.trace ++ flat_map line_event (steps_with_lines steps load)
+unfolding steps_with_lines
 traced steps load = traced_from [] steps load
 
 behind : (xs ys : List Trace) → drop (length xs) (xs ++ ys) ≡ ys
@@ -129,20 +129,20 @@ shown_line named from OneStep n m = shown_entry named from n m (need (processor_
 shown_line named from NoLine n m = sym (nothing (is_named named n && nat_le from m.turns) [])
 shown_line named from (HeldSteps count) n m = sym (nothing (is_named named n && nat_le from m.turns) [])
 
-with_first : (shown : Bool) (step : RunStep) (rest : List RunStep) → cond shown (line_event step) [] ++ flat_map line_event rest ≡ flat_map line_event (cond shown (step ∷ rest) rest)
+with_first : (shown : Bool) (step : StepWithLine) (rest : List StepWithLine) → cond shown (line_event step) [] ++ flat_map line_event rest ≡ flat_map line_event (cond shown (step ∷ rest) rest)
 with_first true step rest = refl
 with_first false step rest = refl
 
-shown_events : (named : List Bool) (from : ℕ) (steps : List RunStep) → filter (is_shown_event named from) (flat_map line_event steps) ≡ flat_map line_event (filter (is_shown named from) steps)
+shown_events : (named : List Bool) (from : ℕ) (steps : List StepWithLine) → filter (is_shown_event named from) (flat_map line_event steps) ≡ flat_map line_event (filter (is_shown named from) steps)
 shown_events named from [] = refl
 shown_events named from (step ∷ steps) =
     filter-append (is_shown_event named from) (line_event step) (flat_map line_event steps)
-    ∙ ap (λ (ts : List Trace). ts ++ filter (is_shown_event named from) (flat_map line_event steps)) (shown_line named from step.line step.processor step.before)
+    ∙ ap (λ (ts : List Trace). ts ++ filter (is_shown_event named from) (flat_map line_event steps)) (shown_line named from step.line step.step.processor step.step.before)
     ∙ ap (λ (ts : List Trace). cond (is_shown named from step) (line_event step) [] ++ ts) (shown_events named from steps)
     ∙ with_first (is_shown named from step) step (filter (is_shown named from) steps)
 
 pub events_told : (named : List Bool) (from : ℕ) (steps : List ℕ) (load : MachineState)
-    → flat_map line_event (filter (is_shown named from) (run_steps steps load)) ≡ filter (is_shown_event named from) (drop (length load.trace) (run steps load).trace)
+    → flat_map line_event (filter (is_shown named from) (steps_with_lines steps load)) ≡ filter (is_shown_event named from) (drop (length load.trace) (run steps load).trace)
 events_told named from steps load =
-    sym (shown_events named from (run_steps steps load))
-    ∙ ap (filter (is_shown_event named from)) (sym (ap (drop (length load.trace)) (traced steps load) ∙ behind load.trace (flat_map line_event (run_steps steps load))))
+    sym (shown_events named from (steps_with_lines steps load))
+    ∙ ap (filter (is_shown_event named from)) (sym (ap (drop (length load.trace)) (traced steps load) ∙ behind load.trace (flat_map line_event (steps_with_lines steps load))))

@@ -9,9 +9,9 @@ use Rattle.pp_machine.specs.Run.{run}
 use Rattle.pp_machine.specs.RunLaws.{run-append}
 use Rattle.pp_steps.specs.BareMachine.{progress}
 use Rattle.pp_steps.specs.HeldRuns.{is_held_with, last_of, progress_along}
-use Rattle.pp_steps.specs.StepsLaw.{is_of, is_running, line_steps, steps_on}
+use Rattle.pp_steps.specs.StepsLaw.{is_by, is_running, line_steps, steps_on}
 use Rattle.pp_machine.specs.PpNo.{is_named}
-use Rattle.pp_steps.specs.StepsText.{RunStep, is_shown, line_kind, next_step, run_steps, steps_from}
+use Rattle.pp_steps.specs.StepsText.{StepWithLine, is_shown, line_kind, next_step, steps_with_lines, steps_from}
 use Rattle.pp_steps.specs.declared.line_kind.LineKind.TheVariants.{HeldSteps, NoLine}
 use Rattle.pp_steps.specs.declared.progress.Progress.{Progress}
 use Rattle.pp_steps.specs.declared.progress.Progress.TheVariants.{AtRest, Moved, Held}
@@ -101,7 +101,7 @@ told_all (Held f) (Held g ∷ steps) = by_test f g steps (is_held_with g (Held f
 
 abbrev IsTold : ℕ → List ℕ → List ℕ → MachineState → Type 0
 IsTold n past steps load =
-    flat_map line_steps (filter (is_of n) (steps_from past steps load)) ≡ steps_told (last_of (progress_along n past load)) (progress_along n steps (run past load))
+    flat_map line_steps (filter (is_by n) (steps_from past steps load)) ≡ steps_told (last_of (progress_along n past load)) (progress_along n steps (run past load))
 
 own_told : (n : ℕ) (past steps : List ℕ) (load : MachineState) → IsTold n (past ++ n ∷ []) steps load → IsTold n past (n ∷ steps) load
 own_told n past steps load rest =
@@ -111,15 +111,15 @@ own_told n past steps load rest =
     ∙ ap (λ (x : MachineState). steps_on (next_step past n steps load).line (progress n (run past load)) ++ steps_told (progress n (run past load)) (progress_along n steps x)) (run-append past n load)
     ∙ ap (steps_told (last_of (progress_along n past load))) (sym (own_along n steps (run past load)))
   where
-    opened : flat_map line_steps (filter (is_of n) (steps_from past (n ∷ steps) load)) ≡ steps_on (next_step past n steps load).line (progress n (run past load)) ++ flat_map line_steps (filter (is_of n) (steps_from (past ++ n ∷ []) steps load))
-    opened = ap (λ (b : Bool). flat_map line_steps (cond b (next_step past n steps load ∷ filter (is_of n) (steps_from (past ++ n ∷ []) steps load)) (filter (is_of n) (steps_from (past ++ n ∷ []) steps load)))) (eq-eqb n n refl)
+    opened : flat_map line_steps (filter (is_by n) (steps_from past (n ∷ steps) load)) ≡ steps_on (next_step past n steps load).line (progress n (run past load)) ++ flat_map line_steps (filter (is_by n) (steps_from (past ++ n ∷ []) steps load))
+    opened = ap (λ (b : Bool). flat_map line_steps (cond b (next_step past n steps load ∷ filter (is_by n) (steps_from (past ++ n ∷ []) steps load)) (filter (is_by n) (steps_from (past ++ n ∷ []) steps load)))) (eq-eqb n n refl)
 
     last : last_of (progress_along n (past ++ n ∷ []) load) ≡ progress n (run past load)
     last = ap last_of (along_own n past load) ∙ fold_more AtRest (progress_along n past load) (progress n (run past load))
 
 other_told : (n k : ℕ) (past steps : List ℕ) (load : MachineState) → k ≢ n → IsTold n (past ++ k ∷ []) steps load → IsTold n past (k ∷ steps) load
 other_told n k past steps load other rest =
-    ap (λ (b : Bool). flat_map line_steps (cond b (next_step past k steps load ∷ filter (is_of n) (steps_from (past ++ k ∷ []) steps load)) (filter (is_of n) (steps_from (past ++ k ∷ []) steps load)))) (ne_eqb k n other)
+    ap (λ (b : Bool). flat_map line_steps (cond b (next_step past k steps load ∷ filter (is_by n) (steps_from (past ++ k ∷ []) steps load)) (filter (is_by n) (steps_from (past ++ k ∷ []) steps load)))) (ne_eqb k n other)
     ∙ rest
     ∙ ap (λ (ss : List Progress). steps_told (last_of ss) (progress_along n steps (run (past ++ k ∷ []) load))) (along_other n k past load other)
     ∙ ap (λ (x : MachineState). steps_told (last_of (progress_along n past load)) (progress_along n steps x)) (run-append past k load)
@@ -133,8 +133,8 @@ told_from : (n : ℕ) (past steps : List ℕ) (load : MachineState) → IsTold n
 told_from n past [] load = ap (steps_told (last_of (progress_along n past load))) (sym (none_along n (run past load)))
 told_from n past (k ∷ steps) load = by_number n k past steps load (cases_eq k n) (λ j. told_from n (past ++ j ∷ []) steps load)
 
-pub steps_all_told : (n : ℕ) (steps : List ℕ) (load : MachineState) → flat_map line_steps (filter (is_of n) (run_steps steps load)) ≡ filter is_running (progress_along n steps load)
-unfolding run_steps
+pub steps_all_told : (n : ℕ) (steps : List ℕ) (load : MachineState) → flat_map line_steps (filter (is_by n) (steps_with_lines steps load)) ≡ filter is_running (progress_along n steps load)
+unfolding steps_with_lines
 steps_all_told n steps load =
     told_from n [] steps load
     ∙ ap (λ (ss : List Progress). steps_told (last_of ss) (progress_along n steps load)) (none_along n load)
@@ -143,26 +143,26 @@ steps_all_told n steps load =
 -- ---- the lines that are shown
 
 -- a step of a named processor is shown where no turn is left out
-step_shown : (named : List Bool) (n : ℕ) (step : RunStep) → is_named named n ≡ true → is_of n step ≡ true → is_shown named 0 step ≡ true
-step_shown named n step names own = rw (eqb-true step.processor n own) (rw names (le-leb 0 step.before.turns (omega arith)))
+step_shown : (named : List Bool) (n : ℕ) (step : StepWithLine) → is_named named n ≡ true → is_by n step ≡ true → is_shown named 0 step ≡ true
+step_shown named n step names own = rw (eqb-true step.step.processor n own) (rw names (le-leb 0 step.step.before.turns (omega arith)))
 
-dropped : (n : ℕ) (step : RunStep) (rest : List RunStep) (b : Bool) → is_of n step ≡ false → filter (is_of n) (cond b (step ∷ rest) rest) ≡ filter (is_of n) rest
+dropped : (n : ℕ) (step : StepWithLine) (rest : List StepWithLine) (b : Bool) → is_by n step ≡ false → filter (is_by n) (cond b (step ∷ rest) rest) ≡ filter (is_by n) rest
 dropped n step rest true other = rw other refl
 dropped n step rest false other = refl
 
-one_more : (named : List Bool) (n : ℕ) (step : RunStep) (steps : List RunStep) (b : Bool) → is_of n step ≡ b → is_named named n ≡ true
-    → filter (is_of n) (filter (is_shown named 0) steps) ≡ filter (is_of n) steps
-    → filter (is_of n) (filter (is_shown named 0) (step ∷ steps)) ≡ filter (is_of n) (step ∷ steps)
+one_more : (named : List Bool) (n : ℕ) (step : StepWithLine) (steps : List StepWithLine) (b : Bool) → is_by n step ≡ b → is_named named n ≡ true
+    → filter (is_by n) (filter (is_shown named 0) steps) ≡ filter (is_by n) steps
+    → filter (is_by n) (filter (is_shown named 0) (step ∷ steps)) ≡ filter (is_by n) (step ∷ steps)
 one_more named n step steps true own names rest =
-    rw (step_shown named n step names own) (rw own (ap (λ (ss : List RunStep). step ∷ ss) rest))
+    rw (step_shown named n step names own) (rw own (ap (λ (ss : List StepWithLine). step ∷ ss) rest))
 one_more named n step steps false other names rest =
     dropped n step (filter (is_shown named 0) steps) (is_shown named 0 step) other ∙ rest ∙ rw other refl
 
-all_shown : (named : List Bool) (n : ℕ) (steps : List RunStep) → is_named named n ≡ true → filter (is_of n) (filter (is_shown named 0) steps) ≡ filter (is_of n) steps
+all_shown : (named : List Bool) (n : ℕ) (steps : List StepWithLine) → is_named named n ≡ true → filter (is_by n) (filter (is_shown named 0) steps) ≡ filter (is_by n) steps
 all_shown named n [] names = refl
-all_shown named n (step ∷ steps) names = one_more named n step steps (is_of n step) refl names (all_shown named n steps names)
+all_shown named n (step ∷ steps) names = one_more named n step steps (is_by n step) refl names (all_shown named n steps names)
 
 pub shown_all_told : (named : List Bool) (n : ℕ) (steps : List ℕ) (load : MachineState) → is_named named n ≡ true
-    → flat_map line_steps (filter (is_of n) (filter (is_shown named 0) (run_steps steps load))) ≡ filter is_running (progress_along n steps load)
+    → flat_map line_steps (filter (is_by n) (filter (is_shown named 0) (steps_with_lines steps load))) ≡ filter is_running (progress_along n steps load)
 shown_all_told named n steps load names =
-    ap (flat_map line_steps) (all_shown named n (run_steps steps load) names) ∙ steps_all_told n steps load
+    ap (flat_map line_steps) (all_shown named n (steps_with_lines steps load) names) ∙ steps_all_told n steps load

@@ -15,7 +15,7 @@ use Rattle.pp_machine.specs.RunLaws.{barrel_more}
 use Rattle.pp_steps.specs.BareMachine.{progress}
 use Rattle.pp_steps.specs.Cursor.{CountsOf, Passes, no_cursor}
 use Rattle.pp_steps.specs.HeldRuns.{AreCounted, HeldTimes, held_counts, last_of, no_times, progress_along}
-use Rattle.pp_steps.specs.StepsText.{RunStep, is_shown, kind_text, line_kind, line_text, next_step, run_steps, steps_from, steps_text}
+use Rattle.pp_steps.specs.StepsText.{StepWithLine, is_shown, kind_text, line_kind, line_text, next_step, steps_with_lines, steps_from, steps_text}
 use Rattle.pp_steps.specs.declared.cursor.Cursor.{Cursor}
 use Rattle.pp_steps.specs.declared.line_kind.LineKind.{LineKind}
 use Rattle.pp_steps.specs.declared.line_kind.LineKind.TheVariants.{NoLine}
@@ -164,7 +164,7 @@ more_followed named p turn turns m runs cursors new k step line names is before 
 -- ---- the text
 
 -- the text of the steps shown
-abbrev pub text_of : List Bool → ℕ → List RunStep → List ℕ
+abbrev pub text_of : List Bool → ℕ → List StepWithLine → List ℕ
 text_of named from steps = flat_map line_text (filter (is_shown named from) steps)
 
 -- what has been printed after so many turns, and what is to come
@@ -173,10 +173,10 @@ IsSoFar named from p turn turns m text =
     text ++ text_of named from (steps_from (barrel p turn) (to_come p turn (turns - turn)) m) ≡ steps_text named from (barrel p turns) m
 
 pub nothing_so_far : (named : List Bool) (from : ℕ) (p : Profile) (turns : ℕ) (m : MachineState) → IsSoFar named from p 0 turns m []
-unfolding steps_text run_steps
+unfolding steps_text steps_with_lines
 nothing_so_far named from p turns m = ap (λ (ks : List ℕ). text_of named from (steps_from [] ks m)) (all_to_come p turns)
 
-one_step : (shown : Bool) (x : RunStep) (rest : List RunStep) → flat_map line_text (cond shown (x ∷ rest) rest) ≡ kind_text (cond shown x.line NoLine) x.processor x.before ++ flat_map line_text rest
+one_step : (shown : Bool) (x : StepWithLine) (rest : List StepWithLine) → flat_map line_text (cond shown (x ∷ rest) rest) ≡ kind_text (cond shown x.line NoLine) x.step.processor x.step.before ++ flat_map line_text rest
 one_step true x rest = refl
 one_step false x rest = refl
 
@@ -204,7 +204,7 @@ more_text named from p turn turns m text k kind is before h own unnamed =
     printed : List ℕ
     printed = kind_text (cond (nat_le from (run (barrel p turn) m).turns) kind NoLine) k (run (barrel p turn) m)
 
-    step : RunStep
+    step : StepWithLine
     step = next_step (barrel p turn) k future m
 
     more : barrel p (turn + 1) ≡ barrel p turn ++ k ∷ []

@@ -1,5 +1,5 @@
 -- What the lines of a run tell: which events there were, and how many steps.
-use Rattle.std.specs.Prelude.{ℕ, Bool, true, false, ◌==◌, ◌&&◌, nat_le, List, [], ◌∷◌, map, replicate}
+use Rattle.std.specs.Prelude.{ℕ, Bool, true, false, ◌&&◌, nat_le, List, [], ◌∷◌, map, replicate}
 use Rattle.std.specs.Option.{option_to_list}
 use Rattle.pp_channel.specs.Answer.{event_of}
 use Rattle.pp_machine.specs.MachineState.{MachineState, history_of, processor_of}
@@ -9,7 +9,8 @@ use Rattle.pp_machine.specs.declared.need.Need.TheVariants.{Channel}
 use Rattle.pp_machine.specs.declared.trace.Trace.{Trace}
 use Rattle.pp_machine.specs.PpNo.{is_named}
 use Rattle.pp_steps.specs.BareMachine.{progress}
-use Rattle.pp_steps.specs.StepsText.{RunStep}
+use Rattle.pp_run.specs.RunSteps.{is_of}
+use Rattle.pp_steps.specs.StepsText.{StepWithLine}
 use Rattle.pp_steps.specs.declared.line_kind.LineKind.{LineKind}
 use Rattle.pp_steps.specs.declared.line_kind.LineKind.TheVariants.{NoLine, OneStep, HeldSteps}
 use Rattle.pp_steps.specs.declared.progress.Progress.{Progress}
@@ -27,8 +28,8 @@ abbrev pub event_on : LineKind → ℕ → MachineState → List Trace
 event_on OneStep n m = entry_of n (need (processor_of n m)) m
 event_on line n m = []
 
-abbrev pub line_event : RunStep → List Trace
-line_event step = event_on step.line step.processor step.before
+abbrev pub line_event : StepWithLine → List Trace
+line_event x = event_on x.line x.step.processor x.step.before
 
 -- whether an event is shown: of a processor that is named, and of a turn from this one on
 abbrev pub is_shown_event : List Bool → ℕ → Trace → Bool
@@ -40,12 +41,12 @@ steps_on NoLine step = []
 steps_on OneStep step = step ∷ []
 steps_on (HeldSteps count) step = replicate count step
 
-abbrev pub line_steps : RunStep → List Progress
-line_steps step = steps_on step.line (progress step.processor step.before)
+abbrev pub line_steps : StepWithLine → List Progress
+line_steps x = steps_on x.line (progress x.step.processor x.step.before)
 
--- whether a step is processor n's
-abbrev pub is_of : ℕ → RunStep → Bool
-is_of n step = step.processor == n
+-- whether it is a step of processor n
+abbrev pub is_by : ℕ → StepWithLine → Bool
+is_by n x = is_of n x.step
 
 -- whether the processor was running
 abbrev pub is_running : Progress → Bool

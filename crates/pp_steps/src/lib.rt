@@ -6,14 +6,15 @@ mod bare_machine;
 mod bare_step;
 mod cursor;
 mod held_runs;
-mod instruction_field;
 mod laws;
 mod line_kind;
 mod progress;
 mod run_counts;
+mod step_fields;
 mod step_line;
 mod steps_text;
 mod stores;
 
 pub use laws::steps_law;
+pub use step_fields::instruction_field;
 pub use steps_text::write_steps;

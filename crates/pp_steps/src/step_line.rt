@@ -18,7 +18,7 @@ ghost use Rattle.pp_steps.specs.StepLine.{longest_line, central_text, centrals_t
 ghost use Rattle.pp_steps.specs.Stores.{KeepsOthers};
 
 use crate::bare_machine::BareMachine;
-use crate::instruction_field::{instruction_field, words_field};
+use crate::step_fields::{instruction_field, words_field};
 use crate::stores::Stores;
 use pp_channel::{ChannelNo, Event, Flags};
 use pp_machine::{Central, Need, Pp, PpNo, PpState};

@@ -50,3 +50,11 @@ START 0100
 
 /// So long a patience that no processor loses it while another works.
 pub const LONG_PATIENCE: u32 = 4_294_967_295;
+
+/// A word is lost, and another waits.
+pub const LOST_AND_WAITING: &str = "\
+PP 0
+0100 7405 1407 7205 7505
+0104 7605 7405 7205 0300
+START 0100
+";

@@ -12,26 +12,20 @@ mod histories;
 mod long_texts;
 mod numbers;
 mod programs;
-mod rounds;
-mod shown_decks;
 mod sink;
 mod source;
 
 pub use chance::Chance;
 pub use dead_start::waiting;
 pub use decks::{
-    BLOCK, HANDOFF, HANDOFF_ON_TWENTY, HANDOFF_TEXT, LONG_PATIENCE, WORDS_OF_A_RUN, WORDS_OF_TWENTY,
+    BLOCK, HANDOFF, HANDOFF_ON_TWENTY, HANDOFF_TEXT, LONG_PATIENCE, LOST_AND_WAITING,
+    WORDS_OF_A_RUN, WORDS_OF_TWENTY,
 };
-pub use devices::{wrong_reading, wrong_refusal, wrong_writing};
+pub use devices::{wrong_reading, wrong_writing};
 pub use flags::{EMPTY, FULL, INACTIVE};
 pub use histories::is_lawful;
 pub use long_texts::{SESSIONS, report_of_sessions, text_of_sessions};
 pub use numbers::{channel, first, numbered, processor, word};
 pub use programs::{HANDOFF_PAIR, Pair, put_program, put_words};
-pub use rounds::text_of_twenty;
-pub use shown_decks::{
-    BLOCK_FROM_CENTRAL, DEAD_START, FUNCTION_CODES, LOST_AND_WAITING, LOST_WORD, PLACE_AND_INDEX,
-    SENT_PROGRAM, SHORT_BLOCK, THREE_CHANNELS,
-};
 pub use sink::{Failure, Sink};
 pub use source::Source;

@@ -1,9 +1,9 @@
 //! Lines of a family that are closed together.
 
-ghost use Rattle.std.specs.Prelude.{◌≡◌, All, IfOk, map};
-ghost use Rattle.pp_channel.specs.LineState.{all_joined, ForgetsNothing, AreClosed};
+ghost use Rattle.std.specs.Prelude.{◌≡◌, ◌∷◌, All, IfOk, map};
+ghost use Rattle.pp_channel.specs.LineState.{all_joined, ForgetsNothing, AreClosed, AreInOneOrder};
 ghost use Rattle.pp_channel.specs.LineSteps.{IsLogOf};
-ghost use Rattle.pp_channel.specs.LineView.{joined_view, weighs_once, greater_of_each};
+ghost use Rattle.pp_channel.specs.LineView.{joined_view, with_unrecorded_load, greater_of_each};
 
 use super::{Line, greater_of_each};
 use crate::channel::Channel;
@@ -26,13 +26,16 @@ pub struct Closed<A: Allocator> {
 impl<A: Allocator + Copy> Line<A> {
     /// The channels of this line and others of its family, which hold every share between them:
     /// their histories are the events of all logs, each at its number. The logs of the others come
-    /// back, and no log is copied. It makes a load for each line; after `Memory` the lines are
-    /// gone.
+    /// back, and no log is copied. One total order over all channels extends the program orders of
+    /// all lines. It makes two loads for each of the others and one more; after `Memory` the lines
+    /// are gone.
     pub fn close_with(self, others: Vec<Line<A>, A>) -> Result<Closed<A>, Memory>
         requires tables { All (λ other. other.table ≡ self.table) others.items }
         requires shares { (all_joined self others.items).view.shares ≡ self.view.whole }
         ensures channels { IfOk result (λ closed.
             AreClosed (all_joined self others.items) closed.channels) }
+        ensures order { IfOk result (λ closed.
+            AreInOneOrder self.view.central closed.channels (self ∷ others.items)) }
         ensures logs { IfOk result (λ closed. map (λ log. log.items) closed.logs.items
             ≡ map (λ line. line.log.entries) others.items) }
         ensures nothing_forgotten { IfOk result (λ closed.
@@ -51,7 +54,7 @@ impl<A: Allocator + Copy> Line<A> {
             let log = absorb(&mut words, &mut seen, other);
             logs.push(log)?;
         }
-        words.weigh(ChannelNo::at(0));
+        words.check_shares(ChannelNo::at(0));
         let channels = recorded_channels(alloc, log.entries(), logs.as_slice(), &seen)?;
         Ok(Closed { logs, channels })
     }
@@ -66,7 +69,7 @@ fn absorb<A: Allocator + Copy>(
     requires { other.table ≡ words.old.seat.table_id }
     ensures table { words.new.seat.table_id ≡ words.old.seat.table_id }
     ensures view { words.new.seat.me.0
-        ≡ weighs_once (joined_view words.old.seat.me.0 other.view) }
+        ≡ with_unrecorded_load (joined_view words.old.seat.me.0 other.view) }
     ensures seen { seen.new ≡ greater_of_each seen.old other.view.seen }
     ensures log { result.items ≡ other.log.entries }
     ensures log_of { IsLogOf other.view other.log.entries }
@@ -80,7 +83,7 @@ fn absorb<A: Allocator + Copy>(
         whole: _,
     } = other;
     words.join(others);
-    words.weigh(ChannelNo::at(0));
+    words.check_shares(ChannelNo::at(0));
     *seen = greater_of_each(seen, &seen_by_other);
     log.into_entries()
 }

@@ -11,7 +11,7 @@ use std::alloc::Allocator;
 use std::io::{Read, Write};
 
 /// Reads a deck for a machine of this profile, runs it in the barrel for this many turns (decimal),
-/// and writes the text of the run.
+/// and writes the text of the run. That the headline holds of it is law `headline_law`.
 pub fn barrel_text<A: Allocator + Copy, R: Read, W: Write>(
     alloc: A,
     profile: Profile,

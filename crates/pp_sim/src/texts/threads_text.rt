@@ -9,6 +9,7 @@ use crate::deck_text::DeckBytes;
 use crate::streams::read_front;
 use crate::text_fault::TextFault;
 use pp_machine::Profile;
+use pp_promises::headline_law;
 use pp_runner::{Gate, Limits, NoGate, run_threads};
 use pp_text::{ReportFault, write_report};
 use std::alloc::Allocator;
@@ -21,7 +22,7 @@ use std::thread::Threads;
 
 /// Reads a deck for a machine of this profile, runs it with one thread per processor within these
 /// limits, and writes the text of the run. What stands in it beyond what the deck determines may
-/// differ from run to run.
+/// differ from run to run. That the headline holds of it is law `headline_law`.
 pub fn threads_text<T: Threads + Wait + Sync, R: Read, A: Allocator + Copy + Send + Sync, W: Write>(
     rt: &T,
     alloc: A,
@@ -62,6 +63,7 @@ fn write_threads<
         (W.contents writer.old) (W.contents writer.new) }
     ensures bounded { OnOk result (length deck.now.bytes.now < most_bytes) }
 {
+    headline_law::<A>();
     let loaded = deck.load(alloc)?;
     let Ok(report) = run_threads(rt, alloc, &loaded.machine, limits, gate) else {
         return Err(TextFault::Memory);

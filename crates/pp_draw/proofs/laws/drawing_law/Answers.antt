@@ -1,12 +1,9 @@
 use Rattle.pp_draw.proofs.BandLemmas.{band_stands, code_in_turn, lane_stands, last_to_end, next_adjoins, visible_where}
 use Rattle.pp_draw.proofs.ConditionLemmas.{last_is_drawn, next_is_drawn, same_goes_on, same_on}
-use Rattle.pp_draw.proofs.LawLemmas.{each_is_drawn, lost_where, phase_for_event, seen_are_steps, turn_for_event}
+use Rattle.pp_draw.proofs.LawLemmas.{each_is_drawn, lost_where, phase_for_event, turn_for_event}
 use Rattle.pp_draw.proofs.TurnLemmas.{last_at_turn, lower_row, shown_where}
 use Rattle.pp_draw.proofs.WellFormedLemmas.{drawing_read}
 use Rattle.pp_draw.proofs.laws.drawing_law.Goals as goal
-
-pub returns-clause-steps : goal.returns-clause-steps
-returns-clause-steps c = seen_are_steps
 
 pub returns-clause-history : goal.returns-clause-history
 returns-clause-history c = phase_for_event

@@ -2,7 +2,7 @@ use Rattle.std.proofs.Common.{rules, ◌≡◌, ◌≤◌, ◌∙◌, ℕ, ◌+�
 use Rattle.std.specs.Prelude.{All}
 use Rattle.std.specs.List.{flat_map}
 use Rattle.std.proofs.lemmas.List.{length-take-le}
-use Rattle.std.proofs.lemmas.List.Elements.{All-weaker}
+use Rattle.std.proofs.lemmas.List.Elements.{All-tail, All-weaker}
 use Rattle.pp_channel.specs.LineState.{LineState, IsSplitFrom, all_joined, ForgetsNothing}
 use Rattle.pp_channel.specs.Merge.{IsRecordedBy, Merges, no_opening}
 use Rattle.pp_channel.specs.History.{history_on}
@@ -11,11 +11,15 @@ use Rattle.pp_channel.specs.declared.entry.Entry.{Entry}
 use Rattle.pp_channel.specs.declared.event.Event.{Event}
 use Rattle.pp_channel.proofs.JoinedLines.{joined_entries, joined_whole, same_parts}
 use Rattle.pp_channel.proofs.OpeningLemmas.{merges_after}
+use Rattle.pp_channel.proofs.OrderLemmas.{is_later, order_later, stands_later_in}
+use Rattle.pp_channel.specs.Order.{ExtendsEach, IsDrawnFrom, entries_among}
+use Rattle.list_facts.specs.Subsequence.{IsSubsequence}
+use Rattle.std.specs.List.{filter}
 use Rattle.pp_machine.specs.Headline.{opening_history}
 use Rattle.pp_machine.specs.Profile.{processors_in}
 use Rattle.pp_machine.specs.ProfilePlaces.{some_processors, most_processors}
 use Rattle.pp_runner.proofs.CrewLemmas.{workers_count}
-use Rattle.pp_runner.proofs.ReportLemmas.{logs_count, ended_tables, ended_shares, ended_begun, ended_logged, ended_worn, logs_given}
+use Rattle.pp_runner.proofs.ReportLemmas.{logs_count, ended_tables, ended_shares, ended_begun, ended_logged, ended_worn, ended_stands, ended_each, logs_given}
 use Rattle.pp_runner.specs.Labour.{HasSeen}
 use Rattle.pp_runner.specs.WorkerReport.{AreWorkers, logs_of, with_logs}
 use Rattle.pp_runner.proofs.threads.run_threads.Goals as goal
@@ -80,15 +84,25 @@ returns g c =
     (subst (λ (line : LineState). HasSeen (λ k. length (opening k)) line) (sym c.of-family.ensures) c.in_ok-first.ensures.seen) ended in
     let worn = ended_worn size steps (2 * steps + 1) family loads ws lines logs (λ k. length (history_on k channels)) seen ended in
     let merged = merges_after opening channels first.log.entries (flat_map (λ l. l.log.entries) lines) c.in_ok-first.ensures.opening
-    (subst (λ (log : List Entry). Merges no_opening channels log) (joined_entries first lines) closed.merged) in record {
+    (subst (λ (log : List Entry). Merges no_opening channels log) (joined_entries first lines) closed.merged) in
+    let in_order = c.in_ok-logs.ensures.order in
+    let order = filter (is_later opening (λ k. history_on k channels) merged.begins) (entries_among in_order.order) in
+    let has = subst (λ (line : LineState). HasSeen (λ k. length (opening k)) line) (sym c.of-family.ensures) c.in_ok-first.ensures.seen in
+    let stands = ended_stands size steps (2 * steps + 1) family (λ log. IsSubsequence log order) in_order.order (λ k. length (opening k)) has
+    (λ log none h. stands_later_in opening channels log (entries_among in_order.order) merged.begins none h) loads ws lines
+    (All-tail (λ (l : LineState). ExtendsEach in_order.order l.view.program_orders) first lines in_order.program_orders) (All-tail (λ (l : LineState). IsDrawnFrom l.view.program_orders l.log.entries) first lines in_order.logs) ended in record {
       each_processor = ap length given ∙ (workers_count loads size steps (with_logs logs ws) workers ∙ (each ∙ many));
       workers = rw given (subst (λ (k : ℕ). AreWorkers (take (processors_in p) processors) k steps (with_logs logs ws)) sized
           (subst (λ (k : ℕ). AreWorkers (take k processors) size steps (with_logs logs ws)) many workers));
+      each_channel = closed.known.sound.each_channel;
       lawful = closed.known.sound.lawful;
       law = closed.law;
       twelve_bits = closed.known.sound.twelve_bits;
       merged = rw (given, same) merged;
       begun = rw (given, same) begun;
+      order = order;
+      total = order_later opening channels (entries_among in_order.order) merged.begins in_order.total;
+      logs_in_order = rw given (ended_each size steps (2 * steps + 1) family (λ log. IsSubsequence log order) loads ws lines logs c.in_ok-logs.ensures.logs ended stands);
       worn = rw given worn;
     }
 

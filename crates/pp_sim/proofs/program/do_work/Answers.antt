@@ -18,6 +18,9 @@ returns-in-State g c = rw c.in-State.is c.state_text.ensures
 pub returns-in-Sessions : goal.returns-in-Sessions
 returns-in-Sessions g c = rw c.in-Sessions.is c.sessions_text.ensures
 
+pub returns-in-Races : goal.returns-in-Races
+returns-in-Races g c = rw c.in-Races.is c.races_text.ensures
+
 pub returns-in-Steps : goal.returns-in-Steps
 returns-in-Steps g c = rw c.in-Steps.is c.steps_text.ensures
 

@@ -1,4 +1,4 @@
-use Rattle.std.proofs.Common.{ℕ, ◌≤◌, refl, sym, ap, ◌∙◌, subst, arith}
+use Rattle.std.proofs.Common.{ℕ, ◌≤◌, refl, sym, ap, ◌∙◌, subst}
 use Rattle.pp_channel.specs.declared.chan_op.ChanOp.{ChanOp}
 use Rattle.pp_channel.specs.declared.entry.Entry.{Entry}
 use Rattle.pp_channel.specs.declared.numbered.Numbered.{Numbered}
@@ -7,8 +7,9 @@ use Rattle.pp_channel.specs.Answer.{reply_shown}
 use Rattle.pp_channel.specs.ChannelWord.{number_in, flags_in, greatest_number}
 use Rattle.pp_channel.specs.LineLog.{LogState, event_entry, look_entry, appended, looked, IsMonotone, IsWithin}
 use Rattle.pp_channel.specs.LineState.{LineState, IsActed}
+use Rattle.pp_channel.specs.LineSteps.{IsLogOf}
 use Rattle.pp_channel.proofs.ChannelWordLemmas.{next_word, stays_either}
-use Rattle.pp_channel.proofs.LineAnswers.{found_last, seen_last, acted_shown, worn_by_load, acted_made, acted_lost, number_later}
+use Rattle.pp_channel.proofs.LineAnswers.{acted_shown, worn_by_load, acted_made, acted_lost, number_later}
 use Rattle.pp_channel.proofs.MonotoneLemmas.{rising_answer}
 use Rattle.pp_channel.proofs.line.Line.act.Goals as goal
 use Rattle.pp_channel.proofs.line.Line.act.Goals.{in-Ok, in-Err}
@@ -27,10 +28,9 @@ returns-in-Worn-clause-worn g c =
 
 -- a look, or an operation that is not ready
 pub look-requires-clause-found : goal.look-requires-clause-found
-look-requires-clause-found g c = found_last _ _ c.args.channel c.load-word.result c.load-word.ensures.load
-
-pub look-requires-clause-seen : goal.look-requires-clause-seen
-look-requires-clause-seen g c = let seen = seen_last _ _ c.args.channel c.load-word.result c.load-word.ensures.log_before.each_channel c.load-word.ensures.load in omega arith
+look-requires-clause-found g c =
+    let load = c.load-word.ensures in
+    (c.args.self.now.view, subst (λ (log : LogState). IsLogOf c.args.self.now.view log.entries) (sym load.log) load.log_before, load.load)
 
 pub returns-in-Look-clause-ok : goal.returns-in-Look-clause-ok
 returns-in-Look-clause-ok g c =

@@ -5,10 +5,12 @@ use Rattle.std.proofs.lemmas.List.{map-append, map-id}
 use Rattle.std.proofs.lemmas.Iterator.Adapters.{YieldsList-from_vec}
 use Rattle.std.proofs.lemmas.Iterator.Consumers.{YieldsList-turn, YieldsList-end}
 use Rattle.pp_channel.specs.declared.event.Event.{Event}
-use Rattle.pp_channel.specs.LineState.{LineState, joined, all_joined, ForgetsNothing, AreClosed}
+use Rattle.pp_channel.specs.LineState.{LineState, joined, all_joined, ForgetsNothing, AreClosed, AreInOneOrder}
+use Rattle.pp_channel.specs.declared.rule.LineView.{LineView}
+use Rattle.std.proofs.lemmas.List.Elements.{All-cons, All-push}
 use Rattle.pp_channel.specs.LineSteps.{IsLogOf}
-use Rattle.pp_channel.specs.LineView.{greater_of_each, joined_view, weighs_once}
-use Rattle.pp_channel.proofs.JoinedLines.{joined_push, joined_whole, joined_entries, log_joined, forgotten_push, same_parts, joined_told, joined_closed}
+use Rattle.pp_channel.specs.LineView.{greater_of_each, joined_view, with_unrecorded_load}
+use Rattle.pp_channel.proofs.JoinedLines.{joined_push, joined_whole, joined_central, joined_written, joined_entries, log_joined, forgotten_push, same_parts, joined_told, joined_closed, joined_orders, lines_in_order}
 use Rattle.pp_channel.proofs.line.Line.close_with.Goals as goal
 
 pub absorb-log-requires : goal.absorb-log-requires
@@ -23,12 +25,13 @@ loop-other-preserved g c =
     let more : all_joined c.args.self (c.loop-other.yielded ++ other ∷ []) ≡ joined line other = joined_push c.args.self c.loop-other.yielded other in
     let before = c.loop-other.invariant in
     let added = c.absorb-log.ensures in record {
-      view = added.view ∙ (ap (λ v. weighs_once (joined_view v other.view)) before.view ∙ sym (ap (λ l. l.view) more));
+      view = added.view ∙ (ap (λ v. with_unrecorded_load (joined_view v other.view)) before.view ∙ sym (ap (λ l. l.view) more));
       table = added.table ∙ before.table;
       seen = added.seen ∙ (ap (λ s. greater_of_each s other.view.seen) before.seen ∙ sym (ap (λ l. l.view.seen) more));
       log_of = subst (λ (l : LineState). IsLogOf l.view l.log.entries) (sym more) (log_joined line other before.log_of added.log_of);
       logs = ap (map (λ log. log.items)) c.in_ok-push.ensures.items ∙ (map-append (λ log. log.items) c.loop-other.logs.items (c.absorb-log.result ∷ [])
           ∙ ((λ j. before.logs j ++ added.log j ∷ []) ∙ sym (map-append (λ l. l.log.entries) c.loop-other.yielded (other ∷ []))));
+      logs_of = All-push (λ (l : LineState). IsLogOf l.view l.log.entries) c.loop-other.yielded other before.logs_of added.log_of;
       forgotten = subst (λ (l : LineState). All (λ o. ForgetsNothing o l) (c.loop-other.yielded ++ other ∷ [])) (sym more) (forgotten_push line other c.loop-other.yielded before.log_of added.log_of before.forgotten);
     }
 
@@ -43,8 +46,8 @@ recorded_channels-requires g c =
     (λ j. (c.entries.ensures ∙ ap (λ l. l.log.entries) c.self.view_is) j
     ++ (ap (flat_map (λ other. other.items)) c.as_slice.ensures.value ∙ same_parts (λ other. other.items) (λ l. l.log.entries) c.loop-other.logs.items c.loop-other.yielded before.logs) j)
     ∙ sym (joined_entries c.args.self c.loop-other.yielded) in
-    let told = joined_told line c.loop-other.words.seat.me.0 _ c.loop-other.seen c.weigh.ensures.tells.1 before.view before.log_of all log before.seen in
-    (search rules, (c.weigh.ensures.tells.1.histories, told))
+    let told = joined_told line c.loop-other.words.seat.me.0 _ c.loop-other.seen c.check_shares.ensures.tells.1 before.view before.log_of all log before.seen in
+    (search rules, (c.check_shares.ensures.tells.1.histories, told))
 
 pub returns-clause-channels : goal.returns-clause-channels
 returns-clause-channels g c =
@@ -57,10 +60,28 @@ returns-clause-channels g c =
     (λ j. (c.entries.ensures ∙ ap (λ l. l.log.entries) c.self.view_is) j
     ++ (ap (flat_map (λ other. other.items)) c.as_slice.ensures.value ∙ same_parts (λ other. other.items) (λ l. l.log.entries) c.loop-other.logs.items c.loop-other.yielded before.logs) j)
     ∙ sym (joined_entries c.args.self c.loop-other.yielded) in
-    let told = joined_told line c.loop-other.words.seat.me.0 _ c.loop-other.seen c.weigh.ensures.tells.1 before.view before.log_of all log before.seen in
-    let closed = joined_closed line c.loop-other.words.seat.me.0 c.weigh.ensures.tells.1 before.view before.log_of all in
+    let told = joined_told line c.loop-other.words.seat.me.0 _ c.loop-other.seen c.check_shares.ensures.tells.1 before.view before.log_of all log before.seen in
+    let closed = joined_closed line c.loop-other.words.seat.me.0 c.check_shares.ensures.tells.1 before.view before.log_of all in
     subst (λ (ls : List LineState). AreClosed (all_joined c.args.self ls) c.in_ok-channels.channels) others
-    (subst (λ (hs : List (List Event)). AreClosed line hs) (sym (c.in_ok-channels.ensures c.weigh.ensures.tells.1.histories told)) closed)
+    (subst (λ (hs : List (List Event)). AreClosed line hs) (sym (c.in_ok-channels.ensures c.check_shares.ensures.tells.1.histories told)) closed)
+
+pub returns-clause-order : goal.returns-clause-order
+returns-clause-order g c =
+    let yielded = YieldsList-end (YieldsList-from_vec c.args.others.items (search rules) (search rules)) c.loop-other.yielded c.loop-other.other-iterator c.loop-other.yielded_by _ c.next.new.self c.in-None.is c.next.ensures.steps in
+    let others : c.loop-other.yielded ≡ c.args.others.items = sym (map-id c.loop-other.yielded) ∙ yielded.0 in
+    let line = all_joined c.args.self c.loop-other.yielded in
+    let before = c.loop-other.invariant in
+    let all : line.view.shares ≡ line.view.whole = ap (λ ls. (all_joined c.args.self ls).view.shares) others ∙ (c.requires.shares ∙ sym (joined_whole c.args.self c.loop-other.yielded)) in
+    let log : c.entries.result.now ++ flat_map (λ other. other.items) c.as_slice.result.now ≡ line.log.entries =
+    (λ j. (c.entries.ensures ∙ ap (λ l. l.log.entries) c.self.view_is) j
+    ++ (ap (flat_map (λ other. other.items)) c.as_slice.ensures.value ∙ same_parts (λ other. other.items) (λ l. l.log.entries) c.loop-other.logs.items c.loop-other.yielded before.logs) j)
+    ∙ sym (joined_entries c.args.self c.loop-other.yielded) in
+    let told = joined_told line c.loop-other.words.seat.me.0 _ c.loop-other.seen c.check_shares.ensures.tells.1 before.view before.log_of all log before.seen in
+    let program_orders = ap (λ (v : LineView). v.program_orders) before.view ∙ joined_orders c.args.self c.loop-other.yielded in
+    let log_of = subst (λ (l : LineState). IsLogOf l.view l.log.entries) c.self.view_is c.self.invariant.3 in
+    let in_order = lines_in_order (c.args.self ∷ c.loop-other.yielded) c.check_shares.ensures.tells.1 program_orders c.args.self.view.central (ap (λ (v : LineView). v.central) before.view ∙ joined_central c.args.self c.loop-other.yielded) (ap (λ (v : LineView). v.written) before.view ∙ joined_written c.args.self c.loop-other.yielded) (ap (λ (v : LineView). v.shares) before.view ∙ (all ∙ ap (λ (v : LineView). v.whole) (sym before.view))) (All-cons (λ (l : LineState). IsLogOf l.view l.log.entries) c.args.self c.loop-other.yielded log_of before.logs_of) in
+    subst (λ (ls : List LineState). AreInOneOrder c.args.self.view.central c.in_ok-channels.channels (c.args.self ∷ ls)) others
+    (subst (λ (hs : List (List Event)). AreInOneOrder c.args.self.view.central hs (c.args.self ∷ c.loop-other.yielded)) (sym (c.in_ok-channels.ensures c.check_shares.ensures.tells.1.histories told)) in_order)
 
 pub returns-clause-logs : goal.returns-clause-logs
 returns-clause-logs g c =

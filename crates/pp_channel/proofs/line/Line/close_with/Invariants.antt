@@ -11,5 +11,6 @@ invariant-loop-other g l = record {
   seen : l.seen ≡ (all_joined l.fn.self l.yielded).view.seen;
   log_of : IsLogOf (all_joined l.fn.self l.yielded).view (all_joined l.fn.self l.yielded).log.entries;
   logs : map (λ log. log.items) l.logs.items ≡ map (λ line. line.log.entries) l.yielded;
+  logs_of : All (λ line. IsLogOf line.view line.log.entries) l.yielded;
   forgotten : All (λ line. ForgetsNothing line (all_joined l.fn.self l.yielded)) l.yielded;
 }

@@ -1,18 +1,17 @@
-use Rattle.std.proofs.Common.{◌≡◌, ◌≤◌, sym, subst}
-use Rattle.std.specs.Prelude.{Contains}
+use Rattle.std.proofs.Common.{◌≡◌, sym, subst}
 use Rattle.pp_channel.specs.ChannelWord.{number_in, flags_in}
-use Rattle.pp_channel.specs.LineLog.{LogState, looked, look_entry, seen_on}
+use Rattle.pp_channel.specs.LineLog.{LogState, looked, look_entry}
 use Rattle.pp_channel.specs.LineState.{LineState}
-use Rattle.pp_channel.specs.LineSteps.{IsLogOf}
+use Rattle.pp_channel.specs.LineSteps.{IsLogOf, IsLoad}
+use Rattle.pp_channel.specs.declared.rule.LineView.{LineView}
 use Rattle.pp_channel.proofs.LineKeeping.{log_of_look}
 use Rattle.pp_channel.proofs.line.Line.look.Goals as goal
 
 pub returns-clause-log_after : goal.returns-clause-log_after
 returns-clause-log_after g c =
-    let found = subst (λ (line : LineState). Contains line.view.found (record { channel = c.args.channel; word = c.args.word })) (sym c.self.view_is) c.requires.found in
-    let seen = subst (λ (line : LineState). number_in c.args.word ≤ seen_on c.args.channel line.view.seen) (sym c.self.view_is) c.requires.seen in
+    let found = subst (λ (line : LineState). (v : LineView) × IsLogOf v line.log.entries × IsLoad c.args.channel v c.args.word line.view) (sym c.self.view_is) c.requires.found in
     let written : c.saw.new.self ≡ looked c.self.inside.log (look_entry c.args.channel (number_in c.args.word) (flags_in c.args.word)) = rw (← c.number_in.ensures.value, ← c.flags_in.ensures) c.saw.ensures in
-    subst (λ (log : LogState). IsLogOf c.self.inside.words.seat.me.0 log.entries) (sym written) (log_of_look c.self.inside.log c.args.channel c.args.word c.self.invariant.3 found seen)
+    subst (λ (log : LogState). IsLogOf c.self.inside.words.seat.me.0 log.entries) (sym written) (log_of_look c.self.inside.log c.args.channel c.args.word found.1 found.2)
 
 pub invariant_of-self : goal.invariant_of-self
 invariant_of-self g c = (c.self.invariant.0, c.self.invariant.1, c.self.invariant.2, returns-clause-log_after g c)

@@ -9,5 +9,5 @@ invariant_of-self-2 g c =
       c.self.invariant.0 ∙ ap (λ (v : LineView). v.seen) (sym view),
       ap (λ n. n - 1) c.self.invariant.1 ∙ ap (λ (v : LineView). v.shares) (sym view),
       c.self.invariant.2 ∙ ap (λ (v : LineView). v.whole) (sym view),
-      log_of_same _ c.self.invariant.3 (ap (λ (v : LineView). v.events) view) (ap (λ (v : LineView). v.found) view) (ap (λ (v : LineView). v.seen) view),
+      log_of_same _ c.self.invariant.3 (ap (λ (v : LineView). v.events) view) (ap (λ (v : LineView). v.found) view) (ap (λ (v : LineView). v.seen) view) (ap (λ (v : LineView). v.program_orders) view),
     )

@@ -5,7 +5,6 @@ use Rattle.pp_channel.specs.ChannelWord.{number_in}
 use Rattle.pp_channel.specs.LineLog.{LogState, appended, event_entry}
 use Rattle.pp_channel.specs.LineState.{LineState}
 use Rattle.pp_channel.specs.LineSteps.{IsLogOf, IsWonExchange}
-use Rattle.pp_channel.proofs.LineAnswers.{found_last}
 use Rattle.pp_channel.proofs.LineKeeping.{exchange_won, exchange_lost, fields_of_load, log_of_event}
 use Rattle.pp_channel.proofs.line.Line.try_event.Goals as goal
 
@@ -44,4 +43,4 @@ invariant_of-self-2 g c =
 pub look-requires-clause-found : goal.look-requires-clause-found
 look-requires-clause-found g c =
     let lost = exchange_lost c.args.event c.exchange-found.ensures.exchange c.if-found-word.false in
-    found_last _ _ c.args.channel c.exchange-found.result lost.load
+    (c.self.inside.words.seat.me.0, c.self.invariant.3, lost.load)

@@ -29,6 +29,7 @@ returns-in-Ok-write_report-clause-answer g c = (
       report = _;
       named = c.in_ok-loaded.ensures.names;
       run = c.in-Ok.ensures;
+      headline = (c.headline_law.ensures _ _ _ c.in_ok-loaded.ensures.ok).threads _ _ c.in-Ok.ensures;
       told = refl;
       fits = c.in-Ok-write_report.ensures.fits (λ e. cc);
     };
@@ -46,6 +47,7 @@ returns-clause-answer g c = (
       report = _;
       named = c.in_ok-loaded.ensures.names;
       run = c.in-Ok.ensures;
+      headline = (c.headline_law.ensures _ _ _ c.in_ok-loaded.ensures.ok).threads _ _ c.in-Ok.ensures;
       told = refl;
       fits = c.in-Err-Write.ensures.fits (λ e. cc);
     };

@@ -4,6 +4,7 @@ use Rattle.pp_machine.specs.Headline.{HoldsOnEachChannel}
 use Rattle.pp_machine.specs.MachineState.{MachineState}
 use Rattle.pp_machine.specs.Run.{barrel, run}
 use Rattle.pp_deck.specs.DeckMeaning.{LoadedDeck, deck_meaning}
+use Rattle.pp_run.specs.RunSteps.{run_steps}
 use Rattle.pp_state.specs.HeldSteps.{each_held_steps}
 use Rattle.pp_state.specs.StateText.{state_text}
 use Rattle.pp_sim.proofs.AnswerLemmas.{refused, written}
@@ -21,8 +22,8 @@ returns-clause-answer g c =
     let same : c.in_ok-after.after.machine ≡ before =
     ap (λ (deck : LoadedDeck). deck.machine) (one_deck (deck_meaning c.args.deck.now.profile c.args.deck.now.bytes.now) _ _ c.in_ok-after.ensures.ok c.in_ok-before.ensures.ok) in
     let ran : c.run_counting_held.new.machine ≡ ran_on before = c.in-Ok.ensures.ran ∙ ap ran_on same in
-    let counted : c.in-Ok.held ≡ each_held_steps (barrel before.profile turns) before =
-    c.in-Ok.ensures.held ∙ ap (λ (m : MachineState). each_held_steps (barrel m.profile turns) m) same in
+    let counted : c.in-Ok.held ≡ each_held_steps (run_steps (barrel before.profile turns) before) =
+    c.in-Ok.ensures.held ∙ ap (λ (m : MachineState). each_held_steps (run_steps (barrel m.profile turns) m)) same in
     let stands : IsOfDeck c.args.deck.now.profile (IsStateText turns) c.args.deck.now.bytes.now c.in-Ok-printed_state.text.items = record {
       deck = _;
       meant = c.in_ok-before.ensures.ok;

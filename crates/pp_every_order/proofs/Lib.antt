@@ -1,0 +1,5 @@
+pub mod StepFacts
+pub mod Moments
+pub mod Standing
+pub mod Steps
+pub mod DeterminacyLemmas

@@ -1,0 +1,3 @@
+mod LoadedLemmas
+mod ThreadsLemmas
+mod OneRunLemmas

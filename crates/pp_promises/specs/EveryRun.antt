@@ -1,0 +1,32 @@
+-- THE HEADLINE, of every run of a deck. After any list of processor steps from any loaded deck, the
+-- machine is the one that the definition of a step gives, and on each channel, in every session, the
+-- words taken are the first of the words put, all but at most one, which is lost only where a
+-- Disconnect finds the channel full, and no word passes outside a session. The histories that threads
+-- leave obey the same law.
+use Rattle.std.specs.Prelude.{ℕ, IsTrue, List}
+use Rattle.pp_channel.specs.ChannelNo.{names_channel}
+use Rattle.pp_channel.specs.History.{history_on}
+use Rattle.pp_channel.specs.Order.{made_on}
+use Rattle.pp_channel.specs.declared.entry.Entry.{Entry}
+use Rattle.pp_machine.specs.Headline.{HoldsOnChannel, HoldsOnEachChannel, opening_history}
+use Rattle.pp_machine.specs.MachineState.{MachineState}
+use Rattle.pp_machine.specs.Run.{run}
+use Rattle.pp_runner.specs.Limits.{RunLimits}
+use Rattle.pp_runner.specs.Report.{IsReportOf}
+use Rattle.pp_runner.specs.declared.report.Report.{Report}
+use Rattle.pp_serial.specs.Serial.{IsSerialRunOf, NoCentralWordIsRead}
+
+-- It holds of a report by threads, whose events came in this order: what holds of each channel after
+-- any list of steps holds of each channel here; and where no worker read a central word, some list
+-- of steps does what the workers did, and leads to the very processors and histories.
+pub record HoldsOfThreads {A : Type 0} (m : MachineState) (report : Report A) (order : List Entry)
+    : Type 0 where
+  pub channels : (c : ℕ) → IsTrue (names_channel c) → HoldsOnChannel (opening_history c m)
+      (made_on c order) (history_on c report.channels)
+  pub steps : NoCentralWordIsRead report → (ns : List ℕ) × IsSerialRunOf ns m report
+
+-- It holds of each run of a machine: by any list of steps, and by threads within any limits.
+pub record HoldsOfEveryRun (A : Type 0) (m : MachineState) : Type 0 where
+  pub steps : (ns : List ℕ) → HoldsOnEachChannel (run ns m)
+  pub threads : (limits : RunLimits) (report : Report A) (is : IsReportOf limits m report)
+      → HoldsOfThreads m report is.order

@@ -1,0 +1,2 @@
+pub mod EveryRun
+pub mod OneRun

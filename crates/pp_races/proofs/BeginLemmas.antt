@@ -1,0 +1,47 @@
+-- The tables before the first step.
+use Rattle.std.proofs.Common.{◌≡◌, ℕ, ◌+◌, ◌*◌, ◌%◌, ◌<◌, ◌≤◌, Bool, true, false, IsTrue, List, [], length, get_or, None, refl, sym, ap, ◌∙◌, subst, arith}
+use Rattle.std.specs.Prelude.{replicate}
+use Rattle.std.proofs.lemmas.List.{get_or-replicate}
+use Rattle.pp_channel.specs.Answer.{flags_of}
+use Rattle.pp_channel.specs.ChannelNo.{channel_count, channel_index, channel_number, names_channel}
+use Rattle.pp_channel.specs.ChannelPlaces as channel_places
+use Rattle.pp_channel.specs.declared.flags.Flags.{Flags}
+use Rattle.pp_machine.specs.MachineState.{MachineState, history_of}
+use Rattle.pp_machine.specs.PpNo.{names_processor, processor_count, processor_index}
+use Rattle.pp_machine.specs.ProcessorPlaces as processor_places
+use Rattle.pp_races.specs.FlagSets.{look_at, no_looks}
+use Rattle.pp_races.specs.Tables.{AreLow, AreLooks, AreNoLooks, IsLow, entry_count, entry_place, no_low}
+use Rattle.pp_races.specs.Watch.{unwatched}
+use Rattle.pp_races.specs.declared.looks.Looks.{Looks}
+use Rattle.pp_races.specs.declared.low.Low.{Low}
+use Rattle.pp_races.proofs.EntryLemmas.{entry_within}
+use Rattle.pp_races.proofs.LowLemmas.{missed_past, through_past}
+
+abbrev pub first_low_of : MachineState → ℕ → Low
+first_low_of m k = record { from = length m.trace; flags = flags_of (history_of (channel_number (k % channel_count)) m) }
+
+pub begins_low : (m : MachineState) (table : List Low) → ((k : ℕ) → k < entry_count → get_or table k no_low ≡ first_low_of m k) → AreLow m unwatched table
+begins_low m table each q c q_named c_named =
+    let q_low : processor_index q < 20 = processor_places.place_below q q_named in
+    let c_low : channel_index c < 24 = channel_places.place_below c c_named in
+    let place : entry_place q c % channel_count ≡ channel_index c = omega arith in
+    let number : channel_number (entry_place q c % channel_count) ≡ c = ap channel_number place ∙ channel_places.number_of_place c c_named in
+    let here : get_or table (entry_place q c) no_low ≡ record { from = length m.trace; flags = flags_of (history_of c m) } = each (entry_place q c) (entry_within q c q_named c_named) ∙ ap (λ k. record { from = length m.trace; flags = flags_of (history_of k m) }) number in
+    subst (λ (l : Low). IsLow c l m []) (sym here) (record {
+      within = omega arith;
+      missed_are = missed_past c (flags_of (history_of c m)) m.trace (length m.trace) (omega arith);
+      flags_now = through_past c (flags_of (history_of c m)) m.trace (length m.trace) (omega arith);
+    })
+
+no_look_at : (a b : Bool) → look_at no_looks (record { active = a; full = b }) ≡ None
+no_look_at true true = refl
+no_look_at true false = refl
+no_look_at false true = refl
+no_look_at false false = refl
+
+pub replicate_looks : (table : List Looks) (look : Looks) → look ≡ no_looks → table ≡ replicate entry_count look → AreNoLooks table
+replicate_looks table look is all = record { each = λ entry low. ap (λ t. get_or t entry no_looks) all ∙ get_or-replicate entry_count entry look no_looks low ∙ is }
+
+pub begins_looks : (table : List Looks) → AreNoLooks table → AreLooks unwatched table
+begins_looks table none q c q_named c_named f =
+    ap (λ l. look_at l f) (none.each (entry_place q c) (entry_within q c q_named c_named)) ∙ no_look_at f.active f.full

@@ -1,0 +1,20 @@
+pub mod Watching
+pub mod VerdictLemmas
+mod HeldLemmas
+mod FlagSetLemmas
+mod LowLemmas
+mod EntryLemmas
+mod LookLemmas
+mod EventLemmas
+mod BeginLemmas
+mod MissedLemmas
+mod SoundLemmas
+mod RunLemmas
+mod FinalLemmas
+mod AlikeLemmas
+mod PositionLemmas
+mod PositionAt
+mod SettledLemmas
+mod EndLemmas
+mod UseLemmas
+mod CloseLemmas

@@ -1,0 +1,218 @@
+-- What is missed from a place of the trace on.
+use Rattle.std.proofs.Common.{◌≡◌, ◌≢◌, ℕ, ◌+◌, ◌<◌, ◌≤◌, Bool, true, false, List, [], ◌∷◌, ◌++◌, length, drop, get_or, Option, Some, None, refl, sym, ap, ◌∙◌, append-nil, inl, inr, arith}
+use Rattle.std.specs.Prelude.{◌==◌, if◌then◌else◌, find, option_map}
+use Rattle.std.proofs.lemmas.Bool.{cases_eq, eq-eqb, ne_eqb}
+use Rattle.std.proofs.lemmas.List.{drop_more, drop_all}
+use Rattle.pp_channel.specs.Answer.{flags_after}
+use Rattle.pp_channel.specs.declared.flags.Flags.{Flags}
+use Rattle.pp_machine.specs.declared.trace.Trace.{Trace}
+use Rattle.pp_races.specs.Tables.{missed_from, flags_through}
+use Rattle.pp_races.specs.Watch.{Missed, missed_event, first_race, from_alike}
+
+-- ---- tests that agree
+
+pub from_alike_same : (a b : Flags → Bool) → ((f : Flags) → a f ≡ b f) → (missed : List Missed) → from_alike a missed ≡ from_alike b missed
+unfolding from_alike
+from_alike_same a b same [] = refl
+from_alike_same a b same (e ∷ missed) =
+    ap (λ (t : Bool). if t then e ∷ missed else from_alike a missed) (same e.found)
+    ∙ ap (λ (k : List Missed). if b e.found then e ∷ missed else k) (from_alike_same a b same missed)
+
+find_same : (a b : Flags → Bool) → ((f : Flags) → a f ≡ b f) → (missed : List Missed) → find (λ (e : Missed). a e.found) missed ≡ find (λ (e : Missed). b e.found) missed
+find_same a b same [] = refl
+find_same a b same (e ∷ missed) =
+    ap (λ (t : Bool). if t then Some e else find (λ (x : Missed). a x.found) missed) (same e.found)
+    ∙ ap (λ (k : Option Missed). if b e.found then Some e else k) (find_same a b same missed)
+
+pub first_race_same : (a b : Flags → Bool) → ((f : Flags) → a f ≡ b f) → (missed : List Missed) → first_race a missed ≡ first_race b missed
+first_race_same a b same missed = ap (λ (o : Option Missed). option_map (λ (e : Missed). e.entry) o) (find_same a b same missed)
+
+-- ---- one event of the trace
+
+missed_cons_here : (c : ℕ) (flags : Flags) (e : Trace) (trace : List Trace) → e.channel ≡ c → missed_from c flags (e ∷ trace) ≡ missed_event flags e ∷ missed_from c (flags_after e.event) trace
+unfolding missed_from
+missed_cons_here c flags e trace same = ap (λ (t : Bool). if t then missed_event flags e ∷ missed_from c (flags_after e.event) trace else missed_from c flags trace) (eq-eqb e.channel c same)
+
+missed_cons_other : (c : ℕ) (flags : Flags) (e : Trace) (trace : List Trace) → e.channel ≢ c → missed_from c flags (e ∷ trace) ≡ missed_from c flags trace
+unfolding missed_from
+missed_cons_other c flags e trace apart = ap (λ (t : Bool). if t then missed_event flags e ∷ missed_from c (flags_after e.event) trace else missed_from c flags trace) (ne_eqb e.channel c apart)
+
+missed_nil : (c : ℕ) (flags : Flags) → missed_from c flags [] ≡ []
+unfolding missed_from
+missed_nil c flags = refl
+
+through_cons_here : (c : ℕ) (flags : Flags) (e : Trace) (trace : List Trace) → e.channel ≡ c → flags_through c flags (e ∷ trace) ≡ flags_through c (flags_after e.event) trace
+unfolding flags_through
+through_cons_here c flags e trace same = ap (λ (t : Bool). if t then flags_through c (flags_after e.event) trace else flags_through c flags trace) (eq-eqb e.channel c same)
+
+through_cons_other : (c : ℕ) (flags : Flags) (e : Trace) (trace : List Trace) → e.channel ≢ c → flags_through c flags (e ∷ trace) ≡ flags_through c flags trace
+unfolding flags_through
+through_cons_other c flags e trace apart = ap (λ (t : Bool). if t then flags_through c (flags_after e.event) trace else flags_through c flags trace) (ne_eqb e.channel c apart)
+
+through_nil : (c : ℕ) (flags : Flags) → flags_through c flags [] ≡ flags
+unfolding flags_through
+through_nil c flags = refl
+
+-- the same from a place on
+pub missed_here : (c : ℕ) (flags : Flags) (trace : List Trace) (place : ℕ) (d : Trace) → place < length trace → (get_or trace place d).channel ≡ c
+    → missed_from c flags (drop place trace) ≡ missed_event flags (get_or trace place d) ∷ missed_from c (flags_after (get_or trace place d).event) (drop (place + 1) trace)
+missed_here c flags trace place d low same = ap (λ t. missed_from c flags t) (drop_more trace place d low) ∙ missed_cons_here c flags (get_or trace place d) (drop (place + 1) trace) same
+
+pub missed_other : (c : ℕ) (flags : Flags) (trace : List Trace) (place : ℕ) (d : Trace) → place < length trace → (get_or trace place d).channel ≢ c
+    → missed_from c flags (drop place trace) ≡ missed_from c flags (drop (place + 1) trace)
+missed_other c flags trace place d low apart = ap (λ t. missed_from c flags t) (drop_more trace place d low) ∙ missed_cons_other c flags (get_or trace place d) (drop (place + 1) trace) apart
+
+pub missed_past : (c : ℕ) (flags : Flags) (trace : List Trace) (place : ℕ) → length trace ≤ place → missed_from c flags (drop place trace) ≡ []
+missed_past c flags trace place past = ap (λ t. missed_from c flags t) (drop_all place trace past) ∙ missed_nil c flags
+
+pub through_here : (c : ℕ) (flags : Flags) (trace : List Trace) (place : ℕ) (d : Trace) → place < length trace → (get_or trace place d).channel ≡ c
+    → flags_through c flags (drop place trace) ≡ flags_through c (flags_after (get_or trace place d).event) (drop (place + 1) trace)
+through_here c flags trace place d low same = ap (λ t. flags_through c flags t) (drop_more trace place d low) ∙ through_cons_here c flags (get_or trace place d) (drop (place + 1) trace) same
+
+pub through_other : (c : ℕ) (flags : Flags) (trace : List Trace) (place : ℕ) (d : Trace) → place < length trace → (get_or trace place d).channel ≢ c
+    → flags_through c flags (drop place trace) ≡ flags_through c flags (drop (place + 1) trace)
+through_other c flags trace place d low apart = ap (λ t. flags_through c flags t) (drop_more trace place d low) ∙ through_cons_other c flags (get_or trace place d) (drop (place + 1) trace) apart
+
+pub through_past : (c : ℕ) (flags : Flags) (trace : List Trace) (place : ℕ) → length trace ≤ place → flags_through c flags (drop place trace) ≡ flags
+through_past c flags trace place past = ap (λ t. flags_through c flags t) (drop_all place trace past) ∙ through_nil c flags
+
+-- ---- one event more
+
+pub missed_push : (c : ℕ) (flags : Flags) (trace : List Trace) (e : Trace) → e.channel ≡ c → missed_from c flags (trace ++ e ∷ []) ≡ missed_from c flags trace ++ missed_event (flags_through c flags trace) e ∷ []
+missed_push c flags [] e same =
+    missed_cons_here c flags e [] same
+    ∙ ap (λ k. missed_event flags e ∷ k) (missed_nil c (flags_after e.event))
+    ∙ ap (λ f. missed_event f e ∷ []) (sym (through_nil c flags))
+    ∙ ap (λ k. k ++ missed_event (flags_through c flags []) e ∷ []) (sym (missed_nil c flags))
+missed_push c flags (x ∷ trace) e same = elim (cases_eq x.channel c) [
+  | inl on ↦
+      missed_cons_here c flags x (trace ++ e ∷ []) on
+      ∙ ap (λ k. missed_event flags x ∷ k) (missed_push c (flags_after x.event) trace e same)
+      ∙ ap (λ f. missed_event flags x ∷ (missed_from c (flags_after x.event) trace ++ missed_event f e ∷ [])) (sym (through_cons_here c flags x trace on))
+      ∙ ap (λ k. k ++ missed_event (flags_through c flags (x ∷ trace)) e ∷ []) (sym (missed_cons_here c flags x trace on))
+  | inr off ↦
+      missed_cons_other c flags x (trace ++ e ∷ []) off
+      ∙ missed_push c flags trace e same
+      ∙ ap (λ f. missed_from c flags trace ++ missed_event f e ∷ []) (sym (through_cons_other c flags x trace off))
+      ∙ ap (λ k. k ++ missed_event (flags_through c flags (x ∷ trace)) e ∷ []) (sym (missed_cons_other c flags x trace off))
+]
+
+pub missed_push_other : (c : ℕ) (flags : Flags) (trace : List Trace) (e : Trace) → e.channel ≢ c → missed_from c flags (trace ++ e ∷ []) ≡ missed_from c flags trace
+missed_push_other c flags [] e apart = missed_cons_other c flags e [] apart
+missed_push_other c flags (x ∷ trace) e apart = elim (cases_eq x.channel c) [
+  | inl on ↦
+      missed_cons_here c flags x (trace ++ e ∷ []) on
+      ∙ ap (λ k. missed_event flags x ∷ k) (missed_push_other c (flags_after x.event) trace e apart)
+      ∙ sym (missed_cons_here c flags x trace on)
+  | inr off ↦
+      missed_cons_other c flags x (trace ++ e ∷ []) off
+      ∙ missed_push_other c flags trace e apart
+      ∙ sym (missed_cons_other c flags x trace off)
+]
+
+pub through_push : (c : ℕ) (flags : Flags) (trace : List Trace) (e : Trace) → e.channel ≡ c → flags_through c flags (trace ++ e ∷ []) ≡ flags_after e.event
+through_push c flags [] e same = through_cons_here c flags e [] same ∙ through_nil c (flags_after e.event)
+through_push c flags (x ∷ trace) e same = elim (cases_eq x.channel c) [
+  | inl on ↦ through_cons_here c flags x (trace ++ e ∷ []) on ∙ through_push c (flags_after x.event) trace e same
+  | inr off ↦ through_cons_other c flags x (trace ++ e ∷ []) off ∙ through_push c flags trace e same
+]
+
+pub through_push_other : (c : ℕ) (flags : Flags) (trace : List Trace) (e : Trace) → e.channel ≢ c → flags_through c flags (trace ++ e ∷ []) ≡ flags_through c flags trace
+through_push_other c flags [] e apart = through_cons_other c flags e [] apart
+through_push_other c flags (x ∷ trace) e apart = elim (cases_eq x.channel c) [
+  | inl on ↦ through_cons_here c flags x (trace ++ e ∷ []) on ∙ through_push_other c (flags_after x.event) trace e apart ∙ sym (through_cons_here c flags x trace on)
+  | inr off ↦ through_cons_other c flags x (trace ++ e ∷ []) off ∙ through_push_other c flags trace e apart ∙ sym (through_cons_other c flags x trace off)
+]
+
+-- ---- searches, one event further
+
+pub race_found : (test : Flags → Bool) (e : Missed) (missed : List Missed) → test e.found ≡ true → first_race test (e ∷ missed) ≡ Some e.entry
+race_found test e missed is = ap (λ (t : Bool). option_map (λ (x : Missed). x.entry) (if t then Some e else find (λ (x : Missed). test x.found) missed)) is
+
+pub race_passed : (test : Flags → Bool) (e : Missed) (missed : List Missed) → test e.found ≡ false → first_race test (e ∷ missed) ≡ first_race test missed
+race_passed test e missed is = ap (λ (t : Bool). option_map (λ (x : Missed). x.entry) (if t then Some e else find (λ (x : Missed). test x.found) missed)) is
+
+pub alike_found : (test : Flags → Bool) (e : Missed) (missed : List Missed) → test e.found ≡ true → from_alike test (e ∷ missed) ≡ e ∷ missed
+unfolding from_alike
+alike_found test e missed is = ap (λ (t : Bool). if t then e ∷ missed else from_alike test missed) is
+
+pub alike_passed : (test : Flags → Bool) (e : Missed) (missed : List Missed) → test e.found ≡ false → from_alike test (e ∷ missed) ≡ from_alike test missed
+unfolding from_alike
+alike_passed test e missed is = ap (λ (t : Bool). if t then e ∷ missed else from_alike test missed) is
+
+pub alike_none : (test : Flags → Bool) → from_alike test [] ≡ []
+unfolding from_alike
+alike_none test = refl
+
+-- ---- a loop over the trace, by its next event
+
+module _ (races : Flags → Bool) (c : ℕ) (flags : Flags) (trace : List Trace) (place : ℕ) (whole : Option Trace) (so_far : first_race races (missed_from c flags (drop place trace)) ≡ whole) where
+  pub race_at : (e : Trace) → place < length trace → e ≡ get_or trace place e → e.channel ≡ c → races flags ≡ true → Some e ≡ whole
+  race_at e low is on test =
+      sym (ap (λ x. first_race races x) (missed_here c flags trace place e low (ap (λ (t : Trace). t.channel) (sym is) ∙ on))
+      ∙ race_found races (missed_event flags (get_or trace place e)) (missed_from c (flags_after (get_or trace place e).event) (drop (place + 1) trace)) test
+      ∙ ap (λ t. Some t) (sym is)) ∙ so_far
+
+  pub race_next : (e : Trace) (next : Flags) → place < length trace → e ≡ get_or trace place e → e.channel ≡ c → races flags ≡ false → next ≡ flags_after e.event → first_race races (missed_from c next (drop (place + 1) trace)) ≡ whole
+  race_next e next low is on test next_is =
+      ap (λ f. first_race races (missed_from c f (drop (place + 1) trace))) (next_is ∙ ap (λ (t : Trace). flags_after t.event) is)
+      ∙ sym (ap (λ x. first_race races x) (missed_here c flags trace place e low (ap (λ (t : Trace). t.channel) (sym is) ∙ on))
+      ∙ race_passed races (missed_event flags (get_or trace place e)) (missed_from c (flags_after (get_or trace place e).event) (drop (place + 1) trace)) test) ∙ so_far
+
+  pub race_skip : (e : Trace) (next : Flags) → place < length trace → e ≡ get_or trace place e → e.channel ≢ c → next ≡ flags → first_race races (missed_from c next (drop (place + 1) trace)) ≡ whole
+  race_skip e next low is off next_is =
+      ap (λ f. first_race races (missed_from c f (drop (place + 1) trace))) next_is
+      ∙ sym (ap (λ x. first_race races x) (missed_other c flags trace place e low (λ on. off (ap (λ (t : Trace). t.channel) is ∙ on)))) ∙ so_far
+
+  pub race_end : length trace ≤ place → None ≡ whole
+  race_end past = sym (ap (λ x. first_race races x) (missed_past c flags trace place past)) ∙ so_far
+
+module _ (alike : Flags → Bool) (c : ℕ) (flags : Flags) (trace : List Trace) (place : ℕ) (whole : List Missed) (so_far : from_alike alike (missed_from c flags (drop place trace)) ≡ whole) where
+  pub alike_at : (e : Trace) → place < length trace → e ≡ get_or trace place e → e.channel ≡ c → alike flags ≡ true → missed_from c flags (drop place trace) ≡ whole
+  alike_at e low is on test =
+      missed_here c flags trace place e low (ap (λ (t : Trace). t.channel) (sym is) ∙ on)
+      ∙ sym (alike_found alike (missed_event flags (get_or trace place e)) (missed_from c (flags_after (get_or trace place e).event) (drop (place + 1) trace)) test)
+      ∙ ap (λ x. from_alike alike x) (sym (missed_here c flags trace place e low (ap (λ (t : Trace). t.channel) (sym is) ∙ on))) ∙ so_far
+
+  pub alike_next : (e : Trace) (next : Flags) → place < length trace → e ≡ get_or trace place e → e.channel ≡ c → alike flags ≡ false → next ≡ flags_after e.event → from_alike alike (missed_from c next (drop (place + 1) trace)) ≡ whole
+  alike_next e next low is on test next_is =
+      ap (λ f. from_alike alike (missed_from c f (drop (place + 1) trace))) (next_is ∙ ap (λ (t : Trace). flags_after t.event) is)
+      ∙ sym (ap (λ x. from_alike alike x) (missed_here c flags trace place e low (ap (λ (t : Trace). t.channel) (sym is) ∙ on))
+      ∙ alike_passed alike (missed_event flags (get_or trace place e)) (missed_from c (flags_after (get_or trace place e).event) (drop (place + 1) trace)) test) ∙ so_far
+
+  pub alike_skip : (e : Trace) (next : Flags) → place < length trace → e ≡ get_or trace place e → e.channel ≢ c → next ≡ flags → from_alike alike (missed_from c next (drop (place + 1) trace)) ≡ whole
+  alike_skip e next low is off next_is =
+      ap (λ f. from_alike alike (missed_from c f (drop (place + 1) trace))) next_is
+      ∙ sym (ap (λ x. from_alike alike x) (missed_other c flags trace place e low (λ on. off (ap (λ (t : Trace). t.channel) is ∙ on)))) ∙ so_far
+
+  pub alike_end : length trace ≤ place → (last : ℕ) → length trace ≤ last → missed_from c flags (drop last trace) ≡ whole
+  alike_end past last also =
+      missed_past c flags trace last also ∙ sym (alike_none alike) ∙ ap (λ x. from_alike alike x) (sym (missed_past c flags trace place past)) ∙ so_far
+
+pub flags_next : (c : ℕ) (flags : Flags) (trace : List Trace) (place : ℕ) (whole : Flags) (e : Trace) (next : Flags) → flags_through c flags (drop place trace) ≡ whole
+    → place < length trace → e ≡ get_or trace place e → e.channel ≡ c → next ≡ flags_after e.event → flags_through c next (drop (place + 1) trace) ≡ whole
+flags_next c flags trace place whole e next so_far low is on next_is =
+    ap (λ f. flags_through c f (drop (place + 1) trace)) (next_is ∙ ap (λ (t : Trace). flags_after t.event) is)
+    ∙ sym (through_here c flags trace place e low (ap (λ (t : Trace). t.channel) (sym is) ∙ on)) ∙ so_far
+
+pub flags_skip : (c : ℕ) (flags : Flags) (trace : List Trace) (place : ℕ) (whole : Flags) (e : Trace) (next : Flags) → flags_through c flags (drop place trace) ≡ whole
+    → place < length trace → e ≡ get_or trace place e → e.channel ≢ c → next ≡ flags → flags_through c next (drop (place + 1) trace) ≡ whole
+flags_skip c flags trace place whole e next so_far low is off next_is =
+    ap (λ f. flags_through c f (drop (place + 1) trace)) next_is
+    ∙ sym (through_other c flags trace place e low (λ on. off (ap (λ (t : Trace). t.channel) is ∙ on))) ∙ so_far
+
+pub flags_end : (c : ℕ) (flags : Flags) (trace : List Trace) (place last : ℕ) (whole : Flags) → flags_through c flags (drop place trace) ≡ whole → length trace ≤ place → length trace ≤ last → flags_through c flags (drop last trace) ≡ whole
+flags_end c flags trace place last whole so_far past also = through_past c flags trace last also ∙ sym (through_past c flags trace place past) ∙ so_far
+
+-- where the flags at a place pass, no event is passed over
+pub alike_here : (alike : Flags → Bool) (c : ℕ) (flags : Flags) (trace : List Trace) → alike flags ≡ true → missed_from c flags trace ≡ from_alike alike (missed_from c flags trace)
+alike_here alike c flags [] is = missed_nil c flags ∙ sym (alike_none alike) ∙ ap (λ x. from_alike alike x) (sym (missed_nil c flags))
+alike_here alike c flags (e ∷ trace) is = elim (cases_eq e.channel c) [
+  | inl on ↦
+      missed_cons_here c flags e trace on
+      ∙ sym (alike_found alike (missed_event flags e) (missed_from c (flags_after e.event) trace) is)
+      ∙ ap (λ x. from_alike alike x) (sym (missed_cons_here c flags e trace on))
+  | inr off ↦
+      missed_cons_other c flags e trace off ∙ alike_here alike c flags trace is
+      ∙ ap (λ x. from_alike alike x) (sym (missed_cons_other c flags e trace off))
+]

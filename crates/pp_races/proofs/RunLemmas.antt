@@ -1,0 +1,282 @@
+-- A run that is watched to its end.
+use Rattle.std.proofs.Common.{◌≡◌, ◌≢◌, ℕ, zero, suc, ◌+◌, ◌-◌, ◌<◌, ◌≤◌, Bool, true, false, IsTrue, List, [], ◌∷◌, ◌++◌, length, take, get_or, Option, Some, None, refl, sym, ap, ◌∙◌, subst, inl, inr, arith}
+use Rattle.std.specs.Prelude.{◌==◌, ◌&&◌, ◌||◌, ◌⊎◌, not, count_by, nat_lt, if◌then◌else◌}
+use Rattle.std.proofs.lemmas.Bool.{and_from, cases_eq, cases_lt, eq-eqb}
+use Rattle.std.proofs.lemmas.List.{get_or_append_left, get_or_past, get_or_push, take-append-le, take_all}
+use Rattle.list_facts.specs.Tables.{get_or-tabulate, length-tabulate, tabulate}
+use Rattle.pp_channel.specs.Answer.{event_of, flags_of}
+use Rattle.pp_channel.specs.ChannelNo.{channel_count}
+use Rattle.pp_channel.specs.declared.chan_op.ChanOp.{ChanOp}
+use Rattle.pp_channel.specs.declared.event.Event.{Event}
+use Rattle.pp_channel.specs.declared.flags.Flags.{Flags}
+use Rattle.pp_machine.specs.MachineState.{MachineState, processor_of, history_of}
+use Rattle.pp_machine.specs.MachineStep.{stepped}
+use Rattle.pp_machine.specs.NeedAndEffect.{need}
+use Rattle.pp_machine.specs.PpNo.{names_processor, processor_count, processor_index, processor_number}
+use Rattle.pp_machine.specs.Processor.{Processor, no_processor, IsAtRest}
+use Rattle.pp_machine.specs.ProcessorPlaces as processor_places
+use Rattle.pp_machine.specs.Profile.{processor_in_turn}
+use Rattle.pp_machine.specs.Run.{run, barrel}
+use Rattle.pp_machine.specs.RunLaws.{length-barrel, run-append}
+use Rattle.pp_machine.specs.declared.need.Need.{Need}
+use Rattle.pp_machine.specs.declared.need.Need.TheVariants.{Channel}
+use Rattle.pp_machine.specs.declared.pp_state.PpState.TheVariants.{Running, Stopped}
+use Rattle.pp_machine.specs.declared.profile.Profile.{Profile}
+use Rattle.pp_machine.proofs.StepLemmas.{nothing_at_rest}
+use Rattle.pp_every_order.specs.Determinacy.{IsDeterminate, IsSettled, UsesAt, WritesAt, at_moment, history_at, need_at}
+use Rattle.pp_every_order.proofs.Moments.{moment_next, moment_past, moment_each, mono, run_central, run_processors}
+use Rattle.pp_races.specs.Findings.{end_by_need, end_of, findings, findings_at_end, held_before, by_place, is_shared, sharing_of, turns_in_place}
+use Rattle.pp_races.specs.OtherFlags.{makes_none, is_same, position_at, position_of, waits_at}
+use Rattle.pp_races.specs.OnePass.{Watched, WaitsAt, flags_at}
+use Rattle.pp_races.specs.Soundness.{AreLastOf, IsAskedWell, IsSound, TurnsWell, least_of, open_of}
+use Rattle.pp_races.specs.Watch.{Missed, Watch, asked, asking_step, each_below, each_number, entry_of, first_race, looked, missed_event, unwatched, watched, watched_need, watched_step}
+use Rattle.pp_races.specs.Tables.{AreLow, AreNoLooks, AreUses, AreWatched, entry_count}
+use Rattle.pp_races.specs.declared.finding.Finding.{Finding}
+use Rattle.pp_races.specs.declared.looks.Looks.{Looks}
+use Rattle.pp_races.specs.declared.low.Low.{Low}
+use Rattle.pp_races.specs.declared.word_use.WordUse.{WordUse}
+use Rattle.pp_races.proofs.BeginLemmas.{begins_looks}
+use Rattle.pp_races.proofs.FinalLemmas.{determinate}
+use Rattle.pp_races.proofs.MissedLemmas.{none_missed}
+use Rattle.pp_races.proofs.UseLemmas.{same_asked}
+use Rattle.pp_races.proofs.SoundLemmas.{StepIsSound, none_below, none_first, none_numbered, none_second, step_sound}
+use Rattle.pp_races.proofs.Watching.{watched_checked, watched_settled, watched_steps}
+
+-- ---- one step more
+
+pub watched_push : (ns : List ℕ) (n : ℕ) (m : MachineState) (w : Watch) → watched (ns ++ n ∷ []) m w ≡ watched_need (need (processor_of n (run ns m))) n (run ns m) (watched ns m w)
+unfolding watched watched_step
+watched_push [] n m w = refl
+watched_push (k ∷ ns) n m w = watched_push ns n (stepped k m) (watched_step k m w)
+
+or_left : (a b : Bool) → a ≡ true → (a || b) ≡ true
+or_left true b is = refl
+or_left false b is = absurd cc
+
+or_right : (a b : Bool) → b ≡ true → (a || b) ≡ true
+or_right true b is = refl
+or_right false b is = is
+
+found_before_asked : (n c : ℕ) (op : ChanOp) (o : Option Event) (m : MachineState) (w : Watch) → (asked n c op o m w).findings ≡ [] → w.findings ≡ []
+found_before_asked n c op (Some event) m w is = none_first w.findings _ (none_first _ _ is)
+found_before_asked n c op None m w is = by_wait (waits_at op (processor_of n m) (flags_of (history_of c m))) is
+  where
+    by_wait : (b : Bool) → (if b then w else looked n c op m w).findings ≡ [] → w.findings ≡ []
+    by_wait true e = e
+    by_wait false e = none_first w.findings _ e
+
+pub found_before : (x : Need) (n : ℕ) (m : MachineState) (w : Watch) → (watched_need x n m w).findings ≡ [] → w.findings ≡ []
+found_before (Need.Channel c op) n m w is = found_before_asked n c op (event_of op (history_of c m)) m w is
+found_before Need.Nothing n m w is = is
+found_before Need.Local n m w is = is
+found_before (Need.Read a) n m w is = is
+found_before (Need.Write a v) n m w is = is
+
+used_still : (x : Need) (n : ℕ) (m : MachineState) (w : Watch) (a q : ℕ) → w.used a q ≡ true → (watched_need x n m w).used a q ≡ true
+used_still (Need.Channel c op) n m w a q is = ap (λ (f : ℕ → ℕ → Bool). f a q) (same_asked n c op (event_of op (history_of c m)) m w).0 ∙ is
+used_still Need.Nothing n m w a q is = is
+used_still Need.Local n m w a q is = is
+used_still (Need.Read b) n m w a q is = or_left (w.used a q) (a == b && q == n) is
+used_still (Need.Write b v) n m w a q is = or_left (w.used a q) (a == b && q == n) is
+
+wrote_still : (x : Need) (n : ℕ) (m : MachineState) (w : Watch) (a q : ℕ) → w.wrote a q ≡ true → (watched_need x n m w).wrote a q ≡ true
+wrote_still (Need.Channel c op) n m w a q is = ap (λ (f : ℕ → ℕ → Bool). f a q) (same_asked n c op (event_of op (history_of c m)) m w).1 ∙ is
+wrote_still Need.Nothing n m w a q is = is
+wrote_still Need.Local n m w a q is = is
+wrote_still (Need.Read b) n m w a q is = is
+wrote_still (Need.Write b v) n m w a q is = or_left (w.wrote a q) (a == b && q == n) is
+
+both_same : (a n : ℕ) → (a == a && n == n) ≡ true
+both_same a n = and_from (a == a) (n == n) (eq-eqb a a refl) (eq-eqb n n refl)
+
+used_now : (x : Need) (n : ℕ) (m : MachineState) (w : Watch) (a : ℕ) → UsesAt a x → (watched_need x n m w).used a n ≡ true
+used_now x n m w a (inl is) = ap (λ y. (watched_need y n m w).used a n) is ∙ or_right (w.used a n) (a == a && n == n) (both_same a n)
+used_now x n m w a (inr is) = ap (λ y. (watched_need y n m w).used a n) is.1 ∙ or_right (w.used a n) (a == a && n == n) (both_same a n)
+
+wrote_now : (x : Need) (n : ℕ) (m : MachineState) (w : Watch) (a : ℕ) → WritesAt a x → (watched_need x n m w).wrote a n ≡ true
+wrote_now x n m w a is = ap (λ y. (watched_need y n m w).wrote a n) is.1 ∙ or_right (w.wrote a n) (a == a && n == n) (both_same a n)
+
+module _ (ns : List ℕ) (m : MachineState) (each : length m.histories ≡ channel_count) (t : ℕ) (within : t < length ns) (w : Watch) (named : IsTrue (names_processor (get_or ns t 0))) where
+  pub sound_next : IsSound ns m t w → IsAskedWell (need_at ns m t) (at_moment ns m t) → (watched_need (need_at ns m t) (get_or ns t 0) (at_moment ns m t) w).findings ≡ []
+      → IsSound ns m (suc t) (watched_need (need_at ns m t) (get_or ns t 0) (at_moment ns m t) w)
+  sound_next s well found =
+      let now : MachineState = at_moment ns m t in
+      let n : ℕ = get_or ns t 0 in
+      let one = step_sound (at_moment ns m t) (get_or ns t 0) w (moment_each ns m each t) named s.missed s.watched.stands_open well found in
+      let step = moment_next ns m t within in
+      record {
+        watched = subst (λ (k : MachineState). Watched ns m (suc t) (least_of (watched_need (need_at ns m t) (get_or ns t 0) (at_moment ns m t) w) k) (open_of (watched_need (need_at ns m t) (get_or ns t 0) (at_moment ns m t) w))) (sym step)
+            (watched_checked ns m each t within (least_of w (at_moment ns m t)) _ (open_of w) _ s.watched one.checked);
+        missed = λ q c. subst (λ (k : MachineState). AreLastOf (history_of c k) ((watched_need (need_at ns m t) (get_or ns t 0) (at_moment ns m t) w).missed q c)) (sym step) (one.missed q c);
+        used = λ u a low uses. elim (cases_lt u t) [
+          | inl early ↦ used_still (need_at ns m t) (get_or ns t 0) (at_moment ns m t) w a (get_or ns u 0) (s.used u a early uses)
+          | inr past ↦
+              let here : t ≡ u = omega arith in
+              subst (λ (k : ℕ). (watched_need (need_at ns m t) (get_or ns t 0) (at_moment ns m t) w).used a (get_or ns k 0) ≡ true) here
+              (used_now (need_at ns m t) (get_or ns t 0) (at_moment ns m t) w a (subst (λ (k : ℕ). UsesAt a (need_at ns m k)) (sym here) uses))
+        ];
+        wrote = λ u a low writes. elim (cases_lt u t) [
+          | inl early ↦ wrote_still (need_at ns m t) (get_or ns t 0) (at_moment ns m t) w a (get_or ns u 0) (s.wrote u a early writes)
+          | inr past ↦
+              let here : t ≡ u = omega arith in
+              subst (λ (k : ℕ). (watched_need (need_at ns m t) (get_or ns t 0) (at_moment ns m t) w).wrote a (get_or ns k 0) ≡ true) here
+              (wrote_now (need_at ns m t) (get_or ns t 0) (at_moment ns m t) w a (subst (λ (k : ℕ). WritesAt a (need_at ns m k)) (sym here) writes))
+        ];
+      }
+
+-- what is kept of a run after t turns of so many
+pub record IsWatchedRun (p : Profile) (turns t : ℕ) (m now : MachineState) (low : List Low) (looks : List Looks) (uses : List WordUse) (found : List Finding) : Type 0 where
+  pub ran : now ≡ run (barrel p t) m
+  pub entries : length low ≡ entry_count
+  pub looks_all : length looks ≡ entry_count
+  pub words : length uses ≡ length m.central
+  pub watched_so_far : AreWatched now (watched (barrel p t) m unwatched) low looks found
+  pub used_so_far : AreUses (watched (barrel p t) m unwatched) uses
+  pub sound : (watched (barrel p t) m unwatched).findings ≡ [] → IsSound (barrel p turns) m t (watched (barrel p t) m unwatched)
+
+-- ---- the turns of the barrel
+
+take_barrel : (p : Profile) (turns t : ℕ) → t ≤ turns → take t (barrel p turns) ≡ barrel p t
+take_barrel p zero t h =
+    let first : zero ≡ t = omega arith in
+    subst (λ (k : ℕ). take k [] ≡ barrel p k) first refl
+take_barrel p (suc turns) t h = elim (cases_lt t (suc turns)) [
+  | inl below ↦
+      let size = length-barrel p turns in
+      take-append-le t (barrel p turns) (processor_in_turn p turns ∷ []) (omega arith) ∙ take_barrel p turns t (omega arith)
+  | inr past ↦
+      let here : t ≡ suc turns = omega arith in
+      let size = length-barrel p (suc turns) in
+      take_all t (barrel p (suc turns)) (omega arith) ∙ ap (λ k. barrel p k) (sym here)
+]
+
+turn_of_barrel : (p : Profile) (turns t : ℕ) → t < turns → get_or (barrel p turns) t 0 ≡ processor_in_turn p t
+turn_of_barrel p zero t h = absurd (omega arith)
+turn_of_barrel p (suc turns) t h = elim (cases_lt t turns) [
+  | inl below ↦
+      let size = length-barrel p turns in
+      get_or_append_left (barrel p turns) (processor_in_turn p turns ∷ []) 0 t (omega arith) ∙ turn_of_barrel p turns t below
+  | inr past ↦
+      let here : turns ≡ t = omega arith in
+      let size = length-barrel p turns in
+      get_or_push (barrel p turns) (processor_in_turn p turns) 0 t (omega arith) ∙ ap (λ k. processor_in_turn p k) here
+]
+
+-- ---- the loop
+
+both_true : (b : Bool) → (if b then true else true) ≡ true
+both_true true = refl
+both_true false = refl
+
+watched_none : (m : MachineState) (w : Watch) → watched [] m w ≡ w
+unfolding watched
+watched_none m w = refl
+
+pub run_begins : (p : Profile) (turns : ℕ) (m : MachineState) (low : List Low) (looks : List Looks) (uses : List WordUse) (found : List Finding) → length m.histories ≡ channel_count
+    → length low ≡ entry_count → length looks ≡ entry_count → length uses ≡ length m.central → AreLow m unwatched low → AreNoLooks looks → found ≡ [] → AreUses unwatched uses
+    → IsWatchedRun p turns 0 m m low looks uses found
+run_begins p turns m low looks uses found each low_all looks_all words low_are looks_are nothing uses_are = record {
+  ran = refl;
+  entries = low_all;
+  looks_all = looks_all;
+  words = words;
+  watched_so_far = subst (λ (w : Watch). AreWatched m w low looks found) (sym (watched_none m unwatched)) (record { low_are = low_are; looks_are = begins_looks looks looks_are; found_are = nothing });
+  used_so_far = subst (λ (w : Watch). AreUses w uses) (sym (watched_none m unwatched)) uses_are;
+  sound = λ none. subst (λ (w : Watch). IsSound (barrel p turns) m 0 w) (sym (watched_none m unwatched)) (record {
+    watched = record {
+      lower = λ q c s may. omega (arith, mono (barrel p turns) m each c zero s (omega arith));
+      stands_open = λ q c. both_true (names_processor q);
+      passed = λ u h. absurd (omega arith);
+    };
+    missed = λ q c. none_missed (history_of c m);
+    used = λ u a h uses_it. absurd (omega arith);
+    wrote = λ u a h writes. absurd (omega arith);
+  });
+}
+
+-- the watch goes on soundly, of values that are those of a moment
+sound_on : (ns : List ℕ) (m now : MachineState) (n : ℕ) (asked : Need) (t : ℕ) (w : Watch) → length m.histories ≡ channel_count → t < length ns → IsTrue (names_processor n)
+    → get_or ns t 0 ≡ n → at_moment ns m t ≡ now → need (processor_of n now) ≡ asked → IsAskedWell asked now → (watched_need asked n now w).findings ≡ []
+    → IsSound ns m t w → IsSound ns m (suc t) (watched_need asked n now w)
+sound_on ns m now n asked t w each within named n_is now_is asked_is well found s =
+    let need_is : need_at ns m t ≡ asked = ap (λ k. need (processor_of k (at_moment ns m t))) n_is ∙ ap (λ (x : MachineState). need (processor_of n x)) now_is ∙ asked_is in
+    let same : watched_need (need_at ns m t) (get_or ns t 0) (at_moment ns m t) w ≡ watched_need asked n now w =
+    ap (λ (x : Need). watched_need x (get_or ns t 0) (at_moment ns m t) w) need_is ∙ ap (λ k. watched_need asked k (at_moment ns m t) w) n_is ∙ ap (λ (x : MachineState). watched_need asked n x w) now_is in
+    subst (λ (x : Watch). IsSound ns m (suc t) x) same
+    (sound_next ns m each t within w (subst (λ (k : ℕ). IsTrue (names_processor k)) (sym n_is) named) s
+    (subst (λ (x : Need). IsAskedWell x (at_moment ns m t)) (sym need_is) (subst (λ (x : MachineState). IsAskedWell asked x) (sym now_is) well))
+    (ap (λ (x : Watch). x.findings) same ∙ found))
+
+pub run_goes_on : (p : Profile) (turns t : ℕ) (m now next : MachineState) (n : ℕ) (asked : Need) (low new_low : List Low) (looks new_looks : List Looks) (uses new_uses : List WordUse) (found new_found : List Finding) → length m.histories ≡ channel_count
+    → t < turns → n ≡ processor_in_turn p t → IsTrue (names_processor n) → asked ≡ need (processor_of n now) → next ≡ stepped n now
+    → IsAskedWell asked now
+    → ((w : Watch) → AreWatched now w low looks found → AreWatched (stepped n now) (watched_need asked n now w) new_low new_looks new_found)
+    → ((k : MachineState) (w : Watch) → AreUses w uses → AreUses (watched_need asked n k w) new_uses)
+    → length new_low ≡ length low → length new_looks ≡ length looks → length new_uses ≡ length uses
+    → IsWatchedRun p turns t m now low looks uses found → IsWatchedRun p turns (t + 1) m next new_low new_looks new_uses new_found
+run_goes_on p turns t m now next n asked low new_low looks new_looks uses new_uses found new_found each before n_is named asked_is next_is well takes uses_take low_long looks_long uses_long r =
+    let w : Watch = watched (barrel p t) m unwatched in
+    let one : t + 1 ≡ suc t = omega arith in
+    let size : length (barrel p turns) ≡ turns = length-barrel p turns in
+    let watch_is : watched (barrel p (t + 1)) m unwatched ≡ watched_need asked n now (watched (barrel p t) m unwatched) =
+    ap (λ k. watched (barrel p k) m unwatched) one ∙ watched_push (barrel p t) (processor_in_turn p t) m unwatched
+    ∙ ap (λ k. watched_need (need (processor_of k (run (barrel p t) m))) k (run (barrel p t) m) (watched (barrel p t) m unwatched)) (sym n_is)
+    ∙ ap (λ (x : MachineState). watched_need (need (processor_of n x)) n x (watched (barrel p t) m unwatched)) (sym r.ran)
+    ∙ ap (λ (x : Need). watched_need x n now (watched (barrel p t) m unwatched)) (sym asked_is) in
+    record {
+      ran = next_is ∙ ap (λ x. stepped n x) r.ran ∙ ap (λ k. stepped k (run (barrel p t) m)) n_is ∙ sym (run-append (barrel p t) (processor_in_turn p t) m) ∙ ap (λ k. run (barrel p k) m) (sym one);
+      entries = low_long ∙ r.entries;
+      looks_all = looks_long ∙ r.looks_all;
+      words = uses_long ∙ r.words;
+      watched_so_far = subst (λ (x : Watch). AreWatched next x new_low new_looks new_found) (sym watch_is)
+          (subst (λ (x : MachineState). AreWatched x (watched_need asked n now (watched (barrel p t) m unwatched)) new_low new_looks new_found) (sym next_is) (takes (watched (barrel p t) m unwatched) r.watched_so_far));
+      used_so_far = subst (λ (x : Watch). AreUses x new_uses) (sym watch_is) (uses_take now (watched (barrel p t) m unwatched) r.used_so_far);
+      sound = λ none.
+          let found_none : (watched_need asked n now (watched (barrel p t) m unwatched)).findings ≡ [] = ap (λ (x : Watch). x.findings) (sym watch_is) ∙ none in
+          let now_is : at_moment (barrel p turns) m t ≡ now = ap (λ ks. run ks m) (take_barrel p turns t (omega arith)) ∙ sym r.ran in
+          subst (λ (x : Watch). IsSound (barrel p turns) m (t + 1) x) (sym watch_is)
+          (subst (λ (k : ℕ). IsSound (barrel p turns) m k (watched_need asked n now (watched (barrel p t) m unwatched))) (sym one)
+          (sound_on (barrel p turns) m now n asked t (watched (barrel p t) m unwatched) each (omega arith) named (turn_of_barrel p turns t before ∙ sym n_is) now_is (sym asked_is) well found_none
+          (r.sound (found_before asked n now (watched (barrel p t) m unwatched) found_none))));
+    }
+
+-- ---- the end
+
+findings_are : (ns : List ℕ) (m : MachineState) → findings ns m ≡ findings_at_end (run ns m) (watched ns m unwatched)
+unfolding findings
+findings_are ns m = refl
+
+pub run_finds : (p : Profile) (turns t : ℕ) (m now : MachineState) (low : List Low) (looks : List Looks) (uses : List WordUse) (found middle last : List Finding)
+    → t ≡ turns → IsWatchedRun p turns t m now low looks uses found
+    → ((w : Watch) → AreLow now w low → middle ≡ found ++ each_number (end_of now w))
+    → ((w : Watch) → AreUses w uses → last ≡ middle ++ each_below (length uses) (sharing_of w))
+    → last ≡ findings (barrel p turns) m
+run_finds p turns t m now low looks uses found middle last end r ends shares =
+    let now_is : now ≡ run (barrel p turns) m = r.ran ∙ ap (λ k. run (barrel p k) m) end in
+    let watch_is : watched (barrel p t) m unwatched ≡ watched (barrel p turns) m unwatched = ap (λ k. watched (barrel p k) m unwatched) end in
+    let words : length uses ≡ length (run (barrel p turns) m).central = r.words ∙ sym (run_central (barrel p turns) m) in
+    shares (watched (barrel p t) m unwatched) r.used_so_far
+    ∙ ap (λ x. x ++ each_below (length uses) (sharing_of (watched (barrel p t) m unwatched))) (ends (watched (barrel p t) m unwatched) r.watched_so_far.low_are)
+    ∙ ap (λ x. (x ++ each_number (end_of now (watched (barrel p t) m unwatched))) ++ each_below (length uses) (sharing_of (watched (barrel p t) m unwatched))) r.watched_so_far.found_are
+    ∙ ap (λ (x : Watch). (x.findings ++ each_number (end_of now x)) ++ each_below (length uses) (sharing_of x)) watch_is
+    ∙ ap (λ (x : MachineState). ((watched (barrel p turns) m unwatched).findings ++ each_number (end_of x (watched (barrel p turns) m unwatched))) ++ each_below (length uses) (sharing_of (watched (barrel p turns) m unwatched))) now_is
+    ∙ ap (λ k. ((watched (barrel p turns) m unwatched).findings ++ each_number (end_of (run (barrel p turns) m) (watched (barrel p turns) m unwatched))) ++ each_below k (sharing_of (watched (barrel p turns) m unwatched))) words
+    ∙ sym (findings_are (barrel p turns) m)
+
+pub run_tells : (p : Profile) (turns t : ℕ) (m now : MachineState) (low : List Low) (looks : List Looks) (uses : List WordUse) (found : List Finding) → length m.processors ≡ processor_count → length m.histories ≡ channel_count
+    → t ≡ turns → IsWatchedRun p turns t m now low looks uses found → ((q : ℕ) → IsTrue (names_processor q) → TurnsWell now q)
+    → findings (barrel p turns) m ≡ [] → IsDeterminate (barrel p turns) m
+run_tells p turns t m now low looks uses found all each end r turn_well none =
+    let ns : List ℕ = barrel p turns in
+    let now_is : now ≡ run (barrel p turns) m = r.ran ∙ ap (λ k. run (barrel p k) m) end in
+    let size : t ≡ length (barrel p turns) = end ∙ sym (length-barrel p turns) in
+    let watch_is : watched (barrel p t) m unwatched ≡ watched (barrel p turns) m unwatched = ap (λ k. watched (barrel p k) m unwatched) end in
+    let none_there : findings_at_end (run (barrel p turns) m) (watched (barrel p turns) m unwatched) ≡ [] = sym (findings_are (barrel p turns) m) ∙ none in
+    let first = none_first ((watched (barrel p turns) m unwatched).findings ++ each_number (end_of (run (barrel p turns) m) (watched (barrel p turns) m unwatched))) _ none_there in
+    let before : (watched (barrel p t) m unwatched).findings ≡ [] = ap (λ (x : Watch). x.findings) watch_is ∙ none_first (watched (barrel p turns) m unwatched).findings _ first in
+    determinate (barrel p turns) m (watched (barrel p turns) m unwatched) all each
+    (λ k. run_processors (take k (barrel p turns)) m ∙ all) (run_processors (barrel p turns) m ∙ all)
+    (subst (λ (k : ℕ). IsSound (barrel p turns) m k (watched (barrel p turns) m unwatched)) size (subst (λ (x : Watch). IsSound (barrel p turns) m t x) watch_is (r.sound before)))
+    (none_second (watched (barrel p turns) m unwatched).findings _ first)
+    (none_second ((watched (barrel p turns) m unwatched).findings ++ each_number (end_of (run (barrel p turns) m) (watched (barrel p turns) m unwatched))) _ none_there)
+    (λ q named. subst (λ (x : MachineState). TurnsWell x q) now_is (turn_well q named))

@@ -1,0 +1,68 @@
+-- The bits of processors, and the central words that they use.
+use Rattle.std.proofs.Common.{◌≡◌, ℕ, ◌+◌, ◌*◌, ◌%◌, ◌^◌, ◌<◌, Bool, true, false, IsTrue, List, length, get_or, Option, Some, None, refl, sym, ap, ◌∙◌, inl, inr, arith}
+use Rattle.std.specs.Prelude.{◌==◌, ◌||◌, nat_eq, bit_or, replicate, if◌then◌else◌}
+use Rattle.std.specs.Int.{bit_at, w32}
+use Rattle.std.proofs.lemmas.Bool.{cases_eq, cases_lt, eq-eqb, ne_eqb}
+use Rattle.std.proofs.lemmas.List.{get_or-replicate, length-replicate}
+use Rattle.std.proofs.lemmas.Nat.Bits.{bit_at_set_same, bit_at_set_other, bit_at-zero}
+use Rattle.pp_channel.specs.Answer.{flags_of}
+use Rattle.pp_channel.specs.declared.chan_op.ChanOp.{ChanOp}
+use Rattle.pp_channel.specs.declared.event.Event.{Event}
+use Rattle.pp_machine.specs.MachineState.{MachineState, processor_of, history_of}
+use Rattle.pp_machine.specs.PpNo.{names_processor, processor_count, processor_index}
+use Rattle.pp_machine.specs.ProcessorPlaces as processor_places
+use Rattle.pp_races.specs.Tables.{AreUses, IsUseOf, has_bit, unused}
+use Rattle.pp_races.specs.OtherFlags.{waits_at}
+use Rattle.pp_races.specs.Watch.{Watch, asked, looked, unwatched}
+use Rattle.pp_races.specs.declared.word_use.WordUse.{WordUse}
+
+or_true : (b : Bool) → true ≡ (b || true)
+or_true true = refl
+or_true false = refl
+
+or_false : (b : Bool) → b ≡ (b || false)
+or_false true = refl
+or_false false = refl
+
+pub bit_set : (mask n place : ℕ) → IsTrue (names_processor n) → place ≡ processor_index n → (q : ℕ) → IsTrue (names_processor q)
+    → has_bit (bit_or mask (1 * 2 ^ place % 2 ^ 32)) q ≡ (has_bit mask q || q == n)
+bit_set mask n place n_named place_is q q_named =
+    let low : processor_index n < 20 = processor_places.place_below n n_named in
+    let within : place < 32 = omega arith in
+    elim (cases_eq q n) [
+      | inl same ↦
+          let here : processor_index q ≡ place = ap processor_index same ∙ sym place_is in
+          ap (λ k. nat_eq (bit_at (bit_or mask (1 * 2 ^ place % 2 ^ 32)) k) 1) here
+          ∙ ap (λ b. nat_eq b 1) (bit_at_set_same w32 mask place within)
+          ∙ or_true (has_bit mask q) ∙ ap (λ t. has_bit mask q || t) (sym (eq-eqb q n same))
+      | inr other ↦
+          let apart : processor_index q ≡ place → ⊥ = λ is. other (processor_places.one_place n q n_named (is ∙ place_is)) in
+          ap (λ b. nat_eq b 1) (bit_at_set_other w32 mask place within (processor_index q) apart)
+          ∙ or_false (has_bit mask q) ∙ ap (λ t. has_bit mask q || t) (sym (ne_eqb q n other))
+    ]
+
+no_bit : (q : ℕ) → has_bit 0 q ≡ false
+no_bit q = ap (λ b. nat_eq b 1) (bit_at-zero (processor_index q))
+
+pub replicate_unused : (table : List WordUse) (n : ℕ) (use_of : WordUse) → use_of ≡ unused → table ≡ replicate n use_of → AreUses unwatched table
+replicate_unused table n use_of is all a low =
+    let length_is : length table ≡ n = ap length all ∙ length-replicate n use_of in
+    let here : get_or table a unused ≡ unused = ap (λ t. get_or t a unused) all ∙ get_or-replicate n a use_of unused (omega arith) ∙ is in
+    record {
+      wrote = λ q named. ap (λ (u : WordUse). has_bit u.writers q) here ∙ no_bit q;
+      used = λ q named. ap (λ (u : WordUse). has_bit u.users q) here ∙ no_bit q;
+    }
+
+pub same_asked : (n c : ℕ) (op : ChanOp) (o : Option Event) (m : MachineState) (w : Watch) → ((asked n c op o m w).used ≡ w.used) × ((asked n c op o m w).wrote ≡ w.wrote)
+same_asked n c op (Some event) m w = (refl, refl)
+same_asked n c op None m w = by_wait (waits_at op (processor_of n m) (flags_of (history_of c m)))
+  where
+    by_wait : (b : Bool) → ((if b then w else looked n c op m w).used ≡ w.used) × ((if b then w else looked n c op m w).wrote ≡ w.wrote)
+    by_wait true = (refl, refl)
+    by_wait false = (refl, refl)
+
+pub uses_asked : (n c : ℕ) (op : ChanOp) (o : Option Event) (m : MachineState) (w : Watch) (table : List WordUse) → AreUses w table → AreUses (asked n c op o m w) table
+uses_asked n c op o m w table are a low = record {
+  wrote = λ q named. (are a low).wrote q named ∙ ap (λ (f : ℕ → ℕ → Bool). f a q) (sym (same_asked n c op o m w).1);
+  used = λ q named. (are a low).used q named ∙ ap (λ (f : ℕ → ℕ → Bool). f a q) (sym (same_asked n c op o m w).0);
+}

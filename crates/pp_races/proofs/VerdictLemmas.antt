@@ -1,0 +1,23 @@
+-- What the last line of the text says.
+use Rattle.std.proofs.Common.{◌≡◌, ◌≢◌, ℕ, Bool, true, false, List, [], ◌∷◌, ◌++◌, get_or, reverse, refl, sym, ap, ◌∙◌, arith}
+use Rattle.std.specs.Prelude.{codes, flat_map, if◌then◌else◌}
+use Rattle.std.specs.List.{list_all}
+use Rattle.pp_text.specs.PrintedText.{line_end}
+use Rattle.pp_races.specs.RacesText.{finding_line, findings_text, is_going_on, verdict_line}
+use Rattle.pp_races.specs.declared.finding.Finding.{Finding}
+use Rattle.pp_races.specs.declared.verdict.Verdict.TheVariants.{Same, NoRaceSoFar, MayDiffer}
+use Rattle.std.proofs.lemmas.List.{reverse-append}
+
+differs : (lines : List ℕ) (b : Bool) → lines ++ verdict_line (if b then NoRaceSoFar else MayDiffer) ≡ verdict_line Same → ⊥
+differs lines true is =
+    let bad : 65 ≡ 69 = sym (ap (λ t. get_or t 2 0) (reverse-append lines (verdict_line NoRaceSoFar))) ∙ ap (λ t. get_or (reverse t) 2 0) is in
+    absurd (omega (arith, bad))
+differs lines false is =
+    let bad : 70 ≡ 68 = sym (ap (λ t. get_or t 3 0) (reverse-append lines (verdict_line MayDiffer))) ∙ ap (λ t. get_or (reverse t) 3 0) is in
+    absurd (omega (arith, bad))
+
+-- where the text is the one line SAME IN EVERY ORDER, nothing is found
+pub text_same : (all : List Finding) → findings_text all ≡ verdict_line Same → all ≡ []
+unfolding findings_text
+text_same [] is = refl
+text_same (finding ∷ others) is = absurd (differs (flat_map finding_line (finding ∷ others)) (list_all is_going_on (finding ∷ others)) is)

@@ -1,0 +1,22 @@
+use Rattle.std.proofs.Common.{◌≡◌, ℕ, IsTrue, subst, ap, ◌∙◌, ◌++◌, length, arith}
+use Rattle.pp_channel.specs.ChannelNo.{names_channel}
+use Rattle.pp_machine.specs.PpNo.{processor_count, processor_number}
+use Rattle.pp_races.specs.Tables.{closing_findings}
+use Rattle.pp_races.specs.Watch.{each_below}
+use Rattle.pp_races.proofs.CloseLemmas.{all_closed, closed_more, closed_none, found_more}
+use Rattle.pp_races.proofs.EndLemmas.{each_none}
+use Rattle.pp_races.proofs.watch.close_all.Goals as goal
+
+pub loop-place-init : goal.loop-place-init
+loop-place-init g c = record {
+  closed = closed_none c.args.made.now c.args.after c.args.looks.now c.requires.looks;
+  found = each_none (λ k. closing_findings c.args.made.now c.args.after c.args.looks.now (processor_number k)) c.args.findings.now.items;
+}
+
+pub loop-place-preserved : goal.loop-place-preserved
+loop-place-preserved g c = record {
+  closed = closed_more c.args.made.now c.args.after c.args.looks.now c.loop-place.looks c.close_looks.new.looks c.loop-place.place c.at.result (subst (λ (k : ℕ). IsTrue (names_channel k)) c.get-channel.ensures.value c.get-channel.ensures.names) c.loop-place-test.true c.at.ensures.number
+      c.loop-place.invariant.closed c.in_ok-close_looks.ensures.looks c.close_looks.auto.looks;
+  found = found_more c.args.made.now c.args.after c.args.looks.now c.loop-place.looks c.loop-place.place c.at.result c.args.findings.now.items c.loop-place.findings.items c.close_looks.new.findings.items
+      c.loop-place-test.true c.at.ensures.number c.loop-place.invariant.closed c.loop-place.invariant.found c.in_ok-close_looks.ensures.findings;
+}

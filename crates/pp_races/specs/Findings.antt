@@ -1,0 +1,96 @@
+-- THE FINDINGS of a run: the steps that race with others, the processors that are not settled at its
+-- end, and the central words that one processor wrote and another used.
+use Rattle.std.specs.Prelude.{ℕ, zero, suc, Bool, true, false, not, ◌&&◌, ◌==◌, nat_lt, List, [], ◌∷◌, ◌++◌, Option, Some, None, count_by, length, if◌then◌else◌}
+use Rattle.list_facts.specs.Tables.{tabulate}
+use Rattle.pp_channel.specs.Answer.{flags_of}
+use Rattle.pp_machine.specs.MachineState.{MachineState, processor_of, history_of}
+use Rattle.pp_machine.specs.NeedAndEffect.{need, processor_after}
+use Rattle.pp_machine.specs.PpNo.{processor_count, processor_number}
+use Rattle.pp_machine.specs.Processor.{Processor, word_at}
+use Rattle.pp_machine.specs.Run.{run}
+use Rattle.pp_machine.specs.declared.answer.Answer.{Answer}
+use Rattle.pp_machine.specs.declared.need.Need.{Need}
+use Rattle.pp_machine.specs.declared.need.Need.TheVariants.{Nothing, Local, Channel}
+use Rattle.pp_machine.specs.declared.pp_state.PpState.{PpState}
+use Rattle.pp_machine.specs.declared.pp_state.PpState.TheVariants.{Running}
+use Rattle.pp_machine.specs.declared.profile.Profile.{Profile}
+use Rattle.pp_machine.specs.declared.trace.Trace.{Trace}
+use Rattle.pp_races.specs.OtherFlags.{is_same, position_of, waits_at}
+use Rattle.pp_races.specs.Watch.{Watch, asking_step, each_below, each_number, first_race, unwatched, watched}
+use Rattle.pp_races.specs.declared.asking_step.AskingStep.{AskingStep}
+use Rattle.pp_races.specs.declared.finding.Finding.{Finding}
+use Rattle.pp_races.specs.declared.finding.Finding.TheVariants.{GoingOn, HeldBefore, Shared}
+
+-- ---- processors at the end
+
+-- whether two memories have the same words in the first places
+unfoldable pub same_words : ℕ → Processor → Processor → Bool
+same_words zero one other = true
+same_words (suc place) one other =
+    same_words place one other && word_at one place == word_at other place
+
+abbrev pub same_profile : Profile → Profile → Bool
+same_profile Profile.Ten Profile.Ten = true
+same_profile Profile.Twenty Profile.Twenty = true
+same_profile one other = false
+
+abbrev pub is_running : PpState → Bool
+is_running Running = true
+is_running state = false
+
+-- whether a running processor is the same after a step that needs nothing from outside: it runs on,
+-- and P, A, the block and the 4096 words of memory stay
+abbrev pub stays_running : Processor → Processor → Bool
+stays_running pp after =
+    same_profile after.profile pp.profile && (is_running after.state && (after.a == pp.a
+    && (is_same (position_of after) (position_of pp) && same_words 4096 after pp)))
+
+-- whether it turns in place by such a step
+abbrev pub turns_in_place : Processor → Bool
+turns_in_place pp = stays_running pp (processor_after pp Answer.Local)
+
+-- the first event before which a held processor would have gone on
+abbrev pub held_before : AskingStep → Option Trace → List Finding
+held_before step None = []
+held_before step (Some entry) = HeldBefore step entry ∷ []
+
+abbrev pub end_by_need : Need → ℕ → MachineState → Watch → List Finding
+end_by_need Nothing q m w = []
+end_by_need Local q m w = if turns_in_place (processor_of q m) then [] else GoingOn q ∷ []
+end_by_need (Channel c op) q m w =
+    let pp = processor_of q m in
+    if waits_at op pp (flags_of (history_of c m))
+    then held_before (asking_step q c m) (first_race (λ f. not (waits_at op pp f)) (w.missed q c))
+    else GoingOn q ∷ []
+end_by_need _ q m w = GoingOn q ∷ []
+
+-- a processor after the last step: it goes on, or it might have gone on
+abbrev pub end_of : MachineState → Watch → ℕ → List Finding
+end_of m w q = end_by_need (need (processor_of q m)) q m w
+
+-- ---- central words
+
+-- of each processor, in the order of the barrel, whether it passes a test
+abbrev pub by_place : (ℕ → Bool) → List Bool
+by_place test = tabulate processor_count (λ place. test (processor_number place))
+
+-- whether one wrote and another used: all that wrote are among those that used
+abbrev pub is_shared : List Bool → List Bool → Bool
+is_shared writers users =
+    nat_lt 0 (count_by (λ flag. flag) writers) && nat_lt 1 (count_by (λ flag. flag) users)
+
+abbrev pub sharing_of : Watch → ℕ → List Finding
+sharing_of w a =
+    let writers = by_place (w.wrote a) in
+    let users = by_place (w.used a) in
+    if is_shared writers users then Shared a writers users ∷ [] else []
+
+-- ---- all
+
+abbrev pub findings_at_end : MachineState → Watch → List Finding
+findings_at_end m w =
+    w.findings ++ each_number (end_of m w)
+    ++ each_below (length m.central) (sharing_of w)
+
+unfoldable pub findings : List ℕ → MachineState → List Finding
+findings ns m = findings_at_end (run ns m) (watched ns m unwatched)

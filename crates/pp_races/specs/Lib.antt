@@ -1,0 +1,10 @@
+pub mod OtherFlags
+pub mod Watch
+pub mod Findings
+pub mod RacesText
+-- cited by private contracts alone: nobody has to read these to believe what the crate promises
+pub mod Positions
+pub mod FlagSets
+pub mod Tables
+pub mod OnePass
+pub mod Soundness

@@ -1,0 +1,54 @@
+-- What an operation would have done on a channel that stood otherwise.
+-- (Manual 60100000, data channels: a channel is inactive, or active and empty, or active and full.)
+use Rattle.std.specs.Prelude.{ℕ, Bool, true, false, not, ◌||◌, ◌&&◌, ◌==◌, None, is_some, is_none, if◌then◌else◌}
+use Rattle.pp_channel.specs.Answer.{only_looks, ready_at, reply_shown}
+use Rattle.pp_channel.specs.declared.chan_op.ChanOp.{ChanOp}
+use Rattle.pp_channel.specs.declared.flags.Flags.{Flags}
+use Rattle.pp_machine.specs.NeedAndEffect.{processor_after}
+use Rattle.pp_machine.specs.Processor.{Processor}
+use Rattle.pp_machine.specs.declared.answer.Answer.{Answer}
+use Rattle.pp_races.specs.declared.position.Position.{Position}
+use Rattle.pp_races.specs.declared.found.Found.{Found}
+use Rattle.pp_races.specs.declared.found.Found.TheVariants.{Alike, Waits, Races}
+
+-- whether an operation makes no event on a channel with these flags
+abbrev pub makes_none : ChanOp → Flags → Bool
+makes_none op flags = only_looks op || not (ready_at op flags)
+
+-- a processor after its operation on a channel with these flags, where it makes no event
+abbrev pub shown_to : ChanOp → Processor → Flags → Processor
+shown_to op pp flags =
+    processor_after pp (Answer.Channel (reply_shown op (record { flags = flags; register = None })))
+
+-- An operation that makes no event moves P, or ends a block, and leaves all else: so a processor's
+-- position, P and whether it is in a block, tells what such an operation did to it.
+abbrev pub position_of : Processor → Position
+position_of pp = record { p = pp.p; in_block = is_some pp.block }
+
+abbrev pub is_same : Position → Position → Bool
+is_same one other =
+    one.p == other.p && (if one.in_block then other.in_block else not other.in_block)
+
+-- the position of a processor after its operation on a channel with these flags
+abbrev pub position_at : ChanOp → Processor → Flags → Position
+position_at op pp flags = position_of (shown_to op pp flags)
+
+-- where the channel has these flags, the processor waits: it makes no event, and stays as it is
+abbrev pub waits_at : ChanOp → Processor → Flags → Bool
+waits_at op pp flags = makes_none op flags && is_same (position_at op pp flags) (position_of pp)
+
+-- what an operation that made no event, and found the flags `now`, would have done at others: the
+-- same, or wait, or else it races
+abbrev pub found_at : ChanOp → Processor → Flags → Flags → Found
+found_at op pp now flags =
+    if not (makes_none op flags) then Races
+    else if is_same (position_at op pp flags) (position_at op pp now) then Alike
+    else if is_same (position_at op pp flags) (position_of pp) then Waits else Races
+
+abbrev pub is_alike : Found → Bool
+is_alike Alike = true
+is_alike _ = false
+
+abbrev pub is_race : Found → Bool
+is_race Races = true
+is_race _ = false

@@ -1,0 +1,21 @@
+//! What is found of a run.
+
+use crate::asking_step::AskingStep;
+use pp_machine::{PROCESSORS, PpNo, Trace};
+
+/// One finding: a step that races with another, or what leaves it open how a run ends.
+#[derive(Clone, Copy, Debug, PartialEq, Eq)]
+pub enum Finding {
+    /// The step would have done otherwise before this event, which was made before it.
+    Before(AskingStep, Trace),
+    /// The look would have done otherwise after this event, which was made after it.
+    After(AskingStep, Trace),
+    /// The processor goes on after the last step.
+    GoingOn(PpNo),
+    /// The processor is held after the last step, by the step that it is to make, and would have gone
+    /// on before this event.
+    HeldBefore(AskingStep, Trace),
+    /// The central word of this address was written by one processor and used by another. The flags
+    /// are those of all processors that wrote and used it, in the order of the barrel.
+    Shared(u32, [bool; PROCESSORS], [bool; PROCESSORS]),
+}

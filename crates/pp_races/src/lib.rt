@@ -1,0 +1,25 @@
+//! The races of a run: whether it tells the result of every order of steps, and if not, which of its
+//! steps race with which events.
+#![tactic(auto)]
+
+mod asking_step;
+mod finding;
+mod findings;
+mod flag_set;
+mod found;
+mod lines;
+mod looks;
+mod low;
+mod position;
+mod races_text;
+mod settled;
+mod sharing;
+mod verdict;
+mod watch;
+mod word_use;
+
+pub use asking_step::AskingStep;
+pub use finding::Finding;
+pub use findings::find_races;
+pub use races_text::write_races;
+pub use verdict::Verdict;

@@ -1,0 +1,269 @@
+//! A run that is watched: what each of its steps leaves in the tables, and what is found by it.
+
+ghost use Rattle.std.specs.Prelude.{◌≡◌, ℕ, ◌++◌, ◌+◌, ◌<◌, ◌==◌, Some, None, IsTrue, List, OnOk, OnErr, length, false, true, slice_set, if◌then◌else◌};
+ghost use Rattle.pp_channel.specs.Answer.{event_of, flags_of};
+ghost use Rattle.pp_channel.specs.ChannelNo.{names_channel};
+ghost use Rattle.pp_channel.specs.declared.flags.Flags.{Flags};
+ghost use Rattle.pp_machine.specs.MachineState.{MachineState, history_of, processor_of};
+ghost use Rattle.pp_machine.specs.MachineStep.{stepped};
+ghost use Rattle.pp_machine.specs.NeedAndEffect.{need};
+ghost use Rattle.pp_machine.specs.PpNo.{names_processor};
+ghost use Rattle.pp_machine.specs.declared.need.Need.{Need};
+ghost use Rattle.pp_races.specs.OtherFlags.{waits_at};
+ghost use Rattle.pp_races.specs.Soundness.{IsAskedWell};
+ghost use Rattle.pp_races.specs.Tables.{entry_count, entry_place, closing_findings, looks_after_event, looks_of, AreClosed, AreUses, AreWatched};
+ghost use Rattle.pp_races.specs.Watch.{Watch, asked, each_number, looked, made, race_after, race_before, watched_need};
+
+use crate::asking_step::AskingStep;
+use crate::finding::Finding;
+use crate::found::{goes_on_at, look_sets};
+use crate::looks::Looks;
+use crate::low::Low;
+use crate::position::waits_at;
+use crate::word_use::WordUse;
+use pp_channel::{CHANNELS, ChanOp, ChannelNo, Event, Flags, Memory, flags_after};
+use pp_machine::{Machine, Need, PROCESSORS, PpNo, Trace};
+use pp_word::{Word18, Word60};
+use std::alloc::Allocator;
+
+/// The place of the entry of a processor and a channel.
+#[tactic(auto, using(pp_machine::specs::ProcessorPlaces::named_below, pp_channel::specs::ChannelPlaces::named_below))]
+pub(crate) fn entry_place(n: PpNo, c: ChannelNo) -> usize
+    ensures place { result ≡ entry_place n c }
+    ensures within { result < entry_count }
+    ensures processor { IsTrue (names_processor n) }
+    ensures channel { IsTrue (names_channel c) }
+{
+    n.index() * CHANNELS + c.index()
+}
+
+/// Keeps that a step would have raced before an event, if there is one.
+fn push_before<A: Allocator>(
+    findings: &mut Vec<Finding, A>,
+    step: &AskingStep,
+    entry: &Option<Trace>,
+) -> Result<(), Memory>
+    ensures { OnOk result (findings.new.items ≡ findings.old.items ++ race_before step.now entry.now) }
+{
+    if let Some(entry) = entry {
+        findings.push(Finding::Before(*step, *entry))?;
+    }
+    Ok(())
+}
+
+/// Takes in a look of a processor, which moves it.
+fn take_look<A: Allocator>(
+    machine: &Machine<A>,
+    n: PpNo,
+    c: ChannelNo,
+    op: &ChanOp,
+    low: &mut [Low],
+    looks: &mut [Looks],
+    findings: &mut Vec<Finding, A>,
+) -> Result<(), Memory>
+    requires needs { need (processor_of n machine.now) ≡ Need.Channel c op.now }
+    requires none { event_of op.now (history_of c machine.now) ≡ None }
+    requires low { length low.old ≡ entry_count }
+    requires looks { length looks.old ≡ entry_count }
+    ensures { OnOk result ((w : Watch) → AreWatched machine.now w low.old looks.old findings.old.items
+        → AreWatched (stepped n machine.now) (looked n c op.now machine.now w) low.new looks.new
+        findings.new.items) }
+{
+    let sets = look_sets(machine.pp(n), c, op, machine.channel(c).flags());
+    let step = AskingStep::of(machine, n, c);
+    let trace = machine.events();
+    let entry = entry_place(n, c);
+    let was = low[entry];
+    let race = was.first_race(trace, c, &sets.races);
+    push_before(findings, &step, &race)?;
+    low[entry] = was.from_alike(trace, c, &sets.alike);
+    let kept = looks[entry];
+    looks[entry] = kept.with(&sets.alike, &step);
+    Ok(())
+}
+
+/// Closes the looks of a processor at a channel on which another makes this event: those of the maker,
+/// and those of which one would have done otherwise at the flags after it.
+fn close_looks<A: Allocator>(
+    looks: &mut [Looks],
+    q: PpNo,
+    made: &Trace,
+    after: Flags,
+    findings: &mut Vec<Finding, A>,
+) -> Result<(), Memory>
+    requires looks { length looks.old ≡ entry_count }
+    ensures looks { OnOk result (looks.new ≡ slice_set looks.old (entry_place q made.now.channel)
+        (looks_after_event made.now.pp after q looks.old made.now.channel)) }
+    ensures findings { OnOk result (findings.new.items ≡ findings.old.items
+        ++ closing_findings made.now after looks.old q) }
+{
+    let entry = entry_place(q, made.channel);
+    let kept = looks[entry];
+    if q.get() == made.pp.get() {
+        looks[entry] = Looks::none();
+        return Ok(());
+    }
+    if let Some(look) = kept.at(after) {
+        findings.push(Finding::After(look, *made))?;
+        looks[entry] = Looks::none();
+    }
+    Ok(())
+}
+
+/// Closes those of all processors.
+fn close_all<A: Allocator>(
+    looks: &mut [Looks],
+    made: &Trace,
+    after: Flags,
+    findings: &mut Vec<Finding, A>,
+) -> Result<(), Memory>
+    requires looks { length looks.old ≡ entry_count }
+    ensures looks { OnOk result (AreClosed made.now after looks.old looks.new) }
+    ensures findings { OnOk result (findings.new.items ≡ findings.old.items
+        ++ each_number (closing_findings made.now after looks.old)) }
+{
+    // The call says to the proof that the channel exists.
+    let _channel = made.channel.get();
+    for place in 0..PROCESSORS {
+        close_looks(looks, PpNo::at(place), made, after, findings)?;
+    }
+    Ok(())
+}
+
+/// Takes in an event of a processor.
+fn take_event<A: Allocator>(
+    machine: &Machine<A>,
+    n: PpNo,
+    c: ChannelNo,
+    op: &ChanOp,
+    event: &Event,
+    low: &mut [Low],
+    looks: &mut [Looks],
+    findings: &mut Vec<Finding, A>,
+) -> Result<(), Memory>
+    requires needs { need (processor_of n machine.now) ≡ Need.Channel c op.now }
+    requires event { event_of op.now (history_of c machine.now) ≡ Some event.now }
+    requires low { length low.old ≡ entry_count }
+    requires looks { length looks.old ≡ entry_count }
+    ensures { OnOk result ((w : Watch) → AreWatched machine.now w low.old looks.old findings.old.items
+        → AreWatched (stepped n machine.now) (made n c op.now event.now machine.now w) low.new
+        looks.new findings.new.items) }
+{
+    let trace = machine.events();
+    let entry = entry_place(n, c);
+    let goes_on = goes_on_at(machine.pp(n), c, op);
+    let race = low[entry].first_race(trace, c, &goes_on);
+    push_before(findings, &AskingStep::of(machine, n, c), &race)?;
+    let after = flags_after(event);
+    let made = Trace {
+        turn: machine.turns(),
+        pp: n,
+        channel: c,
+        event: *event,
+    };
+    close_all(looks, &made, after, findings)?;
+    low[entry] = Low {
+        from: trace.len() + 1,
+        flags: after,
+    };
+    Ok(())
+}
+
+/// Takes in an operation on a channel.
+fn take_asked<A: Allocator>(
+    machine: &Machine<A>,
+    n: PpNo,
+    c: ChannelNo,
+    op: &ChanOp,
+    low: &mut [Low],
+    looks: &mut [Looks],
+    findings: &mut Vec<Finding, A>,
+) -> Result<(), Memory>
+    requires needs { need (processor_of n machine.now) ≡ Need.Channel c op.now }
+    requires low { length low.old ≡ entry_count }
+    requires looks { length looks.old ≡ entry_count }
+    ensures sound { IsAskedWell (Need.Channel c op.now) machine.now }
+    ensures watched { OnOk result ((w : Watch)
+        → AreWatched machine.now w low.old looks.old findings.old.items
+        → AreWatched (stepped n machine.now)
+        (asked n c op.now (event_of op.now (history_of c machine.now)) machine.now w) low.new
+        looks.new findings.new.items) }
+{
+    let channel = machine.channel(c);
+    // The calls say to the proof that the channel exists, and that its history is lawful.
+    let _entry = entry_place(n, c);
+    let _sound = channel.history();
+    if let Some(event) = channel.next_event(op) {
+        return take_event(machine, n, c, op, &event, low, looks, findings);
+    }
+    if waits_at(machine.pp(n), c, op, channel.flags()) {
+        return Ok(());
+    }
+    take_look(machine, n, c, op, low, looks, findings)
+}
+
+/// Takes in the next step of a processor, as far as it asks a channel.
+pub(crate) fn take_step<A: Allocator>(
+    machine: &Machine<A>,
+    n: PpNo,
+    asked: &Need,
+    low: &mut [Low],
+    looks: &mut [Looks],
+    findings: &mut Vec<Finding, A>,
+) -> Result<(), Memory>
+    requires needs { asked.now ≡ need (processor_of n machine.now) }
+    requires low { length low.old ≡ entry_count }
+    requires looks { length looks.old ≡ entry_count }
+    ensures sound { IsAskedWell asked.now machine.now }
+    ensures watched { OnOk result ((w : Watch)
+        → AreWatched machine.now w low.old looks.old findings.old.items
+        → AreWatched (stepped n machine.now) (watched_need asked.now n machine.now w) low.new looks.new
+        findings.new.items) }
+{
+    match asked {
+        Need::Channel(c, op) => take_asked(machine, n, *c, op, low, looks, findings),
+        Need::Nothing => Ok(()),
+        Need::Local => Ok(()),
+        Need::Read(_) => Ok(()),
+        Need::Write(_, _) => Ok(()),
+    }
+}
+
+/// Takes in that a processor reads the central word of an address.
+fn take_read(uses: &mut [WordUse], n: PpNo, a: Word18)
+    ensures { (m : MachineState) (w : Watch) → AreUses w uses.old
+        → AreUses (watched_need (Need.Read a) n m w) uses.new }
+{
+    let place = a.get() as usize;
+    if place < uses.len() {
+        let was = uses[place];
+        uses[place] = was.read_by(n);
+    }
+}
+
+/// Takes in that a processor writes one.
+fn take_write(uses: &mut [WordUse], n: PpNo, a: Word18, word: Word60)
+    ensures { (m : MachineState) (w : Watch) → AreUses w uses.old
+        → AreUses (watched_need (Need.Write a word) n m w) uses.new }
+{
+    let _word = word;
+    let place = a.get() as usize;
+    if place < uses.len() {
+        let was = uses[place];
+        uses[place] = was.written_by(n);
+    }
+}
+
+/// Takes in the next step of a processor, as far as it uses a central word.
+pub(crate) fn take_use(uses: &mut [WordUse], n: PpNo, asked: &Need)
+    ensures { (m : MachineState) (w : Watch) → AreUses w uses.old
+        → AreUses (watched_need asked.now n m w) uses.new }
+{
+    match asked {
+        Need::Read(a) => take_read(uses, n, *a),
+        Need::Write(a, word) => take_write(uses, n, *a, *word),
+        Need::Nothing => {}
+        Need::Local => {}
+        Need::Channel(_, _) => {}
+    }
+}

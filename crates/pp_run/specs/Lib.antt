@@ -1,0 +1,2 @@
+pub mod RunSteps
+pub mod RunStepLaws

@@ -1,0 +1,59 @@
+-- The steps of a run.
+use Rattle.std.specs.Prelude.{◌≡◌, ℕ, ◌+◌, ◌<◌, ◌⊎◌, ◌==◌, Bool, IsSome, List, [], ◌∷◌, map}
+use Rattle.std.specs.List.{filter}
+use Rattle.pp_machine.specs.MachineState.{MachineState}
+use Rattle.pp_machine.specs.MachineStep.{step_event, step_outcome, stepped}
+use Rattle.pp_machine.specs.Profile.{processor_in_turn}
+use Rattle.pp_machine.specs.Run.{barrel, run}
+use Rattle.pp_machine.specs.declared.outcome.Outcome.{Outcome}
+
+-- a step: the processor whose it is, and the machine before it
+pub record RunStep : Type 0 where
+  pub processor : ℕ
+  pub before : MachineState
+
+-- the steps of a run of a machine
+abbrev pub run_steps : List ℕ → MachineState → List RunStep
+run_steps [] m = []
+run_steps (n ∷ ns) m = record { processor = n; before = m } ∷ run_steps ns (stepped n m)
+
+-- whether a step is processor n's
+abbrev pub is_of : ℕ → RunStep → Bool
+is_of n step = step.processor == n
+
+-- something of each step of processor n
+abbrev pub seen_of : {X : Type 0} → (RunStep → X) → ℕ → List RunStep → List X
+seen_of of n steps = map of (filter (is_of n) steps)
+
+-- what a step did to its processor
+abbrev pub outcome_of : RunStep → Outcome
+outcome_of step = step_outcome step.processor step.before
+
+-- the machine after it
+abbrev pub after_step : RunStep → MachineState
+after_step step = stepped step.processor step.before
+
+-- a step is processor n's, had this outcome and led to this machine
+pub record IsMade (step : RunStep) (n : ℕ) (outcome : Outcome) (after : MachineState) : Type 0 where
+  pub processor_is : step.processor ≡ n
+  pub outcome_is : outcome ≡ outcome_of step
+  pub after_is : after ≡ after_step step
+
+-- the step of the barrel after this many turns
+abbrev pub barrel_step : MachineState → ℕ → RunStep
+barrel_step m turns = record {
+  processor = processor_in_turn m.profile turns;
+  before = run (barrel m.profile turns) m;
+}
+
+-- whether it makes an event, which is kept in the trace
+abbrev pub MakesEvent : MachineState → ℕ → Type 0
+MakesEvent m turns =
+    IsSome (step_event (processor_in_turn m.profile turns) (run (barrel m.profile turns) m))
+
+-- A run of so many turns is cut after these where something had to be kept: in front of a step
+-- that makes an event, or behind one that is kept itself.
+abbrev pub IsCutAt : (RunStep → Type 0) → ℕ → MachineState → ℕ → Type 0
+IsCutAt Keeps turns m done =
+    ((done < turns) × MakesEvent m done)
+    ⊎ ((last : ℕ) × (done ≡ last + 1) × (last < turns) × Keeps (barrel_step m last))

@@ -1,0 +1,52 @@
+//! The run.
+
+ghost use Rattle.std.specs.Prelude.{◌≡◌, [], IfErr, OnOk};
+ghost use Rattle.pp_machine.specs.Headline.{HoldsOnEachChannel};
+ghost use Rattle.pp_machine.specs.Run.{barrel, run};
+ghost use Rattle.pp_run.specs.RunSteps.{IsCutAt, RunStep, run_steps};
+
+use crate::observer::Observer;
+use pp_machine::{Cut, Machine, PpNo};
+use std::alloc::Allocator;
+
+/// Runs so many turns of the barrel (decimal), as `Machine::run_barrel` does, and shows each step
+/// to an observer.
+pub fn run_observed<A: Allocator, O: Observer<A>>(
+    machine: &mut Machine<A>,
+    turns: u32,
+    observer: &mut O,
+) -> Result<(), Cut>
+    requires { O.HasSeen observer.old [] observer.old }
+    ensures ran { OnOk result (machine.new ≡ run (barrel machine.old.profile turns) machine.old) }
+    ensures seen { OnOk result (O.HasSeen observer.old
+        (run_steps (barrel machine.old.profile turns) machine.old) observer.new) }
+    ensures cut { IfErr result (λ c.
+        machine.new ≡ run (barrel machine.old.profile c.done) machine.old) }
+    // A run is cut only where an event or a step had to be kept.
+    ensures cut_at { IfErr result (λ c.
+        IsCutAt (O.Keeps observer.old) turns machine.old c.done) }
+    // An observer that keeps no step has seen those that were made.
+    ensures unkept { IfErr result (λ c. ((step : RunStep) → ¬ O.Keeps observer.old step)
+        → O.HasSeen observer.old (run_steps (barrel machine.old.profile c.done) machine.old)
+        observer.new) }
+    ensures headline { HoldsOnEachChannel machine.new }
+{
+    // The call says to the proof that the machine is sound.
+    let _sound = machine.turns();
+    let round = machine.profile().processors() as u32;
+    for turn in 0..turns {
+        let n = PpNo::at((turn % round) as usize);
+        let note = observer.note(machine, n);
+        let Ok(outcome) = machine.step(n) else {
+            return Err(Cut {
+                done: u64::from(turn),
+            });
+        };
+        let Ok(()) = observer.see(&note, machine, n, outcome) else {
+            return Err(Cut {
+                done: u64::from(turn) + 1,
+            });
+        };
+    }
+    Ok(())
+}

@@ -1,0 +1,6 @@
+mod CircleLemmas
+mod MachineLemmas
+mod AnswerLemmas
+mod WorkingLemmas
+mod ServeLemmas
+mod ReportLemmas

@@ -1,0 +1,14 @@
+use Rattle.std.proofs.Common.{◌∷◌, ◌++◌, [], ap, ◌∙◌, arith}
+use Rattle.pp_machine.specs.declared.outcome.Outcome.{Outcome}
+use Rattle.pp_run.specs.RunSteps.{outcome_of, seen_of}
+use Rattle.pp_run.specs.RunStepLaws.{counted_at, counted_more, few_seen}
+use Rattle.pp_state.specs.HeldSteps.{held_steps}
+use Rattle.pp_state.proofs.held_steps.HeldCountsObserver.see.Goals as goal
+
+pub returns-clause-seen : goal.returns-clause-seen
+returns-clause-seen g c start seen step note made few are =
+    let own = seen_of outcome_of c.args.n seen in
+    let place = c.index.ensures in
+    counted_more outcome_of held_steps 0 c.args.self.now.0 seen step c.args.n c.index.result _ are place.place place.below made.processor_is
+    (c.held_after.ensures own (omega (arith, few, few_seen outcome_of c.args.n seen)) (counted_at outcome_of held_steps 0 c.args.self.now.0 seen c.args.n c.index.result are place.place place.below)
+    ∙ ap (λ (o : Outcome). held_steps (own ++ o ∷ [])) made.outcome_is)

@@ -1,0 +1,61 @@
+//! The words and the text of an instruction, in columns.
+
+ghost use Rattle.std.specs.Prelude.{◌≡◌, ◌++◌, codes};
+ghost use Rattle.pp_listing.specs.InstructionText.{instruction_text, operands_text};
+ghost use Rattle.pp_listing.specs.ListedLine.{padded};
+ghost use Rattle.pp_steps.specs.StepLine.{words_text};
+
+use pp_listing::Operands;
+use pp_text::{octal2, octal4};
+use pp_word::{Word6, Word12, decode, relative};
+
+/// `7105 0300  `, or `1405       ` where the instruction has one word: a word, the next, and two
+/// spaces.
+pub(crate) fn words_field(word: Word12, m: Word12) -> [u8; 11]
+    ensures { result ≡ padded 9 (words_text word m) ++ codes "  " }
+{
+    let [w0, w1, w2, w3] = octal4(word.get());
+    if decode(word).0.is_long() {
+        let [m0, m1, m2, m3] = octal4(m.get());
+        [w0, w1, w2, w3, b' ', m0, m1, m2, m3, b' ', b' ']
+    } else {
+        [w0, w1, w2, w3, b' ', b' ', b' ', b' ', b' ', b' ', b' ']
+    }
+}
+
+/// `IAM 0300,05  `: the text of the instruction in a word at a place, before the next word m.
+pub fn instruction_field(place: Word12, word: Word12, m: Word12) -> [u8; 13]
+    ensures { result ≡ padded 13 (instruction_text place word m) }
+{
+    let (operation, d) = decode(word);
+    let name = operation.mnemonic().as_bytes();
+    let [o0, o1, o2, o3, o4, o5, o6, o7, o8] = operands_field(Operands::of(operation), place, d, m);
+    [
+        name[0], name[1], name[2], b' ', o0, o1, o2, o3, o4, o5, o6, o7, o8,
+    ]
+}
+
+/// `0300,05  `
+fn operands_field(operands: Operands, place: Word12, d: Word6, m: Word12) -> [u8; 9]
+    ensures { result ≡ padded 9 (operands_text operands place d m) }
+{
+    let [d0, d1] = octal2(d.get());
+    let [m0, m1, m2, m3] = octal4(m.get());
+    match operands {
+        Operands::IndexedPlace if d.get() == 0 => alone([m0, m1, m2, m3]),
+        Operands::IndexedPlace | Operands::PlaceAndNumber => [
+            m0, m1, m2, m3, b',', d0, d1, b' ', b' ',
+        ],
+        Operands::JumpPlace => alone(octal4(relative(place, d).get())),
+        Operands::Constant => [d0, d1, m0, m1, m2, m3, b' ', b' ', b' '],
+        Operands::Number => [d0, d1, b' ', b' ', b' ', b' ', b' ', b' ', b' '],
+    }
+}
+
+/// Four characters and five spaces.
+fn alone(text: [u8; 4]) -> [u8; 9]
+    ensures { result ≡ padded 9 text }
+{
+    let [t0, t1, t2, t3] = text;
+    [t0, t1, t2, t3, b' ', b' ', b' ', b' ', b' ']
+}

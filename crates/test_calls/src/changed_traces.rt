@@ -1,0 +1,170 @@
+//! Lawful traces, and the same with one change: a word altered, an event dropped, doubled or moved.
+
+use crate::told::{Form, Stand, Told, after, first_unlawful, text_of};
+use pp_channel::{CHANNELS, Event};
+use pp_check::check_trace;
+use std::alloc::{AllocError, Global};
+use std::process::Abort;
+use std::test::Fail;
+use test_bench::{Chance, report_of_sessions, text_of_sessions, word};
+
+/// No channel was open before the trace.
+const NONE: [bool; CHANNELS] = [false; CHANNELS];
+
+/// How many changed traces are to be refused.
+const REFUSED: u32 = 1000;
+
+/// An event that may come where a channel stands so.
+fn some_event(chance: &mut Chance, stand: Stand) -> Event {
+    let kind = chance.next() % 8;
+    let code = chance.next();
+    match stand {
+        Stand::Idle if kind < 6 => Event::Activate,
+        Stand::Idle => Event::Function(word(code)),
+        Stand::Ready if kind < 7 => Event::Put(word(code)),
+        Stand::Holds(held) if kind < 7 => Event::Take(word(held)),
+        _ => Event::Disconnect,
+    }
+}
+
+/// A lawful trace of forty events on four channels.
+fn lawful_trace(alloc: Global, chance: &mut Chance) -> Result<Vec<Told>, AllocError> {
+    let mut stands = [Stand::Idle; 4];
+    let mut lines = Vec::new(alloc);
+    for step in 0..40u32 {
+        let place = usize::from(chance.next() % 4);
+        let event = some_event(chance, stands[place]);
+        if let Some(next) = after(stands[place], &event) {
+            stands[place] = next;
+            lines.push(Told {
+                turn: 10 * step,
+                place,
+                number: 0,
+                event,
+            })?;
+        }
+    }
+    in_order(&mut lines);
+    Ok(lines)
+}
+
+/// Numbers the events of each channel from 0 on, and gives each line a later turn.
+fn in_order(lines: &mut Vec<Told>) {
+    let mut numbers = [0u32; 4];
+    let mut turn = 0u32;
+    for line in lines.iter_mut() {
+        line.turn = turn;
+        turn = turn.wrapping_add(10);
+        if let Some(number) = numbers.get_mut(line.place) {
+            line.number = *number;
+            *number = number.wrapping_add(1);
+        }
+    }
+}
+
+/// The event with another word, or another event where it has none.
+fn altered(event: &Event) -> Event {
+    match event {
+        Event::Put(old) => Event::Put(word(old.get() ^ 1)),
+        Event::Take(old) => Event::Take(word(old.get() ^ 1)),
+        Event::Function(_) | Event::Disconnect => Event::Activate,
+        Event::Activate => Event::Disconnect,
+    }
+}
+
+/// The trace with one change, and then perhaps with turns and numbers in order again.
+fn changed(alloc: Global, lines: &[Told], chance: &mut Chance) -> Result<Vec<Told>, AllocError> {
+    let mut changed = Vec::from_slice(alloc, lines)?;
+    if changed.is_empty() {
+        return Ok(changed);
+    }
+    let place = usize::from(chance.next()) % changed.len();
+    let line = changed[place];
+    match chance.next() % 4 {
+        0 => {
+            changed[place].event = altered(&line.event);
+        }
+        1 => {
+            changed.remove(place);
+        }
+        2 => {
+            changed.insert(place, line)?;
+        }
+        _ => {
+            changed.remove(place);
+            let other = usize::from(chance.next()) % changed.len().max(1);
+            changed.insert(other, line)?;
+        }
+    }
+    if chance.next() % 2 == 0 {
+        in_order(&mut changed);
+    }
+    Ok(changed)
+}
+
+/// The judge says of a trace what the plain check says. Answers whether it is refused.
+fn is_refused(rt: &impl Abort, alloc: Global, lines: &[Told], form: Form) -> Result<bool, Fail> {
+    let text = text_of(alloc, lines, form)?;
+    match (
+        check_trace(text.as_bytes(), &NONE),
+        first_unlawful(lines, form),
+    ) {
+        (Ok(verdict), None) => {
+            assert_eq!(rt; verdict.events, lines.len() as u64);
+            Ok(false)
+        }
+        (Err(fault), Some(place)) => {
+            assert_eq!(rt;
+                fault.line,
+                (place as u64).wrapping_add(1),
+                "{fault} in\n{text}"
+            );
+            Ok(true)
+        }
+        (Ok(_), Some(_)) => Err("an unlawful trace is accepted".into()),
+        (Err(_), None) => Err("a lawful trace is refused".into()),
+    }
+}
+
+#[test]
+fn changed_traces(rt: HostRuntime) -> Result<(), Fail> {
+    let mut chance = Chance::new(6600);
+    let mut refused = 0;
+    for round in 0..4 * REFUSED {
+        if refused >= REFUSED {
+            break;
+        }
+        let form = if round % 2 == 0 {
+            Form::ByTurn
+        } else {
+            Form::ByNumber
+        };
+        let lines = lawful_trace(rt.alloc(), &mut chance)?;
+        let is_lawful = !is_refused(&rt, rt.alloc(), lines.as_slice(), form)?;
+        assert!(rt; is_lawful);
+        let changed = changed(rt.alloc(), lines.as_slice(), &mut chance)?;
+        if is_refused(&rt, rt.alloc(), changed.as_slice(), form)? {
+            refused += 1;
+        }
+    }
+    assert_eq!(rt; refused, REFUSED);
+    Ok(())
+}
+
+/// How many sessions the long texts have, of two events each.
+const SESSIONS: u32 = 1000;
+
+/// Long texts of runs, as the barrel and threads print them, are lawful.
+#[test]
+fn long_texts(rt: HostRuntime) -> Result<(), Fail> {
+    let by_turns = text_of_sessions(rt.alloc(), SESSIONS)?;
+    let by_numbers = report_of_sessions(rt.alloc(), SESSIONS)?;
+    for text in [by_turns.as_str(), by_numbers.as_str()] {
+        let Ok(verdict) = check_trace(text.as_bytes(), &NONE) else {
+            return Err("a lawful trace is refused".into());
+        };
+        let counts = (verdict.events, verdict.channels, verdict.sessions);
+        assert_eq!(rt; counts, (2 * u64::from(SESSIONS), 1, u64::from(SESSIONS)));
+    }
+    Ok(())
+}
