@@ -5,21 +5,15 @@
 #[cfg(test)]
 mod allocator;
 #[cfg(test)]
-mod ample;
-#[cfg(test)]
 mod ample_machines;
 #[cfg(test)]
 mod channel;
 #[cfg(test)]
 mod deck;
 #[cfg(test)]
-mod fronts;
-#[cfg(test)]
 mod lines;
 #[cfg(test)]
 mod locked;
-#[cfg(test)]
-mod long_pair;
 #[cfg(test)]
 mod machine;
 #[cfg(test)]

@@ -3,9 +3,9 @@
 ghost use Rattle.pp_runner.specs.Report.{ReportFitsInMemory};
 
 use pp_channel::{CHANNELS, Channel, ChannelNo};
+use pp_deck::read_deck;
 use pp_machine::{Central, Machine, Pp, Profile};
 use pp_runner::{End, Gate, Limits, LockedCentral, NoGate, Report, run_threads};
-use pp_sim::{TextFault, read_deck, threads_text};
 use pp_word::{Word18, Word60};
 use rationed::Rationed;
 use std::alloc::{Allocator, Global};
@@ -145,56 +145,6 @@ fn expect_refused<R: AllocGlobal + Threads + Wait + Sync + Abort>(
             assert!(rt; events > 0, "the first step is never held");
             assert!(rt; number > 40, "banks, lines, logs and answers grow");
             return Ok(());
-        }
-    }
-    panic!(rt; "a request is refused in each run")
-}
-
-/// How the text of a run ends, whether a worker ended for lack of memory, whether the first event
-/// is shown, and whether nothing was written.
-fn text_of<R: AllocGlobal + Threads + Wait + Sync>(
-    rt: &R,
-    heap: &Rationed<Global>,
-    profile: Profile,
-    limits: Limits,
-) -> Result<(Result<(), TextFault>, bool, bool, bool), Fail> {
-    let (mut reader, mut writer) = (BLOCK.as_bytes(), Vec::new(rt.alloc()));
-    let done = threads_text(rt, heap, profile, &mut reader, &mut writer, limits);
-    let text = String::from_utf8(writer)?;
-    Ok((
-        done,
-        text.contains(" MEMORY\n"),
-        text.contains("CH05 000000 PP00 ACN\n"),
-        text.is_empty(),
-    ))
-}
-
-#[test]
-fn text_refused(rt: HostRuntime) -> Result<(), Fail> {
-    expect_text_refused(&rt, Profile::Ten)?;
-    expect_text_refused(&rt, Profile::Twenty)
-}
-
-/// The text is made with each request refused in turn, up to a run without a refusal.
-fn expect_text_refused<R: AllocGlobal + Threads + Wait + Sync + Abort>(
-    rt: &R,
-    profile: Profile,
-) -> Result<(), Fail> {
-    let limits = limits()?;
-    let heap = Rationed::new(rt.alloc());
-    for number in 1..1000u64 {
-        heap.refuse(number);
-        let (done, without, first, is_empty) = text_of(rt, &heap, profile, limits)?;
-        let refused = heap.has_refused();
-        if !refused {
-            assert_eq!(rt; (done, without, first), (Ok(()), false, true));
-            return Ok(());
-        }
-        if done.is_ok() {
-            assert!(rt; without, "request {number}");
-        } else {
-            let ended = (done, is_empty);
-            assert_eq!(rt; ended, (Err(TextFault::Memory), true), "request {number}");
         }
     }
     panic!(rt; "a request is refused in each run")

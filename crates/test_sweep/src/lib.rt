@@ -3,6 +3,8 @@
 #![tactic(auto)]
 
 #[cfg(test)]
+mod ample;
+#[cfg(test)]
 mod cases;
 #[cfg(test)]
 mod devices;
@@ -11,8 +13,14 @@ mod entry;
 #[cfg(test)]
 mod files;
 #[cfg(test)]
+mod fronts;
+#[cfg(test)]
+mod long_pair;
+#[cfg(test)]
 mod pieces;
 #[cfg(test)]
 mod requests;
 #[cfg(test)]
 mod sweep;
+#[cfg(test)]
+mod threads;
