@@ -104,6 +104,14 @@ impl<A: Allocator> Central<A> {
         }
     }
 
+    /// Its words, by address.
+    pub fn words(&self) -> &[Word60]
+        ensures value { result.now ≡ self.now }
+        ensures sound { IsCentral self.now }
+    {
+        self.words.as_slice()
+    }
+
     /// How many words it has (decimal).
     pub fn size(&self) -> u32
         ensures value { result ≡ length self.now }

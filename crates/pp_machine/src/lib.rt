@@ -20,8 +20,6 @@ mod quiet;
 mod replay;
 mod run;
 mod step;
-#[cfg(test)]
-mod tests;
 mod trace;
 
 pub use answer::Answer;
