@@ -13,7 +13,7 @@ use crate::asking_step::AskingStep;
 use crate::finding::Finding;
 use pp_channel::Event;
 use pp_machine::{BlockKind, PROCESSORS, PpNo, Trace};
-use pp_steps::instruction_field;
+use pp_state::instruction_field;
 use pp_text::{Piece, channel_name, octal2, octal4, octal6, processor_name, push_decimal};
 
 /// Adds the line of a finding and a line feed.

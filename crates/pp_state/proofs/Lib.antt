@@ -1,4 +1,5 @@
 mod TextLemmas
+mod InstructionLemmas
 mod NeighbourLemmas
 mod ChangeLemmas
 mod WaitLemmas

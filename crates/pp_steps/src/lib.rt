@@ -10,11 +10,10 @@ mod laws;
 mod line_kind;
 mod progress;
 mod run_counts;
-mod step_fields;
 mod step_line;
 mod steps_text;
 mod stores;
+mod words_field;
 
 pub use laws::steps_law;
-pub use step_fields::instruction_field;
 pub use steps_text::write_steps;

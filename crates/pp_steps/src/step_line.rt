@@ -18,11 +18,11 @@ ghost use Rattle.pp_steps.specs.StepLine.{longest_line, central_text, centrals_t
 ghost use Rattle.pp_steps.specs.Stores.{KeepsOthers};
 
 use crate::bare_machine::BareMachine;
-use crate::step_fields::{instruction_field, words_field};
 use crate::stores::Stores;
+use crate::words_field::words_field;
 use pp_channel::{ChannelNo, Event, Flags};
 use pp_machine::{Central, Need, Pp, PpNo, PpState};
-use pp_state::{central_word, push_flags_text, push_held_text};
+use pp_state::{central_word, instruction_field, push_flags_text, push_held_text};
 use pp_text::{
     Piece, channel_name, decimal6, octal2, octal4, octal6, push_state_text, push_upper_digits,
 };

@@ -2,8 +2,8 @@
 
 use crate::processor::shown;
 use pp_channel::{Event, Flags};
-use pp_machine::{Block, BlockKind, Machine, PROCESSORS, Pp, PpState, Profile, Trace};
 use pp_deck::read_deck;
+use pp_machine::{Block, BlockKind, Machine, PROCESSORS, Pp, PpState, Profile, Trace};
 use pp_word::Word12;
 use std::alloc::Global;
 use std::test::Fail;

@@ -1,8 +1,8 @@
 //! A deck whose growths are refused.
 
 use pp_channel::ChannelNo;
-use pp_machine::{Machine, Profile};
 use pp_deck::{Deck, DeckCode, DeckFault, read_deck};
+use pp_machine::{Machine, Profile};
 use pp_word::{Word12, Word18, Word60};
 use rationed::Rationed;
 use std::alloc::{Allocator, Global};

@@ -3,9 +3,9 @@
 ghost use Rattle.std.specs.Prelude.{◌≡◌, [], IfOk};
 
 use pp_channel::{Channel, Event, Seen};
+use pp_deck::read_deck;
 use pp_machine::{Machine, PpNo, Profile};
 use pp_runner::{End, Limits, NoGate, Report, Worker, run_threads};
-use pp_deck::read_deck;
 use pp_word::Word18;
 use std::alloc::{Allocator, Global};
 use std::test::Fail;

@@ -4,8 +4,8 @@ use Rattle.pp_word.specs.declared.opcode.Opcode.{Opcode}
 use Rattle.pp_listing.specs.InstructionText.{instruction_text, operands_of, operands_text}
 use Rattle.pp_listing.specs.ListedLine.{padded}
 use Rattle.pp_listing.specs.declared.operands.Operands.{Operands}
-use Rattle.pp_steps.proofs.LineLemmas.{instruction_in_pieces}
-use Rattle.pp_steps.proofs.step_fields.instruction_field.Goals as goal
+use Rattle.pp_state.proofs.InstructionLemmas.{instruction_in_pieces}
+use Rattle.pp_state.proofs.instruction_field.instruction_field.Goals as goal
 
 pub returns : goal.returns
 unfolding instruction_text
