@@ -171,6 +171,19 @@ fn opened_of(matches: &ArgMatches<'_>) -> Option<[bool; CHANNELS]>
     }
 }
 
+/// The work that `threads` asks for.
+fn threads_work(matches: &ArgMatches<'_>) -> Option<Work>
+    ensures { MatchOption result
+        ((work : Work) → ¬ IsWorkOf (codes "threads") (first_value (found_of matches.now)) work)
+        (IsWorkOf (codes "threads") (first_value (found_of matches.now))) }
+{
+    let profile = profile_of(matches)?;
+    let steps = number_of(matches, "steps")?;
+    let patience = number_of(matches, "patience")?;
+    let limits = limits_of(steps, patience)?;
+    Some(Work::Threads { profile, limits })
+}
+
 /// The work that `steps` asks for.
 fn steps_work(matches: &ArgMatches<'_>) -> Option<Work>
     ensures { MatchOption result
@@ -215,13 +228,7 @@ fn work_of(name: &str, matches: &ArgMatches<'_>) -> Option<Work>
             let turns = turns_of(matches)?;
             Some(Work::Barrel { profile, turns })
         }
-        "threads" => {
-            let profile = profile_of(matches)?;
-            let steps = number_of(matches, "steps")?;
-            let patience = number_of(matches, "patience")?;
-            let limits = limits_of(steps, patience)?;
-            Some(Work::Threads { profile, limits })
-        }
+        "threads" => threads_work(matches),
         "list" => {
             let profile = profile_of(matches)?;
             Some(Work::List { profile })

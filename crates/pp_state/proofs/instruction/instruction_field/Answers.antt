@@ -5,7 +5,7 @@ use Rattle.pp_listing.specs.InstructionText.{instruction_text, operands_of, oper
 use Rattle.pp_listing.specs.ListedLine.{padded}
 use Rattle.pp_listing.specs.declared.operands.Operands.{Operands}
 use Rattle.pp_state.proofs.InstructionLemmas.{instruction_in_pieces}
-use Rattle.pp_state.proofs.instruction_field.instruction_field.Goals as goal
+use Rattle.pp_state.proofs.instruction.instruction_field.Goals as goal
 
 pub returns : goal.returns
 unfolding instruction_text
