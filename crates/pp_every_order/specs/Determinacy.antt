@@ -67,11 +67,13 @@ abbrev pub MakesNoneOf : List ℕ → MachineState → ℕ → ℕ → ℕ → T
 MakesNoneOf ns m q c s =
     (slice_index ns s ≢ q) ⊎ (history_at ns m c (suc s) ≡ history_at ns m c s)
 
--- THE HEART: in some order of steps, processor q may find channel c as the list had it at moment s when
--- q itself stands as the list had it at moment t. Think of two hands on the list, one where q stands and
--- one where c stands. Both begin at the start. The channel's hand goes on alone over every step that is
--- no event of q's on c; q's hand goes on alone over every step that leaves it open where the channel
--- stands; and where both are at one step, they go on together.
+-- THE HEART: processor q may find channel c as the list had it at moment s when q itself stands as the
+-- list had it at moment t. This holds wherever some order of steps finds them so. It may hold where no
+-- order does, for it looks at q and c alone: what another channel or a word of memory makes wait, it
+-- does not see. Think of two hands on the list, one where q stands and one where c stands. Both begin
+-- at the start. The channel's hand goes on alone over every step that is no event of q's on c; q's hand
+-- goes on alone over every step that leaves it open where the channel stands; and where both are at one
+-- step, they go on together.
 pub data MayFind (ns : List ℕ) (m : MachineState) (q c : ℕ) : ℕ → ℕ → Type 0 where
   start : MayFind ns m q c zero zero
   channel_goes_on : (t s : ℕ) → MayFind ns m q c t s → MakesNoneOf ns m q c s
@@ -153,8 +155,9 @@ pub record ShowsParts (ns : List ℕ) (m now : MachineState) : Type 0 where
 
 -- Two machines are alike: each processor stands the same, with its registers and its memory; central
 -- memory has the same words; each channel has the same history; and on each channel every event was
--- made by the same processor. Only turns, and how the events of different channels lie between one
--- another, may differ.
+-- made by the same processor. What no step changes, the profile and the channels that dead start
+-- opened, is not said; turns, and how the events of different channels lie between one another, may
+-- differ.
 pub record AreAlike (one other : MachineState) : Type 0 where
   pub processors : (q : ℕ) → processor_of q one ≡ processor_of q other
   pub central : one.central ≡ other.central

@@ -22,7 +22,7 @@ pub fn determinacy_law()
     ensures result { (ns others : List ℕ) (m : MachineState)
         → length m.processors ≡ processor_count → length m.histories ≡ channel_count
         → IsDeterminate ns m → IsQuiet (run others m) → AreAlike (run others m) (run ns m) }
-    ensures in_time { (ns others : List ℕ) (m : MachineState)
+    ensures going_on { (ns others : List ℕ) (m : MachineState)
         → length m.processors ≡ processor_count → length m.histories ≡ channel_count
         → IsDeterminate ns m → StandsIn ns others → AreAlike (run others m) (run ns m) }
 {}

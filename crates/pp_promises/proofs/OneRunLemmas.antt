@@ -22,8 +22,8 @@ use Rattle.pp_machine.specs.declared.answer.Answer.{Answer}
 use Rattle.pp_machine.specs.declared.need.Need.{Need}
 use Rattle.pp_machine.specs.declared.pp_state.PpState.TheVariants as states
 use Rattle.pp_machine.proofs.MachineStepLemmas.{event_at_rest, stepped_at_rest}
-use Rattle.pp_every_order.specs.Determinacy.{AreAlike, IsQuiet, ShowsParts, Stays, Waits}
-use Rattle.pp_every_order.proofs.StepFacts.{central_by, event_by_need, length_histories, length_processors, own_step}
+use Rattle.pp_every_order.specs.Determinacy.{AreAlike, IsQuiet, ShowsParts, Stays, TurnsInPlace, Waits}
+use Rattle.pp_every_order.proofs.StepFacts.{central_by, event_by, event_by_need, length_histories, length_processors, own_step}
 use Rattle.pp_runner.specs.End.{IsEnd}
 use Rattle.pp_runner.specs.Limits.{RunLimits}
 use Rattle.pp_runner.specs.Report.{IsReportOf}
@@ -33,7 +33,7 @@ use Rattle.pp_runner.specs.declared.end.End.TheVariants as ends
 use Rattle.pp_runner.specs.declared.report.Report.{Report}
 use Rattle.pp_runner.specs.declared.worker.Worker.{Worker}
 use Rattle.pp_serial.specs.Serial.{LeadsTo, processors_left}
-use Rattle.pp_promises.specs.OneRun.{EndsAtRest, IsOver, ShowsPartsOf, WaitsIn}
+use Rattle.pp_promises.specs.OneRun.{CannotMove, EndsAtRest, IsOver, ShowsPartsOf}
 
 -- a run keeps the number of processors and of channels
 many_processors : (ns : List ℕ) (m : MachineState) → length (run ns m).processors ≡ length m.processors
@@ -53,6 +53,13 @@ waits_at_rest n m rests =
       event = event_at_rest n m rests;
       central = ap (λ (k : MachineState). k.central) same;
     }
+
+waits_in_place : (n : ℕ) (m : MachineState) → TurnsInPlace (processor_of n m) → Waits n m
+waits_in_place n m turns = record {
+  processor = own_step n m ∙ (ap (λ x. processor_after (processor_of n m) (answer_to x m)) turns.needs ∙ turns.stays);
+  event = event_by n m Need.Local turns.needs;
+  central = central_by n m Need.Local turns.needs;
+}
 
 waits_for : (n c : ℕ) (op : ChanOp) (m : MachineState) → need (processor_of n m) ≡ Need.Channel c op → Stays op (processor_of n m) (history_of c m) → Waits n m
 waits_for n c op m needs stays = record {
@@ -94,9 +101,10 @@ module _ {A : Type 0} (others : List ℕ) (m : MachineState) (report : Report A)
       }
 
   -- a processor of the report that could not move does not move
-  waits_as_left : (n : ℕ) (pp : Processor) → processor_of n now ≡ pp → IsAtRest pp ⊎ WaitsIn report pp → Waits n now
+  waits_as_left : (n : ℕ) (pp : Processor) → processor_of n now ≡ pp → CannotMove report pp → Waits n now
   waits_as_left n pp is (inl rests) = waits_at_rest n now (subst IsAtRest (sym is) rests)
-  waits_as_left n pp is (inr waits) =
+  waits_as_left n pp is (inr (inl turns)) = waits_in_place n now (subst TurnsInPlace (sym is) turns)
+  waits_as_left n pp is (inr (inr waits)) =
       waits_for n waits.channel waits.operation now (ap need is ∙ waits.needs)
       (subst (λ (q : Processor). Stays waits.operation q (history_of waits.channel now)) (sym is)
       (subst (λ (h : List Event). Stays waits.operation pp h) (sym (happened waits.channel)) waits.stays))
@@ -111,7 +119,7 @@ module _ {A : Type 0} (others : List ℕ) (m : MachineState) (report : Report A)
           let lies : processor_index n < length pps = omega (arith, inside, many, count) in
           let is = stands n ∙ get_or_append_left pps (drop (processors_in m.profile) m.processors) no_processor (processor_index n) lies in
           waits_as_left n (get_or pps (processor_index n) no_processor) is
-          (All-map (λ pp. IsAtRest pp ⊎ WaitsIn report pp) (λ (w : Worker A). w.pp) report.ends.items over (processor_index n) no_processor lies)
+          (All-map (λ pp. CannotMove report pp) (λ (w : Worker A). w.pp) report.ends.items over (processor_index n) no_processor lies)
       by_place n (inr past) =
           let many = length-map report.ends.items (λ (w : Worker A). w.pp) in
           let k = processors_in m.profile in
@@ -151,5 +159,5 @@ all_rest {A} P size steps (load ∷ loads) (w ∷ ws) rests are ended =
 
 pub over_at_rest : {A : Type 0} (limits : RunLimits) (m : MachineState) (report : Report A) → IsReportOf limits m report → All (λ w. EndsAtRest w.finish) report.ends.items → IsOver report
 over_at_rest {A} limits m report said ended =
-    all_rest (λ (w : Worker A). IsAtRest w.pp ⊎ WaitsIn report w.pp) (length m.central) limits.steps (take (processors_in m.profile) m.processors) report.ends.items
+    all_rest (λ (w : Worker A). CannotMove report w.pp) (length m.central) limits.steps (take (processors_in m.profile) m.processors) report.ends.items
     (λ w rests. inl rests) said.workers ended

@@ -7,7 +7,7 @@ use Rattle.pp_machine.specs.NeedAndEffect.{need}
 use Rattle.pp_machine.specs.PpNo.{processor_index}
 use Rattle.pp_machine.specs.Processor.{Processor, IsAtRest, no_processor}
 use Rattle.pp_machine.specs.declared.need.Need.{Need}
-use Rattle.pp_every_order.specs.Determinacy.{Stays, history_at, processor_at}
+use Rattle.pp_every_order.specs.Determinacy.{Stays, TurnsInPlace, history_at, processor_at}
 use Rattle.pp_runner.specs.declared.end.End.{End}
 use Rattle.pp_runner.specs.declared.end.End.TheVariants.{Fault, Stopped}
 use Rattle.pp_runner.specs.declared.report.Report.{Report}
@@ -20,9 +20,14 @@ pub record WaitsIn {A : Type 0} (report : Report A) (pp : Processor) : Type 0 wh
   pub needs : need pp ≡ Need.Channel channel operation
   pub stays : Stays operation pp (history_on channel report.channels)
 
--- Nothing more can move: each worker came to rest, or waits for a channel as all workers left it.
+-- a processor cannot move: it is at rest, or jumps to itself, or waits for a channel as all workers
+-- left it
+abbrev pub CannotMove : {A : Type 0} → Report A → Processor → Type 0
+CannotMove report pp = IsAtRest pp ⊎ (TurnsInPlace pp ⊎ WaitsIn report pp)
+
+-- a run by threads is over: no worker's processor can move
 abbrev pub IsOver : {A : Type 0} → Report A → Type 0
-IsOver report = All (λ w. IsAtRest w.pp ⊎ WaitsIn report w.pp) report.ends.items
+IsOver report = All (λ w. CannotMove report w.pp) report.ends.items
 
 -- a worker ended because its processor came to rest
 abbrev pub EndsAtRest : End → Type 0

@@ -8,16 +8,18 @@ use Rattle.pp_races.specs.declared.finding.Finding.{Finding}
 use Rattle.pp_races.specs.declared.verdict.Verdict.TheVariants.{Same, NoRaceSoFar, MayDiffer}
 use Rattle.std.proofs.lemmas.List.{reverse-append}
 
-differs : (lines : List ℕ) (b : Bool) → lines ++ verdict_line (if b then NoRaceSoFar else MayDiffer) ≡ verdict_line Same → ⊥
-differs lines true is =
-    let bad : 65 ≡ 69 = sym (ap (λ t. get_or t 2 0) (reverse-append lines (verdict_line NoRaceSoFar))) ∙ ap (λ t. get_or (reverse t) 2 0) is in
+differs : (lines before : List ℕ) (b : Bool) → lines ++ verdict_line (if b then NoRaceSoFar else MayDiffer) ≡ before ++ verdict_line Same → ⊥
+differs lines before true is =
+    let bad : 65 ≡ 69 = sym (ap (λ t. get_or t 2 0) (reverse-append lines (verdict_line NoRaceSoFar)))
+        ∙ (ap (λ t. get_or (reverse t) 2 0) is ∙ ap (λ t. get_or t 2 0) (reverse-append before (verdict_line Same))) in
     absurd (omega (arith, bad))
-differs lines false is =
-    let bad : 70 ≡ 68 = sym (ap (λ t. get_or t 3 0) (reverse-append lines (verdict_line MayDiffer))) ∙ ap (λ t. get_or (reverse t) 3 0) is in
+differs lines before false is =
+    let bad : 70 ≡ 68 = sym (ap (λ t. get_or t 3 0) (reverse-append lines (verdict_line MayDiffer)))
+        ∙ (ap (λ t. get_or (reverse t) 3 0) is ∙ ap (λ t. get_or t 3 0) (reverse-append before (verdict_line Same))) in
     absurd (omega (arith, bad))
 
--- where the text is the one line SAME IN EVERY ORDER, nothing is found
-pub text_same : (all : List Finding) → findings_text all ≡ verdict_line Same → all ≡ []
+-- where the last line of the text is SAME IN EVERY ORDER, nothing is found
+pub text_same : (all : List Finding) (before : List ℕ) → findings_text all ≡ before ++ verdict_line Same → all ≡ []
 unfolding findings_text
-text_same [] is = refl
-text_same (finding ∷ others) is = absurd (differs (flat_map finding_line (finding ∷ others)) (list_all is_going_on (finding ∷ others)) is)
+text_same [] before is = refl
+text_same (finding ∷ others) before is = absurd (differs (flat_map finding_line (finding ∷ others)) before (list_all is_going_on (finding ∷ others)) is)

@@ -1,5 +1,5 @@
--- Where the text of the races is the one line SAME IN EVERY ORDER.
-use Rattle.std.proofs.Common.{◌≡◌, ℕ, List, length, sym, ◌∙◌}
+-- Where the last line of the text of the races is SAME IN EVERY ORDER.
+use Rattle.std.proofs.Common.{◌≡◌, ℕ, List, ◌++◌, length, sym, ◌∙◌}
 use Rattle.pp_channel.specs.ChannelNo.{channel_count}
 use Rattle.pp_machine.specs.PpNo.{processor_count}
 use Rattle.pp_machine.specs.Run.{barrel}
@@ -11,8 +11,8 @@ use Rattle.pp_races.specs.declared.verdict.Verdict.TheVariants.{Same}
 use Rattle.pp_races.proofs.VerdictLemmas.{text_same}
 use Rattle.pp_sim.specs.RacesText.{IsRacesText}
 
-pub same_means : (turns : ℕ) (deck : LoadedDeck) (text : List ℕ) → IsRacesText turns deck text → text ≡ verdict_line Same → IsDeterminate (barrel deck.machine.profile turns) deck.machine
-same_means turns deck text is same = is.same (text_same (findings (barrel deck.machine.profile turns) deck.machine) (sym is.told ∙ same))
+pub same_means : (turns : ℕ) (deck : LoadedDeck) (text before : List ℕ) → IsRacesText turns deck text → text ≡ before ++ verdict_line Same → IsDeterminate (barrel deck.machine.profile turns) deck.machine
+same_means turns deck text before is same = is.same (text_same (findings (barrel deck.machine.profile turns) deck.machine) before (sym is.told ∙ same))
 
 pub whole_processors : (turns : ℕ) (deck : LoadedDeck) (text : List ℕ) → IsRacesText turns deck text → length deck.machine.processors ≡ processor_count
 whole_processors turns deck text is = is.machine.processors

@@ -209,9 +209,9 @@ that was WRITTEN BY one processor and USED BY another. The last line is SAME IN 
 the only one, NO RACE SO FAR if all others are of processors going on, and else MAY DIFFER. What goes
 wrong is one line on standard error.
 
-A loop of several instructions that polls a channel may look any number of times, and each look
-counts: MAY DIFFER may stand where nothing differs, but SAME IN EVERY ORDER never where something
-does.",
+MAY DIFFER may stand where nothing differs: each processor is looked at with one channel at a time,
+so an order that another channel or a word of memory brings about is not seen, and each look counts
+of a loop that polls a channel. SAME IN EVERY ORDER never stands where something differs.",
     example: handoff_example!("races --turns 40"),
 };
 

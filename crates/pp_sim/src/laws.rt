@@ -1,7 +1,7 @@
 //! Laws of the texts of runs. These functions do nothing: their contracts say what is proved of the
 //! definitions.
 
-ghost use Rattle.std.specs.Prelude.{◌≡◌, ℕ, ◌<◌, ◌^◌, IsTrue, List, Ok, length};
+ghost use Rattle.std.specs.Prelude.{◌≡◌, ℕ, ◌<◌, ◌^◌, ◌++◌, IsTrue, List, Ok, length};
 ghost use Rattle.pp_channel.specs.ChannelNo.{names_channel};
 ghost use Rattle.pp_channel.specs.History.{history_on};
 ghost use Rattle.pp_check.specs.LawfulTrace.{AreLawful};
@@ -10,9 +10,13 @@ ghost use Rattle.pp_deck.specs.DeckText.{lines_of};
 ghost use Rattle.pp_machine.specs.Run.{barrel, run};
 ghost use Rattle.pp_machine.specs.declared.profile.Profile.{Profile};
 ghost use Rattle.pp_every_order.specs.Determinacy.{AreAlike, IsQuiet, ShowsParts, StandsIn};
+ghost use Rattle.pp_promises.specs.OneRun.{IsOver, ShowsPartsOf};
 ghost use Rattle.pp_races.specs.RacesText.{verdict_line};
 ghost use Rattle.pp_races.specs.declared.verdict.Verdict.TheVariants.{Same};
 ghost use Rattle.pp_runner.specs.Limits.{RunLimits};
+ghost use Rattle.pp_runner.specs.Report.{IsReportOf};
+ghost use Rattle.pp_runner.specs.declared.report.Report.{Report};
+ghost use Rattle.pp_serial.specs.Serial.{LeadsTo, NoCentralWordIsRead};
 ghost use Rattle.pp_sim.specs.BarrelText.{IsBarrelText};
 ghost use Rattle.pp_sim.specs.RacesText.{IsRacesText};
 ghost use Rattle.pp_sim.specs.ThreadsText.{IsThreadsText};
@@ -21,6 +25,7 @@ ghost use Rattle.pp_text.specs.TextLaw.{AgreeOnText, AreSameHistories, NameAlike
 
 use pp_check::{barrel_law, printed_report_law};
 use pp_every_order::determinacy_law;
+use pp_promises::one_run_law;
 use pp_text::{report_law, text_law};
 use std::alloc::Allocator;
 
@@ -70,34 +75,51 @@ pub fn checked_text_law<A: Allocator>()
     printed_report_law::<A>();
 }
 
-/// Where the text of `races_text` is the one line `SAME IN EVERY ORDER`, the run ends quiet; every other
-/// list of steps of the deck's machine shows each processor and each channel only as this run showed
-/// it at some moment; and one that ends quiet, or in which the turns of this run stand with any steps
-/// between, leaves the processors, central memory, and the histories of the channels, each event made
-/// by the same processor, as this run did.
+/// Where the last line of a text that `races_text` wrote is `SAME IN EVERY ORDER`, the run ends quiet;
+/// every other list of steps of the deck's machine shows each processor and each channel only as this
+/// run showed it at some moment; and one that ends quiet, or in which the turns of this run stand with
+/// any steps between, leaves the processors, central memory, and the histories of the channels, each
+/// event made by the same processor, as this run did.
 #[tactic(auto, using(crate::proofs::RacesLemmas::same_means, crate::proofs::RacesLemmas::whole_processors, crate::proofs::RacesLemmas::whole_channels))]
 pub fn races_text_law()
-    ensures quiet { (profile : Profile) (bytes text : List ℕ) (deck : LoadedDeck) (turns : ℕ)
-        → deck_meaning profile bytes ≡ Ok deck → IsRacesText turns deck text
-        → text ≡ verdict_line Same
+    ensures quiet { (turns : ℕ) (deck : LoadedDeck) (text before : List ℕ)
+        → IsRacesText turns deck text → text ≡ before ++ verdict_line Same
         → IsQuiet (run (barrel deck.machine.profile turns) deck.machine) }
-    ensures parts { (profile : Profile) (bytes text : List ℕ) (deck : LoadedDeck)
-        (turns : ℕ) (others : List ℕ)
-        → deck_meaning profile bytes ≡ Ok deck → IsRacesText turns deck text
-        → text ≡ verdict_line Same
+    ensures parts { (turns : ℕ) (deck : LoadedDeck) (text before others : List ℕ)
+        → IsRacesText turns deck text → text ≡ before ++ verdict_line Same
         → ShowsParts (barrel deck.machine.profile turns) deck.machine (run others deck.machine) }
-    ensures result { (profile : Profile) (bytes text : List ℕ) (deck : LoadedDeck)
-        (turns : ℕ) (others : List ℕ)
-        → deck_meaning profile bytes ≡ Ok deck → IsRacesText turns deck text
-        → text ≡ verdict_line Same → IsQuiet (run others deck.machine)
+    ensures result { (turns : ℕ) (deck : LoadedDeck) (text before others : List ℕ)
+        → IsRacesText turns deck text → text ≡ before ++ verdict_line Same
+        → IsQuiet (run others deck.machine)
         → AreAlike (run others deck.machine)
         (run (barrel deck.machine.profile turns) deck.machine) }
-    ensures in_time { (profile : Profile) (bytes text : List ℕ) (deck : LoadedDeck)
-        (turns : ℕ) (others : List ℕ)
-        → deck_meaning profile bytes ≡ Ok deck → IsRacesText turns deck text
-        → text ≡ verdict_line Same → StandsIn (barrel deck.machine.profile turns) others
+    ensures going_on { (turns : ℕ) (deck : LoadedDeck) (text before others : List ℕ)
+        → IsRacesText turns deck text → text ≡ before ++ verdict_line Same
+        → StandsIn (barrel deck.machine.profile turns) others
         → AreAlike (run others deck.machine)
         (run (barrel deck.machine.profile turns) deck.machine) }
 {
     determinacy_law();
+}
+
+/// What such a text tells of every run of the deck by threads in which no thread read a central word.
+/// However the threads ended, each processor and each channel stands as at some moment of the run in
+/// the barrel. Where nothing more can move, the barrel leads to the very processors and the very
+/// histories that the threads left.
+pub fn races_report_law<A: Allocator>()
+    ensures parts { (profile : Profile) (bytes text before : List ℕ) (deck : LoadedDeck)
+        (turns : ℕ) (limits : RunLimits) (report : Report A)
+        → deck_meaning profile bytes ≡ Ok deck
+        → IsRacesText turns deck text → text ≡ before ++ verdict_line Same
+        → IsReportOf limits deck.machine report → NoCentralWordIsRead report
+        → ShowsPartsOf (barrel deck.machine.profile turns) deck.machine report }
+    ensures result { (profile : Profile) (bytes text before : List ℕ) (deck : LoadedDeck)
+        (turns : ℕ) (limits : RunLimits) (report : Report A)
+        → deck_meaning profile bytes ≡ Ok deck
+        → IsRacesText turns deck text → text ≡ before ++ verdict_line Same
+        → IsReportOf limits deck.machine report → NoCentralWordIsRead report
+        → IsOver report
+        → LeadsTo (barrel deck.machine.profile turns) deck.machine report }
+{
+    one_run_law::<A>();
 }

@@ -18,7 +18,9 @@ mod work;
 
 pub use command_words::read_words;
 pub use entry::run_main;
-pub use laws::{barrel_text_law, checked_text_law, races_text_law, threads_text_law};
+pub use laws::{
+    barrel_text_law, checked_text_law, races_report_law, races_text_law, threads_text_law,
+};
 pub use line_fault::LineFault;
 pub use numeral::numeral_law;
 pub use pp_check::{

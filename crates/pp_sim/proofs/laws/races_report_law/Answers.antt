@@ -1,0 +1,13 @@
+use Rattle.pp_machine.specs.Run.{barrel}
+use Rattle.pp_sim.proofs.RacesLemmas.{same_means}
+use Rattle.pp_sim.proofs.laws.races_report_law.Goals as goal
+
+pub returns-clause-parts : goal.returns-clause-parts
+returns-clause-parts g c = λ profile bytes text before deck turns limits report is told same said none.
+    c.one_run_law.ensures.parts profile bytes deck (barrel deck.machine.profile turns) limits report is
+    (same_means turns deck text before told same) said none
+
+pub returns-clause-result : goal.returns-clause-result
+returns-clause-result g c = λ profile bytes text before deck turns limits report is told same said none over.
+    c.one_run_law.ensures.result profile bytes deck (barrel deck.machine.profile turns) limits report is
+    (same_means turns deck text before told same) said none over
