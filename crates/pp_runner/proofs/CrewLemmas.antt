@@ -89,37 +89,44 @@ processors_push m n place at below =
     take_more m.processors place no_processor below ∙ ap (λ k. take place m.processors ++ slice_index_or m.processors k no_processor ∷ []) (sym at)
 
 -- the last line, and those before it
-pub record IsTaken (m : MachineState) (room : ℕ) (family line : LineState) (others : List LineState) : Type 0 where
+pub record IsTaken (m : MachineState) (size room : ℕ) (family line : LineState) (others : List LineState) : Type 0 where
   pub each : length m.processors ≡ processor_count
   pub count : length others < processor_count
   pub fresh : IsSplitFrom family room line
   pub fresh_others : All (IsSplitFrom family room) others
+  pub central : length family.view.central ≡ size
 
-pub taken_of : (m : MachineState) (room : ℕ) (family line : LineState) (lines others : List LineState) → lines ≡ others ++ line ∷ [] → AreReady m room family lines → IsTaken m room family line others
-taken_of m room family line lines others is ready =
+pub taken_of : (m : MachineState) (size room : ℕ) (family line : LineState) (lines others : List LineState) → lines ≡ others ++ line ∷ [] → AreReady m size room family lines → IsTaken m size room family line others
+taken_of m size room family line lines others is ready =
     let parts = All-pop (IsSplitFrom family room) lines others (Some line) is ready.fresh in record {
       each = ready.each;
       count = omega (arith, ready.count, ap length is, length-append others (line ∷ []));
       fresh = parts.1;
       fresh_others = parts.0;
+      central = ready.central;
     }
+
+-- central memory has its size beside the last line too
+pub taken_central : (m : MachineState) (size room : ℕ) (family line : LineState) (others : List LineState) → IsTaken m size room family line others → length line.view.central ≡ size
+taken_central m size room family line others taken = ap (λ v. length v.central) taken.fresh.view ∙ taken.central
 
 -- where there were several lines, some are left
 pub some_left : (lines others : List LineState) (line : LineState) → lines ≡ others ++ line ∷ [] → 1 < length lines → 0 < length others
 some_left lines others line is several = omega (arith, several, ap length is, length-append others (line ∷ []))
 
 -- those before the last are ready too
-pub ready_before : (m : MachineState) (room : ℕ) (family line : LineState) (others : List LineState) → IsTaken m room family line others → 0 < length others → AreReady m room family others
-ready_before m room family line others taken some = record {
+pub ready_before : (m : MachineState) (size room : ℕ) (family line : LineState) (others : List LineState) → IsTaken m size room family line others → 0 < length others → AreReady m size room family others
+ready_before m size room family line others taken some = record {
   each = taken.each;
   count = omega (arith, taken.count);
   some = some;
   fresh = taken.fresh_others;
+  central = taken.central;
 }
 
 -- workers, and the one behind them
 pub ended_beside : {A E : Type 0} (m : MachineState) (n room size steps left total : ℕ) (family line mine : LineState) (others ls : List LineState) (w : Worker A) (ws : List (Worker A)) (r : Result (Crew A) E)
-    → IsTaken m room family line others → n ≡ processor_number left → left ≡ length others → total ≡ left + 1
+    → IsTaken m size room family line others → n ≡ processor_number left → left ≡ length others → total ≡ left + 1
     → IsEnded (processor_of n m) size steps line w mine → AreEnded (take left m.processors) size steps room family ws ls
     → IfOk r (λ crew. crew.workers.items ≡ ws ++ w ∷ []) → IfOk r (λ crew. crew.lines.items ≡ ls ++ mine ∷ [])
     → IfOk r (λ crew. AreEnded (take total m.processors) size steps room family crew.workers.items crew.lines.items)
@@ -137,12 +144,12 @@ ended_beside {A} m n room size steps left total family line mine others ls w ws 
 
 -- the first worker, behind which there is none
 pub ended_alone : {A E : Type 0} (m : MachineState) (n room size steps total : ℕ) (load : Processor) (family line mine : LineState) (lines others ls : List LineState) (w : Worker A) (ws : List (Worker A)) (r : Result (Crew A) E)
-    → AreReady m room family lines → lines ≡ others ++ line ∷ [] → total ≡ length lines → total ≤ 1 → n ≡ processor_number (length others) → load ≡ processor_of n m
+    → AreReady m size room family lines → lines ≡ others ++ line ∷ [] → total ≡ length lines → total ≤ 1 → n ≡ processor_number (length others) → load ≡ processor_of n m
     → IsEnded load size steps line w mine → ws ≡ [] → ls ≡ []
     → IfOk r (λ crew. crew.workers.items ≡ ws ++ w ∷ []) → IfOk r (λ crew. crew.lines.items ≡ ls ++ mine ∷ [])
     → IfOk r (λ crew. AreEnded (take total m.processors) size steps room family crew.workers.items crew.lines.items)
 ended_alone {A} m n room size steps total load family line mine lines others ls w ws r ready is sum few at load_is one no_workers no_lines workers_are lines_are =
-    let taken = taken_of m room family line lines others is ready in
+    let taken = taken_of m size room family line lines others is ready in
     let none : length others ≡ 0 = omega (arith, ap length is, length-append others (line ∷ []), sum, few) in
     let nobody : AreEnded [] size steps room family ws ls = rw (no_workers, no_lines) tt in
     ended_beside m n room size steps 0 total family line mine others ls w ws r taken (at ∙ ap processor_number none) (sym none) (omega (arith, sum, few, ready.some))

@@ -33,7 +33,7 @@ use Rattle.pp_runner.specs.End.{WasHeld}
 
 -- nothing came
 pub same_line_still : (line : LineState) → IsSameLine line line
-same_line_still line = record { shares = refl; whole = refl; table = refl; program_orders = refl; seen = λ happened has. has; none_older = λ happened has none. none }
+same_line_still line = record { shares = refl; whole = refl; table = refl; central = refl; program_orders = refl; seen = λ happened has. has; none_older = λ happened has none. none }
 
 -- after two parts of a worker's way
 pub same_line_twice : (line mid after : LineState) → IsSameLine line mid → IsSameLine mid after → IsSameLine line after
@@ -41,6 +41,7 @@ same_line_twice line mid after a b = record {
   shares = b.shares ∙ a.shares;
   whole = b.whole ∙ a.whole;
   table = b.table ∙ a.table;
+  central = b.central ∙ a.central;
   program_orders = b.program_orders ∙ a.program_orders;
   seen = λ happened has. b.seen happened (a.seen happened has);
   none_older = λ happened has none. b.none_older happened (a.seen happened has) (a.none_older happened has none);
@@ -72,6 +73,7 @@ same_line_acted line after c op r acted =
       shares = ap (λ l. l.view.shares) acted.after_is;
       whole = ap (λ l. l.view.whole) acted.after_is;
       table = ap (λ l. l.table) acted.after_is;
+      central = ap (λ l. l.view.central) acted.after_is;
       program_orders = ap (λ l. length l.view.program_orders) acted.after_is ∙ length-extended line.view.program_orders _;
       seen = λ happened has. record {
         countable = has.countable;

@@ -10,12 +10,14 @@ use Rattle.pp_runner.specs.End.{WornWithCause}
 use Rattle.pp_runner.specs.WorkerReport.{IsLoggedWorker}
 use Rattle.pp_runner.specs.declared.worker.Worker.{Worker}
 
--- The workers of the barrel's first processors are ready, each on one of lines split from one.
-pub record AreReady (m : MachineState) (room : ℕ) (family : LineState) (lines : List LineState)
-    : Type 0 where
+-- The workers of the barrel's first processors are ready, each on one of lines split from one, beside
+-- central memory of this size.
+pub record AreReady (m : MachineState) (size room : ℕ) (family : LineState)
+    (lines : List LineState) : Type 0 where
   pub each : length m.processors ≡ processor_count
   pub count : length lines ≤ processor_count
   pub some : 0 < length lines
+  pub central : length family.view.central ≡ size
   pub fresh : All (IsSplitFrom family room) lines
 
 -- a worker that began with this processor and this line has ended, and the line has its log

@@ -4,6 +4,7 @@ use Rattle.pp_channel.specs.Answer.{seen_answered}
 use Rattle.pp_channel.specs.ChannelWord.{greatest_number, number_in}
 use Rattle.pp_channel.specs.LineLog.{LogState, with_seen, IsMonotone, seen_on}
 use Rattle.pp_channel.specs.LineState.{LineState, IsActed}
+use Rattle.pp_channel.specs.LineView.{reads, writes}
 use Rattle.pp_channel.specs.declared.entry.Entry.{Entry}
 use Rattle.pp_channel.specs.declared.entry.Seen.{Seen}
 use Rattle.pp_channel.specs.declared.numbered.Numbered.{Numbered}
@@ -55,11 +56,16 @@ pub record IsAnswered (size : ℕ) (needed : Need) (answer : Answer) (before aft
   pub noted : IsNoted (given_by seen_answered needed answer) before after
   pub monotone : IsMonotone before.entries → IsMonotone after.entries
 
--- What the operation of a step did to the line: it gave this answer. Without one the line stays.
+-- What a step's operation on a channel, read or write did to the line: it gave this answer. Without
+-- one the line stays, and so it does where central memory has no word at the address.
 abbrev pub HasActed : Need → LineState → Answer → LineState → Type 0
 HasActed (Need.Channel channel operation) before answer after =
     (numbered : Numbered) × (answer ≡ Answer.Channel numbered.reply)
     × IsActed before channel operation numbered after
+HasActed (Need.Read address) before (Answer.Read (Some word)) after =
+    after ≡ record before { view = reads before.view address word }
+HasActed (Need.Write address word) before (Answer.Wrote true) after =
+    (number : ℕ) × (after ≡ record before { view = writes before.view address word number })
 HasActed needed before answer after = after ≡ before
 
 -- how many operations on channels one try of a step makes
@@ -90,12 +96,13 @@ pub record HasSeen (happened : ℕ → ℕ) (line : LineState) : Type 0 where
 abbrev pub NoneOlder : (ℕ → ℕ) → List Entry → Type 0
 NoneOlder happened log = All (λ entry. happened entry.channel ≤ entry.number) log
 
--- The same line, later: it stands at the same channels, with as many shares and program orders. It has
--- forgotten nothing, and no entry that came is older than what it had seen.
+-- The same line, later: it stands at the same channels and central memory, with as many shares and
+-- program orders. It has forgotten nothing, and no entry that came is older than what it had seen.
 pub record IsSameLine (before after : LineState) : Type 0 where
   pub shares : after.view.shares ≡ before.view.shares
   pub whole : after.view.whole ≡ before.view.whole
   pub table : after.table ≡ before.table
+  pub central : after.view.central ≡ before.view.central
   pub program_orders : length after.view.program_orders ≡ length before.view.program_orders
   pub seen : (happened : ℕ → ℕ) → HasSeen happened before → HasSeen happened after
   pub none_older : (happened : ℕ → ℕ) → HasSeen happened before

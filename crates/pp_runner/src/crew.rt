@@ -1,6 +1,6 @@
 //! Runs the workers concurrently, one thread each.
 
-ghost use Rattle.std.specs.Prelude.{◌≡◌, ◌+◌, ◌*◌, ◌<◌, [], ◌∷◌, ◌++◌, take, vec_len, IfOk};
+ghost use Rattle.std.specs.Prelude.{◌≡◌, ◌+◌, ◌*◌, ◌<◌, [], ◌∷◌, ◌++◌, take, length, vec_len, IfOk};
 ghost use denote.Param.Send.{IsSync, IsSend, Frees};
 ghost use Rattle.pp_channel.specs.LineLog.{empty_log};
 ghost use Rattle.pp_runner.specs.Crew.{IsEnded, AreEnded, AreReady};
@@ -68,9 +68,9 @@ pub fn run_first<R: Threads + Wait + Sync, G: Gate + Sync, A: Allocator + Copy +
     family: Snapshot<Line<A>>,
     mut lines: Vec<Line<A>, A>,
 ) -> Result<Crew<A>, RunFault>
-    requires { AreReady machine.now (2 * site.now.limits.steps + 1) family.value lines.items }
+    requires { AreReady machine.now site.now.size (2 * site.now.limits.steps + 1) family.value lines.items }
     ensures { IfOk result (λ crew. AreEnded (take
-        (vec_len lines) machine.now.processors) site.now.central site.now.limits.steps
+        (vec_len lines) machine.now.processors) site.now.size site.now.limits.steps
         (2 * site.now.limits.steps + 1) family.value crew.workers.items crew.lines.items) }
 {
     if lines.len() > 1 {
@@ -80,7 +80,7 @@ pub fn run_first<R: Threads + Wait + Sync, G: Gate + Sync, A: Allocator + Copy +
         unreachable!()
     };
     let number = PpNo::at(lines.len());
-    let first = work(rt, site, gate, number, machine.pp(number), line);
+    let first = work(site, gate, number, machine.pp(number), line);
     let nobody = Crew {
         workers: Vec::new(site.alloc),
         lines: Vec::new(site.alloc),
@@ -99,9 +99,9 @@ fn beside<R: Threads + Wait + Sync, G: Gate + Sync, A: Allocator + Copy + Send +
     lines: Vec<Line<A>, A>,
 ) -> Result<Crew<A>, RunFault>
     requires several { 1 < vec_len lines }
-    requires ready { AreReady machine.now (2 * site.now.limits.steps + 1) family.value lines.items }
+    requires ready { AreReady machine.now site.now.size (2 * site.now.limits.steps + 1) family.value lines.items }
     ensures { IfOk result (λ crew. AreEnded (take
-        (vec_len lines) machine.now.processors) site.now.central site.now.limits.steps
+        (vec_len lines) machine.now.processors) site.now.size site.now.limits.steps
         (2 * site.now.limits.steps + 1) family.value crew.workers.items crew.lines.items) }
 {
     thread::scope(
@@ -110,9 +110,9 @@ fn beside<R: Threads + Wait + Sync, G: Gate + Sync, A: Allocator + Copy + Send +
         |scope| -> Result<Crew<A>, RunFault>
             requires { IsSync R.row × IsSync G.row × IsSend A.row × IsSync A.row
                 × Frees A.Allocator A.dealloc_token × (1 < vec_len lines)
-                × AreReady machine.now (2 * site.now.limits.steps + 1) family.value lines.items }
+                × AreReady machine.now site.now.size (2 * site.now.limits.steps + 1) family.value lines.items }
             ensures { IfOk result (λ crew. AreEnded
-                (take (vec_len lines) machine.entry.now.processors) site.entry.now.central
+                (take (vec_len lines) machine.entry.now.processors) site.entry.now.size
                 site.entry.now.limits.steps (2 * site.entry.now.limits.steps + 1) family.value
                 crew.workers.items crew.lines.items) }
         {
@@ -125,16 +125,17 @@ fn beside<R: Threads + Wait + Sync, G: Gate + Sync, A: Allocator + Copy + Send +
             let promise = EndOf {
                 load: Snapshot::of(load),
                 line: Snapshot::of(&line),
-                size: site.central.size(),
+                size: site.size,
                 steps: site.limits.steps(),
             };
             let child = scope.spawn_with(
                 promise,
                 move || -> Ended<A>
-                    requires { line.log ≡ empty_log (2 * site.now.limits.steps + 1) }
-                    ensures { IsEnded load.entry.now site.entry.now.central
+                    requires { (line.log ≡ empty_log (2 * site.now.limits.steps + 1))
+                        × (length line.view.central ≡ site.now.size) }
+                    ensures { IsEnded load.entry.now site.entry.now.size
                         site.entry.now.limits.steps line result.worker result.line }
-                { work(rt, site, gate, number, load, line) },
+                { work(site, gate, number, load, line) },
             )?;
             let others = run_first(rt, site, gate, machine, family, others);
             let last = child.join(rt);

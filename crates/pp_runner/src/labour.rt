@@ -11,14 +11,12 @@ ghost use Rattle.pp_runner.specs.End.{IsEnd, NeedsWornChannel, WornWithCause, Wa
 
 use crate::end::End;
 use crate::gate::Gate;
-use crate::locked_central::LockedCentral;
 use crate::site::Site;
 use crate::spinning::Spinning;
 use crate::worker::Worker;
 use pp_channel::{Line, Worn};
 use pp_machine::{Answer, Need, Outcome, Pp, PpNo, PpState};
 use std::alloc::Allocator;
-use std::sync::Wait;
 
 /// A worker between two tries of a step.
 #[derive(Drop)]
@@ -47,15 +45,10 @@ enum Try {
 }
 
 /// What a channel or central memory answers to a need. `Worn` leaves the log as it was.
-fn ask<R: Wait, A: Allocator + Copy>(
-    rt: &R,
-    central: &LockedCentral<A>,
-    line: &mut Line<A>,
-    needed: Need,
-) -> Result<Answer, Worn>
+fn ask<A: Allocator + Copy>(line: &mut Line<A>, needed: Need) -> Result<Answer, Worn>
     requires { 1 ≤ line.old.log.room }
-    ensures answered { IfOk result (λ x.
-        IsAnswered central.now needed x line.old.log line.new.log) }
+    ensures answered { IfOk result (λ x. IsAnswered
+        (length line.old.view.central) needed x line.old.log line.new.log) }
     ensures acted { IfOk result (λ x. HasActed needed line.old x line.new) }
     ensures worn { OnErr result (NeedsWornChannel (λ c. seen_on c line.new.view.seen) needed) }
     ensures unchanged_when_worn { OnErr result (line.new.log ≡ line.old.log) }
@@ -68,8 +61,8 @@ fn ask<R: Wait, A: Allocator + Copy>(
             let numbered = line.act(channel, op)?;
             Ok(Answer::Channel(numbered.reply))
         }
-        Need::Read(address) => Ok(Answer::Read(central.read(rt, address))),
-        Need::Write(address, word) => Ok(Answer::Wrote(central.write(rt, address, word))),
+        Need::Read(address) => Ok(Answer::Read(line.read(address))),
+        Need::Write(address, word) => Ok(Answer::Wrote(line.write(address, word))),
     }
 }
 
@@ -89,13 +82,14 @@ impl<A: Allocator + Copy> Labour<A> {
     }
 
     /// One try of the next step. Its answer is kept only if the processor moves.
-    fn try_step<R: Wait>(&mut self, rt: &R, site: &Site<A>, load: &Pp) -> Try
+    fn try_step(&mut self, site: &Site<A>, load: &Pp) -> Try
         requires running { self.old.pp.state ≡ PpState.Running }
         requires steps_left { vec_len self.old.answers < site.now.limits.steps }
         requires place { vec_len self.old.answers < vec_capacity self.old.answers }
-        requires work { IsAtWork load.now site.now.central site.now.limits.steps self.old.pp
+        requires central { length self.old.line.view.central ≡ site.now.size }
+        requires work { IsAtWork load.now site.now.size site.now.limits.steps self.old.pp
             self.old.answers.items self.old.line.log }
-        ensures work { IsAtWork load.now site.now.central site.now.limits.steps self.new.pp
+        ensures work { IsAtWork load.now site.now.size site.now.limits.steps self.new.pp
             self.new.answers.items self.new.line.log }
         ensures same_line { IsSameLine self.old.line self.new.line }
         ensures operated { HasOperated (operations (need self.old.pp)) self.old.line self.new.line }
@@ -109,7 +103,7 @@ impl<A: Allocator + Copy> Labour<A> {
             × (self.new.answers ≡ self.old.answers)
             × NeedsWornChannel (λ c. seen_on c self.new.line.view.seen) (need self.new.pp) }
     {
-        let told = ask(rt, &site.central, &mut self.line, self.pp.wants());
+        let told = ask(&mut self.line, self.pp.wants());
         match &told {
             Err(_) => Try::Worn,
             Ok(answer) => match self.pp.give(*answer) {
@@ -125,19 +119,14 @@ impl<A: Allocator + Copy> Labour<A> {
 
     /// Tries the next step until the processor moves, and then answers `None`. If the step needs an
     /// operation, each try makes one; a worker gives up after exactly as many as its patience.
-    fn take_step<R: Wait, G: Gate>(
-        &mut self,
-        rt: &R,
-        site: &Site<A>,
-        gate: &G,
-        load: &Pp,
-    ) -> Option<End>
+    fn take_step<G: Gate>(&mut self, site: &Site<A>, gate: &G, load: &Pp) -> Option<End>
         requires running { self.old.pp.state ≡ PpState.Running }
         requires steps_left { vec_len self.old.answers < site.now.limits.steps }
-        requires work { IsAtWork load.now site.now.central site.now.limits.steps self.old.pp
+        requires work { IsAtWork load.now site.now.size site.now.limits.steps self.old.pp
             self.old.answers.items self.old.line.log }
+        requires central { length self.old.line.view.central ≡ site.now.size }
         requires countable { self.old.tries + site.now.limits.patience < 2 ^ 64 }
-        ensures work { IsAtWork load.now site.now.central site.now.limits.steps self.new.pp
+        ensures work { IsAtWork load.now site.now.size site.now.limits.steps self.new.pp
             self.new.answers.items self.new.line.log }
         ensures same_line { IsSameLine self.old.line self.new.line }
         ensures operated { HasOperated ((self.new.tries - self.old.tries)
@@ -164,7 +153,7 @@ impl<A: Allocator + Copy> Labour<A> {
         for held in 0..site.limits.patience() {
             gate.pass(self.number, self.tries);
             self.tries += 1;
-            match self.try_step(rt, site, load) {
+            match self.try_step(site, load) {
                 Try::Moved => {
                     self.spinning.moved();
                     return None;
@@ -178,13 +167,13 @@ impl<A: Allocator + Copy> Labour<A> {
 
     /// What is left when no further step is made. The log stays with the line.
     fn ended(self, site: &Site<A>, load: &Pp, finish: End) -> Ended<A>
-        requires work { IsAtWork load.now site.now.central site.now.limits.steps self.pp
+        requires work { IsAtWork load.now site.now.size site.now.limits.steps self.pp
             self.answers.items self.line.log }
         requires few { vec_len self.answers ≤ site.now.limits.steps }
         requires finish { IsEnd site.now.limits.steps finish self.pp self.answers.items
             self.line.log.entries }
         requires worn { WornWithCause (λ c. seen_on c self.line.view.seen) finish self.pp }
-        ensures ended { IsEnded load.now site.now.central site.now.limits.steps self.line
+        ensures ended { IsEnded load.now site.now.size site.now.limits.steps self.line
             result.worker result.line }
         ensures line { result.line ≡ self.line }
         ensures finish { result.worker.finish ≡ finish }
@@ -221,16 +210,16 @@ fn at_rest(pp: &Pp) -> Option<End>
 }
 
 /// A worker from its load to its end, on a line of its own.
-pub fn work<R: Wait, G: Gate, A: Allocator + Copy>(
-    rt: &R,
+pub fn work<G: Gate, A: Allocator + Copy>(
     site: &Site<A>,
     gate: &G,
     number: PpNo,
     load: &Pp,
     line: Line<A>,
 ) -> Ended<A>
-    requires { line.log ≡ empty_log (2 * site.now.limits.steps + 1) }
-    ensures ended { IsEnded load.now site.now.central site.now.limits.steps line result.worker
+    requires log { line.log ≡ empty_log (2 * site.now.limits.steps + 1) }
+    requires central { length line.view.central ≡ site.now.size }
+    ensures ended { IsEnded load.now site.now.size site.now.limits.steps line result.worker
         result.line }
     ensures patience { result.worker.finish ≡ End.Patience
         → length line.view.found + site.now.limits.patience ≤ length result.line.view.found }
@@ -249,7 +238,7 @@ pub fn work<R: Wait, G: Gate, A: Allocator + Copy>(
         if let Some(finish) = at_rest(&labour.pp) {
             return labour.ended(site, load, finish);
         }
-        if let Some(finish) = labour.take_step(rt, site, gate, load) {
+        if let Some(finish) = labour.take_step(site, gate, load) {
             return labour.ended(site, load, finish);
         }
     }

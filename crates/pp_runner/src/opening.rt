@@ -8,12 +8,13 @@ ghost use Rattle.pp_channel.specs.declared.event.Event.TheVariants.{Activate};
 ghost use Rattle.pp_machine.specs.Headline.{opening_history};
 ghost use Rattle.pp_runner.specs.Labour.{HasSeen};
 
-use pp_channel::{CHANNELS, ChanOp, ChannelNo, Line, Memory, open_lines};
+use pp_channel::{CHANNELS, ChanOp, ChannelNo, Line, Memory, open_lines_beside};
 use pp_machine::Machine;
 use std::alloc::Allocator;
 
 /// The first line of a family of so many shares. It holds them all, and has opened the channels
-/// that dead start opened, and seen that: its log has an Activate for each, and no other event.
+/// that dead start opened, and seen that: its log has an Activate for each, and no other event. The
+/// words of central memory are those of the machine.
 pub fn opening_line<A: Allocator + Copy>(
     alloc: A,
     machine: &Machine<A>,
@@ -26,10 +27,11 @@ pub fn opening_line<A: Allocator + Copy>(
         (λ c. length (opening_history c machine.now)) line) }
     ensures shares { IfOk result (λ line. line.view.shares ≡ shares) }
     ensures whole { IfOk result (λ line. line.view.whole ≡ shares) }
+    ensures central { IfOk result (λ line. line.view.central ≡ machine.now.central) }
 {
     // This call tells the proof what holds of every machine.
     let _turns = machine.turns();
-    let mut line = open_lines(alloc, CHANNELS as u32, shares)?;
+    let mut line = open_lines_beside(alloc, CHANNELS as u32, shares, machine.central().words())?;
     for place in 0..CHANNELS {
         let channel = ChannelNo::at(place);
         if machine.opened(channel) {
@@ -50,6 +52,7 @@ fn activate<A: Allocator + Copy>(line: &mut Line<A>, channel: ChannelNo)
     ensures within { IsWithin line.new.view.seen line.new.log.entries }
     ensures shares { line.new.view.shares ≡ line.old.view.shares }
     ensures whole { line.new.view.whole ≡ line.old.view.whole }
+    ensures central { line.new.view.central ≡ line.old.view.central }
 {
     // The call says to the proof where the channel stands among the twelve.
     let _index = channel.index();

@@ -1,15 +1,15 @@
 //! What the workers of a run share.
 
 use crate::limits::Limits;
-use crate::locked_central::LockedCentral;
 use crate::spinning::Spinning;
 use std::alloc::Allocator;
 
-/// What the workers of a run share, beside the channels.
+/// What the workers of a run share, beside the channels and the words of central memory.
 #[derive(Drop)]
 pub struct Site<A: Allocator> {
     pub alloc: A,
-    pub central: LockedCentral<A>,
+    /// How many words central memory has (decimal).
+    pub size: u32,
     pub limits: Limits,
     /// How each worker begins to spin.
     pub spinning: Spinning,

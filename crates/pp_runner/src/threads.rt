@@ -11,7 +11,6 @@ ghost use Rattle.pp_runner.specs.Report.{IsReportOf};
 use crate::crew::{Crew, run_first};
 use crate::gate::Gate;
 use crate::limits::Limits;
-use crate::locked_central::LockedCentral;
 use crate::opening::opening_line;
 use crate::report::Report;
 use crate::run_fault::RunFault;
@@ -25,8 +24,9 @@ use std::snapshot::Snapshot;
 use std::sync::Wait;
 use std::thread::Threads;
 
-/// The line that opened the channels of the machine, and a line for each processor that was split
-/// from it. The first belongs to no processor, and keeps a share.
+/// The line that opened the channels of the machine, beside the words of its central memory, and a
+/// line for each processor that was split from it. The first belongs to no processor, and keeps a
+/// share.
 fn open_family<A: Allocator + Copy>(
     alloc: A,
     machine: &Machine<A>,
@@ -42,6 +42,7 @@ fn open_family<A: Allocator + Copy>(
     ensures share { IfOk result (λ opened. opened.0.view.shares ≡ 1) }
     ensures whole { IfOk result (λ opened. opened.0.view.whole
         ≡ processors_in machine.now.profile + 1) }
+    ensures central { IfOk result (λ opened. opened.0.view.central ≡ machine.now.central) }
 {
     let processors = machine.profile().processors();
     let mut first = opening_line(alloc, machine, processors as u32 + 1)?;
@@ -73,7 +74,7 @@ pub fn run_threads<R: Threads + Wait + Sync, G: Gate + Sync, A: Allocator + Copy
     let _turns = machine.turns();
     let site = Site {
         alloc,
-        central: LockedCentral::new(alloc, machine.central())?,
+        size: machine.central().size(),
         limits,
         spinning: Spinning::of_run(rt),
     };

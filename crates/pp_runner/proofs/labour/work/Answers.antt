@@ -1,4 +1,4 @@
-use Rattle.std.proofs.Common.{subst, sym, ◌∙◌, arith}
+use Rattle.std.proofs.Common.{length, ap, subst, sym, ◌∙◌, arith}
 use Rattle.pp_channel.specs.LineLog.{seen_on}
 use Rattle.pp_runner.proofs.CrewLemmas.{ended_since, gave_up, not_given_up}
 use Rattle.pp_runner.proofs.EndLemmas.{end_at_last, worn_at_rest, worn_at_last, patience_at_rest, patience_at_last}
@@ -10,7 +10,7 @@ use Rattle.pp_runner.proofs.labour.work.Goals as goal
 
 pub loop-done-init : goal.loop-done-init
 loop-done-init g c = record {
-  work = work_begins c.args.load.now c.copy.result c.args.site.now.central c.args.site.now.limits.steps c.new.result.items c.args.line.log c.copy.ensures c.new.ensures.items c.requires;
+  work = work_begins c.args.load.now c.copy.result c.args.site.now.size c.args.site.now.limits.steps c.new.result.items c.args.line.log c.copy.ensures c.new.ensures.items c.requires.log;
   same_line = same_line_still _;
   found = omega arith;
   few_tries = omega arith;
@@ -38,7 +38,7 @@ ended-requires-2-clause-worn g c =
 
 pub returns-in-Some-take_step-clause-ended : goal.returns-in-Some-take_step-clause-ended
 returns-in-Some-take_step-clause-ended g c =
-    ended_since c.args.load.now c.args.site.now.central c.args.site.now.limits.steps c.args.line c.take_step.new.self.line c.ended-in-Some-take_step.result
+    ended_since c.args.load.now c.args.site.now.size c.args.site.now.limits.steps c.args.line c.take_step.new.self.line c.ended-in-Some-take_step.result
     (same_line_twice c.args.line c.loop-done.labour.line c.take_step.new.self.line c.loop-done.invariant.same_line c.take_step.ensures.same_line) c.ended-in-Some-take_step.ensures.ended
 
 pub ended-requires-clause-work : goal.ended-requires-clause-work
@@ -49,7 +49,7 @@ ended-requires-clause-few g c = omega (arith, c.loop-done.invariant.count, c.loo
 
 pub returns-in-Some-clause-ended : goal.returns-in-Some-clause-ended
 returns-in-Some-clause-ended g c =
-    ended_since c.args.load.now c.args.site.now.central c.args.site.now.limits.steps c.args.line c.loop-done.labour.line c.ended.result c.loop-done.invariant.same_line c.ended.ensures.ended
+    ended_since c.args.load.now c.args.site.now.size c.args.site.now.limits.steps c.args.line c.loop-done.labour.line c.ended.result c.loop-done.invariant.same_line c.ended.ensures.ended
 
 pub take_step-requires-clause-running : goal.take_step-requires-clause-running
 take_step-requires-clause-running g c = c.in_default.ensures.running
@@ -89,7 +89,7 @@ ended-requires-2-clause-few g c = omega (arith, c.loop-done.invariant.count, c.s
 
 pub returns-clause-ended : goal.returns-clause-ended
 returns-clause-ended g c =
-    ended_since c.args.load.now c.args.site.now.central c.args.site.now.limits.steps c.args.line c.loop-done.labour.line c.ended-2.result c.loop-done.invariant.same_line c.ended-2.ensures.ended
+    ended_since c.args.load.now c.args.site.now.size c.args.site.now.limits.steps c.args.line c.loop-done.labour.line c.ended-2.result c.loop-done.invariant.same_line c.ended-2.ensures.ended
 
 pub returns-in-Some-take_step-clause-patience : goal.returns-in-Some-take_step-clause-patience
 returns-in-Some-take_step-clause-patience g c =
@@ -108,3 +108,6 @@ returns-clause-patience g c =
 pub take_step-requires-clause-countable : goal.take_step-requires-clause-countable
 take_step-requires-clause-countable g c =
     omega (arith, c.loop-done.invariant.few_tries, c.loop-done-test.true, c.steps-done-end.ensures.value, c.steps-done-end.ensures.sound.most_steps, c.patience-patience.ensures.value)
+
+pub take_step-requires-clause-central : goal.take_step-requires-clause-central
+take_step-requires-clause-central g c = ap length c.loop-done.invariant.same_line.central ∙ c.requires.central

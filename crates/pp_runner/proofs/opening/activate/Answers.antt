@@ -1,4 +1,4 @@
-use Rattle.std.proofs.Common.{◌<◌, arith}
+use Rattle.std.proofs.Common.{◌<◌, ap, arith}
 use Rattle.pp_channel.specs.ChannelNo.{channel_count, channel_index}
 use Rattle.pp_channel.specs.declared.chan_op.ChanOp.{ChanOp}
 use Rattle.pp_channel.proofs.OpeningLemmas.{activated, never_worn}
@@ -11,3 +11,6 @@ pub returns-clause-written : goal.returns-clause-written
 returns-clause-written g c =
     let below : channel_index c.args.channel < channel_count = omega (arith, c.index-index.ensures.below, c.index-index.ensures.place) in
     (activated c.args.line.now c.act.new.self c.args.channel c.in-Ok._done below c.requires.alone c.requires.untold c.in-Ok.ensures.ok).written
+
+pub returns-clause-central : goal.returns-clause-central
+returns-clause-central g c = ap (λ l. l.view.central) c.in-Ok.ensures.ok.after_is

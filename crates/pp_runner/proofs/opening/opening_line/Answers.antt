@@ -35,6 +35,7 @@ loop-place-preserved g c =
             room = omega (arith, room, c.loop-place.invariant.room);
             shares = ap (λ l. l.view.shares) w.line-is ∙ (w.activate.ensures.shares ∙ c.loop-place.invariant.shares);
             whole = ap (λ l. l.view.whole) w.line-is ∙ (w.activate.ensures.whole ∙ c.loop-place.invariant.whole);
+            central = ap (λ l. l.view.central) w.line-is ∙ (w.activate.ensures.central ∙ c.loop-place.invariant.central);
           }
       | else-opened w ↦
           let not_opened : is_opened (channel_number place) m ≡ false = sym (ap (λ n. is_opened n m) c.at-channel.ensures.number) ∙ (sym c.opened.ensures ∙ w.if-opened.false) in
@@ -46,6 +47,7 @@ loop-place-preserved g c =
             room = omega (arith, room, c.loop-place.invariant.room);
             shares = ap (λ l. l.view.shares) w.line-is ∙ c.loop-place.invariant.shares;
             whole = ap (λ l. l.view.whole) w.line-is ∙ c.loop-place.invariant.whole;
+            central = ap (λ l. l.view.central) w.line-is ∙ c.loop-place.invariant.central;
           }
     ]
 

@@ -12,4 +12,5 @@ invariant-loop-place g l = record {
   room : channel_count ≤ l.line.log.room + l.place;
   shares : l.line.view.shares ≡ l.shares;
   whole : l.line.view.whole ≡ l.shares;
+  central : l.line.view.central ≡ l.machine.central;
 }

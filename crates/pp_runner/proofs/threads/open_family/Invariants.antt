@@ -14,5 +14,6 @@ invariant-loop-count g l = record {
   whole : l.first.view.whole ≡ processors_in l.machine.profile + 1;
   shares : l.first.view.shares + l.count ≡ processors_in l.machine.profile + 1;
   fresh : All (IsSplitFrom l.first l.room) l.lines.items;
+  central : l.first.view.central ≡ l.machine.central;
   made : vec_len l.lines ≡ l.count;
 }

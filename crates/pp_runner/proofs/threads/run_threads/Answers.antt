@@ -36,26 +36,26 @@ close_with-requires g c =
     let ended = c.in_ok-workers.ensures in
     let few = most_processors p in
     let each : length loads ≡ vec_len c.in_ok-first.lines = length-take-le (vec_len c.in_ok-first.lines) c.args.machine.now.processors (omega (arith, c.turns-turns.ensures.sound.processors, few, many)) in
-    let shares = ended_shares c.in_ok-new.field-0 steps (2 * steps + 1) c.of-family.result.value loads workers lines first ended in (
+    let shares = ended_shares c.size.result steps (2 * steps + 1) c.of-family.result.value loads workers lines first ended in (
       -- what lines leave together takes as much memory as a report
       c.requires-raw.1.1.1.1.1.1.1.1.0,
       (
         subst (λ (family : LineState). All (λ l. l.table ≡ family.table) lines) c.of-family.ensures
-            (ended_tables c.in_ok-new.field-0 steps (2 * steps + 1) c.of-family.result.value loads workers lines ended),
+            (ended_tables c.size.result steps (2 * steps + 1) c.of-family.result.value loads workers lines ended),
         omega (arith, shares, each, many, c.in_ok-first.ensures.share, c.in_ok-first.ensures.whole),
       ),
     )
 
 pub with_logs-requires : goal.with_logs-requires
 with_logs-requires g c =
-    logs_count c.in_ok-new.field-0 c.args.limits.steps (2 * c.args.limits.steps + 1) c.of-family.result.value (take (vec_len c.in_ok-first.lines) c.args.machine.now.processors)
+    logs_count c.size.result c.args.limits.steps (2 * c.args.limits.steps + 1) c.of-family.result.value (take (vec_len c.in_ok-first.lines) c.args.machine.now.processors)
     c.in_ok-workers.field-0.workers.items c.in_ok-workers.field-0.lines.items c.in_ok-logs.field-0.logs.items c.in_ok-logs.ensures.logs c.in_ok-workers.ensures
 
 pub returns : goal.returns
 returns g c =
     let p = c.args.machine.now.profile in
     let steps = c.args.limits.steps in
-    let size = c.in_ok-new.field-0 in
+    let size = c.size.result in
     let first = c.in_ok-first.first in
     let many = c.in_ok-first.ensures.each_processor in
     let processors = c.args.machine.now.processors in
@@ -111,6 +111,7 @@ run_first-requires-after_bounds g c κs within = record {
   each = c.turns-turns.ensures.sound.processors;
   count = let most = most_processors c.args.machine.now.profile in omega (arith, most, c.in_ok-first.ensures.each_processor, c.in_ok-first.lines.ok.0);
   some = let some = some_processors c.args.machine.now.profile in omega (arith, some, c.in_ok-first.ensures.each_processor, c.in_ok-first.lines.ok.0);
+  central = ap (λ (l : LineState). length l.view.central) c.of-family.ensures ∙ (ap length c.in_ok-first.ensures.central ∙ sym (search rules));
   fresh = subst (λ (family : LineState). All (IsSplitFrom family (2 * c.args.limits.steps + 1)) c.in_ok-first.lines.items) (sym c.of-family.ensures)
       (subst (λ (steps : ℕ). All (IsSplitFrom c.in_ok-first.first (2 * steps + 1)) c.in_ok-first.lines.items) c.steps.ensures.value c.in_ok-first.ensures.fresh);
 }
