@@ -5,8 +5,8 @@
 use Rattle.std.specs.Prelude.{ℕ, IsTrue, List}
 use Rattle.pp_channel.specs.ChannelNo.{names_channel}
 use Rattle.pp_channel.specs.History.{history_on}
-use Rattle.pp_channel.specs.Order.{made_on}
-use Rattle.pp_channel.specs.declared.entry.Entry.{Entry}
+use Rattle.pp_channel.specs.Order.{entries_among, made_on}
+use Rattle.pp_channel.specs.declared.access.Access.{Access}
 use Rattle.pp_machine.specs.Headline.{HoldsOnChannel, HoldsOnEachChannel, opening_history}
 use Rattle.pp_machine.specs.MachineState.{MachineState}
 use Rattle.pp_machine.specs.Run.{run}
@@ -15,13 +15,13 @@ use Rattle.pp_runner.specs.Report.{IsReportOf}
 use Rattle.pp_runner.specs.declared.report.Report.{Report}
 use Rattle.pp_serial.specs.Serial.{IsSerialRunOf, NoCentralWordIsRead}
 
--- It holds of a report by threads, whose events came in this order: what holds of each channel after
+-- It holds of a report by threads, whose accesses came in this order: what holds of each channel after
 -- any list of steps holds of each channel here; and where no worker read a central word, some list
 -- of steps does what the workers did, and leads to the very processors and histories.
-pub record HoldsOfThreads {A : Type 0} (m : MachineState) (report : Report A) (order : List Entry)
+pub record HoldsOfThreads {A : Type 0} (m : MachineState) (report : Report A) (order : List Access)
     : Type 0 where
   pub channels : (c : ℕ) → IsTrue (names_channel c) → HoldsOnChannel (opening_history c m)
-      (made_on c order) (history_on c report.channels)
+      (made_on c (entries_among order)) (history_on c report.channels)
   pub steps : NoCentralWordIsRead report → (ns : List ℕ) × IsSerialRunOf ns m report
 
 -- It holds of each run of a machine: by any list of steps, and by threads within any limits.

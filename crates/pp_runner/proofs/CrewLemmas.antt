@@ -1,9 +1,12 @@
 -- A worker and its line more.
-use Rattle.std.proofs.Common.{◌≡◌, ℕ, suc, ◌+◌, ◌<◌, ◌≤◌, List, [], ◌∷◌, ◌++◌, length, take, refl, sym, ap, ◌∙◌, subst, arith}
+use Rattle.std.proofs.Common.{◌≡◌, ℕ, suc, ◌+◌, ◌*◌, ◌<◌, ◌≤◌, List, [], ◌∷◌, ◌++◌, length, take, refl, sym, ap, ◌∙◌, subst, arith}
 use Rattle.std.specs.Prelude.{Some, Result, Ok, Err, IfOk, All, slice_index_or}
 use Rattle.std.proofs.lemmas.List.{take_more, length-append}
 use Rattle.std.proofs.lemmas.List.Elements.{All-pop, All-push, All-weaker}
+use Rattle.list_facts.specs.Subsequence.{IsSubsequence}
+use Rattle.list_facts.specs.Subsequences.{stands_more}
 use Rattle.pp_channel.specs.LineState.{LineState, IsSplitFrom}
+use Rattle.pp_channel.specs.Order.{entries_among}
 use Rattle.pp_channel.specs.LineView.{parent_view}
 use Rattle.pp_channel.specs.LineLog.{seen_on}
 use Rattle.pp_machine.specs.MachineState.{MachineState, processor_of}
@@ -14,7 +17,7 @@ use Rattle.pp_runner.proofs.LabourLemmas.{work_begun}
 use Rattle.pp_runner.proofs.LogLemmas.{stands_done}
 use Rattle.pp_runner.proofs.LineLemmas.{operated_least, same_line_still, same_line_twice}
 use Rattle.pp_runner.specs.Crew.{AreReady, IsEnded, HasEnded, AreEnded}
-use Rattle.pp_runner.specs.Labour.{IsAtWork, HasSeen, IsSameLine, HasOperated}
+use Rattle.pp_runner.specs.Labour.{IsAtWork, IsUnused, HasSeen, IsSameLine, HasOperated}
 use Rattle.pp_runner.specs.End.{IsEnd, WornWithCause}
 use Rattle.pp_runner.specs.WorkerReport.{AreWorkers}
 use Rattle.pp_runner.specs.declared.crew.Crew.{Crew}
@@ -41,7 +44,7 @@ ended_push (p ∷ loads) size steps room family (v ∷ ws) [] load w l all one =
 ended_push (p ∷ loads) size steps room family (v ∷ ws) (k ∷ ls) load w l all one = (all.0, ended_push loads size steps room family ws ls load w l all.1 one)
 
 -- a worker that makes no further step, and whose line has its log
-pub work_ended : {A : Type 0} (load : Processor) (size steps : ℕ) (line : LineState) (w : Worker A) → IsAtWork load size steps w.pp w.answers.items line.log → length w.answers.items ≤ steps
+pub work_ended : {A : Type 0} (load : Processor) (size steps : ℕ) (line : LineState) (w : Worker A) → IsAtWork load size steps w.pp w.answers.items line → length w.answers.items ≤ steps
     → IsEnd steps w.finish w.pp w.answers.items line.log.entries → WornWithCause (λ c. seen_on c line.view.seen) w.finish w.pp → IsEnded load size steps line w line
 work_ended load size steps line w work few finish worn =
     let s = work_begun work in record {
@@ -57,6 +60,15 @@ work_ended load size steps line w work few finish worn =
         few_entries = omega (arith, s.few, work.few_entries);
         finish = finish;
       };
+      made = record {
+        accesses = work.made.accesses;
+        given = work.made.given;
+        program_order = work.made.program_order;
+        only = work.made.only;
+        accessed = work.made.accessed;
+        logged = subst (IsSubsequence (entries_among work.made.accesses)) (sym s.is) (stands_more (entries_among work.made.accesses) work.done s.rest work.made.logged);
+        written = work.made.written;
+      };
       worn = worn;
       same_line = same_line_still line;
     }
@@ -65,7 +77,7 @@ work_ended load size steps line w work few finish worn =
 pub ended_since : {A : Type 0} (load : Processor) (size steps : ℕ) (line mid : LineState) (ended : Ended A) → IsSameLine line mid
     → IsEnded load size steps mid ended.worker ended.line → IsEnded load size steps line ended.worker ended.line
 ended_since load size steps line mid ended same one =
-    record { worker = one.worker; worn = one.worn; same_line = same_line_twice line mid ended.line same one.same_line }
+    record { worker = one.worker; made = one.made; worn = one.worn; same_line = same_line_twice line mid ended.line same one.same_line }
 
 -- a worker that has given up, with the line that it had at first, at the beginning of its last step, and at its end
 pub gave_up : {A : Type 0} (patience : ℕ) (line mid after : LineState) (finish : End) (ended : Ended A) → length line.view.found ≤ length mid.view.found → (finish ≡ Patience → HasOperated patience mid after)
@@ -106,9 +118,14 @@ taken_of m size room family line lines others is ready =
       central = ready.central;
     }
 
--- central memory has its size beside the last line too
-pub taken_central : (m : MachineState) (size room : ℕ) (family line : LineState) (others : List LineState) → IsTaken m size room family line others → length line.view.central ≡ size
-taken_central m size room family line others taken = ap (λ v. length v.central) taken.fresh.view ∙ taken.central
+-- nothing was asked of the last line
+pub taken_unused : (m : MachineState) (size steps : ℕ) (family line : LineState) (others : List LineState) → IsTaken m size (2 * steps + 1) family line others → IsUnused size steps line
+taken_unused m size steps family line others taken = record {
+  log = taken.fresh.log;
+  central = ap (λ v. length v.central) taken.fresh.view ∙ taken.central;
+  written = ap (λ v. v.written) taken.fresh.view;
+  program_orders = ap (λ v. v.program_orders) taken.fresh.view;
+}
 
 -- where there were several lines, some are left
 pub some_left : (lines others : List LineState) (line : LineState) → lines ≡ others ++ line ∷ [] → 1 < length lines → 0 < length others

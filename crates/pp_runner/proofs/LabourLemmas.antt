@@ -34,8 +34,13 @@ use Rattle.pp_runner.proofs.LogLemmas.{looked_at, BeginsWith, begins_with, event
 use Rattle.pp_runner.proofs.ReplyLemmas.{sight_of, reply_to_channel}
 use Rattle.pp_runner.specs.WorkerReport.{OfEachAnswer, IsBySize, event_in, events_in, sights_in}
 use Rattle.list_facts.specs.Subsequence.{IsSubsequence}
-use Rattle.list_facts.specs.Subsequences.{stands_push}
-use Rattle.pp_runner.specs.Labour.{HasEntries, IsAtWork, IsAnswered, IsNoted}
+use Rattle.list_facts.specs.Subsequences.{stands_more, stands_push}
+use Rattle.pp_channel.specs.LineState.{LineState}
+use Rattle.pp_channel.specs.Order.{writes_among}
+use Rattle.pp_channel.specs.declared.rule.LineView.{LineView}
+use Rattle.pp_runner.proofs.AccessLemmas.{made_more, made_still, no_writes, numbered}
+use Rattle.pp_runner.specs.Accesses.{accesses_by}
+use Rattle.pp_runner.specs.Labour.{HasEntries, HasLooked, HasMade, IsAtWork, IsAnswered, IsNoted, IsUnused}
 use Rattle.pp_runner.specs.End.{WasHeld, NeedsChannel}
 
 -- what is true of each answer is true of each of one more
@@ -93,9 +98,10 @@ among_sights (needs.Read a) x = refl
 among_sights (needs.Write a w) x = refl
 
 -- a log after the sights of an answer, where the steps before it have these entries
-record IsLogged (ss : List (OfChannel Seen)) (done : List Entry) (before after : LogState) : Type 0 where
+record IsLogged (number : ℕ) (ss : List (OfChannel Seen)) (done : List Entry) (before after : LogState) : Type 0 where
   pub events : events_in after.entries ≡ events_in before.entries ++ events_among ss
   pub sights : (old : List (OfChannel Seen)) → IsSubsequence old (sights_in done) → IsSubsequence (old ++ ss) (sights_in after.entries)
+  pub stand : (old : List Entry) → IsSubsequence old done → IsSubsequence (old ++ numbered number ss) after.entries
   pub few : length after.entries ≤ length done + 2 * length ss
   pub room : after.room + length after.entries ≡ before.room + length before.entries
 
@@ -107,7 +113,7 @@ record IsHeldAt (ss : List (OfChannel Seen)) (log : LogState) : Type 0 where
   pub looked : IsTrue (is_look_at channel (last_or None log.entries))
 
 logged_did : (c number : ℕ) (what : Seen) (done : List Entry) (before after : LogState) → 1 ≤ before.room → BeginsWith done before → after ≡ appended before (record { channel = c; number = number; what = what })
-    → IsLogged (record { channel = c; what = what } ∷ []) done before after
+    → IsLogged number (record { channel = c; what = what } ∷ []) done before after
 logged_did c number what done before after room s is =
     let entry : Entry = record { channel = c; number = number; what = what } in
     let entries : after.entries ≡ before.entries ++ entry ∷ [] = ap (λ l. l.entries) is in
@@ -115,26 +121,28 @@ logged_did c number what done before after room s is =
     let left : after.room ≡ before.room - 1 = ap (λ l. l.room) is in record {
       events = ap events_in entries ∙ events_in-push before.entries (entry ∷ []);
       sights = λ old h. subst (λ (l : List (OfChannel Seen)). IsSubsequence (old ++ record { channel = c; what = what } ∷ []) l) (sym (ap sights_in entries ∙ sights_in-push before.entries (entry ∷ []))) (stands_push old (sights_in before.entries) (record { channel = c; what = what }) (stands_done done before old s h));
+      stand = λ old h. subst (λ (l : List Entry). IsSubsequence (old ++ entry ∷ []) l) (sym entries) (stands_push old before.entries entry (subst (IsSubsequence old) (sym s.is) (stands_more old done s.rest h)));
       few = omega (arith, s.few, n);
       room = omega (arith, n, left);
     }
 
 logged_saw : (c number : ℕ) (what : Seen) (done : List Entry) (look : Option Entry) (before after : LogState) → 1 ≤ before.room → HasEntries done look before → BeginsWith done before
     → (before.kept ≡ false → IsTrue (is_look_at c (last_or None before.entries))) → after ≡ looked before (record { channel = c; number = number; what = what })
-    → IsLogged (record { channel = c; what = what } ∷ []) done before after
+    → IsLogged number (record { channel = c; what = what } ∷ []) done before after
 logged_saw c number what done look before after room b s held is =
     let entry : Entry = record { channel = c; number = number; what = what } in
     let l = looked_at done look before entry b held in
     let entries : after.entries ≡ done ++ entry ∷ [] = ap (λ l. l.entries) is ∙ l.entries in record {
       events = ap events_in entries ∙ (events_in-push done (entry ∷ []) ∙ ap (λ l. l ++ events_in (entry ∷ [])) (events_done done before s));
       sights = λ old h. subst (λ (l : List (OfChannel Seen)). IsSubsequence (old ++ record { channel = c; what = what } ∷ []) l) (sym (ap sights_in entries ∙ sights_in-push done (entry ∷ []))) (stands_push old (sights_in done) (record { channel = c; what = what }) h);
+      stand = λ old h. subst (λ (l : List Entry). IsSubsequence (old ++ entry ∷ []) l) (sym entries) (stands_push old done entry h);
       few = omega (arith, ap length entries, length-append done (entry ∷ []));
       room = ap (λ l. l.room + length l.entries) is ∙ l.room room;
     }
 
 logged_as : (c number : ℕ) (what : Seen) (done : List Entry) (look : Option Entry) (before after : LogState) → 1 ≤ before.room → HasEntries done look before → BeginsWith done before
     → (before.kept ≡ false → IsTrue (is_look_at c (last_or None before.entries))) → after ≡ with_seen before c number (Some what)
-    → IsLogged (record { channel = c; what = what } ∷ []) done before after
+    → IsLogged number (record { channel = c; what = what } ∷ []) done before after
 logged_as c number (Did e) done look before after room b s held is = logged_did c number (Did e) done before after room s is
 logged_as c number (Saw f) done look before after room b s held is = logged_saw c number (Saw f) done look before after room b s held is
 
@@ -148,16 +156,17 @@ none_held : (log : LogState) → IsHeldAt [] log → ⊥
 none_held log h = nil_only _ h.only
 
 -- without a sight the log stays, and has no look that held the processor
-logged_none : (done : List Entry) (look : Option Entry) (before after : LogState) → HasEntries done look before → (before.kept ≡ false → ⊥) → after ≡ before → IsLogged [] done before after
-logged_none done None before after b held is =
+logged_none : (number : ℕ) (done : List Entry) (look : Option Entry) (before after : LogState) → HasEntries done look before → (before.kept ≡ false → ⊥) → after ≡ before → IsLogged number [] done before after
+logged_none number done None before after b held is =
     let entries : after.entries ≡ before.entries = ap (λ l. l.entries) is in
     let whole : before.entries ≡ done = b.all ∙ append-nil done in record {
       events = ap events_in entries ∙ sym (append-nil (events_in before.entries));
       sights = λ old h. subst (λ (l : List (OfChannel Seen)). IsSubsequence l (sights_in after.entries)) (sym (append-nil old)) (subst (λ (l : List Entry). IsSubsequence old (sights_in l)) (sym (entries ∙ whole)) h);
+      stand = λ old h. subst (λ (l : List Entry). IsSubsequence l after.entries) (sym (append-nil old)) (subst (IsSubsequence old) (sym (entries ∙ whole)) h);
       few = omega (arith, ap length entries, ap length whole);
       room = ap (λ l. l.room + length l.entries) is;
     }
-logged_none done (Some look) before after b held is = absurd (held b.kept)
+logged_none number done (Some look) before after b held is = absurd (held b.kept)
 
 -- a single sight is at the channel at which the log ends with a look
 held_at_channel : (c : ℕ) (what : Seen) (log : LogState) → IsHeldAt (record { channel = c; what = what } ∷ []) log → IsTrue (is_look_at c (last_or None log.entries))
@@ -165,13 +174,13 @@ held_at_channel c what log h =
     let same : record { channel = c; what = what } ≡ record { channel = h.channel; what = h.what } = heads _ _ h.only in
     subst (λ (k : ℕ). IsTrue (is_look_at k (last_or None log.entries))) (sym (ap (λ (s : OfChannel Seen). s.channel) same)) h.looked
 
-logged : (ss : List (OfChannel Seen)) (done : List Entry) (look : Option Entry) (before after : LogState) → 1 ≤ before.room → HasEntries done look before → (before.kept ≡ false → IsHeldAt ss before) → IsNoted ss before after
-    → IsLogged ss done before after
-logged [] done look before after room b held is = logged_none done look before after b (λ k. none_held before (held k)) is
-logged (s ∷ []) done look before after room b held is =
+logged : (number : ℕ) (ss : List (OfChannel Seen)) (done : List Entry) (look : Option Entry) (before after : LogState) → 1 ≤ before.room → HasEntries done look before → (before.kept ≡ false → IsHeldAt ss before) → IsNoted number ss before after
+    → IsLogged number ss done before after
+logged number [] done look before after room b held is = logged_none number done look before after b (λ k. none_held before (held k)) is
+logged number (s ∷ []) done look before after room b held is =
     let at : before.kept ≡ false → IsTrue (is_look_at s.channel (last_or None before.entries)) = λ k. held_at_channel s.channel s.what before (held k) in
-    logged_as s.channel is.0 s.what done look before after room b (begins_with done look before b (λ k. (s.channel, at k))) at is.1
-logged (s ∷ t ∷ more) done look before after room b held is = absurd is
+    logged_as s.channel number s.what done look before after room b (begins_with done look before b (λ k. (s.channel, at k))) at is
+logged number (s ∷ t ∷ more) done look before after room b held is = absurd is
 
 -- where the processor was held and the answer fits, the only sight is at the channel at which it was held
 held_sight : (pp : Processor) (x : Answer) (log : LogState) → WasHeld pp log.entries → fits (need pp) x ≡ true → IsHeldAt (given_by seen_answered (need pp) x) log
@@ -197,12 +206,12 @@ one_sight (needs.Read a) x fit = omega arith
 one_sight (needs.Write a w) x fit = omega arith
 
 -- the log of a worker begins with the entries of its steps
-pub work_begun : {load pp : Processor} {size steps : ℕ} {xs : List Answer} {log : LogState} → (work : IsAtWork load size steps pp xs log) → BeginsWith work.done log
-work_begun {log = log} work = begins_with work.done work.look log work.has (λ k. ((work.held k).channel, (work.held k).looked))
+pub work_begun : {load pp : Processor} {size steps : ℕ} {xs : List Answer} {line : LineState} → (work : IsAtWork load size steps pp xs line) → BeginsWith work.done line.log
+work_begun {line = line} work = begins_with work.done work.look line.log work.has (λ k. ((work.held k).channel, (work.held k).looked))
 
 -- how much room a worker with steps left has
-pub room_left : (load : Processor) (size steps : ℕ) (pp : Processor) (xs : List Answer) (log : LogState) → IsAtWork load size steps pp xs log → length xs < steps → 1 ≤ log.room
-room_left load size steps pp xs log work fewer =
+pub room_left : (load : Processor) (size steps : ℕ) (pp : Processor) (xs : List Answer) (line : LineState) → IsAtWork load size steps pp xs line → length xs < steps → 1 ≤ line.log.room
+room_left load size steps pp xs line work fewer =
     let s = work_begun work in
     omega (arith, s.few, work.few_entries, work.few_sights, work.room)
 
@@ -210,14 +219,16 @@ true_kept : (kept after : LogState) → kept ≡ record after { kept = true } �
 true_kept kept after is k = let e : kept.kept ≡ true = ap (λ l. l.kept) is in cc
 
 -- a step that moved the processor
-pub work_moved : (load : Processor) (size steps : ℕ) (pp new : Processor) (xs : List Answer) (x : Answer) (before after kept : LogState) → IsAtWork load size steps pp xs before →
-    length xs < steps → IsAnswered size (need pp) x before after → outcome pp x ≡ Moved → new ≡ processor_after pp x → kept ≡ record after { kept = true } →
+pub work_moved : (load : Processor) (size steps : ℕ) (pp new : Processor) (xs : List Answer) (x : Answer) (before after kept : LineState) → IsAtWork load size steps pp xs before →
+    length xs < steps → IsAnswered size (need pp) x before after → outcome pp x ≡ Moved → new ≡ processor_after pp x → kept ≡ record after { log = record after.log { kept = true } } →
     IsAtWork load size steps new (xs ++ x ∷ []) kept
 work_moved load size steps pp new xs x before after kept work fewer told moved new_is kept_is =
     let same : pp ≡ replayed load xs = work.pp_is in
     let fit : fits (need (replayed load xs)) x ≡ true = subst (λ (q : Processor). fits (need q) x ≡ true) same told.fits in
-    let room : 1 ≤ before.room = room_left load size steps pp xs before work fewer in
-    let log = logged (given_by seen_answered (need pp) x) work.done work.look before after room work.has (λ k. held_sight pp x before (work.held k) told.fits) told.noted in
+    let room : 1 ≤ before.log.room = room_left load size steps pp xs before work fewer in
+    let log = logged told.number (given_by seen_answered (need pp) x) work.done work.look before.log after.log room work.has (λ k. held_sight pp x before.log (work.held k) told.fits) told.noted in
+    let made = made_more load pp size xs x work.done after.log.entries before after work.made told same work.all_given (λ old h. log.stand old h) in
+    let log_is : kept.log ≡ record after.log { kept = true } = ap (λ l. l.log) kept_is in
     let n : length (xs ++ x ∷ []) ≡ length xs + 1 = length-append xs (x ∷ []) in
     let more : sights_given load (xs ++ x ∷ []) ≡ sights_given load xs ++ given_by seen_answered (need pp) x =
     told_along-push seen_answered xs load x work.all_given fit ∙ ap (λ q. sights_given load xs ++ given_by seen_answered (need q) x) (sym same) in
@@ -227,16 +238,17 @@ work_moved load size steps pp new xs x before after kept work fewer told moved n
       all_given = given_count-push xs load x work.all_given fit;
       all_moved = each_push (λ q y. outcome q y ≡ Moved) load xs x work.all_moved (ap (λ q. outcome q x) (sym same) ∙ moved);
       by_size = each_push (λ q y. IsBySize size (need q) y) load xs x work.by_size (subst (λ (q : Processor). IsBySize size (need q) x) same told.by_size);
-      done = after.entries;
+      done = after.log.entries;
       look = None;
-      has = record { all = ap (λ l. l.entries) kept_is ∙ sym (append-nil after.entries); kept = ap (λ l. l.kept) kept_is };
-      events = ap (λ l. events_in l.entries) kept_is ∙ (log.events ∙ ((λ i. work.events i ++ among_sights (need pp) x i) ∙ (ap (λ q. events_given load xs ++ given_by event_answered (need q) x) same ∙ sym (told_along-push event_answered xs load x work.all_given fit))));
-      sights = subst (λ (ss : List (OfChannel Seen)). IsSubsequence ss (sights_in after.entries)) (sym more) (log.sights (sights_given load xs) work.sights);
-      monotone = subst (λ (l : List Entry). IsMonotone l) (sym (ap (λ l. l.entries) kept_is)) (told.monotone work.monotone);
+      has = record { all = ap (λ l. l.entries) log_is ∙ sym (append-nil after.log.entries); kept = ap (λ l. l.kept) log_is };
+      made = subst (λ (v : LineView). HasMade load (xs ++ x ∷ []) after.log.entries v) (sym (ap (λ l. l.view) kept_is)) made;
+      events = ap (λ l. events_in l.entries) log_is ∙ (log.events ∙ ((λ i. work.events i ++ among_sights (need pp) x i) ∙ (ap (λ q. events_given load xs ++ given_by event_answered (need q) x) same ∙ sym (told_along-push event_answered xs load x work.all_given fit))));
+      sights = subst (λ (ss : List (OfChannel Seen)). IsSubsequence ss (sights_in after.log.entries)) (sym more) (log.sights (sights_given load xs) work.sights);
+      monotone = subst (λ (l : List Entry). IsMonotone l) (sym (ap (λ l. l.entries) log_is)) (told.monotone work.monotone);
       few_entries = omega (arith, log.few, work.few_entries, count);
       few_sights = omega (arith, work.few_sights, count, one_sight (need pp) x told.fits, n);
-      held = λ k. absurd (true_kept kept after kept_is k);
-      room = ap (λ l. l.room + length l.entries) kept_is ∙ (log.room ∙ work.room);
+      held = λ k. absurd (true_kept kept.log after.log log_is k);
+      room = ap (λ l. l.room + length l.entries) log_is ∙ (log.room ∙ work.room);
     }
 
 -- a held answer is a look at the channel of the operation, which does more than look
@@ -258,25 +270,31 @@ hold pp x held fit =
     subst (λ (y : Answer). IsHold pp y) (sym held.1) (hold_of (need pp) pp held.0 refl (ap (fits (need pp)) (sym held.1) ∙ fit))
 
 -- a try at which the processor was held
-pub record IsHeldAtWork (load : Processor) (size steps : ℕ) (new : Processor) (xs : List Answer) (after : LogState) : Type 0 where
+pub record IsHeldAtWork (load : Processor) (size steps : ℕ) (new : Processor) (xs : List Answer) (after : LineState) : Type 0 where
   pub work : IsAtWork load size steps new xs after
-  pub was : WasHeld new after.entries
+  pub was : WasHeld new after.log.entries
 
-pub work_held : (load : Processor) (size steps : ℕ) (pp new : Processor) (xs : List Answer) (x : Answer) (before after : LogState) → IsAtWork load size steps pp xs before →
+pub work_held : (load : Processor) (size steps : ℕ) (pp new : Processor) (xs : List Answer) (x : Answer) (before after : LineState) → IsAtWork load size steps pp xs before →
     length xs < steps → IsAnswered size (need pp) x before after → IsHeldAnswer x → new ≡ pp → IsHeldAtWork load size steps new xs after
 work_held load size steps pp new xs x before after work fewer told held new_is =
-    let room : 1 ≤ before.room = room_left load size steps pp xs before work fewer in
+    let room : 1 ≤ before.log.room = room_left load size steps pp xs before work fewer in
     let h = hold pp x held told.fits in
-    let noted : IsNoted (record { channel = h.channel; what = Saw h.flags } ∷ []) before after = subst (λ (ss : List (OfChannel Seen)). IsNoted ss before after) h.only told.noted in
-    let entry : Entry = record { channel = h.channel; number = noted.0; what = Saw h.flags } in
-    let before_held : before.kept ≡ false → IsTrue (is_look_at h.channel (last_or None before.entries)) =
-    λ k. held_at_channel h.channel (Saw h.flags) before (subst (λ (ss : List (OfChannel Seen)). IsHeldAt ss before) h.only (held_sight pp x before (work.held k) told.fits)) in
-    let look = looked_at work.done work.look before entry work.has before_held in
-    let entries : after.entries ≡ work.done ++ entry ∷ [] = ap (λ l. l.entries) noted.1 ∙ look.entries in
-    let log = logged_as h.channel noted.0 (Saw h.flags) work.done work.look before after room work.has (work_begun work) before_held noted.1 in
-    let last : last_or None after.entries ≡ Some entry = ap (last_or None) entries ∙ last_or-push None work.done entry in
-    let was : WasHeld pp after.entries = record { channel = h.channel; needs = h.needs; looked = ap (is_look_at h.channel) last ∙ eq-eqb h.channel h.channel refl } in
-    let new_was : WasHeld new after.entries = subst (λ (q : Processor). WasHeld q after.entries) (sym new_is) was in
+    let noted : IsNoted told.number (record { channel = h.channel; what = Saw h.flags } ∷ []) before.log after.log = subst (λ (ss : List (OfChannel Seen)). IsNoted told.number ss before.log after.log) h.only told.noted in
+    let entry : Entry = record { channel = h.channel; number = told.number; what = Saw h.flags } in
+    let before_held : before.log.kept ≡ false → IsTrue (is_look_at h.channel (last_or None before.log.entries)) =
+    λ k. held_at_channel h.channel (Saw h.flags) before.log (subst (λ (ss : List (OfChannel Seen)). IsHeldAt ss before.log) h.only (held_sight pp x before.log (work.held k) told.fits)) in
+    let look = looked_at work.done work.look before.log entry work.has before_held in
+    let entries : after.log.entries ≡ work.done ++ entry ∷ [] = ap (λ l. l.entries) noted ∙ look.entries in
+    let log = logged_as h.channel told.number (Saw h.flags) work.done work.look before.log after.log room work.has (work_begun work) before_held noted in
+    let last : last_or None after.log.entries ≡ Some entry = ap (last_or None) entries ∙ last_or-push None work.done entry in
+    let was : WasHeld pp after.log.entries = record { channel = h.channel; needs = h.needs; looked = ap (is_look_at h.channel) last ∙ eq-eqb h.channel h.channel refl } in
+    let new_was : WasHeld new after.log.entries = subst (λ (q : Processor). WasHeld q after.log.entries) (sym new_is) was in
+    let none : writes_among (accesses_by told.number (need pp) x) ≡ [] = ap (λ n. writes_among (accesses_by told.number n x)) h.needs.is ∙ no_writes told.number h.channel h.needs.operation x in
+    let looked : HasLooked before after = record {
+      more = told.more;
+      program_orders = told.program_orders;
+      written = told.written ∙ (ap (λ ws. before.view.written ++ ws) none ∙ append-nil before.view.written);
+    } in
     let same : IsAtWork load size steps new xs after = record {
       pp_is = new_is ∙ work.pp_is;
       all_given = work.all_given;
@@ -284,8 +302,9 @@ work_held load size steps pp new xs x before after work fewer told held new_is =
       by_size = work.by_size;
       done = work.done;
       look = Some entry;
-      has = record { all = entries; kept = ap (λ l. l.kept) noted.1 ∙ look.kept };
-      events = log.events ∙ (append-nil (events_in before.entries) ∙ work.events);
+      has = record { all = entries; kept = ap (λ l. l.kept) noted ∙ look.kept };
+      made = made_still load xs work.done before after work.made looked;
+      events = log.events ∙ (append-nil (events_in before.log.entries) ∙ work.events);
       sights = work.sights;
       monotone = told.monotone work.monotone;
       few_entries = work.few_entries;
@@ -295,11 +314,32 @@ work_held load size steps pp new xs x before after work fewer told held new_is =
     } in
     record { work = same; was = new_was }
 
+-- a try that found its channel worn
+pub work_worn : (load : Processor) (size steps : ℕ) (pp : Processor) (xs : List Answer) (before after : LineState) → IsAtWork load size steps pp xs before → after.log ≡ before.log → HasLooked before after → IsAtWork load size steps pp xs after
+work_worn load size steps pp xs before after work same looked = record {
+  pp_is = work.pp_is;
+  all_given = work.all_given;
+  all_moved = work.all_moved;
+  by_size = work.by_size;
+  done = work.done;
+  look = work.look;
+  has = subst (HasEntries work.done work.look) (sym same) work.has;
+  made = made_still load xs work.done before after work.made looked;
+  events = ap (λ l. events_in l.entries) same ∙ work.events;
+  sights = work.sights;
+  monotone = subst (λ (l : LogState). IsMonotone l.entries) (sym same) work.monotone;
+  few_entries = work.few_entries;
+  few_sights = work.few_sights;
+  held = subst (λ (l : LogState). l.kept ≡ false → WasHeld pp l.entries) (sym same) work.held;
+  room = ap (λ l. l.room + length l.entries) same ∙ work.room;
+}
+
 -- a worker before its first step
-pub work_begins : (load pp : Processor) (size steps : ℕ) (xs : List Answer) (log : LogState) → pp ≡ load → xs ≡ [] → log ≡ empty_log (2 * steps + 1) → IsAtWork load size steps pp xs log
+pub work_begins : (load pp : Processor) (size steps : ℕ) (xs : List Answer) (line : LineState) → pp ≡ load → xs ≡ [] → IsUnused size steps line → IsAtWork load size steps pp xs line
 unfolding replayed given_count told_along
-work_begins load pp size steps xs log pp_is none is =
-    let entries : log.entries ≡ [] = ap (λ l. l.entries) is in record {
+work_begins load pp size steps xs line pp_is none unused =
+    let is : line.log ≡ empty_log (2 * steps + 1) = unused.log in
+    let entries : line.log.entries ≡ [] = ap (λ l. l.entries) is in record {
       pp_is = rw none pp_is;
       all_given = rw none refl;
       all_moved = rw none (λ i x e. absurd cc);
@@ -307,11 +347,12 @@ work_begins load pp size steps xs log pp_is none is =
       done = [];
       look = None;
       has = record { all = entries; kept = ap (λ l. l.kept) is };
+      made = record { accesses = []; given = rw none refl; program_order = []; only = unused.program_orders; accessed = tt; logged = tt; written = unused.written };
       events = rw (none, entries) refl;
       sights = rw none tt;
       monotone = rw entries (λ i j d below within. absurd (omega arith));
       few_entries = omega arith;
       few_sights = rw none (omega arith);
-      held = λ k. absurd (both_ways log.kept k (ap (λ l. l.kept) is));
+      held = λ k. absurd (both_ways line.log.kept k (ap (λ l. l.kept) is));
       room = omega (arith, ap length entries, ap (λ l. l.room) is);
     }

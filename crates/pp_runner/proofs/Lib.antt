@@ -1,4 +1,6 @@
 mod LogLemmas
+mod AccessLemmas
+mod LateAccesses
 mod ReplyLemmas
 mod LineLemmas
 mod LabourLemmas

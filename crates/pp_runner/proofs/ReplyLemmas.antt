@@ -1,11 +1,12 @@
 -- Replies of a line: each goes with its operation, and the log tells what it did or saw.
-use Rattle.std.proofs.Common.{◌≡◌, ℕ, true, List, [], ◌∷◌, map, Some, refl, sym, ap, ◌∙◌, subst, inl, inr}
+use Rattle.std.proofs.Common.{◌≡◌, ℕ, true, List, [], ◌∷◌, ◌++◌, map, Some, refl, sym, ap, ◌∙◌, subst, inl, inr}
 use Rattle.std.specs.Prelude.{take}
 use Rattle.std.specs.Option.{option_to_list}
 use Rattle.std.proofs.lemmas.Bool.{cases_eq}
+use Rattle.std.proofs.lemmas.List.{append-nil}
 use Rattle.pp_channel.specs.Answer.{IsAnswer, channel_state, seen_answered, flags_of}
 use Rattle.pp_channel.specs.LineLog.{LogState, with_seen, IsMonotone}
-use Rattle.pp_channel.specs.LineState.{LineState, IsActed, IsAnsweredBy, IsLost}
+use Rattle.pp_channel.specs.LineState.{LineState, IsActed, IsAnsweredBy, IsLost, IsWornOut}
 use Rattle.pp_channel.specs.History.{history_on}
 use Rattle.pp_channel.specs.declared.chan_op.ChanOp.{ChanOp}
 use Rattle.pp_channel.specs.declared.entry.Seen.{Seen}
@@ -17,7 +18,10 @@ use Rattle.pp_machine.specs.Replay.{OfChannel, fits, reply_fits, given_by}
 use Rattle.pp_machine.specs.declared.answer.Answer.{Answer}
 use Rattle.pp_machine.specs.declared.answer.Answer.TheVariants as answers
 use Rattle.pp_machine.specs.declared.need.Need.TheVariants as needs
-use Rattle.pp_runner.specs.Labour.{IsAnswered, IsNoted}
+use Rattle.pp_channel.specs.LineView.{look_by}
+use Rattle.pp_channel.specs.declared.access.Access.{Access}
+use Rattle.pp_runner.proofs.AccessLemmas.{all_made, channel_accessed, no_writes}
+use Rattle.pp_runner.specs.Labour.{HasLooked, IsAnswered, IsNoted}
 
 answer_fits : (h after : List Event) (op : ChanOp) (reply : Reply) → IsAnswer h op reply after → reply_fits op reply ≡ true
 answer_fits h after op reply is =
@@ -65,13 +69,26 @@ reply_to_channel c op (answers.Wrote written) fit = absurd cc
 
 -- what a line answers, as the answer to the need
 pub acted_answer : (size c : ℕ) (op : ChanOp) (r : Numbered) (before after : LineState) → IsActed before c op r after → (IsMonotone before.log.entries → IsMonotone after.log.entries)
-    → IsAnswered size (needs.Channel c op) (answers.Channel r.reply) before.log after.log
+    → IsAnswered size (needs.Channel c op) (answers.Channel r.reply) before after
 acted_answer size c op r before after acted monotone =
     let fit : reply_fits op r.reply ≡ true = line_reply_fits (history_on c acted.histories) op r acted.answer in
     let s = sight_of c op r.reply fit in
     let log : after.log ≡ with_seen before.log c r.number (Some s.what) = ap (λ l. l.log) acted.after_is ∙ s.noted before.log r.number in record {
       fits = fit;
       by_size = tt;
-      noted = subst (λ (ss : List (OfChannel Seen)). IsNoted ss before.log after.log) (sym s.is) (r.number, log);
+      number = r.number;
+      noted = subst (λ (ss : List (OfChannel Seen)). IsNoted r.number ss before.log after.log) (sym s.is) log;
+      more = all_made before after c op r acted;
+      program_orders = ap (λ l. l.view.program_orders) acted.after_is;
+      accessed = channel_accessed before after c op r acted;
+      written = ap (λ l. l.view.written) acted.after_is ∙ sym (ap (λ ws. before.view.written ++ ws) (no_writes r.number c op (answers.Channel r.reply)) ∙ append-nil before.view.written);
       monotone = monotone;
     }
+
+-- a channel was found worn
+pub worn_looked : (before after : LineState) (c : ℕ) (op : ChanOp) → IsWornOut before c op after → HasLooked before after
+worn_looked before after c op worn = record {
+  more = Access.OnChannel (look_by c worn.word) ∷ [];
+  program_orders = ap (λ l. l.view.program_orders) worn.after_is;
+  written = ap (λ l. l.view.written) worn.after_is;
+}

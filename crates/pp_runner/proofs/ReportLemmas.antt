@@ -1,20 +1,23 @@
 -- Workers that have ended, each with the log of its line.
 use Rattle.std.proofs.Common.{◌≡◌, ℕ, zero, suc, ◌+◌, ◌<◌, ◌≤◌, List, [], ◌∷◌, ◌++◌, map, length, set, refl, sym, ap, ◌∙◌, subst, arith}
 use Rattle.std.specs.Prelude.{All, Option, None, Some, slice_get}
-use Rattle.std.specs.List.{flat_map}
+use Rattle.std.specs.List.{filter, flat_map}
 use Rattle.std.specs.declared.vec.Vec.{Vec}
 use Rattle.std.proofs.lemmas.List.Elements.{All-append, All-cons, All-head, All-nil, All-tail}
 use Rattle.std.proofs.lemmas.Option.{slice_get_within}
 use Rattle.pp_channel.specs.LineState.{LineState, joined, all_joined}
-use Rattle.list_facts.specs.Subsequence.{IsSubsequence}
-use Rattle.pp_channel.proofs.OrderLemmas.{one_program_order}
-use Rattle.pp_channel.specs.Order.{ExtendsEach, IsDrawnFrom, entries_among}
+use Rattle.pp_channel.specs.History.{history_on}
+use Rattle.pp_channel.specs.Law.{IsPrefix}
+use Rattle.pp_channel.specs.Order.{ExtendsEach, IsDrawnFrom, writes_among}
+use Rattle.pp_channel.specs.declared.event.Event.{Event}
 use Rattle.pp_channel.specs.declared.access.Access.{Access}
 use Rattle.pp_channel.specs.LineLog.{seen_on}
 use Rattle.pp_channel.specs.declared.entry.Entry.{Entry}
 use Rattle.pp_machine.specs.Processor.{Processor}
 use Rattle.pp_runner.proofs.CrewLemmas.{same_seen}
 use Rattle.pp_runner.proofs.EndLemmas.{worn_later}
+use Rattle.pp_runner.proofs.LateAccesses.{is_late, late_accessed}
+use Rattle.pp_runner.specs.Accesses.{HaveAccessed}
 use Rattle.pp_runner.specs.Crew.{HasEnded, AreEnded}
 use Rattle.pp_runner.specs.Labour.{HasSeen, NoneOlder}
 use Rattle.pp_runner.specs.End.{WornWithCause}
@@ -132,38 +135,35 @@ module _ {A : Type 0} (size steps room : ℕ) (family : LineState) where
       (worn_later (λ c. seen_on c l.view.seen) happened w.finish w.pp (All-head (λ (k : LineState). (c : ℕ) → seen_on c k.view.seen ≤ happened c) l ls seen) all.0.ended.worn)
       (ended_worn loads ws ls logs happened (All-tail (λ (k : LineState). (c : ℕ) → seen_on c k.view.seen ≤ happened c) l ls seen) all.1)
 
-module _ {A : Type 0} (size steps room : ℕ) (family : LineState) where
-  -- each worker's line has one program order, so its log stands in the order that extends that
-  pub ended_stands : (P : List Entry → Type 0) (order : List Access) (happened : ℕ → ℕ) → HasSeen happened family → ((log : List Entry) → NoneOlder happened log → IsSubsequence log (entries_among order) → P log)
-      → (loads : List Processor) (ws : List (Worker A)) (ls : List LineState) → All (λ l. ExtendsEach order l.view.program_orders) ls → All (λ l. IsDrawnFrom l.view.program_orders l.log.entries) ls
-      → AreEnded loads size steps room family ws ls → All (λ l. P l.log.entries) ls
-  ended_stands P order happened has then [] [] [] program_orders stand all = All-nil (λ (l : LineState). P l.log.entries)
-  ended_stands P order happened has then [] [] (l ∷ ls) program_orders stand all = absurd all
-  ended_stands P order happened has then [] (w ∷ ws) ls program_orders stand all = absurd all
-  ended_stands P order happened has then (p ∷ loads) [] ls program_orders stand all = absurd all
-  ended_stands P order happened has then (p ∷ loads) (w ∷ ws) [] program_orders stand all = absurd all
-  ended_stands P order happened has then (p ∷ loads) (w ∷ ws) (l ∷ ls) program_orders stand all =
+-- the accesses of workers, and those of them that are writes
+pub record AreAccessed {A : Type 0} (loads : List Processor) (order : List Access) (ws : List (Worker A)) (ls : List LineState) : Type 0 where
+  pub accesses : List (List Access)
+  pub accessed : HaveAccessed loads order ws accesses
+  pub written : flat_map (λ l. l.view.written) ls ≡ flat_map writes_among accesses
+
+module _ {A : Type 0} (size steps room : ℕ) (family : LineState) (opening : ℕ → List Event) (histories : List (List Event)) (begins : (c : ℕ) → IsPrefix (opening c) (history_on c histories)) (has : HasSeen (λ c. length (opening c)) family) (order : List Access) where
+  pub ended_accessed : (loads : List Processor) (ws : List (Worker A)) (ls : List LineState) (logs : List (Vec Entry A)) → map (λ log. log.items) logs ≡ map (λ l. l.log.entries) ls
+      → All (λ l. ExtendsEach order l.view.program_orders) ls → All (λ l. IsDrawnFrom l.view.program_orders l.log.entries) ls → AreEnded loads size steps room family ws ls
+      → AreAccessed loads (filter (is_late opening histories begins) order) (with_logs logs ws) ls
+  ended_accessed [] [] [] [] same extends drawn all = record { accesses = []; accessed = tt; written = refl }
+  ended_accessed [] [] [] (log ∷ logs) same extends drawn all = record { accesses = []; accessed = tt; written = refl }
+  ended_accessed [] [] (l ∷ ls) logs same extends drawn all = absurd all
+  ended_accessed [] (w ∷ ws) ls logs same extends drawn all = absurd all
+  ended_accessed (p ∷ loads) [] ls logs same extends drawn all = absurd all
+  ended_accessed (p ∷ loads) (w ∷ ws) [] logs same extends drawn all = absurd all
+  ended_accessed (p ∷ loads) (w ∷ ws) (l ∷ ls) [] same extends drawn all = let none = ap length same in absurd (omega (arith, none))
+  ended_accessed (p ∷ loads) (w ∷ ws) (l ∷ ls) (log ∷ logs) same extends drawn all =
       let T : LineState → Type 0 = λ k. ExtendsEach order k.view.program_orders in
       let S : LineState → Type 0 = λ k. IsDrawnFrom k.view.program_orders k.log.entries in
-      let one : length l.view.program_orders ≡ 1 = all.0.ended.same_line.program_orders ∙ ap (λ v. length v.program_orders) all.0.fresh.view in
-      All-cons (λ (k : LineState). P k.log.entries) l ls
-      (then l.log.entries (begun_one size steps room family p w l happened has all.0) (one_program_order l.view.program_orders order l.log.entries one (All-head T l ls program_orders) (All-head S l ls stand)))
-      (ended_stands P order happened has then loads ws ls (All-tail T l ls program_orders) (All-tail S l ls stand) all.1)
-
-  -- what holds of the log of each line holds of the log that its worker is given
-  pub ended_each : (P : List Entry → Type 0) (loads : List Processor) (ws : List (Worker A)) (ls : List LineState) (logs : List (Vec Entry A)) → map (λ log. log.items) logs ≡ map (λ l. l.log.entries) ls
-      → AreEnded loads size steps room family ws ls → All (λ l. P l.log.entries) ls → All (λ w. P w.log.items) (with_logs logs ws)
-  ended_each P [] [] [] [] same all each = All-nil (λ (w : Worker A). P w.log.items)
-  ended_each P [] [] [] (log ∷ logs) same all each = All-nil (λ (w : Worker A). P w.log.items)
-  ended_each P [] [] (l ∷ ls) logs same all each = absurd all
-  ended_each P [] (w ∷ ws) ls logs same all each = absurd all
-  ended_each P (p ∷ loads) [] ls logs same all each = absurd all
-  ended_each P (p ∷ loads) (w ∷ ws) [] logs same all each = absurd all
-  ended_each P (p ∷ loads) (w ∷ ws) (l ∷ ls) [] same all each = let none = ap length same in absurd (omega (arith, none))
-  ended_each P (p ∷ loads) (w ∷ ws) (l ∷ ls) (log ∷ logs) same all each =
-      All-cons (λ (v : Worker A). P v.log.items) (record w { log = log }) (with_logs logs ws)
-      (subst P (sym (ap (head_of []) same)) (All-head (λ (k : LineState). P k.log.entries) l ls each))
-      (ended_each P loads ws ls logs (ap tail_of same) all.1 (All-tail (λ (k : LineState). P k.log.entries) l ls each))
+      let made = all.0.ended.made in
+      let more = ended_accessed loads ws ls logs (ap tail_of same) (All-tail T l ls extends) (All-tail S l ls drawn) all.1 in record {
+        accesses = made.accesses ∷ more.accesses;
+        accessed = (
+          late_accessed opening histories begins p order w log l made (begun_one size steps room family p w l (λ c. length (opening c)) has all.0) (All-head T l ls extends) (All-head S l ls drawn) (ap (head_of []) same),
+          more.accessed,
+        );
+        written = λ j. made.written j ++ more.written j;
+      }
 
 -- the logs of workers are those that they were given
 pub logs_given : {A : Type 0} (logs : List (Vec Entry A)) (ws : List (Worker A)) → length logs ≡ length ws → logs_of (with_logs logs ws) ≡ flat_map (λ log. log.items) logs

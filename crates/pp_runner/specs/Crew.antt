@@ -5,13 +5,13 @@ use Rattle.pp_channel.specs.LineLog.{seen_on}
 use Rattle.pp_machine.specs.MachineState.{MachineState}
 use Rattle.pp_machine.specs.Processor.{Processor}
 use Rattle.pp_machine.specs.PpNo.{processor_count}
-use Rattle.pp_runner.specs.Labour.{IsSameLine}
+use Rattle.pp_runner.specs.Labour.{HasMade, IsSameLine}
 use Rattle.pp_runner.specs.End.{WornWithCause}
 use Rattle.pp_runner.specs.WorkerReport.{IsLoggedWorker}
 use Rattle.pp_runner.specs.declared.worker.Worker.{Worker}
 
--- The workers of the barrel's first processors are ready, each on one of lines split from one, beside
--- central memory of this size.
+-- The workers of the barrel's first processors are ready, each on one of lines split from one,
+-- beside central memory of this size.
 pub record AreReady (m : MachineState) (size room : ℕ) (family : LineState)
     (lines : List LineState) : Type 0 where
   pub each : length m.processors ≡ processor_count
@@ -20,10 +20,12 @@ pub record AreReady (m : MachineState) (size room : ℕ) (family : LineState)
   pub central : length family.view.central ≡ size
   pub fresh : All (IsSplitFrom family room) lines
 
--- a worker that began with this processor and this line has ended, and the line has its log
+-- A worker that began with this processor and this line has ended, and the line has its log and its
+-- accesses.
 pub record IsEnded {A : Type 0} (load : Processor) (size steps : ℕ) (line : LineState)
     (w : Worker A) (after : LineState) : Type 0 where
   pub worker : IsLoggedWorker load size steps after.log.entries w
+  pub made : HasMade load w.answers.items after.log.entries after.view
   pub worn : WornWithCause (λ c. seen_on c after.view.seen) w.finish w.pp
   pub same_line : IsSameLine line after
 

@@ -2,17 +2,21 @@
 use Rattle.std.specs.Prelude.{◌≡◌, ◌<◌, ◌≤◌, ◌+◌, ◌*◌, ℕ, true, false, not, List, [], ◌∷◌, ◌++◌, length, All, Option, Some, is_some, option_to_list, flat_map}
 use Rattle.pp_channel.specs.Answer.{seen_answered}
 use Rattle.pp_channel.specs.ChannelWord.{greatest_number, number_in}
-use Rattle.pp_channel.specs.LineLog.{LogState, with_seen, IsMonotone, seen_on}
+use Rattle.pp_channel.specs.LineLog.{LogState, empty_log, with_seen, IsMonotone, seen_on}
 use Rattle.pp_channel.specs.LineState.{LineState, IsActed}
 use Rattle.pp_channel.specs.LineView.{reads, writes}
+use Rattle.pp_channel.specs.Order.{entries_among, extended, writes_among}
+use Rattle.pp_channel.specs.declared.access.Access.{Access}
 use Rattle.pp_channel.specs.declared.entry.Entry.{Entry}
 use Rattle.pp_channel.specs.declared.entry.Seen.{Seen}
 use Rattle.pp_channel.specs.declared.numbered.Numbered.{Numbered}
 use Rattle.pp_channel.specs.declared.rule.FoundWord.{FoundWord}
+use Rattle.pp_channel.specs.declared.rule.LineView.{LineView}
 use Rattle.pp_machine.specs.Processor.{Processor}
 use Rattle.pp_machine.specs.Replay.{OfChannel, fits, given_by, replayed, given_count, events_given, sights_given}
 use Rattle.pp_machine.specs.declared.answer.Answer.{Answer}
 use Rattle.pp_machine.specs.declared.need.Need.{Need}
+use Rattle.pp_runner.specs.Accesses.{accesses_by, AreAccessesOf}
 use Rattle.pp_runner.specs.WorkerReport.{AllMoved, AllBySize, IsBySize, events_in, sights_in}
 use Rattle.list_facts.specs.Subsequence.{IsSubsequence}
 use Rattle.pp_runner.specs.End.{WasHeld}
@@ -23,38 +27,72 @@ pub record HasEntries (done : List Entry) (look : Option Entry) (log : LogState)
   pub all : log.entries ≡ done ++ option_to_list look
   pub kept : log.kept ≡ not (is_some look)
 
--- The processor is the replay of its answers, and the log tells what that replay did and saw.
+-- The line made these accesses by answers to this processor, in its one program order; those to
+-- channels stand among these entries.
+pub record HasMade (load : Processor) (answers : List Answer) (done : List Entry) (v : LineView)
+    : Type 0 where
+  pub accesses : List Access
+  pub given : AreAccessesOf load answers accesses
+  pub program_order : List Access
+  pub only : v.program_orders ≡ program_order ∷ []
+  pub accessed : IsSubsequence accesses program_order
+  pub logged : IsSubsequence (entries_among accesses) done
+  pub written : v.written ≡ writes_among accesses
+
+-- Beside central memory of this size, the line has room for this many steps, and has made no access.
+pub record IsUnused (size steps : ℕ) (line : LineState) : Type 0 where
+  pub log : line.log ≡ empty_log (2 * steps + 1)
+  pub central : length line.view.central ≡ size
+  pub written : line.view.written ≡ []
+  pub program_orders : line.view.program_orders ≡ [] ∷ []
+
+-- The processor is the replay of its answers, and the line's log and accesses tell what that replay
+-- did and saw.
 pub record IsAtWork (load : Processor) (size steps : ℕ) (pp : Processor) (answers : List Answer)
-    (log : LogState) : Type 0 where
+    (line : LineState) : Type 0 where
   pub pp_is : pp ≡ replayed load answers
   pub all_given : given_count load answers ≡ length answers
   pub all_moved : AllMoved load answers
   pub by_size : AllBySize size load answers
   pub done : List Entry
   pub look : Option Entry
-  pub has : HasEntries done look log
-  pub events : events_in log.entries ≡ events_given load answers
+  pub has : HasEntries done look line.log
+  pub made : HasMade load answers done line.view
+  pub events : events_in line.log.entries ≡ events_given load answers
   pub sights : IsSubsequence (sights_given load answers) (sights_in done)
-  pub monotone : IsMonotone log.entries
+  pub monotone : IsMonotone line.log.entries
   pub few_entries : length done ≤ 2 * length (sights_given load answers)
   pub few_sights : length (sights_given load answers) ≤ length answers
-  pub held : log.kept ≡ false → WasHeld pp log.entries
-  pub room : log.room + length log.entries ≡ 2 * steps + 1
+  pub held : line.log.kept ≡ false → WasHeld pp line.log.entries
+  pub room : line.log.room + length line.log.entries ≡ 2 * steps + 1
 
--- the log after an answer tells what the answer did or saw, and nothing else
-abbrev pub IsNoted : List (OfChannel Seen) → LogState → LogState → Type 0
-IsNoted [] before after = after ≡ before
-IsNoted (sight ∷ []) before after =
-    (number : ℕ) × (after ≡ with_seen before sight.channel number (Some sight.what))
-IsNoted (sight ∷ other ∷ more) before after = ⊥
+-- the log after an answer tells what the answer did or saw, by its number, and nothing else
+abbrev pub IsNoted : ℕ → List (OfChannel Seen) → LogState → LogState → Type 0
+IsNoted number [] before after = after ≡ before
+IsNoted number (sight ∷ []) before after =
+    after ≡ with_seen before sight.channel number (Some sight.what)
+IsNoted number (sight ∷ other ∷ more) before after = ⊥
 
--- An answer to a need, and the log before and after it.
-pub record IsAnswered (size : ℕ) (needed : Need) (answer : Answer) (before after : LogState)
+-- The program orders of the line have grown by these accesses, and it has written no more.
+pub record HasLooked (before after : LineState) : Type 0 where
+  pub more : List Access
+  pub program_orders : after.view.program_orders ≡ extended before.view.program_orders more
+  pub written : after.view.written ≡ before.view.written
+
+-- An answer to a need, and the line before and after it: the log tells what the answer did or saw,
+-- and the program orders have grown by some accesses, those of the answer among them.
+pub record IsAnswered (size : ℕ) (needed : Need) (answer : Answer) (before after : LineState)
     : Type 0 where
   pub fits : fits needed answer ≡ true
   pub by_size : IsBySize size needed answer
-  pub noted : IsNoted (given_by seen_answered needed answer) before after
-  pub monotone : IsMonotone before.entries → IsMonotone after.entries
+  pub number : ℕ
+  pub noted : IsNoted number (given_by seen_answered needed answer) before.log after.log
+  pub more : List Access
+  pub program_orders : after.view.program_orders ≡ extended before.view.program_orders more
+  pub accessed : IsSubsequence (accesses_by number needed answer) more
+  pub written : after.view.written
+      ≡ before.view.written ++ writes_among (accesses_by number needed answer)
+  pub monotone : IsMonotone before.log.entries → IsMonotone after.log.entries
 
 -- What a step's operation on a channel, read or write did to the line: it gave this answer. Without
 -- one the line stays, and so it does where central memory has no word at the address.

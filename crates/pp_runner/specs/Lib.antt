@@ -1,6 +1,7 @@
 pub mod Limits
 pub mod End
 pub mod WorkerReport
+pub mod Accesses
 pub mod Report
 -- cited by private contracts alone: nobody has to read these to believe what the crate promises
 pub mod Banks

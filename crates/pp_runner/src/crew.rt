@@ -1,9 +1,9 @@
 //! Runs the workers concurrently, one thread each.
 
-ghost use Rattle.std.specs.Prelude.{◌≡◌, ◌+◌, ◌*◌, ◌<◌, [], ◌∷◌, ◌++◌, take, length, vec_len, IfOk};
+ghost use Rattle.std.specs.Prelude.{◌≡◌, ◌+◌, ◌*◌, ◌<◌, [], ◌∷◌, ◌++◌, take, vec_len, IfOk};
 ghost use denote.Param.Send.{IsSync, IsSend, Frees};
-ghost use Rattle.pp_channel.specs.LineLog.{empty_log};
 ghost use Rattle.pp_runner.specs.Crew.{IsEnded, AreEnded, AreReady};
+ghost use Rattle.pp_runner.specs.Labour.{IsUnused};
 
 use crate::gate::Gate;
 use crate::labour::{Ended, work};
@@ -68,7 +68,8 @@ pub fn run_first<R: Threads + Wait + Sync, G: Gate + Sync, A: Allocator + Copy +
     family: Snapshot<Line<A>>,
     mut lines: Vec<Line<A>, A>,
 ) -> Result<Crew<A>, RunFault>
-    requires { AreReady machine.now site.now.size (2 * site.now.limits.steps + 1) family.value lines.items }
+    requires { AreReady machine.now site.now.size (2 * site.now.limits.steps + 1) family.value
+        lines.items }
     ensures { IfOk result (λ crew. AreEnded (take
         (vec_len lines) machine.now.processors) site.now.size site.now.limits.steps
         (2 * site.now.limits.steps + 1) family.value crew.workers.items crew.lines.items) }
@@ -99,7 +100,8 @@ fn beside<R: Threads + Wait + Sync, G: Gate + Sync, A: Allocator + Copy + Send +
     lines: Vec<Line<A>, A>,
 ) -> Result<Crew<A>, RunFault>
     requires several { 1 < vec_len lines }
-    requires ready { AreReady machine.now site.now.size (2 * site.now.limits.steps + 1) family.value lines.items }
+    requires ready { AreReady machine.now site.now.size (2 * site.now.limits.steps + 1)
+        family.value lines.items }
     ensures { IfOk result (λ crew. AreEnded (take
         (vec_len lines) machine.now.processors) site.now.size site.now.limits.steps
         (2 * site.now.limits.steps + 1) family.value crew.workers.items crew.lines.items) }
@@ -110,7 +112,8 @@ fn beside<R: Threads + Wait + Sync, G: Gate + Sync, A: Allocator + Copy + Send +
         |scope| -> Result<Crew<A>, RunFault>
             requires { IsSync R.row × IsSync G.row × IsSend A.row × IsSync A.row
                 × Frees A.Allocator A.dealloc_token × (1 < vec_len lines)
-                × AreReady machine.now site.now.size (2 * site.now.limits.steps + 1) family.value lines.items }
+                × AreReady machine.now site.now.size (2 * site.now.limits.steps + 1) family.value
+                lines.items }
             ensures { IfOk result (λ crew. AreEnded
                 (take (vec_len lines) machine.entry.now.processors) site.entry.now.size
                 site.entry.now.limits.steps (2 * site.entry.now.limits.steps + 1) family.value
@@ -131,8 +134,7 @@ fn beside<R: Threads + Wait + Sync, G: Gate + Sync, A: Allocator + Copy + Send +
             let child = scope.spawn_with(
                 promise,
                 move || -> Ended<A>
-                    requires { (line.log ≡ empty_log (2 * site.now.limits.steps + 1))
-                        × (length line.view.central ≡ site.now.size) }
+                    requires { IsUnused site.now.size site.now.limits.steps line }
                     ensures { IsEnded load.entry.now site.entry.now.size
                         site.entry.now.limits.steps line result.worker result.line }
                 { work(site, gate, number, load, line) },

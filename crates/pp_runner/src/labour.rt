@@ -1,12 +1,12 @@
 //! A worker, from its load to its end.
 
 ghost use Rattle.std.specs.Prelude.{◌≡◌, ◌<◌, ◌≤◌, ◌+◌, ◌-◌, ◌*◌, ◌^◌, ◌++◌, ◌∷◌, [], true, ℕ, List, length, vec_len, vec_capacity, IfOk, IfSome, IfNone, OnErr};
-ghost use Rattle.pp_channel.specs.LineLog.{empty_log, seen_on};
+ghost use Rattle.pp_channel.specs.LineLog.{seen_on};
 ghost use Rattle.pp_channel.specs.declared.entry.Entry.{Entry};
 ghost use Rattle.pp_machine.specs.NeedAndEffect.{need};
 ghost use Rattle.pp_machine.specs.declared.answer.Answer.{Answer};
 ghost use Rattle.pp_runner.specs.Crew.{IsEnded};
-ghost use Rattle.pp_runner.specs.Labour.{IsAtWork, IsAnswered, IsSameLine, HasActed, HasOperated, operations};
+ghost use Rattle.pp_runner.specs.Labour.{IsAtWork, IsUnused, IsAnswered, IsSameLine, HasActed, HasLooked, HasOperated, operations};
 ghost use Rattle.pp_runner.specs.End.{IsEnd, NeedsWornChannel, WornWithCause, WasHeld};
 
 use crate::end::End;
@@ -48,10 +48,11 @@ enum Try {
 fn ask<A: Allocator + Copy>(line: &mut Line<A>, needed: Need) -> Result<Answer, Worn>
     requires { 1 ≤ line.old.log.room }
     ensures answered { IfOk result (λ x. IsAnswered
-        (length line.old.view.central) needed x line.old.log line.new.log) }
+        (length line.old.view.central) needed x line.old line.new) }
     ensures acted { IfOk result (λ x. HasActed needed line.old x line.new) }
     ensures worn { OnErr result (NeedsWornChannel (λ c. seen_on c line.new.view.seen) needed) }
     ensures unchanged_when_worn { OnErr result (line.new.log ≡ line.old.log) }
+    ensures looked_when_worn { OnErr result (HasLooked line.old line.new) }
     ensures same_line { IsSameLine line.old line.new }
     ensures operated { HasOperated (operations needed) line.old line.new }
 {
@@ -88,9 +89,9 @@ impl<A: Allocator + Copy> Labour<A> {
         requires place { vec_len self.old.answers < vec_capacity self.old.answers }
         requires central { length self.old.line.view.central ≡ site.now.size }
         requires work { IsAtWork load.now site.now.size site.now.limits.steps self.old.pp
-            self.old.answers.items self.old.line.log }
+            self.old.answers.items self.old.line }
         ensures work { IsAtWork load.now site.now.size site.now.limits.steps self.new.pp
-            self.new.answers.items self.new.line.log }
+            self.new.answers.items self.new.line }
         ensures same_line { IsSameLine self.old.line self.new.line }
         ensures operated { HasOperated (operations (need self.old.pp)) self.old.line self.new.line }
         ensures tries { self.new.tries ≡ self.old.tries }
@@ -123,11 +124,11 @@ impl<A: Allocator + Copy> Labour<A> {
         requires running { self.old.pp.state ≡ PpState.Running }
         requires steps_left { vec_len self.old.answers < site.now.limits.steps }
         requires work { IsAtWork load.now site.now.size site.now.limits.steps self.old.pp
-            self.old.answers.items self.old.line.log }
+            self.old.answers.items self.old.line }
         requires central { length self.old.line.view.central ≡ site.now.size }
         requires countable { self.old.tries + site.now.limits.patience < 2 ^ 64 }
         ensures work { IsAtWork load.now site.now.size site.now.limits.steps self.new.pp
-            self.new.answers.items self.new.line.log }
+            self.new.answers.items self.new.line }
         ensures same_line { IsSameLine self.old.line self.new.line }
         ensures operated { HasOperated ((self.new.tries - self.old.tries)
             * operations (need self.old.pp)) self.old.line self.new.line }
@@ -168,7 +169,7 @@ impl<A: Allocator + Copy> Labour<A> {
     /// What is left when no further step is made. The log stays with the line.
     fn ended(self, site: &Site<A>, load: &Pp, finish: End) -> Ended<A>
         requires work { IsAtWork load.now site.now.size site.now.limits.steps self.pp
-            self.answers.items self.line.log }
+            self.answers.items self.line }
         requires few { vec_len self.answers ≤ site.now.limits.steps }
         requires finish { IsEnd site.now.limits.steps finish self.pp self.answers.items
             self.line.log.entries }
@@ -217,8 +218,7 @@ pub fn work<G: Gate, A: Allocator + Copy>(
     load: &Pp,
     line: Line<A>,
 ) -> Ended<A>
-    requires log { line.log ≡ empty_log (2 * site.now.limits.steps + 1) }
-    requires central { length line.view.central ≡ site.now.size }
+    requires { IsUnused site.now.size site.now.limits.steps line }
     ensures ended { IsEnded load.now site.now.size site.now.limits.steps line result.worker
         result.line }
     ensures patience { result.worker.finish ≡ End.Patience

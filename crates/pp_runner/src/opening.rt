@@ -1,6 +1,6 @@
 //! The line that opens channels before the workers begin.
 
-ghost use Rattle.std.specs.Prelude.{◌≡◌, ◌≤◌, IfOk, length};
+ghost use Rattle.std.specs.Prelude.{◌≡◌, ◌≤◌, [], IfOk, length};
 ghost use Rattle.pp_channel.specs.LineLog.{appended, IsWithin};
 ghost use Rattle.pp_channel.specs.Merge.{IsOpeningLog, times_logged};
 ghost use Rattle.pp_channel.specs.declared.entry.Seen.TheVariants.{Did};
@@ -27,6 +27,7 @@ pub fn opening_line<A: Allocator + Copy>(
         (λ c. length (opening_history c machine.now)) line) }
     ensures shares { IfOk result (λ line. line.view.shares ≡ shares) }
     ensures whole { IfOk result (λ line. line.view.whole ≡ shares) }
+    ensures no_write { IfOk result (λ line. line.view.written ≡ []) }
     ensures central { IfOk result (λ line. line.view.central ≡ machine.now.central) }
 {
     // This call tells the proof what holds of every machine.
@@ -52,6 +53,7 @@ fn activate<A: Allocator + Copy>(line: &mut Line<A>, channel: ChannelNo)
     ensures within { IsWithin line.new.view.seen line.new.log.entries }
     ensures shares { line.new.view.shares ≡ line.old.view.shares }
     ensures whole { line.new.view.whole ≡ line.old.view.whole }
+    ensures no_write { line.new.view.written ≡ line.old.view.written }
     ensures central { line.new.view.central ≡ line.old.view.central }
 {
     // The call says to the proof where the channel stands among the twelve.

@@ -42,6 +42,7 @@ fn open_family<A: Allocator + Copy>(
     ensures share { IfOk result (λ opened. opened.0.view.shares ≡ 1) }
     ensures whole { IfOk result (λ opened. opened.0.view.whole
         ≡ processors_in machine.now.profile + 1) }
+    ensures no_write { IfOk result (λ opened. opened.0.view.written ≡ []) }
     ensures central { IfOk result (λ opened. opened.0.view.central ≡ machine.now.central) }
 {
     let processors = machine.profile().processors();

@@ -14,6 +14,9 @@ use Rattle.pp_channel.specs.ChannelPlaces.{named_below, place_of_number}
 use Rattle.pp_channel.specs.History.{history_on}
 use Rattle.pp_channel.specs.LineLog.{is_event}
 use Rattle.pp_channel.specs.Law.{IsPrefix}
+use Rattle.pp_channel.specs.Order.{entries_among}
+use Rattle.pp_channel.specs.declared.access.Access.{Access}
+use Rattle.pp_channel.proofs.OrderLemmas.{entries_stand}
 use Rattle.pp_channel.specs.Merge.{times_logged}
 use Rattle.pp_channel.specs.declared.chan_op.ChanOp.{ChanOp}
 use Rattle.pp_channel.specs.declared.chan_op.ChanOp.TheVariants as operations
@@ -40,6 +43,7 @@ use Rattle.pp_machine.specs.declared.need.Need.{Need}
 use Rattle.pp_machine.specs.declared.need.Need.TheVariants as needs
 use Rattle.pp_machine.specs.declared.outcome.Outcome.TheVariants.{Moved}
 use Rattle.pp_machine.specs.declared.profile.Profile.{Profile}
+use Rattle.pp_runner.specs.Accesses.{HaveAccessed}
 use Rattle.pp_runner.specs.Limits.{RunLimits}
 use Rattle.pp_runner.specs.Report.{IsReportOf}
 use Rattle.pp_runner.specs.WorkerReport.{OfEachAnswer, AllMoved, AllBySize, IsBySize, AreWorkers, IsLoggedWorker, event_in, events_in, sights_in, logs_of}
@@ -273,6 +277,18 @@ workings {A} p others size steps order (load ∷ loads) (end ∷ ends) all chann
       counts = λ c number. sum_by-cons (times_left c number) one.now more.ws ∙ ((λ j. one.count c number j + more.counts c number j) ∙ sym (sum_by-cons (λ (w : Worker A). times_logged c number w.log.items) end ends));
     }
 
+-- the logs of workers stand in the order of their accesses
+logs_in_order : {A : Type 0} (loads : List Processor) (order : List Access) (ends : List (Worker A)) (accesses : List (List Access)) → HaveAccessed loads order ends accesses → All (λ w. IsSubsequence w.log.items (entries_among order)) ends
+logs_in_order {A} [] order [] [] all = All-nil (λ (w : Worker A). IsSubsequence w.log.items (entries_among order))
+logs_in_order [] order [] (t ∷ accesses) all = absurd all
+logs_in_order [] order (w ∷ ends) accesses all = absurd all
+logs_in_order (load ∷ loads) order [] accesses all = absurd all
+logs_in_order (load ∷ loads) order (w ∷ ends) [] all = absurd all
+logs_in_order {A} (load ∷ loads) order (w ∷ ends) (t ∷ accesses) all =
+    All-cons (λ (v : Worker A). IsSubsequence v.log.items (entries_among order)) w ends
+    (stands_through w.log.items (entries_among all.0.program_order) (entries_among order) all.0.drawn (entries_stand all.0.program_order order all.0.in_order))
+    (logs_in_order loads order ends accesses all.1)
+
 times_parts : {A : Type 0} (c number : ℕ) (ends : List (Worker A)) → times_logged c number (logs_of ends) ≡ sum_by (λ w. times_logged c number w.log.items) ends
 times_parts c number [] = refl
 times_parts {A} c number (end ∷ ends) =
@@ -316,11 +332,11 @@ report_leaves limits m report new said channel =
     (λ (below : channel_index c < channel_count). named_below c below)
     (λ (past : channel_count ≤ channel_index c). let empty = ap length (get_or_past report.channels (channel_index c) [] (omega (arith, past, said.each_channel))) in absurd (omega (arith, empty, some)))
     (cases_lt (channel_index c) channel_count) in
-    let w = workings p others (length m.central) limits.steps said.order (take n m.processors) ends said.workers channel said.logs_in_order in
+    let w = workings p others (length m.central) limits.steps (entries_among said.order) (take n m.processors) ends said.workers channel (logs_in_order (take n m.processors) said.order ends said.accesses said.accessed) in
     let most = most_processors p in
     let count : length w.ws ≡ n = sym (length-map w.ws (λ (v : Working). v.pp)) ∙ (ap length w.processors ∙ length-take-le n m.processors (omega (arith, most, new.processors))) in
     let once : Once (length m.central) p others history (λ c. lawful_on report.channels c said.lawful) named w.ws opening = λ c number later inside. w.counts c number ∙ (sym (times_parts c number ends) ∙ said.merged.once c number later inside) in
-    let finished = serve (length m.central) p others history (λ c. lawful_on report.channels c said.lawful) named said.order w.ws opening (omega (arith, count)) w.ready said.total.legal said.total.each_history once in
+    let finished = serve (length m.central) p others history (λ c. lawful_on report.channels c said.lawful) named (entries_among said.order) w.ws opening (omega (arith, count)) w.ready said.total.legal said.total.each_history once in
     let start : Stands (length m.central) m (all_of others w.ws) opening = record {
       processors = sym (take-append-drop n m.processors) ∙ ap (λ pps. pps ++ others) (sym w.processors);
       channels = new.channels;

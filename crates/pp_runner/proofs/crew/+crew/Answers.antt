@@ -1,7 +1,7 @@
 use Rattle.std.proofs.Common.{◌+◌, ◌*◌, ◌∙◌, refl, ap, subst, vec_len, rules, arith}
 use Rattle.pp_machine.specs.MachineState.{processor_of}
 use Rattle.pp_machine.specs.PpNo.{processor_number}
-use Rattle.pp_runner.proofs.CrewLemmas.{taken_of, taken_central, some_left, ready_before, ended_alone, ended_beside, promised, promise_kept}
+use Rattle.pp_runner.proofs.CrewLemmas.{taken_of, taken_unused, some_left, ready_before, ended_alone, ended_beside, promised, promise_kept}
 use Rattle.pp_runner.specs.Crew.{IsEnded}
 use Rattle.pp_runner.specs.declared.crew.EndOf.{EndOf}
 use Rattle.pp_runner.proofs.crew.+crew.Goals as goal
@@ -40,8 +40,8 @@ beside-returns g t c = c.scoped.ensures.1
 
 pub beside-scope-spawn_with-requires-clause-runs : goal.beside-scope-spawn_with-requires-clause-runs
 beside-scope-spawn_with-requires-clause-runs g t c = λ κs within.
-    let taken = taken_of c.captures.machine.now c.captures.site.now.size (2 * c.captures.site.now.limits.steps + 1) c.captures.family.value c.in-Some.line c.captures.lines.items c.pop.new.self.items c.in-Some.ensures.items c.requires.6 in
-    (taken.fresh.log, taken_central c.captures.machine.now c.captures.site.now.size (2 * c.captures.site.now.limits.steps + 1) c.captures.family.value c.in-Some.line c.pop.new.self.items taken)
+    taken_unused c.captures.machine.now c.captures.site.now.size c.captures.site.now.limits.steps c.captures.family.value c.in-Some.line c.pop.new.self.items
+    (taken_of c.captures.machine.now c.captures.site.now.size (2 * c.captures.site.now.limits.steps + 1) c.captures.family.value c.in-Some.line c.captures.lines.items c.pop.new.self.items c.in-Some.ensures.items c.requires.6)
 
 pub beside-scope-spawn_with-requires-clause-keeps : goal.beside-scope-spawn_with-requires-clause-keeps
 beside-scope-spawn_with-requires-clause-keeps g t c = λ κs within r ended.
@@ -57,11 +57,7 @@ run_first-beside-requires-clause-ready g t c = λ κs within. c.requires
 pub run_first-returns-then-len-gt1 : goal.run_first-returns-then-len-gt1
 run_first-returns-then-len-gt1 g t c = c.beside.ensures
 
-pub run_first-work-first-requires-clause-central : goal.run_first-work-first-requires-clause-central
-run_first-work-first-requires-clause-central g t c =
-    taken_central c.args.machine.now c.args.site.now.size (2 * c.args.site.now.limits.steps + 1) c.args.family.value c.in-Some.line c.pop.new.self.items
+pub run_first-work-first-requires : goal.run_first-work-first-requires
+run_first-work-first-requires g t c =
+    taken_unused c.args.machine.now c.args.site.now.size c.args.site.now.limits.steps c.args.family.value c.in-Some.line c.pop.new.self.items
     (taken_of c.args.machine.now c.args.site.now.size (2 * c.args.site.now.limits.steps + 1) c.args.family.value c.in-Some.line c.args.lines.items c.pop.new.self.items c.in-Some.ensures.items c.requires)
-
-pub run_first-work-first-requires-clause-log : goal.run_first-work-first-requires-clause-log
-run_first-work-first-requires-clause-log g t c =
-    (taken_of c.args.machine.now c.args.site.now.size (2 * c.args.site.now.limits.steps + 1) c.args.family.value c.in-Some.line c.args.lines.items c.pop.new.self.items c.in-Some.ensures.items c.requires).fresh.log

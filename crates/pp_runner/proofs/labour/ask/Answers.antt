@@ -1,6 +1,10 @@
-use Rattle.std.proofs.Common.{ℕ, sym, ap, subst}
+use Rattle.std.proofs.Common.{ℕ, length, sym, ap, subst}
+use Rattle.pp_runner.proofs.AccessLemmas.{local_answer, read_answer, write_answer}
 use Rattle.pp_runner.proofs.LineLemmas.{operated_acted, operated_worn, same_line_acted}
-use Rattle.pp_runner.specs.Labour.{HasOperated, operations}
+use Rattle.pp_runner.proofs.ReplyLemmas.{acted_answer}
+use Rattle.pp_runner.specs.Labour.{HasOperated, IsAnswered, operations}
+use Rattle.pp_machine.specs.declared.answer.Answer.{Answer}
+use Rattle.pp_machine.specs.declared.need.Need.{Need}
 use Rattle.pp_runner.proofs.labour.ask.Goals as goal
 
 pub returns-in_ok-numbered-in-Channel-clause-same_line : goal.returns-in_ok-numbered-in-Channel-clause-same_line
@@ -16,3 +20,25 @@ pub returns-in_err-numbered-in-Channel-clause-operated : goal.returns-in_err-num
 returns-in_err-numbered-in-Channel-clause-operated g c =
     subst (λ (n : ℕ). HasOperated n c.args.line.now c.act.new.self) (sym (ap operations c.in-Channel.is))
     (operated_worn c.args.line.now c.act.new.self c.in-Channel.channel c.in-Channel.op c.in_err-numbered-in-Channel.ensures.worn)
+
+pub returns-in-Nothing-clause-answered : goal.returns-in-Nothing-clause-answered
+returns-in-Nothing-clause-answered g c = local_answer (length c.args.line.now.view.central) c.args.needed c.args.line.now c.in-Nothing.is
+
+pub returns-in_ok-numbered-in-Channel-clause-answered : goal.returns-in_ok-numbered-in-Channel-clause-answered
+returns-in_ok-numbered-in-Channel-clause-answered g c =
+    let size : ℕ = length c.args.line.now.view.central in
+    let numbered = c.in_ok-numbered-in-Channel.numbered in
+    subst (λ (n : Need). IsAnswered size n (Answer.Channel numbered.reply) c.args.line.now c.act.new.self) (sym c.in-Channel.is)
+    (acted_answer size c.in-Channel.channel c.in-Channel.op numbered c.args.line.now c.act.new.self c.in_ok-numbered-in-Channel.ensures.ok c.act.ensures.monotone)
+
+pub returns-in-Read-clause-answered : goal.returns-in-Read-clause-answered
+returns-in-Read-clause-answered g c =
+    let size : ℕ = length c.args.line.now.view.central in
+    subst (λ (n : Need). IsAnswered size n (Answer.Read c.read.result) c.args.line.now c.read.new.self) (sym c.in-Read.is)
+    (read_answer size c.in-Read.address c.read.result c.args.line.now c.read.new.self c.read.ensures.read c.read.ensures.inside c.read.ensures.outside c.read.ensures.unchanged_outside)
+
+pub returns-in-Write-clause-answered : goal.returns-in-Write-clause-answered
+returns-in-Write-clause-answered g c =
+    let size : ℕ = length c.args.line.now.view.central in
+    subst (λ (n : Need). IsAnswered size n (Answer.Wrote c.write.result) c.args.line.now c.write.new.self) (sym c.in-Write.is)
+    (write_answer size c.in-Write.address c.in-Write.word c.write.result c.args.line.now c.write.new.self c.write.ensures.inside c.write.ensures.written)

@@ -10,7 +10,7 @@ use Rattle.pp_runner.proofs.labour.work.Goals as goal
 
 pub loop-done-init : goal.loop-done-init
 loop-done-init g c = record {
-  work = work_begins c.args.load.now c.copy.result c.args.site.now.size c.args.site.now.limits.steps c.new.result.items c.args.line.log c.copy.ensures c.new.ensures.items c.requires.log;
+  work = work_begins c.args.load.now c.copy.result c.args.site.now.size c.args.site.now.limits.steps c.new.result.items c.args.line c.copy.ensures c.new.ensures.items c.requires;
   same_line = same_line_still _;
   found = omega arith;
   few_tries = omega arith;

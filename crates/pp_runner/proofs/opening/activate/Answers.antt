@@ -14,3 +14,6 @@ returns-clause-written g c =
 
 pub returns-clause-central : goal.returns-clause-central
 returns-clause-central g c = ap (λ l. l.view.central) c.in-Ok.ensures.ok.after_is
+
+pub returns-clause-no_write : goal.returns-clause-no_write
+returns-clause-no_write g c = ap (λ l. l.view.written) c.in-Ok.ensures.ok.after_is

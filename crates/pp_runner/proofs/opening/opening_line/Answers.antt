@@ -35,6 +35,7 @@ loop-place-preserved g c =
             room = omega (arith, room, c.loop-place.invariant.room);
             shares = ap (λ l. l.view.shares) w.line-is ∙ (w.activate.ensures.shares ∙ c.loop-place.invariant.shares);
             whole = ap (λ l. l.view.whole) w.line-is ∙ (w.activate.ensures.whole ∙ c.loop-place.invariant.whole);
+            no_write = ap (λ l. l.view.written) w.line-is ∙ (w.activate.ensures.no_write ∙ c.loop-place.invariant.no_write);
             central = ap (λ l. l.view.central) w.line-is ∙ (w.activate.ensures.central ∙ c.loop-place.invariant.central);
           }
       | else-opened w ↦
@@ -47,6 +48,7 @@ loop-place-preserved g c =
             room = omega (arith, room, c.loop-place.invariant.room);
             shares = ap (λ l. l.view.shares) w.line-is ∙ c.loop-place.invariant.shares;
             whole = ap (λ l. l.view.whole) w.line-is ∙ c.loop-place.invariant.whole;
+            no_write = ap (λ l. l.view.written) w.line-is ∙ c.loop-place.invariant.no_write;
             central = ap (λ l. l.view.central) w.line-is ∙ c.loop-place.invariant.central;
           }
     ]

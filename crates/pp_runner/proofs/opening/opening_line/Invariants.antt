@@ -1,4 +1,4 @@
-use Rattle.std.proofs.Common.{◌≡◌, ◌+◌, ◌≤◌}
+use Rattle.std.proofs.Common.{◌≡◌, ◌+◌, ◌≤◌, []}
 use Rattle.pp_channel.specs.ChannelNo.{channel_count}
 use Rattle.pp_channel.specs.Merge.{IsOpeningLog}
 use Rattle.pp_channel.specs.LineLog.{IsWithin}
@@ -12,5 +12,6 @@ invariant-loop-place g l = record {
   room : channel_count ≤ l.line.log.room + l.place;
   shares : l.line.view.shares ≡ l.shares;
   whole : l.line.view.whole ≡ l.shares;
+  no_write : l.line.view.written ≡ [];
   central : l.line.view.central ≡ l.machine.central;
 }

@@ -16,6 +16,7 @@ loop-count-init g c = record {
   whole = let many = (c.processors-processors.ensures ∙ ap (λ p. processors_in p) c.profile.ensures) in omega (arith, c.in_ok-first.ensures.whole, many);
   shares = let many = (c.processors-processors.ensures ∙ ap (λ p. processors_in p) c.profile.ensures) in omega (arith, c.in_ok-first.ensures.shares, many);
   fresh = subst (λ (ls : List LineState). All (IsSplitFrom c.in_ok-first.first c.args.room) ls) (sym c.in_ok-lines.ensures.items) (All-nil (IsSplitFrom c.in_ok-first.first c.args.room));
+  no_write = c.in_ok-first.ensures.no_write;
   central = c.in_ok-first.ensures.central;
   made = omega (arith, c.in_ok-lines.ensures.len);
 }
@@ -32,6 +33,7 @@ loop-count-preserved g c =
       shares = let many = (c.processors-processors.ensures ∙ ap (λ p. processors_in p) c.profile.ensures) in omega (arith, many, ap (λ l. l.view.shares) parent, c.loop-count.invariant.shares, c.loop-count-test.true);
       fresh = subst (λ (ls : List LineState). All (IsSplitFrom c.split.new.self c.args.room) ls) (sym c.in_ok-push.ensures.items)
           (split_more c.args.room c.loop-count.first c.split.new.self c.in_ok-split.field-0 c.loop-count.lines.items parent c.in_ok-split.ensures.line c.loop-count.invariant.fresh);
+      no_write = ap (λ l. l.view.written) parent ∙ c.loop-count.invariant.no_write;
       central = ap (λ l. l.view.central) parent ∙ c.loop-count.invariant.central;
       made = omega (arith, c.in_ok-push.ensures.len, c.loop-count.invariant.made);
     }
@@ -56,3 +58,6 @@ returns-clause-whole g c = c.loop-count.invariant.whole
 
 pub returns-clause-central : goal.returns-clause-central
 returns-clause-central g c = c.loop-count.invariant.central
+
+pub returns-clause-no_write : goal.returns-clause-no_write
+returns-clause-no_write g c = c.loop-count.invariant.no_write

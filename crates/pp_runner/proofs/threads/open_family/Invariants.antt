@@ -1,4 +1,4 @@
-use Rattle.std.proofs.Common.{◌≡◌, ◌+◌, length, vec_len}
+use Rattle.std.proofs.Common.{◌≡◌, ◌+◌, [], length, vec_len}
 use Rattle.std.specs.Prelude.{All}
 use Rattle.pp_channel.specs.Merge.{IsOpeningLog}
 use Rattle.pp_machine.specs.Headline.{opening_history}
@@ -14,6 +14,7 @@ invariant-loop-count g l = record {
   whole : l.first.view.whole ≡ processors_in l.machine.profile + 1;
   shares : l.first.view.shares + l.count ≡ processors_in l.machine.profile + 1;
   fresh : All (IsSplitFrom l.first l.room) l.lines.items;
+  no_write : l.first.view.written ≡ [];
   central : l.first.view.central ≡ l.machine.central;
   made : vec_len l.lines ≡ l.count;
 }

@@ -1,4 +1,4 @@
-use Rattle.std.proofs.Common.{rules, ◌≡◌, ◌≤◌, ◌∙◌, ℕ, ◌+◌, ◌*◌, vec_len, List, length, take, sym, ap, subst, arith}
+use Rattle.std.proofs.Common.{rules, ◌≡◌, ◌≤◌, ◌∙◌, ℕ, ◌+◌, ◌*◌, vec_len, List, ◌∷◌, ◌++◌, length, take, sym, ap, subst, arith}
 use Rattle.std.specs.Prelude.{All}
 use Rattle.std.specs.List.{flat_map}
 use Rattle.std.proofs.lemmas.List.{length-take-le}
@@ -11,15 +11,17 @@ use Rattle.pp_channel.specs.declared.entry.Entry.{Entry}
 use Rattle.pp_channel.specs.declared.event.Event.{Event}
 use Rattle.pp_channel.proofs.JoinedLines.{joined_entries, joined_whole, same_parts}
 use Rattle.pp_channel.proofs.OpeningLemmas.{merges_after}
-use Rattle.pp_channel.proofs.OrderLemmas.{is_later, order_later, stands_later_in}
-use Rattle.pp_channel.specs.Order.{ExtendsEach, IsDrawnFrom, entries_among}
-use Rattle.list_facts.specs.Subsequence.{IsSubsequence}
+use Rattle.pp_channel.proofs.OrderLemmas.{order_later}
+use Rattle.pp_channel.specs.Order.{IsTotalOrderOf, ExtendsEach, IsDrawnFrom, FindsWords, AreMade, entries_among, writes_among}
+use Rattle.pp_channel.specs.declared.access.Access.{Access}
 use Rattle.std.specs.List.{filter}
 use Rattle.pp_machine.specs.Headline.{opening_history}
 use Rattle.pp_machine.specs.Profile.{processors_in}
 use Rattle.pp_machine.specs.ProfilePlaces.{some_processors, most_processors}
 use Rattle.pp_runner.proofs.CrewLemmas.{workers_count}
-use Rattle.pp_runner.proofs.ReportLemmas.{logs_count, ended_tables, ended_shares, ended_begun, ended_logged, ended_worn, ended_stands, ended_each, logs_given}
+use Rattle.pp_runner.proofs.ReportLemmas.{logs_count, ended_tables, ended_shares, ended_begun, ended_logged, ended_worn, ended_accessed, logs_given}
+use Rattle.pp_runner.proofs.LateAccesses.{is_late, late_entries, late_finds, made_late}
+use Rattle.pp_runner.specs.Accesses.{HaveAccessed}
 use Rattle.pp_runner.specs.Labour.{HasSeen}
 use Rattle.pp_runner.specs.WorkerReport.{AreWorkers, logs_of, with_logs}
 use Rattle.pp_runner.proofs.threads.run_threads.Goals as goal
@@ -86,11 +88,12 @@ returns g c =
     let merged = merges_after opening channels first.log.entries (flat_map (λ l. l.log.entries) lines) c.in_ok-first.ensures.opening
     (subst (λ (log : List Entry). Merges no_opening channels log) (joined_entries first lines) closed.merged) in
     let in_order = c.in_ok-logs.ensures.order in
-    let order = filter (is_later opening (λ k. history_on k channels) merged.begins) (entries_among in_order.order) in
+    let late = is_late opening channels merged.begins in
+    let order : List Access = filter late in_order.order in
     let has = subst (λ (line : LineState). HasSeen (λ k. length (opening k)) line) (sym c.of-family.ensures) c.in_ok-first.ensures.seen in
-    let stands = ended_stands size steps (2 * steps + 1) family (λ log. IsSubsequence log order) in_order.order (λ k. length (opening k)) has
-    (λ log none h. stands_later_in opening channels log (entries_among in_order.order) merged.begins none h) loads ws lines
-    (All-tail (λ (l : LineState). ExtendsEach in_order.order l.view.program_orders) first lines in_order.program_orders) (All-tail (λ (l : LineState). IsDrawnFrom l.view.program_orders l.log.entries) first lines in_order.logs) ended in record {
+    let accessed = ended_accessed size steps (2 * steps + 1) family opening channels merged.begins has in_order.order loads ws lines logs c.in_ok-logs.ensures.logs
+    (All-tail (λ (l : LineState). ExtendsEach in_order.order l.view.program_orders) first lines in_order.program_orders) (All-tail (λ (l : LineState). IsDrawnFrom l.view.program_orders l.log.entries) first lines in_order.logs) ended in
+    let writes : flat_map (λ l. l.view.written) (first ∷ lines) ≡ flat_map writes_among accessed.accesses = (λ j. c.in_ok-first.ensures.no_write j ++ accessed.written j) in record {
       each_processor = ap length given ∙ (workers_count loads size steps (with_logs logs ws) workers ∙ (each ∙ many));
       workers = rw given (subst (λ (k : ℕ). AreWorkers (take (processors_in p) processors) k steps (with_logs logs ws)) sized
           (subst (λ (k : ℕ). AreWorkers (take k processors) size steps (with_logs logs ws)) many workers));
@@ -101,8 +104,11 @@ returns g c =
       merged = rw (given, same) merged;
       begun = rw (given, same) begun;
       order = order;
-      total = order_later opening channels (entries_among in_order.order) merged.begins in_order.total;
-      logs_in_order = rw given (ended_each size steps (2 * steps + 1) family (λ log. IsSubsequence log order) loads ws lines logs c.in_ok-logs.ensures.logs ended stands);
+      total = subst (IsTotalOrderOf opening channels) (sym (late_entries opening channels merged.begins in_order.order)) (order_later opening channels (entries_among in_order.order) merged.begins in_order.total);
+      finds = late_finds opening channels merged.begins c.args.machine.now.central in_order.order (subst (λ (words : List ℕ). FindsWords words in_order.order) c.in_ok-first.ensures.central in_order.finds);
+      accesses = accessed.accesses;
+      accessed = rw given (subst (λ (k : ℕ). HaveAccessed (take k processors) order (with_logs logs ws) accessed.accesses) many accessed.accessed);
+      made = made_late opening channels merged.begins (flat_map writes_among accessed.accesses) in_order.order (subst (λ (ws : List ℕ). AreMade ws in_order.order) writes in_order.made);
       worn = rw given worn;
     }
 

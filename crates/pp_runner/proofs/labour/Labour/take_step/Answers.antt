@@ -12,7 +12,7 @@ use Rattle.pp_runner.proofs.labour.Labour.take_step.Goals as goal
 
 pub returns-then-is_err-clause-work : goal.returns-then-is_err-clause-work
 returns-then-is_err-clause-work g c =
-    subst (λ (xs : List Answer). IsAtWork c.args.load.now c.args.site.now.size c.args.site.now.limits.steps c.args.self.now.pp xs c.args.self.now.line.log) (sym c.reserve.ensures.items) c.requires.work
+    subst (λ (xs : List Answer). IsAtWork c.args.load.now c.args.site.now.size c.args.site.now.limits.steps c.args.self.now.pp xs c.args.self.now.line) (sym c.reserve.ensures.items) c.requires.work
 
 pub returns-then-is_err-clause-same_line : goal.returns-then-is_err-clause-same_line
 returns-then-is_err-clause-same_line g c = same_line_still _
@@ -30,7 +30,7 @@ returns-then-is_err-clause-worn g c = λ is. absurd cc
 
 pub loop-held-init : goal.loop-held-init
 loop-held-init g c = record {
-  work = subst (λ (xs : List Answer). IsAtWork c.args.load.now c.args.site.now.size c.args.site.now.limits.steps c.args.self.now.pp xs c.args.self.now.line.log) (sym c.reserve.ensures.items) c.requires.work;
+  work = subst (λ (xs : List Answer). IsAtWork c.args.load.now c.args.site.now.size c.args.site.now.limits.steps c.args.self.now.pp xs c.args.self.now.line) (sym c.reserve.ensures.items) c.requires.work;
   same_line = same_line_still _;
   same_pp = refl;
   same_answers = c.reserve.ensures.items;

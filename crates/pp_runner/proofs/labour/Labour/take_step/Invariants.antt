@@ -6,7 +6,7 @@ use Rattle.pp_runner.proofs.labour.Labour.take_step.Given as goal
 
 abbrev pub invariant-loop-held : goal.invariant-loop-held
 invariant-loop-held g l = record {
-  work : IsAtWork l.load l.site.size l.site.limits.steps l.self.pp l.self.answers.items l.self.line.log;
+  work : IsAtWork l.load l.site.size l.site.limits.steps l.self.pp l.self.answers.items l.self.line;
   same_line : IsSameLine l.fn.self.line l.self.line;
   same_pp : l.self.pp ≡ l.fn.self.pp;
   same_answers : l.self.answers.items ≡ l.fn.self.answers.items;

@@ -1,0 +1,50 @@
+-- What workers accessed, channels and words of central memory alike, in one order.
+use Rattle.std.specs.Prelude.{◌≡◌, ℕ, true, List, [], ◌∷◌, ◌++◌, Some, map, option_to_list}
+use Rattle.list_facts.specs.Subsequence.{IsSubsequence}
+use Rattle.pp_channel.specs.Answer.{seen_answered}
+use Rattle.pp_channel.specs.Order.{entries_among}
+use Rattle.pp_channel.specs.declared.access.Access.{Access}
+use Rattle.pp_machine.specs.NeedAndEffect.{need, processor_after}
+use Rattle.pp_machine.specs.Processor.{Processor}
+use Rattle.pp_machine.specs.declared.answer.Answer.{Answer}
+use Rattle.pp_machine.specs.declared.need.Need.{Need}
+use Rattle.pp_runner.specs.declared.worker.Worker.{Worker}
+
+-- What an answer to a need accessed, where an event, a look or a write has this number: a channel,
+-- a word that it read, or one that it wrote.
+abbrev pub accesses_by : ℕ → Need → Answer → List Access
+accesses_by number (Need.Channel channel operation) (Answer.Channel reply) =
+    map (λ what. Access.OnChannel (record { channel = channel; number = number; what = what }))
+    (option_to_list (seen_answered operation reply))
+accesses_by number (Need.Read address) (Answer.Read (Some word)) = Access.Read address word ∷ []
+accesses_by number (Need.Write address word) (Answer.Wrote true) =
+    Access.Write address word number ∷ []
+accesses_by number needed answer = []
+
+-- Accesses are those of answers that a processor was given, in their order, each with some number.
+abbrev pub AreAccessesOf : Processor → List Answer → List Access → Type 0
+AreAccessesOf pp [] accesses = accesses ≡ []
+AreAccessesOf pp (answer ∷ answers) accesses =
+    (number : ℕ) × (rest : List Access)
+    × (accesses ≡ accesses_by number (need pp) answer ++ rest)
+    × AreAccessesOf (processor_after pp answer) answers rest
+
+-- A worker that began with this processor made these accesses by its answers. They stand in its
+-- program order, in which there may be more looks and reads, and which is a subsequence of the order
+-- of all accesses. Its log is drawn from its program order, and has its accesses to channels.
+pub record HasAccessed {A : Type 0} (load : Processor) (order : List Access) (w : Worker A)
+    (accesses : List Access) : Type 0 where
+  pub given : AreAccessesOf load w.answers.items accesses
+  pub program_order : List Access
+  pub in_order : IsSubsequence program_order order
+  pub accessed : IsSubsequence accesses program_order
+  pub drawn : IsSubsequence w.log.items (entries_among program_order)
+  pub logged : IsSubsequence (entries_among accesses) w.log.items
+
+-- for each of these processors a worker, with its accesses, in their order
+abbrev pub HaveAccessed : {A : Type 0} → List Processor → List Access → List (Worker A)
+    → List (List Access) → Type 0
+HaveAccessed [] order [] [] = Unit {0}
+HaveAccessed (load ∷ loads) order (w ∷ ws) (accesses ∷ more) =
+    HasAccessed load order w accesses × HaveAccessed loads order ws more
+HaveAccessed loads order ws accesses = ⊥
