@@ -7,6 +7,7 @@ use Rattle.std.proofs.lemmas.List.Elements.{All-cons, All-head, All-map, All-nil
 use Rattle.pp_channel.specs.ChannelNo.{channel_count, channel_number}
 use Rattle.pp_channel.specs.ChannelPlaces as channel_places
 use Rattle.pp_channel.specs.History.{history_on}
+use Rattle.pp_channel.specs.declared.access.Access.{Access}
 use Rattle.pp_channel.specs.declared.chan_op.ChanOp.{ChanOp}
 use Rattle.pp_channel.specs.declared.entry.Entry.{Entry}
 use Rattle.pp_channel.specs.declared.event.Event.{Event}
@@ -68,7 +69,7 @@ waits_for n c op m needs stays = record {
   central = central_by n m (Need.Channel c op) needs;
 }
 
-module _ {A : Type 0} (others : List ℕ) (m : MachineState) (report : Report A) (leads : LeadsTo others m report) where
+module _ {A : Type 0} (others : List ℕ) (m : MachineState) (report : Report A) (order : List Access) (leads : LeadsTo others m report order) where
   abbrev now : MachineState
   now = run others m
 
@@ -85,7 +86,7 @@ module _ {A : Type 0} (others : List ℕ) (m : MachineState) (report : Report A)
     channels = λ c. let part = parts.channels c in (part.0, sym (happened c) ∙ part.1.history);
   }
 
-  pub leads_alike : (ns : List ℕ) → length m.processors ≡ processor_count → length m.histories ≡ channel_count → AreAlike now (run ns m) → LeadsTo ns m report
+  pub leads_alike : (ns : List ℕ) → length m.processors ≡ processor_count → length m.histories ≡ channel_count → AreAlike now (run ns m) → LeadsTo ns m report order
   leads_alike ns all each alike =
       let many = many_processors ns m ∙ all in
       let channels = many_histories ns m ∙ each in
@@ -98,6 +99,7 @@ module _ {A : Type 0} (others : List ℕ) (m : MachineState) (report : Report A)
             subst (λ (i : ℕ). get_or (run ns m).histories i [] ≡ get_or now.histories i [])
             (channel_places.place_of_number k (omega (arith, inside, channels))) (sym (alike.histories (channel_number k))))
             ∙ leads.histories;
+        central = sym alike.central ∙ leads.central;
       }
 
   -- a processor of the report that could not move does not move

@@ -13,16 +13,17 @@ use Rattle.pp_machine.specs.Run.{run}
 use Rattle.pp_runner.specs.Limits.{RunLimits}
 use Rattle.pp_runner.specs.Report.{IsReportOf}
 use Rattle.pp_runner.specs.declared.report.Report.{Report}
-use Rattle.pp_serial.specs.Serial.{IsSerialRunOf, NoCentralWordIsRead}
+use Rattle.pp_serial.specs.Serial.{IsSerialRunOf}
 
--- It holds of a report by threads, whose accesses came in this order: what holds of each channel after
--- any list of steps holds of each channel here; and where no worker read a central word, some list
--- of steps does what the workers did, and leads to the very processors and histories.
+-- It holds of a report by threads, whose accesses came in this order: what holds of each channel
+-- after any list of steps holds of each channel here; and some list of steps does what the workers
+-- did, and leads to the very processors and histories, and to the words of central memory that the
+-- accesses leave.
 pub record HoldsOfThreads {A : Type 0} (m : MachineState) (report : Report A) (order : List Access)
     : Type 0 where
   pub channels : (c : ℕ) → IsTrue (names_channel c) → HoldsOnChannel (opening_history c m)
       (made_on c (entries_among order)) (history_on c report.channels)
-  pub steps : NoCentralWordIsRead report → (ns : List ℕ) × IsSerialRunOf ns m report
+  pub steps : (ns : List ℕ) × IsSerialRunOf ns m report order
 
 -- It holds of each run of a machine: by any list of steps, and by threads within any limits.
 pub record HoldsOfEveryRun (A : Type 0) (m : MachineState) : Type 0 where

@@ -11,7 +11,7 @@ ghost use Rattle.pp_promises.specs.OneRun.{EndsAtRest, IsOver, ShowsPartsOf};
 ghost use Rattle.pp_runner.specs.Limits.{RunLimits};
 ghost use Rattle.pp_runner.specs.Report.{IsReportOf};
 ghost use Rattle.pp_runner.specs.declared.report.Report.{Report};
-ghost use Rattle.pp_serial.specs.Serial.{LeadsTo, NoCentralWordIsRead};
+ghost use Rattle.pp_serial.specs.Serial.{LeadsTo};
 
 use pp_channel::session_law;
 use pp_deck::deck_law;
@@ -25,8 +25,7 @@ use std::alloc::Allocator;
 /// by the events of the trace on it; it is lawful, and in every session the words taken are the
 /// first of the words put, all but at most one, which is lost only where a disconnect finds the
 /// channel full; and no word passes outside a session. The same holds of the histories that threads
-/// leave, with their events in one order over all channels; and where none read a central word, some
-/// list of steps does what the threads did.
+/// leave, with their accesses in one order; and some list of steps does what the threads did.
 pub fn headline_law<A: Allocator>()
     ensures { (profile : Profile) (text : List ℕ) (deck : LoadedDeck)
         → deck_meaning profile text ≡ Ok deck → HoldsOfEveryRun A deck.machine }
@@ -37,21 +36,21 @@ pub fn headline_law<A: Allocator>()
     serial_law::<A>();
 }
 
-/// What one run of a deck tells of every run of it by threads, where it shows no race and is settled,
-/// and no thread read a central word. However the threads ended, each processor and each channel
-/// stands as at some moment of that run. Where nothing more can move, as where all came to rest, the
-/// run leads to the very processors and the very histories that the threads left.
+/// What one run of a deck tells of every run of it by threads, where it shows no race and is settled.
+/// However the threads ended, each processor and each channel stands as at some moment of that run.
+/// Where nothing more can move, as where all came to rest, the run leads to the very processors and
+/// the very histories that the threads left, and to the words of central memory that their accesses
+/// leave.
 pub fn one_run_law<A: Allocator>()
     ensures parts { (profile : Profile) (text : List ℕ) (deck : LoadedDeck) (ns : List ℕ)
         (limits : RunLimits) (report : Report A)
         → deck_meaning profile text ≡ Ok deck → IsDeterminate ns deck.machine
-        → IsReportOf limits deck.machine report → NoCentralWordIsRead report
-        → ShowsPartsOf ns deck.machine report }
+        → IsReportOf limits deck.machine report → ShowsPartsOf ns deck.machine report }
     ensures result { (profile : Profile) (text : List ℕ) (deck : LoadedDeck) (ns : List ℕ)
         (limits : RunLimits) (report : Report A)
         → deck_meaning profile text ≡ Ok deck → IsDeterminate ns deck.machine
-        → IsReportOf limits deck.machine report → NoCentralWordIsRead report
-        → IsOver report → LeadsTo ns deck.machine report }
+        → (is : IsReportOf limits deck.machine report) → IsOver report
+        → LeadsTo ns deck.machine report is.order }
     ensures rest { (limits : RunLimits) (m : MachineState) (report : Report A)
         → IsReportOf limits m report → All (λ w. EndsAtRest w.finish) report.ends.items
         → IsOver report }

@@ -30,8 +30,8 @@ AreAccessesOf pp (answer ∷ answers) accesses =
     × AreAccessesOf (processor_after pp answer) answers rest
 
 -- A worker that began with this processor made these accesses by its answers. They stand in its
--- program order, in which there may be more looks and reads, and which is a subsequence of the order
--- of all accesses. Its log is drawn from its program order, and has its accesses to channels.
+-- program order, in which there may be more looks and reads, and which is a subsequence of the
+-- order of all accesses. Its log is drawn from its program order, and has its accesses to channels.
 pub record HasAccessed {A : Type 0} (load : Processor) (order : List Access) (w : Worker A)
     (accesses : List Access) : Type 0 where
   pub given : AreAccessesOf load w.answers.items accesses

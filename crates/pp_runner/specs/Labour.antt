@@ -39,7 +39,7 @@ pub record HasMade (load : Processor) (answers : List Answer) (done : List Entry
   pub logged : IsSubsequence (entries_among accesses) done
   pub written : v.written ≡ writes_among accesses
 
--- Beside central memory of this size, the line has room for this many steps, and has made no access.
+-- Beside central memory of this size, the line has room for this many steps, and made no access.
 pub record IsUnused (size steps : ℕ) (line : LineState) : Type 0 where
   pub log : line.log ≡ empty_log (2 * steps + 1)
   pub central : length line.view.central ≡ size

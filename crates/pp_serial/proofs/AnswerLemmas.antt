@@ -1,12 +1,15 @@
 -- An answer that moved its processor: it is local, or a channel gives it at the moment that its sight tells.
-use Rattle.std.proofs.Common.{◌≡◌, ◌≢◌, ℕ, Bool, true, false, List, [], ◌∷◌, ◌++◌, Option, Some, None, refl, sym, ap, ◌∙◌, subst, inl, inr}
+use Rattle.std.proofs.Common.{◌≡◌, ◌≢◌, ℕ, ◌<◌, ◌≤◌, Bool, true, false, List, [], ◌∷◌, ◌++◌, Option, Some, None, refl, sym, ap, ◌∙◌, subst, inl, inr}
 use Rattle.std.specs.Prelude.{◌⊎◌, if◌then◌else◌, map}
 use Rattle.std.specs.Option.{option_to_list}
+use Rattle.std.proofs.lemmas.Bool.{cases_lt}
 use Rattle.pp_channel.specs.Answer.{event_of, event_with, flags_of, channel_state, operation_of, ready_at, reply_made, reply_by, reply_to, seen_answered}
 use Rattle.pp_channel.specs.AnswerLaws.{held_at}
 use Rattle.pp_channel.specs.History.{IsLawful, waiting}
 use Rattle.pp_channel.specs.declared.chan_op.ChanOp.{ChanOp}
 use Rattle.pp_channel.specs.declared.chan_op.ChanOp.TheVariants as operations
+use Rattle.pp_channel.specs.declared.access.Access.{Access}
+use Rattle.pp_channel.specs.declared.entry.Entry.{Entry}
 use Rattle.pp_channel.specs.declared.entry.Seen.{Seen}
 use Rattle.pp_channel.specs.declared.entry.Seen.TheVariants.{Did, Saw}
 use Rattle.pp_channel.specs.declared.event.Event.{Event}
@@ -19,7 +22,7 @@ use Rattle.pp_machine.specs.Block.{block_word}
 use Rattle.pp_machine.specs.FitLaws.{acts_where_held, tells_where_fits}
 use Rattle.pp_machine.specs.NeedAndEffect.{need, step_of, outcome, is_held, if_running}
 use Rattle.pp_machine.specs.Processor.{Processor, word_at}
-use Rattle.pp_machine.specs.Replay.{fits, given_by, reply_fits}
+use Rattle.pp_machine.specs.Replay.{fits, reply_fits}
 use Rattle.pp_machine.specs.Step.{need_of}
 use Rattle.pp_machine.specs.declared.answer.Answer.{Answer}
 use Rattle.pp_machine.specs.declared.answer.Answer.TheVariants as answers
@@ -32,16 +35,15 @@ use Rattle.pp_machine.specs.declared.outcome.Outcome.TheVariants as outcomes
 use Rattle.pp_machine.specs.declared.pp_state.PpState.{PpState}
 use Rattle.pp_machine.specs.declared.pp_state.PpState.TheVariants.{Running, Stopped, Fault}
 use Rattle.pp_machine.proofs.StepLemmas.{at_rest, nothing_at_rest}
+use Rattle.pp_runner.specs.Accesses.{accesses_by}
 use Rattle.pp_runner.specs.WorkerReport.{IsBySize}
-use Rattle.pp_serial.specs.Serial.{is_central_word}
-use Rattle.pp_serial.proofs.MachineLemmas.{Serves, serves_local, serves_no_word, serves_write}
+use Rattle.pp_serial.proofs.MachineLemmas.{Past, Serves, serves_local, serves_no_word, serves_no_write}
 
--- an answer that fits, moves its processor, and is no word of central memory, which has so many
+-- an answer that fits, moves its processor, and goes by the size of central memory
 pub record GoesOn (size : ℕ) (pp : Processor) (x : Answer) : Type 0 where
   pub fit : fits (need pp) x ≡ true
   pub moved : outcome pp x ≡ outcomes.Moved
   pub by_size : IsBySize size (need pp) x
-  pub no_word : is_central_word x ≡ false
 
 -- the answer of a channel, and what it did or saw
 pub record IsOfChannel (needed : Need) (x : Answer) : Type 0 where
@@ -53,30 +55,114 @@ pub record IsOfChannel (needed : Need) (x : Answer) : Type 0 where
   pub fit : reply_fits op reply ≡ true
   pub what : Seen
   pub tells : seen_answered op reply ≡ Some what
-  pub given : given_by seen_answered needed x ≡ record { channel = c; what = what } ∷ []
 
--- any other changes no history
+-- an answer that accessed something
+pub record IsAccess (needed : Need) (x : Answer) : Type 0 where
+  pub access : ℕ → Access
+  pub given : (number : ℕ) → accesses_by number needed x ≡ access number ∷ []
+
+-- any other changes nothing
 pub record IsAside (size : ℕ) (needed : Need) (x : Answer) : Type 0 where
-  pub serves : (happened : ℕ → List Event) → Serves size needed x happened happened
-  pub given : given_by seen_answered needed x ≡ []
+  pub serves : (past : Past) → Serves size needed x past past
+  pub given : (number : ℕ) → accesses_by number needed x ≡ []
 
-kinds : (size : ℕ) (needed : Need) (x : Answer) → fits needed x ≡ true → needed ≢ needs.Nothing → IsBySize size needed x → is_central_word x ≡ false → IsAside size needed x ⊎ IsOfChannel needed x
-kinds size needs.Nothing x fit some by_size none = absurd (some refl)
-kinds size needs.Local answers.Local fit some by_size none = inl (record { serves = serves_local size; given = refl })
-kinds size needs.Local x fit some by_size none = absurd cc
-kinds size (needs.Channel c op) (answers.Channel reply) fit some by_size none =
+not_inside : (a size : ℕ) → (a < size → ⊥) → size ≤ a
+not_inside a size not = elim (cases_lt a size) [ inl less ↦ absurd (not less) | inr past ↦ past ]
+
+-- what an operation did or saw, as an access
+on_channel : ℕ → ℕ → Seen → Access
+on_channel c number what = Access.OnChannel (record { channel = c; number = number; what = what })
+
+accessed_on : (c number : ℕ) (op : ChanOp) (reply : Reply) (what : Seen) → seen_answered op reply ≡ Some what → accesses_by number (needs.Channel c op) (answers.Channel reply) ≡ on_channel c number what ∷ []
+unfolding on_channel
+accessed_on c number op reply what tells = ap (λ o. map (λ what. Access.OnChannel (record { channel = c; number = number; what = what })) (option_to_list o)) tells
+
+kinds : (size : ℕ) (needed : Need) (x : Answer) → fits needed x ≡ true → needed ≢ needs.Nothing → IsBySize size needed x → IsAside size needed x ⊎ IsAccess needed x
+kinds size needs.Nothing x fit some by_size = absurd (some refl)
+kinds size needs.Local answers.Local fit some by_size = inl (record { serves = serves_local size; given = λ number. refl })
+kinds size needs.Local x fit some by_size = absurd cc
+kinds size (needs.Channel c op) (answers.Channel reply) fit some by_size =
     let tells = tells_where_fits op reply fit in
-    inr (record { c = c; op = op; reply = reply; needs_it = refl; is = refl; fit = fit; what = tells.0; tells = tells.1; given = ap (λ o. map (λ what. record { channel = c; what = what }) (option_to_list o)) tells.1 })
-kinds size (needs.Channel c op) x fit some by_size none = absurd cc
-kinds size (needs.Read a) (answers.Read None) fit some by_size none = inl (record { serves = λ happened. serves_no_word size a happened (by_size.0 refl); given = refl })
-kinds size (needs.Read a) (answers.Read (Some w)) fit some by_size none = absurd cc
-kinds size (needs.Read a) x fit some by_size none = absurd cc
-kinds size (needs.Write a w) (answers.Wrote b) fit some by_size none = inl (record { serves = λ happened. serves_write size a w b happened by_size; given = refl })
-kinds size (needs.Write a w) x fit some by_size none = absurd cc
+    inr (record { access = λ number. on_channel c number tells.0; given = λ number. accessed_on c number op reply tells.0 tells.1 })
+kinds size (needs.Channel c op) x fit some by_size = absurd cc
+kinds size (needs.Read a) (answers.Read None) fit some by_size = inl (record { serves = λ past. serves_no_word size a past (by_size.0 refl); given = λ number. refl })
+kinds size (needs.Read a) (answers.Read (Some w)) fit some by_size = inr (record { access = λ number. Access.Read a w; given = λ number. refl })
+kinds size (needs.Read a) x fit some by_size = absurd cc
+kinds size (needs.Write a w) (answers.Wrote false) fit some by_size =
+    inl (record { serves = λ past. serves_no_write size a w past (not_inside a size (λ less. let no = by_size.1 less in absurd cc)); given = λ number. refl })
+kinds size (needs.Write a w) (answers.Wrote true) fit some by_size = inr (record { access = λ number. Access.Write a w number; given = λ number. refl })
+kinds size (needs.Write a w) x fit some by_size = absurd cc
 
-pub kind_of : (size : ℕ) (pp : Processor) (x : Answer) → GoesOn size pp x → IsAside size (need pp) x ⊎ IsOfChannel (need pp) x
+pub kind_of : (size : ℕ) (pp : Processor) (x : Answer) → GoesOn size pp x → IsAside size (need pp) x ⊎ IsAccess (need pp) x
 kind_of size pp x goes =
-    kinds size (need pp) x goes.fit (λ nothing. let rest : outcome pp x ≡ outcomes.AtRest = (at_rest pp x).1 ((nothing_at_rest pp).0 nothing) in let moved = goes.moved in absurd cc) goes.by_size goes.no_word
+    kinds size (need pp) x goes.fit (λ nothing. let rest : outcome pp x ≡ outcomes.AtRest = (at_rest pp x).1 ((nothing_at_rest pp).0 nothing) in let moved = goes.moved in absurd cc) goes.by_size
+
+-- one entry with this sight
+pub record IsSightOf (c : ℕ) (what : Seen) (entry : Entry) : Type 0 where
+  pub channel : c ≡ entry.channel
+  pub seen : what ≡ entry.what
+
+-- the answer that made an access
+pub record IsOnChannel (needed : Need) (x : Answer) (entry : Entry) : Type 0 where
+  pub of : IsOfChannel needed x
+  pub sight : IsSightOf of.c of.what entry
+
+same_entry : (e f : Entry) → (Access.OnChannel e ∷ []) ≡ (Access.OnChannel f ∷ []) → e ≡ f
+same_entry e f is = cc
+
+pub channel_of : (needed : Need) (x : Answer) (number : ℕ) (entry : Entry) → fits needed x ≡ true → accesses_by number needed x ≡ Access.OnChannel entry ∷ [] → IsOnChannel needed x entry
+unfolding on_channel
+channel_of (needs.Channel c op) (answers.Channel reply) number entry fit is =
+    let tells = tells_where_fits op reply fit in
+    let e = same_entry (record { channel = c; number = number; what = tells.0 }) entry (sym (accessed_on c number op reply tells.0 tells.1) ∙ is) in record {
+      of = record { c = c; op = op; reply = reply; needs_it = refl; is = refl; fit = fit; what = tells.0; tells = tells.1 };
+      sight = record { channel = ap (λ (y : Entry). y.channel) e; seen = ap (λ (y : Entry). y.what) e };
+    }
+channel_of (needs.Channel c op) x number entry fit is = absurd cc
+channel_of needs.Nothing x number entry fit is = absurd cc
+channel_of needs.Local x number entry fit is = absurd cc
+channel_of (needs.Read a) (answers.Read None) number entry fit is = absurd cc
+channel_of (needs.Read a) (answers.Read (Some w)) number entry fit is = absurd cc
+channel_of (needs.Read a) x number entry fit is = absurd cc
+channel_of (needs.Write a w) (answers.Wrote false) number entry fit is = absurd cc
+channel_of (needs.Write a w) (answers.Wrote true) number entry fit is = absurd cc
+channel_of (needs.Write a w) x number entry fit is = absurd cc
+
+pub read_of : (needed : Need) (x : Answer) (number a w : ℕ) → fits needed x ≡ true → accesses_by number needed x ≡ Access.Read a w ∷ [] → (needed ≡ needs.Read a) × (x ≡ answers.Read (Some w))
+unfolding on_channel
+read_of (needs.Channel c op) (answers.Channel reply) number a w fit is =
+    let tells = tells_where_fits op reply fit in
+    let no : on_channel c number tells.0 ∷ [] ≡ Access.Read a w ∷ [] = sym (accessed_on c number op reply tells.0 tells.1) ∙ is in absurd cc
+read_of (needs.Channel c op) x number a w fit is = absurd cc
+read_of needs.Nothing x number a w fit is = absurd cc
+read_of needs.Local x number a w fit is = absurd cc
+read_of (needs.Read b) (answers.Read None) number a w fit is = absurd cc
+read_of (needs.Read b) (answers.Read (Some v)) number a w fit is =
+    let address : b ≡ a = cc in
+    let word : v ≡ w = cc in
+    (ap (λ k. needs.Read k) address, ap (λ k. answers.Read (Some k)) word)
+read_of (needs.Read b) x number a w fit is = absurd cc
+read_of (needs.Write b v) (answers.Wrote false) number a w fit is = absurd cc
+read_of (needs.Write b v) (answers.Wrote true) number a w fit is = absurd cc
+read_of (needs.Write b v) x number a w fit is = absurd cc
+
+pub write_of : (needed : Need) (x : Answer) (number a w k : ℕ) → fits needed x ≡ true → accesses_by number needed x ≡ Access.Write a w k ∷ [] → (needed ≡ needs.Write a w) × (x ≡ answers.Wrote true)
+unfolding on_channel
+write_of (needs.Channel c op) (answers.Channel reply) number a w k fit is =
+    let tells = tells_where_fits op reply fit in
+    let no : on_channel c number tells.0 ∷ [] ≡ Access.Write a w k ∷ [] = sym (accessed_on c number op reply tells.0 tells.1) ∙ is in absurd cc
+write_of (needs.Channel c op) x number a w k fit is = absurd cc
+write_of needs.Nothing x number a w k fit is = absurd cc
+write_of needs.Local x number a w k fit is = absurd cc
+write_of (needs.Read b) (answers.Read None) number a w k fit is = absurd cc
+write_of (needs.Read b) (answers.Read (Some v)) number a w k fit is = absurd cc
+write_of (needs.Read b) x number a w k fit is = absurd cc
+write_of (needs.Write b v) (answers.Wrote false) number a w k fit is = absurd cc
+write_of (needs.Write b v) (answers.Wrote true) number a w k fit is =
+    let address : b ≡ a = cc in
+    let word : v ≡ w = cc in
+    (λ j. needs.Write (address j) (word j), refl)
+write_of (needs.Write b v) x number a w k fit is = absurd cc
 
 -- a block that a channel ended by being inactive: its operation was not ready
 inactive : (kind : BlockKind) (place : ℕ) (pp : Processor) (c : ℕ) (op : ChanOp) (f : Flags) → need_of (block_word kind place pp) ≡ needs.Channel c op → f.active ≡ false → ready_at op f ≡ false

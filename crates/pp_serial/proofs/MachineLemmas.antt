@@ -1,10 +1,10 @@
 -- Steps of a machine, by its processors and its histories.
-use Rattle.std.proofs.Common.{false, true, Bool, ltb, ◌≤◌, ◌≡◌, ◌≢◌, ℕ, ◌+◌, ◌<◌, List, [], ◌∷◌, ◌++◌, length, get_or, set, Option, Some, None, refl, sym, ap, ◌∙◌, subst, inl, inr, arith}
-use Rattle.std.specs.Prelude.{◌⊎◌, ◌↔◌, IsTrue, All}
+use Rattle.std.proofs.Common.{false, true, ◌≤◌, ◌≡◌, ◌≢◌, ℕ, ◌+◌, ◌<◌, List, [], ◌∷◌, ◌++◌, length, get_or, set, Option, Some, None, refl, sym, ap, ◌∙◌, subst, inl, inr, arith}
+use Rattle.std.specs.Prelude.{IsTrue, All, slice_get, slice_index, slice_set}
 use Rattle.std.specs.Option.{option_to_list}
-use Rattle.std.proofs.lemmas.Bool.{cases_lt, le-ltb, cases_eq, lt-ltb}
-use Rattle.std.proofs.lemmas.Option.{slice_get_past}
-use Rattle.std.proofs.lemmas.List.{append-nil, length-append, length-set, set-get_or, get_or-set_same, get_or-set_other}
+use Rattle.std.proofs.lemmas.Bool.{le-ltb, cases_eq, lt-ltb}
+use Rattle.std.proofs.lemmas.Option.{slice_get_past, slice_get-get_or}
+use Rattle.std.proofs.lemmas.List.{append-nil, length-append, length-set, set-get_or, set_past, get_or-set_same, get_or-set_other}
 use Rattle.std.proofs.lemmas.List.Elements.{All-append, All-cons, All-nil}
 use Rattle.std.proofs.lemmas.List.Sums.{fold-append}
 use Rattle.pp_channel.specs.Answer.{event_of, reply_to}
@@ -30,12 +30,18 @@ use Rattle.pp_machine.specs.declared.need.Need.{Need}
 use Rattle.pp_machine.specs.declared.need.Need.TheVariants as needs
 use Rattle.pp_machine.specs.declared.profile.Profile.{Profile}
 
--- a machine has these processors, each channel this history, and central memory so many words
-pub record Stands (size : ℕ) (m : MachineState) (pps : List Processor) (happened : ℕ → List Event) : Type 0 where
+-- what has come to pass: the history of each channel, and the words of central memory
+pub record Past : Type 0 where
+  pub happened : ℕ → List Event
+  pub words : List ℕ
+
+-- a machine has these processors; its channels and its central memory, of this size, are as this left them
+pub record Stands (size : ℕ) (m : MachineState) (pps : List Processor) (past : Past) : Type 0 where
   pub processors : m.processors ≡ pps
   pub channels : length m.histories ≡ channel_count
-  pub histories : (c : ℕ) → history_of c m ≡ happened c
-  pub central : length m.central ≡ size
+  pub histories : (c : ℕ) → history_of c m ≡ past.happened c
+  pub central : m.central ≡ past.words
+  pub sized : length past.words ≡ size
 
 -- each of these steps moves its processor
 abbrev pub AllMove : MachineState → List ℕ → Type 0
@@ -47,31 +53,37 @@ all_move m [] ks a b = b
 all_move m (n ∷ ns) ks a b = (a.0, all_move (stepped n m) ns ks a.1 b)
 
 -- steps of processors of the profile, each of which moves its processor, lead a machine to one that stands so
-pub record IsLed (size : ℕ) (p : Profile) (m : MachineState) (after : List Processor) (later : ℕ → List Event) (ns : List ℕ) (steps : ℕ) : Type 0 where
+pub record IsLed (size : ℕ) (p : Profile) (m : MachineState) (after : List Processor) (later : Past) (ns : List ℕ) (steps : ℕ) : Type 0 where
   pub count : length ns ≡ steps
   pub named : All (λ n. IsTrue (has_processor p n)) ns
   pub moved : AllMove m ns
   pub stands : Stands size (run ns m) after later
 
 -- so many steps lead each machine that stands so to one that stands so
-abbrev pub Leads : ℕ → Profile → ℕ → List Processor → (ℕ → List Event) → List Processor → (ℕ → List Event) → Type 0
-Leads size p steps pps happened after later = (m : MachineState) → Stands size m pps happened → (ns : List ℕ) × IsLed size p m after later ns steps
+abbrev pub Leads : ℕ → Profile → ℕ → List Processor → Past → List Processor → Past → Type 0
+Leads size p steps pps past after later = (m : MachineState) → Stands size m pps past → (ns : List ℕ) × IsLed size p m after later ns steps
 
-pub leads_by : (size : ℕ) (p : Profile) (one two : List Processor) (first second : ℕ → List Event) (k n : ℕ) → k ≡ n → Leads size p k one first two second → Leads size p n one first two second
+pub leads_by : (size : ℕ) (p : Profile) (one two : List Processor) (first second : Past) (k n : ℕ) → k ≡ n → Leads size p k one first two second → Leads size p n one first two second
 leads_by size p one two first second k n is leads = subst (λ (j : ℕ). Leads size p j one first two second) is leads
 
-pub leads_none : (size : ℕ) (p : Profile) (pps : List Processor) (happened later : ℕ → List Event) → ((c : ℕ) → happened c ≡ later c) → Leads size p 0 pps happened pps later
-leads_none size p pps happened later same m stands = (
+pub leads_none : (size : ℕ) (p : Profile) (pps : List Processor) (past later : Past) → ((c : ℕ) → past.happened c ≡ later.happened c) → past.words ≡ later.words → Leads size p 0 pps past pps later
+leads_none size p pps past later same words m stands = (
   [],
   record {
     count = refl;
     named = All-nil (λ n. IsTrue (has_processor p n));
     moved = tt;
-    stands = record { processors = stands.processors; channels = stands.channels; histories = λ c. stands.histories c ∙ same c; central = stands.central };
+    stands = record {
+      processors = stands.processors;
+      channels = stands.channels;
+      histories = λ c. stands.histories c ∙ same c;
+      central = stands.central ∙ words;
+      sized = ap length (sym words) ∙ stands.sized;
+    };
   },
 )
 
-pub leads_on : (size : ℕ) (p : Profile) (k n : ℕ) (one two three : List Processor) (first second third : ℕ → List Event) → Leads size p k one first two second → Leads size p n two second three third → Leads size p (k + n) one first three third
+pub leads_on : (size : ℕ) (p : Profile) (k n : ℕ) (one two three : List Processor) (first second third : Past) → Leads size p k one first two second → Leads size p n two second three third → Leads size p (k + n) one first three third
 leads_on size p k n one two three first second third a b m stands =
     let s = a m stands in
     let t = b (run s.0 m) s.1.stands in
@@ -101,17 +113,21 @@ moves : (n : ℕ) (m : MachineState) (pp : Processor) (x : Answer) → processor
 unfolding step_outcome
 moves n m pp x is answer moved = (λ j. outcome (is j) (answer j)) ∙ moved
 
--- what a need does to the histories
-pub record Serves (size : ℕ) (needed : Need) (x : Answer) (happened later : ℕ → List Event) : Type 0 where
-  pub answers_so : (m : MachineState) (pps : List Processor) → Stands size m pps happened → answer_to needed m ≡ x
-  pub channels : (m : MachineState) (pps : List Processor) → Stands size m pps happened → length (histories_after needed m) ≡ channel_count
-  pub histories : (m : MachineState) (pps : List Processor) → Stands size m pps happened → (c : ℕ) → history_on c (histories_after needed m) ≡ later c
-  pub central : (m : MachineState) → length m.central ≡ size → length (central_after needed m) ≡ size
+-- what a need does to channels and central memory
+pub record Serves (size : ℕ) (needed : Need) (x : Answer) (past later : Past) : Type 0 where
+  pub answers_so : (m : MachineState) (pps : List Processor) → Stands size m pps past → answer_to needed m ≡ x
+  pub channels : (m : MachineState) (pps : List Processor) → Stands size m pps past → length (histories_after needed m) ≡ channel_count
+  pub histories : (m : MachineState) (pps : List Processor) → Stands size m pps past → (c : ℕ) → history_on c (histories_after needed m) ≡ later.happened c
+  pub central : (m : MachineState) (pps : List Processor) → Stands size m pps past → central_after needed m ≡ later.words
+  pub sized : length past.words ≡ size → length later.words ≡ size
+
+pub serves_by : (size : ℕ) (n k : Need) (x y : Answer) (past later : Past) → n ≡ k → x ≡ y → Serves size k y past later → Serves size n x past later
+serves_by size n k x y past later needed answered serves = rw (needed, answered) serves
 
 -- one step of the processor at a place
-pub leads_step : (size : ℕ) (p : Profile) (pps : List Processor) (place : ℕ) (x : Answer) (happened later : ℕ → List Event) → place < processors_in p → outcome (get_or pps place no_processor) x ≡ Moved
-    → Serves size (need (get_or pps place no_processor)) x happened later → Leads size p 1 pps happened (set pps place (processor_after (get_or pps place no_processor) x)) later
-leads_step size p pps place x happened later inside moved serves m stands =
+pub leads_step : (size : ℕ) (p : Profile) (pps : List Processor) (place : ℕ) (x : Answer) (past later : Past) → place < processors_in p → outcome (get_or pps place no_processor) x ≡ Moved
+    → Serves size (need (get_or pps place no_processor)) x past later → Leads size p 1 pps past (set pps place (processor_after (get_or pps place no_processor) x)) later
+leads_step size p pps place x past later inside moved serves m stands =
     let most = most_processors p in
     let n = processor_number place in
     let at : processor_index n ≡ place = place_of_number place (omega (arith, inside, most)) in
@@ -126,71 +142,92 @@ leads_step size p pps place x happened later inside moved serves m stands =
           processors = stepped_processors n m ∙ (λ j. set (stands.processors j) (at j) (processor_after (pp j) (answer j)));
           channels = ap length (stepped_histories n m) ∙ (ap (λ q. length (histories_after (need q) m)) pp ∙ serves.channels m pps stands);
           histories = λ c. ap (history_on c) (stepped_histories n m) ∙ (ap (λ q. history_on c (histories_after (need q) m)) pp ∙ serves.histories m pps stands c);
-          central = ap length (stepped_central n m) ∙ (ap (λ q. length (central_after (need q) m)) pp ∙ serves.central m stands.central);
+          central = stepped_central n m ∙ (ap (λ q. central_after (need q) m) pp ∙ serves.central m pps stands);
+          sized = serves.sized stands.sized;
         };
       },
     )
 
 -- nothing from outside
-pub serves_local : (size : ℕ) (happened : ℕ → List Event) → Serves size needs.Local answers.Local happened happened
-serves_local size happened = record {
+pub serves_local : (size : ℕ) (past : Past) → Serves size needs.Local answers.Local past past
+serves_local size past = record {
   answers_so = λ m pps stands. refl;
   channels = λ m pps stands. stands.channels;
   histories = λ m pps stands. stands.histories;
-  central = λ m is. is;
+  central = λ m pps stands. stands.central;
+  sized = λ is. is;
 }
 
 -- an operation that makes no event
-pub serves_look : (size c : ℕ) (op : ChanOp) (reply : Reply) (happened : ℕ → List Event) → reply_to op (happened c) ≡ reply → event_of op (happened c) ≡ None → Serves size (needs.Channel c op) (answers.Channel reply) happened happened
-serves_look size c op reply happened replied none =
-    let same : (m : MachineState) (pps : List Processor) → Stands size m pps happened → histories_after (needs.Channel c op) m ≡ m.histories = λ m pps stands.
+pub serves_look : (size c : ℕ) (op : ChanOp) (reply : Reply) (past : Past) → reply_to op (past.happened c) ≡ reply → event_of op (past.happened c) ≡ None → Serves size (needs.Channel c op) (answers.Channel reply) past past
+serves_look size c op reply past replied none =
+    let same : (m : MachineState) (pps : List Processor) → Stands size m pps past → histories_after (needs.Channel c op) m ≡ m.histories = λ m pps stands.
     ap (λ (o : Option Event). set m.histories (channel_index c) (history_of c m ++ option_to_list o)) (ap (event_of op) (stands.histories c) ∙ none)
     ∙ (ap (λ h. set m.histories (channel_index c) h) (append-nil (history_of c m)) ∙ set-get_or m.histories (channel_index c) []) in record {
       answers_so = λ m pps stands. ap (λ h. answers.Channel (reply_to op h)) (stands.histories c) ∙ ap (λ r. answers.Channel r) replied;
       channels = λ m pps stands. ap length (same m pps stands) ∙ stands.channels;
       histories = λ m pps stands d. ap (history_on d) (same m pps stands) ∙ stands.histories d;
-      central = λ m is. is;
+      central = λ m pps stands. stands.central;
+      sized = λ is. is;
     }
 
 -- one that makes an event
-pub serves_event : (size c : ℕ) (op : ChanOp) (reply : Reply) (e : Event) (happened later : ℕ → List Event) → IsTrue (names_channel c) → reply_to op (happened c) ≡ reply → event_of op (happened c) ≡ Some e
-    → (later c ≡ happened c ++ e ∷ []) → ((d : ℕ) → c ≢ d → later d ≡ happened d) → Serves size (needs.Channel c op) (answers.Channel reply) happened later
-serves_event size c op reply e happened later names replied made here elsewhere =
-    let after : (m : MachineState) (pps : List Processor) → Stands size m pps happened → histories_after (needs.Channel c op) m ≡ set m.histories (channel_index c) (happened c ++ e ∷ []) = λ m pps stands.
+pub serves_event : (size c : ℕ) (op : ChanOp) (reply : Reply) (e : Event) (past later : Past) → IsTrue (names_channel c) → reply_to op (past.happened c) ≡ reply → event_of op (past.happened c) ≡ Some e
+    → (later.happened c ≡ past.happened c ++ e ∷ []) → ((d : ℕ) → c ≢ d → later.happened d ≡ past.happened d) → past.words ≡ later.words → Serves size (needs.Channel c op) (answers.Channel reply) past later
+serves_event size c op reply e past later names replied made here elsewhere words =
+    let after : (m : MachineState) (pps : List Processor) → Stands size m pps past → histories_after (needs.Channel c op) m ≡ set m.histories (channel_index c) (past.happened c ++ e ∷ []) = λ m pps stands.
     (λ j. set m.histories (channel_index c) (stands.histories c j ++ option_to_list (event_of op (stands.histories c j))))
-    ∙ ap (λ (o : Option Event). set m.histories (channel_index c) (happened c ++ option_to_list o)) made in record {
+    ∙ ap (λ (o : Option Event). set m.histories (channel_index c) (past.happened c ++ option_to_list o)) made in record {
       answers_so = λ m pps stands. ap (λ h. answers.Channel (reply_to op h)) (stands.histories c) ∙ ap (λ r. answers.Channel r) replied;
-      channels = λ m pps stands. ap length (after m pps stands) ∙ (length-set m.histories (channel_index c) (happened c ++ e ∷ []) ∙ stands.channels);
+      channels = λ m pps stands. ap length (after m pps stands) ∙ (length-set m.histories (channel_index c) (past.happened c ++ e ∷ []) ∙ stands.channels);
       histories = λ m pps stands d. ap (history_on d) (after m pps stands) ∙ elim (cases_eq c d) [
         | inl same ↦
             let below = place_below c names in
-            let written : history_on c (set m.histories (channel_index c) (happened c ++ e ∷ [])) ≡ happened c ++ e ∷ [] = get_or-set_same m.histories (channel_index c) (happened c ++ e ∷ []) [] (omega (arith, below, stands.channels)) in
-            subst (λ (k : ℕ). history_on k (set m.histories (channel_index c) (happened c ++ e ∷ [])) ≡ later k) same (written ∙ sym here)
+            let written : history_on c (set m.histories (channel_index c) (past.happened c ++ e ∷ [])) ≡ past.happened c ++ e ∷ [] = get_or-set_same m.histories (channel_index c) (past.happened c ++ e ∷ []) [] (omega (arith, below, stands.channels)) in
+            subst (λ (k : ℕ). history_on k (set m.histories (channel_index c) (past.happened c ++ e ∷ [])) ≡ later.happened k) same (written ∙ sym here)
         | inr other ↦
-            get_or-set_other m.histories (channel_index c) (channel_index d) (happened c ++ e ∷ []) [] (λ is. other (sym (one_place c d names is)))
+            get_or-set_other m.histories (channel_index c) (channel_index d) (past.happened c ++ e ∷ []) [] (λ is. other (sym (one_place c d names is)))
             ∙ (stands.histories d ∙ sym (elsewhere d other))
       ];
-      central = λ m is. is;
+      central = λ m pps stands. stands.central ∙ words;
+      sized = λ is. ap length (sym words) ∙ is;
     }
 
--- central memory: a word is written, or not, by the size alone, and none is found past it
-pub serves_write : (size a w : ℕ) (written : Bool) (happened : ℕ → List Event) → IsTrue written ↔ (a < size) → Serves size (needs.Write a w) (answers.Wrote written) happened happened
-serves_write size a w written happened by_size = record {
-  answers_so = λ m pps stands. ap (λ k. answers.Wrote (ltb a k)) stands.central ∙ ap (λ b. answers.Wrote b) (below written by_size (cases_lt a size));
+-- central memory: a word is found, and one is written
+pub serves_read : (size a w : ℕ) (past : Past) → slice_index past.words a ≡ w → a < size → Serves size (needs.Read a) (answers.Read (Some w)) past past
+serves_read size a w past found inside = record {
+  answers_so = λ m pps stands.
+      ap (λ (words : List ℕ). answers.Read (slice_get words a)) stands.central ∙ (ap (λ o. answers.Read o) (slice_get-get_or past.words a 0 (omega (arith, inside, stands.sized))) ∙ ap (λ k. answers.Read (Some k)) found);
   channels = λ m pps stands. stands.channels;
   histories = λ m pps stands. stands.histories;
-  central = λ m is. length-set m.central a w ∙ is;
+  central = λ m pps stands. stands.central;
+  sized = λ is. is;
 }
-  where
-    below : (written : Bool) → IsTrue written ↔ (a < size) → (a < size) ⊎ (size ≤ a) → ltb a size ≡ written
-    below true by_size cases = lt-ltb a size (by_size.0 refl)
-    below false by_size (inl less) = let no = by_size.1 less in absurd cc
-    below false by_size (inr past) = le-ltb a size past
 
-pub serves_no_word : (size a : ℕ) (happened : ℕ → List Event) → size ≤ a → Serves size (needs.Read a) (answers.Read None) happened happened
-serves_no_word size a happened past = record {
-  answers_so = λ m pps stands. ap (λ o. answers.Read o) (slice_get_past m.central a (omega (arith, past, stands.central)));
+pub serves_write : (size a w : ℕ) (past later : Past) → a < size → ((c : ℕ) → past.happened c ≡ later.happened c) → slice_set past.words a w ≡ later.words → Serves size (needs.Write a w) (answers.Wrote true) past later
+serves_write size a w past later inside same words = record {
+  answers_so = λ m pps stands. ap (λ b. answers.Wrote b) (lt-ltb a (length m.central) (omega (arith, inside, ap length stands.central, stands.sized)));
+  channels = λ m pps stands. stands.channels;
+  histories = λ m pps stands c. stands.histories c ∙ same c;
+  central = λ m pps stands. ap (λ (ws : List ℕ). slice_set ws a w) stands.central ∙ words;
+  sized = λ is. ap length (sym words) ∙ (length-set past.words a w ∙ is);
+}
+
+-- past its size none is found, and none is written
+pub serves_no_word : (size a : ℕ) (past : Past) → size ≤ a → Serves size (needs.Read a) (answers.Read None) past past
+serves_no_word size a past behind = record {
+  answers_so = λ m pps stands. ap (λ o. answers.Read o) (slice_get_past m.central a (omega (arith, behind, ap length stands.central, stands.sized)));
   channels = λ m pps stands. stands.channels;
   histories = λ m pps stands. stands.histories;
-  central = λ m is. is;
+  central = λ m pps stands. stands.central;
+  sized = λ is. is;
+}
+
+pub serves_no_write : (size a w : ℕ) (past : Past) → size ≤ a → Serves size (needs.Write a w) (answers.Wrote false) past past
+serves_no_write size a w past behind = record {
+  answers_so = λ m pps stands. ap (λ b. answers.Wrote b) (le-ltb a (length m.central) (omega (arith, behind, ap length stands.central, stands.sized)));
+  channels = λ m pps stands. stands.channels;
+  histories = λ m pps stands. stands.histories;
+  central = λ m pps stands. set_past m.central a w (omega (arith, behind, ap length stands.central, stands.sized)) ∙ stands.central;
+  sized = λ is. is;
 }

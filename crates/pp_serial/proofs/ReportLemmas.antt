@@ -1,22 +1,23 @@
 -- A report of threads is what one list of steps leaves.
-use Rattle.std.proofs.Common.{◌≡◌, ℕ, zero, suc, ◌+◌, ◌<◌, ◌≤◌, Bool, true, false, cond, ◌&&◌, List, [], ◌∷◌, ◌++◌, length, take, drop, get_or, map, Option, refl, sym, ap, ◌∙◌, subst, inl, inr, ⊎_elim, arith}
-use Rattle.std.specs.Prelude.{slice_get, Some, IsTrue, All}
-use Rattle.std.specs.List.{cons_option, filter_map, sum_by}
+use Rattle.std.proofs.Common.{◌≡◌, ℕ, zero, suc, ◌+◌, ◌<◌, ◌≤◌, Bool, true, false, cond, ◌&&◌, None, List, [], ◌∷◌, ◌++◌, length, take, drop, get_or, map, Option, refl, sym, ap, ◌∙◌, subst, inl, inr, ⊎_elim, arith}
+use Rattle.std.specs.Prelude.{◌==◌, slice_get, Some, IsTrue, All}
+use Rattle.std.specs.List.{cons_option, flat_map, range_with_len, sum_by}
 use Rattle.std.proofs.lemmas.Bool.{cases_lt}
 use Rattle.std.proofs.lemmas.List.{ext_get_or, get_or_past, length-take-le, take-append-drop, length-map}
-use Rattle.std.proofs.lemmas.List.Elements.{All-cons, All-head, All-nil, All-tail, filter_map-append}
-use Rattle.std.proofs.lemmas.List.Sums.{sum_by-cons}
+use Rattle.std.proofs.lemmas.List.Elements.{All-cons, All-nil, filter_map-append}
+use Rattle.std.proofs.lemmas.List.Sums.{sum_by-append, sum_by-cons}
 use Rattle.list_facts.specs.Subsequence.{IsSubsequence}
-use Rattle.list_facts.specs.Subsequences.{stands_after, stands_through}
-use Rattle.pp_channel.specs.Answer.{seen_answered, event_answered}
+use Rattle.list_facts.specs.Subsequences.{stands_through}
+use Rattle.pp_channel.specs.Answer.{event_answered}
 use Rattle.pp_channel.specs.ChannelNo.{channel_count, channel_index, channel_number, names_channel}
 use Rattle.pp_channel.specs.ChannelPlaces.{named_below, place_of_number}
-use Rattle.pp_channel.specs.History.{history_on}
+use Rattle.pp_channel.specs.History.{IsLawful, history_on}
 use Rattle.pp_channel.specs.LineLog.{is_event}
 use Rattle.pp_channel.specs.Law.{IsPrefix}
-use Rattle.pp_channel.specs.Order.{entries_among}
+use Rattle.pp_channel.specs.Order.{entries_among, times, writes_among}
 use Rattle.pp_channel.specs.declared.access.Access.{Access}
-use Rattle.pp_channel.proofs.OrderLemmas.{entries_stand}
+use Rattle.pp_channel.specs.declared.access.Access.TheVariants.{OnChannel, Read, Write}
+use Rattle.pp_channel.proofs.OrderLemmas.{entries_more}
 use Rattle.pp_channel.specs.Merge.{times_logged}
 use Rattle.pp_channel.specs.declared.chan_op.ChanOp.{ChanOp}
 use Rattle.pp_channel.specs.declared.chan_op.ChanOp.TheVariants as operations
@@ -35,7 +36,7 @@ use Rattle.pp_machine.specs.Processor.{Processor}
 use Rattle.pp_machine.specs.Profile.{processors_in}
 use Rattle.pp_machine.specs.ProfilePlaces.{most_processors}
 use Rattle.pp_machine.specs.Run.{run}
-use Rattle.pp_machine.specs.Replay.{OfChannel, fits, given_by, replayed, told_along, events_given, sights_given}
+use Rattle.pp_machine.specs.Replay.{OfChannel, fits, given_by, replayed, told_along, events_given}
 use Rattle.pp_machine.specs.ReplayLaws.{Gives, Gives-counted, Gives-to}
 use Rattle.pp_machine.specs.declared.answer.Answer.{Answer}
 use Rattle.pp_machine.specs.declared.answer.Answer.TheVariants as answers
@@ -43,50 +44,17 @@ use Rattle.pp_machine.specs.declared.need.Need.{Need}
 use Rattle.pp_machine.specs.declared.need.Need.TheVariants as needs
 use Rattle.pp_machine.specs.declared.outcome.Outcome.TheVariants.{Moved}
 use Rattle.pp_machine.specs.declared.profile.Profile.{Profile}
-use Rattle.pp_runner.specs.Accesses.{HaveAccessed}
+use Rattle.pp_runner.specs.Accesses.{accesses_by, AreAccessesOf, HasAccessed, HaveAccessed}
 use Rattle.pp_runner.specs.Limits.{RunLimits}
 use Rattle.pp_runner.specs.Report.{IsReportOf}
-use Rattle.pp_runner.specs.WorkerReport.{OfEachAnswer, AllMoved, AllBySize, IsBySize, AreWorkers, IsLoggedWorker, event_in, events_in, sights_in, logs_of}
+use Rattle.pp_runner.specs.WorkerReport.{OfEachAnswer, AllMoved, AllBySize, IsBySize, AreWorkers, IsLoggedWorker, event_in, events_in, logs_of}
 use Rattle.pp_runner.specs.declared.report.Report.{Report}
 use Rattle.pp_runner.specs.declared.worker.Worker.{Worker}
-use Rattle.pp_serial.specs.Serial.{HasNotRun, IsSerialRunOf, is_central_word, NoCentralWordIsRead}
-use Rattle.pp_serial.proofs.MachineLemmas.{Stands, AllMove}
+use Rattle.pp_serial.specs.Serial.{HasNotRun, IsSerialRunOf}
+use Rattle.pp_serial.proofs.MachineLemmas.{Past, Stands, AllMove}
 use Rattle.pp_machine.specs.MachineStep.{stepped, step_outcome}
-use Rattle.pp_serial.proofs.ServeLemmas.{answers_left, times_left, times_cons, Ready, Once, serve}
+use Rattle.pp_serial.proofs.ServeLemmas.{answers_left, event_times, tells_event, tells_write, times_left, times_cons, NumberedFrom, Ready, Once, Written, serve}
 use Rattle.pp_serial.proofs.WorkingLemmas.{Working, Does, all_of}
-
-module _ {X Y : Type 0} (f : X → Y) where
-  -- what stands among the values of items are the values of items that stand there
-  picked : (ss : List Y) (xs : List X) → IsSubsequence ss (map f xs) → (es : List X) × (map f es ≡ ss) × IsSubsequence es xs
-  picked [] xs h = ([], refl, tt)
-  picked (s ∷ ss) [] h = absurd h
-  picked (s ∷ ss) (x ∷ xs) h =
-      elim h [
-        | inl p ↦ let rest = picked ss xs p.1 in (x ∷ rest.0, λ j. sym p.0 j ∷ rest.1 j, inl (refl, rest.2))
-        | inr q ↦ let rest = picked (s ∷ ss) xs q in (rest.0, rest.1, stands_after rest.0 x xs rest.2)
-      ]
-
-  -- values in two parts are those of two parts
-  pub record Parted (es : List X) (a b : List Y) : Type 0 where
-    pub front : List X
-    pub rest : List X
-    pub are : es ≡ front ++ rest
-    pub first : map f front ≡ a
-    pub second : map f rest ≡ b
-
-  parted : (es : List X) (a b : List Y) → map f es ≡ a ++ b → Parted es a b
-  parted es [] b is = record { front = []; rest = es; are = refl; first = refl; second = is }
-  parted [] (y ∷ a) b is = absurd cc
-  parted (e ∷ es) (y ∷ a) b is =
-      let head : f e ≡ y = cc in
-      let tail : map f es ≡ a ++ b = cc in
-      let more = parted es a b tail in record {
-        front = e ∷ more.front;
-        rest = more.rest;
-        are = ap (λ xs. e ∷ xs) more.are;
-        first = λ j. head j ∷ more.first j;
-        second = more.second;
-      }
 
 -- an answer, and those behind it
 each_first : (P : Processor → Answer → Type 0) (load : Processor) (x : Answer) (xs : List Answer) → OfEachAnswer P load (x ∷ xs) → P load x
@@ -107,61 +75,50 @@ told_none : {X : Type 0} (tells : ChanOp → Reply → Option X) (pp : Processor
 unfolding told_along
 told_none tells pp = refl
 
-no_entries : (es : List Entry) → sights_in es ≡ [] → es ≡ []
-no_entries [] is = refl
-no_entries (e ∷ es) is = absurd cc
-
--- a worker's answers, with the entries that tell what they did and saw
-does : (size : ℕ) (xs : List Answer) (pp after : Processor) (es : List Entry) → Gives pp xs after → AllMoved pp xs → AllBySize size pp xs → All (λ x. is_central_word x ≡ false) xs → sights_in es ≡ sights_given pp xs → Does size pp xs es after
-does size [] pp after es gives moved by_size channel is = (no_entries es (is ∙ told_none seen_answered pp), gives)
-does size (x ∷ xs) pp after es gives moved by_size channel is =
-    let P : Answer → Type 0 = λ y. is_central_word y ≡ false in
+-- a worker's answers, with the accesses that they made
+does : (size : ℕ) (xs : List Answer) (pp after : Processor) (made : List Access) → Gives pp xs after → AllMoved pp xs → AllBySize size pp xs → AreAccessesOf pp xs made → Does size pp xs made after
+does size [] pp after made gives moved by_size are = (are, gives)
+does size (x ∷ xs) pp after made gives moved by_size are =
     let S : Processor → Answer → Type 0 = λ q y. IsBySize size (need q) y in
-    let M : Processor → Answer → Type 0 = λ q y. outcome q y ≡ Moved in
-    let part = parted (λ (entry : Entry). record { channel = entry.channel; what = entry.what }) es (given_by seen_answered (need pp) x) (sights_given (processor_after pp x) xs) (is ∙ told_cons seen_answered pp x xs gives.0) in (
-      record { fit = gives.0; moved = each_first M pp x xs moved; by_size = each_first S pp x xs by_size; no_word = All-head P x xs channel },
-      (
-        part.rest,
-        record { front = part.front; are = part.are; told = part.first },
-        does size xs (processor_after pp x) after part.rest gives.1 (each_rest M pp x xs gives.0 moved) (each_rest S pp x xs gives.0 by_size) (All-tail P x xs channel) part.second,
-      ),
+    let M : Processor → Answer → Type 0 = λ q y. outcome q y ≡ Moved in (
+      record { fit = gives.0; moved = each_first M pp x xs moved; by_size = each_first S pp x xs by_size },
+      (are.0, are.1, are.2, does size xs (processor_after pp x) after are.1 gives.1 (each_rest M pp x xs gives.0 moved) (each_rest S pp x xs gives.0 by_size) are.3),
     )
 
--- the events among sights
-did_in : List (OfChannel Seen) → List (OfChannel Event)
-did_in ss = filter_map (λ s. event_in s.channel s.what) ss
+-- the events among accesses are those that the answers made
+did_by : (number c : ℕ) (op : ChanOp) (reply : Reply) → events_in (entries_among (accesses_by number (needs.Channel c op) (answers.Channel reply))) ≡ given_by event_answered (needs.Channel c op) (answers.Channel reply)
+did_by number c op (replies.Flags f) = refl
+did_by number c op (replies.Held f) = refl
+did_by number c operations.Probe replies.Done = refl
+did_by number c operations.Activate replies.Done = refl
+did_by number c operations.Disconnect replies.Done = refl
+did_by number c (operations.Put w) replies.Done = refl
+did_by number c operations.Take replies.Done = refl
+did_by number c (operations.Function w) replies.Done = refl
+did_by number c operations.Take (replies.Word w) = refl
+did_by number c op (replies.Word w) = refl
 
-did_entries : (es : List Entry) → did_in (sights_in es) ≡ events_in es
-unfolding did_in
-did_entries [] = refl
-did_entries (e ∷ es) = ap (λ (more : List (OfChannel Event)). cons_option (event_in e.channel e.what) more) (did_entries es)
+did_given : (number : ℕ) (needed : Need) (x : Answer) → fits needed x ≡ true → events_in (entries_among (accesses_by number needed x)) ≡ given_by event_answered needed x
+did_given number (needs.Channel c op) (answers.Channel reply) fit = did_by number c op reply
+did_given number (needs.Channel c op) x fit = absurd cc
+did_given number needs.Nothing x fit = refl
+did_given number needs.Local x fit = refl
+did_given number (needs.Read a) (answers.Read None) fit = refl
+did_given number (needs.Read a) (answers.Read (Some w)) fit = refl
+did_given number (needs.Read a) x fit = absurd cc
+did_given number (needs.Write a w) (answers.Wrote false) fit = refl
+did_given number (needs.Write a w) (answers.Wrote true) fit = refl
+did_given number (needs.Write a w) x fit = absurd cc
 
-did_by : (c : ℕ) (op : ChanOp) (reply : Reply) → did_in (given_by seen_answered (needs.Channel c op) (answers.Channel reply)) ≡ given_by event_answered (needs.Channel c op) (answers.Channel reply)
-unfolding did_in
-did_by c op (replies.Flags f) = refl
-did_by c op (replies.Held f) = refl
-did_by c operations.Probe replies.Done = refl
-did_by c operations.Activate replies.Done = refl
-did_by c operations.Disconnect replies.Done = refl
-did_by c (operations.Put w) replies.Done = refl
-did_by c operations.Take replies.Done = refl
-did_by c (operations.Function w) replies.Done = refl
-did_by c operations.Take (replies.Word w) = refl
-did_by c op (replies.Word w) = refl
-
-did_given : (needed : Need) (x : Answer) → fits needed x ≡ true → did_in (given_by seen_answered needed x) ≡ given_by event_answered needed x
-unfolding did_in
-did_given (needs.Channel c op) (answers.Channel reply) fit = did_by c op reply
-did_given needed x fit = refl
-
-did_along : (xs : List Answer) (pp after : Processor) → Gives pp xs after → did_in (sights_given pp xs) ≡ events_given pp xs
-unfolding did_in
-did_along [] pp after gives = ap did_in (told_none seen_answered pp) ∙ sym (told_none event_answered pp)
-did_along (x ∷ xs) pp after gives =
-    ap did_in (told_cons seen_answered pp x xs gives.0)
-    ∙ (filter_map-append (λ (s : OfChannel Seen). event_in s.channel s.what) (given_by seen_answered (need pp) x) (sights_given (processor_after pp x) xs)
-    ∙ ((λ j. did_given (need pp) x gives.0 j ++ did_along xs (processor_after pp x) after gives.1 j)
-    ∙ sym (told_cons event_answered pp x xs gives.0)))
+did_along : (xs : List Answer) (pp after : Processor) (made : List Access) → Gives pp xs after → AreAccessesOf pp xs made → events_in (entries_among made) ≡ events_given pp xs
+did_along [] pp after made gives are = ap (λ l. events_in (entries_among l)) are ∙ sym (told_none event_answered pp)
+did_along (x ∷ xs) pp after made gives are =
+    let first : List Access = accesses_by are.0 (need pp) x in
+    ap (λ l. events_in (entries_among l)) are.2
+    ∙ (ap events_in (entries_more first are.1)
+    ∙ (filter_map-append (λ entry. event_in entry.channel entry.what) (entries_among first) (entries_among are.1)
+    ∙ ((λ j. did_given are.0 (need pp) x gives.0 j ++ did_along xs (processor_after pp x) after are.1 gives.1 are.3 j)
+    ∙ sym (told_cons event_answered pp x xs gives.0))))
 
 -- entries that stand in a log and tell as many events tell each event as often
 weight : Entry → ℕ
@@ -225,69 +182,81 @@ times_same c number (x ∷ xs) (y ∷ ys) h most =
           omega (arith, rest, none, times_cons c number y ys)
     ]
 
+-- how often writes among accesses have a number
+write_times : (n : ℕ) (xs : List Access) → sum_by (tells_write n) xs ≡ times n (writes_among xs)
+write_times n [] = refl
+write_times n (OnChannel entry ∷ xs) = omega (arith, sum_by-cons (tells_write n) (OnChannel entry) xs, write_times n xs)
+write_times n (Read a w ∷ xs) = omega (arith, sum_by-cons (tells_write n) (Read a w) xs, write_times n xs)
+write_times n (Write a w k ∷ xs) =
+    sum_by-cons (tells_write n) (Write a w k) xs ∙ (ap (λ m. tells_write n (Write a w k) + m) (write_times n xs) ∙ sym (sum_by-cons (λ m. cond (m == n) 1 0) k (writes_among xs)))
+
+times_more : (n : ℕ) (xs ys : List ℕ) → times n (xs ++ ys) ≡ times n xs + times n ys
+times_more n xs ys = sum_by-append (λ m. cond (m == n) 1 0) xs ys
+
+numbered_from : (k : ℕ) (os : List Access) → writes_among os ≡ range_with_len k (length (writes_among os)) → NumberedFrom k os
+numbered_from k [] is = tt
+numbered_from k (OnChannel entry ∷ os) is = numbered_from k os is
+numbered_from k (Read a w ∷ os) is = numbered_from k os is
+numbered_from k (Write a w n ∷ os) is =
+    let first : n ≡ k = cc in
+    let rest : writes_among os ≡ range_with_len (k + 1) (length (writes_among os)) = cc in
+    (first, numbered_from (k + 1) os rest)
+
 -- the workers of a report, with all their answers left
-pub record AreWorkings {A : Type 0} (size : ℕ) (p : Profile) (others loads : List Processor) (order : List Entry) (ends : List (Worker A)) : Type 0 where
+pub record AreWorkings {A : Type 0} (size : ℕ) (p : Profile) (others loads : List Processor) (order : List Access) (ends : List (Worker A)) (accesses : List (List Access)) : Type 0 where
   pub ws : List Working
   pub processors : map (λ w. w.pp) ws ≡ loads
   pub afters : map (λ w. w.after) ws ≡ map (λ w. w.pp) ends
   pub ready : All (Ready size p others order) ws
-  pub counts : (c number : ℕ) → sum_by (times_left c number) ws ≡ sum_by (λ w. times_logged c number w.log.items) ends
+  pub counts : (c number : ℕ) → sum_by (times_left (tells_event c number)) ws ≡ sum_by (λ w. times_logged c number w.log.items) ends
+  pub writes : (n : ℕ) → sum_by (times_left (tells_write n)) ws ≡ times n (flat_map writes_among accesses)
   pub steps : sum_by answers_left ws ≡ sum_by (λ w. length w.answers.items) ends
 
-pub record IsOneWorking {A : Type 0} (size : ℕ) (p : Profile) (others : List Processor) (load : Processor) (order : List Entry) (end : Worker A) : Type 0 where
+pub record IsOneWorking {A : Type 0} (size : ℕ) (p : Profile) (others : List Processor) (load : Processor) (order : List Access) (end : Worker A) (made : List Access) : Type 0 where
   pub now : Working
   pub processor : now.pp ≡ load
   pub after : now.after ≡ end.pp
   pub ready : Ready size p others order now
-  pub count : (c number : ℕ) → times_left c number now ≡ times_logged c number end.log.items
+  pub count : (c number : ℕ) → times_left (tells_event c number) now ≡ times_logged c number end.log.items
+  pub writes : (n : ℕ) → times_left (tells_write n) now ≡ times n (writes_among made)
   pub steps : answers_left now ≡ length end.answers.items
 
-one_working : {A : Type 0} (p : Profile) (others : List Processor) (load : Processor) (size steps : ℕ) (order : List Entry) (end : Worker A) → IsLoggedWorker load size steps end.log.items end
-    → All (λ x. is_central_word x ≡ false) end.answers.items → IsSubsequence end.log.items order → IsOneWorking size p others load order end
-one_working p others load size steps order end is channel stands =
+one_working : {A : Type 0} (p : Profile) (others : List Processor) (load : Processor) (size steps : ℕ) (order : List Access) (end : Worker A) (made : List Access) → IsLoggedWorker load size steps end.log.items end
+    → HasAccessed load order end made → IsOneWorking size p others load order end made
+one_working p others load size steps order end made is has =
     let xs = end.answers.items in
     let log = end.log.items in
-    let own = picked (λ (entry : Entry). record { channel = entry.channel; what = entry.what }) (sights_given load xs) log is.sights in
+    let own = entries_among made in
     let gives = Gives-to load (replayed load xs) end.pp xs (Gives-counted xs load is.all_given) (sym is.pp) in
-    let events : events_in log ≡ events_in own.0 = is.events ∙ (sym (did_along xs load end.pp gives) ∙ (ap did_in (sym own.1) ∙ did_entries own.0)) in
-    let many : sum_by weight log ≡ sum_by weight own.0 = sym (count_events log) ∙ (ap length events ∙ count_events own.0) in record {
-      now = record { pp = load; answers = xs; entries = own.0; after = end.pp };
+    let events : events_in log ≡ events_in own = is.events ∙ sym (did_along xs load end.pp made gives has.given) in
+    let many : sum_by weight log ≡ sum_by weight own = sym (count_events log) ∙ (ap length events ∙ count_events own) in record {
+      now = record { pp = load; answers = xs; accesses = made; after = end.pp };
       processor = refl;
       after = refl;
-      ready = record { working = does size xs load end.pp own.0 gives is.all_moved is.by_size channel own.1; stands = stands_through own.0 log order own.2 stands };
+      ready = record { working = does size xs load end.pp made gives is.all_moved is.by_size has.given; stands = stands_through made has.program_order order has.accessed has.in_order };
       steps = refl;
-      count = λ c number. times_same c number own.0 log own.2 (omega (arith, many));
+      count = λ c number. event_times c number made ∙ times_same c number own log has.logged (omega (arith, many));
+      writes = λ n. write_times n made;
     }
 
-workings : {A : Type 0} (p : Profile) (others : List Processor) (size steps : ℕ) (order : List Entry) (loads : List Processor) (ends : List (Worker A)) → AreWorkers loads size steps ends
-    → All (λ w. All (λ x. is_central_word x ≡ false) w.answers.items) ends → All (λ w. IsSubsequence w.log.items order) ends → AreWorkings size p others loads order ends
-workings p others size steps order [] [] all channel stands = record { ws = []; processors = refl; afters = refl; ready = All-nil (Ready size p others order); counts = λ c number. refl; steps = refl }
-workings p others size steps order [] (end ∷ ends) all channel stands = absurd all
-workings p others size steps order (load ∷ loads) [] all channel stands = absurd all
-workings {A} p others size steps order (load ∷ loads) (end ∷ ends) all channel stands =
-    let C : Worker A → Type 0 = λ w. All (λ x. is_central_word x ≡ false) w.answers.items in
-    let S : Worker A → Type 0 = λ w. IsSubsequence w.log.items order in
-    let one = one_working p others load size steps order end all.0 (All-head C end ends channel) (All-head S end ends stands) in
-    let more = workings p others size steps order loads ends all.1 (All-tail C end ends channel) (All-tail S end ends stands) in record {
+workings : {A : Type 0} (p : Profile) (others : List Processor) (size steps : ℕ) (order : List Access) (loads : List Processor) (ends : List (Worker A)) (accesses : List (List Access)) → AreWorkers loads size steps ends
+    → HaveAccessed loads order ends accesses → AreWorkings size p others loads order ends accesses
+workings p others size steps order [] [] [] all have = record { ws = []; processors = refl; afters = refl; ready = All-nil (Ready size p others order); counts = λ c number. refl; writes = λ n. refl; steps = refl }
+workings p others size steps order [] [] (made ∷ accesses) all have = absurd have
+workings p others size steps order [] (end ∷ ends) accesses all have = absurd all
+workings p others size steps order (load ∷ loads) [] accesses all have = absurd all
+workings p others size steps order (load ∷ loads) (end ∷ ends) [] all have = absurd have
+workings {A} p others size steps order (load ∷ loads) (end ∷ ends) (made ∷ accesses) all have =
+    let one = one_working p others load size steps order end made all.0 have.0 in
+    let more = workings p others size steps order loads ends accesses all.1 have.1 in record {
       ws = one.now ∷ more.ws;
       processors = λ j. one.processor j ∷ more.processors j;
       afters = λ j. one.after j ∷ more.afters j;
       ready = All-cons (Ready size p others order) one.now more.ws one.ready more.ready;
       steps = sum_by-cons answers_left one.now more.ws ∙ ((λ j. one.steps j + more.steps j) ∙ sym (sum_by-cons (λ (w : Worker A). length w.answers.items) end ends));
-      counts = λ c number. sum_by-cons (times_left c number) one.now more.ws ∙ ((λ j. one.count c number j + more.counts c number j) ∙ sym (sum_by-cons (λ (w : Worker A). times_logged c number w.log.items) end ends));
+      counts = λ c number. sum_by-cons (times_left (tells_event c number)) one.now more.ws ∙ ((λ j. one.count c number j + more.counts c number j) ∙ sym (sum_by-cons (λ (w : Worker A). times_logged c number w.log.items) end ends));
+      writes = λ n. sum_by-cons (times_left (tells_write n)) one.now more.ws ∙ ((λ j. one.writes n j + more.writes n j) ∙ sym (times_more n (writes_among made) (flat_map writes_among accesses)));
     }
-
--- the logs of workers stand in the order of their accesses
-logs_in_order : {A : Type 0} (loads : List Processor) (order : List Access) (ends : List (Worker A)) (accesses : List (List Access)) → HaveAccessed loads order ends accesses → All (λ w. IsSubsequence w.log.items (entries_among order)) ends
-logs_in_order {A} [] order [] [] all = All-nil (λ (w : Worker A). IsSubsequence w.log.items (entries_among order))
-logs_in_order [] order [] (t ∷ accesses) all = absurd all
-logs_in_order [] order (w ∷ ends) accesses all = absurd all
-logs_in_order (load ∷ loads) order [] accesses all = absurd all
-logs_in_order (load ∷ loads) order (w ∷ ends) [] all = absurd all
-logs_in_order {A} (load ∷ loads) order (w ∷ ends) (t ∷ accesses) all =
-    All-cons (λ (v : Worker A). IsSubsequence v.log.items (entries_among order)) w ends
-    (stands_through w.log.items (entries_among all.0.program_order) (entries_among order) all.0.drawn (entries_stand all.0.program_order order all.0.in_order))
-    (logs_in_order loads order ends accesses all.1)
 
 times_parts : {A : Type 0} (c number : ℕ) (ends : List (Worker A)) → times_logged c number (logs_of ends) ≡ sum_by (λ w. times_logged c number w.log.items) ends
 times_parts c number [] = refl
@@ -319,29 +288,34 @@ same_histories hs gs many each same = ext_get_or [] hs gs (many ∙ sym each) (�
     let at : channel_index (channel_number k) ≡ k = place_of_number k (omega (arith, inside, many)) in
     subst (λ (i : ℕ). get_or hs i [] ≡ get_or gs i []) at (same (channel_number k)))
 
-pub report_leaves : {A : Type 0} (limits : RunLimits) (m : MachineState) (report : Report A) → HasNotRun m → IsReportOf limits m report → NoCentralWordIsRead report → (ns : List ℕ) × IsSerialRunOf ns m report
-report_leaves limits m report new said channel =
+pub report_leaves : {A : Type 0} (limits : RunLimits) (m : MachineState) (report : Report A) → HasNotRun m → (said : IsReportOf limits m report) → (ns : List ℕ) × IsSerialRunOf ns m report said.order
+report_leaves limits m report new said =
     let p = m.profile in
     let n = processors_in p in
+    let size = length m.central in
     let others = drop n m.processors in
     let ends = report.ends.items in
     let opening : ℕ → List Event = λ c. opening_history c m in
     let history : ℕ → List Event = λ c. history_on c report.channels in
+    let begun : Past = record { happened = opening; words = m.central } in
     let named : (c : ℕ) → 0 < length (history c) → IsTrue (names_channel c) = λ c some.
     ⊎_elim
     (λ (below : channel_index c < channel_count). named_below c below)
     (λ (past : channel_count ≤ channel_index c). let empty = ap length (get_or_past report.channels (channel_index c) [] (omega (arith, past, said.each_channel))) in absurd (omega (arith, empty, some)))
     (cases_lt (channel_index c) channel_count) in
-    let w = workings p others (length m.central) limits.steps (entries_among said.order) (take n m.processors) ends said.workers channel (logs_in_order (take n m.processors) said.order ends said.accesses said.accessed) in
+    let lawful : (c : ℕ) → IsLawful (history c) = λ c. lawful_on report.channels c said.lawful in
+    let w = workings p others size limits.steps said.order (take n m.processors) ends said.accesses said.workers said.accessed in
     let most = most_processors p in
     let count : length w.ws ≡ n = sym (length-map w.ws (λ (v : Working). v.pp)) ∙ (ap length w.processors ∙ length-take-le n m.processors (omega (arith, most, new.processors))) in
-    let once : Once (length m.central) p others history (λ c. lawful_on report.channels c said.lawful) named w.ws opening = λ c number later inside. w.counts c number ∙ (sym (times_parts c number ends) ∙ said.merged.once c number later inside) in
-    let finished = serve (length m.central) p others history (λ c. lawful_on report.channels c said.lawful) named (entries_among said.order) w.ws opening (omega (arith, count)) w.ready said.total.legal said.total.each_history once in
-    let start : Stands (length m.central) m (all_of others w.ws) opening = record {
+    let once : Once size p others history lawful named w.ws opening = λ c number later inside. w.counts c number ∙ (sym (times_parts c number ends) ∙ said.merged.once c number later inside) in
+    let written : Written size p others history lawful named w.ws 0 said.order = λ k least. w.writes k ∙ (said.made.each k ∙ sym (write_times k said.order)) in
+    let finished = serve size p others history lawful named said.order w.ws begun 0 (omega (arith, count)) w.ready said.total.legal said.total.each_history once said.finds (numbered_from 0 said.order said.made.numbered) written in
+    let start : Stands size m (all_of others w.ws) begun = record {
       processors = sym (take-append-drop n m.processors) ∙ ap (λ pps. pps ++ others) (sym w.processors);
       channels = new.channels;
       histories = λ c. started c m report.channels new said.each_channel (said.merged.begins c);
       central = refl;
+      sized = refl;
     } in
     let led = finished.leads m start in (
       led.0,
@@ -352,6 +326,7 @@ report_leaves limits m report new said channel =
         leads = record {
           processors = led.1.stands.processors ∙ ap (λ pps. pps ++ others) (finished.processors ∙ w.afters);
           histories = same_histories (run led.0 m).histories report.channels led.1.stands.channels said.each_channel led.1.stands.histories;
+          central = led.1.stands.central;
         };
       },
     )

@@ -3,59 +3,31 @@ use Rattle.std.proofs.Common.{◌≡◌, ℕ, zero, suc, ◌+◌, ◌<◌, List,
 use Rattle.std.specs.Prelude.{slice_get}
 use Rattle.std.proofs.lemmas.List.{set-set}
 use Rattle.std.proofs.lemmas.Option.{slice_get_within}
-use Rattle.pp_channel.specs.Answer.{seen_answered}
-use Rattle.pp_channel.specs.declared.entry.Entry.{Entry}
-use Rattle.pp_channel.specs.declared.entry.Seen.{Seen}
-use Rattle.pp_channel.specs.declared.event.Event.{Event}
+use Rattle.pp_channel.specs.declared.access.Access.{Access}
 use Rattle.pp_machine.specs.NeedAndEffect.{need, outcome, processor_after}
 use Rattle.pp_machine.specs.declared.outcome.Outcome.TheVariants.{Moved}
 use Rattle.pp_machine.specs.Processor.{Processor, no_processor}
 use Rattle.pp_machine.specs.Profile.{processors_in}
-use Rattle.pp_machine.specs.Replay.{OfChannel, given_by}
 use Rattle.pp_machine.specs.declared.answer.Answer.{Answer}
 use Rattle.pp_machine.specs.declared.profile.Profile.{Profile}
-use Rattle.pp_runner.specs.WorkerReport.{sights_in}
-use Rattle.pp_serial.proofs.AnswerLemmas.{GoesOn, IsOfChannel, kind_of}
-use Rattle.pp_serial.proofs.MachineLemmas.{Leads, Serves, leads_none, leads_by, leads_on, leads_step}
+use Rattle.pp_runner.specs.Accesses.{accesses_by}
+use Rattle.pp_serial.proofs.AnswerLemmas.{GoesOn, kind_of}
+use Rattle.pp_serial.proofs.MachineLemmas.{Past, Leads, Serves, leads_none, leads_by, leads_on, leads_step}
 
--- a worker at some moment: its processor, the answers and the entries that it has left, and the processor that these leave
+-- a worker at some moment: its processor, the answers and the accesses that it has left, and the processor that these leave
 pub record Working : Type 0 where
   pub pp : Processor
   pub answers : List Answer
-  pub entries : List Entry
+  pub accesses : List Access
   pub after : Processor
 
--- entries that begin with these sights
-pub record Begins (sights : List (OfChannel Seen)) (entries rest : List Entry) : Type 0 where
-  pub front : List Entry
-  pub are : entries ≡ front ++ rest
-  pub told : sights_in front ≡ sights
-
-abbrev pub Does : ℕ → Processor → List Answer → List Entry → Processor → Type 0
-Does size pp [] entries after = (entries ≡ []) × (pp ≡ after)
-Does size pp (x ∷ xs) entries after = GoesOn size pp x × ((rest : List Entry) × Begins (given_by seen_answered (need pp) x) entries rest × Does size (processor_after pp x) xs rest after)
+abbrev pub Does : ℕ → Processor → List Answer → List Access → Processor → Type 0
+Does size pp [] accesses after = (accesses ≡ []) × (pp ≡ after)
+Does size pp (x ∷ xs) accesses after =
+    GoesOn size pp x × ((number : ℕ) × (rest : List Access) × (accesses ≡ accesses_by number (need pp) x ++ rest) × Does size (processor_after pp x) xs rest after)
 
 abbrev pub IsWorking : ℕ → Working → Type 0
-IsWorking size w = Does size w.pp w.answers w.entries w.after
-
-front_none : (front : List Entry) → sights_in front ≡ [] → front ≡ []
-front_none [] is = refl
-front_none (y ∷ front) is = absurd cc
-
--- one entry with this sight
-pub record IsSightOf (c : ℕ) (what : Seen) (entry : Entry) : Type 0 where
-  pub channel : c ≡ entry.channel
-  pub seen : what ≡ entry.what
-
-front_one : (front : List Entry) (c : ℕ) (what : Seen) → sights_in front ≡ record { channel = c; what = what } ∷ [] → (y : Entry) × (front ≡ y ∷ []) × IsSightOf c what y
-front_one [] c what is = absurd cc
-front_one (y ∷ []) c what is =
-    let one : record { channel = y.channel; what = y.what } ≡ record { channel = c; what = what } = first is in
-    (y, refl, record { channel = ap (λ (s : OfChannel Seen). s.channel) (sym one); seen = ap (λ (s : OfChannel Seen). s.what) (sym one) })
-  where
-    first : {s t : OfChannel Seen} → s ∷ [] ≡ t ∷ [] → s ≡ t
-    first is = cc
-front_one (y ∷ z ∷ front) c what is = absurd cc
+IsWorking size w = Does size w.pp w.answers w.accesses w.after
 
 -- the processors of workers, and others behind them
 abbrev pub all_of : List Processor → List Working → List Processor
@@ -84,104 +56,100 @@ set_same [] i w at = absurd cc
 set_same (v ∷ ws) zero w at = ap (λ u. u ∷ ws) (sym (some_is v w at))
 set_same (v ∷ ws) (suc i) w at = ap (λ us. v ∷ us) (set_same ws i w at)
 
--- how an entry is served, whichever step it is of
-abbrev pub ServesEntry : ℕ → Entry → (ℕ → List Event) → (ℕ → List Event) → Type 0
-ServesEntry size entry happened later = (pp : Processor) (x : Answer) → GoesOn size pp x → (of : IsOfChannel (need pp) x) → IsSightOf of.c of.what entry → Serves size (need pp) x happened later
+-- how an access is served, whichever step it is of
+abbrev pub ServesAccess : ℕ → Access → Past → Past → Type 0
+ServesAccess size access past later = (pp : Processor) (x : Answer) (number : ℕ) → GoesOn size pp x → accesses_by number (need pp) x ≡ access ∷ [] → Serves size (need pp) x past later
 
 module _ (size : ℕ) (p : Profile) (others : List Processor) (i : ℕ) (inside : i < processors_in p) where
   -- one answer of the worker at place i
-  one_answer : (ws : List Working) (pp : Processor) (x : Answer) (v w : Working) (happened later : ℕ → List Event) → slice_get ws i ≡ Some v → v.pp ≡ pp → w.pp ≡ processor_after pp x
-      → outcome pp x ≡ Moved → Serves size (need pp) x happened later → Leads size p 1 (all_of others ws) happened (all_of others (set ws i w)) later
-  one_answer ws pp x v w happened later at is next moved serves =
+  one_answer : (ws : List Working) (pp : Processor) (x : Answer) (v w : Working) (past later : Past) → slice_get ws i ≡ Some v → v.pp ≡ pp → w.pp ≡ processor_after pp x
+      → outcome pp x ≡ Moved → Serves size (need pp) x past later → Leads size p 1 (all_of others ws) past (all_of others (set ws i w)) later
+  one_answer ws pp x v w past later at is next moved serves =
       let here : get_or (all_of others ws) i no_processor ≡ pp = at_worker others ws i v at ∙ is in
-      let step = leads_step size p (all_of others ws) i x happened later inside (subst (λ (q : Processor). outcome q x ≡ Moved) (sym here) moved) (subst (λ (q : Processor). Serves size (need q) x happened later) (sym here) serves) in
-      subst (λ (pps : List Processor). Leads size p 1 (all_of others ws) happened pps later)
+      let step = leads_step size p (all_of others ws) i x past later inside (subst (λ (q : Processor). outcome q x ≡ Moved) (sym here) moved) (subst (λ (q : Processor). Serves size (need q) x past later) (sym here) serves) in
+      subst (λ (pps : List Processor). Leads size p 1 (all_of others ws) past pps later)
       (ap (λ q. set (all_of others ws) i q) (ap (λ q. processor_after q x) here ∙ sym next) ∙ set_worker others ws i w (slice_get_within ws i v at)) step
 
   -- the worker has made all its steps up to the one of its next entry
-  pub record HasNext (ws : List Working) (many : ℕ) (after : Processor) (rest : List Entry) (happened later : ℕ → List Event) : Type 0 where
+  pub record HasNext (ws : List Working) (many : ℕ) (after : Processor) (rest : List Access) (past later : Past) : Type 0 where
     pub now : Working
     pub working : IsWorking size now
-    pub entries : now.entries ≡ rest
+    pub accesses : now.accesses ≡ rest
     pub after_is : now.after ≡ after
     pub steps : ℕ
     pub left : steps + length now.answers ≡ many
-    pub leads : Leads size p steps (all_of others ws) happened (all_of others (set ws i now)) later
+    pub leads : Leads size p steps (all_of others ws) past (all_of others (set ws i now)) later
 
-  pub next : (xs : List Answer) (pp : Processor) (entries : List Entry) (after : Processor) (ws : List Working) (entry : Entry) (rest : List Entry) (happened later : ℕ → List Event)
-      → slice_get ws i ≡ Some (record { pp = pp; answers = xs; entries = entries; after = after }) → Does size pp xs entries after → entries ≡ entry ∷ rest → ServesEntry size entry happened later
-      → HasNext ws (length xs) after rest happened later
-  next [] pp entries after ws entry rest happened later at does is serves = let none : [] ≡ entry ∷ rest = sym does.0 ∙ is in absurd cc
-  next (x ∷ xs) pp entries after ws entry rest happened later at does is serves =
+  pub next : (xs : List Answer) (pp : Processor) (accesses : List Access) (after : Processor) (ws : List Working) (access : Access) (rest : List Access) (past later : Past)
+      → slice_get ws i ≡ Some (record { pp = pp; answers = xs; accesses = accesses; after = after }) → Does size pp xs accesses after → accesses ≡ access ∷ rest → ServesAccess size access past later
+      → HasNext ws (length xs) after rest past later
+  next [] pp accesses after ws access rest past later at does is serves = let none : [] ≡ access ∷ rest = sym does.0 ∙ is in absurd cc
+  next (x ∷ xs) pp accesses after ws access rest past later at does is serves =
       let goes = does.0 in
-      let left = does.1.0 in
-      let begins = does.1.1 in
-      let v : Working = record { pp = pp; answers = x ∷ xs; entries = entries; after = after } in
-      let w : Working = record { pp = processor_after pp x; answers = xs; entries = left; after = after } in
+      let left = does.1.1 in
+      let are : accesses ≡ accesses_by does.1.0 (need pp) x ++ left = does.1.2 in
+      let v : Working = record { pp = pp; answers = x ∷ xs; accesses = accesses; after = after } in
+      let w : Working = record { pp = processor_after pp x; answers = xs; accesses = left; after = after } in
       elim (kind_of size pp x goes) [
         | inl local ↦
-            let none : begins.front ≡ [] = front_none begins.front (begins.told ∙ local.given) in
-            let same : left ≡ entry ∷ rest = sym (begins.are ∙ ap (λ f. f ++ left) none) ∙ is in
-            let serves_it = local.serves happened in
-            let step = one_answer ws pp x v w happened happened at refl refl does.0.moved serves_it in
-            let more = next xs (processor_after pp x) left after (set ws i w) entry rest happened later (set_get ws i v w at) does.1.2 same serves in record {
+            let same : left ≡ access ∷ rest = sym (are ∙ ap (λ f. f ++ left) (local.given does.1.0)) ∙ is in
+            let serves_it = local.serves past in
+            let step = one_answer ws pp x v w past past at refl refl does.0.moved serves_it in
+            let more = next xs (processor_after pp x) left after (set ws i w) access rest past later (set_get ws i v w at) does.1.3 same serves in record {
               now = more.now;
               working = more.working;
-              entries = more.entries;
+              accesses = more.accesses;
               after_is = more.after_is;
               steps = 1 + more.steps;
               left = omega (arith, more.left);
-              leads = subst (λ (us : List Working). Leads size p (1 + more.steps) (all_of others ws) happened (all_of others us) later) (set-set ws i w more.now)
-                  (leads_on size p 1 more.steps (all_of others ws) (all_of others (set ws i w)) (all_of others (set (set ws i w) i more.now)) happened happened later step more.leads);
+              leads = subst (λ (us : List Working). Leads size p (1 + more.steps) (all_of others ws) past (all_of others us) later) (set-set ws i w more.now)
+                  (leads_on size p 1 more.steps (all_of others ws) (all_of others (set ws i w)) (all_of others (set (set ws i w) i more.now)) past past later step more.leads);
             }
         | inr of ↦
-            let one = front_one begins.front of.c of.what (begins.told ∙ of.given) in
-            let same : one.0 ∷ left ≡ entry ∷ rest = sym (begins.are ∙ ap (λ f. f ++ left) one.1) ∙ is in
-            let head : one.0 ≡ entry = cc in
+            let same : of.access does.1.0 ∷ left ≡ access ∷ rest = sym (are ∙ ap (λ f. f ++ left) (of.given does.1.0)) ∙ is in
+            let head : of.access does.1.0 ≡ access = cc in
             let tail : left ≡ rest = cc in record {
               now = w;
-              working = does.1.2;
-              entries = tail;
+              working = does.1.3;
+              accesses = tail;
               after_is = refl;
               steps = 1;
               left = omega arith;
-              leads = one_answer ws pp x v w happened later at refl refl does.0.moved (serves pp x goes of (subst (IsSightOf of.c of.what) head one.2));
+              leads = one_answer ws pp x v w past later at refl refl does.0.moved (serves pp x does.1.0 goes (of.given does.1.0 ∙ ap (λ a. a ∷ []) head));
             }
       ]
 
   -- the worker has made all its steps
-  pub record HasDone (ws : List Working) (many : ℕ) (after : Processor) (happened : ℕ → List Event) : Type 0 where
+  pub record HasDone (ws : List Working) (many : ℕ) (after : Processor) (past : Past) : Type 0 where
     pub now : Working
     pub done : now.pp ≡ after
-    pub leads : Leads size p many (all_of others ws) happened (all_of others (set ws i now)) happened
+    pub leads : Leads size p many (all_of others ws) past (all_of others (set ws i now)) past
 
-  pub rest_done : (xs : List Answer) (pp : Processor) (entries : List Entry) (after : Processor) (ws : List Working) (happened : ℕ → List Event)
-      → slice_get ws i ≡ Some (record { pp = pp; answers = xs; entries = entries; after = after }) → Does size pp xs entries after → entries ≡ [] → HasDone ws (length xs) after happened
-  rest_done [] pp entries after ws happened at does is =
-      let v : Working = record { pp = pp; answers = []; entries = entries; after = after } in record {
+  pub rest_done : (xs : List Answer) (pp : Processor) (accesses : List Access) (after : Processor) (ws : List Working) (past : Past)
+      → slice_get ws i ≡ Some (record { pp = pp; answers = xs; accesses = accesses; after = after }) → Does size pp xs accesses after → accesses ≡ [] → HasDone ws (length xs) after past
+  rest_done [] pp accesses after ws past at does is =
+      let v : Working = record { pp = pp; answers = []; accesses = accesses; after = after } in record {
         now = v;
         done = does.1;
-        leads = subst (λ (us : List Working). Leads size p 0 (all_of others ws) happened (all_of others us) happened) (sym (set_same ws i v at)) (leads_none size p (all_of others ws) happened happened (λ c. refl));
+        leads = subst (λ (us : List Working). Leads size p 0 (all_of others ws) past (all_of others us) past) (sym (set_same ws i v at)) (leads_none size p (all_of others ws) past past (λ c. refl) refl);
       }
-  rest_done (x ∷ xs) pp entries after ws happened at does is =
-      let left = does.1.0 in
-      let begins = does.1.1 in
-      let v : Working = record { pp = pp; answers = x ∷ xs; entries = entries; after = after } in
-      let w : Working = record { pp = processor_after pp x; answers = xs; entries = left; after = after } in
+  rest_done (x ∷ xs) pp accesses after ws past at does is =
+      let left = does.1.1 in
+      let are : accesses ≡ accesses_by does.1.0 (need pp) x ++ left = does.1.2 in
+      let v : Working = record { pp = pp; answers = x ∷ xs; accesses = accesses; after = after } in
+      let w : Working = record { pp = processor_after pp x; answers = xs; accesses = left; after = after } in
       elim (kind_of size pp x does.0) [
         | inl local ↦
-            let none : begins.front ≡ [] = front_none begins.front (begins.told ∙ local.given) in
-            let same : left ≡ [] = sym (begins.are ∙ ap (λ f. f ++ left) none) ∙ is in
-            let serves_it = local.serves happened in
-            let step = one_answer ws pp x v w happened happened at refl refl does.0.moved serves_it in
-            let more = rest_done xs (processor_after pp x) left after (set ws i w) happened (set_get ws i v w at) does.1.2 same in record {
+            let same : left ≡ [] = sym (are ∙ ap (λ f. f ++ left) (local.given does.1.0)) ∙ is in
+            let serves_it = local.serves past in
+            let step = one_answer ws pp x v w past past at refl refl does.0.moved serves_it in
+            let more = rest_done xs (processor_after pp x) left after (set ws i w) past (set_get ws i v w at) does.1.3 same in record {
               now = more.now;
               done = more.done;
-              leads = subst (λ (us : List Working). Leads size p (length (x ∷ xs)) (all_of others ws) happened (all_of others us) happened) (set-set ws i w more.now)
-                  (leads_by size p (all_of others ws) (all_of others (set (set ws i w) i more.now)) happened happened (1 + length xs) (length (x ∷ xs)) (omega arith)
-                  (leads_on size p 1 (length xs) (all_of others ws) (all_of others (set ws i w)) (all_of others (set (set ws i w) i more.now)) happened happened happened step more.leads));
+              leads = subst (λ (us : List Working). Leads size p (length (x ∷ xs)) (all_of others ws) past (all_of others us) past) (set-set ws i w more.now)
+                  (leads_by size p (all_of others ws) (all_of others (set (set ws i w) i more.now)) past past (1 + length xs) (length (x ∷ xs)) (omega arith)
+                  (leads_on size p 1 (length xs) (all_of others ws) (all_of others (set ws i w)) (all_of others (set (set ws i w) i more.now)) past past past step more.leads));
             }
         | inr of ↦
-            let one = front_one begins.front of.c of.what (begins.told ∙ of.given) in
-            let same : one.0 ∷ left ≡ [] = sym (begins.are ∙ ap (λ f. f ++ left) one.1) ∙ is in absurd cc
+            let same : of.access does.1.0 ∷ left ≡ [] = sym (are ∙ ap (λ f. f ++ left) (of.given does.1.0)) ∙ is in absurd cc
       ]

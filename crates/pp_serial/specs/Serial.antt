@@ -1,7 +1,9 @@
 -- What threads do, as what one list of steps does.
-use Rattle.std.specs.Prelude.{◌≡◌, ℕ, Bool, true, false, IsTrue, List, ◌++◌, All, Some, drop, map, slice_get, length, take}
+use Rattle.std.specs.Prelude.{◌≡◌, ℕ, IsTrue, List, ◌++◌, All, Some, drop, map, slice_get, length, take}
 use Rattle.std.specs.List.{sum_by}
 use Rattle.pp_channel.specs.ChannelNo.{channel_count, names_channel}
+use Rattle.pp_channel.specs.Order.{left_by}
+use Rattle.pp_channel.specs.declared.access.Access.{Access}
 use Rattle.pp_machine.specs.Headline.{opening_history}
 use Rattle.pp_machine.specs.MachineState.{MachineState, history_of}
 use Rattle.pp_machine.specs.PpNo.{processor_count}
@@ -10,7 +12,6 @@ use Rattle.pp_machine.specs.Profile.{processors_in, has_processor}
 use Rattle.pp_machine.specs.MachineStep.{step_outcome}
 use Rattle.pp_machine.specs.Run.{run}
 use Rattle.pp_machine.specs.declared.outcome.Outcome.TheVariants.{Moved}
-use Rattle.pp_machine.specs.declared.answer.Answer.{Answer}
 use Rattle.pp_runner.specs.declared.report.Report.{Report}
 
 -- a machine that has not run: all processors and channels are there, and nothing has happened on a
@@ -20,33 +21,26 @@ pub record HasNotRun (m : MachineState) : Type 0 where
   pub channels : length m.histories ≡ channel_count
   pub histories : (c : ℕ) → IsTrue (names_channel c) → history_of c m ≡ opening_history c m
 
--- whether an answer is a word of central memory
-abbrev pub is_central_word : Answer → Bool
-is_central_word (Answer.Read (Some word)) = true
-is_central_word answer = false
-
--- no central word is read by the workers of a report; they may write, and read past the last word
-abbrev pub NoCentralWordIsRead : {A : Type 0} → Report A → Type 0
-NoCentralWordIsRead report =
-    All (λ w. All (λ x. is_central_word x ≡ false) w.answers.items) report.ends.items
-
 -- the processors of a machine as a report leaves them, in the order of the barrel: those of its
 -- workers, and those that no worker had, which stay
 abbrev pub processors_left : {A : Type 0} → MachineState → Report A → List Processor
 processors_left m report =
     map (λ w. w.pp) report.ends.items ++ drop (processors_in m.profile) m.processors
 
--- The steps of these processors, one after another, lead a machine to what a report of it leaves:
--- every processor, and the history of every channel.
-pub record LeadsTo {A : Type 0} (ns : List ℕ) (m : MachineState) (report : Report A) : Type 0 where
+-- The steps of these processors, one after another, lead a machine to what a report of it leaves,
+-- whose accesses came in this order: every processor, the history of every channel, and the words
+-- of central memory that the accesses leave.
+pub record LeadsTo {A : Type 0} (ns : List ℕ) (m : MachineState) (report : Report A)
+    (order : List Access) : Type 0 where
   pub processors : (run ns m).processors ≡ processors_left m report
   pub histories : (run ns m).histories ≡ report.channels
+  pub central : (run ns m).central ≡ left_by m.central order
 
 -- A serial run of a report: steps, one after another, that lead to what it leaves, as many as its
 -- workers made. Each moves its processor: none is held, and none is made at rest.
-pub record IsSerialRunOf {A : Type 0} (ns : List ℕ) (m : MachineState) (report : Report A) : Type 0
-  where
-    pub leads : LeadsTo ns m report
-    pub named : All (λ n. IsTrue (has_processor m.profile n)) ns
-    pub steps : length ns ≡ sum_by (λ w. length w.answers.items) report.ends.items
-    pub moved : (i n : ℕ) → slice_get ns i ≡ Some n → step_outcome n (run (take i ns) m) ≡ Moved
+pub record IsSerialRunOf {A : Type 0} (ns : List ℕ) (m : MachineState) (report : Report A)
+    (order : List Access) : Type 0 where
+  pub leads : LeadsTo ns m report order
+  pub named : All (λ n. IsTrue (has_processor m.profile n)) ns
+  pub steps : length ns ≡ sum_by (λ w. length w.answers.items) report.ends.items
+  pub moved : (i n : ℕ) → slice_get ns i ≡ Some n → step_outcome n (run (take i ns) m) ≡ Moved

@@ -13,17 +13,18 @@ ghost use Rattle.pp_runner.specs.Limits.{RunLimits};
 ghost use Rattle.pp_runner.specs.Report.{IsReportOf};
 ghost use Rattle.pp_runner.specs.declared.report.Report.{Report};
 ghost use Rattle.pp_serial.specs.Circle.{histories_of_circle, one_log, other_log};
-ghost use Rattle.pp_serial.specs.Serial.{HasNotRun, IsSerialRunOf, NoCentralWordIsRead};
+ghost use Rattle.pp_serial.specs.Serial.{HasNotRun, IsSerialRunOf};
 
 use std::alloc::Allocator;
 
-/// What threads did, some list of steps does, one after another: where no worker of a report read
-/// a central word, there are steps that lead the machine to the very processors and the
-/// very histories of the report. So what is proved of all lists of steps holds of threads.
+/// What threads did, some list of steps does, one after another: there are steps that lead the
+/// machine to the very processors and the very histories of the report, and to the words of central
+/// memory that its accesses leave in their order. So what is proved of all lists of steps holds of
+/// threads.
 pub fn serial_law<A: Allocator>()
     ensures { (limits : RunLimits) (m : MachineState) (report : Report A)
-        → HasNotRun m → IsReportOf limits m report → NoCentralWordIsRead report
-        → (ns : List ℕ) × IsSerialRunOf ns m report }
+        → HasNotRun m → (is : IsReportOf limits m report)
+        → (ns : List ℕ) × IsSerialRunOf ns m report is.order }
 {}
 
 /// What one order over all channels excludes: a circle, in which each of two processors takes a word

@@ -10,6 +10,6 @@ returns g c profile text deck is =
       steps = λ ns. c.run_law.ensures ns m holds.each_channel (c.deck_law.ensures.channels profile text deck is);
       threads = λ limits report said. record {
         channels = λ n names. channels_hold c.session_law.ensures limits m report said n;
-        steps = λ none. c.serial_law.ensures limits m report (not_run _ deck holds) said none;
+        steps = c.serial_law.ensures limits m report (not_run _ deck holds) said;
       };
     }
