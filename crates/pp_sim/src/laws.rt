@@ -16,7 +16,7 @@ ghost use Rattle.pp_races.specs.declared.verdict.Verdict.TheVariants.{Same};
 ghost use Rattle.pp_runner.specs.Limits.{RunLimits};
 ghost use Rattle.pp_runner.specs.Report.{IsReportOf};
 ghost use Rattle.pp_runner.specs.declared.report.Report.{Report};
-ghost use Rattle.pp_serial.specs.Serial.{LeadsTo, NoCentralWordIsRead};
+ghost use Rattle.pp_serial.specs.Serial.{LeadsTo};
 ghost use Rattle.pp_sim.specs.BarrelText.{IsBarrelText};
 ghost use Rattle.pp_sim.specs.RacesText.{IsRacesText};
 ghost use Rattle.pp_sim.specs.ThreadsText.{IsThreadsText};
@@ -102,24 +102,23 @@ pub fn races_text_law()
     determinacy_law();
 }
 
-/// What such a text tells of every run of the deck by threads in which no thread read a central word.
-/// However the threads ended, each processor and each channel stands as at some moment of the run in
-/// the barrel. Where nothing more can move, the barrel leads to the very processors and the very
-/// histories that the threads left.
+/// What such a text tells of every run of the deck by threads. However the threads ended, each
+/// processor and each channel stands as at some moment of the run in the barrel. Where nothing more
+/// can move, the barrel leads to the very processors and the very histories that the threads left, and
+/// to the words of central memory that their accesses leave.
 pub fn races_report_law<A: Allocator>()
     ensures parts { (profile : Profile) (bytes text before : List ℕ) (deck : LoadedDeck)
         (turns : ℕ) (limits : RunLimits) (report : Report A)
         → deck_meaning profile bytes ≡ Ok deck
         → IsRacesText turns deck text → text ≡ before ++ verdict_line Same
-        → IsReportOf limits deck.machine report → NoCentralWordIsRead report
+        → IsReportOf limits deck.machine report
         → ShowsPartsOf (barrel deck.machine.profile turns) deck.machine report }
     ensures result { (profile : Profile) (bytes text before : List ℕ) (deck : LoadedDeck)
         (turns : ℕ) (limits : RunLimits) (report : Report A)
         → deck_meaning profile bytes ≡ Ok deck
         → IsRacesText turns deck text → text ≡ before ++ verdict_line Same
-        → IsReportOf limits deck.machine report → NoCentralWordIsRead report
-        → IsOver report
-        → LeadsTo (barrel deck.machine.profile turns) deck.machine report }
+        → (is : IsReportOf limits deck.machine report) → IsOver report
+        → LeadsTo (barrel deck.machine.profile turns) deck.machine report is.order }
 {
     one_run_law::<A>();
 }
