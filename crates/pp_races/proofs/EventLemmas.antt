@@ -3,7 +3,7 @@ use Rattle.std.proofs.Common.{◌≡◌, ◌≢◌, ℕ, zero, suc, ◌+◌, ◌
 use Rattle.std.specs.Prelude.{◌==◌, ◌||◌, is_some, not, if◌then◌else◌}
 use Rattle.std.specs.Option.{option_to_list}
 use Rattle.std.proofs.lemmas.Bool.{cases_eq, eq-eqb, ne_eqb}
-use Rattle.std.proofs.lemmas.List.{drop-append-le, drop_all, length_push}
+use Rattle.std.proofs.lemmas.List.{drop-append-le, length_push}
 use Rattle.pp_channel.specs.Answer.{event_of, flags_of, flags_after}
 use Rattle.pp_channel.specs.ChannelNo.{channel_count, names_channel}
 use Rattle.pp_channel.specs.History.{IsLawful}
@@ -22,14 +22,16 @@ use Rattle.pp_machine.specs.declared.trace.Trace.{Trace}
 use Rattle.pp_every_order.proofs.StepFacts.{history_elsewhere, history_here, trace_with}
 use Rattle.pp_races.specs.FlagSets.{has, look_at, no_looks}
 use Rattle.pp_races.specs.OtherFlags.{waits_at}
-use Rattle.pp_races.specs.Tables.{AreClosed, AreLow, AreLooks, AreWatched, IsLow, closing_findings, entry_count, entry_place, flags_through, looks_after_event, looks_of, low_of, missed_at, missed_from, no_low}
+use Rattle.pp_races.specs.Spans.{IsIndex}
+use Rattle.pp_races.specs.Tables.{AreClosed, AreLow, AreLooks, AreWatched, IsLow, closing_findings, entry_count, entry_place, flags_through, looks_of, low_of, missed_at, missed_from, no_low}
 use Rattle.pp_races.specs.Watch.{Missed, Watch, asking_step, each_below, each_number, entry_of, first_race, made, missed_event, race_after, race_before}
 use Rattle.pp_races.specs.declared.asking_step.AskingStep.{AskingStep}
 use Rattle.pp_races.specs.declared.finding.Finding.{Finding}
 use Rattle.pp_races.specs.declared.flag_set.FlagSet.{FlagSet}
 use Rattle.pp_races.specs.declared.looks.Looks.{Looks}
 use Rattle.pp_races.specs.declared.low.Low.{Low}
-use Rattle.pp_races.proofs.EntryLemmas.{here_or_not, set_here, set_other}
+use Rattle.pp_races.specs.declared.span.Span.{Span}
+use Rattle.pp_races.proofs.EntryLemmas.{set_here, set_other}
 use Rattle.pp_races.proofs.LowLemmas.{first_race_same, missed_past, missed_push, missed_push_other, through_past, through_push, through_push_other}
 
 -- ---- the watch after an event, case by case
@@ -168,6 +170,15 @@ module _ (m : MachineState) (w : Watch) (n c : ℕ) (op : ChanOp) (event : Event
       ∙ ap (λ x. (w.findings ++ x) ++ each_number (closing_findings (entry_of n c event m) (flags_after event) looks)) one
       ∙ ap (λ x. (w.findings ++ before) ++ x) (each_same (λ place. closing_findings (entry_of n c event m) (flags_after event) looks (processor_number place)) (λ place. others (processor_number place)) processor_count
       (λ place low. closing_same looks looks_are (processor_number place) (processor_places.number_named place low)))
+
+-- the index of the trace takes in the event
+pub event_indexed : (m : MachineState) (n c : ℕ) (op : ChanOp) (event : Event) (trace : List Trace) (entry_made : Trace) (short long : List (List Span))
+    → need (processor_of n m) ≡ Channel c op → event_of op (history_of c m) ≡ Some event → trace ≡ m.trace → entry_made ≡ entry_of n c event m
+    → IsIndex (trace ++ entry_made ∷ []) short long → IsIndex (stepped n m).trace short long
+event_indexed m n c op event trace entry_made short long e is trace_is made_is index =
+    let whole : trace ++ entry_made ∷ [] ≡ (stepped n m).trace =
+    ap (λ t. t ++ entry_made ∷ []) trace_is ∙ ap (λ x. m.trace ++ x ∷ []) made_is ∙ sym (trace_with n c op m (Some event) e is) in
+    subst (λ (t : List Trace). IsIndex t short long) whole index
 
 -- the same, of the code's values
 pub event_watched : (m : MachineState) (w : Watch) (n c : ℕ) (op : ChanOp) (event : Event) (low : List Low) (looks new : List Looks) (found middle next : List Finding) (entry : ℕ) (first : Low) (goes_on : FlagSet) (race : Option Trace) (step : AskingStep) (trace : List Trace) (pp : Processor) (entry_made : Trace) (after : Flags)

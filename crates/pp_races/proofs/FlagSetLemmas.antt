@@ -1,6 +1,6 @@
 -- Something of each of the four flags is something of all flags.
-use Rattle.std.proofs.Common.{Bool, true, false, ◌≡◌, Option, Some, None, refl}
-use Rattle.std.specs.Prelude.{if◌then◌else◌}
+use Rattle.std.proofs.Common.{Bool, true, false, ◌≡◌, Some, None, refl, sym, ◌∙◌}
+use Rattle.std.specs.Prelude.{◌||◌, ◌&&◌, not, if◌then◌else◌}
 use Rattle.std.specs.Option.{option_or}
 use Rattle.pp_channel.specs.declared.flags.Flags.{Flags}
 use Rattle.pp_races.specs.FlagSets.{by_flags, has, look_at}
@@ -36,3 +36,66 @@ pub kept_by_four : (was new : Looks) (alike : FlagSet) (step : AskingStep)
 kept_by_four was new alike step i j e f flags =
     four (λ k. option_or (look_at was k) (if has alike k then None else Some step)) flags.active flags.full
     new.inactive new.inactive_full new.empty new.full i j e f
+
+-- ---- one more, and both
+
+or_left : (a b : Bool) → a ≡ true → (a || b) ≡ true
+or_left true b is = refl
+or_left false b is = absurd cc
+
+or_right : (a b : Bool) → b ≡ true → (a || b) ≡ true
+or_right true b is = refl
+or_right false b is = is
+
+module _ (set new : FlagSet) (flags : Flags)
+    (i : new.inactive ≡ (set.inactive || (not flags.active && not flags.full)))
+    (j : new.inactive_full ≡ (set.inactive_full || (not flags.active && flags.full)))
+    (e : new.empty ≡ (set.empty || (flags.active && not flags.full)))
+    (u : new.full ≡ (set.full || (flags.active && flags.full))) where
+  wider_at : (a b : Bool) → has set (record { active = a; full = b }) ≡ true → has new (record { active = a; full = b }) ≡ true
+  wider_at true true is = u ∙ or_left set.full _ is
+  wider_at true false is = e ∙ or_left set.empty _ is
+  wider_at false true is = j ∙ or_left set.inactive_full _ is
+  wider_at false false is = i ∙ or_left set.inactive _ is
+
+  pub wider : (f : Flags) → has set f ≡ true → has new f ≡ true
+  wider f is = wider_at f.active f.full is
+
+added_at : (set new : FlagSet) (a b : Bool)
+    → new.inactive ≡ (set.inactive || (not a && not b)) → new.inactive_full ≡ (set.inactive_full || (not a && b))
+    → new.empty ≡ (set.empty || (a && not b)) → new.full ≡ (set.full || (a && b))
+    → has new (record { active = a; full = b }) ≡ true
+added_at set new true true i j e u = u ∙ or_right set.full _ refl
+added_at set new true false i j e u = e ∙ or_right set.empty _ refl
+added_at set new false true i j e u = j ∙ or_right set.inactive_full _ refl
+added_at set new false false i j e u = i ∙ or_right set.inactive _ refl
+
+pub added : (set new : FlagSet) (flags : Flags)
+    → new.inactive ≡ (set.inactive || (not flags.active && not flags.full)) → new.inactive_full ≡ (set.inactive_full || (not flags.active && flags.full))
+    → new.empty ≡ (set.empty || (flags.active && not flags.full)) → new.full ≡ (set.full || (flags.active && flags.full))
+    → has new flags ≡ true
+added set new flags i j e u = added_at set new flags.active flags.full i j e u
+
+off : (a b : Bool) → (a && b) ≡ false → b ≡ true → a ≡ false
+off false b both is = refl
+off true b both is = absurd cc
+
+apart_at : (one other : FlagSet) (a b : Bool) → (one.inactive && other.inactive) ≡ false → (one.inactive_full && other.inactive_full) ≡ false
+    → (one.empty && other.empty) ≡ false → (one.full && other.full) ≡ false
+    → has other (record { active = a; full = b }) ≡ true → has one (record { active = a; full = b }) ≡ false
+apart_at one other true true i j e u is = off one.full other.full u is
+apart_at one other true false i j e u is = off one.empty other.empty e is
+apart_at one other false true i j e u is = off one.inactive_full other.inactive_full j is
+apart_at one other false false i j e u is = off one.inactive other.inactive i is
+
+neither : (a b : Bool) → (a || b) ≡ false → (a ≡ false) × (b ≡ false)
+neither false b is = (refl, is)
+neither true b is = absurd cc
+
+pub apart : (one other : FlagSet) (b : Bool) → b ≡ (one.inactive && other.inactive || one.inactive_full && other.inactive_full || one.empty && other.empty || one.full && other.full)
+    → b ≡ false → (f : Flags) → has other f ≡ true → has one f ≡ false
+apart one other b is none f =
+    let all = neither _ _ (sym is ∙ none) in
+    let three = neither _ _ all.0 in
+    let two = neither _ _ three.0 in
+    apart_at one other f.active f.full two.0 two.1 three.1 all.1

@@ -3,6 +3,8 @@ pub mod VerdictLemmas
 mod HeldLemmas
 mod FlagSetLemmas
 mod LowLemmas
+mod SpanLemmas
+mod RowLemmas
 mod EntryLemmas
 mod LookLemmas
 mod EventLemmas

@@ -1,10 +1,10 @@
 -- What a look leaves in the tables.
-use Rattle.std.proofs.Common.{◌≡◌, ◌≢◌, ℕ, ◌<◌, ◌≤◌, Bool, true, false, IsTrue, List, [], ◌∷◌, ◌++◌, length, drop, slice_set, get_or, Option, Some, None, refl, sym, ap, ◌∙◌, subst, inl, inr, append-nil, arith}
+use Rattle.std.proofs.Common.{◌≡◌, ℕ, ◌<◌, ◌≤◌, Bool, true, IsTrue, List, [], ◌++◌, length, drop, slice_set, get_or, Option, Some, None, refl, sym, ap, ◌∙◌, subst, inl, inr, append-nil, arith}
 use Rattle.std.specs.Prelude.{if◌then◌else◌}
 use Rattle.std.specs.Option.{option_or}
 use Rattle.std.proofs.lemmas.List.{get_or_default}
 use Rattle.pp_channel.specs.Answer.{event_of, flags_of}
-use Rattle.pp_channel.specs.ChannelNo.{channel_count, channel_index, names_channel}
+use Rattle.pp_channel.specs.ChannelNo.{channel_index, names_channel}
 use Rattle.pp_channel.specs.declared.chan_op.ChanOp.{ChanOp}
 use Rattle.pp_channel.specs.declared.event.Event.{Event}
 use Rattle.pp_channel.specs.declared.flags.Flags.{Flags}
@@ -19,6 +19,7 @@ use Rattle.pp_machine.specs.declared.trace.Trace.{Trace}
 use Rattle.pp_every_order.proofs.StepFacts.{histories_by, histories_none, trace_by, trace_with}
 use Rattle.pp_races.specs.FlagSets.{has, look_at, no_looks}
 use Rattle.pp_races.specs.OtherFlags.{found_at, is_alike, is_race, waits_at}
+use Rattle.pp_races.specs.Spans.{IsIndex}
 use Rattle.pp_races.specs.Tables.{AreLow, AreLooks, AreWatched, IsLow, entry_count, entry_place, flags_through, looks_of, low_of, missed_at, no_low}
 use Rattle.pp_races.specs.Watch.{Missed, Watch, asked, asking_step, first_race, from_alike, looked, race_before, watched_need}
 use Rattle.pp_races.specs.declared.asking_step.AskingStep.{AskingStep}
@@ -26,6 +27,7 @@ use Rattle.pp_races.specs.declared.finding.Finding.{Finding}
 use Rattle.pp_races.specs.declared.flag_set.FlagSet.{FlagSet}
 use Rattle.pp_races.specs.declared.looks.Looks.{Looks}
 use Rattle.pp_races.specs.declared.low.Low.{Low}
+use Rattle.pp_races.specs.declared.span.Span.{Span}
 use Rattle.pp_races.proofs.EntryLemmas.{here_or_not, put_here, put_other, set_here, set_other}
 use Rattle.pp_races.proofs.LowLemmas.{first_race_same, from_alike_same}
 
@@ -43,6 +45,10 @@ trace_kept n c op m e none = trace_with n c op m None e none ∙ append-nil m.tr
 
 pub history_kept : (n c k : ℕ) (op : ChanOp) (m : MachineState) → need (processor_of n m) ≡ Channel c op → event_of op (history_of c m) ≡ None → history_of k (stepped n m) ≡ history_of k m
 history_kept n c k op m e none = ap (λ (hs : List (List Event)). get_or hs (channel_index k) []) (histories_none n c op m e none)
+
+-- so it leaves the index of the trace
+pub index_kept : (n c : ℕ) (op : ChanOp) (m : MachineState) (short long : List (List Span)) → need (processor_of n m) ≡ Channel c op → event_of op (history_of c m) ≡ None → IsIndex m.trace short long → IsIndex (stepped n m).trace short long
+index_kept n c op m short long e none is = subst (λ (t : List Trace). IsIndex t short long) (sym (trace_kept n c op m e none)) is
 
 pub look_low : (m : MachineState) (w : Watch) (n c : ℕ) (op : ChanOp) (low : List Low) (first : Low) (alike : FlagSet)
     → IsTrue (names_processor n) → IsTrue (names_channel c) → entry_place n c < length low
@@ -173,6 +179,16 @@ waits_watched m w n c op low looks found e none waits are =
     (kept_watched m (stepped n m) w w low looks found (trace_kept n c op m e none) (λ k. history_kept n c k op m e none) refl refl refl are))
 
 -- a step that asks no channel
+trace_off : (x : Need) (m : MachineState) (n : ℕ) → x ≡ need (processor_of n m) → ((c : ℕ) (op : ChanOp) → x ≡ Channel c op → ⊥) → (stepped n m).trace ≡ m.trace
+trace_off (Channel c op) m n e off = absurd (off c op refl)
+trace_off Need.Nothing m n e off = trace_by n m Need.Nothing (sym e)
+trace_off Need.Local m n e off = trace_by n m Need.Local (sym e)
+trace_off (Need.Read a) m n e off = trace_by n m (Need.Read a) (sym e)
+trace_off (Need.Write a v) m n e off = trace_by n m (Need.Write a v) (sym e)
+
+pub off_indexed : (x : Need) (m : MachineState) (n : ℕ) (short long : List (List Span)) → x ≡ need (processor_of n m) → ((c : ℕ) (op : ChanOp) → x ≡ Channel c op → ⊥) → IsIndex m.trace short long → IsIndex (stepped n m).trace short long
+off_indexed x m n short long e off is = subst (λ (t : List Trace). IsIndex t short long) (sym (trace_off x m n e off)) is
+
 pub off_watched : (x : Need) (m : MachineState) (w : Watch) (n : ℕ) (low : List Low) (looks : List Looks) (found : List Finding) → x ≡ need (processor_of n m) → ((c : ℕ) (op : ChanOp) → x ≡ Channel c op → ⊥)
     → AreWatched m w low looks found → AreWatched (stepped n m) (watched_need x n m w) low looks found
 off_watched (Channel c op) m w n low looks found e off are = absurd (off c op refl)

@@ -1,13 +1,18 @@
 -- What is missed from a place of the trace on.
-use Rattle.std.proofs.Common.{◌≡◌, ◌≢◌, ℕ, ◌+◌, ◌<◌, ◌≤◌, Bool, true, false, List, [], ◌∷◌, ◌++◌, length, drop, get_or, Option, Some, None, refl, sym, ap, ◌∙◌, append-nil, inl, inr, arith}
-use Rattle.std.specs.Prelude.{◌==◌, if◌then◌else◌, find, option_map}
+use Rattle.std.proofs.Common.{◌≡◌, ◌≢◌, ℕ, ◌+◌, ◌<◌, ◌≤◌, Bool, true, false, List, [], ◌∷◌, ◌++◌, length, drop, get_or, Option, Some, None, refl, sym, ap, ◌∙◌, subst, inl, inr, arith}
+use Rattle.std.specs.Prelude.{if◌then◌else◌, find, option_map, slice_get}
 use Rattle.std.proofs.lemmas.Bool.{cases_eq, eq-eqb, ne_eqb}
 use Rattle.std.proofs.lemmas.List.{drop_more, drop_all}
+use Rattle.std.proofs.lemmas.Option.{slice_get_past, slice_get_read}
 use Rattle.pp_channel.specs.Answer.{flags_after}
 use Rattle.pp_channel.specs.declared.flags.Flags.{Flags}
 use Rattle.pp_machine.specs.declared.trace.Trace.{Trace}
-use Rattle.pp_races.specs.Tables.{missed_from, flags_through}
+use Rattle.pp_races.specs.FlagSets.{has}
+use Rattle.pp_races.specs.Spans.{GoesOnFrom}
+use Rattle.pp_races.specs.Tables.{flags_through, missed_at, missed_from}
 use Rattle.pp_races.specs.Watch.{Missed, missed_event, first_race, from_alike}
+use Rattle.pp_races.specs.declared.flag_set.FlagSet.{FlagSet}
+use Rattle.pp_races.specs.declared.low.Low.{Low}
 
 -- ---- tests that agree
 
@@ -29,27 +34,27 @@ first_race_same a b same missed = ap (λ (o : Option Missed). option_map (λ (e 
 
 -- ---- one event of the trace
 
-missed_cons_here : (c : ℕ) (flags : Flags) (e : Trace) (trace : List Trace) → e.channel ≡ c → missed_from c flags (e ∷ trace) ≡ missed_event flags e ∷ missed_from c (flags_after e.event) trace
+pub missed_cons_here : (c : ℕ) (flags : Flags) (e : Trace) (trace : List Trace) → e.channel ≡ c → missed_from c flags (e ∷ trace) ≡ missed_event flags e ∷ missed_from c (flags_after e.event) trace
 unfolding missed_from
 missed_cons_here c flags e trace same = ap (λ (t : Bool). if t then missed_event flags e ∷ missed_from c (flags_after e.event) trace else missed_from c flags trace) (eq-eqb e.channel c same)
 
-missed_cons_other : (c : ℕ) (flags : Flags) (e : Trace) (trace : List Trace) → e.channel ≢ c → missed_from c flags (e ∷ trace) ≡ missed_from c flags trace
+pub missed_cons_other : (c : ℕ) (flags : Flags) (e : Trace) (trace : List Trace) → e.channel ≢ c → missed_from c flags (e ∷ trace) ≡ missed_from c flags trace
 unfolding missed_from
 missed_cons_other c flags e trace apart = ap (λ (t : Bool). if t then missed_event flags e ∷ missed_from c (flags_after e.event) trace else missed_from c flags trace) (ne_eqb e.channel c apart)
 
-missed_nil : (c : ℕ) (flags : Flags) → missed_from c flags [] ≡ []
+pub missed_nil : (c : ℕ) (flags : Flags) → missed_from c flags [] ≡ []
 unfolding missed_from
 missed_nil c flags = refl
 
-through_cons_here : (c : ℕ) (flags : Flags) (e : Trace) (trace : List Trace) → e.channel ≡ c → flags_through c flags (e ∷ trace) ≡ flags_through c (flags_after e.event) trace
+pub through_cons_here : (c : ℕ) (flags : Flags) (e : Trace) (trace : List Trace) → e.channel ≡ c → flags_through c flags (e ∷ trace) ≡ flags_through c (flags_after e.event) trace
 unfolding flags_through
 through_cons_here c flags e trace same = ap (λ (t : Bool). if t then flags_through c (flags_after e.event) trace else flags_through c flags trace) (eq-eqb e.channel c same)
 
-through_cons_other : (c : ℕ) (flags : Flags) (e : Trace) (trace : List Trace) → e.channel ≢ c → flags_through c flags (e ∷ trace) ≡ flags_through c flags trace
+pub through_cons_other : (c : ℕ) (flags : Flags) (e : Trace) (trace : List Trace) → e.channel ≢ c → flags_through c flags (e ∷ trace) ≡ flags_through c flags trace
 unfolding flags_through
 through_cons_other c flags e trace apart = ap (λ (t : Bool). if t then flags_through c (flags_after e.event) trace else flags_through c flags trace) (ne_eqb e.channel c apart)
 
-through_nil : (c : ℕ) (flags : Flags) → flags_through c flags [] ≡ flags
+pub through_nil : (c : ℕ) (flags : Flags) → flags_through c flags [] ≡ flags
 unfolding flags_through
 through_nil c flags = refl
 
@@ -153,17 +158,6 @@ module _ (races : Flags → Bool) (c : ℕ) (flags : Flags) (trace : List Trace)
       ∙ race_found races (missed_event flags (get_or trace place e)) (missed_from c (flags_after (get_or trace place e).event) (drop (place + 1) trace)) test
       ∙ ap (λ t. Some t) (sym is)) ∙ so_far
 
-  pub race_next : (e : Trace) (next : Flags) → place < length trace → e ≡ get_or trace place e → e.channel ≡ c → races flags ≡ false → next ≡ flags_after e.event → first_race races (missed_from c next (drop (place + 1) trace)) ≡ whole
-  race_next e next low is on test next_is =
-      ap (λ f. first_race races (missed_from c f (drop (place + 1) trace))) (next_is ∙ ap (λ (t : Trace). flags_after t.event) is)
-      ∙ sym (ap (λ x. first_race races x) (missed_here c flags trace place e low (ap (λ (t : Trace). t.channel) (sym is) ∙ on))
-      ∙ race_passed races (missed_event flags (get_or trace place e)) (missed_from c (flags_after (get_or trace place e).event) (drop (place + 1) trace)) test) ∙ so_far
-
-  pub race_skip : (e : Trace) (next : Flags) → place < length trace → e ≡ get_or trace place e → e.channel ≢ c → next ≡ flags → first_race races (missed_from c next (drop (place + 1) trace)) ≡ whole
-  race_skip e next low is off next_is =
-      ap (λ f. first_race races (missed_from c f (drop (place + 1) trace))) next_is
-      ∙ sym (ap (λ x. first_race races x) (missed_other c flags trace place e low (λ on. off (ap (λ (t : Trace). t.channel) is ∙ on)))) ∙ so_far
-
   pub race_end : length trace ≤ place → None ≡ whole
   race_end past = sym (ap (λ x. first_race races x) (missed_past c flags trace place past)) ∙ so_far
 
@@ -216,3 +210,56 @@ alike_here alike c flags (e ∷ trace) is = elim (cases_eq e.channel c) [
       missed_cons_other c flags e trace off ∙ alike_here alike c flags trace is
       ∙ ap (λ x. from_alike alike x) (sym (missed_cons_other c flags e trace off))
 ]
+
+-- ---- the event at which a search ends
+
+first_entry : List Missed → Option Trace
+first_entry [] = None
+first_entry (e ∷ missed) = Some e.entry
+
+race_first : (test : Flags → Bool) (missed : List Missed) → first_race test missed ≡ first_entry (from_alike test missed)
+unfolding first_entry
+race_first test [] = ap first_entry (sym (alike_none test))
+race_first test (e ∷ missed) = by_test (race_first test missed) (test e.found) refl
+  where
+    by_test : first_race test missed ≡ first_entry (from_alike test missed) → (b : Bool) → test e.found ≡ b → first_race test (e ∷ missed) ≡ first_entry (from_alike test (e ∷ missed))
+    by_test others true holds = race_found test e missed holds ∙ ap first_entry (sym (alike_found test e missed holds))
+    by_test others false fails = race_passed test e missed fails ∙ others ∙ ap first_entry (sym (alike_passed test e missed fails))
+
+module _ (test : Flags → Bool) (c : ℕ) (flags : Flags) (trace : List Trace) (place : ℕ) (missed : List Missed) (so_far : from_alike test (missed_from c flags (drop place trace)) ≡ from_alike test missed) where
+  one_race : first_race test (missed_from c flags (drop place trace)) ≡ first_race test missed
+  one_race = race_first test (missed_from c flags (drop place trace)) ∙ ap first_entry so_far ∙ sym (race_first test missed)
+
+  pub race_there : (e : Trace) → place < length trace → e ≡ get_or trace place e → e.channel ≡ c → test flags ≡ true → first_race test missed ≡ slice_get trace place
+  race_there e low is on holds =
+      sym (race_at test c flags trace place (first_race test missed) one_race e low is on holds)
+      ∙ sym (slice_get_read trace (length trace) place e refl low is)
+
+  pub race_nowhere : length trace ≤ place → first_race test missed ≡ slice_get trace (length trace)
+  race_nowhere past =
+      sym (race_end test c flags trace place (first_race test missed) one_race past)
+      ∙ sym (slice_get_past trace (length trace) (omega arith))
+
+-- ---- a search, by its next event
+
+-- where a search from one place has come to: no event between them found one of its flags
+pub record IsSearched (test : Flags → Bool) (c : ℕ) (trace : List Trace) (first low : Low) : Type 0 where
+  pub missed : from_alike test (missed_at c low trace) ≡ from_alike test (missed_at c first trace)
+  pub flags : flags_through c low.flags (drop low.from trace) ≡ flags_through c first.flags (drop first.from trace)
+
+module _ (test : Flags → Bool) (c : ℕ) (trace : List Trace) (first low : Low) (so_far : IsSearched test c trace first low) (e : Trace) (within : low.from < length trace) (is : e ≡ get_or trace low.from e) (kept : Low) where
+  pub searched_event : (next : Flags) → kept ≡ record { from = low.from; flags = next } → next ≡ flags_after e.event → e.channel ≡ c → test low.flags ≡ false → IsSearched test c trace first (record { from = kept.from + 1; flags = kept.flags })
+  searched_event next kept_is next_is on fails = subst (λ (k : Low). IsSearched test c trace first (record { from = k.from + 1; flags = k.flags })) (sym kept_is) (record {
+    missed = alike_next test c low.flags trace low.from (from_alike test (missed_at c first trace)) so_far.missed e next within is on fails next_is;
+    flags = flags_next c low.flags trace low.from (flags_through c first.flags (drop first.from trace)) e next so_far.flags within is on next_is;
+  })
+
+  pub searched_other : kept ≡ low → e.channel ≢ c → IsSearched test c trace first (record { from = kept.from + 1; flags = kept.flags })
+  searched_other kept_is off = subst (λ (k : Low). IsSearched test c trace first (record { from = k.from + 1; flags = k.flags })) (sym kept_is) (record {
+    missed = alike_skip test c low.flags trace low.from (from_alike test (missed_at c first trace)) so_far.missed e low.flags within is off refl;
+    flags = flags_skip c low.flags trace low.from (flags_through c first.flags (drop first.from trace)) e low.flags so_far.flags within is off refl;
+  })
+
+-- or a span further
+pub searched_span : (set : FlagSet) (c : ℕ) (trace : List Trace) (first low next : Low) → IsSearched (λ f. has set f) c trace first low → GoesOnFrom c set trace low next → IsSearched (λ f. has set f) c trace first next
+searched_span set c trace first low next so_far goes = record { missed = sym goes.missed ∙ so_far.missed; flags = sym goes.flags ∙ so_far.flags }

@@ -1,5 +1,5 @@
 -- Something of each of the flags of a channel. (Private contracts alone cite this.)
-use Rattle.std.specs.Prelude.{◌≡◌, Bool, Option, None, if◌then◌else◌}
+use Rattle.std.specs.Prelude.{Bool, false, Option, None, if◌then◌else◌}
 use Rattle.pp_channel.specs.declared.flags.Flags.{Flags}
 use Rattle.pp_races.specs.declared.asking_step.AskingStep.{AskingStep}
 use Rattle.pp_races.specs.declared.flag_set.FlagSet.{FlagSet}
@@ -14,6 +14,10 @@ by_flags inactive inactive_full empty full flags =
 -- whether flags are in a set
 abbrev pub has : FlagSet → Flags → Bool
 has set flags = by_flags set.inactive set.inactive_full set.empty set.full flags
+
+-- no flags
+abbrev pub no_flags : FlagSet
+no_flags = record { inactive = false; inactive_full = false; empty = false; full = false }
 
 -- the look that is kept for flags
 abbrev pub look_at : Looks → Flags → Option AskingStep

@@ -6,5 +6,6 @@ pub mod RacesText
 pub mod Positions
 pub mod FlagSets
 pub mod Tables
+pub mod Spans
 pub mod OnePass
 pub mod Soundness

@@ -4,6 +4,7 @@ ghost use Rattle.std.specs.Prelude.{◌≡◌, ℕ, [], List, IfOk, OnOk, length
 ghost use Rattle.pp_machine.specs.Run.{barrel, run};
 ghost use Rattle.pp_every_order.specs.Determinacy.{IsDeterminate};
 ghost use Rattle.pp_races.specs.Findings.{findings};
+ghost use Rattle.pp_races.specs.Spans.{IsIndex};
 ghost use Rattle.pp_races.specs.Tables.{entry_count, AreLow, AreNoLooks, AreUses, AreWatched};
 ghost use Rattle.pp_races.specs.Watch.{unwatched};
 
@@ -12,6 +13,7 @@ use crate::looks::Looks;
 use crate::low::Low;
 use crate::settled::find_unsettled;
 use crate::sharing::find_shared;
+use crate::trace_index::TraceIndex;
 use crate::watch::{take_step, take_use};
 use crate::word_use::WordUse;
 use pp_channel::{CHANNELS, ChannelNo, Memory};
@@ -63,11 +65,13 @@ fn first_uses<A: Allocator + Copy>(
 fn run_watched<A: Allocator>(
     machine: &mut Machine<A>,
     turns: u32,
+    index: &mut TraceIndex<A>,
     low: &mut [Low],
     looks: &mut [Looks],
     uses: &mut [WordUse],
     found: &mut Vec<Finding, A>,
 ) -> Result<(), Memory>
+    requires index { IsIndex machine.old.trace index.old.short.items index.old.long.items }
     requires low { length low.old ≡ entry_count }
     requires looks { length looks.old ≡ entry_count }
     requires words { length uses.old ≡ length machine.old.central }
@@ -87,11 +91,11 @@ fn run_watched<A: Allocator>(
     for turn in 0..turns {
         let n = PpNo::at((turn % round) as usize);
         let need = machine.pp(n).wants();
-        take_step(machine, n, &need, low, looks, found)?;
+        take_step(machine, n, &need, index, low, looks, found)?;
         take_use(uses, n, &need);
         machine.step(n)?;
     }
-    find_unsettled(machine, low, found)?;
+    find_unsettled(machine, index, low, found)?;
     find_shared(uses, found)?;
     Ok(())
 }
@@ -110,10 +114,13 @@ pub fn find_races<A: Allocator + Copy>(
     ensures same { IfOk result (λ found. found.items ≡ []
         → IsDeterminate (barrel machine.old.profile turns) machine.old) }
 {
+    let mut index = TraceIndex::of(alloc, machine.events())?;
     let mut low = first_low(alloc, machine)?;
     let mut looks = first_looks(alloc)?;
     let mut uses = first_uses(alloc, machine)?;
     let mut found = Vec::new(alloc);
-    run_watched(machine, turns, &mut low, &mut looks, &mut uses, &mut found)?;
+    run_watched(
+        machine, turns, &mut index, &mut low, &mut looks, &mut uses, &mut found,
+    )?;
     Ok(found)
 }

@@ -14,6 +14,8 @@ mod position;
 mod races_text;
 mod settled;
 mod sharing;
+mod span;
+mod trace_index;
 mod verdict;
 mod watch;
 mod word_use;

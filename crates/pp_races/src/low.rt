@@ -1,14 +1,16 @@
 //! What a processor may still find of a channel.
 
-ghost use Rattle.std.specs.Prelude.{◌≡◌, ◌≤◌, ◌<◌, drop, length, IsTrue};
-ghost use Rattle.pp_channel.specs.Answer.{flags_of};
+ghost use Rattle.std.specs.Prelude.{◌≡◌, ◌≤◌, drop, length, slice_get};
 ghost use Rattle.pp_races.specs.FlagSets.{has};
+ghost use Rattle.pp_races.specs.Spans.{IsIndex};
 ghost use Rattle.pp_races.specs.Tables.{flags_through, missed_at};
 ghost use Rattle.pp_races.specs.Watch.{first_race, from_alike};
 
 use crate::flag_set::FlagSet;
+use crate::trace_index::TraceIndex;
 use pp_channel::{ChannelNo, Flags, flags_after};
 use pp_machine::Trace;
+use std::alloc::Allocator;
 
 /// The place in the trace from which on a processor may find the events of a channel still to come,
 /// and the flags of the channel there.
@@ -20,27 +22,36 @@ pub(crate) struct Low {
 
 impl Low {
     /// The first event from here on that found the channel with one of these flags.
-    pub(crate) fn first_race(&self, trace: &[Trace], c: ChannelNo, races: &FlagSet) -> Option<Trace>
+    pub(crate) fn first_race<A: Allocator>(
+        &self,
+        trace: &[Trace],
+        index: &TraceIndex<A>,
+        c: ChannelNo,
+        races: &FlagSet,
+    ) -> Option<Trace>
+        requires { IsIndex trace.now index.now.short.items index.now.long.items }
         ensures { result ≡ first_race (has races.now) (missed_at c self.now trace.now) }
     {
-        let mut flags = self.flags;
-        for place in self.from..trace.len() {
-            let entry = trace[place];
-            if entry.channel.get() == c.get() {
-                if races.has(flags) {
-                    return Some(entry);
-                }
-                flags = flags_after(&entry.event);
-            }
+        let found = self.search(trace, index, c, races);
+        if found.from < trace.len() {
+            Some(trace[found.from])
+        } else {
+            None
         }
-        None
     }
 
     /// The first place from here on where the channel had one of these flags; the end of the trace,
     /// where there is none. Places are passed over once: where the channel had one of them here, or no
     /// event of it follows, this place serves.
     #[tactic(auto, using(crate::proofs::LowLemmas::alike_here))]
-    pub(crate) fn from_alike(&self, trace: &[Trace], c: ChannelNo, alike: &FlagSet) -> Low
+    pub(crate) fn from_alike<A: Allocator>(
+        &self,
+        trace: &[Trace],
+        index: &TraceIndex<A>,
+        c: ChannelNo,
+        alike: &FlagSet,
+    ) -> Low
+        requires { IsIndex trace.now index.now.short.items index.now.long.items }
         ensures missed { missed_at c result trace.now
             ≡ from_alike (has alike.now) (missed_at c self.now trace.now) }
         ensures flags { flags_through c result.flags (drop result.from trace.now)
@@ -50,29 +61,45 @@ impl Low {
         if alike.has(self.flags) {
             return *self;
         }
-        self.walk_to_alike(trace, c, alike)
+        self.search(trace, index, c, alike)
     }
 
-    fn walk_to_alike(&self, trace: &[Trace], c: ChannelNo, alike: &FlagSet) -> Low
+    /// The place, from here on, of the first event that found one of a set of flags; the end of the
+    /// trace, where none did. Spans of the trace in which none did are passed over.
+    fn search<A: Allocator>(
+        &self,
+        trace: &[Trace],
+        index: &TraceIndex<A>,
+        c: ChannelNo,
+        set: &FlagSet,
+    ) -> Low
+        requires { IsIndex trace.now index.now.short.items index.now.long.items }
         ensures within { result.from ≤ length trace.now }
         ensures missed { missed_at c result trace.now
-            ≡ from_alike (has alike.now) (missed_at c self.now trace.now) }
+            ≡ from_alike (has set.now) (missed_at c self.now trace.now) }
         ensures flags { flags_through c result.flags (drop result.from trace.now)
             ≡ flags_through c self.now.flags (drop self.now.from trace.now) }
+        ensures event { first_race (has set.now) (missed_at c self.now trace.now)
+            ≡ slice_get trace.now result.from }
     {
-        let mut flags = self.flags;
-        for place in self.from..trace.len() {
-            let entry = trace[place];
-            if entry.channel.get() == c.get() {
-                if alike.has(flags) {
-                    return Low { from: place, flags };
-                }
-                flags = flags_after(&entry.event);
+        let mut low = *self;
+        while low.from < trace.len() {
+            if let Some(next) = index.pass(trace, &low, c, set) {
+                low = next;
+                continue;
             }
+            let entry = trace[low.from];
+            if entry.channel.get() == c.get() {
+                if set.has(low.flags) {
+                    return low;
+                }
+                low.flags = flags_after(&entry.event);
+            }
+            low.from += 1;
         }
         Low {
             from: trace.len(),
-            flags,
+            flags: low.flags,
         }
     }
 }

@@ -9,6 +9,7 @@ ghost use Rattle.pp_machine.specs.PpNo.{names_processor};
 ghost use Rattle.pp_machine.specs.declared.need.Need.{Need};
 ghost use Rattle.pp_races.specs.Findings.{end_by_need, end_of, is_running, same_profile, same_words, stays_running, turns_in_place};
 ghost use Rattle.pp_races.specs.Soundness.{TurnsWell};
+ghost use Rattle.pp_races.specs.Spans.{IsIndex};
 ghost use Rattle.pp_races.specs.Tables.{entry_count, AreLow};
 ghost use Rattle.pp_races.specs.Watch.{Watch, each_number};
 
@@ -17,6 +18,7 @@ use crate::finding::Finding;
 use crate::found::goes_on_at;
 use crate::low::Low;
 use crate::position::{Position, waits_at};
+use crate::trace_index::TraceIndex;
 use crate::watch::entry_place;
 use pp_channel::{ChanOp, ChannelNo, Memory};
 use pp_machine::{Answer, Machine, Need, PROCESSORS, Pp, PpNo, PpState, Profile};
@@ -95,10 +97,12 @@ fn find_asking<A: Allocator>(
     n: PpNo,
     c: ChannelNo,
     op: &ChanOp,
+    index: &TraceIndex<A>,
     low: &[Low],
     findings: &mut Vec<Finding, A>,
 ) -> Result<(), Memory>
     requires needs { need (processor_of n machine.now) ≡ Need.Channel c op.now }
+    requires index { IsIndex machine.now.trace index.now.short.items index.now.long.items }
     requires low { length low.now ≡ entry_count }
     ensures { OnOk result ((w : Watch) → AreLow machine.now w low.now → findings.new.items
         ≡ findings.old.items ++ end_by_need (Need.Channel c op.now) n machine.now w) }
@@ -109,7 +113,7 @@ fn find_asking<A: Allocator>(
         return Ok(());
     }
     let goes_on = goes_on_at(pp, c, op);
-    if let Some(entry) = low[entry_place(n, c)].first_race(machine.events(), c, &goes_on) {
+    if let Some(entry) = low[entry_place(n, c)].first_race(machine.events(), index, c, &goes_on) {
         findings.push(Finding::HeldBefore(AskingStep::of(machine, n, c), entry))?;
     }
     Ok(())
@@ -119,9 +123,11 @@ fn find_asking<A: Allocator>(
 fn find_end<A: Allocator>(
     machine: &Machine<A>,
     n: PpNo,
+    index: &TraceIndex<A>,
     low: &[Low],
     findings: &mut Vec<Finding, A>,
 ) -> Result<(), Memory>
+    requires index { IsIndex machine.now.trace index.now.short.items index.now.long.items }
     requires low { length low.now ≡ entry_count }
     ensures found { OnOk result ((w : Watch) → AreLow machine.now w low.now
         → findings.new.items ≡ findings.old.items ++ end_of machine.now w n) }
@@ -135,23 +141,25 @@ fn find_end<A: Allocator>(
             findings.push(Finding::GoingOn(n))?;
             Ok(())
         }
-        Need::Channel(c, op) => find_asking(machine, n, c, &op, low, findings),
+        Need::Channel(c, op) => find_asking(machine, n, c, &op, index, low, findings),
     }
 }
 
 /// Finds which processors go on, or might have gone on.
 pub(crate) fn find_unsettled<A: Allocator>(
     machine: &Machine<A>,
+    index: &TraceIndex<A>,
     low: &[Low],
     findings: &mut Vec<Finding, A>,
 ) -> Result<(), Memory>
+    requires index { IsIndex machine.now.trace index.now.short.items index.now.long.items }
     requires low { length low.now ≡ entry_count }
     ensures found { OnOk result ((w : Watch) → AreLow machine.now w low.now
         → findings.new.items ≡ findings.old.items ++ each_number (end_of machine.now w)) }
     ensures turns { OnOk result ((q : ℕ) → IsTrue (names_processor q) → TurnsWell machine.now q) }
 {
     for place in 0..PROCESSORS {
-        find_end(machine, PpNo::at(place), low, findings)?;
+        find_end(machine, PpNo::at(place), index, low, findings)?;
     }
     Ok(())
 }

@@ -11,6 +11,7 @@ ghost use Rattle.pp_machine.specs.PpNo.{names_processor};
 ghost use Rattle.pp_machine.specs.declared.need.Need.{Need};
 ghost use Rattle.pp_races.specs.OtherFlags.{waits_at};
 ghost use Rattle.pp_races.specs.Soundness.{IsAskedWell};
+ghost use Rattle.pp_races.specs.Spans.{IsIndex};
 ghost use Rattle.pp_races.specs.Tables.{entry_count, entry_place, closing_findings, looks_after_event, looks_of, AreClosed, AreUses, AreWatched};
 ghost use Rattle.pp_races.specs.Watch.{Watch, asked, each_number, looked, made, race_after, race_before, watched_need};
 
@@ -20,6 +21,7 @@ use crate::found::{goes_on_at, look_sets};
 use crate::looks::Looks;
 use crate::low::Low;
 use crate::position::waits_at;
+use crate::trace_index::TraceIndex;
 use crate::word_use::WordUse;
 use pp_channel::{CHANNELS, ChanOp, ChannelNo, Event, Flags, Memory, flags_after};
 use pp_machine::{Machine, Need, PROCESSORS, PpNo, Trace};
@@ -57,15 +59,19 @@ fn take_look<A: Allocator>(
     n: PpNo,
     c: ChannelNo,
     op: &ChanOp,
+    index: &TraceIndex<A>,
     low: &mut [Low],
     looks: &mut [Looks],
     findings: &mut Vec<Finding, A>,
 ) -> Result<(), Memory>
     requires needs { need (processor_of n machine.now) ≡ Need.Channel c op.now }
     requires none { event_of op.now (history_of c machine.now) ≡ None }
+    requires index { IsIndex machine.now.trace index.now.short.items index.now.long.items }
     requires low { length low.old ≡ entry_count }
     requires looks { length looks.old ≡ entry_count }
-    ensures { OnOk result ((w : Watch) → AreWatched machine.now w low.old looks.old findings.old.items
+    ensures index { OnOk result (IsIndex (stepped n machine.now).trace index.now.short.items
+        index.now.long.items) }
+    ensures watched { OnOk result ((w : Watch) → AreWatched machine.now w low.old looks.old findings.old.items
         → AreWatched (stepped n machine.now) (looked n c op.now machine.now w) low.new looks.new
         findings.new.items) }
 {
@@ -74,9 +80,9 @@ fn take_look<A: Allocator>(
     let trace = machine.events();
     let entry = entry_place(n, c);
     let was = low[entry];
-    let race = was.first_race(trace, c, &sets.races);
+    let race = was.first_race(trace, index, c, &sets.races);
     push_before(findings, &step, &race)?;
-    low[entry] = was.from_alike(trace, c, &sets.alike);
+    low[entry] = was.from_alike(trace, index, c, &sets.alike);
     let kept = looks[entry];
     looks[entry] = kept.with(&sets.alike, &step);
     Ok(())
@@ -137,22 +143,26 @@ fn take_event<A: Allocator>(
     c: ChannelNo,
     op: &ChanOp,
     event: &Event,
+    index: &mut TraceIndex<A>,
     low: &mut [Low],
     looks: &mut [Looks],
     findings: &mut Vec<Finding, A>,
 ) -> Result<(), Memory>
     requires needs { need (processor_of n machine.now) ≡ Need.Channel c op.now }
     requires event { event_of op.now (history_of c machine.now) ≡ Some event.now }
+    requires index { IsIndex machine.now.trace index.old.short.items index.old.long.items }
     requires low { length low.old ≡ entry_count }
     requires looks { length looks.old ≡ entry_count }
-    ensures { OnOk result ((w : Watch) → AreWatched machine.now w low.old looks.old findings.old.items
+    ensures index { OnOk result (IsIndex (stepped n machine.now).trace index.new.short.items
+        index.new.long.items) }
+    ensures watched { OnOk result ((w : Watch) → AreWatched machine.now w low.old looks.old findings.old.items
         → AreWatched (stepped n machine.now) (made n c op.now event.now machine.now w) low.new
         looks.new findings.new.items) }
 {
     let trace = machine.events();
     let entry = entry_place(n, c);
     let goes_on = goes_on_at(machine.pp(n), c, op);
-    let race = low[entry].first_race(trace, c, &goes_on);
+    let race = low[entry].first_race(trace, index, c, &goes_on);
     push_before(findings, &AskingStep::of(machine, n, c), &race)?;
     let after = flags_after(event);
     let made = Trace {
@@ -162,6 +172,7 @@ fn take_event<A: Allocator>(
         event: *event,
     };
     close_all(looks, &made, after, findings)?;
+    index.push(trace, &made)?;
     low[entry] = Low {
         from: trace.len() + 1,
         flags: after,
@@ -175,14 +186,18 @@ fn take_asked<A: Allocator>(
     n: PpNo,
     c: ChannelNo,
     op: &ChanOp,
+    index: &mut TraceIndex<A>,
     low: &mut [Low],
     looks: &mut [Looks],
     findings: &mut Vec<Finding, A>,
 ) -> Result<(), Memory>
     requires needs { need (processor_of n machine.now) ≡ Need.Channel c op.now }
+    requires index { IsIndex machine.now.trace index.old.short.items index.old.long.items }
     requires low { length low.old ≡ entry_count }
     requires looks { length looks.old ≡ entry_count }
     ensures sound { IsAskedWell (Need.Channel c op.now) machine.now }
+    ensures index { OnOk result (IsIndex (stepped n machine.now).trace index.new.short.items
+        index.new.long.items) }
     ensures watched { OnOk result ((w : Watch)
         → AreWatched machine.now w low.old looks.old findings.old.items
         → AreWatched (stepped n machine.now)
@@ -194,12 +209,12 @@ fn take_asked<A: Allocator>(
     let _entry = entry_place(n, c);
     let _sound = channel.history();
     if let Some(event) = channel.next_event(op) {
-        return take_event(machine, n, c, op, &event, low, looks, findings);
+        return take_event(machine, n, c, op, &event, index, low, looks, findings);
     }
     if waits_at(machine.pp(n), c, op, channel.flags()) {
         return Ok(());
     }
-    take_look(machine, n, c, op, low, looks, findings)
+    take_look(machine, n, c, op, index, low, looks, findings)
 }
 
 /// Takes in the next step of a processor, as far as it asks a channel.
@@ -207,21 +222,25 @@ pub(crate) fn take_step<A: Allocator>(
     machine: &Machine<A>,
     n: PpNo,
     asked: &Need,
+    index: &mut TraceIndex<A>,
     low: &mut [Low],
     looks: &mut [Looks],
     findings: &mut Vec<Finding, A>,
 ) -> Result<(), Memory>
     requires needs { asked.now ≡ need (processor_of n machine.now) }
+    requires index { IsIndex machine.now.trace index.old.short.items index.old.long.items }
     requires low { length low.old ≡ entry_count }
     requires looks { length looks.old ≡ entry_count }
     ensures sound { IsAskedWell asked.now machine.now }
+    ensures index { OnOk result (IsIndex (stepped n machine.now).trace index.new.short.items
+        index.new.long.items) }
     ensures watched { OnOk result ((w : Watch)
         → AreWatched machine.now w low.old looks.old findings.old.items
         → AreWatched (stepped n machine.now) (watched_need asked.now n machine.now w) low.new looks.new
         findings.new.items) }
 {
     match asked {
-        Need::Channel(c, op) => take_asked(machine, n, *c, op, low, looks, findings),
+        Need::Channel(c, op) => take_asked(machine, n, *c, op, index, low, looks, findings),
         Need::Nothing => Ok(()),
         Need::Local => Ok(()),
         Need::Read(_) => Ok(()),

@@ -2,7 +2,7 @@ use Rattle.std.proofs.Common.{sym, ap, ◌∙◌}
 use Rattle.pp_channel.specs.Answer.{event_of, flags_of}
 use Rattle.pp_machine.specs.MachineState.{processor_of}
 use Rattle.pp_races.specs.OtherFlags.{waits_at}
-use Rattle.pp_races.proofs.LookLemmas.{waits_watched}
+use Rattle.pp_races.proofs.LookLemmas.{index_kept, waits_watched}
 use Rattle.pp_races.proofs.watch.take_asked.Goals as goal
 
 pub returns-then-waits_at-clause-watched : goal.returns-then-waits_at-clause-watched
@@ -13,3 +13,8 @@ returns-then-waits_at-clause-watched g c = λ w are.
     ∙ ap (λ f. waits_at c.args.op.now (processor_of c.args.n c.args.machine.now) f) (sym c.flags.ensures)
     ∙ ap (λ p. waits_at c.args.op.now p c.flags.result) (sym c.pp.ensures)
     ∙ sym c.waits_at.ensures ∙ c.if-waits_at.true) are
+
+pub returns-then-waits_at-clause-index : goal.returns-then-waits_at-clause-index
+returns-then-waits_at-clause-index g c =
+    index_kept c.args.n c.args.c c.args.op.now c.args.machine.now c.args.index.now.short.items c.args.index.now.long.items c.requires.needs
+    (ap (λ h. event_of c.args.op.now h) (sym c.channel-channel.ensures.value) ∙ sym c.next_event.ensures.event ∙ c.in_default.is) c.requires.index

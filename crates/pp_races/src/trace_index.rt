@@ -1,0 +1,122 @@
+//! An index of the trace, by which a search passes over spans of it.
+
+ghost use Rattle.std.specs.Prelude.{◌<◌, ◌++◌, [], ◌∷◌, IfOk, IfSome, OnOk, length};
+ghost use Rattle.pp_races.specs.Spans.{AreSpans, GoesOnFrom, IsIndex};
+
+use crate::flag_set::FlagSet;
+use crate::low::Low;
+use crate::span::Span;
+use pp_channel::{CHANNELS, ChannelNo, Memory, flags_after};
+use pp_machine::Trace;
+use std::alloc::Allocator;
+
+/// How many events a short span has, and a long one (decimal).
+const SHORT: usize = 128;
+
+const LONG: usize = 8192;
+
+/// What the events of each channel were, by short and by long spans of the trace.
+#[derive(Drop)]
+pub(crate) struct TraceIndex<A: Allocator> {
+    pub(crate) short: Vec<[Span; CHANNELS], A>,
+    pub(crate) long: Vec<[Span; CHANNELS], A>,
+}
+
+impl<A: Allocator> TraceIndex<A> {
+    /// That of this trace.
+    pub(crate) fn of(alloc: A, trace: &[Trace]) -> Result<TraceIndex<A>, Memory>
+    where
+        A: Copy,
+        ensures { IfOk result (λ index. IsIndex trace.now index.short.items index.long.items) }
+    {
+        let mut index = TraceIndex {
+            short: Vec::new(alloc),
+            long: Vec::new(alloc),
+        };
+        for place in 0..trace.len() {
+            index.push(&trace[..place], &trace[place])?;
+        }
+        Ok(index)
+    }
+
+    /// Takes in an event that follows this trace.
+    pub(crate) fn push(&mut self, trace: &[Trace], made: &Trace) -> Result<(), Memory>
+        requires { IsIndex trace.now self.old.short.items self.old.long.items }
+        ensures { OnOk result (IsIndex (trace.now ++ made.now ∷ []) self.new.short.items
+            self.new.long.items) }
+    {
+        push_event(&mut self.short, SHORT, trace, made)?;
+        push_event(&mut self.long, LONG, trace, made)
+    }
+
+    /// Where a search for one of a set of flags may go on, if a span begins here in which no event of
+    /// the channel found one.
+    pub(crate) fn pass(
+        &self,
+        trace: &[Trace],
+        low: &Low,
+        c: ChannelNo,
+        set: &FlagSet,
+    ) -> Option<Low>
+        requires index { IsIndex trace.now self.now.short.items self.now.long.items }
+        requires within { low.now.from < length trace.now }
+        ensures { IfSome result (λ next. GoesOnFrom c set.now trace.now low.now next) }
+    {
+        match pass_span(&self.long, LONG, trace, low, c, set) {
+            Some(next) => Some(next),
+            None => pass_span(&self.short, SHORT, trace, low, c, set),
+        }
+    }
+}
+
+/// Takes in an event that follows this trace, where spans have this length.
+fn push_event<A: Allocator>(
+    rows: &mut Vec<[Span; CHANNELS], A>,
+    size: usize,
+    trace: &[Trace],
+    made: &Trace,
+) -> Result<(), Memory>
+    requires size { 0 < size }
+    requires spans { AreSpans size trace.now rows.old.items }
+    ensures { OnOk result (AreSpans size (trace.now ++ made.now ∷ []) rows.new.items) }
+{
+    if trace.len() % size == 0 {
+        rows.push([Span::none(); CHANNELS])?;
+    }
+    let number = trace.len() / size;
+    let place = made.channel.index();
+    let span = rows[number][place].with(flags_after(&made.event));
+    rows[number][place] = span;
+    Ok(())
+}
+
+/// Where a search may go on, if a span of this length begins here in which no event of the channel
+/// found one of the set.
+fn pass_span(
+    rows: &[[Span; CHANNELS]],
+    size: usize,
+    trace: &[Trace],
+    low: &Low,
+    c: ChannelNo,
+    set: &FlagSet,
+) -> Option<Low>
+    requires size { 0 < size }
+    requires spans { AreSpans size trace.now rows.now }
+    requires within { low.now.from < length trace.now }
+    ensures { IfSome result (λ next. GoesOnFrom c set.now trace.now low.now next) }
+{
+    if low.from % size != 0 {
+        return None;
+    }
+    let span = rows[low.from / size][c.index()];
+    let flags = span.pass(low.flags, set)?;
+    let left = trace.len() - low.from;
+    Some(Low {
+        from: if left < size {
+            trace.len()
+        } else {
+            low.from + size
+        },
+        flags,
+    })
+}
