@@ -29,6 +29,7 @@ use Rattle.pp_races.specs.declared.asking_step.AskingStep.{AskingStep}
 use Rattle.pp_races.specs.declared.finding.Finding.{Finding}
 use Rattle.pp_races.specs.declared.flag_set.FlagSet.{FlagSet}
 use Rattle.pp_races.specs.declared.looks.Looks.{Looks}
+use Rattle.pp_races.specs.declared.latest.Latest.{Latest}
 use Rattle.pp_races.specs.declared.low.Low.{Low}
 use Rattle.pp_races.specs.declared.span.Span.{Span}
 use Rattle.pp_races.proofs.EntryLemmas.{set_here, set_other}
@@ -172,13 +173,13 @@ module _ (m : MachineState) (w : Watch) (n c : ℕ) (op : ChanOp) (event : Event
       (λ place low. closing_same looks looks_are (processor_number place) (processor_places.number_named place low)))
 
 -- the index of the trace takes in the event
-pub event_indexed : (m : MachineState) (n c : ℕ) (op : ChanOp) (event : Event) (trace : List Trace) (entry_made : Trace) (short long : List (List Span))
+pub event_indexed : (m : MachineState) (n c : ℕ) (op : ChanOp) (event : Event) (trace : List Trace) (entry_made : Trace) (latest : List Latest) (short long : List (List Span))
     → need (processor_of n m) ≡ Channel c op → event_of op (history_of c m) ≡ Some event → trace ≡ m.trace → entry_made ≡ entry_of n c event m
-    → IsIndex (trace ++ entry_made ∷ []) short long → IsIndex (stepped n m).trace short long
-event_indexed m n c op event trace entry_made short long e is trace_is made_is index =
+    → IsIndex (trace ++ entry_made ∷ []) latest short long → IsIndex (stepped n m).trace latest short long
+event_indexed m n c op event trace entry_made latest short long e is trace_is made_is index =
     let whole : trace ++ entry_made ∷ [] ≡ (stepped n m).trace =
     ap (λ t. t ++ entry_made ∷ []) trace_is ∙ ap (λ x. m.trace ++ x ∷ []) made_is ∙ sym (trace_with n c op m (Some event) e is) in
-    subst (λ (t : List Trace). IsIndex t short long) whole index
+    subst (λ (t : List Trace). IsIndex t latest short long) whole index
 
 -- the same, of the code's values
 pub event_watched : (m : MachineState) (w : Watch) (n c : ℕ) (op : ChanOp) (event : Event) (low : List Low) (looks new : List Looks) (found middle next : List Finding) (entry : ℕ) (first : Low) (goes_on : FlagSet) (race : Option Trace) (step : AskingStep) (trace : List Trace) (pp : Processor) (entry_made : Trace) (after : Flags)

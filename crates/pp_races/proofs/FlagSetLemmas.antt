@@ -88,7 +88,7 @@ apart_at one other true false i j e u is = off one.empty other.empty e is
 apart_at one other false true i j e u is = off one.inactive_full other.inactive_full j is
 apart_at one other false false i j e u is = off one.inactive other.inactive i is
 
-neither : (a b : Bool) → (a || b) ≡ false → (a ≡ false) × (b ≡ false)
+pub neither : (a b : Bool) → (a || b) ≡ false → (a ≡ false) × (b ≡ false)
 neither false b is = (refl, is)
 neither true b is = absurd cc
 

@@ -5,6 +5,7 @@ mod FlagSetLemmas
 mod LowLemmas
 mod SpanLemmas
 mod RowLemmas
+mod LatestLemmas
 mod EntryLemmas
 mod LookLemmas
 mod EventLemmas

@@ -26,6 +26,7 @@ use Rattle.pp_races.specs.declared.asking_step.AskingStep.{AskingStep}
 use Rattle.pp_races.specs.declared.finding.Finding.{Finding}
 use Rattle.pp_races.specs.declared.flag_set.FlagSet.{FlagSet}
 use Rattle.pp_races.specs.declared.looks.Looks.{Looks}
+use Rattle.pp_races.specs.declared.latest.Latest.{Latest}
 use Rattle.pp_races.specs.declared.low.Low.{Low}
 use Rattle.pp_races.specs.declared.span.Span.{Span}
 use Rattle.pp_races.proofs.EntryLemmas.{here_or_not, put_here, put_other, set_here, set_other}
@@ -47,8 +48,8 @@ pub history_kept : (n c k : ℕ) (op : ChanOp) (m : MachineState) → need (proc
 history_kept n c k op m e none = ap (λ (hs : List (List Event)). get_or hs (channel_index k) []) (histories_none n c op m e none)
 
 -- so it leaves the index of the trace
-pub index_kept : (n c : ℕ) (op : ChanOp) (m : MachineState) (short long : List (List Span)) → need (processor_of n m) ≡ Channel c op → event_of op (history_of c m) ≡ None → IsIndex m.trace short long → IsIndex (stepped n m).trace short long
-index_kept n c op m short long e none is = subst (λ (t : List Trace). IsIndex t short long) (sym (trace_kept n c op m e none)) is
+pub index_kept : (n c : ℕ) (op : ChanOp) (m : MachineState) (latest : List Latest) (short long : List (List Span)) → need (processor_of n m) ≡ Channel c op → event_of op (history_of c m) ≡ None → IsIndex m.trace latest short long → IsIndex (stepped n m).trace latest short long
+index_kept n c op m latest short long e none is = subst (λ (t : List Trace). IsIndex t latest short long) (sym (trace_kept n c op m e none)) is
 
 pub look_low : (m : MachineState) (w : Watch) (n c : ℕ) (op : ChanOp) (low : List Low) (first : Low) (alike : FlagSet)
     → IsTrue (names_processor n) → IsTrue (names_channel c) → entry_place n c < length low
@@ -186,8 +187,8 @@ trace_off Need.Local m n e off = trace_by n m Need.Local (sym e)
 trace_off (Need.Read a) m n e off = trace_by n m (Need.Read a) (sym e)
 trace_off (Need.Write a v) m n e off = trace_by n m (Need.Write a v) (sym e)
 
-pub off_indexed : (x : Need) (m : MachineState) (n : ℕ) (short long : List (List Span)) → x ≡ need (processor_of n m) → ((c : ℕ) (op : ChanOp) → x ≡ Channel c op → ⊥) → IsIndex m.trace short long → IsIndex (stepped n m).trace short long
-off_indexed x m n short long e off is = subst (λ (t : List Trace). IsIndex t short long) (sym (trace_off x m n e off)) is
+pub off_indexed : (x : Need) (m : MachineState) (n : ℕ) (latest : List Latest) (short long : List (List Span)) → x ≡ need (processor_of n m) → ((c : ℕ) (op : ChanOp) → x ≡ Channel c op → ⊥) → IsIndex m.trace latest short long → IsIndex (stepped n m).trace latest short long
+off_indexed x m n latest short long e off is = subst (λ (t : List Trace). IsIndex t latest short long) (sym (trace_off x m n e off)) is
 
 pub off_watched : (x : Need) (m : MachineState) (w : Watch) (n : ℕ) (low : List Low) (looks : List Looks) (found : List Finding) → x ≡ need (processor_of n m) → ((c : ℕ) (op : ChanOp) → x ≡ Channel c op → ⊥)
     → AreWatched m w low looks found → AreWatched (stepped n m) (watched_need x n m w) low looks found

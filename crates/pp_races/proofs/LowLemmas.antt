@@ -226,6 +226,10 @@ race_first test (e ∷ missed) = by_test (race_first test missed) (test e.found)
     by_test others true holds = race_found test e missed holds ∙ ap first_entry (sym (alike_found test e missed holds))
     by_test others false fails = race_passed test e missed fails ∙ others ∙ ap first_entry (sym (alike_passed test e missed fails))
 
+pub race_none : (test : Flags → Bool) (missed : List Missed) → from_alike test missed ≡ [] → None ≡ first_race test missed
+unfolding first_entry
+race_none test missed none = sym (race_first test missed ∙ ap first_entry none)
+
 module _ (test : Flags → Bool) (c : ℕ) (flags : Flags) (trace : List Trace) (place : ℕ) (missed : List Missed) (so_far : from_alike test (missed_from c flags (drop place trace)) ≡ from_alike test missed) where
   one_race : first_race test (missed_from c flags (drop place trace)) ≡ first_race test missed
   one_race = race_first test (missed_from c flags (drop place trace)) ∙ ap first_entry so_far ∙ sym (race_first test missed)

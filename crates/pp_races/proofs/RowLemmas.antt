@@ -30,6 +30,17 @@ whole_rows size place even = omega (arith, div-add-mod place size)
 
 -- ---- the row of an event that is to come
 
+no_rows_at : (size : ℕ) → 0 < size → AreSpans size [] []
+no_rows_at size some = record {
+  enough = omega arith;
+  begun = omega (arith, some);
+  wide = λ number low. absurd (omega arith);
+  each = λ number c low named. absurd (omega arith);
+}
+
+pub no_rows : (size : ℕ) (rows : List (List Span)) → 0 < size → rows ≡ [] → AreSpans size [] rows
+no_rows size rows some none = subst (λ (r : List (List Span)). AreSpans size [] r) (sym none) (no_rows_at size some)
+
 -- a table with room for one more event
 pub record HaveRoom (size : ℕ) (trace : List Trace) (rows : List (List Span)) : Type 0 where
   pub room : length trace < length rows * size

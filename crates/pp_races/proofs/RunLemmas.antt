@@ -27,6 +27,7 @@ use Rattle.pp_races.specs.Spans.{IsIndex}
 use Rattle.pp_races.specs.Tables.{AreLow, AreNoLooks, AreUses, AreWatched, entry_count}
 use Rattle.pp_races.specs.declared.finding.Finding.{Finding}
 use Rattle.pp_races.specs.declared.looks.Looks.{Looks}
+use Rattle.pp_races.specs.declared.latest.Latest.{Latest}
 use Rattle.pp_races.specs.declared.low.Low.{Low}
 use Rattle.pp_races.specs.declared.span.Span.{Span}
 use Rattle.pp_races.specs.declared.word_use.WordUse.{WordUse}
@@ -120,9 +121,9 @@ module _ (ns : List ℕ) (m : MachineState) (each : length m.histories ≡ chann
       }
 
 -- what is kept of a run after t turns of so many
-pub record IsWatchedRun (p : Profile) (turns t : ℕ) (m now : MachineState) (short long : List (List Span)) (low : List Low) (looks : List Looks) (uses : List WordUse) (found : List Finding) : Type 0 where
+pub record IsWatchedRun (p : Profile) (turns t : ℕ) (m now : MachineState) (latest : List Latest) (short long : List (List Span)) (low : List Low) (looks : List Looks) (uses : List WordUse) (found : List Finding) : Type 0 where
   pub ran : now ≡ run (barrel p t) m
-  pub indexed : IsIndex now.trace short long
+  pub indexed : IsIndex now.trace latest short long
   pub entries : length low ≡ entry_count
   pub looks_all : length looks ≡ entry_count
   pub words : length uses ≡ length m.central
@@ -168,10 +169,10 @@ watched_none : (m : MachineState) (w : Watch) → watched [] m w ≡ w
 unfolding watched
 watched_none m w = refl
 
-pub run_begins : (p : Profile) (turns : ℕ) (m : MachineState) (short long : List (List Span)) (low : List Low) (looks : List Looks) (uses : List WordUse) (found : List Finding) → length m.histories ≡ channel_count
-    → IsIndex m.trace short long → length low ≡ entry_count → length looks ≡ entry_count → length uses ≡ length m.central → AreLow m unwatched low → AreNoLooks looks → found ≡ [] → AreUses unwatched uses
-    → IsWatchedRun p turns 0 m m short long low looks uses found
-run_begins p turns m short long low looks uses found each index_is low_all looks_all words low_are looks_are nothing uses_are = record {
+pub run_begins : (p : Profile) (turns : ℕ) (m : MachineState) (latest : List Latest) (short long : List (List Span)) (low : List Low) (looks : List Looks) (uses : List WordUse) (found : List Finding) → length m.histories ≡ channel_count
+    → IsIndex m.trace latest short long → length low ≡ entry_count → length looks ≡ entry_count → length uses ≡ length m.central → AreLow m unwatched low → AreNoLooks looks → found ≡ [] → AreUses unwatched uses
+    → IsWatchedRun p turns 0 m m latest short long low looks uses found
+run_begins p turns m latest short long low looks uses found each index_is low_all looks_all words low_are looks_are nothing uses_are = record {
   ran = refl;
   indexed = index_is;
   entries = low_all;
@@ -204,14 +205,14 @@ sound_on ns m now n asked t w each within named n_is now_is asked_is well found 
     (subst (λ (x : Need). IsAskedWell x (at_moment ns m t)) (sym need_is) (subst (λ (x : MachineState). IsAskedWell asked x) (sym now_is) well))
     (ap (λ (x : Watch). x.findings) same ∙ found))
 
-pub run_goes_on : (p : Profile) (turns t : ℕ) (m now next : MachineState) (n : ℕ) (asked : Need) (short long new_short new_long : List (List Span)) (low new_low : List Low) (looks new_looks : List Looks) (uses new_uses : List WordUse) (found new_found : List Finding) → length m.histories ≡ channel_count
+pub run_goes_on : (p : Profile) (turns t : ℕ) (m now next : MachineState) (n : ℕ) (asked : Need) (latest new_latest : List Latest) (short long new_short new_long : List (List Span)) (low new_low : List Low) (looks new_looks : List Looks) (uses new_uses : List WordUse) (found new_found : List Finding) → length m.histories ≡ channel_count
     → t < turns → n ≡ processor_in_turn p t → IsTrue (names_processor n) → asked ≡ need (processor_of n now) → next ≡ stepped n now
-    → IsAskedWell asked now → IsIndex (stepped n now).trace new_short new_long
+    → IsAskedWell asked now → IsIndex (stepped n now).trace new_latest new_short new_long
     → ((w : Watch) → AreWatched now w low looks found → AreWatched (stepped n now) (watched_need asked n now w) new_low new_looks new_found)
     → ((k : MachineState) (w : Watch) → AreUses w uses → AreUses (watched_need asked n k w) new_uses)
     → length new_low ≡ length low → length new_looks ≡ length looks → length new_uses ≡ length uses
-    → IsWatchedRun p turns t m now short long low looks uses found → IsWatchedRun p turns (t + 1) m next new_short new_long new_low new_looks new_uses new_found
-run_goes_on p turns t m now next n asked short long new_short new_long low new_low looks new_looks uses new_uses found new_found each before n_is named asked_is next_is well index_is takes uses_take low_long looks_long uses_long r =
+    → IsWatchedRun p turns t m now latest short long low looks uses found → IsWatchedRun p turns (t + 1) m next new_latest new_short new_long new_low new_looks new_uses new_found
+run_goes_on p turns t m now next n asked latest new_latest short long new_short new_long low new_low looks new_looks uses new_uses found new_found each before n_is named asked_is next_is well index_is takes uses_take low_long looks_long uses_long r =
     let w : Watch = watched (barrel p t) m unwatched in
     let one : t + 1 ≡ suc t = omega arith in
     let size : length (barrel p turns) ≡ turns = length-barrel p turns in
@@ -222,7 +223,7 @@ run_goes_on p turns t m now next n asked short long new_short new_long low new_l
     ∙ ap (λ (x : Need). watched_need x n now (watched (barrel p t) m unwatched)) (sym asked_is) in
     record {
       ran = next_is ∙ ap (λ x. stepped n x) r.ran ∙ ap (λ k. stepped k (run (barrel p t) m)) n_is ∙ sym (run-append (barrel p t) (processor_in_turn p t) m) ∙ ap (λ k. run (barrel p k) m) (sym one);
-      indexed = subst (λ (x : MachineState). IsIndex x.trace new_short new_long) (sym next_is) index_is;
+      indexed = subst (λ (x : MachineState). IsIndex x.trace new_latest new_short new_long) (sym next_is) index_is;
       entries = low_long ∙ r.entries;
       looks_all = looks_long ∙ r.looks_all;
       words = uses_long ∙ r.words;
@@ -244,12 +245,12 @@ findings_are : (ns : List ℕ) (m : MachineState) → findings ns m ≡ findings
 unfolding findings
 findings_are ns m = refl
 
-pub run_finds : (p : Profile) (turns t : ℕ) (m now : MachineState) (short long : List (List Span)) (low : List Low) (looks : List Looks) (uses : List WordUse) (found middle last : List Finding)
-    → t ≡ turns → IsWatchedRun p turns t m now short long low looks uses found
+pub run_finds : (p : Profile) (turns t : ℕ) (m now : MachineState) (latest : List Latest) (short long : List (List Span)) (low : List Low) (looks : List Looks) (uses : List WordUse) (found middle last : List Finding)
+    → t ≡ turns → IsWatchedRun p turns t m now latest short long low looks uses found
     → ((w : Watch) → AreLow now w low → middle ≡ found ++ each_number (end_of now w))
     → ((w : Watch) → AreUses w uses → last ≡ middle ++ each_below (length uses) (sharing_of w))
     → last ≡ findings (barrel p turns) m
-run_finds p turns t m now short long low looks uses found middle last end r ends shares =
+run_finds p turns t m now latest short long low looks uses found middle last end r ends shares =
     let now_is : now ≡ run (barrel p turns) m = r.ran ∙ ap (λ k. run (barrel p k) m) end in
     let watch_is : watched (barrel p t) m unwatched ≡ watched (barrel p turns) m unwatched = ap (λ k. watched (barrel p k) m unwatched) end in
     let words : length uses ≡ length (run (barrel p turns) m).central = r.words ∙ sym (run_central (barrel p turns) m) in
@@ -261,10 +262,10 @@ run_finds p turns t m now short long low looks uses found middle last end r ends
     ∙ ap (λ k. ((watched (barrel p turns) m unwatched).findings ++ each_number (end_of (run (barrel p turns) m) (watched (barrel p turns) m unwatched))) ++ each_below k (sharing_of (watched (barrel p turns) m unwatched))) words
     ∙ sym (findings_are (barrel p turns) m)
 
-pub run_tells : (p : Profile) (turns t : ℕ) (m now : MachineState) (short long : List (List Span)) (low : List Low) (looks : List Looks) (uses : List WordUse) (found : List Finding) → length m.processors ≡ processor_count → length m.histories ≡ channel_count
-    → t ≡ turns → IsWatchedRun p turns t m now short long low looks uses found → ((q : ℕ) → IsTrue (names_processor q) → TurnsWell now q)
+pub run_tells : (p : Profile) (turns t : ℕ) (m now : MachineState) (latest : List Latest) (short long : List (List Span)) (low : List Low) (looks : List Looks) (uses : List WordUse) (found : List Finding) → length m.processors ≡ processor_count → length m.histories ≡ channel_count
+    → t ≡ turns → IsWatchedRun p turns t m now latest short long low looks uses found → ((q : ℕ) → IsTrue (names_processor q) → TurnsWell now q)
     → findings (barrel p turns) m ≡ [] → IsDeterminate (barrel p turns) m
-run_tells p turns t m now short long low looks uses found all each end r turn_well none =
+run_tells p turns t m now latest short long low looks uses found all each end r turn_well none =
     let ns : List ℕ = barrel p turns in
     let now_is : now ≡ run (barrel p turns) m = r.ran ∙ ap (λ k. run (barrel p k) m) end in
     let size : t ≡ length (barrel p turns) = end ∙ sym (length-barrel p turns) in

@@ -1,13 +1,14 @@
 -- An index of the trace, by spans of it: which flags the events of a channel in a span found.
 -- (Private contracts alone cite this.)
-use Rattle.std.specs.Prelude.{◌≡◌, ℕ, ◌+◌, ◌*◌, ◌<◌, ◌≤◌, Bool, true, false, IsTrue, List, [], Option, None, Some, drop, length, slice_index_or, take}
+use Rattle.std.specs.Prelude.{◌≡◌, ℕ, ◌+◌, ◌*◌, ◌<◌, ◌≤◌, ◌⊎◌, Bool, true, false, IsTrue, List, [], Option, None, Some, drop, length, slice_index_or, take}
 use Rattle.pp_channel.specs.ChannelNo.{channel_count, channel_index, names_channel}
 use Rattle.pp_channel.specs.declared.flags.Flags.{Flags}
 use Rattle.pp_machine.specs.declared.trace.Trace.{Trace}
-use Rattle.pp_races.specs.FlagSets.{has, no_flags}
+use Rattle.pp_races.specs.FlagSets.{by_flags, has, no_flags}
 use Rattle.pp_races.specs.Tables.{flags_through, missed_at, missed_from}
 use Rattle.pp_races.specs.Watch.{from_alike}
 use Rattle.pp_races.specs.declared.flag_set.FlagSet.{FlagSet}
+use Rattle.pp_races.specs.declared.latest.Latest.{Latest}
 use Rattle.pp_races.specs.declared.low.Low.{Low}
 use Rattle.pp_races.specs.declared.span.Span.{Span}
 
@@ -56,7 +57,31 @@ pub record GoesOnFrom (c : ℕ) (set : FlagSet) (trace : List Trace) (low next :
   pub flags : flags_through c low.flags (drop low.from trace)
       ≡ flags_through c next.flags (drop next.from trace)
 
--- the rows of short and of long spans
-pub record IsIndex (trace : List Trace) (short long : List (List Span)) : Type 0 where
+-- no event
+abbrev pub no_latest : Latest
+no_latest = record { inactive = 0; inactive_full = 0; empty = 0; full = 0; last = None }
+
+-- the place that is kept for flags
+abbrev pub found_past : Latest → Flags → ℕ
+found_past latest flags =
+    by_flags latest.inactive latest.inactive_full latest.empty latest.full flags
+
+-- What is known of the events on channel c in all of a trace: from a place on, the last of them leaves
+-- the flags that are kept, if there is one; and none finds flags that are kept with no further place,
+-- unless they stand at that place.
+pub record IsLatest (c : ℕ) (trace : List Trace) (latest : Latest) : Type 0 where
+  pub after : (from : ℕ) (f : Flags) → (flags_through c f (drop from trace) ≡ f)
+      ⊎ (latest.last ≡ Some (flags_through c f (drop from trace)))
+  pub past : (f : Flags) → found_past latest f ≤ length trace
+  pub none : (test : Flags → Bool) (from : ℕ) (f : Flags) → test f ≡ false
+      → ((g : Flags) → test g ≡ true → found_past latest g ≤ from)
+      → from_alike test (missed_from c f (drop from trace)) ≡ []
+
+-- what is kept of each channel, and the rows of short and of long spans
+pub record IsIndex (trace : List Trace) (latest : List Latest) (short long : List (List Span))
+    : Type 0 where
+  pub channels : length latest ≡ channel_count
+  pub of_latest : (c : ℕ) → IsTrue (names_channel c)
+      → IsLatest c trace (slice_index_or latest (channel_index c) no_latest)
   pub of_short : AreSpans 128 trace short
   pub of_long : AreSpans 8192 trace long

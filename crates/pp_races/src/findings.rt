@@ -71,7 +71,7 @@ fn run_watched<A: Allocator>(
     uses: &mut [WordUse],
     found: &mut Vec<Finding, A>,
 ) -> Result<(), Memory>
-    requires index { IsIndex machine.old.trace index.old.short.items index.old.long.items }
+    requires index { IsIndex machine.old.trace index.old.latest index.old.short.items index.old.long.items }
     requires low { length low.old ≡ entry_count }
     requires looks { length looks.old ≡ entry_count }
     requires words { length uses.old ≡ length machine.old.central }

@@ -7,6 +7,7 @@ mod finding;
 mod findings;
 mod flag_set;
 mod found;
+mod latest;
 mod lines;
 mod looks;
 mod low;

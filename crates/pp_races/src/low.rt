@@ -29,9 +29,12 @@ impl Low {
         c: ChannelNo,
         races: &FlagSet,
     ) -> Option<Trace>
-        requires { IsIndex trace.now index.now.short.items index.now.long.items }
+        requires { IsIndex trace.now index.now.latest index.now.short.items index.now.long.items }
         ensures { result ≡ first_race (has races.now) (missed_at c self.now trace.now) }
     {
+        if !index.may_find(trace, self, c, races) {
+            return None;
+        }
         let found = self.search(trace, index, c, races);
         if found.from < trace.len() {
             Some(trace[found.from])
@@ -51,7 +54,7 @@ impl Low {
         c: ChannelNo,
         alike: &FlagSet,
     ) -> Low
-        requires { IsIndex trace.now index.now.short.items index.now.long.items }
+        requires { IsIndex trace.now index.now.latest index.now.short.items index.now.long.items }
         ensures missed { missed_at c result trace.now
             ≡ from_alike (has alike.now) (missed_at c self.now trace.now) }
         ensures flags { flags_through c result.flags (drop result.from trace.now)
@@ -73,7 +76,7 @@ impl Low {
         c: ChannelNo,
         set: &FlagSet,
     ) -> Low
-        requires { IsIndex trace.now index.now.short.items index.now.long.items }
+        requires { IsIndex trace.now index.now.latest index.now.short.items index.now.long.items }
         ensures within { result.from ≤ length trace.now }
         ensures missed { missed_at c result trace.now
             ≡ from_alike (has set.now) (missed_at c self.now trace.now) }

@@ -1,9 +1,13 @@
 //! An index of the trace, by which a search passes over spans of it.
 
-ghost use Rattle.std.specs.Prelude.{◌<◌, ◌++◌, [], ◌∷◌, IfOk, IfSome, OnOk, length};
+ghost use Rattle.std.specs.Prelude.{◌≡◌, ◌<◌, ◌++◌, [], ◌∷◌, IfOk, IfSome, OnOk, false, length};
+ghost use Rattle.pp_races.specs.FlagSets.{has};
 ghost use Rattle.pp_races.specs.Spans.{AreSpans, GoesOnFrom, IsIndex};
+ghost use Rattle.pp_races.specs.Tables.{missed_at};
+ghost use Rattle.pp_races.specs.Watch.{from_alike};
 
 use crate::flag_set::FlagSet;
+use crate::latest::Latest;
 use crate::low::Low;
 use crate::span::Span;
 use pp_channel::{CHANNELS, ChannelNo, Memory, flags_after};
@@ -18,6 +22,7 @@ const LONG: usize = 8192;
 /// What the events of each channel were, by short and by long spans of the trace.
 #[derive(Drop)]
 pub(crate) struct TraceIndex<A: Allocator> {
+    pub(crate) latest: [Latest; CHANNELS],
     pub(crate) short: Vec<[Span; CHANNELS], A>,
     pub(crate) long: Vec<[Span; CHANNELS], A>,
 }
@@ -27,9 +32,10 @@ impl<A: Allocator> TraceIndex<A> {
     pub(crate) fn of(alloc: A, trace: &[Trace]) -> Result<TraceIndex<A>, Memory>
     where
         A: Copy,
-        ensures { IfOk result (λ index. IsIndex trace.now index.short.items index.long.items) }
+        ensures { IfOk result (λ index. IsIndex trace.now index.latest index.short.items index.long.items) }
     {
         let mut index = TraceIndex {
+            latest: [Latest::none(); CHANNELS],
             short: Vec::new(alloc),
             long: Vec::new(alloc),
         };
@@ -41,12 +47,27 @@ impl<A: Allocator> TraceIndex<A> {
 
     /// Takes in an event that follows this trace.
     pub(crate) fn push(&mut self, trace: &[Trace], made: &Trace) -> Result<(), Memory>
-        requires { IsIndex trace.now self.old.short.items self.old.long.items }
-        ensures { OnOk result (IsIndex (trace.now ++ made.now ∷ []) self.new.short.items
+        requires { IsIndex trace.now self.old.latest self.old.short.items self.old.long.items }
+        ensures { OnOk result (IsIndex (trace.now ++ made.now ∷ []) self.new.latest self.new.short.items
             self.new.long.items) }
     {
+        let after = flags_after(&made.event);
+        let place = made.channel.index();
+        let latest = self.latest[place];
+        self.latest[place] = latest.with(trace.len(), after);
         push_event(&mut self.short, SHORT, trace, made)?;
-        push_event(&mut self.long, LONG, trace, made)
+        push_event(&mut self.long, LONG, trace, made)?;
+        Ok(())
+    }
+
+    /// Whether an event of the channel from a place on may have found one of a set of flags.
+    pub(crate) fn may_find(&self, trace: &[Trace], low: &Low, c: ChannelNo, set: &FlagSet) -> bool
+        requires { IsIndex trace.now self.now.latest self.now.short.items self.now.long.items }
+        ensures { result ≡ false → from_alike (has set.now) (missed_at c low.now trace.now) ≡ [] }
+    {
+        let _trace = trace;
+        let latest = self.latest[c.index()];
+        latest.may_find(low, set)
     }
 
     /// Where a search for one of a set of flags may go on, if a span begins here in which no event of
@@ -58,10 +79,13 @@ impl<A: Allocator> TraceIndex<A> {
         c: ChannelNo,
         set: &FlagSet,
     ) -> Option<Low>
-        requires index { IsIndex trace.now self.now.short.items self.now.long.items }
+        requires index { IsIndex trace.now self.now.latest self.now.short.items self.now.long.items }
         requires within { low.now.from < length trace.now }
         ensures { IfSome result (λ next. GoesOnFrom c set.now trace.now low.now next) }
     {
+        if low.from % SHORT != 0 {
+            return None;
+        }
         match pass_span(&self.long, LONG, trace, low, c, set) {
             Some(next) => Some(next),
             None => pass_span(&self.short, SHORT, trace, low, c, set),

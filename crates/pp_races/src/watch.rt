@@ -66,10 +66,10 @@ fn take_look<A: Allocator>(
 ) -> Result<(), Memory>
     requires needs { need (processor_of n machine.now) ≡ Need.Channel c op.now }
     requires none { event_of op.now (history_of c machine.now) ≡ None }
-    requires index { IsIndex machine.now.trace index.now.short.items index.now.long.items }
+    requires index { IsIndex machine.now.trace index.now.latest index.now.short.items index.now.long.items }
     requires low { length low.old ≡ entry_count }
     requires looks { length looks.old ≡ entry_count }
-    ensures index { OnOk result (IsIndex (stepped n machine.now).trace index.now.short.items
+    ensures index { OnOk result (IsIndex (stepped n machine.now).trace index.now.latest index.now.short.items
         index.now.long.items) }
     ensures watched { OnOk result ((w : Watch) → AreWatched machine.now w low.old looks.old findings.old.items
         → AreWatched (stepped n machine.now) (looked n c op.now machine.now w) low.new looks.new
@@ -150,10 +150,10 @@ fn take_event<A: Allocator>(
 ) -> Result<(), Memory>
     requires needs { need (processor_of n machine.now) ≡ Need.Channel c op.now }
     requires event { event_of op.now (history_of c machine.now) ≡ Some event.now }
-    requires index { IsIndex machine.now.trace index.old.short.items index.old.long.items }
+    requires index { IsIndex machine.now.trace index.old.latest index.old.short.items index.old.long.items }
     requires low { length low.old ≡ entry_count }
     requires looks { length looks.old ≡ entry_count }
-    ensures index { OnOk result (IsIndex (stepped n machine.now).trace index.new.short.items
+    ensures index { OnOk result (IsIndex (stepped n machine.now).trace index.new.latest index.new.short.items
         index.new.long.items) }
     ensures watched { OnOk result ((w : Watch) → AreWatched machine.now w low.old looks.old findings.old.items
         → AreWatched (stepped n machine.now) (made n c op.now event.now machine.now w) low.new
@@ -192,11 +192,11 @@ fn take_asked<A: Allocator>(
     findings: &mut Vec<Finding, A>,
 ) -> Result<(), Memory>
     requires needs { need (processor_of n machine.now) ≡ Need.Channel c op.now }
-    requires index { IsIndex machine.now.trace index.old.short.items index.old.long.items }
+    requires index { IsIndex machine.now.trace index.old.latest index.old.short.items index.old.long.items }
     requires low { length low.old ≡ entry_count }
     requires looks { length looks.old ≡ entry_count }
     ensures sound { IsAskedWell (Need.Channel c op.now) machine.now }
-    ensures index { OnOk result (IsIndex (stepped n machine.now).trace index.new.short.items
+    ensures index { OnOk result (IsIndex (stepped n machine.now).trace index.new.latest index.new.short.items
         index.new.long.items) }
     ensures watched { OnOk result ((w : Watch)
         → AreWatched machine.now w low.old looks.old findings.old.items
@@ -228,11 +228,11 @@ pub(crate) fn take_step<A: Allocator>(
     findings: &mut Vec<Finding, A>,
 ) -> Result<(), Memory>
     requires needs { asked.now ≡ need (processor_of n machine.now) }
-    requires index { IsIndex machine.now.trace index.old.short.items index.old.long.items }
+    requires index { IsIndex machine.now.trace index.old.latest index.old.short.items index.old.long.items }
     requires low { length low.old ≡ entry_count }
     requires looks { length looks.old ≡ entry_count }
     ensures sound { IsAskedWell asked.now machine.now }
-    ensures index { OnOk result (IsIndex (stepped n machine.now).trace index.new.short.items
+    ensures index { OnOk result (IsIndex (stepped n machine.now).trace index.new.latest index.new.short.items
         index.new.long.items) }
     ensures watched { OnOk result ((w : Watch)
         → AreWatched machine.now w low.old looks.old findings.old.items

@@ -16,5 +16,5 @@ returns-then-waits_at-clause-watched g c = λ w are.
 
 pub returns-then-waits_at-clause-index : goal.returns-then-waits_at-clause-index
 returns-then-waits_at-clause-index g c =
-    index_kept c.args.n c.args.c c.args.op.now c.args.machine.now c.args.index.now.short.items c.args.index.now.long.items c.requires.needs
+    index_kept c.args.n c.args.c c.args.op.now c.args.machine.now c.args.index.now.latest c.args.index.now.short.items c.args.index.now.long.items c.requires.needs
     (ap (λ h. event_of c.args.op.now h) (sym c.channel-channel.ensures.value) ∙ sym c.next_event.ensures.event ∙ c.in_default.is) c.requires.index

@@ -4,7 +4,7 @@ use Rattle.pp_races.proofs.watch.take_event.Goals as goal
 
 pub returns-clause-index : goal.returns-clause-index
 returns-clause-index g c =
-    event_indexed c.args.machine.now c.args.n c.args.c c.args.op.now c.args.event.now c.events-trace.result.now _ c.push.new.self.short.items c.push.new.self.long.items
+    event_indexed c.args.machine.now c.args.n c.args.c c.args.op.now c.args.event.now c.events-trace.result.now _ c.push.new.self.latest c.push.new.self.short.items c.push.new.self.long.items
     c.requires.needs c.requires.event c.events-trace.ensures (ap (λ t. record { turn = t; pp = c.args.n; channel = c.args.c; event = c.args.event.now }) c.turns.ensures.value) c.in_ok-push.ensures
 
 pub returns-clause-watched : goal.returns-clause-watched

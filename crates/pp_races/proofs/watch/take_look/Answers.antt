@@ -4,7 +4,7 @@ use Rattle.pp_races.proofs.LookLemmas.{index_kept, look_watched}
 use Rattle.pp_races.proofs.watch.take_look.Goals as goal
 
 pub returns-clause-index : goal.returns-clause-index
-returns-clause-index g c = index_kept c.args.n c.args.c c.args.op.now c.args.machine.now c.args.index.now.short.items c.args.index.now.long.items c.requires.needs c.requires.none c.requires.index
+returns-clause-index g c = index_kept c.args.n c.args.c c.args.op.now c.args.machine.now c.args.index.now.latest c.args.index.now.short.items c.args.index.now.long.items c.requires.needs c.requires.none c.requires.index
 
 pub returns-clause-watched : goal.returns-clause-watched
 returns-clause-watched g c = λ w are.

@@ -28,20 +28,20 @@ returns-in-Write-clause-watched g c = λ w are.
 
 pub returns-in-Nothing-clause-index : goal.returns-in-Nothing-clause-index
 returns-in-Nothing-clause-index g c =
-    off_indexed c.args.asked.now c.args.machine.now c.args.n c.args.index.now.short.items c.args.index.now.long.items c.requires.needs
+    off_indexed c.args.asked.now c.args.machine.now c.args.n c.args.index.now.latest c.args.index.now.short.items c.args.index.now.long.items c.requires.needs
     (λ k op is. (let bad : Need.Nothing ≡ Need.Channel k op = sym c.in-Nothing.is ∙ is in cc)) c.requires.index
 
 pub returns-in-Local-clause-index : goal.returns-in-Local-clause-index
 returns-in-Local-clause-index g c =
-    off_indexed c.args.asked.now c.args.machine.now c.args.n c.args.index.now.short.items c.args.index.now.long.items c.requires.needs
+    off_indexed c.args.asked.now c.args.machine.now c.args.n c.args.index.now.latest c.args.index.now.short.items c.args.index.now.long.items c.requires.needs
     (λ k op is. (let bad : Need.Local ≡ Need.Channel k op = sym c.in-Local.is ∙ is in cc)) c.requires.index
 
 pub returns-in-Read-clause-index : goal.returns-in-Read-clause-index
 returns-in-Read-clause-index g c =
-    off_indexed c.args.asked.now c.args.machine.now c.args.n c.args.index.now.short.items c.args.index.now.long.items c.requires.needs
+    off_indexed c.args.asked.now c.args.machine.now c.args.n c.args.index.now.latest c.args.index.now.short.items c.args.index.now.long.items c.requires.needs
     (λ k op is. (let bad : Need.Read c.in-Read.field-0 ≡ Need.Channel k op = sym c.in-Read.is ∙ is in cc)) c.requires.index
 
 pub returns-in-Write-clause-index : goal.returns-in-Write-clause-index
 returns-in-Write-clause-index g c =
-    off_indexed c.args.asked.now c.args.machine.now c.args.n c.args.index.now.short.items c.args.index.now.long.items c.requires.needs
+    off_indexed c.args.asked.now c.args.machine.now c.args.n c.args.index.now.latest c.args.index.now.short.items c.args.index.now.long.items c.requires.needs
     (λ k op is. (let bad : Need.Write c.in-Write.field-0 c.in-Write.field-1 ≡ Need.Channel k op = sym c.in-Write.is ∙ is in cc)) c.requires.index

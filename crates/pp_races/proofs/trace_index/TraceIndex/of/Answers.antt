@@ -1,0 +1,14 @@
+use Rattle.std.proofs.Common.{refl, arith}
+use Rattle.std.proofs.lemmas.List.{length-replicate}
+use Rattle.pp_channel.specs.ChannelNo.{channel_count}
+use Rattle.pp_races.proofs.LatestLemmas.{all_none}
+use Rattle.pp_races.proofs.RowLemmas.{no_rows}
+use Rattle.pp_races.proofs.trace_index.TraceIndex.of.Goals as goal
+
+pub loop-place-init : goal.loop-place-init
+loop-place-init g c = record {
+  channels = length-replicate channel_count c.none.result;
+  of_latest = λ k named. all_none _ c.none.result c.none.ensures refl k named;
+  of_short = no_rows 128 c.new.result.items (omega arith) c.new.ensures.items;
+  of_long = no_rows 8192 c.new-2.result.items (omega arith) c.new-2.ensures.items;
+}
