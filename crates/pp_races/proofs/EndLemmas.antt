@@ -8,13 +8,13 @@ use Rattle.pp_channel.specs.declared.chan_op.ChanOp.{ChanOp}
 use Rattle.pp_channel.specs.declared.event.Event.{Event}
 use Rattle.pp_channel.specs.declared.flags.Flags.{Flags}
 use Rattle.pp_machine.specs.MachineState.{MachineState, processor_of, history_of}
-use Rattle.pp_machine.specs.PpNo.{names_processor, processor_count, processor_number}
+use Rattle.pp_machine.specs.PpNo.{each_processor, names_processor, processor_count, processor_number}
 use Rattle.pp_machine.specs.Processor.{Processor}
 use Rattle.pp_machine.specs.ProcessorPlaces as processor_places
 use Rattle.pp_machine.specs.declared.need.Need.TheVariants.{Channel}
 use Rattle.pp_machine.specs.declared.trace.Trace.{Trace}
 use Rattle.pp_races.specs.FlagSets.{has}
-use Rattle.pp_races.specs.Findings.{by_place, end_by_need, held_before, is_shared, sharing_of}
+use Rattle.pp_races.specs.Findings.{end_by_need, held_before, is_shared, sharing_of}
 use Rattle.pp_races.specs.OtherFlags.{waits_at}
 use Rattle.pp_races.specs.Tables.{AreLow, IsUseOf, entry_place, has_bit, low_of, missed_at, no_low}
 use Rattle.pp_races.specs.Watch.{Missed, Watch, asking_step, each_below, first_race}
@@ -86,7 +86,7 @@ none_held_found m w n c op low found entry goes_on trace pp flags h waits n_name
 -- ---- central words
 
 flags_are : (mask : ℕ) (test : ℕ → Bool) (flags : List Bool) → flags ≡ tabulate processor_count (λ place. has_bit mask (processor_number place))
-    → ((q : ℕ) → IsTrue (names_processor q) → has_bit mask q ≡ test q) → flags ≡ by_place test
+    → ((q : ℕ) → IsTrue (names_processor q) → has_bit mask q ≡ test q) → flags ≡ each_processor test
 flags_are mask test flags is same =
     is ∙ tabulate_same false processor_count (λ place. has_bit mask (processor_number place)) (λ place. test (processor_number place))
     (λ place low. same (processor_number place) (processor_places.number_named place low))

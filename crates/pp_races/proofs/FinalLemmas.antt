@@ -12,7 +12,7 @@ use Rattle.pp_channel.specs.declared.event.Event.{Event}
 use Rattle.pp_channel.specs.declared.flags.Flags.{Flags}
 use Rattle.pp_machine.specs.MachineState.{MachineState, processor_of, history_of}
 use Rattle.pp_machine.specs.NeedAndEffect.{need}
-use Rattle.pp_machine.specs.PpNo.{names_processor, processor_count, processor_index, processor_number}
+use Rattle.pp_machine.specs.PpNo.{each_processor, names_processor, processor_count, processor_index, processor_number}
 use Rattle.pp_machine.specs.Processor.{Processor, no_processor, IsAtRest}
 use Rattle.pp_machine.specs.ProcessorPlaces as processor_places
 use Rattle.pp_machine.specs.Run.{run}
@@ -23,7 +23,7 @@ use Rattle.pp_machine.specs.declared.trace.Trace.{Trace}
 use Rattle.pp_machine.proofs.StepLemmas.{nothing_at_rest}
 use Rattle.pp_every_order.specs.Determinacy.{IsDeterminate, IsSettled, UsesAt, WritesAt, at_moment, history_at, need_at, processor_at}
 use Rattle.pp_every_order.proofs.Moments.{moment_past, run_central}
-use Rattle.pp_races.specs.Findings.{by_place, end_by_need, end_of, held_before, is_shared, sharing_of, turns_in_place}
+use Rattle.pp_races.specs.Findings.{end_by_need, end_of, held_before, is_shared, sharing_of, turns_in_place}
 use Rattle.pp_races.specs.OtherFlags.{is_same, makes_none, position_at, position_of, waits_at}
 use Rattle.pp_races.specs.OnePass.{WaitsAt, flags_at}
 use Rattle.pp_races.specs.Soundness.{AreLastOf, IsSound, TurnsWell, least_of, open_of}
@@ -57,18 +57,18 @@ count_apart xs i j apart is also = elim (cases_lt i j) [
   | inr past ↦ count_two xs j i (omega arith) also is
 ]
 
-flag_at : (test : ℕ → Bool) (q : ℕ) → IsTrue (names_processor q) → get_or (by_place test) (processor_index q) false ≡ test q
+flag_at : (test : ℕ → Bool) (q : ℕ) → IsTrue (names_processor q) → get_or (each_processor test) (processor_index q) false ≡ test q
 flag_at test q named =
     get_or-tabulate processor_count (λ place. test (processor_number place)) (processor_index q) false (processor_places.place_below q named)
     ∙ ap test (processor_places.number_of_place q named)
 
-shared_by : (w : Watch) (a n q : ℕ) → IsTrue (names_processor n) → IsTrue (names_processor q) → n ≢ q → w.wrote a n ≡ true → w.used a n ≡ true → w.used a q ≡ true → is_shared (by_place (w.wrote a)) (by_place (w.used a)) ≡ true
+shared_by : (w : Watch) (a n q : ℕ) → IsTrue (names_processor n) → IsTrue (names_processor q) → n ≢ q → w.wrote a n ≡ true → w.used a n ≡ true → w.used a q ≡ true → is_shared (each_processor (w.wrote a)) (each_processor (w.used a)) ≡ true
 shared_by w a n q n_named q_named apart wrote used also =
     let places : processor_index n ≢ processor_index q = λ same. apart (processor_places.one_place q n q_named same) in
-    let one : 1 ≤ count_by (λ flag. flag) (by_place (w.wrote a)) = count_one (by_place (w.wrote a)) (processor_index n) (flag_at (w.wrote a) n n_named ∙ wrote) in
-    let two : 2 ≤ count_by (λ flag. flag) (by_place (w.used a)) = count_apart (by_place (w.used a)) (processor_index n) (processor_index q) places (flag_at (w.used a) n n_named ∙ used) (flag_at (w.used a) q q_named ∙ also) in
-    and_from (nat_lt 0 (count_by (λ flag. flag) (by_place (w.wrote a)))) (nat_lt 1 (count_by (λ flag. flag) (by_place (w.used a))))
-    (lt-ltb 0 (count_by (λ flag. flag) (by_place (w.wrote a))) (omega arith)) (lt-ltb 1 (count_by (λ flag. flag) (by_place (w.used a))) (omega arith))
+    let one : 1 ≤ count_by (λ flag. flag) (each_processor (w.wrote a)) = count_one (each_processor (w.wrote a)) (processor_index n) (flag_at (w.wrote a) n n_named ∙ wrote) in
+    let two : 2 ≤ count_by (λ flag. flag) (each_processor (w.used a)) = count_apart (each_processor (w.used a)) (processor_index n) (processor_index q) places (flag_at (w.used a) n n_named ∙ used) (flag_at (w.used a) q q_named ∙ also) in
+    and_from (nat_lt 0 (count_by (λ flag. flag) (each_processor (w.wrote a)))) (nat_lt 1 (count_by (λ flag. flag) (each_processor (w.used a))))
+    (lt-ltb 0 (count_by (λ flag. flag) (each_processor (w.wrote a))) (omega arith)) (lt-ltb 1 (count_by (λ flag. flag) (each_processor (w.used a))) (omega arith))
 
 no_sharing : (b : Bool) (finding : Finding) → (if b then finding ∷ [] else []) ≡ [] → b ≡ false
 no_sharing true finding is = absurd (cc)
@@ -163,7 +163,7 @@ module _ (ns : List ℕ) (m : MachineState) (w : Watch) (all : length m.processo
       | inr other ↦
           let sharing : sharing_of w a ≡ [] = none_below (length (run ns m).central) (sharing_of w) shares a (omega (arith, run_central ns m)) in
           let yes_shared = shared_by w a (get_or ns u 0) (get_or ns t 0) (named_user u a (inr writes)) (named_user t a uses) other (s.wrote u a hu writes) (s.used u a hu (inr writes)) (s.used t a ht uses) in
-          let bad : true ≡ false = sym yes_shared ∙ no_sharing (is_shared (by_place (w.wrote a)) (by_place (w.used a))) (Shared a (by_place (w.wrote a)) (by_place (w.used a))) sharing in
+          let bad : true ≡ false = sym yes_shared ∙ no_sharing (is_shared (each_processor (w.wrote a)) (each_processor (w.used a))) (Shared a (each_processor (w.wrote a)) (each_processor (w.used a))) sharing in
           absurd (cc)
     ];
   }

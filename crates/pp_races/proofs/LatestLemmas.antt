@@ -22,9 +22,10 @@ use Rattle.pp_races.proofs.SpanLemmas.{alike_append}
 -- ---- one event more
 
 nothing_past : (c : ℕ) (trace : List Trace) (from : ℕ) (test : Flags → Bool) (f : Flags) → length trace ≤ from → (from_alike test (missed_from c f (drop from trace)) ≡ []) × (flags_through c f (drop from trace) ≡ f)
-nothing_past c trace from test f past =
-    (ap (λ t. from_alike test (missed_from c f t)) (drop_all from trace past) ∙ ap (λ x. from_alike test x) (missed_nil c f) ∙ alike_none test,
-    ap (λ t. flags_through c f t) (drop_all from trace past) ∙ through_nil c f)
+nothing_past c trace from test f past = (
+  ap (λ t. from_alike test (missed_from c f t)) (drop_all from trace past) ∙ ap (λ x. from_alike test x) (missed_nil c f) ∙ alike_none test,
+  ap (λ t. flags_through c f t) (drop_all from trace past) ∙ through_nil c f,
+)
 
 pub latest_none : (c : ℕ) → IsLatest c [] no_latest
 latest_none c = record {

@@ -11,11 +11,11 @@ use Rattle.std.proofs.lemmas.List.{reverse-append}
 differs : (lines before : List ℕ) (b : Bool) → lines ++ verdict_line (if b then NoRaceSoFar else MayDiffer) ≡ before ++ verdict_line Same → ⊥
 differs lines before true is =
     let bad : 65 ≡ 69 = sym (ap (λ t. get_or t 2 0) (reverse-append lines (verdict_line NoRaceSoFar)))
-        ∙ (ap (λ t. get_or (reverse t) 2 0) is ∙ ap (λ t. get_or t 2 0) (reverse-append before (verdict_line Same))) in
+    ∙ (ap (λ t. get_or (reverse t) 2 0) is ∙ ap (λ t. get_or t 2 0) (reverse-append before (verdict_line Same))) in
     absurd (omega (arith, bad))
 differs lines before false is =
     let bad : 70 ≡ 68 = sym (ap (λ t. get_or t 3 0) (reverse-append lines (verdict_line MayDiffer)))
-        ∙ (ap (λ t. get_or (reverse t) 3 0) is ∙ ap (λ t. get_or t 3 0) (reverse-append before (verdict_line Same))) in
+    ∙ (ap (λ t. get_or (reverse t) 3 0) is ∙ ap (λ t. get_or t 3 0) (reverse-append before (verdict_line Same))) in
     absurd (omega (arith, bad))
 
 -- where the last line of the text is SAME IN EVERY ORDER, nothing is found

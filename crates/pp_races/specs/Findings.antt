@@ -1,11 +1,10 @@
 -- THE FINDINGS of a run: the steps that race with others, the processors that are not settled at its
 -- end, and the central words that one processor wrote and another used.
 use Rattle.std.specs.Prelude.{ℕ, zero, suc, Bool, true, false, not, ◌&&◌, ◌==◌, nat_lt, List, [], ◌∷◌, ◌++◌, Option, Some, None, count_by, length, if◌then◌else◌}
-use Rattle.list_facts.specs.Tables.{tabulate}
 use Rattle.pp_channel.specs.Answer.{flags_of}
 use Rattle.pp_machine.specs.MachineState.{MachineState, processor_of, history_of}
 use Rattle.pp_machine.specs.NeedAndEffect.{need, processor_after}
-use Rattle.pp_machine.specs.PpNo.{processor_count, processor_number}
+use Rattle.pp_machine.specs.PpNo.{each_processor}
 use Rattle.pp_machine.specs.Processor.{Processor, word_at}
 use Rattle.pp_machine.specs.Run.{run}
 use Rattle.pp_machine.specs.declared.answer.Answer.{Answer}
@@ -70,10 +69,6 @@ end_of m w q = end_by_need (need (processor_of q m)) q m w
 
 -- ---- central words
 
--- of each processor, in the order of the barrel, whether it passes a test
-abbrev pub by_place : (ℕ → Bool) → List Bool
-by_place test = tabulate processor_count (λ place. test (processor_number place))
-
 -- whether one wrote and another used: all that wrote are among those that used
 abbrev pub is_shared : List Bool → List Bool → Bool
 is_shared writers users =
@@ -81,8 +76,8 @@ is_shared writers users =
 
 abbrev pub sharing_of : Watch → ℕ → List Finding
 sharing_of w a =
-    let writers = by_place (w.wrote a) in
-    let users = by_place (w.used a) in
+    let writers = each_processor (w.wrote a) in
+    let users = each_processor (w.used a) in
     if is_shared writers users then Shared a writers users ∷ [] else []
 
 -- ---- all

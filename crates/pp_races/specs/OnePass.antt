@@ -12,15 +12,7 @@ use Rattle.pp_machine.specs.Processor.{Processor, IsAtRest}
 use Rattle.pp_machine.specs.declared.answer.Answer.{Answer}
 use Rattle.pp_machine.specs.declared.need.Need.{Need}
 use Rattle.pp_every_order.specs.Determinacy.{Waits, Stays, DoesTheSame, MayFind, at_moment, processor_at, history_at, need_at}
-
--- whether an operation makes no event on a channel with these flags
-abbrev pub makes_none : ChanOp → Flags → Bool
-makes_none op flags = only_looks op || not (ready_at op flags)
-
--- a processor after its operation on a channel with these flags, where it makes no event
-abbrev pub shown_to : ChanOp → Processor → Flags → Processor
-shown_to op pp flags =
-    processor_after pp (Answer.Channel (reply_shown op (record { flags = flags; register = None })))
+use Rattle.pp_races.specs.OtherFlags.{makes_none, shown_to}
 
 -- where the channel has these flags, the processor waits
 pub record WaitsAt (op : ChanOp) (pp : Processor) (flags : Flags) : Type 0 where
@@ -76,15 +68,6 @@ pub record Watched (ns : List ℕ) (m : MachineState) (t : ℕ) (least : ℕ →
 abbrev pub flags_at : List Event → ℕ → Flags
 flags_at h p = flags_of (take p h)
 
--- an operation that makes no event was alike or waited at each number of events from one on, and alike
--- at none below the least
-pub record FoundBefore (op : ChanOp) (pp : Processor) (h : List Event) (from least : ℕ) : Type 0 where
-  pub before : (p : ℕ) → from ≤ p → p < length h → WaitsAt op pp (flags_at h p)
-      ⊎ DoesAsAt op pp (flags_at h p) (flags_of h)
-  pub most : least ≤ length h
-  pub skipped : (p : ℕ) → from ≤ p → p < least
-      → shown_to op pp (flags_at h p) ≢ shown_to op pp (flags_of h)
-
 -- The step looks: it makes no event, and its processor goes on. At each number of events with which it
 -- may have found its channel it waits or does the same; and it did not do so below the new least one.
 pub record IsLook (now : MachineState) (n c : ℕ) (op : ChanOp) (least new_least : ℕ → ℕ → ℕ)
@@ -138,18 +121,3 @@ pub data IsChecked (now : MachineState) (n : ℕ) (least new_least : ℕ → ℕ
   step_makes : (c : ℕ) (op : ChanOp) (event : Event)
       → IsEvent now n c op event least new_least open_to new_open
       → IsChecked now n least new_least open_to new_open
-
--- processor q waits for channel c at each number of events with which it may find it
-pub record WaitsAfter (now : MachineState) (least : ℕ → ℕ → ℕ) (q c : ℕ) (op : ChanOp) : Type 0
-  where
-    pub needs : need (processor_of q now) ≡ Need.Channel c op
-    pub waits : (p : ℕ) → least q c ≤ p → p ≤ length (history_of c now)
-        → WaitsAt op (processor_of q now) (flags_at (history_of c now) p)
-
--- a processor is at rest, or waits so
-abbrev pub IsSettledBy : MachineState → (ℕ → ℕ → ℕ) → ℕ → Type 0
-IsSettledBy now least q =
-    IsAtRest (processor_of q now) ⊎ ((c : ℕ) × (op : ChanOp) × WaitsAfter now least q c op)
-
-pub record AllSettledBy (now : MachineState) (least : ℕ → ℕ → ℕ) : Type 0 where
-  pub each : (q : ℕ) → IsSettledBy now least q

@@ -1,6 +1,6 @@
 //! All that is found of a run.
 
-ghost use Rattle.std.specs.Prelude.{◌≡◌, ℕ, [], List, IfOk, OnOk, length};
+ghost use Rattle.std.specs.Prelude.{◌≡◌, ◌≤◌, ℕ, [], List, IfOk, OnOk, OnErr, length};
 ghost use Rattle.pp_machine.specs.Run.{barrel, run};
 ghost use Rattle.pp_every_order.specs.Determinacy.{IsDeterminate};
 ghost use Rattle.pp_races.specs.Findings.{findings};
@@ -84,6 +84,8 @@ fn run_watched<A: Allocator>(
         ≡ findings (barrel machine.old.profile turns) machine.old) }
     ensures same { OnOk result (found.new.items ≡ []
         → IsDeterminate (barrel machine.old.profile turns) machine.old) }
+    ensures cut { OnErr result ((t : ℕ) × (t ≤ turns)
+        × (machine.new ≡ run (barrel machine.old.profile t) machine.old)) }
 {
     // The call says to the proof that the machine is sound.
     let _sound = machine.turns();
@@ -103,6 +105,7 @@ fn run_watched<A: Allocator>(
 /// Runs this many turns of the barrel from its first processor on, and finds the steps that race with
 /// others, the processors that are not settled at the end, and the central words that one processor
 /// wrote and another used. Where nothing is found, the run tells the result of every order of steps.
+/// After `Memory` the machine has made some first turns.
 pub fn find_races<A: Allocator + Copy>(
     alloc: A,
     machine: &mut Machine<A>,
@@ -113,6 +116,8 @@ pub fn find_races<A: Allocator + Copy>(
         ≡ findings (barrel machine.old.profile turns) machine.old) }
     ensures same { IfOk result (λ found. found.items ≡ []
         → IsDeterminate (barrel machine.old.profile turns) machine.old) }
+    ensures cut { OnErr result ((t : ℕ) × (t ≤ turns)
+        × (machine.new ≡ run (barrel machine.old.profile t) machine.old)) }
 {
     let mut index = TraceIndex::of(alloc, machine.events())?;
     let mut low = first_low(alloc, machine)?;

@@ -60,7 +60,11 @@ impl Latest {
     {
         Latest {
             inactive: if set.inactive { place } else { self.inactive },
-            inactive_full: if set.inactive_full { place } else { self.inactive_full },
+            inactive_full: if set.inactive_full {
+                place
+            } else {
+                self.inactive_full
+            },
             empty: if set.empty { place } else { self.empty },
             full: if set.full { place } else { self.full },
             last: Some(after),

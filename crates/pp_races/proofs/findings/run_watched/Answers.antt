@@ -5,7 +5,7 @@ use Rattle.pp_machine.specs.ProcessorPlaces.{number_named}
 use Rattle.pp_machine.specs.ProfilePlaces.{most_processors, rest_within}
 use Rattle.pp_machine.specs.NeedAndEffect.{need}
 use Rattle.pp_machine.specs.Run.{barrel, run}
-use Rattle.pp_races.proofs.RunLemmas.{run_begins, run_finds, run_goes_on, run_tells}
+use Rattle.pp_races.proofs.RunLemmas.{run_begins, run_finds, run_goes_on, run_tells, was_cut}
 use Rattle.pp_races.proofs.findings.run_watched.Goals as goal
 
 pub loop-turn-init : goal.loop-turn-init
@@ -40,3 +40,15 @@ returns-clause-same g c = λ none.
     let found = run_finds c.args.machine.now.profile c.args.turns c.loop-turn.turn c.args.machine.now c.loop-turn.machine c.loop-turn.index.latest c.loop-turn.index.short.items c.loop-turn.index.long.items c.loop-turn.low c.loop-turn.looks c.loop-turn.uses c.loop-turn.found.items c.find_unsettled.new.findings.items c.find_shared.new.findings.items (omega arith) c.loop-turn.invariant
     c.in_ok-find_unsettled.ensures.found c.in_ok-find_shared.ensures in
     run_tells c.args.machine.now.profile c.args.turns c.loop-turn.turn c.args.machine.now c.loop-turn.machine c.loop-turn.index.latest c.loop-turn.index.short.items c.loop-turn.index.long.items c.loop-turn.low c.loop-turn.looks c.loop-turn.uses c.loop-turn.found.items c.turns-sound.ensures.sound.processors c.turns-sound.ensures.sound.channels (omega arith) c.loop-turn.invariant c.in_ok-find_unsettled.ensures.turns (sym found ∙ none)
+
+pub returns-in_err-take_step-clause-cut : goal.returns-in_err-take_step-clause-cut
+returns-in_err-take_step-clause-cut g c = was_cut _ c.args.turns c.loop-turn.turn c.args.machine.now _ (omega arith) c.loop-turn.invariant.ran
+
+pub returns-in_err-step-clause-cut : goal.returns-in_err-step-clause-cut
+returns-in_err-step-clause-cut g c = was_cut _ c.args.turns c.loop-turn.turn c.args.machine.now _ (omega arith) (c.in_err-step.ensures.unchanged_after_memory ∙ c.loop-turn.invariant.ran)
+
+pub returns-in_err-find_unsettled-clause-cut : goal.returns-in_err-find_unsettled-clause-cut
+returns-in_err-find_unsettled-clause-cut g c = was_cut _ c.args.turns c.loop-turn.turn c.args.machine.now _ (omega arith) c.loop-turn.invariant.ran
+
+pub returns-in_err-find_shared-clause-cut : goal.returns-in_err-find_shared-clause-cut
+returns-in_err-find_shared-clause-cut g c = was_cut _ c.args.turns c.loop-turn.turn c.args.machine.now _ (omega arith) c.loop-turn.invariant.ran
