@@ -72,6 +72,7 @@ impl<A: Allocator> TraceIndex<A> {
 
     /// Where a search for one of a set of flags may go on, if a span begins here in which no event of
     /// the channel found one.
+    #[inline(always)]
     pub(crate) fn pass(
         &self,
         trace: &[Trace],
@@ -94,6 +95,7 @@ impl<A: Allocator> TraceIndex<A> {
 }
 
 /// Takes in an event that follows this trace, where spans have this length.
+#[inline(always)]
 fn push_event<A: Allocator>(
     rows: &mut Vec<[Span; CHANNELS], A>,
     size: usize,
@@ -116,6 +118,7 @@ fn push_event<A: Allocator>(
 
 /// Where a search may go on, if a span of this length begins here in which no event of the channel
 /// found one of the set.
+#[inline(always)]
 fn pass_span(
     rows: &[[Span; CHANNELS]],
     size: usize,
