@@ -143,7 +143,7 @@ fn expect_refused<R: AllocGlobal + Threads + Wait + Sync + Abort>(
         assert_eq!(rt; without > 0, refused, "request {number}");
         if !refused {
             assert!(rt; events > 0, "the first step is never held");
-            assert!(rt; number > 40, "banks, lines, logs and answers grow");
+            assert!(rt; number > 15, "lines, logs and answers grow");
             return Ok(());
         }
     }
