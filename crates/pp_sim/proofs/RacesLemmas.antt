@@ -1,7 +1,5 @@
 -- Where the last line of the text of the races is SAME IN EVERY ORDER.
-use Rattle.std.proofs.Common.{◌≡◌, ℕ, List, ◌++◌, length, sym, ◌∙◌}
-use Rattle.pp_channel.specs.ChannelNo.{channel_count}
-use Rattle.pp_machine.specs.PpNo.{processor_count}
+use Rattle.std.proofs.Common.{◌≡◌, ℕ, List, ◌++◌, sym, ◌∙◌}
 use Rattle.pp_machine.specs.Run.{barrel}
 use Rattle.pp_deck.specs.DeckMeaning.{LoadedDeck}
 use Rattle.pp_every_order.specs.Determinacy.{IsDeterminate}
@@ -13,9 +11,3 @@ use Rattle.pp_sim.specs.RacesText.{IsRacesText}
 
 pub same_means : (turns : ℕ) (deck : LoadedDeck) (text before : List ℕ) → IsRacesText turns deck text → text ≡ before ++ verdict_line Same → IsDeterminate (barrel deck.machine.profile turns) deck.machine
 same_means turns deck text before is same = is.same (text_same (findings (barrel deck.machine.profile turns) deck.machine) before (sym is.told ∙ same))
-
-pub whole_processors : (turns : ℕ) (deck : LoadedDeck) (text : List ℕ) → IsRacesText turns deck text → length deck.machine.processors ≡ processor_count
-whole_processors turns deck text is = is.machine.processors
-
-pub whole_channels : (turns : ℕ) (deck : LoadedDeck) (text : List ℕ) → IsRacesText turns deck text → length deck.machine.histories ≡ channel_count
-whole_channels turns deck text is = is.machine.channels

@@ -80,7 +80,6 @@ pub fn checked_text_law<A: Allocator>()
 /// run showed it at some moment; and one that ends quiet, or in which the turns of this run stand with
 /// any steps between, leaves the processors, central memory, and the histories of the channels, each
 /// event made by the same processor, as this run did.
-#[tactic(auto, using(crate::proofs::RacesLemmas::same_means, crate::proofs::RacesLemmas::whole_processors, crate::proofs::RacesLemmas::whole_channels))]
 pub fn races_text_law()
     ensures quiet { (turns : ℕ) (deck : LoadedDeck) (text before : List ℕ)
         → IsRacesText turns deck text → text ≡ before ++ verdict_line Same
