@@ -16,9 +16,8 @@ use Rattle.pp_runner.specs.declared.report.Report.{Report}
 use Rattle.pp_serial.specs.Serial.{IsSerialRunOf}
 
 -- It holds of a report by threads, whose accesses came in this order: what holds of each channel
--- after any list of steps holds of each channel here; and some list of steps does what the workers
--- did, and leads to the very processors and histories, and to the words of central memory that the
--- accesses leave.
+-- after any list of steps holds of each channel here; and some list of steps leads to the very
+-- processors and histories, and to the words of central memory that the accesses leave.
 pub record HoldsOfThreads {A : Type 0} (m : MachineState) (report : Report A) (order : List Access)
     : Type 0 where
   pub channels : (c : ℕ) → IsTrue (names_channel c) → HoldsOnChannel (opening_history c m)
