@@ -45,10 +45,18 @@ pub record IsWritten (text : List ℕ) (a : Answer) (old new : List ℕ) : Type 
   pub fits : length text ≤ length old → (a.status ≡ 0) × (new ≡ text ++ drop (length text) old)
   pub exceeds : length old < length text → (a.status ≡ 5) × (new ≡ old)
 
+-- the words for a fault stand at the front of the room, as far as they fit; what is not written is as
+-- it was
+pub record IsRefused (f : TextFault) (a : Answer) (old new : List ℕ) : Type 0 where
+  pub status : a.status ≡ status_of f
+  pub line : a.line ≡ line_of f
+  pub within : a.length ≤ length old
+  pub rest : drop a.length new ≡ drop a.length old
+
 -- how the outcome of a work that wrote this text shows in the answer and in the room
 abbrev pub Shows : Result (Unit {0}) TextFault → List ℕ → Answer → (old new : List ℕ) → Type 0
 Shows (Ok done) text a old new = IsWritten text a old new
-Shows (Err f) text a old new = (a.status ≡ status_of f) × (a.line ≡ line_of f)
+Shows (Err f) text a old new = IsRefused f a old new
 
 -- THE PROMISE: the work was done over these bytes, as the program does it over its input, onto an
 -- empty output; and its outcome and its text show in the answer and in the room
@@ -61,7 +69,7 @@ pub record Tells (work : Work) (input : List ℕ) (a : Answer) (old new : List �
 
 -- a number is out of its range, and the room is as it was
 abbrev pub RefusesNumber : Answer → (old new : List ℕ) → Type 0
-RefusesNumber a old new = (a.status ≡ 2) × (a.line ≡ 0) × (new ≡ old)
+RefusesNumber a old new = (a.status ≡ 2) × (a.line ≡ 0) × (a.length ≡ 0) × (new ≡ old)
 
 -- THE PROMISE of a call on a trace: the answer tells of its check from the channels of a list on,
 -- or refuses what is no list of channels

@@ -1,6 +1,6 @@
 //! What a host learns of a call.
 
-ghost use Rattle.std.specs.Prelude.{◌≡◌};
+ghost use Rattle.std.specs.Prelude.{◌≡◌, ◌≤◌, drop, length};
 ghost use Rattle.pp_calls.specs.Answered.{Shows, IsWritten, line_of, status_of};
 
 use pp_sim::TextFault;
@@ -11,13 +11,13 @@ use std::alloc::Allocator;
 #[derive(Clone, Copy, Debug, PartialEq, Eq)]
 pub struct Answer {
     /// 0: the text is written. 1: the deck or the trace is refused, or the deck can't be dumped as
-    /// it stands. 2: a number is out of its range. 4: memory was refused. 5: the text is longer than
-    /// the room for it, and nothing is written.
+    /// it stands. 2: a number is out of its range, or a list is no list of channels. 4: memory was
+    /// refused. 5: the text is longer than the room for it, and nothing is written.
     pub status: u32,
     /// The line at which a deck or a trace is refused, from 1 on (decimal); 0 where no line is.
     pub line: u64,
-    /// How many bytes (decimal) the text has; at status 1 and 4 those of the words for the fault,
-    /// which stand in its place as far as there is room.
+    /// How many bytes (decimal) the text has; at status 1 and 4 how many of the words for the fault
+    /// stand in its place, as far as there is room; at status 2 none.
     pub length: u64,
 }
 
@@ -33,7 +33,7 @@ const TOO_LONG: u32 = 5;
 
 /// The answer to a number out of its range.
 pub fn refused_number() -> Answer
-    ensures { (result.status ≡ 2) × (result.line ≡ 0) }
+    ensures { (result.status ≡ 2) × (result.line ≡ 0) × (result.length ≡ 0) }
 {
     Answer {
         status: NUMBER_REFUSED,
@@ -106,8 +106,11 @@ fn line_of(fault: &TextFault) -> u64
     }
 }
 
-/// Puts the words for a fault into the room, as far as they fit: how many bytes they have.
-fn show_fault<A: Allocator>(alloc: A, fault: &TextFault, out: &mut [u8]) -> u64 {
+/// Puts the words for a fault into the room, as far as they fit: how many bytes stand there.
+fn show_fault<A: Allocator>(alloc: A, fault: &TextFault, out: &mut [u8]) -> u64
+    ensures within { result ≤ length out.old }
+    ensures rest { drop result out.new ≡ drop result out.old }
+{
     let Ok(words) = format!(in alloc; "{fault}") else {
         return 0;
     };
