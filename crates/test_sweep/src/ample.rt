@@ -48,7 +48,7 @@ fn largest_central_memory_by_threads(rt: HostRuntime) -> Result<(), Fail> {
         let heap = Rationed::new(rt.alloc());
         let text = text_by_threads(&rt, &heap, profile, &deck)?;
         assert!(rt; text.as_slice() == BLOCK_TEXT.as_bytes());
-        assert!(rt; heap.asked() > 40, "banks, lines, logs and answers grow");
+        assert!(rt; heap.asked() > 40, "lines, logs and answers grow");
     }
     Ok(())
 }

@@ -89,7 +89,7 @@ fn long_pair_by_threads(rt: HostRuntime) -> Result<(), Fail> {
     assert_eq!(rt; lines.next(), None);
     assert!(rt;
         heap.asked() > 40,
-        "banks, lines, logs, answers and text grow"
+        "lines, logs, answers and text grow"
     );
     Ok(())
 }
