@@ -1,0 +1,82 @@
+/* The simulator of the 6600's peripheral processors, as a library for C. Each call reads a deck, or
+   a channel trace, and puts the text of a command over it into `out`. It keeps nothing, and may be
+   made from any thread, in memory of its own. docs/EMBEDDING.md says what is proved of it. */
+#ifndef PPSIM_H
+#define PPSIM_H
+
+#include <stddef.h>
+#include <stdint.h>
+
+#ifdef __cplusplus
+extern "C" {
+#endif
+
+enum {
+    PPSIM_WRITTEN = 0,    /* out begins with the text, of `length` bytes */
+    PPSIM_REFUSED = 1,    /* the deck or the trace, at `line`; or the deck can't be dumped */
+    PPSIM_BAD_NUMBER = 2, /* an argument is out of its range; out is as it was */
+    PPSIM_NO_MEMORY = 4,  /* the memory does not suffice */
+    PPSIM_TOO_LONG = 5    /* the text has `length` bytes, more than the room; out is as it was */
+};
+
+enum {
+    PPSIM_LAST_TURN = 999999,
+    PPSIM_MOST_DRAWN = 2000, /* turns in a drawing */
+    PPSIM_NAMED = 255        /* in place of a processor's number: those that the deck names */
+};
+
+/* At PPSIM_REFUSED and PPSIM_NO_MEMORY out begins with the words for the fault, as far as there is
+   room: they have `length` bytes. */
+typedef struct {
+    uint32_t status;
+    uint64_t line; /* from 1 on; 0 where the fault is no line's */
+    uint64_t length;
+} ppsim_answer;
+
+/* The memory that a call works in, and has no use for when it returns: `size` bytes, a multiple of
+   16, from a place on that is aligned to 16, apart from all else that is passed. */
+typedef struct {
+    void *place;
+    size_t size;
+} ppsim_memory;
+
+/* As much of these bytes as a call can work in. */
+static inline ppsim_memory ppsim_memory_in(void *bytes, size_t size) {
+    size_t skipped = (size_t)(-(uintptr_t)bytes & 15);
+    ppsim_memory memory = {bytes, 0};
+    if (size > skipped) {
+        memory.place = (unsigned char *)bytes + skipped;
+        memory.size = (size - skipped) & ~(size_t)15;
+    }
+    return memory;
+}
+
+#define PPSIM_DECK_AND_ROOM const uint8_t *deck, size_t deck_length, uint8_t *out, size_t room
+
+/* processors is 10 or 20, turns 0 to PPSIM_LAST_TURN. */
+ppsim_answer ppsim_barrel(ppsim_memory, uint32_t processors, uint32_t turns, PPSIM_DECK_AND_ROOM);
+ppsim_answer ppsim_list(ppsim_memory, uint32_t processors, PPSIM_DECK_AND_ROOM);
+ppsim_answer ppsim_dump(ppsim_memory, uint32_t processors, uint32_t turns, PPSIM_DECK_AND_ROOM);
+ppsim_answer ppsim_state(ppsim_memory, uint32_t processors, uint32_t turns, PPSIM_DECK_AND_ROOM);
+ppsim_answer ppsim_sessions(ppsim_memory, uint32_t processors, uint32_t turns, PPSIM_DECK_AND_ROOM);
+ppsim_answer ppsim_races(ppsim_memory, uint32_t processors, uint32_t turns, PPSIM_DECK_AND_ROOM);
+
+/* pp is a processor of the machine, or PPSIM_NAMED; from, as turns, is the first turn shown. */
+ppsim_answer ppsim_steps(ppsim_memory, uint32_t processors, uint32_t turns, uint8_t pp,
+                         uint32_t from, PPSIM_DECK_AND_ROOM);
+
+/* The turns from one on and before another, at most PPSIM_MOST_DRAWN of them. */
+ppsim_answer ppsim_draw(ppsim_memory, uint32_t processors, uint32_t from, uint32_t to,
+                        PPSIM_DECK_AND_ROOM);
+
+/* opened lists channels in octal, as "1,5,13", or none. */
+ppsim_answer ppsim_check(ppsim_memory, const uint8_t *opened, size_t opened_length,
+                         const uint8_t *trace, size_t trace_length, uint8_t *out, size_t room);
+
+#undef PPSIM_DECK_AND_ROOM
+
+#ifdef __cplusplus
+}
+#endif
+
+#endif

@@ -1,0 +1,70 @@
+"""usage: check.py FOLDER PROGRAM: compares the module in the folder with the program."""
+
+import pathlib
+import subprocess
+import sys
+
+folder, program = map(pathlib.Path, sys.argv[1:])
+sys.path.insert(0, str(folder))
+import ppsim  # noqa: E402
+
+EXAMPLES = pathlib.Path(__file__).resolve().parents[2] / "crates/pages/data/examples"
+CALLS = {
+    "barrel --turns 300": lambda deck, p: ppsim.barrel(deck, turns=300, processors=p),
+    "list": lambda deck, p: ppsim.listing(deck, processors=p),
+    "dump --turns 300": lambda deck, p: ppsim.dump(deck, turns=300, processors=p),
+    "state --turns 123": lambda deck, p: ppsim.state(deck, turns=123, processors=p),
+    "sessions --turns 300": lambda deck, p: ppsim.sessions(deck, turns=300, processors=p),
+    "races --turns 300": lambda deck, p: ppsim.races(deck, turns=300, processors=p),
+    "steps --turns 5000": lambda deck, p: ppsim.steps(deck, turns=5000, processors=p),
+    "steps --turns 90 --pp 1 --from 30":
+        lambda deck, p: ppsim.steps(deck, turns=90, pp=1, start=30, processors=p),
+    "draw --turns 90 --from 30": lambda deck, p: ppsim.draw(deck, turns=90, start=30, processors=p),
+}
+differ = same = 0
+
+
+def answer_of(call):
+    try:
+        return 0, call()
+    except ppsim.Fault as fault:
+        return fault.status, f"ppsim: {fault}\n"
+
+
+def compare(words, given, call):
+    global differ, same
+    run = subprocess.run([program, *words.split()], input=given, capture_output=True)
+    its = run.returncode, (run.stderr if run.returncode else run.stdout).decode()
+    if answer_of(call) == its:
+        same += 1
+    else:
+        differ += 1
+        print(f"differs: {words}: {answer_of(call)}, {its}")
+
+
+def raises(kind, call):
+    global differ, same
+    try:
+        call()
+    except kind:
+        same += 1
+    else:
+        differ += 1
+        print(f"no {kind.__name__}")
+
+
+for path in sorted(EXAMPLES.glob("*.deck")):
+    deck = path.read_bytes()
+    for processors in (10, 20):
+        for words, call in CALLS.items():
+            compare(f"{words} --processors {processors}", deck, lambda: call(deck, processors))
+for path in sorted(EXAMPLES.glob("*.text")):
+    trace = path.read_bytes()
+    compare("check", trace, lambda: ppsim.check(trace))
+    compare("check --opened 1,13", trace, lambda: ppsim.check(trace, opened=[1, 0o13]))
+raises(ppsim.NumberFault, lambda: ppsim.state("", turns=-1))
+raises(ValueError, lambda: ppsim.state("", turns=2**32 + 5))
+raises(ppsim.NumberFault, lambda: ppsim.steps("", turns=1, pp=255))
+raises(ppsim.Fault, lambda: ppsim.listing("\u00e9"))
+print(f"module and program: {same} the same, {differ} differ")
+sys.exit(1 if differ else 0)
