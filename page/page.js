@@ -1,0 +1,300 @@
+const $ = id => document.getElementById(id);
+const make = (tag, properties) => Object.assign(document.createElement(tag), properties);
+const bytesOf = text => new TextEncoder().encode(text);
+const WRITTEN = 0, NO_MEMORY = 4, TOO_LONG = 5; // statuses of an answer
+const LAST_TURN = 999999, MOST_DRAWN = 2000, STEPS_SHOWN = 200, MOST_BUTTONS = 2000;
+const MOST_BYTES = 1048577, MOST_IN_ADDRESS = 32768; // the first is one more than a deck may have
+const NAMED = 255; // in place of a processor's number: those that the deck names
+
+// ---- the library
+let library;
+const aligned = n => Math.ceil(n / 16) * 16;
+
+/** Calls an export over these bytes, in an instance of its own: nothing is left of other calls. */
+function call(name, numbers, input, channels, megabytes = 4) {
+  const { exports } = new WebAssembly.Instance(library);
+  exports.memory.grow(BigInt(16 * megabytes));
+  const bytes = new Uint8Array(exports.memory.buffer), view = new DataView(bytes.buffer);
+  // One after another: the answer, where the memory for the work is, a list of channels, the input,
+  // the room for the text, the memory for the work.
+  const listed = bytesOf(channels ?? ''), answer = aligned(Number(exports.__heap_base.value));
+  const memory = answer + 32, list = memory + 16, start = list + listed.length;
+  const room = aligned(start + input.length), size = aligned((bytes.length - room) / 2) - 16;
+  view.setBigUint64(memory, BigInt(room + size), true);
+  view.setBigUint64(memory + 8, BigInt(size), true);
+  bytes.set(listed, list);
+  bytes.set(input, start);
+  const first = channels === undefined ? numbers : [BigInt(list), BigInt(listed.length)];
+  exports[`ppsim_${name}`](BigInt(answer), BigInt(memory), ...first,
+    BigInt(start), BigInt(input.length), BigInt(room), BigInt(size));
+  const status = view.getUint32(answer, true), line = Number(view.getBigUint64(answer + 8, true));
+  const isCut = status === NO_MEMORY || status === TOO_LONG;
+  if (isCut && megabytes < 1024) return call(name, numbers, input, channels, 4 * megabytes);
+  const words = bytes.subarray(room, room + Number(view.getBigUint64(answer + 16, true)));
+  return { status, line, text: isCut ? 'out of memory' : new TextDecoder().decode(words) };
+}
+
+// ---- the deck as it stands, and its views
+let deck, answers = new Map(), shown, drawn = null, timer = null, frame = 0, saving = 0;
+const turn = () => $('turn').valueAsNumber, last = () => Number($('turn').max);
+const processors = () => Number($('processors').value), view = () => $('views').elements.view.value;
+const deckShown = () => ({ deck: $('deck').value, processors: processors(), turns: last() });
+
+/** What an export answers of the deck, kept until the deck changes. */
+function ask(name, ...numbers) {
+  const key = `${name} ${numbers}`;
+  if (answers.size > 200) answers.clear();
+  if (!answers.has(key)) answers.set(key, call(name, [processors(), ...numbers], deck));
+  return answers.get(key);
+}
+
+const ofTurn = name => ({ words: t => `${name} --turns ${t}`, ask: t => ask(name, t) });
+const from = t => Math.max(0, t - STEPS_SHOWN);
+const VIEWS = { // for each: the words of the command that prints the same, and its answer at a turn
+  State: ofTurn('state'),
+  Steps: {
+    words: t => `steps --turns ${t} --from ${from(t)}`, ask: t => ask('steps', t, NAMED, from(t)),
+  },
+  Events: ofTurn('barrel'),
+  Sessions: ofTurn('sessions'),
+  Races: ofTurn('races'),
+  Listing: { words: () => 'list', ask: () => ask('list') },
+  Dump: ofTurn('dump'),
+  Check: {
+    words: () => `check${$('opened').value && ` --opened ${$('opened').value}`}`,
+    ask: () => call('check', [], bytesOf($('trace').value), $('opened').value),
+  },
+};
+
+/** The words of a state, each with its place in a memory or in its line, and the space between. */
+function wordsOf(text) {
+  let section = '';
+  return text.split(/(?<=\n)/).flatMap(line => {
+    const [, central, place] = /^(CM |)([0-7]+) /.exec(line) ?? [];
+    if (line.startsWith('PP ')) section = line;
+    return line.split(/(\s+)/).map((word, n) => {
+      const isSpaceOrAddress = n % 2 || (place && n < (central ? 4 : 2));
+      const key = place ? section + central + (parseInt(place, 8) + n / 2) : line.slice(0, 4) + n;
+      return [isSpaceOrAddress ? '' : key, word];
+    });
+  });
+}
+
+/** A state, with marks where it is not as it was a turn before. */
+function marked(text, before) {
+  const old = new Map(wordsOf(before));
+  return wordsOf(text).map(([key, word]) =>
+    key && old.get(key) !== word ? make('mark', { textContent: word }) : word);
+}
+
+/** What a click on a line does: it goes to its turn, or to the turns of its instruction. */
+function actionOf(line, section) {
+  const step = /^\d{6,} PP(\d\d) (\d{4}) /.exec(line), place = /^\d{4}(?= \d{4})/.exec(line);
+  const at = /^\d{6,}(?= PP)|(?<=FROM )\d{6,}/.exec(line);
+  if (view() === 'Steps' && step) return () => visit(step[1], step[2]);
+  if (view() === 'Listing' && place && section) return () => visit(section, place[0]);
+  return ['Events', 'Races', 'Sessions'].includes(view()) && at && (() => go(Number(at[0]) + 1));
+}
+
+/** The lines of a text: the first that lead somewhere are buttons. */
+function linked(text) {
+  let section = '';
+  const lines = text.split(/(?<=\n)/), rest = lines.splice(MOST_BUTTONS).join('');
+  return [...lines.map(line => {
+    section = /^PP (\d+)/.exec(line)?.[1].padStart(2, '0') ?? section;
+    const onclick = actionOf(line, section);
+    return onclick ? make('button', { onclick, textContent: line.trimEnd() }) : line;
+  }), rest];
+}
+
+/** Goes to the next turn at which this instruction ran, and says which of them it is. */
+function visit(pp, place) {
+  const lines = ask('steps', last(), parseInt(pp, 8), 0).text.split('\n');
+  const ran = lines.filter(line => line.slice(12, 16) === place && !line.includes(' HELD '))
+    .map(line => parseInt(line, 10));
+  const next = Math.max(0, ran.findIndex(at => at >= turn()));
+  $('ran').textContent = ran.length === 0 ? `PP${pp} ${place} did not run`
+    : `PP${pp} ${place} ran in turn ${ran[next]}: ${next + 1} of ${ran.length}`;
+  if (ran.length > 0) go(ran[next] + 1);
+}
+
+// ---- showing
+function show() {
+  const at = turn(), name = view();
+  frame = 0;
+  draw();
+  const { status, line, text } = VIEWS[name].ask(at), isWritten = status === WRITTEN;
+  const before = name === 'State' && at > 0 ? ask('state', at - 1).text : text;
+  const parts = !isWritten ? [text] : name === 'State' ? marked(text, before) : linked(text);
+  if (shown !== (shown = name + before + text)) $('text').replaceChildren(...parts);
+  $('text').classList.toggle('bad', !isWritten);
+  if (name === 'Steps' || name === 'Events') $('text').scrollTop = $('text').scrollHeight;
+  if (name === 'Check') markLine('trace', isWritten ? 0 : line);
+  $('checked').hidden = name !== 'Check';
+  $('at').textContent = at;
+  const of20 = processors() === 20 && name !== 'Check' ? ' --processors 20' : '';
+  $('words').textContent = `ppsim ${VIEWS[name].words(at)}${of20}`;
+  clearTimeout(saving);
+  saving = setTimeout(remember, 300);
+}
+
+const showSoon = () => { frame ||= requestAnimationFrame(show); };
+const go = at => { $('turn').value = Math.min(last(), Math.max(0, at)); showSoon(); };
+
+/** Draws the part of the run in which the turn is. Over a faulty deck the last picture stays. */
+function draw() {
+  const from = Math.floor(Math.max(0, turn() - 1) / MOST_DRAWN) * MOST_DRAWN;
+  const to = Math.min(last(), from + MOST_DRAWN), root = $('picture').shadowRoot;
+  if (drawn?.from === from) return moveCursor();
+  const { status, line, text } = ask('draw', from, to), isWritten = status === WRITTEN;
+  markLine('deck', isWritten ? 0 : line);
+  const words = text.replace(/fault (\d).*/, (words, number) => `${words}: ${FAULTS[number]}`);
+  $('fault').textContent = isWritten ? '' : words;
+  $('drawing').classList.toggle('old', !isWritten);
+  if (!isWritten) return;
+  // The one text that is read as markup: it is proved well-formed, and has no text of a deck in it.
+  const [element, style] = /<style>(.*?)<\/style>/s.exec(text);
+  const parsed = new DOMParser().parseFromString(text.replace(element, ''), 'image/svg+xml');
+  const picture = document.adoptNode(parsed.documentElement);
+  root.adoptedStyleSheets = [new CSSStyleSheet()];
+  root.adoptedStyleSheets[0].replaceSync(`${style.replaceAll(':root', ':host')}
+    svg{display:block} g>:last-child{paint-order:stroke;stroke:var(--ground);stroke-width:5px}`);
+  root.replaceChildren(picture);
+  const names = [...picture.querySelectorAll("text[x='-72']")], legend = picture.querySelector('g');
+  for (const name of names) name.parentNode.append(name); // over the bands
+  drawn = { from, to, width: to - from <= 100 ? 10 : 4, names, legend };
+  keepNames();
+  moveCursor();
+}
+
+function moveCursor() {
+  const box = $('drawing'), x = 80 + (turn() - drawn.from) * drawn.width;
+  $('cursor').style.transform = `translateX(${x}px)`;
+  const isSeen = x > box.scrollLeft + 80 && x < box.scrollLeft + box.clientWidth - 40;
+  if (!isSeen) box.scrollLeft = x - box.clientWidth / 2;
+}
+
+/** Keeps the legend and the names of the lanes in sight. */
+function keepNames() {
+  const x = $('drawing').scrollLeft;
+  for (const name of drawn?.names ?? []) name.setAttribute('x', x - 72);
+  drawn?.legend.setAttribute('transform', `translate(${x + 8},8)`);
+}
+
+/** Numbers the lines of an editor, and marks one of them, or none at 0. */
+function markLine(id, line) {
+  const numbers = $(id).value.split('\n').map((_, n) => `${n + 1}\n`);
+  if (line > 0) numbers[line - 1] = make('b', { textContent: numbers[line - 1] });
+  $(`${id}-numbers`).replaceChildren(...numbers);
+  $(id).classList.toggle('faulty', line > 0);
+  $(id).style.setProperty('--line', line - 1);
+  $(`${id}-numbers`).scrollTop = $(id).scrollTop;
+}
+
+// ---- what a reader does
+/** The deck, the machine or the length of the run has changed. */
+function renew() {
+  deck = bytesOf($('deck').value);
+  answers.clear();
+  drawn = null;
+  $('ran').textContent = '';
+  showSoon();
+}
+
+function load(example, { deck, processors, turns }, at = turns) {
+  $('example').value = example;
+  $('deck').value = deck;
+  $('processors').value = processors;
+  $('last').value = $('turn').max = Math.min(LAST_TURN, Math.max(0, parseInt(turns) || 0));
+  $('turn').value = at;
+  renew();
+}
+
+async function openFile(file) {
+  if (file) load('', { ...deckShown(), deck: await file.slice(0, MOST_BYTES).text() });
+}
+
+function drop(e) {
+  e.preventDefault();
+  openFile(e.dataTransfer.files[0]);
+}
+
+function saveFile() {
+  const href = URL.createObjectURL(new Blob([deck], { type: 'text/plain' }));
+  make('a', { href, download: `${$('example').value || 'my'}.deck` }).click();
+  setTimeout(() => URL.revokeObjectURL(href), 1000);
+}
+
+function takeEvents() {
+  const { status, text } = ask('barrel', turn());
+  $('trace').value = status === WRITTEN ? text : '';
+  showSoon();
+}
+
+function play() {
+  if (!timer && turn() === last()) $('turn').value = 0;
+  const step = () => { if (turn() < last()) go(turn() + 1); else play(); };
+  clearInterval(timer);
+  timer = timer ? null : setInterval(step, Math.max(20, Math.min(150, 8000 / last())));
+  $('play').textContent = timer ? '⏸' : '▶';
+  $('play').ariaLabel = timer ? 'Pause' : 'Play';
+}
+
+/** The address keeps the example, or else the deck itself, and the turn and the view. */
+function remember() {
+  const example = $('example').value, own = deckShown();
+  const isExample = Object.entries(own).every(([key, value]) => EXAMPLES[example]?.[key] === value);
+  if (!isExample && own.deck.length > MOST_IN_ADDRESS) return;
+  const words = { ...isExample ? { example } : own, turn: turn(), view: view() };
+  history.replaceState(null, '', `#${new URLSearchParams(words)}`);
+}
+
+function recall() {
+  const kept = Object.fromEntries(new URLSearchParams(location.hash.slice(1)));
+  const example = Object.hasOwn(EXAMPLES, kept.example) ? kept.example : 'handoff';
+  $('views').elements.view.value = Object.hasOwn(VIEWS, kept.view) ? kept.view : 'State';
+  if (kept.deck === undefined) load(example, EXAMPLES[example], kept.turn);
+  else load('', { ...kept, processors: kept.processors === '20' ? 20 : 10 }, kept.turn);
+}
+
+function press(e) {
+  const sideways = { ArrowLeft: -1, ArrowRight: 1 }[e.key];
+  const isTyping = e.target.matches('textarea, select, input:not([type=range])');
+  if (isTyping || e.ctrlKey || e.altKey || e.metaKey) return;
+  if (sideways) go(turn() + sideways * (e.shiftKey ? processors() : 1));
+  else if (e.key === ' ' && !e.target.matches('button')) play();
+  else return;
+  e.preventDefault();
+}
+
+function drag(e) {
+  if (!e.buttons || !drawn) return;
+  $('drawing').setPointerCapture(e.pointerId);
+  const x = e.clientX - $('picture').getBoundingClientRect().left;
+  go(Math.min(drawn.to, drawn.from + Math.max(0, Math.round((x - 80) / drawn.width))));
+}
+
+async function begin() {
+  library = await WebAssembly.compile(Uint8Array.from(atob(MODULE), c => c.charCodeAt(0)));
+  $('picture').attachShadow({ mode: 'open' });
+  $('example').append(...Object.keys(EXAMPLES).map(name => make('option', { textContent: name })));
+  recall();
+  $('play').onclick = play;
+  $('save').onclick = saveFile;
+  $('take').onclick = takeEvents;
+  $('open').onclick = () => $('file').click();
+  $('file').onchange = () => openFile($('file').files[0]);
+  $('example').onchange = () => load($('example').value, EXAMPLES[$('example').value]);
+  $('last').onchange = () => load($('example').value, { ...deckShown(), turns: $('last').value });
+  $('views').onchange = () => (view() === 'Check' && !$('trace').value ? takeEvents() : showSoon());
+  $('deck').oninput = $('processors').oninput = renew;
+  $('turn').oninput = $('trace').oninput = $('opened').oninput = showSoon;
+  for (const id of ['deck', 'trace']) {
+    $(id).onscroll = () => { $(`${id}-numbers`).scrollTop = $(id).scrollTop; };
+  }
+  $('drawing').onscroll = keepNames;
+  $('drawing').onpointerdown = $('drawing').onpointermove = drag;
+  Object.assign(window, { onkeydown: press, onhashchange: recall, ondragover: drop, ondrop: drop });
+}
+
+begin().catch(e => { $('text').textContent = `This page needs 64-bit WebAssembly: ${e}`; });
