@@ -1,5 +1,5 @@
 -- Steps of a machine, by its processors and its histories.
-use Rattle.std.proofs.Common.{false, true, ◌≤◌, ◌≡◌, ◌≢◌, ℕ, ◌+◌, ◌<◌, List, [], ◌∷◌, ◌++◌, length, get_or, set, Option, Some, None, refl, sym, ap, ◌∙◌, subst, inl, inr, arith}
+use Rattle.std.proofs.Common.{append_assoc, cond, eqb, false, true, ◌≤◌, ◌≡◌, ◌≢◌, ℕ, ◌+◌, ◌<◌, List, [], ◌∷◌, ◌++◌, length, get_or, set, Option, Some, None, refl, sym, ap, ◌∙◌, subst, inl, inr, arith}
 use Rattle.std.specs.Prelude.{IsTrue, All, slice_get, slice_index, slice_set}
 use Rattle.std.specs.Option.{option_to_list}
 use Rattle.std.proofs.lemmas.Bool.{le-ltb, cases_eq, lt-ltb}
@@ -20,7 +20,7 @@ use Rattle.pp_machine.specs.NeedAndEffect.{need, outcome, processor_after}
 use Rattle.pp_machine.specs.declared.outcome.Outcome.TheVariants.{Moved}
 use Rattle.pp_machine.specs.PpNo.{processor_index, processor_number}
 use Rattle.pp_machine.specs.Processor.{Processor, no_processor}
-use Rattle.pp_machine.specs.ProcessorPlaces.{place_of_number}
+use Rattle.pp_machine.specs.ProcessorPlaces.{number_at, place_of_number}
 use Rattle.pp_machine.specs.Profile.{has_processor, processors_in}
 use Rattle.pp_machine.specs.ProfilePlaces.{has_at, most_processors}
 use Rattle.pp_machine.specs.Run.{run}
@@ -29,6 +29,7 @@ use Rattle.pp_machine.specs.declared.answer.Answer.TheVariants as answers
 use Rattle.pp_machine.specs.declared.need.Need.{Need}
 use Rattle.pp_machine.specs.declared.need.Need.TheVariants as needs
 use Rattle.pp_machine.specs.declared.profile.Profile.{Profile}
+use Rattle.pp_serial.specs.Serial.{answers_along}
 
 -- what has come to pass: the history of each channel, and the words of central memory
 pub record Past : Type 0 where
@@ -52,27 +53,41 @@ all_move : (m : MachineState) (ns ks : List ℕ) → AllMove m ns → AllMove (r
 all_move m [] ks a b = b
 all_move m (n ∷ ns) ks a b = (a.0, all_move (stepped n m) ns ks a.1 b)
 
--- steps of processors of the profile, each of which moves its processor, lead a machine to one that stands so
-pub record IsLed (size : ℕ) (p : Profile) (m : MachineState) (after : List Processor) (later : Past) (ns : List ℕ) (steps : ℕ) : Type 0 where
+-- processors, and by place the answers that each is still to get
+pub record Group : Type 0 where
+  pub pps : List Processor
+  pub left : List (List Answer)
+
+along_more : (n : ℕ) (m : MachineState) (ks ns : List ℕ) → answers_along n (ks ++ ns) m ≡ answers_along n ks m ++ answers_along n ns (run ks m)
+along_more n m [] ns = refl
+along_more n m (k ∷ ks) ns =
+    let first : List Answer = cond (eqb n k) (answer_to (need (processor_of k m)) m ∷ []) [] in
+    ap (λ l. first ++ l) (along_more n (stepped k m) ks ns) ∙ sym (append_assoc first (answers_along n ks (stepped k m)) (answers_along n ns (run ks (stepped k m))))
+
+-- steps of processors of the profile, each of which moves its processor, lead a machine to one that stands so,
+-- and the processors get these answers
+pub record IsLed (size : ℕ) (p : Profile) (m : MachineState) (before after : Group) (later : Past) (ns : List ℕ) (steps : ℕ) : Type 0 where
   pub count : length ns ≡ steps
   pub named : All (λ n. IsTrue (has_processor p n)) ns
   pub moved : AllMove m ns
-  pub stands : Stands size (run ns m) after later
+  pub stands : Stands size (run ns m) after.pps later
+  pub answers : (place : ℕ) → place < processors_in p → answers_along (processor_number place) ns m ++ get_or after.left place [] ≡ get_or before.left place []
 
 -- so many steps lead each machine that stands so to one that stands so
-abbrev pub Leads : ℕ → Profile → ℕ → List Processor → Past → List Processor → Past → Type 0
-Leads size p steps pps past after later = (m : MachineState) → Stands size m pps past → (ns : List ℕ) × IsLed size p m after later ns steps
+abbrev pub Leads : ℕ → Profile → ℕ → Group → Past → Group → Past → Type 0
+Leads size p steps before past after later = (m : MachineState) → Stands size m before.pps past → (ns : List ℕ) × IsLed size p m before after later ns steps
 
-pub leads_by : (size : ℕ) (p : Profile) (one two : List Processor) (first second : Past) (k n : ℕ) → k ≡ n → Leads size p k one first two second → Leads size p n one first two second
+pub leads_by : (size : ℕ) (p : Profile) (one two : Group) (first second : Past) (k n : ℕ) → k ≡ n → Leads size p k one first two second → Leads size p n one first two second
 leads_by size p one two first second k n is leads = subst (λ (j : ℕ). Leads size p j one first two second) is leads
 
-pub leads_none : (size : ℕ) (p : Profile) (pps : List Processor) (past later : Past) → ((c : ℕ) → past.happened c ≡ later.happened c) → past.words ≡ later.words → Leads size p 0 pps past pps later
-leads_none size p pps past later same words m stands = (
+pub leads_none : (size : ℕ) (p : Profile) (one : Group) (past later : Past) → ((c : ℕ) → past.happened c ≡ later.happened c) → past.words ≡ later.words → Leads size p 0 one past one later
+leads_none size p one past later same words m stands = (
   [],
   record {
     count = refl;
     named = All-nil (λ n. IsTrue (has_processor p n));
     moved = tt;
+    answers = λ place _. refl;
     stands = record {
       processors = stands.processors;
       channels = stands.channels;
@@ -83,7 +98,7 @@ leads_none size p pps past later same words m stands = (
   },
 )
 
-pub leads_on : (size : ℕ) (p : Profile) (k n : ℕ) (one two three : List Processor) (first second third : Past) → Leads size p k one first two second → Leads size p n two second three third → Leads size p (k + n) one first three third
+pub leads_on : (size : ℕ) (p : Profile) (k n : ℕ) (one two three : Group) (first second third : Past) → Leads size p k one first two second → Leads size p n two second three third → Leads size p (k + n) one first three third
 leads_on size p k n one two three first second third a b m stands =
     let s = a m stands in
     let t = b (run s.0 m) s.1.stands in
@@ -93,7 +108,12 @@ leads_on size p k n one two three first second third a b m stands =
         count = length-append s.0 t.0 ∙ (λ j. s.1.count j + t.1.count j);
         named = All-append (λ n. IsTrue (has_processor p n)) s.0 t.0 s.1.named t.1.named;
         moved = all_move m s.0 t.0 s.1.moved t.1.moved;
-        stands = subst (λ (k : MachineState). Stands size k three third) both t.1.stands;
+        stands = subst (λ (k : MachineState). Stands size k three.pps third) both t.1.stands;
+        answers = λ place inside.
+            let i = processor_number place in
+            let got = answers_along i s.0 m in
+            ap (λ l. l ++ get_or three.left place []) (along_more i m s.0 t.0)
+            ∙ (append_assoc got (answers_along i t.0 (run s.0 m)) (get_or three.left place []) ∙ (ap (λ l. got ++ l) (t.1.answers place inside) ∙ s.1.answers place inside));
       },
     )
 
@@ -125,9 +145,11 @@ pub serves_by : (size : ℕ) (n k : Need) (x y : Answer) (past later : Past) →
 serves_by size n k x y past later needed answered serves = rw (needed, answered) serves
 
 -- one step of the processor at a place
-pub leads_step : (size : ℕ) (p : Profile) (pps : List Processor) (place : ℕ) (x : Answer) (past later : Past) → place < processors_in p → outcome (get_or pps place no_processor) x ≡ Moved
-    → Serves size (need (get_or pps place no_processor)) x past later → Leads size p 1 pps past (set pps place (processor_after (get_or pps place no_processor) x)) later
-leads_step size p pps place x past later inside moved serves m stands =
+pub leads_step : (size : ℕ) (p : Profile) (one two : Group) (place : ℕ) (x : Answer) (past later : Past) → place < processors_in p → outcome (get_or one.pps place no_processor) x ≡ Moved
+    → Serves size (need (get_or one.pps place no_processor)) x past later → two.pps ≡ set one.pps place (processor_after (get_or one.pps place no_processor) x)
+    → ((other : ℕ) → cond (eqb other place) (x ∷ []) [] ++ get_or two.left other [] ≡ get_or one.left other []) → Leads size p 1 one past two later
+leads_step size p one two place x past later inside moved serves next given m stands =
+    let pps = one.pps in
     let most = most_processors p in
     let n = processor_number place in
     let at : processor_index n ≡ place = place_of_number place (omega (arith, inside, most)) in
@@ -138,8 +160,11 @@ leads_step size p pps place x past later inside moved serves m stands =
         count = refl;
         named = All-cons (λ k. IsTrue (has_processor p k)) n [] (has_at p place (omega (arith, inside, most)) ∙ lt-ltb place (processors_in p) inside) (All-nil (λ k. IsTrue (has_processor p k)));
         moved = (moves n m (get_or pps place no_processor) x pp answer moved, tt);
+        answers = λ other within.
+            let same : eqb (processor_number other) n ≡ eqb other place = number_at other n (omega (arith, within, most)) ∙ ap (eqb other) at in
+            ap (λ l. l ++ get_or two.left other []) ((λ j. cond (same j) (answer j ∷ []) [] ++ []) ∙ append-nil (cond (eqb other place) (x ∷ []) [])) ∙ given other;
         stands = record {
-          processors = stepped_processors n m ∙ (λ j. set (stands.processors j) (at j) (processor_after (pp j) (answer j)));
+          processors = stepped_processors n m ∙ ((λ j. set (stands.processors j) (at j) (processor_after (pp j) (answer j))) ∙ sym next);
           channels = ap length (stepped_histories n m) ∙ (ap (λ q. length (histories_after (need q) m)) pp ∙ serves.channels m pps stands);
           histories = λ c. ap (history_on c) (stepped_histories n m) ∙ (ap (λ q. history_on c (histories_after (need q) m)) pp ∙ serves.histories m pps stands c);
           central = stepped_central n m ∙ (ap (λ q. central_after (need q) m) pp ∙ serves.central m pps stands);

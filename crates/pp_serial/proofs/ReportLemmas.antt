@@ -3,8 +3,9 @@ use Rattle.std.proofs.Common.{◌≡◌, ℕ, zero, suc, ◌+◌, ◌<◌, ◌�
 use Rattle.std.specs.Prelude.{◌==◌, slice_get, Some, IsTrue, All}
 use Rattle.std.specs.List.{cons_option, flat_map, range_with_len, sum_by}
 use Rattle.std.proofs.lemmas.Bool.{cases_lt}
-use Rattle.std.proofs.lemmas.List.{ext_get_or, get_or_past, length-take-le, take-append-drop, length-map}
-use Rattle.std.proofs.lemmas.List.Elements.{All-cons, All-nil, filter_map-append}
+use Rattle.std.proofs.lemmas.List.{append-nil, ext_get_or, get_or_past, length-take-le, take-append-drop, length-map}
+use Rattle.std.proofs.lemmas.List.Elements.{All-cons, All-head, All-nil, All-tail, filter_map-append}
+use Rattle.std.proofs.lemmas.Option.{slice_get_within}
 use Rattle.std.proofs.lemmas.List.Sums.{sum_by-append, sum_by-cons}
 use Rattle.list_facts.specs.Subsequence.{IsSubsequence}
 use Rattle.list_facts.specs.Subsequences.{stands_through}
@@ -32,6 +33,7 @@ use Rattle.pp_channel.proofs.MergeLemmas.{told_by, times_told-append}
 use Rattle.pp_machine.specs.Headline.{opening_history}
 use Rattle.pp_machine.specs.MachineState.{MachineState, history_of}
 use Rattle.pp_machine.specs.NeedAndEffect.{need, outcome, processor_after}
+use Rattle.pp_machine.specs.PpNo.{processor_number}
 use Rattle.pp_machine.specs.Processor.{Processor}
 use Rattle.pp_machine.specs.Profile.{processors_in}
 use Rattle.pp_machine.specs.ProfilePlaces.{most_processors}
@@ -50,10 +52,10 @@ use Rattle.pp_runner.specs.Report.{IsReportOf}
 use Rattle.pp_runner.specs.WorkerReport.{OfEachAnswer, AllMoved, AllBySize, IsBySize, AreWorkers, IsLoggedWorker, event_in, events_in, logs_of}
 use Rattle.pp_runner.specs.declared.report.Report.{Report}
 use Rattle.pp_runner.specs.declared.worker.Worker.{Worker}
-use Rattle.pp_serial.specs.Serial.{HasNotRun, IsSerialRunOf}
+use Rattle.pp_serial.specs.Serial.{HasNotRun, IsSerialRunOf, answers_along}
 use Rattle.pp_serial.proofs.MachineLemmas.{Past, Stands, AllMove}
 use Rattle.pp_machine.specs.MachineStep.{stepped, step_outcome}
-use Rattle.pp_serial.proofs.ServeLemmas.{answers_left, event_times, tells_event, tells_write, times_left, times_cons, NumberedFrom, Ready, Once, Written, serve}
+use Rattle.pp_serial.proofs.ServeLemmas.{HasNoneLeft, answers_left, event_times, tells_event, tells_write, times_left, times_cons, NumberedFrom, Ready, Once, Written, serve}
 use Rattle.pp_serial.proofs.WorkingLemmas.{Working, Does, all_of}
 
 -- an answer, and those behind it
@@ -211,6 +213,7 @@ pub record AreWorkings {A : Type 0} (size : ℕ) (p : Profile) (others loads : L
   pub counts : (c number : ℕ) → sum_by (times_left (tells_event c number)) ws ≡ sum_by (λ w. times_logged c number w.log.items) ends
   pub writes : (n : ℕ) → sum_by (times_left (tells_write n)) ws ≡ times n (flat_map writes_among accesses)
   pub steps : sum_by answers_left ws ≡ sum_by (λ w. length w.answers.items) ends
+  pub answers : map (λ w. w.answers) ws ≡ map (λ w. w.answers.items) ends
 
 pub record IsOneWorking {A : Type 0} (size : ℕ) (p : Profile) (others : List Processor) (load : Processor) (order : List Access) (end : Worker A) (made : List Access) : Type 0 where
   pub now : Working
@@ -219,7 +222,7 @@ pub record IsOneWorking {A : Type 0} (size : ℕ) (p : Profile) (others : List P
   pub ready : Ready size p others order now
   pub count : (c number : ℕ) → times_left (tells_event c number) now ≡ times_logged c number end.log.items
   pub writes : (n : ℕ) → times_left (tells_write n) now ≡ times n (writes_among made)
-  pub steps : answers_left now ≡ length end.answers.items
+  pub answers : now.answers ≡ end.answers.items
 
 one_working : {A : Type 0} (p : Profile) (others : List Processor) (load : Processor) (size steps : ℕ) (order : List Access) (end : Worker A) (made : List Access) → IsLoggedWorker load size steps end.log.items end
     → HasAccessed load order end made → IsOneWorking size p others load order end made
@@ -234,14 +237,14 @@ one_working p others load size steps order end made is has =
       processor = refl;
       after = refl;
       ready = record { working = does size xs load end.pp made gives is.all_moved is.by_size has.given; stands = stands_through made has.program_order order has.accessed has.in_order };
-      steps = refl;
+      answers = refl;
       count = λ c number. event_times c number made ∙ times_same c number own log has.logged (omega (arith, many));
       writes = λ n. write_times n made;
     }
 
 workings : {A : Type 0} (p : Profile) (others : List Processor) (size steps : ℕ) (order : List Access) (loads : List Processor) (ends : List (Worker A)) (accesses : List (List Access)) → AreWorkers loads size steps ends
     → HaveAccessed loads order ends accesses → AreWorkings size p others loads order ends accesses
-workings p others size steps order [] [] [] all have = record { ws = []; processors = refl; afters = refl; ready = All-nil (Ready size p others order); counts = λ c number. refl; writes = λ n. refl; steps = refl }
+workings p others size steps order [] [] [] all have = record { ws = []; processors = refl; afters = refl; ready = All-nil (Ready size p others order); counts = λ c number. refl; writes = λ n. refl; steps = refl; answers = refl }
 workings p others size steps order [] [] (made ∷ accesses) all have = absurd have
 workings p others size steps order [] (end ∷ ends) accesses all have = absurd all
 workings p others size steps order (load ∷ loads) [] accesses all have = absurd all
@@ -252,8 +255,9 @@ workings {A} p others size steps order (load ∷ loads) (end ∷ ends) (made ∷
       ws = one.now ∷ more.ws;
       processors = λ j. one.processor j ∷ more.processors j;
       afters = λ j. one.after j ∷ more.afters j;
+      answers = λ j. one.answers j ∷ more.answers j;
       ready = All-cons (Ready size p others order) one.now more.ws one.ready more.ready;
-      steps = sum_by-cons answers_left one.now more.ws ∙ ((λ j. one.steps j + more.steps j) ∙ sym (sum_by-cons (λ (w : Worker A). length w.answers.items) end ends));
+      steps = sum_by-cons answers_left one.now more.ws ∙ ((λ j. length (one.answers j) + more.steps j) ∙ sym (sum_by-cons (λ (w : Worker A). length w.answers.items) end ends));
       counts = λ c number. sum_by-cons (times_left (tells_event c number)) one.now more.ws ∙ ((λ j. one.count c number j + more.counts c number j) ∙ sym (sum_by-cons (λ (w : Worker A). times_logged c number w.log.items) end ends));
       writes = λ n. sum_by-cons (times_left (tells_write n)) one.now more.ws ∙ ((λ j. one.writes n j + more.writes n j) ∙ sym (times_more n (writes_among made) (flat_map writes_among accesses)));
     }
@@ -283,6 +287,17 @@ moved_at m [] all i n at = absurd cc
 moved_at m (k ∷ ns) all zero n at = let same : k ≡ n = cc in subst (λ (j : ℕ). step_outcome j m ≡ Moved) same all.0
 moved_at m (k ∷ ns) all (suc i) n at = moved_at (stepped k m) ns all.1 i n at
 
+-- the answers that a worker of a report got, and those of a worker with none left
+got_at : {A : Type 0} (ends : List (Worker A)) (place : ℕ) (w : Worker A) → slice_get ends place ≡ Some w → get_or (map (λ (w : Worker A). w.answers.items) ends) place [] ≡ w.answers.items
+got_at [] place w at = absurd cc
+got_at {A} (end ∷ ends) zero w at = let same : end ≡ w = cc in ap (λ (w : Worker A). w.answers.items) same
+got_at (end ∷ ends) (suc place) w at = got_at ends place w at
+
+none_at : (ws : List Working) → All HasNoneLeft ws → (place : ℕ) → get_or (map (λ (w : Working). w.answers) ws) place [] ≡ []
+none_at [] none place = refl
+none_at (w ∷ ws) none zero = All-head HasNoneLeft w ws none
+none_at (w ∷ ws) none (suc place) = none_at ws (All-tail HasNoneLeft w ws none) place
+
 same_histories : (hs gs : List (List Event)) → length hs ≡ channel_count → length gs ≡ channel_count → ((c : ℕ) → history_on c hs ≡ history_on c gs) → hs ≡ gs
 same_histories hs gs many each same = ext_get_or [] hs gs (many ∙ sym each) (λ k inside.
     let at : channel_index (channel_number k) ≡ k = place_of_number k (omega (arith, inside, many)) in
@@ -310,7 +325,7 @@ report_leaves limits m report new said =
     let once : Once size p others history lawful named w.ws opening = λ c number later inside. w.counts c number ∙ (sym (times_parts c number ends) ∙ said.merged.once c number later inside) in
     let written : Written size p others history lawful named w.ws 0 said.order = λ k least. w.writes k ∙ (said.made.each k ∙ sym (write_times k said.order)) in
     let finished = serve size p others history lawful named said.order w.ws begun 0 (omega (arith, count)) w.ready said.total.legal said.total.each_history once said.finds (numbered_from 0 said.order said.made.numbered) written in
-    let start : Stands size m (all_of others w.ws) begun = record {
+    let start : Stands size m (all_of others w.ws).pps begun = record {
       processors = sym (take-append-drop n m.processors) ∙ ap (λ pps. pps ++ others) (sym w.processors);
       channels = new.channels;
       histories = λ c. started c m report.channels new said.each_channel (said.merged.begins c);
@@ -323,6 +338,12 @@ report_leaves limits m report new said =
         named = led.1.named;
         steps = led.1.count ∙ w.steps;
         moved = moved_at m led.0 led.1.moved;
+        answers = λ place end at.
+            let got = answers_along (processor_number place) led.0 m in
+            sym (append-nil got)
+            ∙ (ap (λ l. got ++ l) (sym (none_at finished.now finished.none place))
+            ∙ (led.1.answers place (let inside = slice_get_within ends place end at in omega (arith, inside, said.each_processor))
+            ∙ (ap (λ ls. get_or ls place []) w.answers ∙ got_at ends place end at)));
         leads = record {
           processors = led.1.stands.processors ∙ ap (λ pps. pps ++ others) (finished.processors ∙ w.afters);
           histories = same_histories (run led.0 m).histories report.channels led.1.stands.channels said.each_channel led.1.stands.histories;

@@ -137,6 +137,10 @@ push_front front ws w = append_assoc front (w ∷ []) ws
 abbrev pub answers_left : Working → ℕ
 answers_left w = length w.answers
 
+-- a worker with no answers left
+abbrev pub HasNoneLeft : Working → Type 0
+HasNoneLeft w = w.answers ≡ []
+
 abbrev after_of : Working → Processor
 after_of w = w.after
 
@@ -281,6 +285,7 @@ module _ (size : ℕ) (p : Profile) (others : List Processor) where
   pub record Ended (was : List Working) (before : List Working) (steps : ℕ) (past : Past) : Type 0 where
     pub now : List Working
     pub processors : map (λ w. w.pp) now ≡ map (λ w. w.after) was
+    pub none : All HasNoneLeft now
     pub leads : Leads size p steps (all_of others before) past (all_of others now) past
 
   none_stand : (xs : List Access) → IsSubsequence xs [] → xs ≡ []
@@ -290,20 +295,22 @@ module _ (size : ℕ) (p : Profile) (others : List Processor) where
   abbrev pp_of : Working → Processor
   pp_of w = w.pp
 
-  end_each : (was front ws : List Working) (past : Past) → map pp_of front ≡ map after_of was → length (front ++ ws) ≤ processors_in p → All (Ready []) ws → Ended (was ++ ws) (front ++ ws) (sum_by answers_left ws) past
-  end_each was front [] past same few left = record {
+  end_each : (was front ws : List Working) (past : Past) → map pp_of front ≡ map after_of was → All HasNoneLeft front → length (front ++ ws) ≤ processors_in p → All (Ready []) ws → Ended (was ++ ws) (front ++ ws) (sum_by answers_left ws) past
+  end_each was front [] past same none few left = record {
     now = front;
+    none = none;
     processors = same ∙ ap (map after_of) (sym (append-nil was));
     leads = subst (λ (us : List Working). Leads size p 0 (all_of others us) past (all_of others front) past) (sym (append-nil front)) (leads_none size p (all_of others front) past past (λ c. refl) refl);
   }
-  end_each was front (w ∷ ws) past same few left =
+  end_each was front (w ∷ ws) past same none few left =
       let here = All-head (Ready []) w ws left in
       let done = rest_done size p others (length front) (front_inside front ws w few) w.answers w.pp w.accesses w.after (front ++ w ∷ ws) past (get_at front ws w) here.working (none_stand w.accesses here.stands) in
       let leads = subst (λ (us : List Working). Leads size p (length w.answers) (all_of others (front ++ w ∷ ws)) past (all_of others us) past) (set-append_seam front w ws done.now) done.leads in
       let pushed : map pp_of (front ++ done.now ∷ []) ≡ map after_of (was ++ w ∷ []) = map-append pp_of front (done.now ∷ []) ∙ ((λ j. same j ++ done.done j ∷ []) ∙ sym (map-append after_of was (w ∷ []))) in
-      let more = end_each (was ++ w ∷ []) (front ++ done.now ∷ []) ws past pushed (few_pushed front ws w done.now few) (All-tail (Ready []) w ws left) in record {
+      let more = end_each (was ++ w ∷ []) (front ++ done.now ∷ []) ws past pushed (All-push HasNoneLeft front done.now none done.none) (few_pushed front ws w done.now few) (All-tail (Ready []) w ws left) in record {
         now = more.now;
         processors = more.processors ∙ ap (map after_of) (push_front was ws w);
+        none = more.none;
         leads = leads_by size p (all_of others (front ++ w ∷ ws)) (all_of others more.now) past past (length w.answers + sum_by answers_left ws) (sum_by answers_left (w ∷ ws)) (sym (sum_by-cons answers_left w ws))
             (leads_on size p (length w.answers) (sum_by answers_left ws) (all_of others (front ++ w ∷ ws)) (all_of others (front ++ done.now ∷ ws)) (all_of others more.now) past past past leads
             (subst (λ (us : List Working). Leads size p (sum_by answers_left ws) (all_of others us) past (all_of others more.now) past) (push_front front ws done.now) more.leads));
@@ -313,12 +320,14 @@ module _ (size : ℕ) (p : Profile) (others : List Processor) where
   pub record Finished (ws : List Working) (past end : Past) : Type 0 where
     pub now : List Working
     pub processors : map (λ w. w.pp) now ≡ map (λ w. w.after) ws
+    pub none : All HasNoneLeft now
     pub leads : Leads size p (sum_by answers_left ws) (all_of others ws) past (all_of others now) end
 
   go_on : (access : Access) (os : List Access) (ws : List Working) (past later end : Past) → (served : Served ws past later access os) → Finished served.now later end → Finished ws past end
   go_on access os ws past later end served rest = record {
     now = rest.now;
     processors = rest.processors ∙ served.afters;
+    none = rest.none;
     leads = leads_by size p (all_of others ws) (all_of others rest.now) past end (served.steps + sum_by answers_left served.now) (sum_by answers_left ws) served.left
         (leads_on size p served.steps (sum_by answers_left served.now) (all_of others ws) (all_of others served.now) (all_of others rest.now) past later end served.leads rest.leads);
   }
@@ -440,9 +449,10 @@ module _ (size : ℕ) (p : Profile) (others : List Processor) where
         → ((c : ℕ) → past.happened c ++ made_on c (entries_among os) ≡ history c) → Once ws past.happened → FindsWords past.words os → NumberedFrom k os → Written ws k os → Finished ws past (at_end past.words os)
     serve [] ws past k few ready places ends once finds numbered written =
         let end = at_end past.words [] in
-        let ended = end_each [] [] ws past refl few ready in record {
+        let ended = end_each [] [] ws past refl (All-nil HasNoneLeft) few ready in record {
           now = ended.now;
           processors = ended.processors;
+          none = ended.none;
           leads = leads_by size p (all_of others ws) (all_of others ended.now) past end (sum_by answers_left ws + 0) (sum_by answers_left ws) (omega arith)
               (leads_on size p (sum_by answers_left ws) 0 (all_of others ws) (all_of others ended.now) (all_of others ended.now) past past end ended.leads
               (leads_none size p (all_of others ended.now) past end (λ c. sym (append-nil (past.happened c)) ∙ ends c) refl));

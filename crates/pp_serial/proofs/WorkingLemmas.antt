@@ -1,6 +1,7 @@
 -- Workers with answers left, each of which goes on to its next entry or to its end.
-use Rattle.std.proofs.Common.{◌≡◌, ℕ, zero, suc, ◌+◌, ◌<◌, List, [], ◌∷◌, ◌++◌, length, get_or, set, map, Some, refl, sym, ap, ◌∙◌, subst, inl, inr, arith}
+use Rattle.std.proofs.Common.{cond, eqb, ◌≡◌, ℕ, zero, suc, ◌+◌, ◌<◌, List, [], ◌∷◌, ◌++◌, length, get_or, set, map, Some, refl, sym, ap, ◌∙◌, subst, inl, inr, arith}
 use Rattle.std.specs.Prelude.{slice_get}
+use Rattle.std.proofs.Math.Dec.{eqb-suc-suc, eqb-suc-zero, eqb-zero-suc}
 use Rattle.std.proofs.lemmas.List.{set-set}
 use Rattle.std.proofs.lemmas.Option.{slice_get_within}
 use Rattle.pp_channel.specs.declared.access.Access.{Access}
@@ -12,7 +13,7 @@ use Rattle.pp_machine.specs.declared.answer.Answer.{Answer}
 use Rattle.pp_machine.specs.declared.profile.Profile.{Profile}
 use Rattle.pp_runner.specs.Accesses.{accesses_by}
 use Rattle.pp_serial.proofs.AnswerLemmas.{GoesOn, kind_of}
-use Rattle.pp_serial.proofs.MachineLemmas.{Past, Leads, Serves, leads_none, leads_by, leads_on, leads_step}
+use Rattle.pp_serial.proofs.MachineLemmas.{Group, Past, Leads, Serves, leads_none, leads_by, leads_on, leads_step}
 
 -- a worker at some moment: its processor, the answers and the accesses that it has left, and the processor that these leave
 pub record Working : Type 0 where
@@ -29,22 +30,31 @@ Does size pp (x ∷ xs) accesses after =
 abbrev pub IsWorking : ℕ → Working → Type 0
 IsWorking size w = Does size w.pp w.answers w.accesses w.after
 
--- the processors of workers, and others behind them
-abbrev pub all_of : List Processor → List Working → List Processor
-all_of others ws = map (λ w. w.pp) ws ++ others
+-- the processors of workers with the answers that they have left, and others after them
+abbrev pub all_of : List Processor → List Working → Group
+all_of others ws = record { pps = map (λ w. w.pp) ws ++ others; left = map (λ w. w.answers) ws }
 
 some_is : {X : Type 0} (x y : X) → Some x ≡ Some y → x ≡ y
 some_is x y is = cc
 
-pub at_worker : (others : List Processor) (ws : List Working) (i : ℕ) (w : Working) → slice_get ws i ≡ Some w → get_or (all_of others ws) i no_processor ≡ w.pp
+pub at_worker : (others : List Processor) (ws : List Working) (i : ℕ) (w : Working) → slice_get ws i ≡ Some w → get_or (all_of others ws).pps i no_processor ≡ w.pp
 at_worker others [] i w at = absurd cc
 at_worker others (v ∷ ws) zero w at = ap (λ (u : Working). u.pp) (some_is v w at)
 at_worker others (v ∷ ws) (suc i) w at = at_worker others ws i w at
 
-pub set_worker : (others : List Processor) (ws : List Working) (i : ℕ) (w : Working) → i < length ws → set (all_of others ws) i w.pp ≡ all_of others (set ws i w)
+pub set_worker : (others : List Processor) (ws : List Working) (i : ℕ) (w : Working) → i < length ws → set (all_of others ws).pps i w.pp ≡ (all_of others (set ws i w)).pps
 set_worker others [] i w inside = absurd (omega (arith, inside))
 set_worker others (v ∷ ws) zero w inside = refl
 set_worker others (v ∷ ws) (suc i) w inside = ap (λ pps. v.pp ∷ pps) (set_worker others ws i w (omega (arith, inside)))
+
+-- a worker that has got an answer has one less left, and the others as many
+got_one : (ws : List Working) (i place : ℕ) (x : Answer) (v w : Working) → slice_get ws i ≡ Some v → v.answers ≡ x ∷ w.answers
+    → cond (eqb place i) (x ∷ []) [] ++ get_or (map (λ (u : Working). u.answers) (set ws i w)) place [] ≡ get_or (map (λ (u : Working). u.answers) ws) place []
+got_one [] i place x v w at is = absurd cc
+got_one (u ∷ ws) zero zero x v w at is = sym (ap (λ (u : Working). u.answers) (some_is u v at) ∙ is)
+got_one (u ∷ ws) zero (suc place) x v w at is = rw (eqb-suc-zero place) refl
+got_one (u ∷ ws) (suc i) zero x v w at is = rw (eqb-zero-suc i) refl
+got_one (u ∷ ws) (suc i) (suc place) x v w at is = rw (eqb-suc-suc place i) (got_one ws i place x v w at is)
 
 pub set_get : (ws : List Working) (i : ℕ) (v w : Working) → slice_get ws i ≡ Some v → slice_get (set ws i w) i ≡ Some w
 set_get [] i v w at = absurd cc
@@ -62,13 +72,13 @@ ServesAccess size access past later = (pp : Processor) (x : Answer) (number : �
 
 module _ (size : ℕ) (p : Profile) (others : List Processor) (i : ℕ) (inside : i < processors_in p) where
   -- one answer of the worker at place i
-  one_answer : (ws : List Working) (pp : Processor) (x : Answer) (v w : Working) (past later : Past) → slice_get ws i ≡ Some v → v.pp ≡ pp → w.pp ≡ processor_after pp x
+  one_answer : (ws : List Working) (pp : Processor) (x : Answer) (v w : Working) (past later : Past) → slice_get ws i ≡ Some v → v.pp ≡ pp → w.pp ≡ processor_after pp x → v.answers ≡ x ∷ w.answers
       → outcome pp x ≡ Moved → Serves size (need pp) x past later → Leads size p 1 (all_of others ws) past (all_of others (set ws i w)) later
-  one_answer ws pp x v w past later at is next moved serves =
-      let here : get_or (all_of others ws) i no_processor ≡ pp = at_worker others ws i v at ∙ is in
-      let step = leads_step size p (all_of others ws) i x past later inside (subst (λ (q : Processor). outcome q x ≡ Moved) (sym here) moved) (subst (λ (q : Processor). Serves size (need q) x past later) (sym here) serves) in
-      subst (λ (pps : List Processor). Leads size p 1 (all_of others ws) past pps later)
-      (ap (λ q. set (all_of others ws) i q) (ap (λ q. processor_after q x) here ∙ sym next) ∙ set_worker others ws i w (slice_get_within ws i v at)) step
+  one_answer ws pp x v w past later at is next got moved serves =
+      let here : get_or (all_of others ws).pps i no_processor ≡ pp = at_worker others ws i v at ∙ is in
+      leads_step size p (all_of others ws) (all_of others (set ws i w)) i x past later inside (subst (λ (q : Processor). outcome q x ≡ Moved) (sym here) moved) (subst (λ (q : Processor). Serves size (need q) x past later) (sym here) serves)
+      (sym (ap (λ q. set (all_of others ws).pps i q) (ap (λ q. processor_after q x) here ∙ sym next) ∙ set_worker others ws i w (slice_get_within ws i v at)))
+      (λ place. got_one ws i place x v w at got)
 
   -- the worker has made all its steps up to the one of its next entry
   pub record HasNext (ws : List Working) (many : ℕ) (after : Processor) (rest : List Access) (past later : Past) : Type 0 where
@@ -94,7 +104,7 @@ module _ (size : ℕ) (p : Profile) (others : List Processor) (i : ℕ) (inside 
         | inl local ↦
             let same : left ≡ access ∷ rest = sym (are ∙ ap (λ f. f ++ left) (local.given does.1.0)) ∙ is in
             let serves_it = local.serves past in
-            let step = one_answer ws pp x v w past past at refl refl does.0.moved serves_it in
+            let step = one_answer ws pp x v w past past at refl refl refl does.0.moved serves_it in
             let more = next xs (processor_after pp x) left after (set ws i w) access rest past later (set_get ws i v w at) does.1.3 same serves in record {
               now = more.now;
               working = more.working;
@@ -115,7 +125,7 @@ module _ (size : ℕ) (p : Profile) (others : List Processor) (i : ℕ) (inside 
               after_is = refl;
               steps = 1;
               left = omega arith;
-              leads = one_answer ws pp x v w past later at refl refl does.0.moved (serves pp x does.1.0 goes (of.given does.1.0 ∙ ap (λ a. a ∷ []) head));
+              leads = one_answer ws pp x v w past later at refl refl refl does.0.moved (serves pp x does.1.0 goes (of.given does.1.0 ∙ ap (λ a. a ∷ []) head));
             }
       ]
 
@@ -123,6 +133,7 @@ module _ (size : ℕ) (p : Profile) (others : List Processor) (i : ℕ) (inside 
   pub record HasDone (ws : List Working) (many : ℕ) (after : Processor) (past : Past) : Type 0 where
     pub now : Working
     pub done : now.pp ≡ after
+    pub none : now.answers ≡ []
     pub leads : Leads size p many (all_of others ws) past (all_of others (set ws i now)) past
 
   pub rest_done : (xs : List Answer) (pp : Processor) (accesses : List Access) (after : Processor) (ws : List Working) (past : Past)
@@ -131,6 +142,7 @@ module _ (size : ℕ) (p : Profile) (others : List Processor) (i : ℕ) (inside 
       let v : Working = record { pp = pp; answers = []; accesses = accesses; after = after } in record {
         now = v;
         done = does.1;
+        none = refl;
         leads = subst (λ (us : List Working). Leads size p 0 (all_of others ws) past (all_of others us) past) (sym (set_same ws i v at)) (leads_none size p (all_of others ws) past past (λ c. refl) refl);
       }
   rest_done (x ∷ xs) pp accesses after ws past at does is =
@@ -142,10 +154,11 @@ module _ (size : ℕ) (p : Profile) (others : List Processor) (i : ℕ) (inside 
         | inl local ↦
             let same : left ≡ [] = sym (are ∙ ap (λ f. f ++ left) (local.given does.1.0)) ∙ is in
             let serves_it = local.serves past in
-            let step = one_answer ws pp x v w past past at refl refl does.0.moved serves_it in
+            let step = one_answer ws pp x v w past past at refl refl refl does.0.moved serves_it in
             let more = rest_done xs (processor_after pp x) left after (set ws i w) past (set_get ws i v w at) does.1.3 same in record {
               now = more.now;
               done = more.done;
+              none = more.none;
               leads = subst (λ (us : List Working). Leads size p (length (x ∷ xs)) (all_of others ws) past (all_of others us) past) (set-set ws i w more.now)
                   (leads_by size p (all_of others ws) (all_of others (set (set ws i w) i more.now)) past past (1 + length xs) (length (x ∷ xs)) (omega arith)
                   (leads_on size p 1 (length xs) (all_of others ws) (all_of others (set ws i w)) (all_of others (set (set ws i w) i more.now)) past past past step more.leads));

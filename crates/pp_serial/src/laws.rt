@@ -19,8 +19,9 @@ use std::alloc::Allocator;
 
 /// What threads did, some list of steps does, one after another: there are steps that lead the
 /// machine to the very processors and the very histories of the report, and to the words of central
-/// memory that its accesses leave in their order. So what is proved of what lists of steps leave
-/// holds of what threads leave. Whose each event is, it does not say.
+/// memory that its accesses leave in their order. The steps of each thread's processor get the very
+/// answers that the thread got, words of central memory among them. So what is proved of what lists
+/// of steps leave holds of what threads leave. Whose each event is, it does not say.
 pub fn serial_law<A: Allocator>()
     ensures { (limits : RunLimits) (m : MachineState) (report : Report A)
         → HasNotRun m → (is : IsReportOf limits m report)
