@@ -26,7 +26,7 @@ enum {
 };
 
 /* At PPSIM_REFUSED and PPSIM_NO_MEMORY out begins with the words for the fault, as far as there is
-   room: they have `length` bytes. */
+   room: `length` is how many bytes of them stand there. */
 typedef struct {
     uint32_t status;
     uint64_t line; /* from 1 on; 0 where the fault is no line's */

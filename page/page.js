@@ -204,7 +204,7 @@ function renew() {
 function load(example, { deck, processors, turns }, at = turns) {
   $('example').value = example;
   $('deck').value = deck;
-  $('processors').value = processors;
+  $('processors').value = String(processors) === '20' ? 20 : 10;
   $('last').value = $('turn').max = Math.min(LAST_TURN, Math.max(0, parseInt(turns) || 0));
   $('turn').value = at;
   renew();
@@ -212,11 +212,6 @@ function load(example, { deck, processors, turns }, at = turns) {
 
 async function openFile(file) {
   if (file) load('', { ...deckShown(), deck: await file.slice(0, MOST_BYTES).text() });
-}
-
-function drop(e) {
-  e.preventDefault();
-  openFile(e.dataTransfer.files[0]);
 }
 
 function saveFile() {
@@ -240,21 +235,22 @@ function play() {
   $('play').ariaLabel = timer ? 'Pause' : 'Play';
 }
 
-/** The address keeps the example, or else the deck itself, and the turn and the view. */
+/** The address keeps the example, or else the deck itself, and the run, the turn and the view. */
 function remember() {
-  const example = $('example').value, own = deckShown();
-  const isExample = Object.entries(own).every(([key, value]) => EXAMPLES[example]?.[key] === value);
-  if (!isExample && own.deck.length > MOST_IN_ADDRESS) return;
-  const words = { ...isExample ? { example } : own, turn: turn(), view: view() };
-  history.replaceState(null, '', `#${new URLSearchParams(words)}`);
+  const { deck, ...run } = deckShown(), example = $('example').value;
+  const whose = EXAMPLES[example]?.deck === deck ? { example } : { deck };
+  if (whose.deck?.length > MOST_IN_ADDRESS) return;
+  const words = new URLSearchParams({ ...whose, ...run, turn: turn(), view: view() });
+  history.replaceState(null, '', `#${words}`);
 }
 
 function recall() {
   const kept = Object.fromEntries(new URLSearchParams(location.hash.slice(1)));
   const example = Object.hasOwn(EXAMPLES, kept.example) ? kept.example : 'handoff';
+  const isOwn = kept.deck !== undefined;
+  const own = isOwn ? { processors: 10, turns: 200 } : EXAMPLES[example];
   $('views').elements.view.value = Object.hasOwn(VIEWS, kept.view) ? kept.view : 'State';
-  if (kept.deck === undefined) load(example, EXAMPLES[example], kept.turn);
-  else load('', { ...kept, processors: kept.processors === '20' ? 20 : 10 }, kept.turn);
+  load(isOwn ? '' : example, { ...own, ...kept }, kept.turn);
 }
 
 function press(e) {
@@ -275,7 +271,7 @@ function drag(e) {
 }
 
 async function begin() {
-  library = await WebAssembly.compile(Uint8Array.from(atob(MODULE), c => c.charCodeAt(0)));
+  library = await WebAssembly.compile(Uint8Array.fromBase64(MODULE));
   $('picture').attachShadow({ mode: 'open' });
   $('example').append(...Object.keys(EXAMPLES).map(name => make('option', { textContent: name })));
   recall();
@@ -294,7 +290,11 @@ async function begin() {
   }
   $('drawing').onscroll = keepNames;
   $('drawing').onpointerdown = $('drawing').onpointermove = drag;
-  Object.assign(window, { onkeydown: press, onhashchange: recall, ondragover: drop, ondrop: drop });
+  Object.assign(window, { onkeydown: press, onhashchange: recall });
+  window.ondragover = window.ondrop = e => {
+    e.preventDefault();
+    openFile(e.dataTransfer.files[0]);
+  };
 }
 
-begin().catch(e => { $('text').textContent = `This page needs 64-bit WebAssembly: ${e}`; });
+begin().catch(e => { $('text').textContent = `This page needs a browser of late 2025: ${e}`; });
