@@ -87,9 +87,6 @@ fn long_pair_by_threads(rt: HostRuntime) -> Result<(), Fail> {
         assert_eq!(rt; lines.next(), Some(line));
     }
     assert_eq!(rt; lines.next(), None);
-    assert!(rt;
-        heap.asked() > 40,
-        "lines, logs, answers and text grow"
-    );
+    assert!(rt; heap.asked() > 40, "lines, logs, answers and text grow");
     Ok(())
 }
