@@ -6,7 +6,7 @@ use Rattle.std.proofs.lemmas.Bool.{le-ltb}
 use Rattle.std.proofs.lemmas.List.{append-nil}
 use Rattle.std.proofs.lemmas.List.Elements.{All-cons, All-head, All-nil, All-tail}
 use Rattle.list_facts.specs.Subsequence.{IsSubsequence}
-use Rattle.list_facts.specs.Subsequences.{stands_after, stands_passed}
+use Rattle.list_facts.specs.Subsequences.{stands_after, stands_passed, stands_through}
 use Rattle.pp_channel.proofs.OrderLemmas.{is_later, stands_later_in}
 use Rattle.pp_channel.specs.History.{history_on}
 use Rattle.pp_channel.specs.Law.{IsPrefix}
@@ -21,23 +21,25 @@ use Rattle.pp_runner.specs.Accesses.{HasAccessed}
 use Rattle.pp_runner.specs.Labour.{HasMade, NoneOlder}
 use Rattle.pp_runner.specs.declared.worker.Worker.{Worker}
 
-module _ {X : Type 0} where
-  -- what passes a test stands in what passes it of more
-  stands_filter : (p : X → Bool) (xs ys : List X) → IsSubsequence xs ys → IsSubsequence (filter p xs) (filter p ys)
-  stands_filter p [] ys h = tt
-  stands_filter p (x ∷ xs) [] h = absurd h
-  stands_filter p (x ∷ xs) (y ∷ ys) (inl same) =
-      subst (λ (z : X). IsSubsequence (filter p (x ∷ xs)) (filter p (z ∷ ys))) same.0 (both (p x) x (filter p xs) (filter p ys) (stands_filter p xs ys same.1))
-    where
-      both : (b : Bool) (x : X) (us vs : List X) → IsSubsequence us vs → IsSubsequence (cond b (x ∷ us) us) (cond b (x ∷ vs) vs)
-      both true x us vs h = inl (refl, h)
-      both false x us vs h = h
-  stands_filter p (x ∷ xs) (y ∷ ys) (inr rest) = behind (p y) y (filter p (x ∷ xs)) (filter p ys) (stands_filter p (x ∷ xs) ys rest)
-    where
-      behind : (b : Bool) (y : X) (us vs : List X) → IsSubsequence us vs → IsSubsequence us (cond b (y ∷ vs) vs)
-      behind true y us vs h = stands_after us y vs h
-      behind false y us vs h = h
+-- the entries of what stands in a list stand among those of the list
+entries_stand : (xs ys : List Access) → IsSubsequence xs ys → IsSubsequence (entries_among xs) (entries_among ys)
+entries_stand [] ys h = tt
+entries_stand (x ∷ xs) [] h = absurd h
+entries_stand (x ∷ xs) (y ∷ ys) (inl same) =
+    subst (λ (z : Access). IsSubsequence (entries_among (x ∷ xs)) (entries_among (z ∷ ys))) same.0 (both x xs ys (entries_stand xs ys same.1))
+  where
+    both : (x : Access) (xs ys : List Access) → IsSubsequence (entries_among xs) (entries_among ys) → IsSubsequence (entries_among (x ∷ xs)) (entries_among (x ∷ ys))
+    both (OnChannel entry) xs ys h = inl (refl, h)
+    both (Read address word) xs ys h = h
+    both (Write address word number) xs ys h = h
+entries_stand (x ∷ xs) (y ∷ ys) (inr rest) = behind y ys (entries_among (x ∷ xs)) (entries_stand (x ∷ xs) ys rest)
+  where
+    behind : (y : Access) (ys : List Access) (es : List Entry) → IsSubsequence es (entries_among ys) → IsSubsequence es (entries_among (y ∷ ys))
+    behind (OnChannel entry) ys es h = stands_after es entry (entries_among ys) h
+    behind (Read address word) ys es h = h
+    behind (Write address word number) ys es h = h
 
+module _ {X : Type 0} where
   -- what holds of each item holds of each that stands among them
   all_standing : (P : X → Type 0) (xs ys : List X) → All P ys → IsSubsequence xs ys → All P xs
   all_standing P [] ys all h = All-nil P
@@ -110,13 +112,13 @@ module _ (opening : ℕ → List Event) (histories : List (List Event)) (begins 
       → ExtendsEach order l.view.program_orders → IsDrawnFrom l.view.program_orders l.log.entries → log.items ≡ l.log.entries → HasAccessed load (filter is_late order) (record w { log = log }) made.accesses
   late_accessed load order w log l made none extends drawn same =
       let t = made.program_order in
+      let within : IsSubsequence t order = All-head (λ (x : List Access). IsSubsequence x order) t [] (subst (ExtendsEach order) made.only extends) in
       let all : All NotOlder (entries_among made.accesses) = all_standing NotOlder (entries_among made.accesses) l.log.entries none made.logged in
       let from : IsSubsequence l.log.entries (entries_among t) = subst (IsSubsequence l.log.entries) (append-nil (entries_among t)) (subst (λ ts. IsDrawnFrom ts l.log.entries) made.only drawn) in
-      let later : IsSubsequence l.log.entries (entries_among (filter is_late t)) = subst (IsSubsequence l.log.entries) (sym (late_entries t)) (stands_later_in opening histories l.log.entries (entries_among t) begins none from) in record {
+      let through : IsSubsequence l.log.entries (entries_among order) = stands_through l.log.entries (entries_among t) (entries_among order) from (entries_stand t order within) in
+      let later : IsSubsequence l.log.entries (entries_among (filter is_late order)) = subst (IsSubsequence l.log.entries) (sym (late_entries order)) (stands_later_in opening histories l.log.entries (entries_among order) begins none through) in record {
         given = made.given;
-        program_order = filter is_late t;
-        in_order = stands_filter is_late t order (All-head (λ (x : List Access). IsSubsequence x order) t [] (subst (ExtendsEach order) made.only extends));
-        accessed = stands_passed is_late made.accesses t (all_late made.accesses all) made.accessed;
-        drawn = subst (λ (es : List Entry). IsSubsequence es (entries_among (filter is_late t))) (sym same) later;
+        in_order = stands_passed is_late made.accesses order (all_late made.accesses all) (stands_through made.accesses t order made.accessed within);
+        drawn = subst (λ (es : List Entry). IsSubsequence es (entries_among (filter is_late order))) (sym same) later;
         logged = subst (IsSubsequence (entries_among made.accesses)) (sym same) made.logged;
       }

@@ -29,16 +29,14 @@ AreAccessesOf pp (answer ∷ answers) accesses =
     × (accesses ≡ accesses_by number (need pp) answer ++ rest)
     × AreAccessesOf (processor_after pp answer) answers rest
 
--- A worker that began with this processor made these accesses by its answers. They stand in its
--- program order, in which there may be more looks and reads, and which is a subsequence of the
--- order of all accesses. Its log is drawn from its program order, and has its accesses to channels.
+-- A worker that began with this processor made these accesses by its answers. They stand in the order
+-- of all accesses, one after another. Its log has the entries of its accesses to channels, and those
+-- of more looks; it stands in that order too.
 pub record HasAccessed {A : Type 0} (load : Processor) (order : List Access) (w : Worker A)
     (accesses : List Access) : Type 0 where
   pub given : AreAccessesOf load w.answers.items accesses
-  pub program_order : List Access
-  pub in_order : IsSubsequence program_order order
-  pub accessed : IsSubsequence accesses program_order
-  pub drawn : IsSubsequence w.log.items (entries_among program_order)
+  pub in_order : IsSubsequence accesses order
+  pub drawn : IsSubsequence w.log.items (entries_among order)
   pub logged : IsSubsequence (entries_among accesses) w.log.items
 
 -- for each of these processors a worker, with its accesses, in their order

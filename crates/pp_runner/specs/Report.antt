@@ -27,8 +27,8 @@ use Rattle.pp_runner.specs.declared.report.Report.{Report}
 -- worn only at a channel whose history has as many events as its word can count. There is one
 -- total order of all accesses to channels and to central memory, after what dead start opened: each
 -- read in it finds the word that was written last, or the machine's, and each write in it is one
--- that one worker's answers made; each worker's program order is a subsequence of it. No report
--- shows how often a worker was held, so the patience is not stated.
+-- that one worker's answers made; the accesses of each worker stand in it in their order, and so does
+-- its log. No report shows how often a worker was held, so the patience is not stated.
 pub record IsReportOf {A : Type 0} (limits : RunLimits) (machine : MachineState) (report : Report A)
     : Type 0 where
   pub each_processor : length report.ends.items ≡ processors_in machine.profile

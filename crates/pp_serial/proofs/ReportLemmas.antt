@@ -8,7 +8,6 @@ use Rattle.std.proofs.lemmas.List.Elements.{All-cons, All-head, All-nil, All-tai
 use Rattle.std.proofs.lemmas.Option.{slice_get_within}
 use Rattle.std.proofs.lemmas.List.Sums.{sum_by-append, sum_by-cons}
 use Rattle.list_facts.specs.Subsequence.{IsSubsequence}
-use Rattle.list_facts.specs.Subsequences.{stands_through}
 use Rattle.pp_channel.specs.Answer.{event_answered}
 use Rattle.pp_channel.specs.ChannelNo.{channel_count, channel_index, channel_number, names_channel}
 use Rattle.pp_channel.specs.ChannelPlaces.{named_below, place_of_number}
@@ -236,7 +235,7 @@ one_working p others load size steps order end made is has =
       now = record { pp = load; answers = xs; accesses = made; after = end.pp };
       processor = refl;
       after = refl;
-      ready = record { working = does size xs load end.pp made gives is.all_moved is.by_size has.given; stands = stands_through made has.program_order order has.accessed has.in_order };
+      ready = record { working = does size xs load end.pp made gives is.all_moved is.by_size has.given; stands = has.in_order };
       answers = refl;
       count = λ c number. event_times c number made ∙ times_same c number own log has.logged (omega (arith, many));
       writes = λ n. write_times n made;

@@ -15,7 +15,7 @@ use clap::{Arg, ArgAction, Command};
 use std::alloc::{AllocError, Global};
 
 /// The version of the program, and the toolchain with which it is proved and built.
-const VERSION: &str = "1.0 (rattle-kit-13f logic dac8208d650f15bf)";
+const VERSION: &str = "1.0 (rattle-kit-13b logic dac8208d650f15bf)";
 
 /// A required option whose value is a number.
 fn number_option<'a>(alloc: Global, id: &'a str, help: &'a str) -> Arg<'a>
