@@ -1,14 +1,14 @@
 -- What the state of a lawful history says of it, and for which events it stays lawful.
-use Rattle.std.proofs.Common.{◌≡◌, ℕ, ◌+◌, ◌==◌, Bool, true, false, List, [], ◌∷◌, ◌++◌, length, Option, Some, None, refl, sym, ap, ◌∙◌, subst, arith}
-use Rattle.std.specs.Prelude.{if◌then◌else◌, is_some, unwrap_or}
-use Rattle.std.specs.List.{filter_map, last_or, cons_option}
+use Rattle.std.proofs.Common.{◌≡◌, ℕ, ◌+◌, ◌^◌, ◌<◌, ◌==◌, Bool, true, false, List, [], ◌∷◌, ◌++◌, length, Option, Some, None, refl, sym, ap, ◌∙◌, subst, arith}
+use Rattle.std.specs.Prelude.{if◌then◌else◌, is_some, unwrap_or, All}
+use Rattle.std.specs.List.{AllByRecursion, filter_map, last_or, cons_option}
 use Rattle.std.proofs.lemmas.List.{append-nil, length_push}
-use Rattle.std.proofs.lemmas.List.Elements.{filter_map-append}
+use Rattle.std.proofs.lemmas.List.Elements.{All-nil, All-cons, All-head, All-tail, All-drop, filter_map-append, recursion_from_All}
 use Rattle.std.proofs.lemmas.Bool.{eq-eqb, ne_eqb, eqb-true}
 use Rattle.pp_channel.specs.declared.event.Event.{Event}
 use Rattle.pp_channel.specs.declared.event.Event.TheVariants.{Activate, Disconnect, Put, Take, Function}
 use Rattle.pp_channel.specs.Session.{Session, puts, takes}
-use Rattle.pp_channel.specs.History.{Course, events_of, IsLawful, switches_to, active, last_stretch, full, waiting}
+use Rattle.pp_channel.specs.History.{Course, events_of, IsLawful, HasTwelveBitWord, HasTwelveBitWords, switches_to, active, last_stretch, full, waiting}
 use Rattle.list_facts.specs.LastElements.{last_or-push, after_last-found, after_last-push}
 use Rattle.pp_channel.proofs.HistoryWalk.{State, Inactive, Empty, Holding, step, walk, along, walk_course, state_of, state_in}
 use Rattle.pp_channel.proofs.CourseLemmas.{after_function, after_activate, after_disconnect, after_put, after_take}
@@ -129,3 +129,25 @@ lawful_more h l e t on =
 pub lawful_next : (h : List Event) (l : IsLawful h) (e : Event) (t : State) → step (state_at h l).0 e ≡ Some t → IsLawful (h ++ e ∷ [])
 unfolding state_at
 lawful_next h l e t on = lawful_more h l e t on
+
+-- the waiting word of a history whose words have 12 bits has 12 bits
+puts_small : (h : List Event) → HasTwelveBitWords h → All (λ w. w < 2 ^ 12) (puts h)
+puts_small [] l = All-nil (λ w. w < 2 ^ 12)
+puts_small (Put w ∷ h) l = All-cons (λ v. v < 2 ^ 12) w (puts h) (All-head HasTwelveBitWord (Put w) h l) (puts_small h (All-tail HasTwelveBitWord (Put w) h l))
+puts_small (Activate ∷ h) l = puts_small h (All-tail HasTwelveBitWord Activate h l)
+puts_small (Disconnect ∷ h) l = puts_small h (All-tail HasTwelveBitWord Disconnect h l)
+puts_small (Take w ∷ h) l = puts_small h (All-tail HasTwelveBitWord (Take w) h l)
+puts_small (Function w ∷ h) l = puts_small h (All-tail HasTwelveBitWord (Function w) h l)
+
+last_small : (o : Option ℕ) (ws : List ℕ) → unwrap_or o 0 < 2 ^ 12 → AllByRecursion (λ w. w < 2 ^ 12) ws → unwrap_or (last_or o ws) 0 < 2 ^ 12
+last_small o [] low all = low
+last_small o (w ∷ ws) low all = last_small (Some w) ws all.0 all.1
+
+small_where : (b : Bool) (o : Option ℕ) → unwrap_or o 0 < 2 ^ 12 → unwrap_or (if b then o else None) 0 < 2 ^ 12
+small_where true o low = low
+small_where false o low = omega arith
+
+pub waiting_small : (h : List Event) → HasTwelveBitWords h → unwrap_or (waiting h) 0 < 2 ^ 12
+waiting_small h bits =
+    let stretch : HasTwelveBitWords (last_stretch h) = All-drop HasTwelveBitWord _ h bits in
+    small_where (full h) (last_or None (puts (last_stretch h))) (last_small None (puts (last_stretch h)) (omega arith) (recursion_from_All (λ w. w < 2 ^ 12) (puts (last_stretch h)) (puts_small (last_stretch h) stretch)))

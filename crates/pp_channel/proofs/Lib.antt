@@ -1,26 +1,10 @@
 mod CourseLemmas
 mod ChannelStateLemmas
 mod KeptLemmas
-mod ListFacts
-mod CentralLemmas
-mod ViewLemmas
-mod RuleLemmas
-mod StepLemmas
-mod ShareLemmas
-mod RecordedLemmas
-mod LineKeeping
-mod MonotoneLemmas
-mod SeenLemmas
 -- facts of the definitions, which proofs of other crates cite
 pub mod HistoryWalk
 pub mod HistoryLemmas
 pub mod LawLemmas
 pub mod AnswerLemmas
 pub mod FrontLemmas
-pub mod ChannelWordLemmas
-pub mod MergeLemmas
-pub mod LineKnowledge
-pub mod LineAnswers
-pub mod OpeningLemmas
-pub mod JoinedLines
-pub mod OrderLemmas
+pub mod EachHistory

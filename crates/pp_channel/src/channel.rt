@@ -54,8 +54,8 @@ impl<A: Allocator> Channel<A> {
         }
     }
 
-    /// The channel with this history.
-    pub(crate) fn of_history(events: Vec<Event, A>) -> Self
+    /// The channel with this history: a lawful one, whose words have 12 bits.
+    pub fn of_history(events: Vec<Event, A>) -> Self
         requires lawful { IsLawful events.items }
         requires twelve_bits { HasTwelveBitWords events.items }
         ensures { result ≡ events.items }

@@ -1,41 +1,30 @@
 //! Data channels: operations, events, and the answer of a channel by its history.
 #![tactic(auto)]
 
-mod access;
 mod answer;
 mod chan_op;
 mod channel;
 mod channel_no;
 mod channel_state;
-mod entry;
 mod event;
 mod flags;
 mod law;
-mod line;
-mod line_log;
 mod locked;
 mod memory;
 mod numbered;
-mod recorded_history;
 mod reply;
-mod rule;
-mod shared_words;
-mod word_step;
-mod worn;
+mod seen;
 
 pub use answer::{answer_law, event_by, flags_after, reply_made, reply_shown, word_put};
 pub use chan_op::ChanOp;
 pub use channel::Channel;
 pub use channel_no::{CHANNELS, ChannelNo};
 pub use channel_state::ChannelState;
-pub use entry::{Entry, Seen};
 pub use event::Event;
 pub use flags::Flags;
 pub use law::session_law;
-pub use line::{Closed, Line, open_lines, open_lines_beside};
 pub use locked::Locked;
 pub use memory::Memory;
 pub use numbered::Numbered;
 pub use reply::Reply;
-pub use word_step::{WordStep, advance};
-pub use worn::Worn;
+pub use seen::Seen;

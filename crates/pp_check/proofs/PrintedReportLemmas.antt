@@ -7,10 +7,10 @@ use Rattle.std.proofs.lemmas.List.{append-nil, length_push}
 use Rattle.std.proofs.lemmas.List.Elements.{All-head, All-tail}
 use Rattle.pp_channel.specs.ChannelPlaces as channel_places
 use Rattle.pp_channel.proofs.FrontLemmas.{lawful_front}
-use Rattle.pp_channel.proofs.LineKnowledge.{lawful_on}
+use Rattle.pp_channel.proofs.EachHistory.{lawful_on}
 use Rattle.pp_channel.specs.ChannelNo.{names_channel}
 use Rattle.pp_channel.specs.History.{IsLawful, history_on}
-use Rattle.pp_channel.specs.Merge.{Merges}
+use Rattle.pp_line.specs.Merge.{Merges}
 use Rattle.pp_channel.specs.declared.event.Event.{Event}
 use Rattle.pp_channel.specs.declared.event.Event.TheVariants.{Activate}
 use Rattle.pp_deck.specs.DeckText.{lines_of}

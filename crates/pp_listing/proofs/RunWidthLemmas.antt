@@ -18,7 +18,7 @@ use Rattle.pp_channel.specs.declared.reply.Reply.{Reply}
 use Rattle.pp_channel.specs.declared.reply.Reply.TheVariants as replies
 use Rattle.pp_channel.specs.AnswerLaws.{shows_flags}
 use Rattle.pp_channel.specs.ChannelPlaces as channel_places
-use Rattle.pp_channel.proofs.ChannelWordLemmas.{waiting_small}
+use Rattle.pp_channel.proofs.HistoryLemmas.{waiting_small}
 use Rattle.pp_machine.specs.Central.{IsCentral}
 use Rattle.pp_machine.specs.DeadStart.{waiting_on}
 use Rattle.pp_machine.specs.MachineState.{MachineState, processor_of, history_of}

@@ -2,7 +2,7 @@
 use Rattle.std.specs.Prelude.{ℕ, ◌+◌, Bool, true, false, List, [], ◌∷◌, ◌++◌, map, if◌then◌else◌, option_to_list, not, Option, None, is_some}
 use Rattle.pp_channel.specs.Answer.{event_answered, seen_answered, only_looks, event_with}
 use Rattle.pp_channel.specs.declared.chan_op.ChanOp.{ChanOp}
-use Rattle.pp_channel.specs.declared.entry.Seen.{Seen}
+use Rattle.pp_channel.specs.declared.seen.Seen.{Seen}
 use Rattle.pp_channel.specs.declared.event.Event.{Event}
 use Rattle.pp_channel.specs.declared.reply.Reply.{Reply}
 use Rattle.pp_machine.specs.NeedAndEffect.{need, processor_after}

@@ -2,9 +2,9 @@
 use Rattle.std.proofs.Common.{ℕ, List, sym}
 use Rattle.pp_channel.specs.History.{IsLawful, history_on}
 use Rattle.pp_channel.specs.Law.{KeepsLaw}
-use Rattle.pp_channel.specs.Order.{entries_among, made_on}
+use Rattle.pp_line.specs.Order.{entries_among, made_on}
 use Rattle.pp_channel.specs.declared.event.Event.{Event}
-use Rattle.pp_channel.proofs.LineKnowledge.{lawful_on}
+use Rattle.pp_channel.proofs.EachHistory.{lawful_on}
 use Rattle.pp_machine.specs.Headline.{HoldsOnChannel, opening_history}
 use Rattle.pp_machine.specs.MachineState.{MachineState}
 use Rattle.pp_runner.specs.Limits.{RunLimits}

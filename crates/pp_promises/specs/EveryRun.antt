@@ -5,8 +5,8 @@
 use Rattle.std.specs.Prelude.{ℕ, IsTrue, List}
 use Rattle.pp_channel.specs.ChannelNo.{names_channel}
 use Rattle.pp_channel.specs.History.{history_on}
-use Rattle.pp_channel.specs.Order.{entries_among, made_on}
-use Rattle.pp_channel.specs.declared.access.Access.{Access}
+use Rattle.pp_line.specs.Order.{entries_among, made_on}
+use Rattle.pp_line.specs.declared.access.Access.{Access}
 use Rattle.pp_machine.specs.Headline.{HoldsOnChannel, HoldsOnEachChannel, opening_history}
 use Rattle.pp_machine.specs.MachineState.{MachineState}
 use Rattle.pp_machine.specs.Run.{run}

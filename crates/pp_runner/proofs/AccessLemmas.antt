@@ -7,32 +7,32 @@ use Rattle.std.proofs.lemmas.List.{append-nil, length-take-le, map-append, take_
 use Rattle.std.proofs.lemmas.List.Elements.{All-pop, filter_map-append}
 use Rattle.list_facts.specs.Subsequence.{IsSubsequence}
 use Rattle.list_facts.specs.Subsequences.{stands_append, stands_later, stands_more}
-use Rattle.pp_channel.proofs.ChannelWordLemmas.{number_of_word, flags_of_word}
+use Rattle.pp_line.proofs.ChannelWordLemmas.{number_of_word, flags_of_word}
 use Rattle.pp_channel.proofs.FrontLemmas.{twelve_bits_take}
-use Rattle.pp_channel.proofs.LineKnowledge.{bits_on}
-use Rattle.pp_channel.proofs.OrderLemmas.{entries_more}
+use Rattle.pp_channel.proofs.EachHistory.{bits_on}
+use Rattle.pp_line.proofs.OrderLemmas.{entries_more}
 use Rattle.pp_channel.specs.Answer.{IsAnswer, channel_state, event_answered, flags_of, flags_shown, reply_made, seen_answered}
 use Rattle.pp_channel.specs.AnswerLaws.{shows_flags}
-use Rattle.pp_channel.specs.ChannelWord.{number_in, flags_in}
+use Rattle.pp_line.specs.ChannelWord.{number_in, flags_in}
 use Rattle.pp_channel.specs.History.{HasTwelveBitWords, history_on}
-use Rattle.pp_channel.specs.LineLog.{event_entry, look_entry}
-use Rattle.pp_channel.specs.LineState.{LineState, IsActed, IsAnsweredBy, number_after}
-use Rattle.pp_channel.specs.LineView.{look_by, reads, writes}
-use Rattle.pp_channel.specs.Order.{entries_among, extended, on_channels, write_number, writes_among}
-use Rattle.pp_channel.specs.SharedWords.{IsFound}
-use Rattle.pp_channel.specs.declared.access.Access.{Access}
-use Rattle.pp_channel.specs.declared.access.Access.TheVariants as accesses
+use Rattle.pp_line.specs.LineLog.{event_entry, look_entry}
+use Rattle.pp_line.specs.LineState.{LineState, IsActed, IsAnsweredBy, number_after}
+use Rattle.pp_line.specs.LineView.{look_by, reads, writes}
+use Rattle.pp_line.specs.Order.{entries_among, extended, on_channels, write_number, writes_among}
+use Rattle.pp_line.specs.SharedWords.{IsFound}
+use Rattle.pp_line.specs.declared.access.Access.{Access}
+use Rattle.pp_line.specs.declared.access.Access.TheVariants as accesses
 use Rattle.pp_channel.specs.declared.chan_op.ChanOp.{ChanOp}
-use Rattle.pp_channel.specs.declared.entry.Entry.{Entry}
-use Rattle.pp_channel.specs.declared.entry.Seen.{Seen}
-use Rattle.pp_channel.specs.declared.entry.Seen.TheVariants.{Did, Saw}
+use Rattle.pp_line.specs.declared.entry.Entry.{Entry}
+use Rattle.pp_channel.specs.declared.seen.Seen.{Seen}
+use Rattle.pp_channel.specs.declared.seen.Seen.TheVariants.{Did, Saw}
 use Rattle.pp_channel.specs.declared.event.Event.{Event}
 use Rattle.pp_channel.specs.declared.event.Event.TheVariants as events
 use Rattle.pp_channel.specs.declared.flags.Flags.{Flags}
 use Rattle.pp_channel.specs.declared.numbered.Numbered.{Numbered}
 use Rattle.pp_channel.specs.declared.reply.Reply.{Reply}
 use Rattle.pp_channel.specs.declared.reply.Reply.TheVariants as replies
-use Rattle.pp_channel.specs.declared.rule.FoundWord.{FoundWord}
+use Rattle.pp_line.specs.declared.rule.FoundWord.{FoundWord}
 use Rattle.pp_machine.specs.NeedAndEffect.{need, processor_after}
 use Rattle.pp_machine.specs.Processor.{Processor}
 use Rattle.pp_machine.specs.Replay.{OfChannel, given_by, given_count, replayed}

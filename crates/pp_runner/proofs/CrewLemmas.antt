@@ -5,10 +5,10 @@ use Rattle.std.proofs.lemmas.List.{take_more, length-append}
 use Rattle.std.proofs.lemmas.List.Elements.{All-pop, All-push, All-weaker}
 use Rattle.list_facts.specs.Subsequence.{IsSubsequence}
 use Rattle.list_facts.specs.Subsequences.{stands_more}
-use Rattle.pp_channel.specs.LineState.{LineState, IsSplitFrom}
-use Rattle.pp_channel.specs.Order.{entries_among}
-use Rattle.pp_channel.specs.LineView.{parent_view}
-use Rattle.pp_channel.specs.LineLog.{seen_on}
+use Rattle.pp_line.specs.LineState.{LineState, IsSplitFrom}
+use Rattle.pp_line.specs.Order.{entries_among}
+use Rattle.pp_line.specs.LineView.{parent_view}
+use Rattle.pp_line.specs.LineLog.{seen_on}
 use Rattle.pp_machine.specs.MachineState.{MachineState, processor_of}
 use Rattle.pp_machine.specs.Processor.{Processor, no_processor}
 use Rattle.pp_machine.specs.PpNo.{processor_count, processor_index, processor_number}

@@ -1,7 +1,7 @@
 -- Each end, by what the processor, the answers and the log are.
 use Rattle.std.proofs.Common.{◌≡◌, ℕ, ◌<◌, ◌≤◌, List, [], Option, None, Some, length, refl, arith}
 use Rattle.std.specs.Prelude.{IfNone, IfSome, unwrap_or}
-use Rattle.pp_channel.specs.declared.entry.Entry.{Entry}
+use Rattle.pp_line.specs.declared.entry.Entry.{Entry}
 use Rattle.pp_machine.specs.NeedAndEffect.{need}
 use Rattle.pp_machine.specs.Processor.{Processor, IsFaultNumber}
 use Rattle.pp_machine.specs.declared.answer.Answer.{Answer}

@@ -10,12 +10,12 @@ use Rattle.std.proofs.Math.ListN.{get_or-append}
 use Rattle.std.proofs.Math.Seq.{take-append_seam, get_or-append_seam}
 use Rattle.pp_channel.specs.AnswerLaws.{shown_makes_none}
 use Rattle.list_facts.specs.LastElements.{last_or-push}
-use Rattle.pp_channel.specs.LineLog.{LogState, empty_log, appended, looked, with_seen, is_look_at, IsMonotone}
+use Rattle.pp_line.specs.LineLog.{LogState, empty_log, appended, looked, with_seen, is_look_at, IsMonotone}
 use Rattle.pp_channel.specs.Answer.{event_answered, flags_shown, seen_answered}
 use Rattle.pp_channel.specs.declared.chan_op.ChanOp.{ChanOp}
-use Rattle.pp_channel.specs.declared.entry.Entry.{Entry}
-use Rattle.pp_channel.specs.declared.entry.Seen.{Seen}
-use Rattle.pp_channel.specs.declared.entry.Seen.TheVariants.{Did, Saw}
+use Rattle.pp_line.specs.declared.entry.Entry.{Entry}
+use Rattle.pp_channel.specs.declared.seen.Seen.{Seen}
+use Rattle.pp_channel.specs.declared.seen.Seen.TheVariants.{Did, Saw}
 use Rattle.pp_channel.specs.declared.event.Event.{Event}
 use Rattle.pp_channel.specs.declared.flags.Flags.{Flags}
 use Rattle.pp_channel.specs.declared.reply.Reply.{Reply}
@@ -35,9 +35,9 @@ use Rattle.pp_runner.proofs.ReplyLemmas.{sight_of, reply_to_channel}
 use Rattle.pp_runner.specs.WorkerReport.{OfEachAnswer, IsBySize, event_in, events_in, sights_in}
 use Rattle.list_facts.specs.Subsequence.{IsSubsequence}
 use Rattle.list_facts.specs.Subsequences.{stands_more, stands_push}
-use Rattle.pp_channel.specs.LineState.{LineState}
-use Rattle.pp_channel.specs.Order.{writes_among}
-use Rattle.pp_channel.specs.declared.rule.LineView.{LineView}
+use Rattle.pp_line.specs.LineState.{LineState}
+use Rattle.pp_line.specs.Order.{writes_among}
+use Rattle.pp_line.specs.declared.rule.LineView.{LineView}
 use Rattle.pp_runner.proofs.AccessLemmas.{made_more, made_still, no_writes, numbered}
 use Rattle.pp_runner.specs.Accesses.{accesses_by}
 use Rattle.pp_runner.specs.Labour.{HasEntries, HasLooked, HasMade, IsAtWork, IsAnswered, IsNoted, IsUnused}

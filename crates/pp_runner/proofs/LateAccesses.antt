@@ -7,14 +7,14 @@ use Rattle.std.proofs.lemmas.List.{append-nil}
 use Rattle.std.proofs.lemmas.List.Elements.{All-cons, All-head, All-nil, All-tail}
 use Rattle.list_facts.specs.Subsequence.{IsSubsequence}
 use Rattle.list_facts.specs.Subsequences.{stands_after, stands_passed, stands_through}
-use Rattle.pp_channel.proofs.OrderLemmas.{is_later, stands_later_in}
+use Rattle.pp_line.proofs.OrderLemmas.{is_later, stands_later_in}
 use Rattle.pp_channel.specs.History.{history_on}
 use Rattle.pp_channel.specs.Law.{IsPrefix}
-use Rattle.pp_channel.specs.LineState.{LineState}
-use Rattle.pp_channel.specs.Order.{entries_among, writes_among, words_after, times, AreMade, FindsWords, ExtendsEach, IsDrawnFrom}
-use Rattle.pp_channel.specs.declared.access.Access.{Access}
-use Rattle.pp_channel.specs.declared.access.Access.TheVariants.{OnChannel, Read, Write}
-use Rattle.pp_channel.specs.declared.entry.Entry.{Entry}
+use Rattle.pp_line.specs.LineState.{LineState}
+use Rattle.pp_line.specs.Order.{entries_among, writes_among, words_after, times, AreMade, FindsWords, ExtendsEach, IsDrawnFrom}
+use Rattle.pp_line.specs.declared.access.Access.{Access}
+use Rattle.pp_line.specs.declared.access.Access.TheVariants.{OnChannel, Read, Write}
+use Rattle.pp_line.specs.declared.entry.Entry.{Entry}
 use Rattle.pp_channel.specs.declared.event.Event.{Event}
 use Rattle.pp_machine.specs.Processor.{Processor}
 use Rattle.pp_runner.specs.Accesses.{HasAccessed}

@@ -7,27 +7,27 @@ use Rattle.std.proofs.lemmas.Bool.{eq-eqb}
 use Rattle.std.proofs.lemmas.List.{append-nil, length-append}
 use Rattle.std.proofs.lemmas.List.Elements.{All-append, All-cons, All-head, All-nil, All-push, All-tail}
 use Rattle.std.proofs.Math.Nat.{suc-mul, mul-one, zero-mul}
-use Rattle.pp_channel.proofs.LineAnswers.{number_later}
-use Rattle.pp_channel.proofs.LineKnowledge.{all_looked}
+use Rattle.pp_line.proofs.LineAnswers.{number_later}
+use Rattle.pp_line.proofs.LineKnowledge.{all_looked}
 use Rattle.list_facts.specs.WrittenNumbers.{set_raises}
 use Rattle.pp_channel.specs.ChannelNo.{channel_index}
-use Rattle.pp_channel.specs.ChannelWord.{number_in}
-use Rattle.pp_channel.specs.LineLog.{LogState, with_seen, seen_on}
+use Rattle.pp_line.specs.ChannelWord.{number_in}
+use Rattle.pp_line.specs.LineLog.{LogState, with_seen, seen_on}
 use Rattle.pp_channel.specs.Answer.{flags_shown}
-use Rattle.pp_channel.specs.LineState.{LineState, IsActed, IsAnsweredBy, IsWornOut, number_after}
+use Rattle.pp_line.specs.LineState.{LineState, IsActed, IsAnsweredBy, IsWornOut, number_after}
 use Rattle.pp_channel.specs.History.{history_on}
 use Rattle.pp_channel.specs.declared.chan_op.ChanOp.{ChanOp}
-use Rattle.pp_channel.specs.declared.entry.Entry.{Entry}
+use Rattle.pp_line.specs.declared.entry.Entry.{Entry}
 use Rattle.pp_channel.specs.declared.event.Event.{Event}
-use Rattle.pp_channel.specs.declared.entry.Seen.{Seen}
-use Rattle.pp_channel.specs.declared.entry.Seen.TheVariants.{Did, Saw}
+use Rattle.pp_channel.specs.declared.seen.Seen.{Seen}
+use Rattle.pp_channel.specs.declared.seen.Seen.TheVariants.{Did, Saw}
 use Rattle.pp_channel.specs.declared.numbered.Numbered.{Numbered}
 use Rattle.pp_channel.specs.declared.reply.Reply.{Reply}
-use Rattle.pp_channel.specs.declared.rule.FoundWord.{FoundWord}
+use Rattle.pp_line.specs.declared.rule.FoundWord.{FoundWord}
 use Rattle.pp_machine.specs.NeedAndEffect.{need}
 use Rattle.pp_machine.specs.Processor.{Processor}
 use Rattle.pp_runner.proofs.ReplyLemmas.{line_reply_fits, sight_of}
-use Rattle.pp_channel.proofs.OrderLemmas.{length-extended}
+use Rattle.pp_line.proofs.OrderLemmas.{length-extended}
 use Rattle.pp_runner.specs.Labour.{AreFoundByOne, NoneOlder, IsSameLine, HasOperated, operations}
 use Rattle.pp_runner.specs.End.{WasHeld}
 

@@ -7,14 +7,14 @@ use Rattle.std.proofs.lemmas.Bool.{cases_lt, lt-ltb, le-ltb}
 use Rattle.std.proofs.lemmas.List.{get_or_past}
 use Rattle.pp_channel.specs.ChannelPlaces.{one_place, place_of_number, number_named}
 use Rattle.pp_channel.specs.ChannelNo.{channel_count, channel_index, channel_number}
-use Rattle.pp_channel.specs.LineState.{LineState}
-use Rattle.pp_channel.specs.Merge.{IsOpeningLog, times_logged}
-use Rattle.pp_channel.specs.LineLog.{IsWithin, event_entry}
-use Rattle.pp_channel.specs.declared.entry.Entry.{Entry}
+use Rattle.pp_line.specs.LineState.{LineState}
+use Rattle.pp_line.specs.Merge.{IsOpeningLog, times_logged}
+use Rattle.pp_line.specs.LineLog.{IsWithin, event_entry}
+use Rattle.pp_line.specs.declared.entry.Entry.{Entry}
 use Rattle.pp_channel.specs.declared.event.Event.{Event}
 use Rattle.pp_channel.specs.declared.event.Event.TheVariants.{Activate}
-use Rattle.pp_channel.proofs.MergeLemmas.{times_within}
-use Rattle.pp_channel.proofs.OpeningLemmas.{opening_more, opening_same, opening_none}
+use Rattle.pp_line.proofs.MergeLemmas.{times_within}
+use Rattle.pp_line.proofs.OpeningLemmas.{opening_more, opening_same, opening_none}
 use Rattle.pp_machine.specs.Headline.{opening_history}
 use Rattle.pp_machine.specs.MachineState.{MachineState, is_opened}
 use Rattle.pp_runner.specs.Labour.{HasSeen}

@@ -5,11 +5,11 @@ use Rattle.std.specs.Option.{option_to_list}
 use Rattle.std.proofs.lemmas.Bool.{cases_eq}
 use Rattle.std.proofs.lemmas.List.{append-nil}
 use Rattle.pp_channel.specs.Answer.{IsAnswer, channel_state, seen_answered, flags_of}
-use Rattle.pp_channel.specs.LineLog.{LogState, with_seen, IsMonotone}
-use Rattle.pp_channel.specs.LineState.{LineState, IsActed, IsAnsweredBy, IsLost, IsWornOut}
+use Rattle.pp_line.specs.LineLog.{LogState, with_seen, IsMonotone}
+use Rattle.pp_line.specs.LineState.{LineState, IsActed, IsAnsweredBy, IsLost, IsWornOut}
 use Rattle.pp_channel.specs.History.{history_on}
 use Rattle.pp_channel.specs.declared.chan_op.ChanOp.{ChanOp}
-use Rattle.pp_channel.specs.declared.entry.Seen.{Seen}
+use Rattle.pp_channel.specs.declared.seen.Seen.{Seen}
 use Rattle.pp_channel.specs.declared.event.Event.{Event}
 use Rattle.pp_channel.specs.declared.numbered.Numbered.{Numbered}
 use Rattle.pp_channel.specs.declared.reply.Reply.{Reply}
@@ -18,8 +18,8 @@ use Rattle.pp_machine.specs.Replay.{OfChannel, fits, reply_fits, given_by}
 use Rattle.pp_machine.specs.declared.answer.Answer.{Answer}
 use Rattle.pp_machine.specs.declared.answer.Answer.TheVariants as answers
 use Rattle.pp_machine.specs.declared.need.Need.TheVariants as needs
-use Rattle.pp_channel.specs.LineView.{look_by}
-use Rattle.pp_channel.specs.declared.access.Access.{Access}
+use Rattle.pp_line.specs.LineView.{look_by}
+use Rattle.pp_line.specs.declared.access.Access.{Access}
 use Rattle.pp_runner.proofs.AccessLemmas.{all_made, channel_accessed, no_writes}
 use Rattle.pp_runner.specs.Labour.{HasLooked, IsAnswered, IsNoted}
 

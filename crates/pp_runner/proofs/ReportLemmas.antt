@@ -5,14 +5,14 @@ use Rattle.std.specs.List.{filter, flat_map}
 use Rattle.std.specs.declared.vec.Vec.{Vec}
 use Rattle.std.proofs.lemmas.List.Elements.{All-append, All-cons, All-head, All-nil, All-tail}
 use Rattle.std.proofs.lemmas.Option.{slice_get_within}
-use Rattle.pp_channel.specs.LineState.{LineState, joined, all_joined}
+use Rattle.pp_line.specs.LineState.{LineState, joined, all_joined}
 use Rattle.pp_channel.specs.History.{history_on}
 use Rattle.pp_channel.specs.Law.{IsPrefix}
-use Rattle.pp_channel.specs.Order.{ExtendsEach, IsDrawnFrom, writes_among}
+use Rattle.pp_line.specs.Order.{ExtendsEach, IsDrawnFrom, writes_among}
 use Rattle.pp_channel.specs.declared.event.Event.{Event}
-use Rattle.pp_channel.specs.declared.access.Access.{Access}
-use Rattle.pp_channel.specs.LineLog.{seen_on}
-use Rattle.pp_channel.specs.declared.entry.Entry.{Entry}
+use Rattle.pp_line.specs.declared.access.Access.{Access}
+use Rattle.pp_line.specs.LineLog.{seen_on}
+use Rattle.pp_line.specs.declared.entry.Entry.{Entry}
 use Rattle.pp_machine.specs.Processor.{Processor}
 use Rattle.pp_runner.proofs.CrewLemmas.{same_seen}
 use Rattle.pp_runner.proofs.EndLemmas.{worn_later}

@@ -2,8 +2,8 @@
 use Rattle.std.specs.Prelude.{◌≡◌, ℕ, true, List, [], ◌∷◌, ◌++◌, Some, map, option_to_list}
 use Rattle.list_facts.specs.Subsequence.{IsSubsequence}
 use Rattle.pp_channel.specs.Answer.{seen_answered}
-use Rattle.pp_channel.specs.Order.{entries_among}
-use Rattle.pp_channel.specs.declared.access.Access.{Access}
+use Rattle.pp_line.specs.Order.{entries_among}
+use Rattle.pp_line.specs.declared.access.Access.{Access}
 use Rattle.pp_machine.specs.NeedAndEffect.{need, processor_after}
 use Rattle.pp_machine.specs.Processor.{Processor}
 use Rattle.pp_machine.specs.declared.answer.Answer.{Answer}

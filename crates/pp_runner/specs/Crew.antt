@@ -1,7 +1,7 @@
 -- Workers that run at once, with their lines. (Private contracts alone cite this.)
 use Rattle.std.specs.Prelude.{◌≡◌, ◌<◌, ◌≤◌, ℕ, List, [], ◌∷◌, All, length}
-use Rattle.pp_channel.specs.LineState.{LineState, IsSplitFrom}
-use Rattle.pp_channel.specs.LineLog.{seen_on}
+use Rattle.pp_line.specs.LineState.{LineState, IsSplitFrom}
+use Rattle.pp_line.specs.LineLog.{seen_on}
 use Rattle.pp_machine.specs.MachineState.{MachineState}
 use Rattle.pp_machine.specs.Processor.{Processor}
 use Rattle.pp_machine.specs.PpNo.{processor_count}

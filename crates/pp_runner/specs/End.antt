@@ -2,10 +2,10 @@
 use Rattle.std.specs.Prelude.{◌≡◌, ◌↔◌, ◌<◌, ◌≤◌, ℕ, false, IsTrue, None, List, length}
 use Rattle.std.specs.List.{last_or}
 use Rattle.pp_channel.specs.Answer.{only_looks}
-use Rattle.pp_channel.specs.ChannelWord.{greatest_number}
-use Rattle.pp_channel.specs.LineLog.{is_look_at}
+use Rattle.pp_line.specs.ChannelWord.{greatest_number}
+use Rattle.pp_line.specs.LineLog.{is_look_at}
 use Rattle.pp_channel.specs.declared.chan_op.ChanOp.{ChanOp}
-use Rattle.pp_channel.specs.declared.entry.Entry.{Entry}
+use Rattle.pp_line.specs.declared.entry.Entry.{Entry}
 use Rattle.pp_machine.specs.NeedAndEffect.{need}
 use Rattle.pp_machine.specs.Processor.{Processor, IsFaultNumber}
 use Rattle.pp_machine.specs.declared.answer.Answer.{Answer}

@@ -1,17 +1,17 @@
 -- What holds of a worker between any two tries of a step. (Private contracts alone cite this.)
 use Rattle.std.specs.Prelude.{◌≡◌, ◌<◌, ◌≤◌, ◌+◌, ◌*◌, ℕ, true, false, not, List, [], ◌∷◌, ◌++◌, length, All, Option, Some, is_some, option_to_list, flat_map}
 use Rattle.pp_channel.specs.Answer.{seen_answered}
-use Rattle.pp_channel.specs.ChannelWord.{greatest_number, number_in}
-use Rattle.pp_channel.specs.LineLog.{LogState, empty_log, with_seen, IsMonotone, seen_on}
-use Rattle.pp_channel.specs.LineState.{LineState, IsActed}
-use Rattle.pp_channel.specs.LineView.{reads, writes}
-use Rattle.pp_channel.specs.Order.{entries_among, extended, writes_among}
-use Rattle.pp_channel.specs.declared.access.Access.{Access}
-use Rattle.pp_channel.specs.declared.entry.Entry.{Entry}
-use Rattle.pp_channel.specs.declared.entry.Seen.{Seen}
+use Rattle.pp_line.specs.ChannelWord.{greatest_number, number_in}
+use Rattle.pp_line.specs.LineLog.{LogState, empty_log, with_seen, IsMonotone, seen_on}
+use Rattle.pp_line.specs.LineState.{LineState, IsActed}
+use Rattle.pp_line.specs.LineView.{reads, writes}
+use Rattle.pp_line.specs.Order.{entries_among, extended, writes_among}
+use Rattle.pp_line.specs.declared.access.Access.{Access}
+use Rattle.pp_line.specs.declared.entry.Entry.{Entry}
+use Rattle.pp_channel.specs.declared.seen.Seen.{Seen}
 use Rattle.pp_channel.specs.declared.numbered.Numbered.{Numbered}
-use Rattle.pp_channel.specs.declared.rule.FoundWord.{FoundWord}
-use Rattle.pp_channel.specs.declared.rule.LineView.{LineView}
+use Rattle.pp_line.specs.declared.rule.FoundWord.{FoundWord}
+use Rattle.pp_line.specs.declared.rule.LineView.{LineView}
 use Rattle.pp_machine.specs.Processor.{Processor}
 use Rattle.pp_machine.specs.Replay.{OfChannel, fits, given_by, replayed, given_count, events_given, sights_given}
 use Rattle.pp_machine.specs.declared.answer.Answer.{Answer}

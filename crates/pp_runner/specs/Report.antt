@@ -7,9 +7,9 @@ use Rattle.std.specs.declared.alloc.Allocator.{Ghosts}
 use Rattle.pp_channel.specs.ChannelNo.{channel_count}
 use Rattle.pp_channel.specs.History.{IsLawful, HasTwelveBitWords, history_on}
 use Rattle.pp_channel.specs.Law.{KeepsLaw}
-use Rattle.pp_channel.specs.Merge.{Merges}
-use Rattle.pp_channel.specs.Order.{IsTotalOrderOf, entries_among, writes_among, FindsWords, AreMade}
-use Rattle.pp_channel.specs.declared.access.Access.{Access}
+use Rattle.pp_line.specs.Merge.{Merges}
+use Rattle.pp_line.specs.Order.{IsTotalOrderOf, entries_among, writes_among, FindsWords, AreMade}
+use Rattle.pp_line.specs.declared.access.Access.{Access}
 use Rattle.pp_machine.specs.Headline.{opening_history}
 use Rattle.pp_machine.specs.MachineState.{MachineState}
 use Rattle.pp_machine.specs.Profile.{processors_in}

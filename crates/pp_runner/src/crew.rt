@@ -10,7 +10,7 @@ use crate::labour::{Ended, work};
 use crate::run_fault::RunFault;
 use crate::site::Site;
 use crate::worker::Worker;
-use pp_channel::Line;
+use pp_line::Line;
 use pp_machine::{Machine, Pp, PpNo};
 use std::alloc::Allocator;
 use std::snapshot::Snapshot;

@@ -1,8 +1,8 @@
 //! A worker, from its load to its end.
 
 ghost use Rattle.std.specs.Prelude.{◌≡◌, ◌<◌, ◌≤◌, ◌+◌, ◌-◌, ◌*◌, ◌^◌, ◌++◌, ◌∷◌, [], true, ℕ, List, length, vec_len, vec_capacity, IfOk, IfSome, IfNone, OnErr};
-ghost use Rattle.pp_channel.specs.LineLog.{seen_on};
-ghost use Rattle.pp_channel.specs.declared.entry.Entry.{Entry};
+ghost use Rattle.pp_line.specs.LineLog.{seen_on};
+ghost use Rattle.pp_line.specs.declared.entry.Entry.{Entry};
 ghost use Rattle.pp_machine.specs.NeedAndEffect.{need};
 ghost use Rattle.pp_machine.specs.declared.answer.Answer.{Answer};
 ghost use Rattle.pp_runner.specs.Crew.{IsEnded};
@@ -14,7 +14,7 @@ use crate::gate::Gate;
 use crate::site::Site;
 use crate::spinning::Spinning;
 use crate::worker::Worker;
-use pp_channel::{Line, Worn};
+use pp_line::{Line, Worn};
 use pp_machine::{Answer, Need, Outcome, Pp, PpNo, PpState};
 use std::alloc::Allocator;
 

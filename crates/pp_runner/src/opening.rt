@@ -1,14 +1,15 @@
 //! The line that opens channels before the workers begin.
 
 ghost use Rattle.std.specs.Prelude.{◌≡◌, ◌≤◌, [], IfOk, length};
-ghost use Rattle.pp_channel.specs.LineLog.{appended, IsWithin};
-ghost use Rattle.pp_channel.specs.Merge.{IsOpeningLog, times_logged};
-ghost use Rattle.pp_channel.specs.declared.entry.Seen.TheVariants.{Did};
+ghost use Rattle.pp_line.specs.LineLog.{appended, IsWithin};
+ghost use Rattle.pp_line.specs.Merge.{IsOpeningLog, times_logged};
+ghost use Rattle.pp_channel.specs.declared.seen.Seen.TheVariants.{Did};
 ghost use Rattle.pp_channel.specs.declared.event.Event.TheVariants.{Activate};
 ghost use Rattle.pp_machine.specs.Headline.{opening_history};
 ghost use Rattle.pp_runner.specs.Labour.{HasSeen};
 
-use pp_channel::{CHANNELS, ChanOp, ChannelNo, Line, Memory, open_lines_beside};
+use pp_channel::{CHANNELS, ChanOp, ChannelNo, Memory};
+use pp_line::{Line, open_lines_beside};
 use pp_machine::Machine;
 use std::alloc::Allocator;
 

@@ -1,8 +1,8 @@
 //! A run of a machine's processors, each in a thread of its own.
 
 ghost use Rattle.std.specs.Prelude.{◌≡◌, ◌+◌, [], All, length, vec_len, IfOk};
-ghost use Rattle.pp_channel.specs.LineState.{IsSplitFrom};
-ghost use Rattle.pp_channel.specs.Merge.{IsOpeningLog};
+ghost use Rattle.pp_line.specs.LineState.{IsSplitFrom};
+ghost use Rattle.pp_line.specs.Merge.{IsOpeningLog};
 ghost use Rattle.pp_machine.specs.Headline.{opening_history};
 ghost use Rattle.pp_machine.specs.Profile.{processors_in};
 ghost use Rattle.pp_runner.specs.Labour.{HasSeen};
@@ -17,7 +17,8 @@ use crate::run_fault::RunFault;
 use crate::site::Site;
 use crate::spinning::Spinning;
 use crate::worker::with_logs;
-use pp_channel::{Closed, Line, Memory};
+use pp_channel::Memory;
+use pp_line::{Closed, Line};
 use pp_machine::Machine;
 use std::alloc::Allocator;
 use std::snapshot::Snapshot;

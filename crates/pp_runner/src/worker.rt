@@ -5,7 +5,7 @@ ghost use Rattle.pp_runner.specs.WorkerReport.{with_logs};
 ghost use Rattle.pp_runner.specs.declared.worker.Worker.{Worker};
 
 use crate::end::End;
-use pp_channel::Entry;
+use pp_line::Entry;
 use pp_machine::{Answer, Pp};
 use std::alloc::Allocator;
 

@@ -8,10 +8,10 @@ use Rattle.pp_channel.specs.AnswerLaws.{held_at}
 use Rattle.pp_channel.specs.History.{IsLawful, waiting}
 use Rattle.pp_channel.specs.declared.chan_op.ChanOp.{ChanOp}
 use Rattle.pp_channel.specs.declared.chan_op.ChanOp.TheVariants as operations
-use Rattle.pp_channel.specs.declared.access.Access.{Access}
-use Rattle.pp_channel.specs.declared.entry.Entry.{Entry}
-use Rattle.pp_channel.specs.declared.entry.Seen.{Seen}
-use Rattle.pp_channel.specs.declared.entry.Seen.TheVariants.{Did, Saw}
+use Rattle.pp_line.specs.declared.access.Access.{Access}
+use Rattle.pp_line.specs.declared.entry.Entry.{Entry}
+use Rattle.pp_channel.specs.declared.seen.Seen.{Seen}
+use Rattle.pp_channel.specs.declared.seen.Seen.TheVariants.{Did, Saw}
 use Rattle.pp_channel.specs.declared.event.Event.{Event}
 use Rattle.pp_channel.specs.declared.event.Event.TheVariants as events
 use Rattle.pp_channel.specs.declared.flags.Flags.{Flags}

@@ -10,12 +10,12 @@ use Rattle.list_facts.specs.Subsequences.{stands_after}
 use Rattle.pp_channel.specs.ChannelNo.{channel_index, names_channel}
 use Rattle.pp_channel.specs.ChannelPlaces.{one_place}
 use Rattle.pp_channel.specs.History.{AreHistories, HasTwelveBitWord, HasTwelveBitWords, IsLawful, history_on}
-use Rattle.pp_channel.specs.LineLog.{IsFollowedBy, IsMonotone, event_entry}
-use Rattle.pp_channel.specs.Merge.{IsTrueOf, Merges, no_opening, times_logged}
-use Rattle.pp_channel.specs.Order.{IsLegal, ComesAfter, IsTotalOrderOf, made_on}
-use Rattle.pp_channel.specs.declared.entry.Entry.{Entry}
-use Rattle.pp_channel.specs.declared.entry.Seen.{Seen}
-use Rattle.pp_channel.specs.declared.entry.Seen.TheVariants.{Did, Saw}
+use Rattle.pp_line.specs.LineLog.{IsFollowedBy, IsMonotone, event_entry}
+use Rattle.pp_line.specs.Merge.{IsTrueOf, Merges, no_opening, times_logged}
+use Rattle.pp_line.specs.Order.{IsLegal, ComesAfter, IsTotalOrderOf, made_on}
+use Rattle.pp_line.specs.declared.entry.Entry.{Entry}
+use Rattle.pp_channel.specs.declared.seen.Seen.{Seen}
+use Rattle.pp_channel.specs.declared.seen.Seen.TheVariants.{Did, Saw}
 use Rattle.pp_channel.specs.declared.event.Event.{Event}
 use Rattle.pp_serial.specs.Circle.{histories_of_circle, one_log, other_log}
 

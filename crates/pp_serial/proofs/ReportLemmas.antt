@@ -12,23 +12,23 @@ use Rattle.pp_channel.specs.Answer.{event_answered}
 use Rattle.pp_channel.specs.ChannelNo.{channel_count, channel_index, channel_number, names_channel}
 use Rattle.pp_channel.specs.ChannelPlaces.{named_below, place_of_number}
 use Rattle.pp_channel.specs.History.{IsLawful, history_on}
-use Rattle.pp_channel.specs.LineLog.{is_event}
+use Rattle.pp_line.specs.LineLog.{is_event}
 use Rattle.pp_channel.specs.Law.{IsPrefix}
-use Rattle.pp_channel.specs.Order.{entries_among, times, writes_among}
-use Rattle.pp_channel.specs.declared.access.Access.{Access}
-use Rattle.pp_channel.specs.declared.access.Access.TheVariants.{OnChannel, Read, Write}
-use Rattle.pp_channel.proofs.OrderLemmas.{entries_more}
-use Rattle.pp_channel.specs.Merge.{times_logged}
+use Rattle.pp_line.specs.Order.{entries_among, times, writes_among}
+use Rattle.pp_line.specs.declared.access.Access.{Access}
+use Rattle.pp_line.specs.declared.access.Access.TheVariants.{OnChannel, Read, Write}
+use Rattle.pp_line.proofs.OrderLemmas.{entries_more}
+use Rattle.pp_line.specs.Merge.{times_logged}
 use Rattle.pp_channel.specs.declared.chan_op.ChanOp.{ChanOp}
 use Rattle.pp_channel.specs.declared.chan_op.ChanOp.TheVariants as operations
-use Rattle.pp_channel.specs.declared.entry.Entry.{Entry}
-use Rattle.pp_channel.specs.declared.entry.Seen.{Seen}
-use Rattle.pp_channel.specs.declared.entry.Seen.TheVariants.{Did, Saw}
+use Rattle.pp_line.specs.declared.entry.Entry.{Entry}
+use Rattle.pp_channel.specs.declared.seen.Seen.{Seen}
+use Rattle.pp_channel.specs.declared.seen.Seen.TheVariants.{Did, Saw}
 use Rattle.pp_channel.specs.declared.event.Event.{Event}
 use Rattle.pp_channel.specs.declared.reply.Reply.{Reply}
 use Rattle.pp_channel.specs.declared.reply.Reply.TheVariants as replies
-use Rattle.pp_channel.proofs.LineKnowledge.{lawful_on}
-use Rattle.pp_channel.proofs.MergeLemmas.{told_by, times_told-append}
+use Rattle.pp_channel.proofs.EachHistory.{lawful_on}
+use Rattle.pp_line.proofs.MergeLemmas.{told_by, times_told-append}
 use Rattle.pp_machine.specs.Headline.{opening_history}
 use Rattle.pp_machine.specs.MachineState.{MachineState, history_of}
 use Rattle.pp_machine.specs.NeedAndEffect.{need, outcome, processor_after}

@@ -11,18 +11,18 @@ use Rattle.list_facts.specs.Subsequence.{IsSubsequence}
 use Rattle.pp_channel.specs.Answer.{flags_of}
 use Rattle.pp_channel.specs.ChannelNo.{names_channel}
 use Rattle.pp_channel.specs.History.{IsLawful}
-use Rattle.pp_channel.specs.Merge.{times_logged}
-use Rattle.pp_channel.specs.Order.{IsLegal, ComesAfter, FindsWords, entries_among, left_by, made_at, made_on}
-use Rattle.pp_channel.specs.declared.access.Access.{Access}
-use Rattle.pp_channel.specs.declared.access.Access.TheVariants.{OnChannel, Read, Write}
-use Rattle.pp_channel.specs.declared.entry.Entry.{Entry}
-use Rattle.pp_channel.specs.declared.entry.Seen.{Seen}
-use Rattle.pp_channel.specs.declared.entry.Seen.TheVariants.{Did, Saw}
+use Rattle.pp_line.specs.Merge.{times_logged}
+use Rattle.pp_line.specs.Order.{IsLegal, ComesAfter, FindsWords, entries_among, left_by, made_at, made_on}
+use Rattle.pp_line.specs.declared.access.Access.{Access}
+use Rattle.pp_line.specs.declared.access.Access.TheVariants.{OnChannel, Read, Write}
+use Rattle.pp_line.specs.declared.entry.Entry.{Entry}
+use Rattle.pp_channel.specs.declared.seen.Seen.{Seen}
+use Rattle.pp_channel.specs.declared.seen.Seen.TheVariants.{Did, Saw}
 use Rattle.pp_channel.specs.declared.event.Event.{Event}
 use Rattle.pp_channel.specs.declared.flags.Flags.{Flags}
 use Rattle.pp_channel.proofs.FrontLemmas.{lawful_front}
-use Rattle.pp_channel.proofs.MergeLemmas.{told_by, told_here, told_not}
-use Rattle.pp_channel.proofs.OrderLemmas.{made_more}
+use Rattle.pp_line.proofs.MergeLemmas.{told_by, told_here, told_not}
+use Rattle.pp_line.proofs.OrderLemmas.{made_more}
 use Rattle.pp_machine.specs.NeedAndEffect.{need}
 use Rattle.pp_machine.specs.Processor.{Processor}
 use Rattle.pp_machine.specs.Profile.{processors_in}

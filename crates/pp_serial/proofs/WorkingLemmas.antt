@@ -4,7 +4,7 @@ use Rattle.std.specs.Prelude.{slice_get}
 use Rattle.std.proofs.Math.Dec.{eqb-suc-suc, eqb-suc-zero, eqb-zero-suc}
 use Rattle.std.proofs.lemmas.List.{set-set}
 use Rattle.std.proofs.lemmas.Option.{slice_get_within}
-use Rattle.pp_channel.specs.declared.access.Access.{Access}
+use Rattle.pp_line.specs.declared.access.Access.{Access}
 use Rattle.pp_machine.specs.NeedAndEffect.{need, outcome, processor_after}
 use Rattle.pp_machine.specs.declared.outcome.Outcome.TheVariants.{Moved}
 use Rattle.pp_machine.specs.Processor.{Processor, no_processor}

@@ -2,8 +2,8 @@
 use Rattle.std.specs.Prelude.{◌≡◌, ◌==◌, ℕ, IsTrue, List, [], ◌∷◌, ◌++◌, All, Some, drop, if◌then◌else◌, map, slice_get, length, take}
 use Rattle.std.specs.List.{sum_by}
 use Rattle.pp_channel.specs.ChannelNo.{channel_count, names_channel}
-use Rattle.pp_channel.specs.Order.{left_by}
-use Rattle.pp_channel.specs.declared.access.Access.{Access}
+use Rattle.pp_line.specs.Order.{left_by}
+use Rattle.pp_line.specs.declared.access.Access.{Access}
 use Rattle.pp_machine.specs.Headline.{opening_history}
 use Rattle.pp_machine.specs.MachineState.{MachineState, history_of, processor_of}
 use Rattle.pp_machine.specs.NeedAndEffect.{need}

@@ -4,10 +4,10 @@
 ghost use Rattle.std.specs.Prelude.{ℕ, List, ◌++◌};
 ghost use Rattle.list_facts.specs.Subsequence.{IsSubsequence};
 ghost use Rattle.pp_channel.specs.History.{AreHistories};
-ghost use Rattle.pp_channel.specs.LineLog.{IsMonotone};
-ghost use Rattle.pp_channel.specs.Merge.{Merges, no_opening};
-ghost use Rattle.pp_channel.specs.Order.{IsTotalOrderOf};
-ghost use Rattle.pp_channel.specs.declared.entry.Entry.{Entry};
+ghost use Rattle.pp_line.specs.LineLog.{IsMonotone};
+ghost use Rattle.pp_line.specs.Merge.{Merges, no_opening};
+ghost use Rattle.pp_line.specs.Order.{IsTotalOrderOf};
+ghost use Rattle.pp_line.specs.declared.entry.Entry.{Entry};
 ghost use Rattle.pp_machine.specs.MachineState.{MachineState};
 ghost use Rattle.pp_runner.specs.Limits.{RunLimits};
 ghost use Rattle.pp_runner.specs.Report.{IsReportOf};

@@ -5,9 +5,9 @@ use Rattle.std.specs.List.{position_from}
 use Rattle.std.proofs.lemmas.Bool.{cases_lt}
 use Rattle.std.proofs.lemmas.Iterator.Adapters.{position_from-zero}
 use Rattle.std.proofs.lemmas.List.Sums.{sum_by-append}
-use Rattle.pp_channel.specs.Merge.{Merges, times_logged, logs_event}
+use Rattle.pp_line.specs.Merge.{Merges, times_logged, logs_event}
 use Rattle.pp_channel.specs.History.{history_on}
-use Rattle.pp_channel.specs.declared.entry.Entry.{Entry}
+use Rattle.pp_line.specs.declared.entry.Entry.{Entry}
 use Rattle.pp_channel.specs.declared.event.Event.{Event}
 use Rattle.pp_runner.specs.WorkerReport.{logs_of}
 use Rattle.pp_runner.specs.declared.worker.Worker.{Worker}

@@ -1,6 +1,6 @@
 -- Authors of events, log after log, and the lines that name them.
 use Rattle.std.proofs.Common.{◌≡◌, ◌∙◌, ℕ, ◌+◌, ◌<◌, ◌≤◌, Bool, true, false, cond, List, [], ◌∷◌, ◌++◌, length, take, Option, Some, None, option_map, slice_index_or, refl, sym, ap, subst, arith, add-one}
-use Rattle.pp_channel.specs.Merge.{times_logged}
+use Rattle.pp_line.specs.Merge.{times_logged}
 use Rattle.std.specs.Prelude.{IsTrue, Result, Ok, Err, OnOk, if◌then◌else◌, nat_lt}
 use Rattle.std.specs.List.{enumerate_from, flat_map, position, position_from}
 use Rattle.std.proofs.Math.Seq.{take-suc}

@@ -11,9 +11,9 @@ use Rattle.std.proofs.Math.Seq.{drop-append_seam, drop-nil, take-suc}
 use Rattle.pp_channel.specs.ChannelNo.{names_channel}
 use Rattle.pp_channel.specs.ChannelPlaces as channel_places
 use Rattle.pp_channel.specs.History.{IsLawful, active, waiting, history_on}
-use Rattle.pp_channel.specs.Merge.{Merges}
+use Rattle.pp_line.specs.Merge.{Merges}
 use Rattle.pp_channel.specs.declared.event.Event.{Event}
-use Rattle.pp_channel.proofs.LineKnowledge.{lawful_on}
+use Rattle.pp_channel.proofs.EachHistory.{lawful_on}
 use Rattle.pp_machine.specs.Headline.{opening_history}
 use Rattle.pp_machine.specs.MachineState.{MachineState, is_opened}
 use Rattle.pp_machine.specs.PpNo.{processor_index, processor_number, is_named}

@@ -2,12 +2,13 @@
 
 ghost use Rattle.std.specs.Prelude.{◌≡◌, ◌<◌, ◌≤◌, ◌==◌, ℕ, None, length, slice_index_or, IfOk, IsTrue, nat_lt};
 ghost use Rattle.pp_channel.specs.ChannelNo.{channel_count, names_channel};
-ghost use Rattle.pp_channel.specs.Merge.{logs_event, times_logged};
+ghost use Rattle.pp_line.specs.Merge.{logs_event, times_logged};
 ghost use Rattle.pp_channel.specs.History.{history_on};
 ghost use Rattle.pp_machine.specs.PpNo.{processor_count};
 ghost use Rattle.pp_text.specs.Authors.{AreAuthors, authors_on, or_told};
 
-use pp_channel::{CHANNELS, Channel, Entry, Seen};
+use pp_channel::{CHANNELS, Channel, Seen};
+use pp_line::Entry;
 use pp_machine::PpNo;
 use pp_runner::Worker;
 use std::alloc::{AllocError, Allocator};

@@ -3,7 +3,7 @@
 
 ghost use Rattle.std.specs.Prelude.{ℕ, ◌≡◌, ◌<◌, ◌↔◌, All, Bool, List, length, None};
 ghost use Rattle.pp_channel.specs.History.{IsLawful, history_on};
-ghost use Rattle.pp_channel.specs.Merge.{Merges};
+ghost use Rattle.pp_line.specs.Merge.{Merges};
 ghost use Rattle.pp_channel.specs.declared.event.Event.{Event};
 ghost use Rattle.pp_machine.specs.Headline.{HoldsOnEachChannel, opening_history};
 ghost use Rattle.pp_machine.specs.MachineState.{MachineState};

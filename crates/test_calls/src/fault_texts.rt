@@ -1,6 +1,7 @@
 //! The texts of faults and refusals.
 
-use pp_channel::{Memory, Worn};
+use pp_channel::Memory;
+use pp_line::Worn;
 use pp_machine::{CentralFault, Cut};
 use pp_runner::RunFault;
 use pp_sim::{DeckCode, DeckFault, LineFault, TextFault};

@@ -1,6 +1,7 @@
 //! Steps of channel words.
 
-use pp_channel::{ChanOp, Reply, WordStep, advance};
+use pp_channel::{ChanOp, Reply};
+use pp_line::{WordStep, advance};
 use std::test::Fail;
 use test_bench::{EMPTY, FULL, INACTIVE, word};
 

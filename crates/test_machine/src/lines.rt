@@ -2,7 +2,8 @@
 
 ghost use Rattle.std.specs.Prelude.{◌≡◌, ◌+◌, IfOk};
 
-use pp_channel::{ChanOp, Entry, Event, Line, Numbered, Reply, Seen, open_lines};
+use pp_channel::{ChanOp, Event, Numbered, Reply, Seen};
+use pp_line::{Entry, Line, open_lines};
 use std::alloc::{Allocator, Global};
 use std::process::Abort;
 use std::test::Fail;

@@ -2,7 +2,8 @@
 
 ghost use Rattle.std.specs.Prelude.{◌≡◌, IfOk};
 
-use pp_channel::{ChanOp, ChannelNo, Entry, Event, Line, open_lines};
+use pp_channel::{ChanOp, ChannelNo, Event};
+use pp_line::{Entry, Line, open_lines};
 use rationed::Rationed;
 use std::alloc::{Allocator, Global};
 use std::process::Abort;

@@ -2,7 +2,8 @@
 
 ghost use Rattle.std.specs.Prelude.{◌≡◌};
 
-use pp_channel::{ChanOp, ChannelNo, Entry, Line, Seen, open_lines};
+use pp_channel::{ChanOp, ChannelNo, Seen};
+use pp_line::{Entry, Line, open_lines};
 use std::alloc::Allocator;
 use std::test::Fail;
 use std::thread::join;

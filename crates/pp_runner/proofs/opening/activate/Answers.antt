@@ -1,7 +1,7 @@
 use Rattle.std.proofs.Common.{◌<◌, ap, arith}
 use Rattle.pp_channel.specs.ChannelNo.{channel_count, channel_index}
 use Rattle.pp_channel.specs.declared.chan_op.ChanOp.{ChanOp}
-use Rattle.pp_channel.proofs.OpeningLemmas.{activated, never_worn}
+use Rattle.pp_line.proofs.OpeningLemmas.{activated, never_worn}
 use Rattle.pp_runner.proofs.opening.activate.Goals as goal
 
 pub unreachable-requires : goal.unreachable-requires

@@ -1,9 +1,9 @@
 use Rattle.std.proofs.Common.{◌≡◌, ◌∙◌, ℕ, ◌+◌, ◌-◌, ◌<◌, List, [], ◌∷◌, ◌++◌, true, false, sym, ap, subst, arith}
 use Rattle.pp_channel.specs.ChannelNo.{channel_count, channel_number}
-use Rattle.pp_channel.specs.LineState.{LineState}
-use Rattle.pp_channel.specs.Merge.{IsOpeningLog, times_logged}
-use Rattle.pp_channel.specs.LineLog.{IsWithin, event_entry}
-use Rattle.pp_channel.specs.declared.entry.Entry.{Entry}
+use Rattle.pp_line.specs.LineState.{LineState}
+use Rattle.pp_line.specs.Merge.{IsOpeningLog, times_logged}
+use Rattle.pp_line.specs.LineLog.{IsWithin, event_entry}
+use Rattle.pp_line.specs.declared.entry.Entry.{Entry}
 use Rattle.pp_channel.specs.declared.event.Event.TheVariants.{Activate}
 use Rattle.pp_machine.specs.MachineState.{is_opened}
 use Rattle.pp_runner.proofs.OpeningLemmas.{opened_before, untold, one_opened, one_not_opened, all_opened, opened_seen}

@@ -1,7 +1,7 @@
 use Rattle.std.proofs.Common.{◌≡◌, ◌+◌, ◌≤◌, []}
 use Rattle.pp_channel.specs.ChannelNo.{channel_count}
-use Rattle.pp_channel.specs.Merge.{IsOpeningLog}
-use Rattle.pp_channel.specs.LineLog.{IsWithin}
+use Rattle.pp_line.specs.Merge.{IsOpeningLog}
+use Rattle.pp_line.specs.LineLog.{IsWithin}
 use Rattle.pp_runner.proofs.OpeningLemmas.{opened_before}
 use Rattle.pp_runner.proofs.opening.opening_line.Given as goal
 

@@ -1,9 +1,9 @@
 use Rattle.std.proofs.Common.{List, length, ap, sym, ◌∙◌, subst, arith}
 use Rattle.std.specs.Prelude.{All}
 use Rattle.std.proofs.lemmas.List.Elements.{All-nil}
-use Rattle.pp_channel.specs.LineState.{LineState, IsSplitFrom}
-use Rattle.pp_channel.specs.Merge.{IsOpeningLog}
-use Rattle.pp_channel.specs.declared.entry.Entry.{Entry}
+use Rattle.pp_line.specs.LineState.{LineState, IsSplitFrom}
+use Rattle.pp_line.specs.Merge.{IsOpeningLog}
+use Rattle.pp_line.specs.declared.entry.Entry.{Entry}
 use Rattle.pp_machine.specs.Headline.{opening_history}
 use Rattle.pp_machine.specs.Profile.{processors_in}
 use Rattle.pp_runner.proofs.CrewLemmas.{split_more, same_seen}

@@ -1,9 +1,9 @@
 use Rattle.std.proofs.Common.{◌≡◌, ◌+◌, [], length, vec_len}
 use Rattle.std.specs.Prelude.{All}
-use Rattle.pp_channel.specs.Merge.{IsOpeningLog}
+use Rattle.pp_line.specs.Merge.{IsOpeningLog}
 use Rattle.pp_machine.specs.Headline.{opening_history}
 use Rattle.pp_machine.specs.Profile.{processors_in}
-use Rattle.pp_channel.specs.LineState.{IsSplitFrom}
+use Rattle.pp_line.specs.LineState.{IsSplitFrom}
 use Rattle.pp_runner.specs.Labour.{HasSeen}
 use Rattle.pp_runner.proofs.threads.open_family.Given as goal
 

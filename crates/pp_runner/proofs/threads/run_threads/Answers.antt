@@ -3,17 +3,17 @@ use Rattle.std.specs.Prelude.{All}
 use Rattle.std.specs.List.{flat_map}
 use Rattle.std.proofs.lemmas.List.{length-take-le}
 use Rattle.std.proofs.lemmas.List.Elements.{All-tail, All-weaker}
-use Rattle.pp_channel.specs.LineState.{LineState, IsSplitFrom, all_joined, ForgetsNothing}
-use Rattle.pp_channel.specs.Merge.{IsRecordedBy, Merges, no_opening}
+use Rattle.pp_line.specs.LineState.{LineState, IsSplitFrom, all_joined, ForgetsNothing}
+use Rattle.pp_line.specs.Merge.{IsRecordedBy, Merges, no_opening}
 use Rattle.pp_channel.specs.History.{history_on}
-use Rattle.pp_channel.specs.LineLog.{seen_on}
-use Rattle.pp_channel.specs.declared.entry.Entry.{Entry}
+use Rattle.pp_line.specs.LineLog.{seen_on}
+use Rattle.pp_line.specs.declared.entry.Entry.{Entry}
 use Rattle.pp_channel.specs.declared.event.Event.{Event}
-use Rattle.pp_channel.proofs.JoinedLines.{joined_entries, joined_whole, same_parts}
-use Rattle.pp_channel.proofs.OpeningLemmas.{merges_after}
-use Rattle.pp_channel.proofs.OrderLemmas.{order_later}
-use Rattle.pp_channel.specs.Order.{IsTotalOrderOf, ExtendsEach, IsDrawnFrom, FindsWords, AreMade, entries_among, writes_among}
-use Rattle.pp_channel.specs.declared.access.Access.{Access}
+use Rattle.pp_line.proofs.JoinedLines.{joined_entries, joined_whole, same_parts}
+use Rattle.pp_line.proofs.OpeningLemmas.{merges_after}
+use Rattle.pp_line.proofs.OrderLemmas.{order_later}
+use Rattle.pp_line.specs.Order.{IsTotalOrderOf, ExtendsEach, IsDrawnFrom, FindsWords, AreMade, entries_among, writes_among}
+use Rattle.pp_line.specs.declared.access.Access.{Access}
 use Rattle.std.specs.List.{filter}
 use Rattle.pp_machine.specs.Headline.{opening_history}
 use Rattle.pp_machine.specs.Profile.{processors_in}

@@ -1,5 +1,5 @@
 use Rattle.std.proofs.Common.{rules, ◌∙◌, ap, None, slice_index_or, arith}
-use Rattle.pp_channel.specs.Merge.{times_logged}
+use Rattle.pp_line.specs.Merge.{times_logged}
 use Rattle.pp_text.proofs.AuthorLemmas.{author_push}
 use Rattle.pp_text.specs.Authors.{authors_on, or_told}
 use Rattle.pp_text.proofs.authors.authors.Goals as goal

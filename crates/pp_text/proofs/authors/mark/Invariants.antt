@@ -1,5 +1,5 @@
 use Rattle.std.proofs.Common.{◌≡◌, ◌<◌, ℕ, None, length, slice_index_or, take}
-use Rattle.pp_channel.specs.Merge.{times_logged}
+use Rattle.pp_line.specs.Merge.{times_logged}
 use Rattle.std.specs.Prelude.{IsTrue, nat_lt}
 use Rattle.pp_channel.specs.ChannelNo.{channel_count, names_channel}
 use Rattle.pp_text.specs.Authors.{authors_on, or_told}

@@ -1,6 +1,6 @@
 use Rattle.std.proofs.Common.{◌≡◌, ◌<◌, ◌+◌, ℕ, List, length, refl, sym, ap, ◌∙◌, subst, arith, rules}
 use Rattle.std.specs.Prelude.{vec_len, vec_capacity}
-use Rattle.pp_channel.specs.LineLog.{seen_on}
+use Rattle.pp_line.specs.LineLog.{seen_on}
 use Rattle.pp_machine.specs.NeedAndEffect.{need}
 use Rattle.pp_machine.specs.Processor.{Processor}
 use Rattle.pp_machine.specs.declared.answer.Answer.{Answer}

@@ -1,0 +1,270 @@
+-- What the word of a history says, the word after one more event, and what a step from a word says of its histories.
+use Rattle.std.proofs.Common.{◌≡◌, ◌≢◌, ℕ, ◌+◌, ◌/◌, ◌%◌, ◌^◌, ◌<◌, ◌==◌, ◌&&◌, Bool, true, false, List, [], ◌∷◌, ◌++◌, length, Option, Some, None, refl, sym, ap, ◌∙◌, subst, inl, inr, arith}
+use Rattle.std.specs.Prelude.{if◌then◌else◌, not, unwrap_or, All, ◌⊎◌}
+use Rattle.std.specs.List.{AllByRecursion, last_or}
+use Rattle.std.proofs.lemmas.Bool.{eq-eqb, ne_eqb, eqb-true}
+use Rattle.std.proofs.lemmas.List.{length_push}
+use Rattle.std.proofs.lemmas.List.Elements.{All-nil, All-cons, All-head, All-tail, All-drop, recursion_from_All}
+use Rattle.pp_channel.specs.declared.event.Event.{Event}
+use Rattle.pp_channel.specs.declared.event.Event.TheVariants.{Activate, Disconnect, Put, Take, Function}
+use Rattle.pp_channel.specs.declared.chan_op.ChanOp.{ChanOp}
+use Rattle.pp_channel.specs.declared.flags.Flags.{Flags}
+use Rattle.pp_channel.specs.declared.reply.Reply.{Reply}
+use Rattle.pp_line.specs.declared.word_step.WordStep.{WordStep}
+use Rattle.pp_channel.specs.Session.{puts, takes, word_put}
+use Rattle.pp_channel.specs.History.{IsLawful, HasTwelveBitWord, HasTwelveBitWords, active, full, waiting, last_stretch}
+use Rattle.pp_channel.specs.Answer.{IsReady, IsAnswer, channel_state, only_looks, reply_shown, event_by, event_of, flags_of, flags_after, reply_made}
+use Rattle.pp_line.specs.ChannelWord.{packed, history_word, number_in, flags_in, register_in, greatest_number, waiting_in, state_in, word_with, step_by, step_from, StepsFrom}
+use Rattle.pp_channel.specs.AnswerLaws.{acts_where_made, look_makes_none}
+use Rattle.pp_channel.proofs.HistoryLemmas.{waiting_small}
+use Rattle.pp_channel.proofs.AnswerLemmas.{answered_where_none, ready_of_table, table_of_ready, none_without_ready, lawful_with_event, flags_by_table, word_by_table}
+
+-- what was packed is read again
+number_packed : (n : ℕ) (a f : Bool) (r : ℕ) → r < 2 ^ 12 → number_in (packed n (record { active = a; full = f }) r) ≡ n
+number_packed n true true r low = omega arith
+number_packed n true false r low = omega arith
+number_packed n false true r low = omega arith
+number_packed n false false r low = omega arith
+
+register_packed : (n : ℕ) (a f : Bool) (r : ℕ) → r < 2 ^ 12 → register_in (packed n (record { active = a; full = f }) r) ≡ r
+register_packed n true true r low = omega arith
+register_packed n true false r low = omega arith
+register_packed n false true r low = omega arith
+register_packed n false false r low = omega arith
+
+active_packed : (n : ℕ) (a f : Bool) (r : ℕ) → r < 2 ^ 12 → (packed n (record { active = a; full = f }) r / 2 ^ 13 % 2 == 1) ≡ a
+active_packed n true true r low = eq-eqb (packed n (record { active = true; full = true }) r / 2 ^ 13 % 2) 1 (omega arith)
+active_packed n true false r low = eq-eqb (packed n (record { active = true; full = false }) r / 2 ^ 13 % 2) 1 (omega arith)
+active_packed n false true r low = ne_eqb (packed n (record { active = false; full = true }) r / 2 ^ 13 % 2) 1 (λ e. omega arith)
+active_packed n false false r low = ne_eqb (packed n (record { active = false; full = false }) r / 2 ^ 13 % 2) 1 (λ e. omega arith)
+
+full_packed : (n : ℕ) (a f : Bool) (r : ℕ) → r < 2 ^ 12 → (packed n (record { active = a; full = f }) r / 2 ^ 12 % 2 == 1) ≡ f
+full_packed n true true r low = eq-eqb (packed n (record { active = true; full = true }) r / 2 ^ 12 % 2) 1 (omega arith)
+full_packed n false true r low = eq-eqb (packed n (record { active = false; full = true }) r / 2 ^ 12 % 2) 1 (omega arith)
+full_packed n true false r low = ne_eqb (packed n (record { active = true; full = false }) r / 2 ^ 12 % 2) 1 (λ e. omega arith)
+full_packed n false false r low = ne_eqb (packed n (record { active = false; full = false }) r / 2 ^ 12 % 2) 1 (λ e. omega arith)
+
+flags_packed : (n : ℕ) (g : Flags) (r : ℕ) → r < 2 ^ 12 → flags_in (packed n g r) ≡ g
+flags_packed n g r low =
+    ap (λ x. record { active = x; full = packed n g r / 2 ^ 12 % 2 == 1 }) (active_packed n g.active g.full r low) ∙ ap (λ x. record { active = g.active; full = x }) (full_packed n g.active g.full r low)
+
+-- what the word of a history says of it, be the history lawful or not
+pub number_of_word : (h : List Event) → HasTwelveBitWords h → number_in (history_word h) ≡ length h
+number_of_word h bits = number_packed (length h) (active h) (full h) (unwrap_or (waiting h) 0) (waiting_small h bits)
+
+pub flags_of_word : (h : List Event) → HasTwelveBitWords h → flags_in (history_word h) ≡ flags_of h
+flags_of_word h bits = flags_packed (length h) (flags_of h) (unwrap_or (waiting h) 0) (waiting_small h bits)
+
+register_of_word : (h : List Event) → HasTwelveBitWords h → register_in (history_word h) ≡ unwrap_or (waiting h) 0
+register_of_word h bits = register_packed (length h) (active h) (full h) (unwrap_or (waiting h) 0) (waiting_small h bits)
+
+last_is : (w : ℕ) (ws : List ℕ) → Some (unwrap_or (last_or (Some w) ws) 0) ≡ last_or (Some w) ws
+last_is w [] = refl
+last_is w (v ∷ ws) = last_is v ws
+
+waits_in : (a : Bool) (ps ts : List ℕ) (b : Bool) → (length ps == length ts + 1) ≡ b
+    → (if a && (a && b) then Some (unwrap_or (if a && b then last_or None ps else None) 0) else None) ≡ (if a && b then last_or None ps else None)
+waits_in false ps ts b is = refl
+waits_in true ps ts false is = refl
+waits_in true (p ∷ ps) ts true is = last_is p ps
+waits_in true [] ts true is = absurd (omega (arith, eqb-true 0 (length ts + 1) is))
+
+pub waiting_of_word : (h : List Event) → HasTwelveBitWords h → waiting_in (history_word h) ≡ waiting h
+waiting_of_word h bits =
+    ap (λ g. if g.active && g.full then Some (register_in (history_word h)) else None) (flags_of_word h bits)
+    ∙ (ap (λ r. if active h && full h then Some r else None) (register_of_word h bits)
+    ∙ waits_in (active h) (puts (last_stretch h)) (takes (last_stretch h)) (length (puts (last_stretch h)) == length (takes (last_stretch h)) + 1) refl)
+
+pub event_of_word : (op : ChanOp) (h : List Event) → HasTwelveBitWords h → event_by op (flags_in (history_word h)) (waiting_in (history_word h)) ≡ event_of op h
+event_of_word op h bits =
+    ap (λ g. event_by op g (waiting_in (history_word h))) (flags_of_word h bits) ∙ ap (λ w. event_by op (flags_of h) w) (waiting_of_word h bits)
+
+-- the same of a word that is known to be that of a history
+pub number_at_word : (word : ℕ) (h : List Event) → HasTwelveBitWords h → history_word h ≡ word → number_in word ≡ length h
+number_at_word word h bits same = ap number_in (sym same) ∙ number_of_word h bits
+
+pub flags_at_word : (word : ℕ) (h : List Event) → HasTwelveBitWords h → history_word h ≡ word → flags_in word ≡ flags_of h
+flags_at_word word h bits same = ap flags_in (sym same) ∙ flags_of_word h bits
+
+event_at_word : (op : ChanOp) (word : ℕ) (o : Option Event) (h : List Event) → HasTwelveBitWords h → history_word h ≡ word → event_by op (flags_in word) (waiting_in word) ≡ o → event_of op h ≡ o
+event_at_word op word o h bits same is = sym (event_of_word op h bits) ∙ (ap (λ w. event_by op (flags_in w) (waiting_in w)) same ∙ is)
+
+state_of_word : (h : List Event) → HasTwelveBitWords h → state_in (history_word h) ≡ channel_state h
+state_of_word h bits =
+    ap (λ f. record { flags = f; register = waiting_in (history_word h) }) (flags_of_word h bits) ∙ ap (λ w. record { flags = flags_of h; register = w }) (waiting_of_word h bits)
+
+-- the word of a lawful history with an event by which it stays lawful
+word_after_event : (h : List Event) (e : Event) → IsLawful h → HasTwelveBitWords h → IsLawful (h ++ e ∷ []) → word_with (history_word h) e ≡ history_word (h ++ e ∷ [])
+word_after_event h e l bits more =
+    let n : number_in (history_word h) + 1 ≡ length (h ++ e ∷ []) = ap (λ x. x + 1) (number_of_word h bits) ∙ sym (length_push h e) in
+    ap (λ x. packed x (flags_after e) (unwrap_or (word_put e) 0)) n
+    ∙ (ap (λ g. packed (length (h ++ e ∷ [])) g (unwrap_or (word_put e) 0)) (sym (flags_by_table h e l more))
+    ∙ ap (λ w. packed (length (h ++ e ∷ [])) (flags_of (h ++ e ∷ [])) (unwrap_or w 0)) (sym (word_by_table h e l more)))
+
+-- an operation that does more than look, on a word that can count no more
+worn_if : (look most : Bool) → (not look && most) ≡ true → (look ≡ false) × (most ≡ true)
+worn_if true most is = absurd cc
+worn_if false most is = (refl, is)
+
+not_worn_if : (look most : Bool) → (not look && most) ≡ false → look ≡ false → most ≡ false
+not_worn_if true most is acts = absurd cc
+not_worn_if false most is acts = is
+
+room_if : (look most : Bool) → (look ≡ false → most ≡ false) → (not look && most) ≡ false
+room_if true most room = refl
+room_if false most room = room refl
+
+abbrev step_if : ChanOp → ℕ → Bool → WordStep
+step_if op word worn = if worn then WordStep.Worn else step_by op word (event_by op (flags_in word) (waiting_in word))
+
+abbrev shown_if : Bool → Flags → WordStep
+shown_if look f = if look then WordStep.Look f else WordStep.Held f
+
+steps_below : (op : ChanOp) (word : ℕ) (o : Option Event) → (only_looks op ≡ false → number_in word ≢ greatest_number) → event_by op (flags_in word) (waiting_in word) ≡ o → step_from op word ≡ step_by op word o
+steps_below op word o room is =
+    ap (step_if op word) (room_if (only_looks op) (number_in word == greatest_number) (λ acts. ne_eqb (number_in word) greatest_number (room acts)))
+    ∙ ap (λ x. step_by op word x) is
+
+steps_worn : (op : ChanOp) (word : ℕ) → only_looks op ≡ false → number_in word ≡ greatest_number → step_from op word ≡ WordStep.Worn
+steps_worn op word acts most =
+    ap (λ look. step_if op word (not look && (number_in word == greatest_number))) acts ∙ ap (step_if op word) (eq-eqb (number_in word) greatest_number most)
+
+-- what a step can be: an operation finds the channel worn, or is shown how it stands, or makes its event
+abbrev FindsWorn : ChanOp → ℕ → WordStep → Type 0
+FindsWorn op word step = (only_looks op ≡ false) × (number_in word ≡ greatest_number) × (step ≡ WordStep.Worn)
+
+abbrev Shows : ChanOp → ℕ → WordStep → Type 0
+Shows op word step = (only_looks op ≡ false → number_in word ≢ greatest_number) × (event_by op (flags_in word) (waiting_in word) ≡ None) × (step ≡ step_by op word None)
+
+abbrev Makes : ChanOp → ℕ → WordStep → Type 0
+Makes op word step = (only_looks op ≡ false) × (number_in word ≢ greatest_number)
+    × ((e : Event) × (event_by op (flags_in word) (waiting_in word) ≡ Some e) × (step ≡ WordStep.Next (word_with word e) (reply_made e)))
+
+abbrev Kind : ChanOp → ℕ → WordStep → Type 0
+Kind op word step = FindsWorn op word step ⊎ (Shows op word step ⊎ Makes op word step)
+
+kind_below : (op : ChanOp) (word : ℕ) (step : WordStep) → (only_looks op ≡ false → number_in word ≢ greatest_number) → step ≡ step_from op word → (o : Option Event) → event_by op (flags_in word) (waiting_in word) ≡ o → Kind op word step
+kind_below op word step room is None at = inr (inl (room, at, is ∙ steps_below op word None room at))
+kind_below op word step room is (Some e) at =
+    let acts = acts_where_made op (flags_in word) (waiting_in word) e at in
+    inr (inr (acts, room acts, (e, at, is ∙ steps_below op word (Some e) room at)))
+
+kind_by : (op : ChanOp) (word : ℕ) (step : WordStep) → step ≡ step_from op word → (worn : Bool) → (not (only_looks op) && (number_in word == greatest_number)) ≡ worn → Kind op word step
+kind_by op word step is true at =
+    let worn = worn_if (only_looks op) (number_in word == greatest_number) at in
+    inl (worn.0, eqb-true (number_in word) greatest_number worn.1, is ∙ ap (step_if op word) at)
+kind_by op word step is false at =
+    kind_below op word step
+    (λ acts most. let less = not_worn_if (only_looks op) (number_in word == greatest_number) at acts in let same = eq-eqb (number_in word) greatest_number most in let both : true ≡ false = sym same ∙ less in cc)
+    is (event_by op (flags_in word) (waiting_in word)) refl
+
+kind_of : (op : ChanOp) (word : ℕ) (step : WordStep) → step ≡ step_from op word → Kind op word step
+kind_of op word step is = kind_by op word step is (not (only_looks op) && (number_in word == greatest_number)) refl
+
+-- a step that leaves the word as it is
+abbrev pub Stays : WordStep → Type 0
+Stays (WordStep.Look f) = Unit {0}
+Stays (WordStep.Held f) = Unit {0}
+Stays (WordStep.Next next reply) = ⊥
+Stays WordStep.Worn = ⊥
+
+stays_if : (look : Bool) (f : Flags) → Stays (shown_if look f)
+stays_if true f = tt
+stays_if false f = tt
+
+stays_where_shown : (op : ChanOp) (word : ℕ) (step : WordStep) → step ≡ step_by op word None → Stays step
+stays_where_shown op word step is = subst Stays (sym is) (stays_if (only_looks op) (flags_in word))
+
+pub stays_either : (step : WordStep) → ((f : Flags) × (step ≡ WordStep.Look f)) ⊎ ((f : Flags) × (step ≡ WordStep.Held f)) → Stays step
+stays_either step (inl (f, is)) = subst Stays (sym is) tt
+stays_either step (inr (f, is)) = subst Stays (sym is) tt
+
+worn_by_kind : (word : ℕ) (op : ChanOp) → Kind op word WordStep.Worn → (only_looks op ≡ false) × (number_in word ≡ greatest_number)
+worn_by_kind word op (inl k) = (k.0, k.1)
+worn_by_kind word op (inr (inl k)) = absurd (stays_where_shown op word WordStep.Worn k.2)
+worn_by_kind word op (inr (inr k)) = absurd (let is = k.2.2 in cc)
+
+shown_by_kind : (word : ℕ) (op : ChanOp) (step : WordStep) → Stays step → Kind op word step → (only_looks op ≡ false → number_in word ≢ greatest_number) × (event_by op (flags_in word) (waiting_in word) ≡ None)
+shown_by_kind word op (WordStep.Look f) stays (inl k) = absurd cc
+shown_by_kind word op (WordStep.Look f) stays (inr (inl k)) = (k.0, k.1)
+shown_by_kind word op (WordStep.Look f) stays (inr (inr k)) = absurd (let is = k.2.2 in cc)
+shown_by_kind word op (WordStep.Held f) stays (inl k) = absurd cc
+shown_by_kind word op (WordStep.Held f) stays (inr (inl k)) = (k.0, k.1)
+shown_by_kind word op (WordStep.Held f) stays (inr (inr k)) = absurd (let is = k.2.2 in cc)
+shown_by_kind word op (WordStep.Next next reply) stays kind = absurd stays
+shown_by_kind word op WordStep.Worn stays kind = absurd stays
+
+next_by_kind : (word : ℕ) (op : ChanOp) (next : ℕ) (reply : Reply) → Kind op word (WordStep.Next next reply)
+    → (only_looks op ≡ false) × (number_in word ≢ greatest_number) × ((e : Event) × (event_by op (flags_in word) (waiting_in word) ≡ Some e) × (next ≡ word_with word e) × (reply ≡ reply_made e))
+next_by_kind word op next reply (inl k) = absurd cc
+next_by_kind word op next reply (inr (inl k)) = absurd (stays_where_shown op word (WordStep.Next next reply) k.2)
+next_by_kind word op next reply (inr (inr k)) = (k.0, k.1, (k.2.0, k.2.1, (let is = k.2.2 in cc), (let is = k.2.2 in cc)))
+
+-- what each step says of the word
+pub worn_by_table : (word : ℕ) (op : ChanOp) → WordStep.Worn ≡ step_from op word → (only_looks op ≡ false) × (number_in word ≡ greatest_number)
+worn_by_table word op is = worn_by_kind word op (kind_of op word WordStep.Worn is)
+
+pub shown_by_table : (word : ℕ) (op : ChanOp) (step : WordStep) → Stays step → step ≡ step_from op word
+    → (only_looks op ≡ false → number_in word ≢ greatest_number) × (event_by op (flags_in word) (waiting_in word) ≡ None)
+shown_by_table word op step stays is = shown_by_kind word op step stays (kind_of op word step is)
+
+pub next_by_table : (word : ℕ) (op : ChanOp) (next : ℕ) (reply : Reply) → WordStep.Next next reply ≡ step_from op word
+    → (only_looks op ≡ false) × (number_in word ≢ greatest_number) × ((e : Event) × (event_by op (flags_in word) (waiting_in word) ≡ Some e) × (next ≡ word_with word e) × (reply ≡ reply_made e))
+next_by_table word op next reply is = next_by_kind word op next reply (kind_of op word (WordStep.Next next reply) is)
+
+-- the same where the event is at hand
+pub next_by_event : (word : ℕ) (op : ChanOp) (e : Event) (next : ℕ) (reply : Reply) → WordStep.Next next reply ≡ step_from op word → Some e ≡ event_by op (flags_in word) (waiting_in word)
+    → (only_looks op ≡ false) × (number_in word ≢ greatest_number) × (next ≡ word_with word e) × (reply ≡ reply_made e)
+next_by_event word op e next reply stepped made =
+    let k = next_by_table word op next reply stepped in
+    let same : k.2.0 ≡ e = let both : Some k.2.0 ≡ Some e = sym k.2.1 ∙ sym made in cc in
+    (k.0, k.1, k.2.2 ∙ ap (λ x. word_with word x) same, k.2.3 ∙ ap reply_made same)
+
+-- each history of the word goes on with the event to one of the next word
+pub next_word : (word : ℕ) (op : ChanOp) (e : Event) (next : ℕ) (reply : Reply) → WordStep.Next next reply ≡ step_from op word → Some e ≡ event_by op (flags_in word) (waiting_in word) → HasTwelveBitWord e
+    → (h : List Event) → IsLawful h → HasTwelveBitWords h → history_word h ≡ word
+    → IsLawful (h ++ e ∷ []) × HasTwelveBitWord e × (history_word (h ++ e ∷ []) ≡ next)
+next_word word op e next reply stepped made small h l bits same =
+    let event : event_of op h ≡ Some e = event_at_word op word (Some e) h bits same (sym made) in
+    let more = lawful_with_event h op e l event in
+    let is = next_by_event word op e next reply stepped made in
+    (more, small, sym (word_after_event h e l bits more) ∙ (ap (λ w. word_with w e) same ∙ sym is.2))
+
+-- what the answer is on a history of the word
+pub ready_at_word : (word : ℕ) (op : ChanOp) (e : Event) → Some e ≡ event_by op (flags_in word) (waiting_in word) → (h : List Event) → IsLawful h → HasTwelveBitWords h → history_word h ≡ word → IsReady h op e
+ready_at_word word op e made h l bits same = ready_of_table h op e l (event_at_word op word (Some e) h bits same (sym made))
+
+pub answer_made : (word : ℕ) (op : ChanOp) (e : Event) (next : ℕ) (reply : Reply) → WordStep.Next next reply ≡ step_from op word → Some e ≡ event_by op (flags_in word) (waiting_in word)
+    → (h : List Event) → IsLawful h → HasTwelveBitWords h → history_word h ≡ word → IsAnswer h op reply (h ++ e ∷ [])
+answer_made word op e next reply stepped made h l bits same =
+    inl (e, record { ready = ready_at_word word op e made h l bits same; answered = (next_by_event word op e next reply stepped made).3; recorded = refl })
+
+pub answer_shown : (word : ℕ) (op : ChanOp) (step : WordStep) → Stays step → step ≡ step_from op word
+    → (h : List Event) → IsLawful h → HasTwelveBitWords h → history_word h ≡ word → IsAnswer h op (reply_shown op (state_in word)) h
+answer_shown word op step stays is h l bits same =
+    let k = shown_by_table word op step stays is in
+    answered_where_none h op (reply_shown op (state_in word)) l (event_at_word op word None h bits same k.1) (ap (λ w. reply_shown op (state_in w)) (sym same) ∙ ap (reply_shown op) (state_of_word h bits))
+
+-- the step is the one by the histories
+steps_from_word : (h : List Event) (op : ChanOp) → IsLawful h → HasTwelveBitWords h → StepsFrom h op (step_from op (history_word h))
+steps_from_word h op l bits =
+    let n = number_of_word h bits in
+    record {
+      looks = λ looks.
+          steps_below op (history_word h) None (λ acts most. let both : true ≡ false = sym looks ∙ acts in cc) (event_of_word op h bits ∙ look_makes_none op (flags_of h) (waiting h) looks)
+          ∙ ap (λ look. shown_if look (flags_in (history_word h))) looks
+          ∙ ap (λ f. WordStep.Look f) (flags_of_word h bits);
+      ready = λ e room r.
+          steps_below op (history_word h) (Some e) (λ acts most. omega arith) (event_of_word op h bits ∙ table_of_ready h l op e r)
+          ∙ ap (λ w. WordStep.Next w (reply_made e)) (word_after_event h e l bits r.lawful);
+      not_ready = λ acts room never.
+          steps_below op (history_word h) None (λ acts most. omega arith) (event_of_word op h bits ∙ none_without_ready h l op never (event_of op h) refl)
+          ∙ ap (λ look. shown_if look (flags_in (history_word h))) acts
+          ∙ ap (λ f. WordStep.Held f) (flags_of_word h bits);
+      worn = λ acts most. steps_worn op (history_word h) acts (n ∙ most);
+    }
+
+pub steps_as_histories : (word : ℕ) (op : ChanOp) (step : WordStep) → step ≡ step_from op word → (h : List Event) → IsLawful h → HasTwelveBitWords h → history_word h ≡ word → StepsFrom h op step
+steps_as_histories word op step is h l bits same =
+    let P : WordStep → Type 0 = λ s. StepsFrom h op s in
+    subst P (ap (λ w. step_from op w) same ∙ sym is) (steps_from_word h op l bits)

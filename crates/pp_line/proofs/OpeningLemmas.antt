@@ -1,0 +1,188 @@
+-- The log of a line that opened channels: what the other logs merge to without it, and what one Activate writes there.
+use Rattle.std.proofs.Common.{◌≡◌, ℕ, suc, ◌+◌, ◌<◌, ◌≤◌, ◌≢◌, inr, ⊎_elim, eqb, true, false, cond, List, [], ◌∷◌, ◌++◌, length, take, refl, sym, ap, ◌∙◌, subst, arith}
+use mathlib.Core.Logic.{dite}
+use native.Mathlib.Decide.{ℕ_discrete}
+use Rattle.std.specs.Prelude.{Some, ◌&&◌, slice_get, slice_set}
+use Rattle.std.specs.List.{All}
+use Rattle.std.proofs.lemmas.Bool.{cases_lt, cases_Bool, eqb-true, and_parts, false≢true}
+use Rattle.std.proofs.lemmas.List.{append-nil, nil_from_length, get_or-set_same}
+use Rattle.std.proofs.lemmas.List.Elements.{All-head, All-tail, All-nil, All-push, All-weaker}
+use Rattle.std.proofs.lemmas.List.Sums.{sum_by-cons}
+use Rattle.std.proofs.lemmas.Option.{slice_get_within}
+use Rattle.pp_channel.specs.declared.chan_op.ChanOp.{ChanOp}
+use Rattle.pp_channel.specs.declared.event.Event.{Event}
+use Rattle.pp_channel.specs.declared.event.Event.TheVariants.{Activate}
+use Rattle.pp_line.specs.declared.entry.Entry.{Entry}
+use Rattle.pp_channel.specs.declared.seen.Seen.{Seen}
+use Rattle.pp_channel.specs.declared.seen.Seen.TheVariants.{Did, Saw}
+use Rattle.pp_channel.specs.declared.numbered.Numbered.{Numbered}
+use Rattle.pp_channel.specs.declared.reply.Reply.{Reply}
+use Rattle.pp_channel.specs.Answer.{IsAnswer, seen_answered}
+use Rattle.pp_channel.specs.ChannelNo.{channel_count, channel_index}
+use Rattle.pp_channel.specs.Law.{IsPrefix}
+use Rattle.pp_line.specs.LineLog.{is_event, appended, with_seen, event_entry}
+use Rattle.pp_line.specs.LineState.{LineState, IsActed, IsWornOut, number_after}
+use Rattle.pp_line.specs.Merge.{IsTrueAt, IsTrueOf, logs_event, times_logged, Merges, IsOpeningLog, no_opening}
+use Rattle.pp_channel.specs.History.{history_on}
+use Rattle.pp_channel.proofs.AnswerLemmas.{answer_by_table}
+use Rattle.pp_channel.proofs.HistoryLemmas.{lawful_empty}
+use Rattle.pp_line.proofs.ListFacts.{All-front, All-back}
+use Rattle.pp_line.proofs.MergeLemmas.{once_inside, once_past, told_by, told_here, told_not, told_elsewhere, true_front, tells_once, times_told-append, times_told_push}
+
+-- an entry is true of histories, one for each number of a channel
+abbrev IsTrueIn : (ℕ → List Event) → Entry → Type 0
+IsTrueIn h entry = IsTrueAt (h entry.channel) entry.number entry.what
+
+-- an entry that tells an event, and is true of two histories, shows that they have the same event there
+same_by_entry : (c number : ℕ) (g h : ℕ → List Event) (d n : ℕ) (what : Seen) → (is_event what && (eqb d c) && (eqb n number)) ≡ true → IsTrueAt (g d) n what → IsTrueAt (h d) n what → slice_get (g c) number ≡ slice_get (h c) number
+same_by_entry c number g h d n (Did e) t p q =
+    let both = and_parts (eqb d c) (eqb n number) t in
+    let channel : d ≡ c = eqb-true d c both.0 in
+    let at : n ≡ number = eqb-true n number both.1 in
+    let same : slice_get (g d) n ≡ slice_get (h d) n = p ∙ sym q in
+    subst (λ x. slice_get (g x) number ≡ slice_get (h x) number) channel (subst (λ k. slice_get (g d) k ≡ slice_get (h d) k) at same)
+same_by_entry c number g h d n (Saw f) t p q = absurd (false≢true t)
+
+-- so does a log that tells it
+same_by_log : (c number : ℕ) (g h : ℕ → List Event) (log : List Entry) → 0 < times_logged c number log → All (IsTrueIn g) log → All (IsTrueIn h) log → slice_get (g c) number ≡ slice_get (h c) number
+same_by_log c number g h [] l p q = absurd (omega arith)
+same_by_log c number g h (entry ∷ log) l p q =
+    let sum : times_logged c number (entry ∷ log) ≡ told_by c number entry + times_logged c number log = sum_by-cons (told_by c number) entry log in
+    ⊎_elim (λ (t : logs_event c number entry ≡ true). same_by_entry c number g h entry.channel entry.number entry.what t (All-head (IsTrueIn g) entry log p) (All-head (IsTrueIn h) entry log q))
+    (λ (t : logs_event c number entry ≡ false).
+    let none : told_by c number entry ≡ 0 = ap (λ b. cond b 1 0) t in
+    same_by_log c number g h log (omega arith) (All-tail (IsTrueIn g) entry log p) (All-tail (IsTrueIn h) entry log q)) (cases_Bool (logs_event c number entry))
+
+-- a list whose elements stand at the same places of another is its front
+prefix_by_places : {X : Type 0} (some all : List X) → ((n : ℕ) → n < length some → slice_get some n ≡ slice_get all n) → IsPrefix some all
+prefix_by_places [] all same = (all, refl)
+prefix_by_places (x ∷ some) [] same = let none : 0 < 0 = slice_get_within [] 0 x (sym (same 0 (omega arith))) in absurd (omega arith)
+prefix_by_places (x ∷ some) (y ∷ all) same =
+    let first : Some x ≡ Some y = same 0 (omega arith) in
+    let is : x ≡ y = cc in
+    let rest = prefix_by_places some all (λ n l. same (suc n) (omega arith)) in
+    (rest.0, ap (λ l. x ∷ l) rest.1 ∙ ap (λ z. z ∷ all) is)
+
+-- one log beside another that is taken out
+merges_by_counts : (opening : ℕ → List Event) (histories : List (List Event)) (first log whole : List Entry)
+    → IsOpeningLog opening first → Merges no_opening histories whole
+    → ((c number : ℕ) → times_logged c number whole ≡ times_logged c number first + times_logged c number log)
+    → All (IsTrueOf histories) first → All (IsTrueOf histories) log → Merges opening histories log
+merges_by_counts opening histories first log whole is m sum first_true log_true =
+    let counted = tells_once histories whole m in
+    record {
+      once = λ c number from below.
+          let w = counted c number ∙ once_inside number (length (history_on c histories)) below in
+          let f = is.no_other c number from in
+          let s = sum c number in omega (arith, w, f, s);
+      no_other = λ c number out.
+          ⊎_elim (λ (l : number < length (opening c)).
+          let f = is.once c number l in
+          let s = sum c number in
+          let w = counted c number in
+          ⊎_elim (λ (below : number < length (history_on c histories)). let o = once_inside number (length (history_on c histories)) below in omega (arith, w, f, s, o))
+          (λ (past : length (history_on c histories) ≤ number). let o = once_past number (length (history_on c histories)) past in omega (arith, w, f, s, o))
+          (cases_lt number (length (history_on c histories))))
+          (λ (past : length (history_on c histories) ≤ number).
+          let w = counted c number ∙ once_past number (length (history_on c histories)) past in
+          let s = sum c number in omega (arith, w, s)) out;
+      begins = λ c. prefix_by_places (opening c) (history_on c histories)
+          (λ number l. let f = is.once c number l in same_by_log c number opening (λ d. history_on d histories) first (omega (arith, f)) is.entries_true first_true);
+      entries_true = log_true;
+    }
+
+-- Where a log of opening histories and then other logs merge over none, the others merge over the opening histories.
+pub merges_after : (opening : ℕ → List Event) (histories : List (List Event)) (first log : List Entry)
+    → IsOpeningLog opening first → Merges no_opening histories (first ++ log) → Merges opening histories log
+merges_after opening histories first log is m =
+    merges_by_counts opening histories first log (first ++ log) is m (λ c number. times_told-append c number first log)
+    (All-front (IsTrueOf histories) first log m.entries_true) (All-back (IsTrueOf histories) first log m.entries_true)
+
+-- one channel more has an opening history, an Activate
+pub opening_more : (before after : ℕ → List Event) (c : ℕ) (log : List Entry) → before c ≡ [] → after c ≡ Activate ∷ [] → ((d : ℕ) → d ≢ c → after d ≡ before d) → IsOpeningLog before log → IsOpeningLog after (log ++ event_entry c 0 Activate ∷ [])
+opening_more before after c log none one same is =
+    let entry : Entry = event_entry c 0 Activate in
+    let empty : length (before c) ≡ 0 = ap length none in
+    let single : length (after c) ≡ 1 = ap length one in
+    let at_c : (d : ℕ) → d ≡ c → length (after d) ≡ 1 = λ d e. ap (λ x. length (after x)) e ∙ single in
+    let was_c : (d number : ℕ) → d ≡ c → times_logged d number log ≡ 0 = λ d number e. ap (λ x. times_logged x number log) e ∙ is.no_other c number (omega (arith, empty)) in
+    let elsewhere : (d : ℕ) → d ≢ c → length (after d) ≡ length (before d) = λ d other. ap length (same d other) in
+    let grows : (d : ℕ) → IsPrefix (before d) (after d) = λ d. dite (ℕ_discrete d c)
+    (λ (e : d ≡ c). (Activate ∷ [], ap (λ h. h ++ Activate ∷ []) (ap before e ∙ none) ∙ sym (ap after e ∙ one)))
+    (λ (other : d ≢ c). ([], append-nil (before d) ∙ sym (same d other))) in
+    record {
+      once = λ d number below.
+          let sum = times_told_push d number log entry in
+          dite (ℕ_discrete d c)
+          (λ (e : d ≡ c).
+          let first : 0 ≡ number = omega (arith, below, at_c d e) in
+          let here = told_here d number c 0 Activate (sym e) first in
+          let was = was_c d number e in omega (arith, sum, here, was))
+          (λ (other : d ≢ c).
+          let away = told_elsewhere d number c 0 Activate (λ e. other (sym e)) in
+          let was = is.once d number (omega (arith, below, elsewhere d other)) in omega (arith, sum, away, was));
+      no_other = λ d number from.
+          let sum = times_told_push d number log entry in
+          dite (ℕ_discrete d c)
+          (λ (e : d ≡ c).
+          let later : 0 ≢ number = omega (arith, from, at_c d e) in
+          let away = told_not d number c 0 Activate (inr later) in
+          let was = was_c d number e in omega (arith, sum, away, was))
+          (λ (other : d ≢ c).
+          let away = told_elsewhere d number c 0 Activate (λ e. other (sym e)) in
+          let was = is.no_other d number (omega (arith, from, elsewhere d other)) in omega (arith, sum, away, was));
+      entries_true = All-push (IsTrueIn after) log entry
+          (All-weaker (IsTrueIn before) (IsTrueIn after) (λ x p. let g = grows x.channel in
+          subst (λ h. IsTrueAt h x.number x.what) g.1 (true_front (before x.channel) g.0 x.number x.what p)) log is.entries_true)
+          (ap (λ h. slice_get h 0) one);
+    }
+
+-- histories that are the same
+pub opening_same : (before after : ℕ → List Event) (log : List Entry) → ((d : ℕ) → before d ≡ after d) → IsOpeningLog before log → IsOpeningLog after log
+opening_same before after log same is = subst (λ (h : ℕ → List Event). IsOpeningLog h log) (λ i d. same d i) is
+
+-- an empty log is that of no histories
+pub opening_none : (opening : ℕ → List Event) (log : List Entry) → ((d : ℕ) → opening d ≡ []) → log ≡ [] → IsOpeningLog opening log
+opening_none opening log none is =
+    let empty : IsOpeningLog no_opening [] = record { once = λ c number below. absurd (omega arith); no_other = λ c number from. refl; entries_true = All-nil (IsTrueIn no_opening) } in
+    opening_same no_opening opening log (λ d. sym (none d)) (subst (λ (l : List Entry). IsOpeningLog no_opening l) (sym is) empty)
+
+-- the first Activate on channel c, by a line that holds every share: it is made, and written at number 0
+pub record HasActivated (line : LineState) (c : ℕ) (r : Numbered) (after : LineState) : Type 0 where
+  pub done : r.reply ≡ Reply.Done
+  pub written : after.log ≡ appended line.log (event_entry c 0 Activate)
+
+untold_is_empty : (c : ℕ) (histories : List (List Event)) (log : List Entry) → Merges no_opening histories log → times_logged c 0 log ≡ 0 → history_on c histories ≡ []
+untold_is_empty c histories log m none =
+    nil_from_length (history_on c histories)
+    (⊎_elim (λ (l : 0 < length (history_on c histories)). let one = m.once c 0 (omega arith) l in absurd (omega (arith, one, none))) (λ (l : length (history_on c histories) ≤ 0). omega arith) (cases_lt 0 (length (history_on c histories))))
+
+pub activated : (line after : LineState) (c : ℕ) (r : Numbered) → channel_index c < channel_count → line.view.shares ≡ line.view.whole → times_logged c 0 line.log.entries ≡ 0 → IsActed line c ChanOp.Activate r after → HasActivated line c r after
+activated line after c r named all none acted =
+    let h : List Event = history_on c acted.histories in
+    let alone = acted.alone all in
+    let within : channel_index c < length acted.histories = omega (arith, acted.known.sound.each_channel, named) in
+    let there : history_on c (slice_set acted.histories (channel_index c) (take r.loaded h)) ≡ take r.loaded h = get_or-set_same acted.histories (channel_index c) (take r.loaded h) [] within in
+    let empty : take r.loaded h ≡ [] = sym there ∙ untold_is_empty c (slice_set acted.histories (channel_index c) (take r.loaded h)) line.log.entries alone.1 none in
+    let answer : IsAnswer [] ChanOp.Activate r.reply h = subst (λ f. IsAnswer f ChanOp.Activate r.reply h) empty (acted.answer.at_once alone.0) in
+    let made = (answer_by_table [] ChanOp.Activate r.reply h lawful_empty).0 answer in
+    let done : r.reply ≡ Reply.Done = made.0 in
+    let one : length h ≡ 1 = ap length made.1 in
+    let now : length h ≡ r.number + 1 = acted.answer.now ∙ ap (λ x. number_after r.number x) done in
+    let first : r.number ≡ 0 = omega (arith, one, now) in
+    record {
+      done = done;
+      written =
+          ap (λ l. l.log) acted.after_is
+          ∙ ap (λ x. with_seen line.log c r.number (seen_answered ChanOp.Activate x)) done
+          ∙ ap (λ n. appended line.log (event_entry c n Activate)) first;
+    }
+
+-- it is never worn
+pub never_worn : (line after : LineState) (c : ℕ) (op : ChanOp) → line.view.shares ≡ line.view.whole → times_logged c 0 line.log.entries ≡ 0 → IsWornOut line c op after → ⊥
+never_worn line after c op all none worn =
+    let log : after.log.entries ≡ line.log.entries = ap (λ l. l.log.entries) worn.after_is in
+    let merged = (worn.known.all_known (ap (λ l. l.view.shares) worn.after_is ∙ (all ∙ ap (λ l. l.view.whole) (sym worn.after_is)))).merged in
+    let told : times_logged c 0 after.log.entries ≡ 0 = ap (λ l. times_logged c 0 l) log ∙ none in
+    let empty : length (history_on c worn.histories) ≡ 0 = ap length (untold_is_empty c worn.histories after.log.entries merged told) in
+    omega (arith, empty, worn.worn)

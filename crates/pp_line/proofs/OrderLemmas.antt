@@ -1,0 +1,253 @@
+-- Orders and program orders that grow, a step at a time.
+use Rattle.std.proofs.Common.{◌≡◌, ◌≢◌, ℕ, ◌<◌, ◌≤◌, ltb, Bool, true, not, List, [], ◌∷◌, ◌++◌, length, take, drop, refl, sym, ap, ◌∙◌, subst, inl, inr, ⊎_elim, arith, append_assoc}
+use Rattle.std.specs.Prelude.{◌⊎◌, Option, None, Some}
+use Rattle.std.specs.List.{All, cons_option, filter, flat_map}
+use Rattle.std.proofs.lemmas.Bool.{cases_eq, cases_lt, eq-eqb, ne_eqb, lt-ltb, le-ltb}
+use Rattle.std.proofs.lemmas.List.{append-nil, length-append, drop_all, drop-append-le, take_at, take-append-le, take-append-drop}
+use Rattle.std.proofs.lemmas.List.Concat.{flat_map-append}
+use Rattle.std.proofs.lemmas.List.Elements.{All-head, All-weaker, All-map, filter_map-append}
+use Rattle.list_facts.specs.Subsequence.{IsSubsequence}
+use Rattle.list_facts.specs.Subsequences.{stands_after, stands_passed, stands_more, stands_push, stands_append, stands_through, stands_whole}
+use Rattle.pp_line.specs.declared.access.Access.{Access}
+use Rattle.pp_line.specs.declared.access.Access.TheVariants.{OnChannel}
+use Rattle.pp_channel.specs.declared.event.Event.{Event}
+use Rattle.pp_line.specs.declared.entry.Entry.{Entry}
+use Rattle.pp_channel.specs.declared.seen.Seen.{Seen}
+use Rattle.pp_channel.specs.declared.seen.Seen.TheVariants.{Did, Saw}
+use Rattle.pp_channel.specs.declared.flags.Flags.{Flags}
+use Rattle.pp_channel.specs.Law.{IsPrefix}
+use Rattle.pp_channel.specs.Answer.{flags_of}
+use Rattle.pp_channel.specs.History.{history_on}
+use Rattle.pp_line.specs.LineLog.{event_entry, look_entry}
+use Rattle.pp_line.specs.Merge.{no_opening}
+use Rattle.pp_line.specs.Order.{made_at, made_on, ComesAfter, IsLegal, IsTotalOrderOf, entry_of, entries_among, extended, ExtendsEach, IsDrawnFrom}
+
+pub made_more : (c : ℕ) (xs ys : List Entry) → made_on c (xs ++ ys) ≡ made_on c xs ++ made_on c ys
+made_more c xs ys = filter_map-append (λ entry. made_at c entry.channel entry.what) xs ys
+
+-- the entries of accesses that go on
+pub entries_more : (xs ys : List Access) → entries_among (xs ++ ys) ≡ entries_among xs ++ entries_among ys
+entries_more xs ys = filter_map-append entry_of xs ys
+
+-- an entry in its place, behind those that are
+pub legal_push : (before : ℕ → List Event) (entries : List Entry) (entry : Entry) → IsLegal before entries
+    → ComesAfter (before entry.channel ++ made_on entry.channel entries) entry.number entry.what → IsLegal before (entries ++ entry ∷ [])
+legal_push before [] entry all here = (subst (λ (h : List Event). ComesAfter h entry.number entry.what) (append-nil (before entry.channel)) here, tt)
+legal_push before (x ∷ entries) entry all here =
+    let c = entry.channel in (
+      all.0,
+      legal_push (λ d. before d ++ made_on d (x ∷ [])) entries entry all.1
+          (subst (λ (h : List Event). ComesAfter h entry.number entry.what) (ap (λ h. before c ++ h) (made_more c (x ∷ []) entries) ∙ sym (append_assoc (before c) (made_on c (x ∷ [])) (made_on c entries))) here),
+    )
+
+-- a look at a channel as it is
+entries_look : (histories : List (List Event)) (order : List Entry) (c number : ℕ) (f : Flags) → number ≡ length (history_on c histories) → f ≡ flags_of (history_on c histories)
+    → IsTotalOrderOf no_opening histories order → IsTotalOrderOf no_opening histories (order ++ look_entry c number f ∷ [])
+entries_look histories order c number f counted shown is = record {
+  each_history = λ d. made_more d order (look_entry c number f ∷ []) ∙ (append-nil (made_on d order) ∙ is.each_history d);
+  legal = legal_push no_opening order (look_entry c number f) is.legal (counted ∙ ap length (sym (is.each_history c)), shown ∙ ap flags_of (sym (is.each_history c)));
+}
+
+pub order_look : (histories : List (List Event)) (order : List Access) (c number : ℕ) (f : Flags) → number ≡ length (history_on c histories) → f ≡ flags_of (history_on c histories)
+    → IsTotalOrderOf no_opening histories (entries_among order) → IsTotalOrderOf no_opening histories (entries_among (order ++ OnChannel (look_entry c number f) ∷ []))
+order_look histories order c number f counted shown is =
+    subst (IsTotalOrderOf no_opening histories) (sym (entries_more order (OnChannel (look_entry c number f) ∷ []))) (entries_look histories (entries_among order) c number f counted shown is)
+
+-- the next event of a channel
+entries_event : (before after : List (List Event)) (order : List Entry) (c number : ℕ) (e : Event) → number ≡ length (history_on c before) → history_on c after ≡ history_on c before ++ e ∷ []
+    → ((d : ℕ) → d ≢ c → history_on d after ≡ history_on d before) → IsTotalOrderOf no_opening before order → IsTotalOrderOf no_opening after (order ++ event_entry c number e ∷ [])
+entries_event before after order c number e counted here elsewhere is = record {
+  each_history = λ d. made_more d order (event_entry c number e ∷ []) ∙ elim (cases_eq c d) [
+    | inl same ↦
+        let made : made_on d (event_entry c number e ∷ []) ≡ e ∷ [] = rw (eq-eqb c d same) refl in
+        let there : history_on d after ≡ history_on d before ++ e ∷ [] = subst (λ (k : ℕ). history_on k after ≡ history_on k before ++ e ∷ []) same here in
+        (λ j. is.each_history d j ++ made j) ∙ sym there
+    | inr other ↦
+        let made : made_on d (event_entry c number e ∷ []) ≡ [] = rw (ne_eqb c d other) refl in
+        (λ j. is.each_history d j ++ made j) ∙ (append-nil (history_on d before) ∙ sym (elsewhere d (λ same. other (sym same))))
+  ];
+  legal = legal_push no_opening order (event_entry c number e) is.legal (counted ∙ ap length (sym (is.each_history c)));
+}
+
+pub order_event : (before after : List (List Event)) (order : List Access) (c number : ℕ) (e : Event) → number ≡ length (history_on c before) → history_on c after ≡ history_on c before ++ e ∷ []
+    → ((d : ℕ) → d ≢ c → history_on d after ≡ history_on d before) → IsTotalOrderOf no_opening before (entries_among order) → IsTotalOrderOf no_opening after (entries_among (order ++ OnChannel (event_entry c number e) ∷ []))
+order_event before after order c number e counted here elsewhere is =
+    subst (IsTotalOrderOf no_opening after) (sym (entries_more order (OnChannel (event_entry c number e) ∷ []))) (entries_event before after (entries_among order) c number e counted here elsewhere is)
+
+-- what is no access to a channel
+pub order_beside : (histories : List (List Event)) (order : List Access) (access : Access) → entry_of access ≡ None → IsTotalOrderOf no_opening histories (entries_among order) → IsTotalOrderOf no_opening histories (entries_among (order ++ access ∷ []))
+order_beside histories order access none is =
+    subst (IsTotalOrderOf no_opening histories) (sym (entries_more order (access ∷ []) ∙ (ap (λ (o : Option Entry). entries_among order ++ cons_option o []) none ∙ append-nil (entries_among order)))) is
+
+-- program orders are extended by a longer order, and grow with it
+pub extends_more : (order more : List Access) (program_orders : List (List Access)) → ExtendsEach order program_orders → ExtendsEach (order ++ more) program_orders
+extends_more order more program_orders all = All-weaker (λ (t : List Access). IsSubsequence t order) (λ (t : List Access). IsSubsequence t (order ++ more)) (λ t h. stands_more t order more h) program_orders all
+
+pub extends_push : (order : List Access) (access : Access) (program_orders : List (List Access)) → ExtendsEach order program_orders → ExtendsEach (order ++ access ∷ []) (extended program_orders (access ∷ []))
+extends_push order access program_orders all =
+    All-map (λ (t : List Access). IsSubsequence t (order ++ access ∷ [])) (λ t. t ++ access ∷ []) program_orders
+    (All-weaker (λ (t : List Access). IsSubsequence t order) (λ (t : List Access). IsSubsequence (t ++ access ∷ []) (order ++ access ∷ [])) (λ t h. stands_push t order access h) program_orders all)
+
+pub extended_twice : (program_orders : List (List Access)) (xs ys : List Access) → extended (extended program_orders xs) ys ≡ extended program_orders (xs ++ ys)
+extended_twice [] xs ys = refl
+extended_twice (t ∷ program_orders) xs ys = λ j. append_assoc t xs ys j ∷ extended_twice program_orders xs ys j
+
+pub length-extended : (program_orders : List (List Access)) (xs : List Access) → length (extended program_orders xs) ≡ length program_orders
+length-extended [] xs = refl
+length-extended (t ∷ program_orders) xs = omega (arith, length-extended program_orders xs)
+
+abbrev all_of : List (List Access) → List Entry
+all_of program_orders = flat_map entries_among program_orders
+
+longer_entries : (t more : List Access) → IsSubsequence (entries_among t) (entries_among (t ++ more))
+longer_entries t more =
+    subst (IsSubsequence (entries_among t)) (sym (entries_more t more)) (stands_more (entries_among t) (entries_among t) (entries_among more) (stands_whole (entries_among t)))
+
+-- what is drawn from program orders is drawn from them when they have grown
+pub drawn_extended : (program_orders : List (List Access)) (log : List Entry) (more : List Access) → IsDrawnFrom program_orders log → IsDrawnFrom (extended program_orders more) log
+drawn_extended program_orders log more h = stands_through log (all_of program_orders) (all_of (extended program_orders more)) h (longer program_orders more)
+  where
+    longer : (program_orders : List (List Access)) (more : List Access) → IsSubsequence (all_of program_orders) (all_of (extended program_orders more))
+    longer [] more = tt
+    longer (t ∷ program_orders) more = stands_append (entries_among t) (entries_among (t ++ more)) (all_of program_orders) (all_of (extended program_orders more)) (longer_entries t more) (longer program_orders more)
+
+-- and so with the last entry that came
+pub stands_with_last : (program_orders : List (List Access)) (log : List Entry) (entry : Entry) → 0 < length program_orders → IsDrawnFrom program_orders log → IsDrawnFrom (extended program_orders (OnChannel entry ∷ [])) (log ++ entry ∷ [])
+stands_with_last program_orders log entry some h =
+    stands_through (log ++ entry ∷ []) (all_of program_orders ++ entry ∷ []) (all_of (extended program_orders (OnChannel entry ∷ []))) (stands_push log (all_of program_orders) entry h) (last program_orders entry some)
+  where
+    last : (program_orders : List (List Access)) (entry : Entry) → 0 < length program_orders → IsSubsequence (all_of program_orders ++ entry ∷ []) (all_of (extended program_orders (OnChannel entry ∷ [])))
+    last [] entry some = absurd (omega arith)
+    last (t ∷ []) entry some =
+        let es = entries_among t in
+        subst (λ (front : List Entry). IsSubsequence ((es ++ []) ++ entry ∷ []) front)
+        (ap (λ l. l ++ entry ∷ []) (append-nil es) ∙ (sym (entries_more t (OnChannel entry ∷ [])) ∙ sym (append-nil (entries_among (t ++ OnChannel entry ∷ [])))))
+        (stands_whole ((es ++ []) ++ entry ∷ []))
+    last (t ∷ u ∷ program_orders) entry some =
+        subst (λ (l : List Entry). IsSubsequence l (all_of (extended (t ∷ u ∷ program_orders) (OnChannel entry ∷ [])))) (sym (append_assoc (entries_among t) (all_of (u ∷ program_orders)) (entry ∷ [])))
+        (stands_append (entries_among t) (entries_among (t ++ OnChannel entry ∷ [])) (all_of (u ∷ program_orders) ++ entry ∷ []) (all_of (extended (u ∷ program_orders) (OnChannel entry ∷ []))) (longer_entries t (OnChannel entry ∷ [])) (last (u ∷ program_orders) entry (omega arith)))
+
+-- two logs, end to end
+pub stands_joined : (program_orders others : List (List Access)) (log other : List Entry) → IsDrawnFrom program_orders log → IsDrawnFrom others other → IsDrawnFrom (program_orders ++ others) (log ++ other)
+stands_joined program_orders others log other h k = subst (λ (l : List Entry). IsSubsequence (log ++ other) l) (sym (flat_map-append entries_among program_orders others)) (stands_append log (all_of program_orders) other (all_of others) h k)
+
+-- a log drawn from one program order is a subsequence of what extends that
+pub entries_stand : (xs ys : List Access) → IsSubsequence xs ys → IsSubsequence (entries_among xs) (entries_among ys)
+entries_stand [] ys h = tt
+entries_stand (x ∷ xs) [] h = absurd h
+entries_stand (x ∷ xs) (y ∷ ys) (inl p) =
+    subst (λ (a : Access). IsSubsequence (cons_option (entry_of x) (entries_among xs)) (cons_option (entry_of a) (entries_among ys))) p.0 (both (entry_of x) (entries_among xs) (entries_among ys) (entries_stand xs ys p.1))
+  where
+    both : (o : Option Entry) (us vs : List Entry) → IsSubsequence us vs → IsSubsequence (cons_option o us) (cons_option o vs)
+    both None us vs h = h
+    both (Some e) us vs h = inl (refl, h)
+entries_stand (x ∷ xs) (y ∷ ys) (inr q) = passed_over (entry_of y) (entries_among (x ∷ xs)) (entries_among ys) (entries_stand (x ∷ xs) ys q)
+  where
+    passed_over : (o : Option Entry) (us vs : List Entry) → IsSubsequence us vs → IsSubsequence us (cons_option o vs)
+    passed_over None us vs h = h
+    passed_over (Some e) us vs h = stands_after us e vs h
+
+pub one_program_order : (program_orders : List (List Access)) (order : List Access) (log : List Entry) → length program_orders ≡ 1 → ExtendsEach order program_orders → IsDrawnFrom program_orders log → IsSubsequence log (entries_among order)
+one_program_order [] order log one all h = absurd (omega (arith, one))
+one_program_order (t ∷ []) order log one all h =
+    stands_through log (entries_among t) (entries_among order) (subst (IsSubsequence log) (append-nil (entries_among t)) h) (entries_stand t order (All-head (λ (x : List Access). IsSubsequence x order) t [] all))
+one_program_order (t ∷ u ∷ program_orders) order log one all h = absurd (omega (arith, one))
+
+-- an entry of another channel makes nothing on this one, and each makes one event at most
+made_elsewhere : (c channel : ℕ) (what : Seen) → channel ≢ c → made_at c channel what ≡ None
+made_elsewhere c channel (Did e) other = rw (ne_eqb channel c other) refl
+made_elsewhere c channel (Saw f) other = refl
+
+none_on : (c : ℕ) (entry : Entry) → entry.channel ≢ c → made_on c (entry ∷ []) ≡ []
+none_on c entry other = ap (λ (o : Option Event). cons_option o []) (made_elsewhere c entry.channel entry.what other)
+
+one_at_most : (o : Option Event) → length (cons_option o []) ≤ 1
+one_at_most None = omega arith
+one_at_most (Some e) = omega arith
+
+number_after_events : (before : List Event) (number : ℕ) (what : Seen) → ComesAfter before number what → number ≡ length before
+number_after_events before number (Did e) comes = comes
+number_after_events before number (Saw f) comes = comes.0
+
+-- The entries of an order that are not older than the opening histories, where the histories begin with these.
+module _ (opening history : ℕ → List Event) (begins : (c : ℕ) → IsPrefix (opening c) (history c)) where
+  abbrev pub is_later : Entry → Bool
+  is_later entry = not (ltb entry.number (length (opening entry.channel)))
+
+  -- what has happened then on a channel, of what has happened in all
+  abbrev Leaves : (ℕ → List Event) → (ℕ → List Event) → Type 0
+  Leaves before now = (c : ℕ) → now c ≡ opening c ++ drop (length (opening c)) (before c)
+
+  opened : (c : ℕ) (before rest : List Event) → before ++ rest ≡ history c → length (opening c) ≤ length before → opening c ++ drop (length (opening c)) before ≡ before
+  opened c before rest is long =
+      let n = length (opening c) in
+      let front : take n before ≡ opening c = sym (take-append-le n before rest long) ∙ (ap (take n) (is ∙ sym (begins c).1) ∙ take_at (opening c) (begins c).0 n refl) in
+      ap (λ l. l ++ drop n before) (sym front) ∙ take-append-drop n before
+
+  leaves_more : (before now : ℕ → List Event) (c : ℕ) (made : List Event) → Leaves before now → (length (opening c) ≤ length (before c)) ⊎ (made ≡ [])
+      → now c ++ made ≡ opening c ++ drop (length (opening c)) (before c ++ made)
+  leaves_more before now c made leaves (inl long) =
+      ap (λ l. l ++ made) (leaves c) ∙ (append_assoc (opening c) (drop (length (opening c)) (before c)) made
+      ∙ ap (λ l. opening c ++ l) (sym (drop-append-le (length (opening c)) (before c) made long)))
+  leaves_more before now c made leaves (inr none) =
+      (λ j. now c ++ none j) ∙ (append-nil (now c) ∙ (leaves c ∙ ap (λ l. opening c ++ drop (length (opening c)) l) (sym (append-nil (before c)) ∙ (λ j. before c ++ sym none j))))
+
+  leaves_less : (before now : ℕ → List Event) (c : ℕ) (made : List Event) → Leaves before now → ((length (before c) < length (opening c)) × (length made ≤ 1)) ⊎ (made ≡ [])
+      → now c ≡ opening c ++ drop (length (opening c)) (before c ++ made)
+  leaves_less before now c made leaves (inl short) =
+      leaves c ∙ ap (λ l. opening c ++ l) (drop_all (length (opening c)) (before c) (omega (arith, short.0)) ∙ sym (drop_all (length (opening c)) (before c ++ made) (omega (arith, short.0, short.1, length-append (before c) made))))
+  leaves_less before now c made leaves (inr none) =
+      leaves c ∙ ap (λ l. opening c ++ drop (length (opening c)) l) (sym (append-nil (before c)) ∙ (λ j. before c ++ sym none j))
+
+  -- each of them is in its place, and they are all that came after the opening
+  pub record IsKept (now : ℕ → List Event) (entries : List Entry) : Type 0 where
+    pub legal : IsLegal now entries
+    pub each_history : (c : ℕ) → now c ++ made_on c entries ≡ history c
+
+  later_kept : (before now : ℕ → List Event) (entries : List Entry) → Leaves before now → IsLegal before entries → ((c : ℕ) → before c ++ made_on c entries ≡ history c) → IsKept now (filter is_later entries)
+  later_kept before now [] leaves all ends = record {
+    legal = tt;
+    each_history = λ c.
+        let whole : before c ≡ history c = sym (append-nil (before c)) ∙ ends c in
+        let long : length (opening c) ≤ length (before c) = omega (arith, ap length whole, ap length (begins c).1, length-append (opening c) (begins c).0) in
+        append-nil (now c) ∙ (leaves c ∙ (opened c (before c) [] (ends c) long ∙ whole));
+  }
+  later_kept before now (entry ∷ entries) leaves all ends =
+      let k = entry.channel in
+      let n = length (opening k) in
+      let number = number_after_events (before k) entry.number entry.what all.0 in
+      let made : ℕ → List Event = λ c. made_on c (entry ∷ []) in
+      let rest : (c : ℕ) → (before c ++ made c) ++ made_on c entries ≡ history c = λ c. append_assoc (before c) (made c) (made_on c entries) ∙ (ap (λ l. before c ++ l) (sym (made_more c (entry ∷ []) entries)) ∙ ends c) in
+      ⊎_elim
+      (λ (early : entry.number < n).
+      let next : Leaves (λ c. before c ++ made c) now = λ c. leaves_less before now c (made c) leaves (elim (cases_eq k c) [
+        | inl same ↦ inl (subst (λ (d : ℕ). length (before d) < length (opening d)) same (omega (arith, early, number)), one_at_most (made_at c entry.channel entry.what))
+        | inr other ↦ inr (none_on c entry other)
+      ]) in
+      rw (lt-ltb entry.number n early) (later_kept (λ c. before c ++ made c) now entries next all.1 rest))
+      (λ (late : n ≤ entry.number).
+      let next : Leaves (λ c. before c ++ made c) (λ c. now c ++ made c) = λ c. leaves_more before now c (made c) leaves (elim (cases_eq k c) [
+        | inl same ↦ inl (subst (λ (d : ℕ). length (opening d) ≤ length (before d)) same (omega (arith, late, number)))
+        | inr other ↦ inr (none_on c entry other)
+      ]) in
+      let kept = later_kept (λ c. before c ++ made c) (λ c. now c ++ made c) entries next all.1 rest in
+      let here : before k ≡ now k = sym (leaves k ∙ opened k (before k) (made_on k (entry ∷ entries)) (ends k) (omega (arith, late, number))) in
+      rw (le-ltb entry.number n late) (record {
+        legal = (subst (λ (h : List Event). ComesAfter h entry.number entry.what) here all.0, kept.legal);
+        each_history = λ c. ap (λ l. now c ++ l) (made_more c (entry ∷ []) (filter is_later entries)) ∙ (sym (append_assoc (now c) (made c) (made_on c (filter is_later entries))) ∙ kept.each_history c);
+      }))
+      (cases_lt entry.number n)
+
+-- the order of what came after the opening
+pub order_later : (opening : ℕ → List Event) (histories : List (List Event)) (order : List Entry) → (begins : (c : ℕ) → IsPrefix (opening c) (history_on c histories)) → IsTotalOrderOf no_opening histories order
+    → IsTotalOrderOf opening histories (filter (is_later opening (λ c. history_on c histories) begins) order)
+order_later opening histories order begins is =
+    let kept = later_kept opening (λ c. history_on c histories) begins no_opening opening order (λ c. sym (append-nil (opening c)) ∙ ap (λ l. opening c ++ l) (sym (drop_all (length (opening c)) [] (omega arith)))) is.legal is.each_history in
+    record { each_history = kept.each_history; legal = kept.legal }
+
+-- what is not older stands in it
+pub stands_later_in : (opening : ℕ → List Event) (histories : List (List Event)) (log order : List Entry) → (begins : (c : ℕ) → IsPrefix (opening c) (history_on c histories))
+    → All (λ entry. length (opening entry.channel) ≤ entry.number) log → IsSubsequence log order → IsSubsequence log (filter (is_later opening (λ c. history_on c histories) begins) order)
+stands_later_in opening histories log order begins late stands =
+    stands_passed (is_later opening (λ c. history_on c histories) begins) log order
+    (All-weaker (λ (x : Entry). length (opening x.channel) ≤ x.number) (λ (x : Entry). is_later opening (λ c. history_on c histories) begins x ≡ true) (λ x l. ap not (le-ltb x.number (length (opening x.channel)) l)) log late) stands

@@ -1,0 +1,183 @@
+-- The shared words at the start, and shares that are given away and joined, keep the rule.
+use Rattle.std.proofs.Common.{◌≡◌, ℕ, zero, suc, ◌+◌, ◌^◌, ◌<◌, ◌≢◌, ⊎_elim, List, [], ◌∷◌, ◌++◌, length, get_or, set, replicate, refl, sym, ap, ◌∙◌, subst, arith}
+use mathlib.Core.Option.{some}
+use lib.ListN.{get_elem?}
+use Rattle.std.specs.List.{All}
+use Rattle.std.proofs.lemmas.List.{append-nil, length-append, length-replicate, get_or_append_left, get_or-append-add, drop_at}
+use Rattle.std.proofs.lemmas.List.Concat.{flat_map-append}
+use Rattle.std.proofs.lemmas.List.Elements.{All-nil, All-cons, All-append, All-push, All-replicate, All-set}
+use Rattle.std.proofs.lemmas.List.Sums.{sum_by_push}
+use Rattle.atomic_table.specs.Table.{Splits, Joins, opening}
+use Rattle.atomic_table.proofs.Lists.{at_set}
+use Rattle.pp_channel.specs.declared.event.Event.{Event}
+use Rattle.pp_line.specs.declared.rule.LineView.{LineView}
+use Rattle.pp_channel.specs.ChannelNo.{channel_count, channel_index}
+use Rattle.pp_line.specs.ChannelWord.{history_word}
+use Rattle.pp_channel.specs.History.{IsLawful, HasTwelveBitWord, HasTwelveBitWords, history_on}
+use Rattle.pp_line.specs.LineView.{blank_view, first_view, parent_view, child_view, joined_view}
+use Rattle.pp_line.specs.Merge.{IsTrueOf, Merges, no_opening}
+use Rattle.pp_line.specs.Order.{ExtendsEach}
+use Rattle.pp_line.specs.declared.access.Access.{Access}
+use Rattle.list_facts.specs.Subsequence.{IsSubsequence}
+use Rattle.pp_line.specs.LineLog.{seen_on}
+use Rattle.pp_line.specs.SharedWords.{word_place, place_count, central_in, IsFound, IsViewOf, Rule}
+use Rattle.pp_channel.specs.ChannelPlaces.{place_below}
+use Rattle.pp_channel.proofs.HistoryLemmas.{lawful_empty}
+use Rattle.pp_line.proofs.ListFacts.{All-parts_set, flat_map-set_same, sum_by-write}
+use Rattle.pp_line.proofs.MergeLemmas.{once_past, TellsOnce, tells_once, merges_by, times_told-append}
+use Rattle.pp_line.proofs.ViewLemmas.{view_parent, view_child, view_joined, view_spent}
+use Rattle.pp_line.proofs.CentralLemmas.{OpenedWith, NoneSpent, opened_at, made_same, times_more, times_push, times_set, spent_set}
+use Rattle.pp_line.proofs.RuleLemmas.{events_in, all_events, shares_in, times-write, view_at, events_at, extends_at}
+
+-- an empty program order is extended by each order
+empty_order : (order : List Access) → ExtendsEach order ([] ∷ [])
+empty_order order = All-cons (λ (t : List Access). IsSubsequence t order) [] [] tt (All-nil (λ (t : List Access). IsSubsequence t order))
+
+-- the start
+same_everywhere : {A : Type 0} (n i : ℕ) (x : A) → get_or (replicate n x) i x ≡ x
+same_everywhere zero i x = refl
+same_everywhere (suc n) zero x = refl
+same_everywhere (suc n) (suc i) x = same_everywhere n i x
+
+first_histories : List (List Event)
+first_histories = replicate channel_count []
+
+no_event : (c : ℕ) → history_on c first_histories ≡ []
+unfolding first_histories
+no_event c = same_everywhere channel_count (channel_index c) []
+
+first_of : (whole : ℕ) (central : List ℕ) → IsViewOf first_histories whole (first_view whole central)
+first_of whole central = record {
+  events_seen = λ k d l. absurd (omega arith);
+  seen_happened = λ c. let n : ℕ = 0 in let z : seen_on c (first_view whole central).seen ≡ 0 = same_everywhere channel_count (channel_index c) n in omega arith;
+  words_found = All-nil (IsFound first_histories);
+  whole_is = λ _. refl;
+  each_channel = λ _. refl;
+  spent = λ _. refl;
+}
+
+first_words : List ℕ → List ℕ
+first_words central = replicate place_count 0 ++ central
+
+first_kept : (whole : ℕ) (central : List ℕ) → ((address : ℕ) → get_or central address 0 < 2 ^ 60) → Rule whole central (opening (first_words central) [] (first_view whole central))
+unfolding first_histories first_words
+first_kept whole central small =
+    let z : ℕ = 0 in
+    let zeros : List ℕ = replicate place_count z in
+    let many : length zeros ≡ place_count = length-replicate place_count z in
+    let all : length (zeros ++ central) ≡ place_count + length central = length-append zeros central ∙ ap (λ n. n + length central) many in (
+      first_histories,
+      record {
+        sound = record {
+          each_channel = length-replicate {A = List Event} channel_count [];
+          lawful = All-replicate IsLawful channel_count [] lawful_empty;
+          twelve_bits = All-replicate HasTwelveBitWords channel_count [] (All-nil HasTwelveBitWord);
+        };
+        merged = merges_by first_histories [] (λ c number. let none : length (history_on c first_histories) ≡ 0 = ap length (no_event c) in sym (once_past number (length (history_on c first_histories)) (omega arith)))
+            (All-nil (IsTrueOf first_histories));
+        places = omega (arith, all);
+        words_are = λ c names. let low = place_below c names in get_or_append_left zeros central z (word_place c) (omega (arith, many, low)) ∙ (same_everywhere place_count (word_place c) z ∙ ap history_word (sym (no_event c)));
+        shares = omega arith;
+        views_are = All-cons (IsViewOf first_histories whole) (first_view whole central) [] (first_of whole central) (All-nil (IsViewOf first_histories whole));
+        order = [];
+        total = record { each_history = λ c. sym (no_event c); legal = tt };
+        program_orders = All-cons (λ v. ExtendsEach [] v.program_orders) (first_view whole central) [] (empty_order []) (All-nil (λ v. ExtendsEach [] v.program_orders));
+      },
+      record {
+        places = all;
+        words_are = λ a low. ap (λ n. get_or (zeros ++ central) (n + a) 0) (sym many) ∙ get_or-append-add zeros central a 0;
+        small = small;
+        finds = tt;
+        opened_with = All-cons (OpenedWith central) (first_view whole central) [] (λ _. refl) (All-nil (OpenedWith central));
+        made = record { numbered = refl; each = λ n. refl };
+        spent = All-cons NoneSpent (first_view whole central) [] (λ _. refl) (All-nil NoneSpent);
+      },
+    )
+
+pub opening_kept : (whole : ℕ) (central words laid : List ℕ) → laid ≡ words → words ≡ replicate place_count 0 ++ central → ((address : ℕ) → get_or central address 0 < 2 ^ 60) → Rule whole (central_in words) (opening laid [] (first_view whole (central_in words)))
+unfolding first_words
+opening_kept whole central words laid same_words is small =
+    let z : ℕ = 0 in
+    let same : central_in words ≡ central = ap central_in is ∙ drop_at (replicate place_count z) central place_count (length-replicate place_count z) in
+    subst (λ (ls : List ℕ). Rule whole (central_in words) (opening ls [] (first_view whole (central_in words)))) (sym same_words)
+    (subst (λ (ws : List ℕ). Rule whole (central_in ws) (opening ws [] (first_view whole (central_in ws)))) (sym is)
+    (subst (λ (ms : List ℕ). Rule whole ms (opening (first_words central) [] (first_view whole ms))) (sym (sym (ap central_in is) ∙ same)) (first_kept whole central small)))
+
+-- a share is given away
+pub split_allowed : (whole : ℕ) (opening : List ℕ) (id : ℕ) (v : LineView) → 1 < v.shares → Splits (Rule whole opening) id v (parent_view v) (child_view v)
+split_allowed whole opening id v two s r at =
+    let h = r.0 in
+    let k = r.1 in
+    let kc = r.2 in
+    let f = view_at whole s.words s.views h k id v at in
+    let rest : List LineView = set s.views id (parent_view v) in
+    let same : all_events (rest ++ child_view v ∷ []) ≡ all_events s.views =
+    flat_map-append events_in rest (child_view v ∷ []) ∙ (append-nil (all_events rest) ∙ flat_map-set_same events_in s.views id v (parent_view v) at refl) in (
+      h,
+      record {
+        sound = k.sound;
+        merged = subst (Merges no_opening h) (sym same) k.merged;
+        places = k.places;
+        words_are = k.words_are;
+        shares = let t = sum_by-write shares_in s.views id v (parent_view v) at in let u = sum_by_push shares_in rest (child_view v) in let o = k.shares in omega arith;
+        views_are = All-push (IsViewOf h whole) rest (child_view v) (All-set (IsViewOf h whole) s.views id (parent_view v) (view_parent h whole v two f) k.views_are) (view_child h whole v two f);
+        order = k.order;
+        total = k.total;
+        program_orders = All-push (λ x. ExtendsEach k.order x.program_orders) rest (child_view v)
+            (All-set (λ x. ExtendsEach k.order x.program_orders) s.views id (parent_view v) (extends_at whole s.words s.views h k id v at) k.program_orders) (empty_order k.order);
+      },
+      record {
+        places = kc.places;
+        words_are = kc.words_are;
+        small = kc.small;
+        finds = kc.finds;
+        opened_with = let here = opened_at opening s.words s.views k.order id v at (omega arith) kc in
+            All-push (OpenedWith opening) rest (child_view v) (All-set (OpenedWith opening) s.views id (parent_view v) (λ _. here) kc.opened_with) (λ _. here);
+        made = made_same refl (λ n. let p = times_push n rest (child_view v) in let t = times_set n s.views id v (parent_view v) at in omega (arith, p, t)) kc.made;
+        spent = All-push NoneSpent rest (child_view v) (spent_set s.views id (parent_view v) (omega arith) kc.spent) (λ _. refl);
+      },
+    )
+
+-- two views become one, and the other is spent
+pub join_allowed : (whole : ℕ) (opening : List ℕ) (id : ℕ) (v : LineView) (other : ℕ) (w : LineView) → 0 < v.shares → 0 < w.shares → Joins (Rule whole opening) id v other w (joined_view v w) (blank_view 0 0 [] [])
+join_allowed whole opening id v other w live live_other s r at apart there =
+    let h = r.0 in
+    let k = r.1 in
+    let kc = r.2 in
+    let b : LineView = joined_view v w in
+    let rest : List LineView = set s.views id b in
+    let was : get_elem? s.views other ≡ some w = ⊎_elim (λ (t : (other ≡ id) × (b ≡ w)). absurd (apart t.0)) (λ (t : (other ≢ id) × (get_elem? s.views other ≡ some w)). t.1) (at_set s.views id other b w there) in
+    let entries : All (IsTrueOf h) b.events = All-append (IsTrueOf h) v.events w.events (events_at whole s.words s.views h k id v at) (events_at whole s.words s.views h k other w was) in
+    let once : TellsOnce h (all_events (set rest other (blank_view 0 0 [] []))) = λ c number.
+    let t = times-write c number s.views id v b at in
+    let u = times-write c number rest other w (blank_view 0 0 [] []) there in
+    let m = times_told-append c number v.events w.events in
+    let o = tells_once h (all_events s.views) k.merged c number in
+    omega arith in (
+      h,
+      record {
+        sound = k.sound;
+        merged = merges_by h (all_events (set rest other (blank_view 0 0 [] []))) once
+            (All-parts_set events_in (IsTrueOf h) rest other (blank_view 0 0 [] []) (All-parts_set events_in (IsTrueOf h) s.views id b k.merged.entries_true entries) (All-nil (IsTrueOf h)));
+        places = k.places;
+        words_are = k.words_are;
+        shares = let t = sum_by-write shares_in s.views id v b at in let u = sum_by-write shares_in rest other w (blank_view 0 0 [] []) there in let o = k.shares in omega arith;
+        views_are = All-set (IsViewOf h whole) rest other (blank_view 0 0 [] []) (view_spent h whole)
+            (All-set (IsViewOf h whole) s.views id b (view_joined h whole v w live live_other (view_at whole s.words s.views h k id v at) (view_at whole s.words s.views h k other w was)) k.views_are);
+        order = k.order;
+        total = k.total;
+        program_orders = All-set (λ x. ExtendsEach k.order x.program_orders) rest other (blank_view 0 0 [] []) (empty_order k.order)
+            (All-set (λ x. ExtendsEach k.order x.program_orders) s.views id b
+            (All-append (λ t. IsSubsequence t k.order) v.program_orders w.program_orders (extends_at whole s.words s.views h k id v at) (extends_at whole s.words s.views h k other w was)) k.program_orders);
+      },
+      record {
+        places = kc.places;
+        words_are = kc.words_are;
+        small = kc.small;
+        finds = kc.finds;
+        opened_with = All-set (OpenedWith opening) rest other (blank_view 0 0 [] []) (λ none. absurd (omega arith))
+            (All-set (OpenedWith opening) s.views id b (λ _. opened_at opening s.words s.views k.order id v at live kc) kc.opened_with);
+        made = made_same refl (λ n. let t = times_set n s.views id v b at in let u = times_set n rest other w (blank_view 0 0 [] []) there in let m = times_more n v.written w.written in omega (arith, t, u, m)) kc.made;
+        spent = All-set NoneSpent rest other (blank_view 0 0 [] []) (λ _. refl) (spent_set s.views id b (omega arith) kc.spent);
+      },
+    )

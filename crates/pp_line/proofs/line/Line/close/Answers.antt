@@ -1,0 +1,57 @@
+use Rattle.std.proofs.Common.{rules, ◌≡◌, ℕ, List, [], ◌∷◌, ◌++◌, sym, ap, ◌∙◌, subst}
+use Rattle.std.specs.List.{flat_map}
+use Rattle.std.proofs.lemmas.List.{append-nil}
+use Rattle.pp_line.specs.declared.entry.Entry.{Entry}
+use Rattle.pp_line.specs.Merge.{IsRecordedBy}
+use Rattle.pp_channel.specs.declared.event.Event.{Event}
+use Rattle.pp_line.specs.declared.rule.LineView.{LineView}
+use Rattle.pp_line.specs.LineState.{LineState, AreClosed, AreInOneOrder}
+use Rattle.pp_line.specs.LineSteps.{IsLogOf}
+use Rattle.pp_line.specs.LineView.{Knows}
+use Rattle.pp_line.proofs.LineKeeping.{log_of_same}
+use Rattle.pp_line.proofs.LineKnowledge.{knows_by_log}
+use Rattle.pp_line.proofs.LineAnswers.{told_whole, closed_by}
+use Rattle.pp_line.proofs.JoinedLines.{lines_in_order}
+use Rattle.std.proofs.lemmas.List.Elements.{All-cons, All-nil}
+use Rattle.pp_line.proofs.line.Line.close.Goals as goal
+
+-- a log, and no others
+alone : {X : Type 0} (f : X → List Entry) (seen : List ℕ) (histories : List (List Event)) (log : List Entry) (others : List X) → others ≡ [] → IsRecordedBy log seen histories → IsRecordedBy (log ++ flat_map f others) seen histories
+alone f seen histories log others none told = rw none (subst (λ (l : List Entry). IsRecordedBy l seen histories) (sym (append-nil log)) told)
+
+pub recorded_channels-requires : goal.recorded_channels-requires
+recorded_channels-requires g c =
+    let tells = c.check_shares.ensures.tells.1 in
+    let all = ap (λ (line : LineState). line.view.shares) c.self.view_is ∙ (c.requires ∙ sym (ap (λ (line : LineState). line.view.whole) c.self.view_is)) in
+    let none : c.as_slice.result.now ≡ [] = search rules in
+    let told = told_whole c.self.invariant.3 tells all in
+    (search rules, (tells.histories, alone _ _ tells.histories _ _ none (rw (c.entries.ensures, c.self.invariant.0) told)))
+
+pub returns-in-Ok-clause-ok : goal.returns-in-Ok-clause-ok
+returns-in-Ok-clause-ok g c =
+    let tells = c.check_shares.ensures.tells.1 in
+    let all = ap (λ (line : LineState). line.view.shares) c.self.view_is ∙ (c.requires ∙ sym (ap (λ (line : LineState). line.view.whole) c.self.view_is)) in
+    let known = subst (λ (line : LineState). Knows line.view line.log.entries tells.histories) c.self.view_is (knows_by_log c.self.invariant.3 tells.known) in
+    let none : c.as_slice.result.now ≡ [] = search rules in
+    let same = (c.in-Ok.ensures) tells.histories (alone _ _ tells.histories _ _ none (rw (c.entries.ensures, c.self.invariant.0) (told_whole c.self.invariant.3 tells all))) in
+    subst (λ (hs : List (List Event)). AreClosed c.args.self hs) (sym same) (closed_by c.args.self tells.histories known c.requires)
+
+pub returns-in-Ok-clause-order : goal.returns-in-Ok-clause-order
+returns-in-Ok-clause-order g c =
+    let tells = c.check_shares.ensures.tells.1 in
+    let all = ap (λ (line : LineState). line.view.shares) c.self.view_is ∙ (c.requires ∙ sym (ap (λ (line : LineState). line.view.whole) c.self.view_is)) in
+    let none : c.as_slice.result.now ≡ [] = search rules in
+    let same = (c.in-Ok.ensures) tells.histories (alone _ _ tells.histories _ _ none (rw (c.entries.ensures, c.self.invariant.0) (told_whole c.self.invariant.3 tells all))) in
+    let program_orders = ap (λ (line : LineState). line.view.program_orders) c.self.view_is ∙ sym (append-nil c.args.self.view.program_orders) in
+    let log_of = subst (λ (line : LineState). IsLogOf line.view line.log.entries) c.self.view_is c.self.invariant.3 in
+    subst (λ (hs : List (List Event)). AreInOneOrder c.args.self.view.central hs (c.args.self ∷ [])) (sym same)
+    (lines_in_order (c.args.self ∷ []) tells program_orders c.args.self.view.central (ap (λ (line : LineState). line.view.central) c.self.view_is) (ap (λ (line : LineState). line.view.written) c.self.view_is ∙ sym (append-nil c.args.self.view.written)) (ap (λ (line : LineState). line.view.shares) c.self.view_is ∙ (c.requires ∙ ap (λ (line : LineState). line.view.whole) (sym c.self.view_is))) (All-cons (λ (l : LineState). IsLogOf l.view l.log.entries) c.args.self [] log_of (All-nil (λ (l : LineState). IsLogOf l.view l.log.entries))))
+
+pub invariant_of-self : goal.invariant_of-self
+invariant_of-self g c =
+    let view = c.check_shares.ensures.view in (
+      c.self.invariant.0 ∙ ap (λ (v : LineView). v.seen) (sym view),
+      c.self.invariant.1 ∙ ap (λ (v : LineView). v.shares) (sym view),
+      c.self.invariant.2 ∙ ap (λ (v : LineView). v.whole) (sym view),
+      log_of_same _ c.self.invariant.3 (ap (λ (v : LineView). v.events) view) (ap (λ (v : LineView). v.found) view) (ap (λ (v : LineView). v.seen) view) (ap (λ (v : LineView). v.program_orders) view),
+    )

@@ -1,0 +1,47 @@
+use Rattle.std.proofs.Common.{rules, List, length, [], get_or, arith, ap, subst, sym, ◌∙◌}
+use Rattle.std.proofs.lemmas.List.{ext_get_or, length-set, get_or-set_other}
+use Rattle.pp_channel.specs.History.{IsLawful, HasTwelveBitWords}
+use Rattle.pp_channel.specs.declared.event.Event.{Event}
+use Rattle.pp_channel.proofs.EachHistory.{lawful_at, bits_at}
+use Rattle.pp_line.proofs.RecordedLemmas.{placed_more}
+use Rattle.pp_line.proofs.recorded_history.recorded_channels.Goals as goal
+
+pub of_history-requires-clause-lawful : goal.of_history-requires-clause-lawful
+of_history-requires-clause-lawful g c =
+    let told = c.requires in
+    let is = c.take_events-events.ensures.events ∙ c.loop-place.invariant.left told.0 told.1 c.loop-place.place (omega arith) in
+    subst (λ (h : List Event). IsLawful h) (sym is) (lawful_at told.0 c.loop-place.place told.1.sound.lawful)
+
+pub of_history-requires-clause-twelve_bits : goal.of_history-requires-clause-twelve_bits
+of_history-requires-clause-twelve_bits g c =
+    let told = c.requires in
+    let is = c.take_events-events.ensures.events ∙ c.loop-place.invariant.left told.0 told.1 c.loop-place.place (omega arith) in
+    subst (λ (h : List Event). HasTwelveBitWords h) (sym is) (bits_at told.0 c.loop-place.place told.1.sound.twelve_bits)
+
+pub loop-place-init : goal.loop-place-init
+loop-place-init g c =
+    let told = c.requires in record {
+      each = search rules;
+      each_history = ap length (c.in_ok-histories.ensures told.0 told.1) ∙ told.1.sound.each_channel;
+      done = λ histories is k none. absurd (omega (arith, none));
+      left = λ histories is k below. ap (λ hs. get_or hs k []) (c.in_ok-histories.ensures histories is);
+    }
+
+pub loop-place-preserved : goal.loop-place-preserved
+loop-place-preserved g c =
+    let channels = c.loop-place.channels in
+    let place = c.loop-place.place in
+    let histories = c.loop-place.histories.items in
+    let before = c.loop-place.invariant in record {
+      each = ap length c.put_channel.ensures ∙ (length-set channels place c.of_history.result ∙ before.each);
+      each_history = ap length c.take_events-events.ensures.taken ∙ (length-set histories place [] ∙ before.each_history);
+      done = λ hs told k below. ap (λ all. get_or all k []) c.put_channel.ensures
+          ∙ placed_more [] channels place c.of_history.result (λ i. get_or hs i []) (omega (arith, before.each, c.loop-place-test.true)) (before.done hs told)
+          (c.of_history.ensures ∙ (c.take_events-events.ensures.events ∙ before.left hs told place (omega arith))) k below;
+      left = λ hs told k above. ap (λ all. get_or all k []) c.take_events-events.ensures.taken
+          ∙ (get_or-set_other histories place k [] [] (λ is. omega (arith, is, above)) ∙ before.left hs told k (omega (arith, above)));
+    }
+
+pub returns : goal.returns
+returns g c histories told =
+    ext_get_or [] c.loop-place.channels histories (c.loop-place.invariant.each ∙ sym told.sound.each_channel) (λ k inside. c.loop-place.invariant.done histories told k (let each = c.loop-place.invariant.each in omega arith))

@@ -1,0 +1,14 @@
+use Rattle.std.proofs.Common.{◌≡◌, ℕ, ◌<◌, ◌≤◌, ◌++◌, List, [], length, get_or}
+use Rattle.std.specs.List.{flat_map}
+use Rattle.pp_channel.specs.declared.event.Event.{Event}
+use Rattle.pp_channel.specs.ChannelNo.{channel_count}
+use Rattle.pp_line.specs.Merge.{IsRecordedBy}
+use Rattle.pp_line.proofs.recorded_history.recorded_channels.Given as goal
+
+abbrev pub invariant-loop-place : goal.invariant-loop-place
+invariant-loop-place g l = record {
+  each : length l.channels ≡ channel_count;
+  each_history : length l.histories.items ≡ channel_count;
+  done : (histories : List (List Event)) → IsRecordedBy (l.log ++ flat_map (λ other. other.items) l.others) l.seen histories → (k : ℕ) → k < l.place → get_or l.channels k [] ≡ get_or histories k [];
+  left : (histories : List (List Event)) → IsRecordedBy (l.log ++ flat_map (λ other. other.items) l.others) l.seen histories → (k : ℕ) → l.place ≤ k → get_or l.histories.items k [] ≡ get_or histories k [];
+}

@@ -1,0 +1,11 @@
+use Rattle.std.proofs.Common.{◌≡◌, take, length}
+use Rattle.std.specs.List.{flat_map, fold}
+use Rattle.pp_channel.specs.ChannelNo.{channel_count}
+use Rattle.pp_line.specs.Merge.{with_entry}
+use Rattle.pp_line.proofs.recorded_history.recorded_histories.Given as goal
+
+abbrev pub invariant-loop-other : goal.invariant-loop-other
+invariant-loop-other g l = record {
+  each : length l.told.items ≡ channel_count;
+  filled : l.told.items ≡ fold with_entry l.initial.told.items (flat_map (λ other. other.items) (take l.other-index l.others));
+}

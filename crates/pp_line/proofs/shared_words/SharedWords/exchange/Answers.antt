@@ -1,0 +1,11 @@
+use Rattle.std.proofs.Common.{rules}
+use Rattle.pp_line.proofs.StepLemmas.{exchange_allowed}
+use Rattle.pp_line.proofs.shared_words.SharedWords.exchange.Goals as goal
+
+pub compare_exchange_with-requires : goal.compare_exchange_with-requires
+compare_exchange_with-requires g c =
+    let loaded = c.requires.loaded in (
+      search rules,
+      search rules,
+      exchange_allowed _ _ _ _ _ c.args.channel _ _ _ c.args.event.now loaded.0 c.place.ensures.place c.place.ensures.below c.args.self.now.unspent loaded.1 c.requires.next,
+    )

@@ -1,0 +1,87 @@
+//! Lines of a family that are closed together.
+
+ghost use Rattle.std.specs.Prelude.{◌≡◌, ◌∷◌, All, IfOk, map};
+ghost use Rattle.pp_line.specs.LineState.{all_joined, ForgetsNothing, AreClosed, AreInOneOrder};
+ghost use Rattle.pp_line.specs.LineSteps.{IsLogOf};
+ghost use Rattle.pp_line.specs.LineView.{joined_view, with_unrecorded_load, greater_of_each};
+
+use super::{Line, greater_of_each};
+use crate::entry::Entry;
+use crate::recorded_history::recorded_channels;
+use crate::shared_words::SharedWords;
+use pp_channel::{CHANNELS, Channel, ChannelNo, Memory};
+use std::alloc::Allocator;
+
+/// What lines that were closed together leave.
+#[derive(Drop)]
+pub struct Closed<A: Allocator> {
+    /// The log of each line but the first, in order.
+    pub logs: Vec<Vec<Entry, A>, A>,
+    /// All channels, in order.
+    pub channels: [Channel<A>; CHANNELS],
+}
+
+impl<A: Allocator + Copy> Line<A> {
+    /// The channels of this line and others of its family, which hold every share between them:
+    /// their histories are the events of all logs, each at its number. The logs of the others come
+    /// back, and no log is copied. One total order over all channels extends the program orders of
+    /// all lines. It makes two loads for each of the others and one more; after `Memory` the lines
+    /// are gone.
+    pub fn close_with(self, others: Vec<Line<A>, A>) -> Result<Closed<A>, Memory>
+        requires tables { All (λ other. other.table ≡ self.table) others.items }
+        requires shares { (all_joined self others.items).view.shares ≡ self.view.whole }
+        ensures channels { IfOk result (λ closed.
+            AreClosed (all_joined self others.items) closed.channels) }
+        ensures order { IfOk result (λ closed.
+            AreInOneOrder self.view.central closed.channels (self ∷ others.items)) }
+        ensures logs { IfOk result (λ closed. map (λ log. log.items) closed.logs.items
+            ≡ map (λ line. line.log.entries) others.items) }
+        ensures nothing_forgotten { IfOk result (λ closed.
+            All (λ line. ForgetsNothing line (all_joined self others.items)) others.items) }
+    {
+        let Line {
+            alloc,
+            mut words,
+            log,
+            mut seen,
+            shares: _,
+            whole: _,
+        } = self;
+        let mut logs = Vec::with_capacity(alloc, others.len())?;
+        for other in others {
+            let log = absorb(&mut words, &mut seen, other);
+            logs.push(log)?;
+        }
+        words.check_shares(ChannelNo::at(0));
+        let channels = recorded_channels(alloc, log.entries(), logs.as_slice(), &seen)?;
+        Ok(Closed { logs, channels })
+    }
+}
+
+/// The shares of another line come to these, with what it has seen. Its log is left.
+fn absorb<A: Allocator + Copy>(
+    words: &mut SharedWords<A>,
+    seen: &mut [u64; CHANNELS],
+    other: Line<A>,
+) -> Vec<Entry, A>
+    requires { other.table ≡ words.old.seat.table_id }
+    ensures table { words.new.seat.table_id ≡ words.old.seat.table_id }
+    ensures view { words.new.seat.me.0
+        ≡ with_unrecorded_load (joined_view words.old.seat.me.0 other.view) }
+    ensures seen { seen.new ≡ greater_of_each seen.old other.view.seen }
+    ensures log { result.items ≡ other.log.entries }
+    ensures log_of { IsLogOf other.view other.log.entries }
+{
+    let Line {
+        alloc: _,
+        words: others,
+        log,
+        seen: seen_by_other,
+        shares: _,
+        whole: _,
+    } = other;
+    words.join(others);
+    words.check_shares(ChannelNo::at(0));
+    *seen = greater_of_each(seen, &seen_by_other);
+    log.into_entries()
+}

@@ -1,0 +1,154 @@
+//! A log with room for this many entries.
+
+ghost use Rattle.std.specs.Prelude.{◌≡◌, ◌<◌, ◌++◌, true, IfOk, OnOk, OnErr};
+ghost use Rattle.pp_line.specs.LineLog.{LogState, empty_log, event_entry, look_entry, appended, looked, ends_in_look_at};
+
+use crate::entry::Entry;
+use pp_channel::{ChannelNo, Event, Flags, Memory, Seen};
+use std::alloc::Allocator;
+use std::marker::Model;
+
+/// A log whose memory is taken when it is made.
+#[derive(Drop)]
+pub struct LineLog<A: Allocator> {
+    entries: Vec<Entry, A>,
+    room: u32,
+    kept: bool,
+}
+
+impl<A: Allocator> Model for LineLog<A> {
+    ghost use Rattle.std.specs.Prelude.{◌+◌, ◌≤◌, vec_len, vec_capacity};
+    ghost use Rattle.pp_line.specs.LineLog.{LogState};
+
+    ghost Value = { LogState };
+
+    ghost view = { λ log. record {
+      entries = log.entries.items;
+      room = log.room;
+      kept = log.kept;
+    } };
+
+    ghost invariant = { λ log. vec_len log.entries + log.room ≤ vec_capacity log.entries };
+}
+
+impl<A: Allocator> LineLog<A> {
+    /// A log without entries.
+    pub fn new(alloc: A, room: u32) -> Result<LineLog<A>, Memory>
+        ensures { IfOk result (λ log. log ≡ empty_log room) }
+    {
+        let entries = Vec::with_capacity(alloc, room as usize)?;
+        Ok(LineLog {
+            entries,
+            room,
+            kept: true,
+        })
+    }
+
+    /// Its entries.
+    pub fn entries(&self) -> &[Entry]
+        ensures { result.now ≡ self.now.entries }
+    {
+        self.entries.as_slice()
+    }
+
+    /// Its entries, by which it ends.
+    pub fn into_entries(self) -> Vec<Entry, A>
+        ensures { result.items ≡ self.entries }
+    {
+        let LineLog {
+            entries,
+            room: _,
+            kept: _,
+        } = self;
+        entries
+    }
+
+    /// For how many more it has room.
+    pub fn room(&self) -> u32
+        ensures { result ≡ self.now.room }
+    {
+        self.room
+    }
+
+    /// Whether its last entry is to stay.
+    pub fn kept(&self) -> bool
+        ensures { result ≡ self.now.kept }
+    {
+        self.kept
+    }
+
+    /// Its last entry is to stay.
+    pub fn keep(&mut self)
+        ensures { self.new ≡ record self.old { kept = true } }
+    {
+        self.kept = true;
+    }
+
+    /// An event that was made.
+    pub fn did(&mut self, channel: ChannelNo, number: u64, event: Event)
+        requires { 0 < self.old.room }
+        ensures { self.new ≡ appended self.old (event_entry channel number event) }
+    {
+        self.entries.push_reserved(Entry {
+            channel,
+            number,
+            what: Seen::Did(event),
+        });
+        self.room -= 1;
+        self.kept = false;
+    }
+
+    /// A look at the flags.
+    pub fn saw(&mut self, channel: ChannelNo, number: u64, flags: Flags)
+        requires { 0 < self.old.room }
+        ensures { self.new ≡ looked self.old (look_entry channel number flags) }
+    {
+        if self.ends_in_look_at(channel) {
+            let last = self.entries.len() - 1;
+            self.entries[last] = Entry {
+                channel,
+                number,
+                what: Seen::Saw(flags),
+            };
+        } else {
+            self.entries.push_reserved(Entry {
+                channel,
+                number,
+                what: Seen::Saw(flags),
+            });
+            self.room -= 1;
+        }
+        self.kept = false;
+    }
+
+    /// Whether the last entry is a look at the channel that need not stay.
+    #[tactic(auto, using(list_facts::specs::LastElements::last_or_at))]
+    fn ends_in_look_at(&self, channel: ChannelNo) -> bool
+        ensures { result ≡ ends_in_look_at channel self.now }
+    {
+        let Some(last) = self.entries.last() else {
+            return false;
+        };
+        match last.what {
+            Seen::Saw(_) => !self.kept && last.channel.get() == channel.get(),
+            Seen::Did(_) => false,
+        }
+    }
+
+    /// The entries of another log come to the end.
+    pub fn append(&mut self, other: &LineLog<A>) -> Result<(), Memory>
+        ensures ok { OnOk result (self.new ≡ record self.old {
+          entries = self.old.entries ++ other.now.entries;
+          kept = true;
+        }) }
+        ensures unchanged_after_memory { OnErr result (self.new ≡ self.old) }
+    {
+        let more = other.entries();
+        self.entries.reserve(more.len() + self.room as usize)?;
+        let Ok(()) = self.entries.extend_from_slice(more) else {
+            unreachable!()
+        };
+        self.kept = true;
+        Ok(())
+    }
+}

@@ -1,0 +1,149 @@
+//! The channels, of logs that record their histories whole.
+
+ghost use Rattle.std.specs.Prelude.{◌≡◌, ℕ, ◌<◌, ◌++◌, List, [], length, IfOk, slice_index_or, slice_set};
+ghost use Rattle.std.specs.List.{flat_map, fold};
+ghost use Rattle.pp_channel.specs.ChannelNo.{channel_count};
+ghost use Rattle.pp_channel.specs.declared.event.Event.{Event};
+ghost use Rattle.pp_line.specs.Merge.{IsRecordedBy, with_entry};
+
+use crate::entry::Entry;
+use pp_channel::{CHANNELS, Channel, Event, Memory, Seen};
+use std::alloc::Allocator;
+use std::marker::Model;
+use std::{array, mem};
+
+/// The events of a channel, each put at its number as a log records it. Contracts see their list.
+#[derive(Drop)]
+struct EventsByNumber<A: Allocator> {
+    events: Vec<Event, A>,
+}
+
+impl<A: Allocator> Model for EventsByNumber<A> {
+    ghost use Rattle.std.specs.Prelude.{List};
+    ghost use Rattle.pp_channel.specs.declared.event.Event.{Event};
+
+    ghost Value = { List Event };
+
+    ghost view = { λ e. e.events.items };
+}
+
+impl<A: Allocator> EventsByNumber<A> {
+    /// As many events, of which none is placed yet.
+    fn untold(alloc: A, count: u64) -> Result<Self, Memory>
+        ensures { IfOk result (λ untold. length untold ≡ count) }
+    {
+        let events = vec![in alloc; Event::Disconnect; count as usize]?;
+        Ok(EventsByNumber { events })
+    }
+
+    /// Puts an event at this number, where there is one.
+    #[tactic(auto, using(std::proofs::lemmas::List::set_past))]
+    fn put(&mut self, number: u64, event: Event)
+        ensures { self.new ≡ slice_set self.old number event }
+    {
+        let number = number as usize;
+        if number < self.events.len() {
+            self.events[number] = event;
+        }
+    }
+}
+
+/// All channels in order, with the histories that the log and others record. Their lengths are the
+/// numbers seen.
+pub fn recorded_channels<A: Allocator + Copy>(
+    alloc: A,
+    log: &[Entry],
+    others: &[Vec<Entry, A>],
+    seen: &[u64; CHANNELS],
+) -> Result<[Channel<A>; CHANNELS], Memory>
+    requires { (histories : List (List Event))
+        × IsRecordedBy (log.now ++ flat_map (λ other. other.items) others.now) seen.now histories }
+    ensures { IfOk result (λ channels. (histories : List (List Event))
+        → IsRecordedBy (log.now ++ flat_map (λ other. other.items) others.now) seen.now histories
+        → channels ≡ histories) }
+{
+    let mut histories = recorded_histories(alloc, log, others, seen)?;
+    let mut channels = array::from_fn(|_| Channel::new(alloc));
+    for place in 0..CHANNELS {
+        let events = take_events(alloc, &mut histories, place);
+        put_channel(&mut channels, place, Channel::of_history(events));
+    }
+    Ok(channels)
+}
+
+fn put_channel<A: Allocator>(channels: &mut [Channel<A>], place: usize, channel: Channel<A>)
+    requires { place < length channels.old }
+    ensures { channels.new ≡ slice_set channels.old place channel }
+{
+    channels[place] = channel;
+}
+
+/// The events of the history at a place, and none there.
+fn take_events<A: Allocator>(
+    alloc: A,
+    histories: &mut Vec<EventsByNumber<A>, A>,
+    place: usize,
+) -> Vec<Event, A>
+    requires { place < length histories.old.items }
+    ensures events { result.items ≡ slice_index_or histories.old.items place [] }
+    ensures taken { histories.new.items ≡ slice_set histories.old.items place [] }
+{
+    let history = &mut histories[place];
+    mem::replace(&mut history.events, Vec::new(alloc))
+}
+
+/// The histories of all channels in order, by one pass over the logs.
+fn recorded_histories<A: Allocator + Copy>(
+    alloc: A,
+    log: &[Entry],
+    others: &[Vec<Entry, A>],
+    seen: &[u64; CHANNELS],
+) -> Result<Vec<EventsByNumber<A>, A>, Memory>
+    ensures { IfOk result (λ told. (histories : List (List Event))
+        → IsRecordedBy (log.now ++ flat_map (λ other. other.items) others.now) seen.now histories
+        → told.items ≡ histories) }
+{
+    let mut told = unrecorded_histories(alloc, seen)?;
+    put_log(&mut told, log);
+    for other in others {
+        put_log(&mut told, other.as_slice());
+    }
+    Ok(told)
+}
+
+/// Puts each event of a log at its number, in the history of its channel.
+fn put_log<A: Allocator>(histories: &mut Vec<EventsByNumber<A>, A>, log: &[Entry])
+    requires { length histories.old.items ≡ channel_count }
+    ensures { histories.new.items ≡ fold with_entry histories.old.items log.now }
+{
+    for entry in log {
+        put_entry(histories, entry);
+    }
+}
+
+/// As many events of each channel as were seen, of which none is placed yet.
+fn unrecorded_histories<A: Allocator + Copy>(
+    alloc: A,
+    seen: &[u64; CHANNELS],
+) -> Result<Vec<EventsByNumber<A>, A>, Memory>
+    ensures each_channel { IfOk result (λ untold. length untold.items ≡ channel_count) }
+    ensures each_event { IfOk result (λ untold. (place : ℕ) → place < channel_count
+        → length (slice_index_or untold.items place []) ≡ slice_index_or seen.now place 0) }
+{
+    let mut untold = Vec::with_capacity(alloc, CHANNELS)?;
+    for count in seen {
+        untold.push(EventsByNumber::untold(alloc, *count)?)?;
+    }
+    Ok(untold)
+}
+
+/// Puts the event of an entry at its number, in the history of its channel.
+fn put_entry<A: Allocator>(histories: &mut [EventsByNumber<A>], entry: &Entry)
+    requires { length histories.old ≡ channel_count }
+    ensures { histories.new ≡ with_entry histories.old entry.now }
+{
+    match entry.what {
+        Seen::Did(event) => histories[entry.channel.index()].put(entry.number, event),
+        Seen::Saw(_) => {}
+    }
+}
