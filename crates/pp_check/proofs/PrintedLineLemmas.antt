@@ -21,7 +21,7 @@ use Rattle.pp_machine.specs.declared.pp_state.PpState.TheVariants.{Running, Stop
 use Rattle.pp_machine.specs.declared.trace.Trace.{Trace}
 use Rattle.pp_text.specs.Numeral.{decimal, octal}
 use Rattle.pp_text.specs.PrintedText.{channel_line as printed_channel_line, channel_text, event_line, event_text, line_end, processor_line, state_text}
-use Rattle.pp_text.specs.PrintedReport.{end_text, line_by as line_by_author}
+use Rattle.pp_report.specs.PrintedReport.{end_text, line_by as line_by_author}
 use Rattle.pp_text.specs.TextLaw.{IsTold}
 use Rattle.pp_runner.specs.declared.end.End.{End}
 use Rattle.pp_runner.specs.declared.end.End.TheVariants as ends

@@ -21,10 +21,10 @@ use Rattle.pp_runner.specs.Limits.{RunLimits}
 use Rattle.pp_runner.specs.WorkerReport.{logs_of}
 use Rattle.pp_runner.specs.declared.report.Report.{Report}
 use Rattle.pp_runner.specs.declared.worker.Worker.{Worker}
-use Rattle.pp_text.proofs.AuthorLawLemmas.{only_openings}
-use Rattle.pp_text.specs.PrintedReport.{author_place, channel_events, end_text, line_by, named_worker_line, numbered_event_line, printed_report, worker_line}
+use Rattle.pp_report.proofs.AuthorLawLemmas.{only_openings}
+use Rattle.pp_report.specs.PrintedReport.{author_place, channel_events, end_text, line_by, named_worker_line, numbered_event_line, printed_report, worker_line}
 use Rattle.pp_text.specs.PrintedText.{each_below, used_channel_line}
-use Rattle.pp_text.specs.ReportLaw.{FitsItsLine, FitsItsReport, told_by}
+use Rattle.pp_report.specs.ReportLaw.{FitsItsLine, FitsItsReport, told_by}
 use Rattle.pp_check.specs.LawfulTrace.{AreLawful, IsLawfulTrace, event_on, events_on, history, is_opened, lines_said, opening}
 use Rattle.pp_check.specs.PrintedTrace.{AreOpenedBy, IsPrintableReport}
 use Rattle.pp_check.specs.TraceLine.{line_said}

@@ -9,7 +9,7 @@ use Rattle.pp_machine.specs.MachineState.{MachineState}
 use Rattle.pp_runner.specs.Report.{IsReportOf}
 use Rattle.pp_runner.specs.Limits.{RunLimits}
 use Rattle.pp_runner.specs.declared.report.Report.{Report}
-use Rattle.pp_text.specs.ReportLaw.{FitsItsReport}
+use Rattle.pp_report.specs.ReportLaw.{FitsItsReport}
 use Rattle.pp_text.specs.TextLaw.{FitsItsText}
 use Rattle.pp_check.specs.LawfulTrace.{is_opened}
 

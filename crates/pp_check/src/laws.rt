@@ -14,7 +14,7 @@ ghost use Rattle.pp_machine.specs.Run.{run};
 ghost use Rattle.pp_machine.specs.declared.profile.Profile.{Profile};
 ghost use Rattle.pp_runner.specs.Limits.{RunLimits};
 ghost use Rattle.pp_runner.specs.declared.report.Report.{Report};
-ghost use Rattle.pp_text.specs.PrintedReport.{printed_report};
+ghost use Rattle.pp_report.specs.PrintedReport.{printed_report};
 ghost use Rattle.pp_text.specs.PrintedText.{printed};
 ghost use Rattle.pp_text.specs.TextLaw.{FitsItsText};
 ghost use Rattle.pp_check.specs.LawfulTrace.{AreLawful, IsLawfulTrace, events_on, history, lines_said, turns};

@@ -17,7 +17,7 @@ use Rattle.pp_runner.specs.End.{HasEndNumber}
 use Rattle.pp_runner.specs.WorkerReport.{IsLoggedWorker}
 use Rattle.pp_runner.specs.declared.report.Report.{Report}
 use Rattle.pp_runner.specs.declared.worker.Worker.{Worker}
-use Rattle.pp_text.specs.ReportLaw.{ShownEnd, end_of, shown_end, shown_of}
+use Rattle.pp_report.specs.ReportLaw.{ShownEnd, end_of, shown_end, shown_of}
 use Rattle.pp_text.specs.TextLaw.{NameAlike}
 
 each_numbered : {Z : Type 0} (size steps : ℕ) (loads : List Processor) (workers : List (Worker Z))

@@ -6,8 +6,8 @@ use Rattle.pp_promises.specs.EveryRun.{HoldsOfThreads}
 use Rattle.pp_runner.specs.Report.{IsReportOf}
 use Rattle.pp_runner.specs.Limits.{RunLimits}
 use Rattle.pp_runner.specs.declared.report.Report.{Report}
-use Rattle.pp_text.specs.PrintedReport.{printed_report}
-use Rattle.pp_text.specs.ReportLaw.{FitsItsReport}
+use Rattle.pp_report.specs.PrintedReport.{printed_report}
+use Rattle.pp_report.specs.ReportLaw.{FitsItsReport}
 
 -- a text of a loaded deck, which names no processor that its machine lacks, and ran with one thread
 -- per processor within these limits: that of a report of the run, of which the headline holds; and

@@ -20,13 +20,14 @@ ghost use Rattle.pp_serial.specs.Serial.{LeadsTo};
 ghost use Rattle.pp_sim.specs.BarrelText.{IsBarrelText};
 ghost use Rattle.pp_sim.specs.RacesText.{IsRacesText};
 ghost use Rattle.pp_sim.specs.ThreadsText.{IsThreadsText};
-ghost use Rattle.pp_text.specs.ReportLaw.{AgreeOnReport};
+ghost use Rattle.pp_report.specs.ReportLaw.{AgreeOnReport};
 ghost use Rattle.pp_text.specs.TextLaw.{AgreeOnText, AreSameHistories, NameAlike};
 
 use pp_check::{barrel_law, printed_report_law};
 use pp_every_order::determinacy_law;
 use pp_promises::one_run_law;
-use pp_text::{report_law, text_law};
+use pp_report::report_law;
+use pp_text::text_law;
 use std::alloc::Allocator;
 
 /// The text is the trace: where two decks run to one text, they name the same processors, their

@@ -1,11 +1,7 @@
-mod AuthorLemmas
-mod EventLineLemmas
 mod PairLemmas
-mod TextLawLemmas
-mod TextLemmas
-mod HistoryLawLemmas
 mod WriteLemmas
 mod TextWriterLemmas
-mod ReportLawLemmas
 -- facts of the definitions, which proofs of other crates cite
-pub mod AuthorLawLemmas
+pub mod TextLawLemmas
+pub mod TextLemmas
+pub mod HistoryLawLemmas

@@ -18,16 +18,6 @@ pub event_line_in_pieces : (text upper heading tail : List ℕ) (e : Trace) → 
 unfolding event_line decimal
 event_line_in_pieces text upper heading tail e u h t = rw (u, h, t) (simp append_assoc)
 
--- the line of a numbered event: its channel, what stands before the last six digits of its number, those digits and the
--- author, the event
-pub numbered_line_in_pieces : (text upper heading tail : List ℕ) (c number author : ℕ) (said : List ℕ) → upper ≡ unpadded 14 (number / 10 ^ 6)
-    → heading ≡ digits 10 6 (number % 10 ^ 6) ++ codes " PP" ++ octal 2 author ++ codes " "
-    → tail ≡ said ++ line_end
-    → (((text ++ (codes "CH" ++ octal 2 c ++ codes " ")) ++ upper) ++ heading) ++ tail
-    ≡ text ++ (codes "CH" ++ octal 2 c ++ codes " " ++ decimal number ++ codes " PP" ++ octal 2 author ++ codes " " ++ said ++ line_end)
-unfolding decimal
-numbered_line_in_pieces text upper heading tail c number author said u h t = rw (u, h, t) (simp append_assoc)
-
 -- the line of a processor: its registers, and what is said of it
 pub processor_line_in_pieces : (text heading : List ℕ) (n : ℕ) (pp : Processor) (said : List ℕ)
     → heading ≡ codes "PP" ++ octal 2 n ++ codes " P=" ++ octal 4 pp.p ++ codes " A=" ++ octal 6 pp.a ++ codes " "

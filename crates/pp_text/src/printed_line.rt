@@ -1,24 +1,20 @@
 //! The lines of a printed text.
 
-ghost use Rattle.std.specs.Prelude.{◌≡◌, ◌+◌, ◌<◌, ◌≤◌, ◌^◌, ◌++◌, IsTrue, Some, codes, length};
+ghost use Rattle.std.specs.Prelude.{◌≡◌, ◌<◌, ◌^◌, ◌++◌, IsTrue, codes};
 ghost use Rattle.pp_channel.specs.ChannelNo.{names_channel};
 ghost use Rattle.pp_channel.specs.History.{HasTwelveBitWord};
 ghost use Rattle.pp_machine.specs.PpNo.{names_processor};
-ghost use Rattle.pp_text.specs.Numeral.{decimal, digits, octal};
+ghost use Rattle.pp_text.specs.Numeral.{digits, octal};
 ghost use Rattle.pp_text.specs.Piece.{HasRoom, longest_line};
 ghost use Rattle.pp_text.specs.PrintedText.{event_line, event_text, line_end, processor_line, state_text};
-ghost use Rattle.pp_text.specs.PrintedReport.{end_text, worker_line};
-ghost use Rattle.pp_text.specs.ReportLaw.{FitsItsEnd, FitsItsLine, shown_end};
 ghost use Rattle.pp_text.specs.TextLaw.{IsShown, IsTold};
 
 use crate::digits::{decimal6, octal2, octal4, push_upper_digits};
 use crate::piece::Piece;
-use crate::state_text::{processor_heading, push_fault_text, push_state_text};
+use crate::state_text::{processor_heading, push_state_text};
 use pp_channel::{ChannelNo, Event};
 use pp_machine::{Pp, PpNo, Trace};
-use pp_runner::{End, Worker};
 use pp_word::Word12;
-use std::alloc::Allocator;
 
 /// Adds `000020 PP00 CH05 PUT 0007` and a line feed.
 #[tactic(auto, using(crate::proofs::TextLemmas::event_line_in_pieces))]
@@ -32,41 +28,9 @@ pub(crate) fn push_event(piece: &mut Piece, entry: &Trace)
     push_event_end(piece, entry.event);
 }
 
-/// Adds `CH05 000001 PP00 PUT 0007` and a line feed.
-#[tactic(auto, using(crate::proofs::TextLemmas::numbered_line_in_pieces))]
-pub(crate) fn push_numbered_event(
-    piece: &mut Piece,
-    c: ChannelNo,
-    number: u64,
-    author: PpNo,
-    event: Event,
-)
-    requires { HasRoom longest_line piece.old }
-    ensures text { piece.new ≡ piece.old ++ (codes "CH" ++ octal 2 c ++ codes " " ++ decimal number
-        ++ codes " PP" ++ octal 2 author ++ codes " " ++ event_text event ++ line_end) }
-    ensures fits { FitsItsLine (record { number = number; author = author; event = event }) }
-{
-    let [c0, c1] = octal2(c.get());
-    piece.push(&[b'C', b'H', c0, c1, b' ']);
-    let lower = push_upper_digits(piece, number);
-    piece.push(&author_heading(lower, author));
-    push_event_end(piece, event);
-}
-
-/// `000001 PP00 `
-fn author_heading(number: u32, author: PpNo) -> [u8; 12]
-    requires { number < 10 ^ 6 }
-    ensures text { result ≡ digits 10 6 number ++ codes " PP" ++ octal 2 author ++ codes " " }
-    ensures processor { IsTrue (names_processor author) }
-{
-    let [n0, n1, n2, n3, n4, n5] = decimal6(number);
-    let [p0, p1] = octal2(author.get());
-    [n0, n1, n2, n3, n4, n5, b' ', b'P', b'P', p0, p1, b' ']
-}
-
 /// Adds `PUT 0007` and a line feed.
 #[inline(always)]
-fn push_event_end(piece: &mut Piece, event: Event)
+pub fn push_event_end(piece: &mut Piece, event: Event)
     requires { HasRoom 9 piece.old }
     ensures text { piece.new ≡ piece.old ++ (event_text event ++ line_end) }
     ensures fits { HasTwelveBitWord event }
@@ -116,32 +80,4 @@ pub(crate) fn push_processor(piece: &mut Piece, n: PpNo, pp: &Pp)
     piece.push(&processor_heading(n, pp));
     push_state_text(piece, pp.state());
     piece.push(b"\n");
-}
-
-/// Adds `PP00 P=0103 A=000007 PATIENCE` and a line feed.
-#[tactic(auto, using(crate::proofs::TextLemmas::processor_line_in_pieces))]
-pub(crate) fn push_worker<A: Allocator>(piece: &mut Piece, n: PpNo, worker: &Worker<A>)
-    requires { HasRoom longest_line piece.old }
-    ensures text { piece.new ≡ piece.old ++ worker_line n (Some worker.now) }
-    ensures fits { FitsItsEnd (shown_end worker.now) }
-{
-    piece.push(&processor_heading(n, &worker.pp));
-    push_end(piece, worker.finish);
-    piece.push(b"\n");
-}
-
-/// Adds `PATIENCE`.
-fn push_end(piece: &mut Piece, finish: End)
-    requires { HasRoom 8 piece.old }
-    ensures text { piece.new ≡ piece.old ++ end_text finish }
-    ensures room { length piece.new ≤ length piece.old + 8 }
-{
-    match finish {
-        End::Stopped => piece.push(b"STOPPED"),
-        End::Fault(number) => push_fault_text(piece, number),
-        End::Steps => piece.push(b"STEPS"),
-        End::Patience => piece.push(b"PATIENCE"),
-        End::Memory => piece.push(b"MEMORY"),
-        End::Worn => piece.push(b"WORN"),
-    }
 }

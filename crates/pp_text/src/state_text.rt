@@ -62,7 +62,7 @@ pub fn push_state_text(piece: &mut Piece, state: PpState)
 }
 
 /// Adds `FAULT 4`.
-pub(crate) fn push_fault_text(piece: &mut Piece, number: u8)
+pub fn push_fault_text(piece: &mut Piece, number: u8)
     requires { HasRoom 7 piece.old }
     ensures text { piece.new ≡ piece.old ++ (codes "FAULT " ++ octal 1 number) }
     ensures room { length piece.new ≤ length piece.old + 7 }

@@ -1,0 +1,35 @@
+-- The lines of a history, one event after another.
+use Rattle.std.proofs.Common.{◌≡◌, ◌∙◌, ℕ, ◌+◌, ◌<◌, List, [], ◌∷◌, ◌++◌, length, take, slice_index_or, sym, ap, arith, add-one}
+use Rattle.std.proofs.Math.Seq.{take-suc}
+use Rattle.std.proofs.lemmas.Grind.{flat_map-append}
+use Rattle.std.proofs.lemmas.List.{append-nil, length-take-le}
+use Rattle.std.specs.List.{enumerate_from, flat_map}
+use Rattle.pp_channel.specs.declared.event.Event.{Event}
+use Rattle.pp_runner.specs.declared.worker.Worker.{Worker}
+use Rattle.pp_report.specs.PrintedReport.{author_place, line_by, numbered_event_line}
+
+module _ {X : Type 0} where
+  pub enumerate_push : (n : ℕ) (xs : List X) (y : X) → enumerate_from n (xs ++ y ∷ []) ≡ enumerate_from n xs ++ (n + length xs, y) ∷ []
+  enumerate_push n [] y = ap (λ k. (k, y) ∷ []) (omega arith)
+  enumerate_push n (x ∷ xs) y = ap (λ more. (n, x) ∷ more)
+      (enumerate_push (n + 1) xs y ∙ ap (λ k. enumerate_from (n + 1) xs ++ (k, y) ∷ []) (omega arith))
+
+line_of : {Z : Type 0} (c : ℕ) (workers : List (Worker Z)) (number : ℕ) (event : Event)
+    → flat_map (numbered_event_line c workers) ((number, event) ∷ []) ≡ line_by c number event (author_place c workers number)
+unfolding numbered_event_line
+line_of c workers number event = append-nil (line_by c number event (author_place c workers number))
+
+-- the lines of the first events, with one event more
+pub lines_go_on : {Z : Type 0} (c i : ℕ) (workers : List (Worker Z)) (h : List Event) (e : Event)
+    → i < length h → e ≡ slice_index_or h i e
+    → flat_map (numbered_event_line c workers) (enumerate_from 0 (take i h)) ++ line_by c i e (author_place c workers i)
+    ≡ flat_map (numbered_event_line c workers) (enumerate_from 0 (take (i + 1) h))
+lines_go_on {Z} c i workers h e l at =
+    let f : ℕ × Event → List ℕ = numbered_event_line c workers in
+    let more : take (i + 1) h ≡ take i h ++ e ∷ [] =
+    ap (λ n. take n h) (add-one i) ∙ take-suc h i e l ∙ ap (λ x. take i h ++ x ∷ []) (sym at) in
+    let numbered : enumerate_from 0 (take (i + 1) h) ≡ enumerate_from 0 (take i h) ++ (i, e) ∷ [] =
+    ap (enumerate_from 0) more ∙ (enumerate_push 0 (take i h) e
+    ∙ ap (λ k. enumerate_from 0 (take i h) ++ (k, e) ∷ []) (let n = length-take-le i h (omega arith) in omega arith)) in
+    sym (ap (flat_map f) numbered ∙ (flat_map-append f (enumerate_from 0 (take i h)) ((i, e) ∷ [])
+    ∙ ap (λ line. flat_map f (enumerate_from 0 (take i h)) ++ line) (line_of c workers i e)))

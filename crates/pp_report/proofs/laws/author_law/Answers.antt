@@ -1,0 +1,5 @@
+use Rattle.pp_report.proofs.AuthorLawLemmas.{only_openings}
+use Rattle.pp_report.proofs.laws.author_law.Goals as goal
+
+pub returns : goal.returns
+returns g c = only_openings

@@ -1,0 +1,30 @@
+-- Finding the authors of events, log after log. (Private contracts alone cite this.)
+use Rattle.std.specs.Prelude.{◌≡◌, ℕ, ◌<◌, Bool, List, [], length, slice_index_or, Option, Some, None, option_map, IsTrue, if◌then◌else◌}
+use Rattle.pp_channel.specs.ChannelNo.{channel_index, names_channel}
+use Rattle.pp_channel.specs.History.{history_on}
+use Rattle.pp_channel.specs.declared.event.Event.{Event}
+use Rattle.pp_machine.specs.PpNo.{processor_number}
+use Rattle.pp_runner.specs.declared.worker.Worker.{Worker}
+use Rattle.pp_report.specs.PrintedReport.{author_place}
+
+-- the author known so far, or else this one where its log records the event
+abbrev pub or_told : Option ℕ → Bool → ℕ → Option ℕ
+or_told (Some known) told author = Some known
+or_told None told author = if told then Some author else None
+
+-- the authors of the events of channel c, of those of all channels in order
+abbrev pub authors_on : ℕ → List (List (Option ℕ)) → List (Option ℕ)
+authors_on c authors = slice_index_or authors (channel_index c) []
+
+-- The authors of the events of channel c, by number: of each the processor in whose log it stands,
+-- by the workers in order; an opening event has none.
+abbrev pub AreAuthorsOn : {Z : Type 0} → ℕ → List (Worker Z) → List Event → List (Option ℕ) → Type 0
+AreAuthorsOn c workers history authors = (number : ℕ) → number < length history
+    → slice_index_or authors number None ≡ option_map processor_number
+    (author_place c workers number)
+
+-- the same of each channel
+abbrev pub AreAuthors : {Z : Type 0} → List (Worker Z) → List (List Event)
+    → List (List (Option ℕ)) → Type 0
+AreAuthors workers histories authors = (c : ℕ) → IsTrue (names_channel c)
+    → AreAuthorsOn c workers (history_on c histories) (authors_on c authors)

@@ -1,0 +1,132 @@
+//! Who made the events of the channels.
+
+ghost use Rattle.std.specs.Prelude.{◌≡◌, ◌<◌, ◌≤◌, ◌==◌, ℕ, None, length, slice_index_or, IfOk, IsTrue, nat_lt};
+ghost use Rattle.pp_channel.specs.ChannelNo.{channel_count, names_channel};
+ghost use Rattle.pp_line.specs.Merge.{logs_event, times_logged};
+ghost use Rattle.pp_channel.specs.History.{history_on};
+ghost use Rattle.pp_machine.specs.PpNo.{processor_count};
+ghost use Rattle.pp_report.specs.Authors.{AreAuthors, authors_on, or_told};
+
+use pp_channel::{CHANNELS, Channel, Seen};
+use pp_line::Entry;
+use pp_machine::PpNo;
+use pp_runner::Worker;
+use std::alloc::{AllocError, Allocator};
+use std::marker::Model;
+
+/// The authors of a channel's events, by number, as far as they are known. Contracts see their
+/// list.
+#[derive(Drop)]
+pub(crate) struct ChannelAuthors<A: Allocator> {
+    by_number: Vec<Option<PpNo>, A>,
+}
+
+impl<A: Allocator> Model for ChannelAuthors<A> {
+    ghost use Rattle.std.specs.Prelude.{ℕ, List, Option};
+
+    ghost Value = { List (Option ℕ) };
+
+    ghost view = { λ a. a.by_number.items };
+}
+
+impl<A: Allocator> ChannelAuthors<A> {
+    /// Those of this many events, when none is known.
+    fn unknown(alloc: A, count: usize) -> Result<Self, AllocError>
+        ensures length { IfOk result (λ authors. length authors ≡ count) }
+        ensures none { IfOk result (λ authors. (number : ℕ)
+            → slice_index_or authors number None ≡ None) }
+    {
+        let by_number = vec![in alloc; None; count]?;
+        Ok(ChannelAuthors { by_number })
+    }
+
+    /// The author of the event with this number, where it is known.
+    pub(crate) fn of(&self, number: usize) -> Option<PpNo>
+        ensures { result ≡ slice_index_or self.now number None }
+    {
+        match self.by_number.get(number) {
+            Some(author) => *author,
+            None => None,
+        }
+    }
+
+    /// Marks an event, where it has no author yet.
+    fn mark(&mut self, number: usize, author: PpNo)
+        ensures length { length self.new ≡ length self.old }
+        ensures marked { (k : ℕ) → k < length self.old
+            → slice_index_or self.new k None
+            ≡ or_told (slice_index_or self.old k None) (number == k) author }
+    {
+        if number < self.by_number.len() && self.by_number[number].is_none() {
+            self.by_number[number] = Some(author);
+        }
+    }
+}
+
+/// The authors of all events of the channels, by the logs of the workers, which stand in order: for
+/// each channel in order a list by number.
+pub(crate) fn authors<A: Allocator + Copy>(
+    alloc: A,
+    workers: &[Worker<A>],
+    channels: &[Channel<A>; CHANNELS],
+) -> Result<Vec<ChannelAuthors<A>, A>, AllocError>
+    requires { length workers.now ≤ processor_count }
+    ensures each_channel { IfOk result (λ authors. length authors.items ≡ channel_count) }
+    ensures authors { IfOk result (λ authors. AreAuthors workers.now channels.now authors.items) }
+{
+    let mut authors = unknown_authors(alloc, channels)?;
+    for (place, worker) in workers.iter().enumerate() {
+        mark(&mut authors, worker.log.as_slice(), PpNo::at(place));
+    }
+    Ok(authors)
+}
+
+fn unknown_authors<A: Allocator + Copy>(
+    alloc: A,
+    channels: &[Channel<A>; CHANNELS],
+) -> Result<Vec<ChannelAuthors<A>, A>, AllocError>
+    ensures each_channel { IfOk result (λ authors. length authors.items ≡ channel_count) }
+    ensures each_event { IfOk result (λ authors. (c : ℕ)
+        → length (authors_on c authors.items) ≡ length (history_on c channels.now)) }
+    ensures none { IfOk result (λ authors. (c number : ℕ)
+        → slice_index_or (authors_on c authors.items) number None ≡ None) }
+{
+    let mut authors = Vec::with_capacity(alloc, CHANNELS)?;
+    for channel in channels {
+        authors.push(ChannelAuthors::unknown(alloc, channel.history().len())?)?;
+    }
+    Ok(authors)
+}
+
+/// Marks the events that a log records, on all channels, where they have no author yet.
+fn mark<A: Allocator>(authors: &mut Vec<ChannelAuthors<A>, A>, log: &[Entry], author: PpNo)
+    requires { length authors.old.items ≡ channel_count }
+    ensures each_channel { length authors.new.items ≡ channel_count }
+    ensures each_event { (c : ℕ)
+        → length (authors_on c authors.new.items) ≡ length (authors_on c authors.old.items) }
+    ensures marked { (c number : ℕ) → IsTrue (names_channel c)
+        → number < length (authors_on c authors.old.items)
+        → slice_index_or (authors_on c authors.new.items) number None
+        ≡ or_told (slice_index_or (authors_on c authors.old.items) number None)
+        (nat_lt 0 (times_logged c number log.now)) author }
+{
+    for entry in log {
+        mark_entry(authors, entry, author);
+    }
+}
+
+fn mark_entry<A: Allocator>(authors: &mut Vec<ChannelAuthors<A>, A>, entry: &Entry, author: PpNo)
+    requires { length authors.old.items ≡ channel_count }
+    ensures each_channel { length authors.new.items ≡ channel_count }
+    ensures each_event { (c : ℕ)
+        → length (authors_on c authors.new.items) ≡ length (authors_on c authors.old.items) }
+    ensures marked { (c number : ℕ) → IsTrue (names_channel c)
+        → number < length (authors_on c authors.old.items)
+        → slice_index_or (authors_on c authors.new.items) number None
+        ≡ or_told (slice_index_or (authors_on c authors.old.items) number None)
+        (logs_event c number entry.now) author }
+{
+    if let Seen::Did(_) = entry.what {
+        authors[entry.channel.index()].mark(entry.number as usize, author);
+    }
+}

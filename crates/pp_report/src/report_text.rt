@@ -1,0 +1,224 @@
+//! The whole printed text of a report.
+
+ghost use Rattle.std.specs.Prelude.{◌≡◌, ◌≢◌, ◌≤◌, ◌++◌, ℕ, All, List, Option, Err, length, slice_get, IfSome, IsTrue, option_map};
+ghost use Rattle.std.specs.List.{enumerate_from, flat_map};
+ghost use Rattle.pp_channel.specs.ChannelNo.{channel_count, names_channel};
+ghost use Rattle.pp_channel.specs.History.{history_on};
+ghost use Rattle.pp_machine.specs.PpNo.{processor_count, processor_index, processor_number, is_named};
+ghost use Rattle.pp_runner.specs.declared.worker.Worker.{Worker};
+ghost use Rattle.pp_report.specs.Authors.{AreAuthors, AreAuthorsOn};
+ghost use Rattle.pp_text.specs.TextWriter.{Prints};
+ghost use Rattle.pp_text.specs.Piece.{HasRoom, longest_line};
+ghost use Rattle.pp_text.specs.PrintedText.{each_below, used_channel_line};
+ghost use Rattle.pp_report.specs.PrintedReport.{channel_events, line_by, named_worker_line, numbered_event_line, printed_report, worker_line};
+ghost use Rattle.pp_report.specs.ReportLaw.{FitsItsEnd, FitsItsLine, FitsItsReport, shown_end, told_by, told_events};
+ghost use Rattle.pp_text.specs.TextLaw.{IsListed};
+ghost use Rattle.pp_text.specs.Written.{IsReportWritten, IsWritten};
+
+use crate::authors::{ChannelAuthors, authors};
+use crate::report_line::{push_numbered_event, push_worker};
+use pp_channel::{CHANNELS, Channel, ChannelNo, Event};
+use pp_machine::{PROCESSORS, PpNo};
+use pp_runner::{Report, Worker};
+use pp_text::{NUMBERS, Piece, ReportFault, TextWriter, WriteFault, push_channel_line};
+use std::alloc::Allocator;
+use std::io::Write;
+
+/// Writes the text of a report, with the lines of the processors named, and flushes the writer. Who
+/// made which event is found first, and takes memory; then the text goes out in pieces, and takes
+/// none. Where the writer fails, the rest of the text is lost.
+pub fn write_report<A: Allocator + Copy, W: Write>(
+    alloc: A,
+    writer: &mut W,
+    report: &Report<A>,
+    named: &[bool; PROCESSORS],
+) -> Result<(), ReportFault>
+    requires { length report.now.ends.items ≤ processor_count }
+    ensures written { IsReportWritten (printed_report named.now report.now) result
+        (W.contents writer.old) (W.contents writer.new) }
+    ensures fits { result ≢ Err ReportFault.Memory → FitsItsReport named.now report.now }
+{
+    let Ok(authors) = authors(alloc, report.ends.as_slice(), &report.channels) else {
+        return Err(ReportFault::Memory);
+    };
+    print_report(writer, report, &authors, named).map_err(|_| ReportFault::Write)
+}
+
+/// Prints the text of a report whose authors are known.
+#[tactic(auto, unfolding(crate::specs::PrintedReport::printed_report))]
+fn print_report<A: Allocator + Copy, W: Write>(
+    writer: &mut W,
+    report: &Report<A>,
+    authors: &[ChannelAuthors<A>],
+    named: &[bool; PROCESSORS],
+) -> Result<(), WriteFault>
+    requires each_channel { length authors.now ≡ channel_count }
+    requires authors { AreAuthors report.now.ends.items report.now.channels authors.now }
+    ensures written { IsWritten (printed_report named.now report.now) result
+        (W.contents writer.old) (W.contents writer.new) }
+    ensures fits { FitsItsReport named.now report.now }
+{
+    let mut text = TextWriter::new(writer);
+    print_events(&mut text, &report.channels, authors);
+    print_workers(&mut text, report.ends.as_slice(), named);
+    print_channels(&mut text, &report.channels);
+    text.finish()
+}
+
+fn print_events<A: Allocator, W: Write>(
+    text: &mut TextWriter<W>,
+    channels: &[Channel<A>; CHANNELS],
+    authors: &[ChannelAuthors<A>],
+)
+    requires { length authors.now ≡ channel_count }
+    ensures text { (workers : List (Worker A)) → AreAuthors workers channels.now authors.now
+        → Prints W.contents text.old text.new
+        (each_below NUMBERS (channel_events workers channels.now)) }
+    ensures fits { (workers : List (Worker A)) → AreAuthors workers channels.now authors.now
+        → (c : ℕ) → IsTrue (names_channel c)
+        → All FitsItsLine (told_events c workers (history_on c channels.now)) }
+{
+    for number in 0..NUMBERS {
+        print_channel_events(text, channels, authors, number);
+    }
+}
+
+fn print_channel_events<A: Allocator, W: Write>(
+    text: &mut TextWriter<W>,
+    channels: &[Channel<A>; CHANNELS],
+    authors: &[ChannelAuthors<A>],
+    number: u8,
+)
+    requires { length authors.now ≡ channel_count }
+    ensures text { (workers : List (Worker A)) → AreAuthors workers channels.now authors.now
+        → Prints W.contents text.old text.new (channel_events workers channels.now number) }
+    ensures fits { (workers : List (Worker A)) → AreAuthors workers channels.now authors.now
+        → IsTrue (names_channel number)
+        → All FitsItsLine (told_events number workers (history_on number channels.now)) }
+{
+    if let Some(c) = ChannelNo::new(number) {
+        print_history(text, c, channel_of(channels, c), &authors[c.index()]);
+    }
+}
+
+fn print_history<A: Allocator, W: Write>(
+    text: &mut TextWriter<W>,
+    c: ChannelNo,
+    channel: &Channel<A>,
+    authors: &ChannelAuthors<A>,
+)
+    ensures text { (workers : List (Worker A)) → AreAuthorsOn c workers channel.now authors.now
+        → Prints W.contents text.old text.new
+        (flat_map (numbered_event_line c workers) (enumerate_from 0 channel.now)) }
+    ensures fits { (workers : List (Worker A)) → AreAuthorsOn c workers channel.now authors.now
+        → All FitsItsLine (told_events c workers channel.now) }
+{
+    let mut line = Piece::new();
+    for (number, event) in channel.history().iter().enumerate() {
+        line.clear();
+        push_event_by(&mut line, c, number, &authors.of(number), event);
+        text.print(line.as_slice());
+    }
+}
+
+/// Adds the line of an event, where it has an author.
+fn push_event_by(
+    piece: &mut Piece,
+    c: ChannelNo,
+    number: usize,
+    author: &Option<PpNo>,
+    event: &Event,
+)
+    requires { HasRoom longest_line piece.old }
+    ensures text { (place : Option ℕ) → author.now ≡ option_map processor_number place
+        → piece.new ≡ piece.old ++ line_by c number event.now place }
+    ensures fits { (place : Option ℕ) → author.now ≡ option_map processor_number place
+        → IfSome (told_by number event.now place) FitsItsLine }
+{
+    match author {
+        Some(author) => push_numbered_event(piece, c, number as u64, *author, *event),
+        None => {}
+    }
+}
+
+fn print_workers<A: Allocator, W: Write>(
+    text: &mut TextWriter<W>,
+    workers: &[Worker<A>],
+    named: &[bool; PROCESSORS],
+)
+    ensures text { Prints W.contents text.old text.new
+        (each_below NUMBERS (named_worker_line named.now workers.now)) }
+    ensures fits { (n : ℕ) → IsTrue (is_named named.now n)
+        → IfSome (option_map shown_end (slice_get workers.now (processor_index n))) FitsItsEnd }
+{
+    for number in 0..NUMBERS {
+        print_named_worker(text, workers, named, number);
+    }
+}
+
+fn print_named_worker<A: Allocator, W: Write>(
+    text: &mut TextWriter<W>,
+    workers: &[Worker<A>],
+    named: &[bool; PROCESSORS],
+    number: u8,
+)
+    ensures text { Prints W.contents text.old text.new
+        (named_worker_line named.now workers.now number) }
+    ensures fits { IsTrue (is_named named.now number)
+        → IfSome (option_map shown_end (slice_get workers.now (processor_index number)))
+        FitsItsEnd }
+{
+    match PpNo::new(number) {
+        Some(n) if named[n.index()] => print_worker(text, workers, n),
+        _ => {}
+    }
+}
+
+/// Prints the line of a processor, where it has a worker.
+fn print_worker<A: Allocator, W: Write>(text: &mut TextWriter<W>, workers: &[Worker<A>], n: PpNo)
+    ensures text { Prints W.contents text.old text.new
+        (worker_line n (slice_get workers.now (processor_index n))) }
+    ensures fits { IfSome (option_map shown_end (slice_get workers.now (processor_index n)))
+        FitsItsEnd }
+{
+    if let Some(worker) = workers.get(n.index()) {
+        let mut line = Piece::new();
+        push_worker(&mut line, n, worker);
+        text.print(line.as_slice());
+    }
+}
+
+fn print_channels<A: Allocator, W: Write>(
+    text: &mut TextWriter<W>,
+    channels: &[Channel<A>; CHANNELS],
+)
+    ensures text { Prints W.contents text.old text.new
+        (each_below NUMBERS (used_channel_line channels.now)) }
+    ensures fits { (c : ℕ) → IsTrue (names_channel c) → IsListed (history_on c channels.now) }
+{
+    for number in 0..NUMBERS {
+        print_used_channel(text, channels, number);
+    }
+}
+
+fn print_used_channel<A: Allocator, W: Write>(
+    text: &mut TextWriter<W>,
+    channels: &[Channel<A>; CHANNELS],
+    number: u8,
+)
+    ensures text { Prints W.contents text.old text.new (used_channel_line channels.now number) }
+    ensures fits { IsTrue (names_channel number) → IsListed (history_on number channels.now) }
+{
+    if let Some(c) = ChannelNo::new(number) {
+        let mut line = Piece::new();
+        push_channel_line(&mut line, c, channel_of(channels, c));
+        text.print(line.as_slice());
+    }
+}
+
+/// The channel of this number, of all channels in order.
+fn channel_of<A: Allocator>(channels: &[Channel<A>; CHANNELS], c: ChannelNo) -> &Channel<A>
+    ensures { result.now ≡ history_on c channels.now }
+{
+    &channels[c.index()]
+}
