@@ -2,7 +2,7 @@
 
 ghost use Rattle.std.specs.Prelude.{◌≡◌, ◌<◌, ℕ, ◌++◌, [], length, replicate, slice_index_or, slice_set, IfOk, OnOk, OnErr, IsErrOf, IsTrue, ◌↔◌, vec_len};
 ghost use Rattle.std.specs.Bool.{OnFalse};
-ghost use Rattle.pp_channel.specs.ChannelNo.{channel_count};
+ghost use Rattle.pp_channel.specs.ChannelNo.{channel_count, channel_index, names_channel};
 ghost use Rattle.pp_channel.specs.History.{IsLawful};
 ghost use Rattle.pp_channel.specs.Law.{KeepsLaw};
 ghost use Rattle.pp_machine.specs.Headline.{HoldsOnChannel};
@@ -120,6 +120,18 @@ impl<A: Allocator> Machine<A> {
         ensures law { KeepsLaw result.now }
     {
         &self.channels[ch.index()]
+    }
+
+    /// How many events each channel has, by its place.
+    pub fn event_counts(&self) -> [usize; CHANNELS]
+        ensures { (c : ℕ) → IsTrue (names_channel c)
+            → slice_index_or result (channel_index c) 0 ≡ length (history_of c self.now) }
+    {
+        let mut counts = [0; CHANNELS];
+        for place in 0..CHANNELS {
+            counts[place] = self.channel(ChannelNo::at(place)).history().len();
+        }
+        counts
     }
 
     /// Makes room for so many more events on each channel, by its place: those that a run makes then
