@@ -23,7 +23,7 @@ use Rattle.pp_races.specs.Findings.{end_of, findings, findings_at_end, sharing_o
 use Rattle.pp_races.specs.OtherFlags.{waits_at}
 use Rattle.pp_races.specs.OnePass.{Watched}
 use Rattle.pp_races.specs.Soundness.{AreLastOf, IsAskedWell, IsSound, TurnsWell, least_of, open_of}
-use Rattle.pp_races.specs.Watch.{Watch, asked, each_below, each_number, looked, unwatched, watched, watched_need, watched_step}
+use Rattle.pp_races.specs.Watch.{Watch, asked, each_below, each_number, looked, unwatched, watched, watched_need}
 use Rattle.pp_races.specs.Spans.{IsIndex}
 use Rattle.pp_races.specs.Tables.{AreLow, AreUses, AreWatched}
 use Rattle.pp_races.specs.WatchTables.{AreTables}

@@ -1,4 +1,4 @@
-use Rattle.std.proofs.Common.{◌≡◌, ◌++◌, ◌∷◌, [], take, subst, sym, ap, ◌∙◌}
+use Rattle.std.proofs.Common.{◌++◌, ◌∷◌, [], take, subst, sym, ap, ◌∙◌}
 use Rattle.std.proofs.lemmas.List.{take_all, take_more}
 use Rattle.pp_races.specs.Printing.{PrintsFindings}
 use Rattle.pp_races.proofs.PrintingLemmas.{findings_none, findings_on}
