@@ -116,6 +116,13 @@ impl<A: Allocator> Channel<A> {
         })
     }
 
+    /// Makes room for so many more events, which then ask for no memory.
+    pub fn reserve(&mut self, events: usize) -> Result<(), Memory>
+        ensures { self.new ≡ self.old }
+    {
+        Ok(self.events.reserve_exact(events)?)
+    }
+
     /// The event that the operation would make now, or nothing where it would make none. It takes
     /// no memory: who records events beside the channel asks it first, and so takes memory for a
     /// record only where there is an event.

@@ -1,8 +1,8 @@
 //! The machine: processors, channels, central memory, turns and events.
 
-ghost use Rattle.std.specs.Prelude.{◌≡◌, ◌<◌, ℕ, ◌++◌, [], length, replicate, slice_index_or, slice_set, IfOk, OnOk, OnErr, IsErrOf, IsTrue, ◌↔◌};
+ghost use Rattle.std.specs.Prelude.{◌≡◌, ◌<◌, ℕ, ◌++◌, [], length, replicate, slice_index_or, slice_set, IfOk, OnOk, OnErr, IsErrOf, IsTrue, ◌↔◌, vec_len};
 ghost use Rattle.std.specs.Bool.{OnFalse};
-ghost use Rattle.pp_channel.specs.ChannelNo.{channel_count};
+ghost use Rattle.pp_channel.specs.ChannelNo.{channel_count, channel_index, names_channel};
 ghost use Rattle.pp_channel.specs.History.{IsLawful};
 ghost use Rattle.pp_channel.specs.Law.{KeepsLaw};
 ghost use Rattle.pp_machine.specs.Headline.{HoldsOnChannel};
@@ -13,7 +13,7 @@ use crate::pp_no::PpNo;
 use crate::processors::Processors;
 use crate::profile::Profile;
 use crate::trace::Trace;
-use pp_channel::{CHANNELS, Channel, ChannelNo};
+use pp_channel::{CHANNELS, Channel, ChannelNo, Memory};
 use pp_word::{Word18, Word60};
 use std::alloc::Allocator;
 use std::marker::Model;
@@ -122,6 +122,27 @@ impl<A: Allocator> Machine<A> {
         &self.channels[ch.index()]
     }
 
+    /// How many events each channel has, by its place.
+    pub fn event_counts(&self) -> [usize; CHANNELS]
+        ensures { (c : ℕ) → IsTrue (names_channel c)
+            → slice_index_or result (channel_index c) 0 ≡ length (history_of c self.now) }
+    {
+        let mut counts = [0; CHANNELS];
+        for place in 0..CHANNELS {
+            counts[place] = self.channel(ChannelNo::at(place)).history().len();
+        }
+        counts
+    }
+
+    /// Makes room for so many more events on each channel, by its place: those that a run makes then
+    /// ask for no memory.
+    pub fn reserve(&mut self, events: &[usize; CHANNELS]) -> Result<(), Memory>
+        ensures { self.new ≡ self.old }
+    {
+        let all = reserve_each(&mut self.channels, events)?;
+        Ok(self.trace.reserve_exact(all)?)
+    }
+
     /// Central memory.
     pub fn central(&self) -> &Central<A>
         ensures { result.now ≡ self.now.central }
@@ -170,4 +191,34 @@ fn new_channels<A: Allocator + Copy>(alloc: A) -> Result<Vec<Channel<A>, A>, Cen
         channels.push(channel)?;
     }
     Ok(channels)
+}
+
+/// Makes room for so many more events on each channel, and says how many they are in all.
+fn reserve_each<A: Allocator>(
+    channels: &mut Vec<Channel<A>, A>,
+    events: &[usize; CHANNELS],
+) -> Result<usize, Memory>
+    requires { vec_len channels.old ≡ channel_count }
+    ensures { channels.new.items ≡ channels.old.items }
+{
+    let mut all: usize = 0;
+    for place in 0..CHANNELS {
+        let more = events[place];
+        reserve_at(channels, place, more)?;
+        all = all.saturating_add(more);
+    }
+    Ok(all)
+}
+
+/// The same of the channel at a place.
+fn reserve_at<A: Allocator>(
+    channels: &mut Vec<Channel<A>, A>,
+    place: usize,
+    events: usize,
+) -> Result<(), Memory>
+    requires { place < vec_len channels.old }
+    ensures items { channels.new.items ≡ channels.old.items }
+    ensures all { vec_len channels.new ≡ vec_len channels.old }
+{
+    channels[place].reserve(events)
 }

@@ -1,6 +1,6 @@
 -- What is found at the end of a run.
-use Rattle.std.proofs.Common.{◌≡◌, ℕ, zero, suc, ◌+◌, ◌<◌, Bool, true, false, IsTrue, List, [], ◌∷◌, ◌++◌, length, get_or, Option, Some, None, refl, sym, ap, ap₂, ◌∙◌, append-nil, append_assoc, add-one, arith}
-use Rattle.std.specs.Prelude.{◌&&◌, not, nat_lt, count_by, if◌then◌else◌}
+use Rattle.std.proofs.Common.{◌≡◌, ℕ, ◌+◌, Bool, true, false, IsTrue, List, [], ◌∷◌, ◌++◌, get_or, Option, None, refl, sym, ap, ap₂, ◌∙◌, append-nil, append_assoc, add-one}
+use Rattle.std.specs.Prelude.{not, if◌then◌else◌}
 use Rattle.list_facts.specs.Tables.{tabulate, tabulate_same}
 use Rattle.pp_channel.specs.Answer.{flags_of}
 use Rattle.pp_channel.specs.ChannelNo.{names_channel}
@@ -91,15 +91,15 @@ flags_are mask test flags is same =
     is ∙ tabulate_same false processor_count (λ place. has_bit mask (processor_number place)) (λ place. test (processor_number place))
     (λ place low. same (processor_number place) (processor_places.number_named place low))
 
-module _ (w : Watch) (a : ℕ) (use_of : WordUse) (writers users : List Bool) (found : List Finding) (is : IsUseOf w a use_of)
+module _ (w : Watch) (a : ℕ) (use_of : WordUse) (writers users : List Bool) (is : IsUseOf w a use_of)
     (writers_are : writers ≡ tabulate processor_count (λ place. has_bit use_of.writers (processor_number place)))
     (users_are : users ≡ tabulate processor_count (λ place. has_bit use_of.users (processor_number place))) where
   both : (λ (x y : List Bool). if is_shared x y then Shared a x y ∷ [] else []) writers users ≡ sharing_of w a
   both = ap₂ (λ (x y : List Bool). if is_shared x y then Shared a x y ∷ [] else [])
       (flags_are use_of.writers (w.wrote a) writers writers_are is.wrote) (flags_are use_of.users (w.used a) users users_are is.used)
 
-  pub sharing_is : is_shared writers users ≡ true → found ++ Shared a writers users ∷ [] ≡ found ++ sharing_of w a
-  sharing_is shared = ap (λ (t : Bool). found ++ (if t then Shared a writers users ∷ [] else [])) (sym shared) ∙ ap (λ x. found ++ x) both
+  pub sharing_is : is_shared writers users ≡ true → Shared a writers users ∷ [] ≡ sharing_of w a
+  sharing_is shared = ap (λ (t : Bool). if t then Shared a writers users ∷ [] else []) (sym shared) ∙ both
 
-  pub sharing_not : is_shared writers users ≡ false → found ≡ found ++ sharing_of w a
-  sharing_not apart = sym (append-nil found) ∙ ap (λ (t : Bool). found ++ (if t then Shared a writers users ∷ [] else [])) (sym apart) ∙ ap (λ x. found ++ x) both
+  pub sharing_not : is_shared writers users ≡ false → [] ≡ sharing_of w a
+  sharing_not apart = ap (λ (t : Bool). if t then Shared a writers users ∷ [] else []) (sym apart) ∙ both

@@ -1,6 +1,9 @@
 pub mod Watching
 pub mod VerdictLemmas
 mod HeldLemmas
+mod PrintingLemmas
+mod TextLemmas
+mod GrowLemmas
 mod FlagSetLemmas
 mod LowLemmas
 mod SpanLemmas

@@ -23,28 +23,20 @@ use Rattle.pp_races.specs.Findings.{end_of, findings, findings_at_end, sharing_o
 use Rattle.pp_races.specs.OtherFlags.{waits_at}
 use Rattle.pp_races.specs.OnePass.{Watched}
 use Rattle.pp_races.specs.Soundness.{AreLastOf, IsAskedWell, IsSound, TurnsWell, least_of, open_of}
-use Rattle.pp_races.specs.Watch.{Watch, asked, each_below, each_number, looked, unwatched, watched, watched_need, watched_step}
+use Rattle.pp_races.specs.Watch.{Watch, asked, each_below, each_number, looked, unwatched, watched, watched_need}
 use Rattle.pp_races.specs.Spans.{IsIndex}
-use Rattle.pp_races.specs.Tables.{AreLow, AreNoLooks, AreUses, AreWatched, entry_count}
+use Rattle.pp_races.specs.Tables.{AreLow, AreUses, AreWatched}
+use Rattle.pp_races.specs.WatchTables.{AreTables}
 use Rattle.pp_races.specs.declared.finding.Finding.{Finding}
-use Rattle.pp_races.specs.declared.looks.Looks.{Looks}
-use Rattle.pp_races.specs.declared.latest.Latest.{Latest}
-use Rattle.pp_races.specs.declared.low.Low.{Low}
-use Rattle.pp_races.specs.declared.span.Span.{Span}
-use Rattle.pp_races.specs.declared.word_use.WordUse.{WordUse}
-use Rattle.pp_races.proofs.BeginLemmas.{begins_looks}
+use Rattle.pp_races.specs.declared.watch_tables.WatchTables.{WatchTables}
 use Rattle.pp_races.proofs.FinalLemmas.{determinate}
+use Rattle.pp_races.proofs.GrowLemmas.{behind, findings_are, forgets, forgotten, uses_forgotten, uses_remembered, watched_none, watched_push}
 use Rattle.pp_races.proofs.MissedLemmas.{none_missed}
 use Rattle.pp_races.proofs.UseLemmas.{same_asked}
 use Rattle.pp_races.proofs.SoundLemmas.{none_first, none_second, step_sound}
 use Rattle.pp_races.proofs.Watching.{watched_checked}
 
 -- ---- one step more
-
-pub watched_push : (ns : List ℕ) (n : ℕ) (m : MachineState) (w : Watch) → watched (ns ++ n ∷ []) m w ≡ watched_need (need (processor_of n (run ns m))) n (run ns m) (watched ns m w)
-unfolding watched watched_step
-watched_push [] n m w = refl
-watched_push (k ∷ ns) n m w = watched_push ns n (stepped k m) (watched_step k m w)
 
 or_left : (a b : Bool) → a ≡ true → (a || b) ≡ true
 or_left true b is = refl
@@ -121,15 +113,10 @@ module _ (ns : List ℕ) (m : MachineState) (each : length m.histories ≡ chann
         ];
       }
 
--- what is kept of a run after t turns of so many
-pub record IsWatchedRun (p : Profile) (turns t : ℕ) (m now : MachineState) (latest : List Latest) (short long : List (List Span)) (low : List Low) (looks : List Looks) (uses : List WordUse) (found : List Finding) : Type 0 where
+-- what is kept of a run after t turns of so many, whose findings have been taken away
+pub record IsWatchedRun {A : Type 0} (p : Profile) (turns t : ℕ) (m now : MachineState) (tables : WatchTables A) : Type 0 where
   pub ran : now ≡ run (barrel p t) m
-  pub indexed : IsIndex now.trace latest short long
-  pub entries : length low ≡ entry_count
-  pub looks_all : length looks ≡ entry_count
-  pub words : length uses ≡ length m.central
-  pub watched_so_far : AreWatched now (watched (barrel p t) m unwatched) low looks found
-  pub used_so_far : AreUses (watched (barrel p t) m unwatched) uses
+  pub kept : AreTables tables now (forgotten (watched (barrel p t) m unwatched))
   pub sound : (watched (barrel p t) m unwatched).findings ≡ [] → IsSound (barrel p turns) m t (watched (barrel p t) m unwatched)
 
 -- ---- the turns of the barrel
@@ -166,21 +153,10 @@ both_true : (b : Bool) → (if b then true else true) ≡ true
 both_true true = refl
 both_true false = refl
 
-watched_none : (m : MachineState) (w : Watch) → watched [] m w ≡ w
-unfolding watched
-watched_none m w = refl
-
-pub run_begins : (p : Profile) (turns : ℕ) (m : MachineState) (latest : List Latest) (short long : List (List Span)) (low : List Low) (looks : List Looks) (uses : List WordUse) (found : List Finding) → length m.histories ≡ channel_count
-    → IsIndex m.trace latest short long → length low ≡ entry_count → length looks ≡ entry_count → length uses ≡ length m.central → AreLow m unwatched low → AreNoLooks looks → found ≡ [] → AreUses unwatched uses
-    → IsWatchedRun p turns 0 m m latest short long low looks uses found
-run_begins p turns m latest short long low looks uses found each index_is low_all looks_all words low_are looks_are nothing uses_are = record {
+pub run_begins : {A : Type 0} (p : Profile) (turns : ℕ) (m : MachineState) (tables : WatchTables A) → length m.histories ≡ channel_count → AreTables tables m unwatched → IsWatchedRun p turns 0 m m tables
+run_begins p turns m tables each are = record {
   ran = refl;
-  indexed = index_is;
-  entries = low_all;
-  looks_all = looks_all;
-  words = words;
-  watched_so_far = subst (λ (w : Watch). AreWatched m w low looks found) (sym (watched_none m unwatched)) (record { low_are = low_are; looks_are = begins_looks looks looks_are; found_are = nothing });
-  used_so_far = subst (λ (w : Watch). AreUses w uses) (sym (watched_none m unwatched)) uses_are;
+  kept = subst (λ (w : Watch). AreTables tables m (forgotten w)) (sym (watched_none m unwatched)) are;
   sound = λ none. subst (λ (w : Watch). IsSound (barrel p turns) m 0 w) (sym (watched_none m unwatched)) (record {
     watched = record {
       lower = λ q c s may. omega (arith, mono (barrel p turns) m each c zero s (omega arith));
@@ -206,14 +182,15 @@ sound_on ns m now n asked t w each within named n_is now_is asked_is well found 
     (subst (λ (x : Need). IsAskedWell x (at_moment ns m t)) (sym need_is) (subst (λ (x : MachineState). IsAskedWell asked x) (sym now_is) well))
     (ap (λ (x : Watch). x.findings) same ∙ found))
 
-pub run_goes_on : (p : Profile) (turns t : ℕ) (m now next : MachineState) (n : ℕ) (asked : Need) (latest new_latest : List Latest) (short long new_short new_long : List (List Span)) (low new_low : List Low) (looks new_looks : List Looks) (uses new_uses : List WordUse) (found new_found : List Finding) → length m.histories ≡ channel_count
+-- after one turn more: the tables, whose findings are taken away
+pub run_goes_on : {A : Type 0} (p : Profile) (turns t : ℕ) (m now next : MachineState) (n : ℕ) (asked : Need) (tables new : WatchTables A) (found : List Finding) → length m.histories ≡ channel_count
     → t < turns → n ≡ processor_in_turn p t → IsTrue (names_processor n) → asked ≡ need (processor_of n now) → next ≡ stepped n now
-    → IsAskedWell asked now → IsIndex (stepped n now).trace new_latest new_short new_long
-    → ((w : Watch) → AreWatched now w low looks found → AreWatched (stepped n now) (watched_need asked n now w) new_low new_looks new_found)
-    → ((k : MachineState) (w : Watch) → AreUses w uses → AreUses (watched_need asked n k w) new_uses)
-    → length new_low ≡ length low → length new_looks ≡ length looks → length new_uses ≡ length uses
-    → IsWatchedRun p turns t m now latest short long low looks uses found → IsWatchedRun p turns (t + 1) m next new_latest new_short new_long new_low new_looks new_uses new_found
-run_goes_on p turns t m now next n asked latest new_latest short long new_short new_long low new_low looks new_looks uses new_uses found new_found each before n_is named asked_is next_is well index_is takes uses_take low_long looks_long uses_long r =
+    → IsAskedWell asked now → IsIndex (stepped n now).trace new.index.latest new.index.short.items new.index.long.items
+    → ((w : Watch) → AreWatched now w tables.low.items tables.looks.items tables.found.items → AreWatched (stepped n now) (watched_need asked n now w) new.low.items new.looks.items found)
+    → ((k : MachineState) (w : Watch) → AreUses w tables.uses.items → AreUses (watched_need asked n k w) new.uses.items)
+    → length new.low.items ≡ length tables.low.items → length new.looks.items ≡ length tables.looks.items → length new.uses.items ≡ length tables.uses.items → new.found.items ≡ []
+    → IsWatchedRun p turns t m now tables → IsWatchedRun p turns (t + 1) m next new × ((watched (barrel p (t + 1)) m unwatched).findings ≡ (watched (barrel p t) m unwatched).findings ++ found)
+run_goes_on p turns t m now next n asked tables new found each before n_is named asked_is next_is well index_is takes uses_take low_long looks_long uses_long taken_away r =
     let w : Watch = watched (barrel p t) m unwatched in
     let one : t + 1 ≡ suc t = omega arith in
     let size : length (barrel p turns) ≡ turns = length-barrel p turns in
@@ -222,51 +199,55 @@ run_goes_on p turns t m now next n asked latest new_latest short long new_short 
     ∙ ap (λ k. watched_need (need (processor_of k (run (barrel p t) m))) k (run (barrel p t) m) (watched (barrel p t) m unwatched)) (sym n_is)
     ∙ ap (λ (x : MachineState). watched_need (need (processor_of n x)) n x (watched (barrel p t) m unwatched)) (sym r.ran)
     ∙ ap (λ (x : Need). watched_need x n now (watched (barrel p t) m unwatched)) (sym asked_is) in
-    record {
-      ran = next_is ∙ ap (λ x. stepped n x) r.ran ∙ ap (λ k. stepped k (run (barrel p t) m)) n_is ∙ sym (run-append (barrel p t) (processor_in_turn p t) m) ∙ ap (λ k. run (barrel p k) m) (sym one);
-      indexed = subst (λ (x : MachineState). IsIndex x.trace new_latest new_short new_long) (sym next_is) index_is;
-      entries = low_long ∙ r.entries;
-      looks_all = looks_long ∙ r.looks_all;
-      words = uses_long ∙ r.words;
-      watched_so_far = subst (λ (x : Watch). AreWatched next x new_low new_looks new_found) (sym watch_is)
-          (subst (λ (x : MachineState). AreWatched x (watched_need asked n now (watched (barrel p t) m unwatched)) new_low new_looks new_found) (sym next_is) (takes (watched (barrel p t) m unwatched) r.watched_so_far));
-      used_so_far = subst (λ (x : Watch). AreUses x new_uses) (sym watch_is) (uses_take now (watched (barrel p t) m unwatched) r.used_so_far);
-      sound = λ none.
-          let found_none : (watched_need asked n now (watched (barrel p t) m unwatched)).findings ≡ [] = ap (λ (x : Watch). x.findings) (sym watch_is) ∙ none in
-          let now_is : at_moment (barrel p turns) m t ≡ now = ap (λ ks. run ks m) (take_barrel p turns t (omega arith)) ∙ sym r.ran in
-          subst (λ (x : Watch). IsSound (barrel p turns) m (t + 1) x) (sym watch_is)
-          (subst (λ (k : ℕ). IsSound (barrel p turns) m k (watched_need asked n now (watched (barrel p t) m unwatched))) (sym one)
-          (sound_on (barrel p turns) m now n asked t (watched (barrel p t) m unwatched) each (omega arith) named (turn_of_barrel p turns t before ∙ sym n_is) now_is (sym asked_is) well found_none
-          (r.sound (found_before asked n now (watched (barrel p t) m unwatched) found_none))));
-    }
+    let step = behind asked n now (watched (barrel p t) m unwatched) in
+    let watched_now = takes (forgotten (watched (barrel p t) m unwatched)) r.kept.watched in
+    let central : length next.central ≡ length now.central = ap (λ (x : MachineState). length x.central) next_is ∙ run_central (n ∷ []) now in (
+      record {
+        ran = next_is ∙ ap (λ x. stepped n x) r.ran ∙ ap (λ k. stepped k (run (barrel p t) m)) n_is ∙ sym (run-append (barrel p t) (processor_in_turn p t) m) ∙ ap (λ k. run (barrel p k) m) (sym one);
+        kept = record {
+          indexed = subst (λ (x : MachineState). IsIndex x.trace new.index.latest new.index.short.items new.index.long.items) (sym next_is) index_is;
+          low_all = low_long ∙ r.kept.low_all;
+          looks_all = looks_long ∙ r.kept.looks_all;
+          words = uses_long ∙ r.kept.words ∙ sym central;
+          watched = subst (λ (x : Watch). AreWatched next (forgotten x) new.low.items new.looks.items new.found.items) (sym watch_is)
+              (subst (λ (x : MachineState). AreWatched x (forgotten (watched_need asked n now (watched (barrel p t) m unwatched))) new.low.items new.looks.items new.found.items) (sym next_is)
+              (subst (λ (x : List Finding). AreWatched (stepped n now) (forgotten (watched_need asked n now (watched (barrel p t) m unwatched))) new.low.items new.looks.items x) (sym taken_away)
+              (forgets (watched (barrel p t) m unwatched).findings (stepped n now) _ _ new.low.items new.looks.items found step watched_now)));
+          used = subst (λ (x : Watch). AreUses (forgotten x) new.uses.items) (sym watch_is)
+              (uses_forgotten _ new.uses.items (uses_take now (watched (barrel p t) m unwatched) (uses_remembered (watched (barrel p t) m unwatched) tables.uses.items r.kept.used)));
+        };
+        sound = λ none.
+            let found_none : (watched_need asked n now (watched (barrel p t) m unwatched)).findings ≡ [] = ap (λ (x : Watch). x.findings) (sym watch_is) ∙ none in
+            let now_is : at_moment (barrel p turns) m t ≡ now = ap (λ ks. run ks m) (take_barrel p turns t (omega arith)) ∙ sym r.ran in
+            subst (λ (x : Watch). IsSound (barrel p turns) m (t + 1) x) (sym watch_is)
+            (subst (λ (k : ℕ). IsSound (barrel p turns) m k (watched_need asked n now (watched (barrel p t) m unwatched))) (sym one)
+            (sound_on (barrel p turns) m now n asked t (watched (barrel p t) m unwatched) each (omega arith) named (turn_of_barrel p turns t before ∙ sym n_is) now_is (sym asked_is) well found_none
+            (r.sound (found_before asked n now (watched (barrel p t) m unwatched) found_none))));
+      },
+      ap (λ (x : Watch). x.findings) watch_is ∙ step.findings ∙ ap (λ x. (watched (barrel p t) m unwatched).findings ++ x) (sym watched_now.found_are),
+    )
 
 -- ---- the end
 
-findings_are : (ns : List ℕ) (m : MachineState) → findings ns m ≡ findings_at_end (run ns m) (watched ns m unwatched)
-unfolding findings
-findings_are ns m = refl
-
-pub run_finds : (p : Profile) (turns t : ℕ) (m now : MachineState) (latest : List Latest) (short long : List (List Span)) (low : List Low) (looks : List Looks) (uses : List WordUse) (found middle last : List Finding)
-    → t ≡ turns → IsWatchedRun p turns t m now latest short long low looks uses found
-    → ((w : Watch) → AreLow now w low → middle ≡ found ++ each_number (end_of now w))
-    → ((w : Watch) → AreUses w uses → last ≡ middle ++ each_below (length uses) (sharing_of w))
-    → last ≡ findings (barrel p turns) m
-run_finds p turns t m now latest short long low looks uses found middle last end r ends shares =
+pub run_finds : {A : Type 0} (p : Profile) (turns t : ℕ) (m now : MachineState) (tables : WatchTables A) (ends : List Finding)
+    → t ≡ turns → IsWatchedRun p turns t m now tables
+    → ((w : Watch) → AreLow now w tables.low.items → ends ≡ tables.found.items ++ each_number (end_of now w))
+    → ((watched (barrel p t) m unwatched).findings ++ ends) ++ each_below (length tables.uses.items) (sharing_of (forgotten (watched (barrel p t) m unwatched))) ≡ findings (barrel p turns) m
+run_finds p turns t m now tables ends end r ends_are =
     let now_is : now ≡ run (barrel p turns) m = r.ran ∙ ap (λ k. run (barrel p k) m) end in
     let watch_is : watched (barrel p t) m unwatched ≡ watched (barrel p turns) m unwatched = ap (λ k. watched (barrel p k) m unwatched) end in
-    let words : length uses ≡ length (run (barrel p turns) m).central = r.words ∙ sym (run_central (barrel p turns) m) in
-    shares (watched (barrel p t) m unwatched) r.used_so_far
-    ∙ ap (λ x. x ++ each_below (length uses) (sharing_of (watched (barrel p t) m unwatched))) (ends (watched (barrel p t) m unwatched) r.watched_so_far.low_are)
-    ∙ ap (λ x. (x ++ each_number (end_of now (watched (barrel p t) m unwatched))) ++ each_below (length uses) (sharing_of (watched (barrel p t) m unwatched))) r.watched_so_far.found_are
-    ∙ ap (λ (x : Watch). (x.findings ++ each_number (end_of now x)) ++ each_below (length uses) (sharing_of x)) watch_is
-    ∙ ap (λ (x : MachineState). ((watched (barrel p turns) m unwatched).findings ++ each_number (end_of x (watched (barrel p turns) m unwatched))) ++ each_below (length uses) (sharing_of (watched (barrel p turns) m unwatched))) now_is
+    let words : length tables.uses.items ≡ length (run (barrel p turns) m).central = r.kept.words ∙ ap (λ (x : MachineState). length x.central) now_is in
+    let w : Watch = watched (barrel p t) m unwatched in
+    ap (λ x. (w.findings ++ x) ++ each_below (length tables.uses.items) (sharing_of w)) (ends_are w r.kept.watched.low_are ∙ ap (λ x. x ++ each_number (end_of now w)) r.kept.watched.found_are)
+    ∙ ap (λ (x : Watch). (x.findings ++ each_number (end_of now x)) ++ each_below (length tables.uses.items) (sharing_of x)) watch_is
+    ∙ ap (λ (x : MachineState). ((watched (barrel p turns) m unwatched).findings ++ each_number (end_of x (watched (barrel p turns) m unwatched))) ++ each_below (length tables.uses.items) (sharing_of (watched (barrel p turns) m unwatched))) now_is
     ∙ ap (λ k. ((watched (barrel p turns) m unwatched).findings ++ each_number (end_of (run (barrel p turns) m) (watched (barrel p turns) m unwatched))) ++ each_below k (sharing_of (watched (barrel p turns) m unwatched))) words
     ∙ sym (findings_are (barrel p turns) m)
 
-pub run_tells : (p : Profile) (turns t : ℕ) (m now : MachineState) (latest : List Latest) (short long : List (List Span)) (low : List Low) (looks : List Looks) (uses : List WordUse) (found : List Finding) → length m.processors ≡ processor_count → length m.histories ≡ channel_count
-    → t ≡ turns → IsWatchedRun p turns t m now latest short long low looks uses found → ((q : ℕ) → IsTrue (names_processor q) → TurnsWell now q)
+pub run_tells : {A : Type 0} (p : Profile) (turns t : ℕ) (m now : MachineState) (tables : WatchTables A) → length m.processors ≡ processor_count → length m.histories ≡ channel_count
+    → t ≡ turns → IsWatchedRun p turns t m now tables → ((q : ℕ) → IsTrue (names_processor q) → TurnsWell now q)
     → findings (barrel p turns) m ≡ [] → IsDeterminate (barrel p turns) m
-run_tells p turns t m now latest short long low looks uses found all each end r turn_well none =
+run_tells p turns t m now tables all each end r turn_well none =
     let ns : List ℕ = barrel p turns in
     let now_is : now ≡ run (barrel p turns) m = r.ran ∙ ap (λ k. run (barrel p k) m) end in
     let size : t ≡ length (barrel p turns) = end ∙ sym (length-barrel p turns) in

@@ -1,12 +1,53 @@
--- What the last line of the text says.
-use Rattle.std.proofs.Common.{◌≡◌, ◌≢◌, ℕ, Bool, true, false, List, [], ◌∷◌, ◌++◌, get_or, reverse, refl, sym, ap, ◌∙◌, arith}
-use Rattle.std.specs.Prelude.{codes, flat_map, if◌then◌else◌}
+-- What findings come to, and what the last line of the text says.
+use Rattle.std.proofs.Common.{◌≡◌, ℕ, Bool, true, false, List, [], ◌∷◌, ◌++◌, get_or, reverse, refl, sym, ap, ◌∙◌, arith}
+use Rattle.std.specs.Prelude.{◌&&◌, flat_map, if◌then◌else◌}
 use Rattle.std.specs.List.{list_all}
-use Rattle.pp_text.specs.PrintedText.{line_end}
-use Rattle.pp_races.specs.RacesText.{finding_line, findings_text, is_going_on, verdict_line}
+use Rattle.std.proofs.lemmas.List.Folds.{list_all-append}
+use Rattle.pp_races.specs.RacesText.{finding_line, findings_text, is_going_on, verdict_line, verdict_of}
 use Rattle.pp_races.specs.declared.finding.Finding.{Finding}
+use Rattle.pp_races.specs.declared.finding.Finding.TheVariants.{Before, After, GoingOn, HeldBefore, Shared}
+use Rattle.pp_races.specs.declared.verdict.Verdict.{Verdict}
 use Rattle.pp_races.specs.declared.verdict.Verdict.TheVariants.{Same, NoRaceSoFar, MayDiffer}
 use Rattle.std.proofs.lemmas.List.{reverse-append}
+
+-- ---- one finding more
+
+abbrev pub verdict_with : Verdict → Bool → Verdict
+verdict_with MayDiffer going_on = MayDiffer
+verdict_with verdict going_on = if going_on then NoRaceSoFar else MayDiffer
+
+abbrev of_some : Bool → Verdict
+of_some going_on = if going_on then NoRaceSoFar else MayDiffer
+
+one_all : (finding : Finding) → list_all is_going_on (finding ∷ []) ≡ is_going_on finding
+one_all (Before step entry) = refl
+one_all (After step entry) = refl
+one_all (GoingOn n) = refl
+one_all (HeldBefore step entry) = refl
+one_all (Shared address writers users) = refl
+
+both_of : (all one : Bool) → of_some (all && one) ≡ verdict_with (of_some all) one
+both_of true one = refl
+both_of false one = refl
+
+pub with_more : (all : List Finding) (finding : Finding) → verdict_of (all ++ finding ∷ []) ≡ verdict_with (verdict_of all) (is_going_on finding)
+with_more [] finding = ap of_some (one_all finding)
+with_more (first ∷ others) finding =
+    ap of_some (list_all-append is_going_on (first ∷ others) (finding ∷ []) ∙ ap (λ b. list_all is_going_on (first ∷ others) && b) (one_all finding))
+    ∙ both_of (list_all is_going_on (first ∷ others)) (is_going_on finding)
+
+-- ---- none
+
+some_found : (going_on : Bool) → of_some going_on ≡ Same → ⊥
+some_found true is = cc
+some_found false is = cc
+
+-- findings come to nothing only where there is none
+pub same_none : (all : List Finding) → Same ≡ verdict_of all → all ≡ []
+same_none [] is = refl
+same_none (first ∷ others) is = absurd (some_found (list_all is_going_on (first ∷ others)) (sym is))
+
+-- ---- the last line
 
 differs : (lines before : List ℕ) (b : Bool) → lines ++ verdict_line (if b then NoRaceSoFar else MayDiffer) ≡ before ++ verdict_line Same → ⊥
 differs lines before true is =

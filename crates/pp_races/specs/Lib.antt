@@ -8,4 +8,6 @@ pub mod FlagSets
 pub mod Tables
 pub mod Spans
 pub mod OnePass
+pub mod WatchTables
+pub mod Printing
 pub mod Soundness

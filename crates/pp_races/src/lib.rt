@@ -4,7 +4,6 @@
 
 mod asking_step;
 mod finding;
-mod findings;
 mod flag_set;
 mod found;
 mod latest;
@@ -12,6 +11,7 @@ mod lines;
 mod looks;
 mod low;
 mod position;
+mod printing;
 mod races_text;
 mod settled;
 mod sharing;
@@ -19,10 +19,11 @@ mod span;
 mod trace_index;
 mod verdict;
 mod watch;
+mod watch_tables;
+mod watched_run;
 mod word_use;
 
 pub use asking_step::AskingStep;
 pub use finding::Finding;
-pub use findings::find_races;
 pub use races_text::write_races;
 pub use verdict::Verdict;

@@ -1,45 +1,108 @@
 //! The text of the races of a run.
 
-ghost use Rattle.std.specs.Prelude.{◌≡◌, ◌++◌, flat_map};
+ghost use Rattle.std.specs.Prelude.{◌≡◌, ◌≢◌, ◌≤◌, ℕ, [], Err, OnErr, OnOk};
+ghost use Rattle.pp_machine.specs.Run.{barrel, run};
+ghost use Rattle.pp_every_order.specs.Determinacy.{IsDeterminate};
 ghost use Rattle.pp_text.specs.TextWriter.{Prints};
-ghost use Rattle.pp_text.specs.Written.{IsWritten};
-ghost use Rattle.pp_races.specs.RacesText.{finding_line, findings_text, verdict_line, verdict_of};
+ghost use Rattle.pp_text.specs.Written.{IsReportWritten};
+ghost use Rattle.pp_races.specs.Findings.{findings};
+ghost use Rattle.pp_races.specs.Printing.{IsPrinted};
+ghost use Rattle.pp_races.specs.RacesText.{races_text, verdict_line};
+ghost use Rattle.pp_races.specs.Watch.{unwatched};
+ghost use Rattle.pp_races.specs.WatchTables.{AreTables};
 
-use crate::finding::Finding;
-use crate::lines::push_finding;
 use crate::verdict::Verdict;
-use pp_text::{Piece, TextWriter, WriteFault};
+use crate::watch_tables::WatchTables;
+use crate::watched_run::print_run;
+use pp_channel::CHANNELS;
+use pp_machine::Machine;
+use pp_text::{ReportFault, TextWriter};
+use std::alloc::Allocator;
 use std::io::Write;
 
-/// Writes a line for each of the findings of a run, and what they come to; and flushes the writer.
-/// The text goes out in pieces, and takes no memory. Where the writer fails, the rest of the text is
-/// lost.
-#[tactic(auto, unfolding(crate::specs::RacesText::findings_text))]
-pub fn write_races<W: Write>(writer: &mut W, findings: &[Finding]) -> Result<(), WriteFault>
-    ensures { IsWritten (findings_text findings.now) result (W.contents writer.old)
-        (W.contents writer.new) }
+/// Runs this many turns of the barrel from its first processor on, and writes the steps that race with
+/// others, the processors that are not settled at the end, the central words that one processor wrote
+/// and another used, and what they come to; and flushes the writer. Where nothing is found, the run
+/// tells the result of every order of steps.
+///
+/// The lines go out as they come. Memory is asked for before the first of them, for so many events on
+/// each channel, by its place: a run that makes no more asks for none later. One that makes more may be
+/// refused it, which is a fault of writing once a line was printed. After a fault the machine has made
+/// some first turns.
+pub fn write_races<A: Allocator + Copy, W: Write>(
+    alloc: A,
+    writer: &mut W,
+    machine: &mut Machine<A>,
+    turns: u32,
+    events: &[usize; CHANNELS],
+) -> Result<(), ReportFault>
+    ensures written { IsReportWritten (races_text (barrel machine.old.profile turns) machine.old) result
+        (W.contents writer.old) (W.contents writer.new) }
+    ensures same { result ≢ Err ReportFault.Memory
+        → findings (barrel machine.old.profile turns) machine.old ≡ []
+        → IsDeterminate (barrel machine.old.profile turns) machine.old }
+    ensures ran { OnOk result (machine.new ≡ run (barrel machine.old.profile turns) machine.old) }
+    ensures cut { OnErr result ((t : ℕ) × (t ≤ turns)
+        × (machine.new ≡ run (barrel machine.old.profile t) machine.old)) }
 {
+    let Ok(()) = machine.reserve(events) else {
+        return Err(ReportFault::Memory);
+    };
+    let Ok(mut tables) = WatchTables::of(alloc, machine, in_all(events)) else {
+        return Err(ReportFault::Memory);
+    };
     let mut text = TextWriter::new(writer);
-    print_findings(&mut text, findings);
-    print_verdict(&mut text, findings);
-    text.finish()
-}
-
-fn print_findings<W: Write>(text: &mut TextWriter<W>, findings: &[Finding])
-    ensures { Prints W.contents text.old text.new (flat_map finding_line findings.now) }
-{
-    let mut line = Piece::new();
-    for finding in findings {
-        line.clear();
-        push_finding(&mut line, finding);
-        text.print(line.as_slice());
+    let printed = print_races(&mut text, machine, turns, &mut tables);
+    let written = text.finish();
+    match printed {
+        Ok(()) => written.map_err(|_| ReportFault::Write),
+        Err(fault) => Err(fault),
     }
 }
 
-fn print_verdict<W: Write>(text: &mut TextWriter<W>, findings: &[Finding])
-    ensures { Prints W.contents text.old text.new (verdict_line (verdict_of findings.now)) }
+/// How many events these are in all.
+fn in_all(events: &[usize; CHANNELS]) -> usize {
+    let mut all: usize = 0;
+    for count in events {
+        all = all.saturating_add(*count);
+    }
+    all
+}
+
+/// Makes the run, and prints the text of its races.
+fn print_races<A: Allocator, W: Write>(
+    text: &mut TextWriter<W>,
+    machine: &mut Machine<A>,
+    turns: u32,
+    tables: &mut WatchTables<A>,
+) -> Result<(), ReportFault>
+    requires { AreTables tables.old machine.old unwatched }
+    ensures same_writer { text.new.writer.ghost_name ≡ text.old.writer.ghost_name }
+    ensures printed { IsPrinted W.contents text.old text.new
+        (races_text (barrel machine.old.profile turns) machine.old) result }
+    ensures same { result ≢ Err ReportFault.Memory
+        → findings (barrel machine.old.profile turns) machine.old ≡ []
+        → IsDeterminate (barrel machine.old.profile turns) machine.old }
+    ensures ran { OnOk result (machine.new ≡ run (barrel machine.old.profile turns) machine.old) }
+    ensures cut { OnErr result ((t : ℕ) × (t ≤ turns)
+        × (machine.new ≡ run (barrel machine.old.profile t) machine.old)) }
 {
-    match Verdict::of(findings) {
+    match print_run(text, machine, turns, tables) {
+        Ok(verdict) => {
+            print_verdict(text, verdict);
+            Ok(())
+        }
+        // Nothing was found, and so nothing is printed.
+        Err(Verdict::Same) => Err(ReportFault::Memory),
+        Err(Verdict::NoRaceSoFar) => Err(ReportFault::Write),
+        Err(Verdict::MayDiffer) => Err(ReportFault::Write),
+    }
+}
+
+fn print_verdict<W: Write>(text: &mut TextWriter<W>, verdict: Verdict)
+    ensures { Prints W.contents text.old text.new (verdict_line verdict) }
+{
+    match verdict {
         Verdict::Same => text.print(b"SAME IN EVERY ORDER\n"),
         Verdict::NoRaceSoFar => text.print(b"NO RACE SO FAR\n"),
         Verdict::MayDiffer => text.print(b"MAY DIFFER\n"),

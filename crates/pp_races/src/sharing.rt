@@ -1,17 +1,16 @@
-//! The central words that processors share.
+//! Whether a central word is shared.
 
-ghost use Rattle.std.specs.Prelude.{◌≡◌, ◌++◌, ℕ, ◌<◌, ◌^◌, Bool, IsTrue, List, OnOk, count_by, length, nat_lt, ◌&&◌};
+ghost use Rattle.std.specs.Prelude.{◌≡◌, ℕ, Bool, List, count_by};
+ghost use Rattle.std.specs.Option.{option_to_list};
 ghost use Rattle.list_facts.specs.Tables.{tabulate};
 ghost use Rattle.pp_machine.specs.PpNo.{processor_count, processor_number};
 ghost use Rattle.pp_races.specs.Findings.{is_shared, sharing_of};
-ghost use Rattle.pp_races.specs.Tables.{AreUses, IsUseOf, has_bit};
-ghost use Rattle.pp_races.specs.Watch.{Watch, each_below};
+ghost use Rattle.pp_races.specs.Tables.{IsUseOf, has_bit};
+ghost use Rattle.pp_races.specs.Watch.{Watch};
 
 use crate::finding::Finding;
 use crate::word_use::{WordUse, has_bit};
-use pp_channel::Memory;
 use pp_machine::{PROCESSORS, PpNo};
-use std::alloc::Allocator;
 
 /// The processors of a mask, by place.
 fn flags_of(mask: u32) -> [bool; PROCESSORS]
@@ -44,34 +43,14 @@ fn is_shared(writers: &[bool; PROCESSORS], users: &[bool; PROCESSORS]) -> bool
     0 < count(writers) && 1 < count(users)
 }
 
-/// Finds whether the central word of this address is shared.
-fn find_sharing<A: Allocator>(
-    address: u32,
-    use_of: WordUse,
-    findings: &mut Vec<Finding, A>,
-) -> Result<(), Memory>
-    ensures { OnOk result ((w : Watch) → IsUseOf w address use_of
-        → findings.new.items ≡ findings.old.items ++ sharing_of w address) }
+/// What is found of the central word of this address, if it is shared.
+pub(crate) fn sharing(address: u32, use_of: WordUse) -> Option<Finding>
+    ensures { (w : Watch) → IsUseOf w address use_of → option_to_list result ≡ sharing_of w address }
 {
     let writers = flags_of(use_of.writers);
     let users = flags_of(use_of.users);
     if is_shared(&writers, &users) {
-        findings.push(Finding::Shared(address, writers, users))?;
+        return Some(Finding::Shared(address, writers, users));
     }
-    Ok(())
-}
-
-/// Finds which central words are shared.
-pub(crate) fn find_shared<A: Allocator>(
-    uses: &[WordUse],
-    findings: &mut Vec<Finding, A>,
-) -> Result<(), Memory>
-    requires { length uses.now < 2 ^ 32 }
-    ensures { OnOk result ((w : Watch) → AreUses w uses.now → findings.new.items
-        ≡ findings.old.items ++ each_below (length uses.now) (sharing_of w)) }
-{
-    for place in 0..uses.len() {
-        find_sharing(place as u32, uses[place], findings)?;
-    }
-    Ok(())
+    None
 }

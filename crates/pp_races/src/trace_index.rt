@@ -28,16 +28,17 @@ pub(crate) struct TraceIndex<A: Allocator> {
 }
 
 impl<A: Allocator> TraceIndex<A> {
-    /// That of this trace.
-    pub(crate) fn of(alloc: A, trace: &[Trace]) -> Result<TraceIndex<A>, Memory>
+    /// That of this trace, with room for so many more events.
+    pub(crate) fn of(alloc: A, trace: &[Trace], events: usize) -> Result<TraceIndex<A>, Memory>
     where
         A: Copy,
         ensures { IfOk result (λ index. IsIndex trace.now index.latest index.short.items index.long.items) }
     {
+        let all = trace.len().saturating_add(events);
         let mut index = TraceIndex {
             latest: [Latest::none(); CHANNELS],
-            short: Vec::new(alloc),
-            long: Vec::new(alloc),
+            short: Vec::with_capacity(alloc, all.div_ceil(SHORT))?,
+            long: Vec::with_capacity(alloc, all.div_ceil(LONG))?,
         };
         for place in 0..trace.len() {
             index.push(&trace[..place], &trace[place])?;

@@ -1,8 +1,8 @@
 //! What the findings of a run come to.
 
-ghost use Rattle.std.specs.Prelude.{◌≡◌};
-ghost use Rattle.std.specs.List.{list_all};
+ghost use Rattle.std.specs.Prelude.{◌≡◌, ◌++◌, ◌∷◌, [], List};
 ghost use Rattle.pp_races.specs.RacesText.{is_going_on, verdict_of};
+ghost use Rattle.pp_races.specs.declared.finding.Finding.{Finding};
 
 use crate::finding::Finding;
 
@@ -18,16 +18,14 @@ pub enum Verdict {
 }
 
 impl Verdict {
-    /// That of these findings.
-    pub(crate) fn of(findings: &[Finding]) -> Verdict
-        ensures { result ≡ verdict_of findings.now }
+    /// With one finding more.
+    pub(crate) fn with(self, finding: &Finding) -> Verdict
+        ensures { (all : List Finding) → self ≡ verdict_of all
+            → result ≡ verdict_of (all ++ finding.now ∷ []) }
     {
-        if findings.is_empty() {
-            Verdict::Same
-        } else if all_going_on(findings) {
-            Verdict::NoRaceSoFar
-        } else {
-            Verdict::MayDiffer
+        match self {
+            Verdict::Same | Verdict::NoRaceSoFar if is_going_on(finding) => Verdict::NoRaceSoFar,
+            Verdict::Same | Verdict::NoRaceSoFar | Verdict::MayDiffer => Verdict::MayDiffer,
         }
     }
 }
@@ -42,10 +40,4 @@ fn is_going_on(finding: &Finding) -> bool
         | Finding::HeldBefore(_, _)
         | Finding::Shared(_, _, _) => false,
     }
-}
-
-fn all_going_on(findings: &[Finding]) -> bool
-    ensures { result ≡ list_all is_going_on findings.now }
-{
-    findings.iter().all(is_going_on)
 }

@@ -34,7 +34,7 @@ pub use pp_draw::{
 pub use pp_every_order::determinacy_law;
 pub use pp_listing::{DumpFault, GoingOn, dump, dump_law, listing, listing_law};
 pub use pp_promises::{headline_law, one_run_law};
-pub use pp_races::{AskingStep, Finding, find_races, write_races};
+pub use pp_races::write_races;
 pub use pp_sessions::{
     StepCounts, counts_law, course_law, run_counting_steps, sessions_law, write_sessions,
 };

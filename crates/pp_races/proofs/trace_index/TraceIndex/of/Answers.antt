@@ -9,6 +9,6 @@ pub loop-place-init : goal.loop-place-init
 loop-place-init g c = record {
   channels = length-replicate channel_count c.none.result;
   of_latest = λ k named. all_none _ c.none.result c.none.ensures refl k named;
-  of_short = no_rows 128 c.new.result.items (omega arith) c.new.ensures.items;
-  of_long = no_rows 8192 c.new-2.result.items (omega arith) c.new-2.ensures.items;
+  of_short = no_rows 128 _ (omega arith) c.in_ok-with_capacity.ensures.items;
+  of_long = no_rows 8192 _ (omega arith) c.in_ok-with_capacity-2.ensures.items;
 }

@@ -3,7 +3,7 @@ use Rattle.pp_channel.specs.Answer.{flags_of}
 use Rattle.pp_channel.specs.ChannelNo.{channel_count, channel_number}
 use Rattle.pp_machine.specs.MachineState.{history_of}
 use Rattle.pp_races.specs.Tables.{no_low}
-use Rattle.pp_races.proofs.findings.first_low.Given as goal
+use Rattle.pp_races.proofs.watch_tables.first_low.Given as goal
 
 abbrev pub invariant-loop-entry : goal.invariant-loop-entry
 invariant-loop-entry g l = record {

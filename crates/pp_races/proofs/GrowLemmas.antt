@@ -1,0 +1,112 @@
+-- What is found of a run only grows, and what is found of a step does not depend on it.
+use Rattle.std.proofs.Common.{◌≡◌, ℕ, zero, suc, ◌+◌, ◌-◌, ◌≤◌, Bool, true, false, List, [], ◌∷◌, ◌++◌, length, Option, Some, None, refl, sym, ap, ◌∙◌, subst, append-nil, append_assoc, arith}
+use Rattle.std.specs.Prelude.{if◌then◌else◌}
+use Rattle.pp_channel.specs.Answer.{event_of, flags_of}
+use Rattle.pp_channel.specs.declared.chan_op.ChanOp.{ChanOp}
+use Rattle.pp_channel.specs.declared.event.Event.{Event}
+use Rattle.pp_machine.specs.MachineState.{MachineState, processor_of, history_of}
+use Rattle.pp_machine.specs.MachineStep.{stepped}
+use Rattle.pp_machine.specs.NeedAndEffect.{need}
+use Rattle.pp_machine.specs.Profile.{processor_in_turn}
+use Rattle.pp_machine.specs.Run.{run, barrel}
+use Rattle.pp_machine.specs.declared.need.Need.{Need}
+use Rattle.pp_machine.specs.declared.profile.Profile.{Profile}
+use Rattle.pp_races.specs.Findings.{end_of, findings, findings_at_end, sharing_of}
+use Rattle.pp_races.specs.OtherFlags.{waits_at}
+use Rattle.pp_races.specs.Tables.{AreLow, AreLooks, AreUses, AreWatched}
+use Rattle.pp_races.specs.Watch.{Watch, asked, each_below, each_number, looked, unwatched, watched, watched_need, watched_step}
+use Rattle.pp_races.specs.declared.finding.Finding.{Finding}
+use Rattle.pp_races.specs.declared.looks.Looks.{Looks}
+use Rattle.pp_races.specs.declared.low.Low.{Low}
+use Rattle.pp_races.specs.declared.word_use.WordUse.{WordUse}
+
+-- ---- one step more
+
+pub watched_push : (ns : List ℕ) (n : ℕ) (m : MachineState) (w : Watch) → watched (ns ++ n ∷ []) m w ≡ watched_need (need (processor_of n (run ns m))) n (run ns m) (watched ns m w)
+unfolding watched watched_step
+watched_push [] n m w = refl
+watched_push (k ∷ ns) n m w = watched_push ns n (stepped k m) (watched_step k m w)
+
+pub watched_none : (m : MachineState) (w : Watch) → watched [] m w ≡ w
+unfolding watched
+watched_none m w = refl
+
+-- ---- what is found of a step
+
+-- a watch without what was found
+abbrev pub forgotten : Watch → Watch
+forgotten w = record w { findings = [] }
+
+-- what one watch keeps is what another does, and its findings are some and then those of the other
+pub record IsBehind (some : List Finding) (now other : Watch) : Type 0 where
+  pub missed : now.missed ≡ other.missed
+  pub looks : now.looks ≡ other.looks
+  pub findings : now.findings ≡ some ++ other.findings
+
+behind_asked : (n c : ℕ) (op : ChanOp) (o : Option Event) (m : MachineState) (w : Watch) → IsBehind w.findings (asked n c op o m w) (asked n c op o m (forgotten w))
+behind_asked n c op (Some event) m w = record { missed = refl; looks = refl; findings = append_assoc w.findings _ _ }
+behind_asked n c op None m w = by_wait (waits_at op (processor_of n m) (flags_of (history_of c m)))
+  where
+    by_wait : (b : Bool) → IsBehind w.findings (if b then w else looked n c op m w) (if b then forgotten w else looked n c op m (forgotten w))
+    by_wait true = record { missed = refl; looks = refl; findings = sym (append-nil w.findings) }
+    by_wait false = record { missed = refl; looks = refl; findings = refl }
+
+pub behind : (x : Need) (n : ℕ) (m : MachineState) (w : Watch) → IsBehind w.findings (watched_need x n m w) (watched_need x n m (forgotten w))
+behind (Need.Channel c op) n m w = behind_asked n c op (event_of op (history_of c m)) m w
+behind Need.Nothing n m w = record { missed = refl; looks = refl; findings = sym (append-nil w.findings) }
+behind Need.Local n m w = record { missed = refl; looks = refl; findings = sym (append-nil w.findings) }
+behind (Need.Read a) n m w = record { missed = refl; looks = refl; findings = sym (append-nil w.findings) }
+behind (Need.Write a v) n m w = record { missed = refl; looks = refl; findings = sym (append-nil w.findings) }
+
+-- the tables after a step, of which the findings are taken away
+pub forgets : (some : List Finding) (m : MachineState) (now other : Watch) (low : List Low) (looks : List Looks) (found : List Finding) → IsBehind some now other → AreWatched m other low looks found
+    → AreWatched m (forgotten now) low looks []
+forgets some m now other low looks found is are = record {
+  low_are = subst (λ missed. AreLow m (record now { missed = missed }) low) (sym is.missed) are.low_are;
+  looks_are = subst (λ kept. AreLooks (record now { looks = kept }) looks) (sym is.looks) are.looks_are;
+  found_are = refl;
+}
+
+-- who used central words does not depend on what was found
+pub uses_forgotten : (w : Watch) (uses : List WordUse) → AreUses w uses → AreUses (forgotten w) uses
+uses_forgotten w uses are a low = record { wrote = (are a low).wrote; used = (are a low).used }
+
+pub uses_remembered : (w : Watch) (uses : List WordUse) → AreUses (forgotten w) uses → AreUses w uses
+uses_remembered w uses are a low = record { wrote = (are a low).wrote; used = (are a low).used }
+
+-- ---- what is found of a run so far
+
+-- a list begins with another
+abbrev pub BeginsWith : List Finding → List Finding → Type 0
+BeginsWith all first = (others : List Finding) × (all ≡ first ++ others)
+
+begins_on : (all middle first : List Finding) → BeginsWith all middle → BeginsWith middle first → BeginsWith all first
+begins_on all middle first (others, is) (more, also) = (more ++ others, is ∙ ap (λ x. x ++ others) also ∙ append_assoc first more others)
+
+grows_by : (p : Profile) (m : MachineState) (t k : ℕ) → BeginsWith (watched (barrel p (t + k)) m unwatched).findings (watched (barrel p t) m unwatched).findings
+grows_by p m t zero =
+    let same : t + zero ≡ t = omega arith in
+    ([], ap (λ k. (watched (barrel p k) m unwatched).findings) same ∙ sym (append-nil (watched (barrel p t) m unwatched).findings))
+grows_by p m t (suc k) =
+    let next : t + suc k ≡ suc (t + k) = omega arith in
+    let n = processor_in_turn p (t + k) in
+    let now = run (barrel p (t + k)) m in
+    let w = watched (barrel p (t + k)) m unwatched in
+    let more = behind (need (processor_of n now)) n now w in
+    begins_on _ w.findings _
+    (_, ap (λ i. (watched (barrel p i) m unwatched).findings) next ∙ ap (λ (x : Watch). x.findings) (watched_push (barrel p (t + k)) n m unwatched) ∙ more.findings)
+    (grows_by p m t k)
+
+pub findings_are : (ns : List ℕ) (m : MachineState) → findings ns m ≡ findings_at_end (run ns m) (watched ns m unwatched)
+unfolding findings
+findings_are ns m = refl
+
+-- all findings begin with those of the first turns
+pub begins_so_far : (p : Profile) (turns t : ℕ) (m : MachineState) → t ≤ turns → BeginsWith (findings (barrel p turns) m) (watched (barrel p t) m unwatched).findings
+begins_so_far p turns t m h =
+    let end : t + (turns - t) ≡ turns = omega arith in
+    let w = watched (barrel p turns) m unwatched in
+    let now = run (barrel p turns) m in
+    begins_on _ w.findings _
+    (each_number (end_of now w) ++ each_below (length now.central) (sharing_of w), findings_are (barrel p turns) m ∙ append_assoc w.findings (each_number (end_of now w)) (each_below (length now.central) (sharing_of w)))
+    (subst (λ k. BeginsWith (watched (barrel p k) m unwatched).findings (watched (barrel p t) m unwatched).findings) end (grows_by p m t (turns - t)))

@@ -1,0 +1,68 @@
+-- The text of the races of a run, all of it or a first part.
+use Rattle.std.proofs.Common.{◌≡◌, ◌≢◌, ℕ, List, [], ◌++◌, length, take, Option, Some, None, Result, Ok, Err, refl, sym, ap, ◌∙◌, subst, append-nil, append_assoc, length-append, arith}
+use Rattle.std.specs.Prelude.{flat_map}
+use Rattle.std.specs.Io.KnownBytes.{Appends, Keeps}
+use Rattle.std.proofs.lemmas.Grind.{flat_map-append}
+use Rattle.std.proofs.lemmas.List.{take-append-le, take_all}
+use Rattle.pp_text.specs.TextWriter.{HasPrinted, Prints}
+use Rattle.pp_text.specs.PrintingLaws.{prints_on}
+use Rattle.pp_text.specs.Written.{AppendsFront, IsReportWritten, IsWritten}
+use Rattle.pp_text.specs.declared.report_fault.ReportFault.{ReportFault}
+use Rattle.pp_text.specs.declared.text_writer.TextWriter.{TextWriter}
+use Rattle.pp_races.specs.Printing.{IsPrinted, PrintsFindings, PrintsFirst}
+use Rattle.pp_races.specs.RacesText.{finding_line, findings_text, verdict_line, verdict_of}
+use Rattle.pp_races.specs.declared.finding.Finding.{Finding}
+use Rattle.pp_races.specs.declared.verdict.Verdict.{Verdict}
+use Rattle.pp_races.specs.declared.verdict.Verdict.TheVariants.{Same}
+use Rattle.pp_races.proofs.SoundLemmas.{none_first}
+use Rattle.pp_races.proofs.VerdictLemmas.{same_none}
+
+text_is : (all : List Finding) → findings_text all ≡ flat_map finding_line all ++ verdict_line (verdict_of all)
+unfolding findings_text
+text_is all = refl
+
+module _ {W : Type 0} (contents : W → Option (List ℕ)) where
+  pub all_printed : (a b c : TextWriter W) (v : Verdict) (all : List Finding) → PrintsFindings contents a b Same v all → Prints contents b c (verdict_line v) → Prints contents a c (findings_text all)
+  all_printed a b c v all lines last =
+      prints_on contents a b c (flat_map finding_line all) (verdict_line v) (findings_text all) lines.lines last
+      (ap (λ (u : Verdict). flat_map finding_line all ++ verdict_line u) (lines.verdict [] refl) ∙ sym (text_is all))
+
+  -- where the lines that are printed come to nothing there is none
+  pub nothing_printed : (a b : TextWriter W) (v : Verdict) (all : List Finding) → v ≡ Same → PrintsFirst contents a b Same v all → Prints contents a b []
+  nothing_printed a b v all is h = subst (λ (some : List Finding). Prints contents a b (flat_map finding_line some)) (same_none h.first (sym is ∙ h.printed.verdict [] refl)) h.printed.lines
+
+  -- else they are a first part of the text, and something is found
+  pub part_printed : (a b : TextWriter W) (v : Verdict) (all : List Finding) → PrintsFirst contents a b Same v all → IsPrinted contents a b (findings_text all) (Err ReportFault.Write)
+  part_printed a b v all h = (
+    flat_map finding_line h.first,
+    flat_map finding_line h.others ++ verdict_line (verdict_of all),
+    text_is all ∙ ap (λ x. x ++ verdict_line (verdict_of all)) (ap (λ x. flat_map finding_line x) h.all ∙ flat_map-append finding_line h.first h.others)
+        ∙ append_assoc (flat_map finding_line h.first) (flat_map finding_line h.others) (verdict_line (verdict_of all)),
+    h.printed.lines,
+  )
+
+  pub some_printed : (a b : TextWriter W) (v : Verdict) (all : List Finding) → PrintsFirst contents a b Same v all → v ≢ Same → all ≢ []
+  some_printed a b v all h other none = other (h.printed.verdict [] refl ∙ ap verdict_of (none_first h.first h.others (sym h.all ∙ none)))
+
+  -- ---- what the writer has
+
+  kept_by_none : (old new : Option (List ℕ)) → Appends old new [] → Keeps old new
+  kept_by_none None new h = tt
+  kept_by_none (Some xs) None h = h
+  kept_by_none (Some xs) (Some ys) h = h ∙ append-nil xs
+
+  front_of : {E : Type 0} (text others : List ℕ) (written : Result (Unit {0}) E) (old new : Option (List ℕ)) → IsWritten text written old new → AppendsFront old new (text ++ others)
+  front_of text others (Ok done) old new h = (length text, omega (arith, length-append text others), rw (take-append-le (length text) text others (omega arith), take_all (length text) text (omega arith)) h)
+  front_of text others (Err f) old new (count, within, h) = (count, omega (arith, within, length-append text others), rw (take-append-le count text others within) h)
+
+  none_of : {E : Type 0} (written : Result (Unit {0}) E) (old new : Option (List ℕ)) → IsWritten [] written old new → Keeps old new
+  none_of (Ok done) old new h = kept_by_none old new h
+  none_of (Err f) old new (count, within, h) =
+      let zero : count ≡ 0 = omega (arith, within) in
+      kept_by_none old new (subst (λ (k : ℕ). Appends old new (take k [])) zero h)
+
+  -- a text of which a first part is printed, where the writer has what is printed, or a first part of it
+  pub cut_written : {E : Type 0} (a b : TextWriter W) (text : List ℕ) (f : ReportFault) (written : Result (Unit {0}) E) (old new : Option (List ℕ)) → IsPrinted contents a b text (Err f) → HasPrinted contents old [] a
+      → ((start : Option (List ℕ)) (all : List ℕ) → HasPrinted contents start all b → IsWritten all written start new) → IsReportWritten text (Err f) old new
+  cut_written a b text ReportFault.Write written old new (first, others, is, prints) begun ends = subst (λ (x : List ℕ). AppendsFront old new x) (sym is) (front_of first others written old new (ends old first (prints.goes_on old [] begun)))
+  cut_written a b text ReportFault.Memory written old new prints begun ends = none_of written old new (ends old [] (prints.goes_on old [] begun))
