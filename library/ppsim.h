@@ -33,8 +33,9 @@ typedef struct {
     uint64_t length;
 } ppsim_answer;
 
-/* The memory that a call works in, and has no use for when it returns: `size` bytes, a multiple of
-   16, from a place on that is aligned to 16, apart from all else that is passed. */
+/* The memory that a call works in: `size` bytes, a multiple of 16, from a place on that is aligned
+   to 16, apart from all else that is passed. What stands here after a call is its host's again: as
+   many bytes, for the next call; or none, if the call has kept them, which no call does in tests. */
 typedef struct {
     void *place;
     size_t size;
@@ -54,23 +55,24 @@ static inline ppsim_memory ppsim_memory_in(void *bytes, size_t size) {
 #define PPSIM_DECK_AND_ROOM const uint8_t *deck, size_t deck_length, uint8_t *out, size_t room
 
 /* processors is 10 or 20, turns 0 to PPSIM_LAST_TURN. */
-ppsim_answer ppsim_barrel(ppsim_memory, uint32_t processors, uint32_t turns, PPSIM_DECK_AND_ROOM);
-ppsim_answer ppsim_list(ppsim_memory, uint32_t processors, PPSIM_DECK_AND_ROOM);
-ppsim_answer ppsim_dump(ppsim_memory, uint32_t processors, uint32_t turns, PPSIM_DECK_AND_ROOM);
-ppsim_answer ppsim_state(ppsim_memory, uint32_t processors, uint32_t turns, PPSIM_DECK_AND_ROOM);
-ppsim_answer ppsim_sessions(ppsim_memory, uint32_t processors, uint32_t turns, PPSIM_DECK_AND_ROOM);
-ppsim_answer ppsim_races(ppsim_memory, uint32_t processors, uint32_t turns, PPSIM_DECK_AND_ROOM);
+ppsim_answer ppsim_barrel(ppsim_memory *, uint32_t processors, uint32_t turns, PPSIM_DECK_AND_ROOM);
+ppsim_answer ppsim_list(ppsim_memory *, uint32_t processors, PPSIM_DECK_AND_ROOM);
+ppsim_answer ppsim_dump(ppsim_memory *, uint32_t processors, uint32_t turns, PPSIM_DECK_AND_ROOM);
+ppsim_answer ppsim_state(ppsim_memory *, uint32_t processors, uint32_t turns, PPSIM_DECK_AND_ROOM);
+ppsim_answer ppsim_sessions(ppsim_memory *, uint32_t processors, uint32_t turns,
+                            PPSIM_DECK_AND_ROOM);
+ppsim_answer ppsim_races(ppsim_memory *, uint32_t processors, uint32_t turns, PPSIM_DECK_AND_ROOM);
 
 /* pp is a processor of the machine, or PPSIM_NAMED; from, as turns, is the first turn shown. */
-ppsim_answer ppsim_steps(ppsim_memory, uint32_t processors, uint32_t turns, uint8_t pp,
+ppsim_answer ppsim_steps(ppsim_memory *, uint32_t processors, uint32_t turns, uint8_t pp,
                          uint32_t from, PPSIM_DECK_AND_ROOM);
 
 /* The turns from one on and before another, at most PPSIM_MOST_DRAWN of them. */
-ppsim_answer ppsim_draw(ppsim_memory, uint32_t processors, uint32_t from, uint32_t to,
+ppsim_answer ppsim_draw(ppsim_memory *, uint32_t processors, uint32_t from, uint32_t to,
                         PPSIM_DECK_AND_ROOM);
 
 /* opened lists channels in octal, as "1,5,13", or none. */
-ppsim_answer ppsim_check(ppsim_memory, const uint8_t *opened, size_t opened_length,
+ppsim_answer ppsim_check(ppsim_memory *, const uint8_t *opened, size_t opened_length,
                          const uint8_t *trace, size_t trace_length, uint8_t *out, size_t room);
 
 #undef PPSIM_DECK_AND_ROOM

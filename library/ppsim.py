@@ -74,7 +74,7 @@ _NUMBERS = {"barrel": [_U32, _U32], "list": [_U32], "dump": [_U32, _U32], "state
 for _name, _types in _NUMBERS.items():
     _export = getattr(_library, f"ppsim_{_name}")
     _export.restype = _Answer
-    _export.argtypes = [_Memory, *_types, *_TEXT, *_TEXT]
+    _export.argtypes = [ctypes.POINTER(_Memory), *_types, *_TEXT, *_TEXT]
 
 
 def _call(name: str, numbers: list, text: str | bytes) -> str:
@@ -84,14 +84,17 @@ def _call(name: str, numbers: list, text: str | bytes) -> str:
         raise NumberFault("number out of range", _BAD_NUMBER)
     while True:
         memory, out = _buffers.memory, _buffers.out
+        size = memory.size
         answer = getattr(_library, f"ppsim_{name}")(
-            memory, *numbers, given, len(given), out, len(out))
+            ctypes.byref(memory), *numbers, given, len(given), out, len(out))
         if answer.status == _TOO_LONG:
-            _buffers.set_sizes(memory.size, answer.length)
-        elif answer.status == _NO_MEMORY and memory.size < _LAST_SIZE:
-            _buffers.set_sizes(4 * memory.size, len(out))
+            _buffers.set_sizes(size, answer.length)
+        elif answer.status == _NO_MEMORY and size < _LAST_SIZE:
+            _buffers.set_sizes(4 * size, len(out))
         else:
             break
+    if memory.size != size:  # not given back
+        _buffers.set_sizes(size, len(out))
     if answer.status == _BAD_NUMBER:
         raise NumberFault("number out of range", answer.status)
     words = out.raw[:answer.length].decode("ascii")

@@ -7,26 +7,32 @@ const MOST_BYTES = 1048577, MOST_IN_ADDRESS = 32768; // the first is one more th
 const NAMED = 255; // in place of a processor's number: those that the deck names
 
 // ---- the library
-let library;
+let library, idle = null;
 const aligned = n => Math.ceil(n / 16) * 16;
 
-/** Calls an export over these bytes, in an instance of its own: nothing is left of other calls. */
+/** Calls an export over these bytes. An instance whose memory was given back serves for the next
+    call; one that has grown does not, since it would never shrink. */
 function call(name, numbers, input, channels, megabytes = 4) {
-  const { exports } = new WebAssembly.Instance(library);
-  exports.memory.grow(BigInt(16 * megabytes));
+  const instance = idle ?? new WebAssembly.Instance(library), { exports } = instance;
+  idle = null;
+  const base = Number(exports.__heap_base.value), most = base + 2 ** 20 * megabytes;
+  const missing = Math.ceil((most - exports.memory.buffer.byteLength) / 65536);
+  if (missing > 0) exports.memory.grow(BigInt(missing));
   const bytes = new Uint8Array(exports.memory.buffer), view = new DataView(bytes.buffer);
   // One after another: the answer, where the memory for the work is, a list of channels, the input,
   // the room for the text, the memory for the work.
-  const listed = bytesOf(channels ?? ''), answer = aligned(Number(exports.__heap_base.value));
+  const listed = bytesOf(channels ?? ''), answer = aligned(base);
   const memory = answer + 32, list = memory + 16, start = list + listed.length;
   const room = aligned(start + input.length), size = aligned((bytes.length - room) / 2) - 16;
-  view.setBigUint64(memory, BigInt(room + size), true);
-  view.setBigUint64(memory + 8, BigInt(size), true);
+  const lent = [room + size, size].map(BigInt);
+  lent.forEach((it, n) => view.setBigUint64(memory + 8 * n, it, true));
   bytes.set(listed, list);
   bytes.set(input, start);
   const first = channels === undefined ? numbers : [BigInt(list), BigInt(listed.length)];
   exports[`ppsim_${name}`](BigInt(answer), BigInt(memory), ...first,
     BigInt(start), BigInt(input.length), BigInt(room), BigInt(size));
+  const isBack = lent.every((it, n) => view.getBigUint64(memory + 8 * n, true) === it);
+  if (isBack && megabytes === 4) idle = instance;
   const status = view.getUint32(answer, true), line = Number(view.getBigUint64(answer + 8, true));
   const isCut = status === NO_MEMORY || status === TOO_LONG;
   if (isCut && megabytes < 1024) return call(name, numbers, input, channels, 4 * megabytes);

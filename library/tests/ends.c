@@ -11,6 +11,7 @@ static const char text_of_deck[] = "PP 0\n0100 7405 1407 7205 0300\nSTART 0100\n
 static const uint8_t *const deck = (const uint8_t *)text_of_deck;
 static const size_t deck_size = sizeof text_of_deck - 1;
 static unsigned char *bytes, *text;
+static ppsim_memory lent;
 static int wrong;
 
 static void expect(int is_so, const char *what, unsigned long long number) {
@@ -25,10 +26,15 @@ static int is_kept(const unsigned char *from, size_t size) {
     return 1;
 }
 
-static ppsim_memory memory_of(size_t size) {
+static ppsim_memory *memory_of(size_t size) {
     memset(bytes, KEPT, MEMORY + GUARD);
     memset(text, KEPT, ROOM + GUARD);
-    return (ppsim_memory){bytes, size};
+    lent = (ppsim_memory){bytes, size};
+    return &lent;
+}
+
+static void expect_back(size_t size) {
+    expect(lent.place == bytes && lent.size == size, "given back of", size);
 }
 
 static void rooms(void) {
@@ -39,6 +45,7 @@ static void rooms(void) {
         size_t used = room == whole.length ? room : 0;
         expect(it.status == (used ? PPSIM_WRITTEN : PPSIM_TOO_LONG), "a room of", room);
         expect(it.length == whole.length, "the length in a room of", room);
+        expect_back(MEMORY);
         expect(is_kept(text + used, ROOM + GUARD - used), "kept past", room);
     }
 }
@@ -48,6 +55,7 @@ static void memories(void) {
     for (size_t i = 0; i < sizeof sizes / sizeof *sizes; i++) {
         ppsim_answer it = ppsim_state(memory_of(sizes[i]), 10, 40, deck, deck_size, text, ROOM);
         expect(it.status == PPSIM_NO_MEMORY, "memory of", sizes[i]);
+        expect_back(sizes[i]);
         expect(is_kept(bytes + sizes[i], MEMORY + GUARD - sizes[i]), "kept past", sizes[i]);
     }
     ppsim_memory odd = ppsim_memory_in(bytes + 5, 100);
@@ -64,6 +72,7 @@ static void numbers(void) {
         ppsim_answer it = ppsim_races(memory_of(MEMORY), runs[i][0], runs[i][1], deck, deck_size,
                                       text, ROOM);
         expect(it.status == PPSIM_BAD_NUMBER && is_kept(text, ROOM), "a run's numbers", i);
+        expect_back(MEMORY);
     }
     for (size_t i = 0; i < sizeof windows / sizeof *windows; i++) {
         ppsim_answer it = ppsim_draw(memory_of(MEMORY), 10, windows[i][0], windows[i][1], deck,
@@ -81,8 +90,10 @@ static void long_decks(void) {
     memset(spaces, ' ', sizeof spaces);
     ppsim_answer it = ppsim_list(memory_of(MEMORY), 10, spaces, 1048576, text, ROOM);
     expect(it.status == PPSIM_WRITTEN, "a deck of", 1048576);
+    expect_back(MEMORY);
     it = ppsim_list(memory_of(MEMORY), 10, spaces, 1048577, text, ROOM);
     expect(it.status == PPSIM_REFUSED && it.line == 0, "a deck of", 1048577);
+    expect_back(MEMORY);
     it = ppsim_list(memory_of(MEMORY), 10, spaces, sizeof spaces, text, 7);
     expect(it.status == PPSIM_REFUSED && !memcmp(text, "deck fa", 7), "words in a room of", 7);
     expect(is_kept(text + 7, ROOM), "kept past", 7);

@@ -39,9 +39,9 @@ int main(int argc, char **argv) {
     fclose(file);
     double start = now(), end = start;
     long calls = 0, runs = 0;
+    ppsim_memory whole = {memory, sizeof memory};
     for (; end - start < 1; calls++, end = now()) {
-        ppsim_memory whole = {memory, sizeof memory};
-        if (ppsim_barrel(whole, 10, 40, deck, length, text, sizeof text).status) return 2;
+        if (ppsim_barrel(&whole, 10, 40, deck, length, text, sizeof text).status) return 2;
     }
     double per_call = (end - start) / (double)calls;
     for (start = end; end - start < 1; runs++, end = now())

@@ -166,7 +166,8 @@ function compareRandom() {
 
 const KEPT = 0xa5;
 
-/** A call with this much memory and this much room; and whether nothing else was written. */
+/** A call with this much memory and this much room; and whether the memory was given back, and
+    nothing else written. */
 function squeezed(name, numbers, input, memory, room) {
   const { exports } = new WebAssembly.Instance(library);
   exports.memory.grow(BigInt(1024));
@@ -182,7 +183,9 @@ function squeezed(name, numbers, input, memory, room) {
   exports[`ppsim_${name}`](BigInt(answer), BigInt(place), ...numbers,
     BigInt(start), BigInt(input.length), BigInt(out), BigInt(room));
   const isKept = (from, to) => bytes.subarray(from, to).every(it => it === KEPT);
-  const isInside = Buffer.from(bytes.subarray(start, end)).equals(Buffer.from(input))
+  const isBack = view.getBigUint64(place, true) === BigInt(work)
+    && view.getBigUint64(place + 8, true) === BigInt(memory);
+  const isInside = isBack && Buffer.from(bytes.subarray(start, end)).equals(Buffer.from(input))
     && isKept(end, out) && isKept(out + room, work) && isKept(work + memory, bytes.length);
   const length = Number(view.getBigUint64(answer + 16, true));
   const status = view.getUint32(answer, true);

@@ -3,11 +3,11 @@ use Rattle.std.proofs.Common.{◌≡◌, ℕ, ◌+◌, ◌*◌, ◌/◌, ◌%◌
 use seplogic.Ra.Ura.{Ura}
 use mir.Syntax.{Ty, w128, ty_int, ty_array}
 use mir.Val.{Val, vint, vptr, vstruct, vcons, vnil, of_list}
-use base.Logic.{ent, sep, wand, id⊢}
-use base.Fml.{froom}
+use base.Logic.{ent, sep, id⊢}
+use base.Fml.{froom, fsep}
 use prog.Memory.{size}
 use types.Logic.{Logic, sem}
-use types.Kit.{Item, Goal, Seq, ‵, raw, ◌⊛◌, ◌$◌, ◌∵◌, !, qed, use0, use1, keep, move, drop, split, rewrite, fjoin, fsplit, fpick, feq_l, done}
+use types.Kit.{Item, Goal, Seq, ‵, ◌⊛◌, ◌$◌, ◌∵◌, !, qed, use0, use1, move, drop, split, rewrite, fjoin, fsplit, fpick, feq_l, done}
 use types.Match.{live}
 use denote.Laws.{shows}
 use denote.RattleType.{RattleType}
@@ -19,7 +19,7 @@ use denote.Shadow.{makes_shadow}
 use denote.Struct.Struct.{Struct}
 use denote.Struct.Owning.{shape}
 use Rattle.core.proofs.slots.Carves.{carve}
-use Rattle.fixed_arena.specs.Units.{IsWhole, bytes_at, units_of}
+use Rattle.fixed_arena.specs.Units.{IsWhole, bytes_at, units_of, whole_block_token}
 use Rattle.fixed_arena.specs.declared.memory.Memory.{Memory}
 use Rattle.fixed_arena.specs.contracts.memory.Memory as R
 use Rattle.fixed_arena.proofs.memory.Memory.TheLaws.{lowered, lowers}
@@ -57,13 +57,13 @@ module _ {M : Type 1} {𝓤 : Ura M} (𝓛 : Logic 𝓤) (b o : ℕ) where
       use1 𝓛 (‵ (bytes_at (block_ptr b o) m) ⊛ ‵ (froom (units_of n) b (past (ty_int w128) (m / 16) o))) (room_cut 𝓛 (ty_int w128) (m / 16) (n / 16) b o) $ split ! $
       rewrite ! 1 (λ (d : ℕ). ‵ (froom (units_of n) b d)) place refl $ done !
 
-  -- bytes are room for each type that is no longer
-  pub room_of_bytes : (τ : Ty) (n : ℕ) → n % 16 ≡ 0 → size τ ≤ n → ent 𝓤 (sem 𝓛 (bytes_at (block_ptr b o) n)) (sem 𝓛 (froom τ b o))
-  room_of_bytes τ n whole short =
+  -- bytes are room for each type that is no longer, and are had back with it
+  pub block_of_bytes : (τ : Ty) (n : ℕ) → n % 16 ≡ 0 → size τ ≤ n → ent 𝓤 (sem 𝓛 (bytes_at (block_ptr b o) n)) (sem 𝓛 (fsep (froom τ b o) (whole_block_token n τ (block_ptr b o))))
+  block_of_bytes τ n whole short =
       qed 𝓛 (‵ (bytes_at (block_ptr b o) n) ∷ []) ∵
-      use1 𝓛 (‵ (froom τ b o) ⊛ raw (wand 𝓤 (𝓛.H.room τ b o) (𝓛.H.room (units_of n) b o))) (carve 𝓛 (units_of n) τ (n / 16) b o refl refl (omega (arith, whole, short))) $ split ! $ keep ! (0 ∷ []) $ done !
+      use1 𝓛 (‵ (fsep (froom τ b o) (whole_block_token n τ (block_ptr b o)))) (carve 𝓛 (units_of n) τ (n / 16) b o refl refl (omega (arith, whole, short))) $ done !
 
--- what `Arena::take` gave: memory in a block, or none
+-- what `Slot::take` gave: memory in a block, or none
 abbrev pub Taken : RattleType
 Taken = option.the_row R.the_row
 

@@ -1,11 +1,12 @@
-//! The memory that an arena hands out, as its owner passes it.
+//! The memory that an arena is in, as its owner passes it.
 
 ghost use Rattle.std.specs.Prelude.{◌≡◌, ◌-◌, ◌%◌, ◌≤◌};
 ghost use Rattle.fixed_arena.specs.Units.{IsWhole, bytes_at};
 
+use core::mem::replace_with;
 use std::marker::Model;
 
-/// The alignment of each block, and what its size is a multiple of, in bytes.
+/// The alignment of memory, and what its size is a multiple of, in bytes.
 pub(crate) const UNIT: usize = 16;
 
 /// `size` bytes in which nothing lies, from a pointer on that is aligned to 16: a multiple of 16,
@@ -23,6 +24,13 @@ impl Model for Memory {
 }
 
 impl Memory {
+    /// Takes all of it out of its place, and leaves none there.
+    pub(crate) fn take(&mut self) -> Memory
+        ensures { (result.size ≡ self.old.size) × (self.new.size ≡ 0) }
+    {
+        replace_with(self, 0, |memory, none| unsafe { memory.cut(none) })
+    }
+
     /// The size, and the memory again.
     pub(crate) fn with_size(self) -> (usize, Memory)
         ensures { (result.0 ≡ self.size) × (result.1 ≡ self) }
@@ -32,7 +40,7 @@ impl Memory {
     }
 
     /// The first bytes, and the others.
-    pub(crate) unsafe fn cut(self, size: usize) -> (Memory, Memory)
+    unsafe fn cut(self, size: usize) -> (Memory, Memory)
         requires { (size % 16 ≡ 0) × (size ≤ self.size) }
         ensures { (result.0.size ≡ size) × (result.1.size ≡ self.size - size) }
     {

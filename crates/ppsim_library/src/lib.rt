@@ -1,129 +1,147 @@
 //! The simulator for hosts that are not Rattle: for C, what calls C, and as a WebAssembly module.
-//! Each call works in memory that its host passes, and is finished with it when it returns.
+//! Each call works in memory that its host lends, and gives it back.
 #![tactic(auto)]
 
 ghost use Rattle.std.specs.Prelude.{◌≡◌, MatchOption, max};
-ghost use Rattle.pp_calls.specs.Answered.{RefusesNumber, Tells, TellsOfTrace};
+ghost use Rattle.fixed_arena.specs.Lending.{IsGivenBack};
+ghost use Rattle.pp_calls.specs.Answered.{NeedsNoThreads, RefusesNumber, Tells, TellsOfTrace};
 ghost use Rattle.pp_calls.specs.Numbers.{only_of, profile_of, window_of};
 ghost use Rattle.pp_sim.specs.declared.work.Work.{Work};
 
-use fixed_arena::{Arena, Memory};
+use fixed_arena::{Memory, Slot, arena_in};
 use pp_calls::{Answer, channels_of, only_of, profile_of, refused_number, tell, window_of};
 use pp_sim::Work;
+
+/// Does this work in the memory, and gives it back.
+fn tell_in(memory: &mut Memory, work: Work, input: &[u8], out: &mut [u8]) -> Answer
+    requires { NeedsNoThreads work }
+    ensures told { Tells work input.now result out.old out.new }
+    ensures memory { IsGivenBack memory.old memory.new }
+{
+    let slot = Slot::take_from(memory);
+    let answer = tell(&arena_in(&slot), work, input, out);
+    slot.give_back(memory);
+    answer
+}
 
 /// The text of a run of this many turns in the barrel.
 #[unsafe(no_mangle)]
 pub extern "C" fn ppsim_barrel(
-    memory: Memory,
+    memory: &mut Memory,
     processors: u32,
     turns: u32,
     deck: &[u8],
     out: &mut [u8],
 ) -> Answer
-    ensures { MatchOption (profile_of processors turns) (RefusesNumber result out.old out.new)
+    ensures told { MatchOption (profile_of processors turns) (RefusesNumber result out.old out.new)
         (λ profile. Tells (Work.Barrel profile turns) deck.now result out.old out.new) }
+    ensures memory { IsGivenBack memory.old memory.new }
 {
     let Some(profile) = profile_of(processors, turns) else {
         return refused_number();
     };
-    let arena = Arena::new(memory);
-    tell(&arena, Work::Barrel { profile, turns }, deck, out)
+    tell_in(memory, Work::Barrel { profile, turns }, deck, out)
 }
 
 /// The listing. Nothing is run.
 #[unsafe(no_mangle)]
-pub extern "C" fn ppsim_list(memory: Memory, processors: u32, deck: &[u8], out: &mut [u8]) -> Answer
-    ensures { MatchOption (profile_of processors 0) (RefusesNumber result out.old out.new)
+pub extern "C" fn ppsim_list(
+    memory: &mut Memory,
+    processors: u32,
+    deck: &[u8],
+    out: &mut [u8],
+) -> Answer
+    ensures told { MatchOption (profile_of processors 0) (RefusesNumber result out.old out.new)
         (λ profile. Tells (Work.List profile) deck.now result out.old out.new) }
+    ensures memory { IsGivenBack memory.old memory.new }
 {
     let Some(profile) = profile_of(processors, 0) else {
         return refused_number();
     };
-    let arena = Arena::new(memory);
-    tell(&arena, Work::List { profile }, deck, out)
+    tell_in(memory, Work::List { profile }, deck, out)
 }
 
 /// The dump after this many turns: a deck to go on from.
 #[unsafe(no_mangle)]
 pub extern "C" fn ppsim_dump(
-    memory: Memory,
+    memory: &mut Memory,
     processors: u32,
     turns: u32,
     deck: &[u8],
     out: &mut [u8],
 ) -> Answer
-    ensures { MatchOption (profile_of processors turns) (RefusesNumber result out.old out.new)
+    ensures told { MatchOption (profile_of processors turns) (RefusesNumber result out.old out.new)
         (λ profile. Tells (Work.Dump profile turns) deck.now result out.old out.new) }
+    ensures memory { IsGivenBack memory.old memory.new }
 {
     let Some(profile) = profile_of(processors, turns) else {
         return refused_number();
     };
-    let arena = Arena::new(memory);
-    tell(&arena, Work::Dump { profile, turns }, deck, out)
+    tell_in(memory, Work::Dump { profile, turns }, deck, out)
 }
 
 /// How things stand after this many turns.
 #[unsafe(no_mangle)]
 pub extern "C" fn ppsim_state(
-    memory: Memory,
+    memory: &mut Memory,
     processors: u32,
     turns: u32,
     deck: &[u8],
     out: &mut [u8],
 ) -> Answer
-    ensures { MatchOption (profile_of processors turns) (RefusesNumber result out.old out.new)
+    ensures told { MatchOption (profile_of processors turns) (RefusesNumber result out.old out.new)
         (λ profile. Tells (Work.State profile turns) deck.now result out.old out.new) }
+    ensures memory { IsGivenBack memory.old memory.new }
 {
     let Some(profile) = profile_of(processors, turns) else {
         return refused_number();
     };
-    let arena = Arena::new(memory);
-    tell(&arena, Work::State { profile, turns }, deck, out)
+    tell_in(memory, Work::State { profile, turns }, deck, out)
 }
 
 /// The sessions of a run of this many turns.
 #[unsafe(no_mangle)]
 pub extern "C" fn ppsim_sessions(
-    memory: Memory,
+    memory: &mut Memory,
     processors: u32,
     turns: u32,
     deck: &[u8],
     out: &mut [u8],
 ) -> Answer
-    ensures { MatchOption (profile_of processors turns) (RefusesNumber result out.old out.new)
+    ensures told { MatchOption (profile_of processors turns) (RefusesNumber result out.old out.new)
         (λ profile. Tells (Work.Sessions profile turns) deck.now result out.old out.new) }
+    ensures memory { IsGivenBack memory.old memory.new }
 {
     let Some(profile) = profile_of(processors, turns) else {
         return refused_number();
     };
-    let arena = Arena::new(memory);
-    tell(&arena, Work::Sessions { profile, turns }, deck, out)
+    tell_in(memory, Work::Sessions { profile, turns }, deck, out)
 }
 
 /// The races of a run of this many turns.
 #[unsafe(no_mangle)]
 pub extern "C" fn ppsim_races(
-    memory: Memory,
+    memory: &mut Memory,
     processors: u32,
     turns: u32,
     deck: &[u8],
     out: &mut [u8],
 ) -> Answer
-    ensures { MatchOption (profile_of processors turns) (RefusesNumber result out.old out.new)
+    ensures told { MatchOption (profile_of processors turns) (RefusesNumber result out.old out.new)
         (λ profile. Tells (Work.Races profile turns) deck.now result out.old out.new) }
+    ensures memory { IsGivenBack memory.old memory.new }
 {
     let Some(profile) = profile_of(processors, turns) else {
         return refused_number();
     };
-    let arena = Arena::new(memory);
-    tell(&arena, Work::Races { profile, turns }, deck, out)
+    tell_in(memory, Work::Races { profile, turns }, deck, out)
 }
 
 /// The steps of a run of this many turns, from a turn on: of one processor alone, or at 255
 /// (decimal) of those that the deck names.
 #[unsafe(no_mangle)]
 pub extern "C" fn ppsim_steps(
-    memory: Memory,
+    memory: &mut Memory,
     processors: u32,
     turns: u32,
     pp: u8,
@@ -131,10 +149,11 @@ pub extern "C" fn ppsim_steps(
     deck: &[u8],
     out: &mut [u8],
 ) -> Answer
-    ensures { MatchOption (profile_of processors (max turns from))
+    ensures told { MatchOption (profile_of processors (max turns from))
         (RefusesNumber result out.old out.new)
         (λ profile. MatchOption (only_of profile pp) (RefusesNumber result out.old out.new)
         (λ only. Tells (Work.Steps profile turns only from) deck.now result out.old out.new)) }
+    ensures memory { IsGivenBack memory.old memory.new }
 {
     let Some(profile) = profile_of(processors, turns.max(from)) else {
         return refused_number();
@@ -148,23 +167,23 @@ pub extern "C" fn ppsim_steps(
         only,
         from,
     };
-    let arena = Arena::new(memory);
-    tell(&arena, work, deck, out)
+    tell_in(memory, work, deck, out)
 }
 
 /// The drawing of the turns from one on and before another.
 #[unsafe(no_mangle)]
 pub extern "C" fn ppsim_draw(
-    memory: Memory,
+    memory: &mut Memory,
     processors: u32,
     from: u32,
     to: u32,
     deck: &[u8],
     out: &mut [u8],
 ) -> Answer
-    ensures { MatchOption (profile_of processors to) (RefusesNumber result out.old out.new)
+    ensures told { MatchOption (profile_of processors to) (RefusesNumber result out.old out.new)
         (λ profile. MatchOption (window_of from to) (RefusesNumber result out.old out.new)
         (λ window. Tells (Work.Draw profile window) deck.now result out.old out.new)) }
+    ensures memory { IsGivenBack memory.old memory.new }
 {
     let Some(profile) = profile_of(processors, to) else {
         return refused_number();
@@ -172,19 +191,23 @@ pub extern "C" fn ppsim_draw(
     let Some(window) = window_of(from, to) else {
         return refused_number();
     };
-    let arena = Arena::new(memory);
-    tell(&arena, Work::Draw { profile, window }, deck, out)
+    tell_in(memory, Work::Draw { profile, window }, deck, out)
 }
 
 /// The check of a channel trace. The channels of this list, as `1,5,13` (octal), are open before
 /// it; none is where the list is empty.
 #[unsafe(no_mangle)]
-pub extern "C" fn ppsim_check(memory: Memory, opened: &[u8], trace: &[u8], out: &mut [u8]) -> Answer
-    ensures { TellsOfTrace opened.now trace.now result out.old out.new }
+pub extern "C" fn ppsim_check(
+    memory: &mut Memory,
+    opened: &[u8],
+    trace: &[u8],
+    out: &mut [u8],
+) -> Answer
+    ensures told { TellsOfTrace opened.now trace.now result out.old out.new }
+    ensures memory { IsGivenBack memory.old memory.new }
 {
     let Some(opened) = channels_of(opened) else {
         return refused_number();
     };
-    let arena = Arena::new(memory);
-    tell(&arena, Work::Check { opened }, trace, out)
+    tell_in(memory, Work::Check { opened }, trace, out)
 }
