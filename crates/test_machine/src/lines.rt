@@ -1,182 +1,224 @@
 //! Lines, one after another.
 
-ghost use Rattle.std.specs.Prelude.{◌≡◌, ◌+◌, IfOk};
+ghost use Rattle.std.specs.Prelude.{◌≡◌, IfSome};
 
-use pp_channel::{ChanOp, Event, Numbered, Reply, Seen};
+use pp_channel::{ChanOp, ChannelNo, Event, Numbered, Reply, Seen};
 use pp_line::{Entry, Line, open_lines};
-use std::alloc::{Allocator, Global};
-use std::process::Abort;
+use std::alloc::Global;
 use std::test::Fail;
 use test_bench::{EMPTY, FULL, INACTIVE, channel, numbered, word};
 
-/// Makes calls on channel 5, with the answers that they have to have.
-fn expect_answers<A: Allocator + Copy>(
-    rt: &impl Abort,
-    line: &mut Line<A>,
-    calls: &[(ChanOp, Numbered)],
-) -> Result<(), Fail>
+/// A call, and the answer that it has to have.
+type Call = (ChanOp, Numbered);
+
+/// Whether calls on a channel have the answers that they have to have.
+fn answers(line: &mut Line<Global>, channel: ChannelNo, calls: &[Call]) -> bool
     ensures shares { line.new.view.shares ≡ line.old.view.shares }
     ensures whole { line.new.view.whole ≡ line.old.view.whole }
     ensures table { line.new.table ≡ line.old.table }
 {
     for (op, answer) in calls {
-        if line.room() == 0 {
-            return Err("a full log".into());
+        if line.room() == 0 || line.act(channel, *op) != Ok(*answer) {
+            return false;
         }
-        assert_eq!(rt; line.act(channel(5)?, *op)?, *answer);
     }
-    Ok(())
+    true
 }
 
-/// The log has to have these entries on channel 5, and no others.
-fn expect_log(rt: &impl Abort, log: &[Entry], entries: &[(u64, Seen)]) -> Result<(), Fail> {
-    assert_eq!(rt; log.len(), entries.len());
-    let five = channel(5)?;
-    for (entry, (number, what)) in log.iter().zip(entries) {
-        assert!(rt; entry.channel == five);
-        assert_eq!(rt; entry.number, *number);
-        assert_eq!(rt; entry.what, *what);
+fn entry(channel: ChannelNo, number: u64, what: Seen) -> Entry {
+    Entry {
+        channel,
+        number,
+        what,
     }
-    Ok(())
 }
 
-fn join_lines<A: Allocator + Copy>(line: Line<A>, other: Line<A>) -> Result<Line<A>, Fail>
-    requires { other.table ≡ line.table }
-    ensures shares { IfOk result (λ both. both.view.shares ≡ line.view.shares + other.view.shares) }
-    ensures whole { IfOk result (λ both. both.view.whole ≡ line.view.whole) }
+/// The length of a line's log, its room, how many events of a channel it has seen, and its shares.
+fn shown(line: &Line<Global>, channel: ChannelNo) -> (usize, u32, u64, u32) {
+    (
+        line.log().len(),
+        line.room(),
+        line.seen(channel),
+        line.shares(),
+    )
+}
+
+/// Whether a line has this log, and shows this.
+fn is_line(
+    line: &Line<Global>,
+    channel: ChannelNo,
+    log: &[Entry],
+    expected: (usize, u32, u64, u32),
+) -> bool {
+    line.log() == log && shown(line, channel) == expected
+}
+
+/// A line makes the first of these calls, and is split. Then its child makes calls, then the line,
+/// and the two are joined. Nothing where an answer is another, or the child has not seen the same.
+fn joined(
+    alloc: Global,
+    channel: ChannelNo,
+    before: &[Call],
+    by_child: &[Call],
+    by_line: &[Call],
+) -> Option<Line<Global>>
+    ensures { IfSome result (λ line. line.view.shares ≡ line.view.whole) }
 {
-    match line.join(other) {
-        Ok(both) => Ok(both),
-        Err(_) => Err("no join".into()),
+    let Ok(mut line) = open_lines(alloc, 8, 2) else {
+        return None;
+    };
+    let is_begun = answers(&mut line, channel, before);
+    let Ok(mut child) = line.split(4) else {
+        return None;
+    };
+    let is_seen = child.seen(channel) == line.seen(channel);
+    let is_answered = is_begun
+        && is_seen
+        && answers(&mut child, channel, by_child)
+        && answers(&mut line, channel, by_line);
+    match line.join(child) {
+        Ok(both) if is_answered => Some(both),
+        _ => None,
     }
 }
 
-/// Closes a line: the channel at this place has to have this history, and each of the twenty-three
-/// others none.
-fn expect_history(
-    rt: &impl Abort,
-    line: Line<Global>,
-    used: usize,
-    events: &[Event],
-) -> Result<(), Fail>
+/// Whether a line is closed with this history at this place, and none at the twenty-three others.
+fn closes_with(line: Line<Global>, used: usize, events: &[Event]) -> bool
     requires { line.view.shares ≡ line.view.whole }
 {
     let Ok(channels) = line.close() else {
-        return Err("no close".into());
+        return false;
     };
-    assert_eq!(rt; channels.len(), 24);
     for (place, channel) in channels.iter().enumerate() {
         let history = if place == used { events } else { &[] };
-        assert_eq!(rt; channel.history(), history);
+        if channel.history() != history {
+            return false;
+        }
     }
+    channels.len() == 24
+}
+
+/// Two events, a look, and a put that is held.
+fn opening() -> [Call; 4] {
+    [
+        (ChanOp::Activate, numbered(Reply::Done, 0)),
+        (ChanOp::Put(word(1)), numbered(Reply::Done, 1)),
+        (ChanOp::Probe, numbered(Reply::Flags(FULL), 2)),
+        (ChanOp::Put(word(2)), numbered(Reply::Held(FULL), 2)),
+    ]
+}
+
+/// The log of these calls.
+fn entries_of_opening(channel: ChannelNo) -> [Entry; 3] {
+    [
+        entry(channel, 0, Seen::Did(Event::Activate)),
+        entry(channel, 1, Seen::Did(Event::Put(word(1)))),
+        entry(channel, 2, Seen::Saw(FULL)),
+    ]
+}
+
+#[test]
+fn log_of_a_line(rt: HostRuntime) -> Result<(), Fail> {
+    let five = channel(5)?;
+    let mut line = open_lines(rt.alloc(), 8, 2)?;
+    assert!(rt; answers(&mut line, five, &opening()));
+    assert!(rt; is_line(&line, five, &entries_of_opening(five), (3, 5, 2, 2)));
     Ok(())
 }
 
 #[test]
 fn line_by_calls(rt: HostRuntime) -> Result<(), Fail> {
     let five = channel(5)?;
-    let first = word(1);
-    let second = word(2);
-    let mut line = open_lines(rt.alloc(), 8, 2)?;
-    let calls = [
-        (ChanOp::Activate, numbered(Reply::Done, 0)),
-        (ChanOp::Put(first), numbered(Reply::Done, 1)),
-        (ChanOp::Probe, numbered(Reply::Flags(FULL), 2)),
-        (ChanOp::Put(second), numbered(Reply::Held(FULL), 2)),
-    ];
-    expect_answers(&rt, &mut line, &calls)?;
-    let entries = [
-        (0, Seen::Did(Event::Activate)),
-        (1, Seen::Did(Event::Put(first))),
-        (2, Seen::Saw(FULL)),
-    ];
-    expect_log(&rt, line.log(), &entries)?;
-    assert_eq!(rt; (line.room(), line.seen(five)), (5, 2));
-    let mut child = line.split(4)?;
-    assert_eq!(rt; child.seen(five), 2);
-    let taken = [(ChanOp::Take, numbered(Reply::Word(first), 2))];
-    expect_answers(&rt, &mut child, &taken)?;
-    let line = join_lines(line, child)?;
-    let shown = (line.log().len(), line.room(), line.shares());
-    assert_eq!(rt; shown, (4, 5, 2));
-    let events = [Event::Activate, Event::Put(first), Event::Take(first)];
-    expect_history(&rt, line, 5, &events)
+    let taken = [(ChanOp::Take, numbered(Reply::Word(word(1)), 2))];
+    let events = [Event::Activate, Event::Put(word(1)), Event::Take(word(1))];
+    let line = joined(rt.alloc(), five, &opening(), &taken, &[]).ok_or("other answers")?;
+    assert!(rt; shown(&line, five) == (4, 5, 3, 2));
+    assert!(rt; closes_with(line, 5, &events));
+    Ok(())
 }
 
 /// Channel 33 stands at the last place.
 #[test]
 fn far_channel(rt: HostRuntime) -> Result<(), Fail> {
-    let far = channel(0o33)?;
+    let (near, far) = (channel(0o13)?, channel(0o33)?);
+    let activate = [(ChanOp::Activate, numbered(Reply::Done, 0))];
     let mut line = open_lines(rt.alloc(), 8, 1)?;
-    assert_eq!(rt; line.act(far, ChanOp::Activate)?, numbered(Reply::Done, 0));
-    assert_eq!(rt; (line.seen(far), line.seen(channel(0o13)?)), (1, 0));
-    expect_history(&rt, line, 23, &[Event::Activate])
+    assert!(rt; answers(&mut line, far, &activate));
+    assert!(rt; line.seen(far) == 1 && line.seen(near) == 0);
+    assert!(rt; closes_with(line, 23, &[Event::Activate]));
+    Ok(())
+}
+
+/// The calls before a split, those of the child, and those of the line.
+fn calls_at_split() -> ([Call; 1], [Call; 2], [Call; 3]) {
+    let before = [(ChanOp::Activate, numbered(Reply::Done, 0))];
+    let by_child = [
+        (ChanOp::Probe, numbered(Reply::Flags(EMPTY), 1)),
+        (ChanOp::Disconnect, numbered(Reply::Done, 1)),
+    ];
+    let by_line = [
+        (ChanOp::Activate, numbered(Reply::Done, 2)),
+        (ChanOp::Disconnect, numbered(Reply::Done, 3)),
+        (ChanOp::Disconnect, numbered(Reply::Held(INACTIVE), 4)),
+    ];
+    (before, by_child, by_line)
+}
+
+/// The log after the join: the line's own entries stand before those of its child.
+fn entries_of_split(channel: ChannelNo) -> [Entry; 6] {
+    [
+        entry(channel, 0, Seen::Did(Event::Activate)),
+        entry(channel, 2, Seen::Did(Event::Activate)),
+        entry(channel, 3, Seen::Did(Event::Disconnect)),
+        entry(channel, 4, Seen::Saw(INACTIVE)),
+        entry(channel, 1, Seen::Saw(EMPTY)),
+        entry(channel, 1, Seen::Did(Event::Disconnect)),
+    ]
 }
 
 #[test]
 fn split_lines(rt: HostRuntime) -> Result<(), Fail> {
     let five = channel(5)?;
-    let mut line = open_lines(rt.alloc(), 8, 2)?;
-    let opening = [(ChanOp::Activate, numbered(Reply::Done, 0))];
-    expect_answers(&rt, &mut line, &opening)?;
-    let mut child = line.split(4)?;
-    let calls = [
-        (ChanOp::Probe, numbered(Reply::Flags(EMPTY), 1)),
-        (ChanOp::Disconnect, numbered(Reply::Done, 1)),
-    ];
-    expect_answers(&rt, &mut child, &calls)?;
-    let calls = [
-        (ChanOp::Activate, numbered(Reply::Done, 2)),
-        (ChanOp::Disconnect, numbered(Reply::Done, 3)),
-        (ChanOp::Disconnect, numbered(Reply::Held(INACTIVE), 4)),
-    ];
-    expect_answers(&rt, &mut line, &calls)?;
-    let line = join_lines(line, child)?;
-    let entries = [
-        (0, Seen::Did(Event::Activate)),
-        (2, Seen::Did(Event::Activate)),
-        (3, Seen::Did(Event::Disconnect)),
-        (4, Seen::Saw(INACTIVE)),
-        (1, Seen::Saw(EMPTY)),
-        (1, Seen::Did(Event::Disconnect)),
-    ];
-    expect_log(&rt, line.log(), &entries)?;
-    let shown = (line.room(), line.seen(five), line.shares());
-    assert_eq!(rt; shown, (4, 4, 2));
+    let (before, by_child, by_line) = calls_at_split();
+    let line = joined(rt.alloc(), five, &before, &by_child, &by_line).ok_or("other answers")?;
+    assert!(rt; is_line(&line, five, &entries_of_split(five), (6, 4, 4, 2)));
     Ok(())
 }
 
+/// A look that is kept stays in the log, where the next one would take its place.
 #[test]
 fn kept_look(rt: HostRuntime) -> Result<(), Fail> {
+    let five = channel(5)?;
+    let probe = (ChanOp::Probe, numbered(Reply::Flags(INACTIVE), 0));
+    let look = entry(five, 0, Seen::Saw(INACTIVE));
     let mut line = open_lines(rt.alloc(), 8, 1)?;
-    let probes = [
-        (ChanOp::Probe, numbered(Reply::Flags(INACTIVE), 0)),
-        (ChanOp::Probe, numbered(Reply::Flags(INACTIVE), 0)),
-    ];
-    expect_answers(&rt, &mut line, &probes)?;
+    assert!(rt; answers(&mut line, five, &[probe; 2]));
     line.keep();
-    assert!(rt; line.kept());
-    let again = [(ChanOp::Probe, numbered(Reply::Flags(INACTIVE), 0))];
-    expect_answers(&rt, &mut line, &again)?;
-    let entries = [(0, Seen::Saw(INACTIVE)), (0, Seen::Saw(INACTIVE))];
-    expect_log(&rt, line.log(), &entries)?;
-    assert_eq!(rt; line.room(), 6);
+    assert!(rt; line.kept() && answers(&mut line, five, &[probe]));
+    assert!(rt; line.room() == 6 && line.log() == [look; 2].as_slice());
     Ok(())
+}
+
+/// Whether two lines of one table answer in turn: what one did the other meets at its next call.
+fn answer_in_turn(line: &mut Line<Global>, other: &mut Line<Global>, channel: ChannelNo) -> bool {
+    let opened = [
+        (ChanOp::Activate, numbered(Reply::Done, 0)),
+        (ChanOp::Put(word(1)), numbered(Reply::Done, 1)),
+    ];
+    let probe = [(ChanOp::Probe, numbered(Reply::Flags(FULL), 2))];
+    let disconnect = [(ChanOp::Disconnect, numbered(Reply::Done, 2))];
+    let activate = [(ChanOp::Activate, numbered(Reply::Done, 3))];
+    answers(line, channel, &opened)
+        && answers(other, channel, &probe)
+        && answers(line, channel, &disconnect)
+        && answers(other, channel, &activate)
 }
 
 #[test]
 fn other_line(rt: HostRuntime) -> Result<(), Fail> {
+    let five = channel(5)?;
     let mut line = open_lines(rt.alloc(), 8, 2)?;
     let mut second = line.split(4)?;
-    let calls = [
-        (ChanOp::Activate, numbered(Reply::Done, 0)),
-        (ChanOp::Put(word(1)), numbered(Reply::Done, 1)),
-    ];
-    expect_answers(&rt, &mut line, &calls)?;
-    let probe = [(ChanOp::Probe, numbered(Reply::Flags(FULL), 2))];
-    expect_answers(&rt, &mut second, &probe)?;
-    let disconnect = [(ChanOp::Disconnect, numbered(Reply::Done, 2))];
-    expect_answers(&rt, &mut line, &disconnect)?;
-    let activate = [(ChanOp::Activate, numbered(Reply::Done, 3))];
-    expect_answers(&rt, &mut second, &activate)
+    assert!(rt; answer_in_turn(&mut line, &mut second, five));
+    Ok(())
 }

@@ -2,7 +2,6 @@
 
 use pp_channel::{CHANNELS, ChannelNo};
 use pp_machine::{PROCESSORS, PpNo, Profile};
-use std::process::Abort;
 use test_bench::first;
 
 /// The numbers of the processors in the barrel's order; the smaller machine has the first ten.
@@ -32,54 +31,84 @@ fn shown_channel(channel: Option<ChannelNo>) -> Option<(u8, usize)> {
     channel.map(|c| (c.get(), c.index()))
 }
 
+/// The first number that is taken for another processor than the one of its place, or wrongly for
+/// none.
+fn wrong_processor(numbers: &[u8], profile: Option<Profile>) -> Option<u8> {
+    for number in 0..=255u8 {
+        let processor = match profile {
+            Some(profile) => profile.processor(number),
+            None => PpNo::new(number),
+        };
+        if shown_processor(processor) != expected(numbers, number) {
+            return Some(number);
+        }
+    }
+    None
+}
+
+/// The same of channels.
+fn wrong_channel(numbers: &[u8], profile: Option<Profile>) -> Option<u8> {
+    for number in 0..=255u8 {
+        let channel = match profile {
+            Some(profile) => profile.channel(number),
+            None => ChannelNo::new(number),
+        };
+        if shown_channel(channel) != expected(numbers, number) {
+            return Some(number);
+        }
+    }
+    None
+}
+
+/// The first place of the barrel's order at which another processor stands, or after which another
+/// comes next.
+fn wrong_place() -> Option<usize> {
+    let mut n = first();
+    for (place, number) in NUMBERS_OF_PROCESSORS.iter().enumerate() {
+        if place >= PROCESSORS || PpNo::at(place).get() != *number || n.get() != *number {
+            return Some(place);
+        }
+        n = n.next();
+    }
+    if n == first() { None } else { Some(PROCESSORS) }
+}
+
 #[test]
 fn numbers_of_processors(rt: HostRuntime) {
     assert_eq!(rt; PROCESSORS, 20);
-    for number in 0..=255u8 {
-        let wanted = expected(&NUMBERS_OF_PROCESSORS, number);
-        assert_eq!(rt; shown_processor(PpNo::new(number)), wanted, "{number}");
-    }
-    let mut n = first();
-    for (place, number) in NUMBERS_OF_PROCESSORS.iter().enumerate() {
-        if place < PROCESSORS {
-            assert_eq!(rt; PpNo::at(place).get(), *number);
+    assert_eq!(rt; wrong_processor(&NUMBERS_OF_PROCESSORS, None), None);
+    assert_eq!(rt; wrong_place(), None);
+}
+
+/// The first place in the order of channels at which another stands.
+fn wrong_place_of_channel() -> Option<usize> {
+    for (place, number) in NUMBERS_OF_CHANNELS.iter().enumerate() {
+        if place >= CHANNELS || ChannelNo::at(place).get() != *number {
+            return Some(place);
         }
-        assert_eq!(rt; n.get(), *number);
-        n = n.next();
     }
-    assert_eq!(rt; n, first());
+    None
 }
 
 #[test]
 fn numbers_of_channels(rt: HostRuntime) {
     assert_eq!(rt; CHANNELS, 24);
-    for number in 0..=255u8 {
-        let wanted = expected(&NUMBERS_OF_CHANNELS, number);
-        assert_eq!(rt; shown_channel(ChannelNo::new(number)), wanted, "{number}");
-    }
-    for (place, number) in NUMBERS_OF_CHANNELS.iter().enumerate() {
-        if place < CHANNELS {
-            assert_eq!(rt; ChannelNo::at(place).get(), *number);
-        }
-    }
+    assert_eq!(rt; wrong_channel(&NUMBERS_OF_CHANNELS, None), None);
+    assert_eq!(rt; wrong_place_of_channel(), None);
 }
 
-/// A profile has just these processors and channels, at the places that they have in the greater
-/// one.
-fn expect_numbers(rt: &impl Abort, profile: Profile, processors: &[u8], channels: &[u8]) {
-    assert_eq!(rt; profile.processors(), processors.len());
-    assert_eq!(rt; profile.channels(), channels.len());
-    for number in 0..=255u8 {
-        let processor = shown_processor(profile.processor(number));
-        assert_eq!(rt; processor, expected(processors, number), "{number}");
-        let channel = shown_channel(profile.channel(number));
-        assert_eq!(rt; channel, expected(channels, number), "{number}");
-    }
+/// Whether a profile has just these processors and channels, at the places that they have in the
+/// greater one.
+fn has_numbers(profile: Profile, processors: &[u8], channels: &[u8]) -> bool {
+    profile.processors() == processors.len()
+        && profile.channels() == channels.len()
+        && wrong_processor(processors, Some(profile)).is_none()
+        && wrong_channel(channels, Some(profile)).is_none()
 }
 
 #[test]
 fn numbers_of_each_profile(rt: HostRuntime) {
     let (processors, channels) = (&NUMBERS_OF_PROCESSORS, &NUMBERS_OF_CHANNELS);
-    expect_numbers(&rt, Profile::Ten, &processors[..10], &channels[..12]);
-    expect_numbers(&rt, Profile::Twenty, processors, channels);
+    assert!(rt; has_numbers(Profile::Ten, &processors[..10], &channels[..12]));
+    assert!(rt; has_numbers(Profile::Twenty, processors, channels));
 }
