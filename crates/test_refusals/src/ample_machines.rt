@@ -1,7 +1,7 @@
 //! Central memories of every kind of size, and late events, over an allocator that counts the
 //! requests and refuses none: so none may be out of memory. And the numbers of the faults.
 
-use pp_machine::{Central, CentralFault, Machine, Profile};
+use pp_machine::{Central, Machine, Profile};
 use pp_word::{Word18, Word60};
 use rationed::Rationed;
 use std::alloc::{Allocator, Global};
@@ -21,26 +21,31 @@ fn holds_its_last_word<A: Allocator>(central: &mut Central<A>, size: u32) -> boo
         && central.read(behind).is_none()
 }
 
-/// The size of the central memory of a new machine.
-fn size_of_machine(
-    heap: &Rationed<Global>,
-    profile: Profile,
-    size: u32,
-) -> Result<u32, CentralFault> {
-    Ok(Machine::new(heap, profile, size)?.central().size())
+/// Whether a new machine has a central memory of this size.
+fn has_size(heap: &Rationed<Global>, profile: Profile, size: u32) -> bool {
+    match Machine::new(heap, profile, size) {
+        Ok(machine) => machine.central().size() == size,
+        Err(_) => false,
+    }
+}
+
+/// Whether a central memory and machines of this size are made, and hold so many words.
+fn is_made(heap: &Rationed<Global>, size: u32) -> bool {
+    let Ok(mut central) = Central::new(heap, size) else {
+        return false;
+    };
+    holds_its_last_word(&mut central, size)
+        && has_size(heap, Profile::Ten, size)
+        && has_size(heap, Profile::Twenty, size)
 }
 
 #[test]
-fn sizes(rt: HostRuntime) -> Result<(), Fail> {
+fn sizes(rt: HostRuntime) {
     let heap = Rationed::new(rt.alloc());
     for size in [1, 2, 0o7777, 0o10000, 0o10001, 0o12345, 12_345, 0o400_000] {
-        let mut central = Central::new(&heap, size)?;
-        assert!(rt; holds_its_last_word(&mut central, size), "{size}");
-        assert_eq!(rt; size_of_machine(&heap, Profile::Ten, size), Ok(size));
-        assert_eq!(rt; size_of_machine(&heap, Profile::Twenty, size), Ok(size));
+        assert!(rt; is_made(&heap, size), "{size}");
     }
     assert!(rt; heap.asked() > 8, "words are asked for");
-    Ok(())
 }
 
 /// The number of the fault where a central memory of this size is asked for, and this request is
@@ -69,20 +74,27 @@ const LATE: Pair = Pair {
     one: &[],
 };
 
+/// The turn of the first event after so many turns, and where PP 0 is then.
+fn late_event(
+    heap: &Rationed<Global>,
+    profile: Profile,
+    turns: u32,
+) -> Result<(Option<u64>, u16), Fail> {
+    let mut machine = LATE.machine(heap, profile)?;
+    machine.run_barrel(turns)?;
+    let turn = machine.events().first().map(|entry| entry.turn);
+    Ok((turn, machine.pp(first()).p().get()))
+}
+
 #[test]
 fn a_late_event(rt: HostRuntime) -> Result<(), Fail> {
     let heap = Rationed::new(rt.alloc());
     // One step loads A, and two go with each number from 177777 down to 1 (octal).
-    for (profile, turns, late) in [
-        (Profile::Ten, 1_400_000, 10 * (1 + 2 * 65_535)),
-        (Profile::Twenty, 2_800_000, 20 * (1 + 2 * 65_535)),
-    ] {
-        let mut machine = LATE.machine(&heap, profile)?;
-        machine.run_barrel(turns)?;
-        let turn = machine.events().first().map(|entry| entry.turn);
-        assert_eq!(rt; turn, Some(late));
-        assert_eq!(rt; machine.pp(first()).p().get(), 0o105);
-    }
+    let late = 1 + 2 * 65_535;
+    let ten = late_event(&heap, Profile::Ten, 1_400_000)?;
+    assert_eq!(rt; ten, (Some(10 * late), 0o105));
+    let twenty = late_event(&heap, Profile::Twenty, 2_800_000)?;
+    assert_eq!(rt; twenty, (Some(20 * late), 0o105));
     assert!(rt; heap.asked() > 0);
     Ok(())
 }

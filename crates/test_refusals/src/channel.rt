@@ -1,44 +1,43 @@
 //! A channel whose growths are refused.
 
+use crate::refusal::unless_refused;
 use pp_channel::{ChanOp, Channel, Event, Memory, Reply};
 use rationed::Rationed;
-use std::alloc::{Allocator, Global};
-use std::process::Abort;
+use std::alloc::Global;
 use std::test::Fail;
 use test_bench::{EMPTY, FULL, INACTIVE, word};
 
-/// Acts where a request may be refused, which is Memory. Nothing has changed then, and the
+/// Channels over an allocator that refuses a request.
+type RationedChannel<'a> = Channel<&'a Rationed<Global>>;
+
+/// Acts where a request may be refused, which is Memory. Whether nothing has changed then, and the
 /// operation is answered as ever once memory is there.
 fn act_again(
-    rt: &(impl Abort + AllocGlobal),
     heap: &Rationed<Global>,
-    channel: &mut Channel<&Rationed<Global>>,
-    op: ChanOp,
-    reply: Reply,
-) -> Result<(), Fail> {
-    let events = channel.history().to_vec(rt.alloc())?;
+    alloc: Global,
+    channel: &mut RationedChannel,
+    op: &ChanOp,
+    reply: &Reply,
+) -> bool {
+    let Ok(events) = channel.history().to_vec(alloc) else {
+        return false;
+    };
     let (flags, waiting) = (channel.flags(), channel.waiting());
     let had_refused = heap.has_refused();
-    let answer = channel.act(op);
+    let answer = channel.act(*op);
     if heap.has_refused() == had_refused {
-        assert_eq!(rt; answer, Ok(reply));
-        return Ok(());
+        return answer == Ok(*reply);
     }
-    assert_eq!(rt; answer, Err(Memory));
-    assert_eq!(rt; channel.history(), events.as_slice());
-    assert_eq!(rt; channel.flags(), flags);
-    assert_eq!(rt; channel.waiting(), waiting);
-    assert_eq!(rt; channel.act(op)?, reply);
-    Ok(())
+    answer == Err(Memory)
+        && channel.history() == events.as_slice()
+        && channel.flags() == flags
+        && channel.waiting() == waiting
+        && channel.act(*op) == Ok(*reply)
 }
 
-/// A channel's operations with this request refused: whether it was made.
-fn operations_refused(
-    rt: &(impl Abort + AllocGlobal),
-    heap: &Rationed<Global>,
-    number: u64,
-) -> Result<bool, Fail> {
-    let operations = [
+/// Every operation, some of them held.
+fn operations() -> [(ChanOp, Reply); 10] {
+    [
         (ChanOp::Function(word(0o12)), Reply::Done),
         (ChanOp::Activate, Reply::Done),
         (ChanOp::Function(word(1)), Reply::Held(EMPTY)),
@@ -49,42 +48,56 @@ fn operations_refused(
         (ChanOp::Put(word(6)), Reply::Done),
         (ChanOp::Disconnect, Reply::Done),
         (ChanOp::Take, Reply::Held(INACTIVE)),
-    ];
-    let events = [
+    ]
+}
+
+/// Their events.
+fn events() -> [Event; 6] {
+    [
         Event::Function(word(0o12)),
         Event::Activate,
         Event::Put(word(5)),
         Event::Take(word(5)),
         Event::Put(word(6)),
         Event::Disconnect,
-    ];
-    heap.refuse(number);
+    ]
+}
+
+/// Nothing where a request is refused and the channel goes on as it should; else whether it does.
+fn operations_refused(heap: &Rationed<Global>, alloc: Global) -> Option<bool> {
+    let events = events();
     let mut channel = Channel::new(heap);
-    for (op, reply) in &operations {
-        act_again(rt, heap, &mut channel, *op, *reply)?;
+    for (op, reply) in &operations() {
+        if !act_again(heap, alloc, &mut channel, op, reply) {
+            return Some(false);
+        }
     }
-    assert_eq!(rt; channel.history(), events.as_slice());
-    Ok(heap.has_refused())
+    unless_refused(channel.history() == events.as_slice(), heap.has_refused())
 }
 
 #[test]
 fn act_refused(rt: HostRuntime) -> Result<(), Fail> {
-    let heap = Rationed::new(rt.alloc());
-    for number in 1..100u64 {
-        if !operations_refused(&rt, &heap, number)? {
-            assert!(rt; number > 2, "the history grows more than once");
-            return Ok(());
-        }
-    }
-    panic!(rt; "a request is refused in each run")
+    let alloc = rt.alloc();
+    let heap = Rationed::new(alloc);
+    let last = heap.refuse_each(|_| operations_refused(&heap, alloc))?;
+    assert!(rt; last > 2, "the history grows more than once");
+    Ok(())
 }
 
 /// Whether a channel is at its second word of a session: Activate, Put 0005.
-fn is_full<A: Allocator>(channel: &Channel<A>) -> bool {
+pub(crate) fn is_full(channel: &RationedChannel) -> bool {
     let events = [Event::Activate, Event::Put(word(5))];
     channel.history() == events.as_slice()
         && channel.flags() == FULL
         && channel.waiting() == Some(word(5))
+}
+
+/// Nothing where a copy is refused; else whether it is as its channel. The channel stays.
+fn copy(channel: &RationedChannel) -> Option<bool> {
+    match channel.copy() {
+        Ok(copy) => Some(is_full(&copy) && is_full(channel)),
+        Err(_) => unless_refused(is_full(channel), true),
+    }
 }
 
 #[test]
@@ -93,35 +106,28 @@ fn copy_refused(rt: HostRuntime) -> Result<(), Fail> {
     let mut channel = Channel::new(&heap);
     channel.act(ChanOp::Activate)?;
     channel.act(ChanOp::Put(word(5)))?;
-    for number in 1..100u64 {
-        heap.refuse(number);
-        let copied = channel.copy().ok().map(|copy| is_full(&copy));
-        assert!(rt; is_full(&channel));
-        if !heap.has_refused() {
-            assert_eq!(rt; copied, Some(true));
-            assert!(rt; number > 1);
-            return Ok(());
-        }
-        assert_eq!(rt; copied, None);
-    }
-    panic!(rt; "a request is refused in each run")
+    let last = heap.refuse_each(|_| copy(&channel))?;
+    assert!(rt; last > 1);
+    Ok(())
 }
 
-/// Whether a channel answers these operations so, and none has an event.
-fn answers<A: Allocator>(
-    channel: &mut Channel<A>,
+/// Whether a channel answers these operations so, none has an event, and nothing is asked for.
+fn answers(
+    heap: &Rationed<Global>,
+    channel: &mut RationedChannel,
     calls: &[(ChanOp, Reply)],
-) -> Result<bool, Memory> {
+) -> bool {
+    heap.refuse(1);
     for (op, reply) in calls {
-        if channel.next_event(op).is_some() || channel.act(*op)? != *reply {
-            return Ok(false);
+        if channel.next_event(op).is_some() || channel.act(*op) != Ok(*reply) {
+            return false;
         }
     }
-    Ok(true)
+    heap.asked() == 0
 }
 
-#[test]
-fn no_event_asks_for_nothing(rt: HostRuntime) -> Result<(), Fail> {
+/// Operations without event on a channel that is inactive, and on one that is full.
+fn without_event() -> ([(ChanOp, Reply); 4], [(ChanOp, Reply); 4]) {
     let some = word(0o7777);
     let inactive = [
         (ChanOp::Probe, Reply::Flags(INACTIVE)),
@@ -135,18 +141,21 @@ fn no_event_asks_for_nothing(rt: HostRuntime) -> Result<(), Fail> {
         (ChanOp::Put(some), Reply::Held(FULL)),
         (ChanOp::Function(some), Reply::Held(FULL)),
     ];
+    (inactive, full)
+}
+
+#[test]
+fn no_event_asks_for_nothing(rt: HostRuntime) {
+    let (inactive, full) = without_event();
     let heap = Rationed::new(rt.alloc());
     let mut channel = Channel::new(&heap);
-    heap.refuse(1);
-    assert!(rt; answers(&mut channel, &inactive)?);
-    assert_eq!(rt; (channel.waiting(), channel.history().len()), (None, 0));
-    assert_eq!(rt; heap.asked(), 0);
+    assert!(rt; answers(&heap, &mut channel, &inactive));
+    assert!(rt; channel.waiting().is_none() && channel.history().is_empty());
     heap.refuse(0);
-    channel.act(ChanOp::Activate)?;
-    channel.act(ChanOp::Put(some))?;
-    heap.refuse(1);
-    assert!(rt; answers(&mut channel, &full)?);
-    assert_eq!(rt; channel.waiting(), Some(some));
-    assert_eq!(rt; heap.asked(), 0);
-    Ok(())
+    let opened = [
+        channel.act(ChanOp::Activate),
+        channel.act(ChanOp::Put(word(0o7777))),
+    ];
+    assert!(rt; opened == [Ok(Reply::Done); 2] && answers(&heap, &mut channel, &full));
+    assert!(rt; channel.waiting() == Some(word(0o7777)));
 }

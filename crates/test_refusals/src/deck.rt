@@ -98,46 +98,37 @@ const DECKS: [(&str, Option<(u32, DeckCode)>); 9] = [
     ("PP", Some((1, DeckCode::UnknownLine))),
 ];
 
+/// The fault of a text where this request is refused, as its line and code.
+fn code_of(heap: &Rationed<Global>, text: &[u8], number: u64) -> Option<(u32, DeckCode)> {
+    heap.refuse(number);
+    let fault = read_deck(heap, Profile::Ten, text).err()?;
+    Some((fault.line, fault.code))
+}
+
 #[test]
-fn faulty_decks_refused(rt: HostRuntime) -> Result<(), Fail> {
+fn faulty_decks_refused(rt: HostRuntime) {
     let heap = Rationed::new(rt.alloc());
+    let memory = Some((0, DeckCode::Memory));
     let mut refusals = 0u32;
     for (text, fault) in DECKS {
         for number in 1..10u64 {
-            heap.refuse(number);
-            let answer = read_deck(&heap, Profile::Ten, text.as_bytes()).err();
-            let expected = if heap.has_refused() {
-                refusals = refusals.saturating_add(1);
-                Some((0, DeckCode::Memory))
-            } else {
-                fault
-            };
-            let told = answer.map(|fault| (fault.line, fault.code));
-            assert_eq!(rt; told, expected, "{text}, request {number}");
+            let told = code_of(&heap, text.as_bytes(), number);
+            let refused = heap.has_refused();
+            assert!(rt; told == if refused { memory } else { fault }, "{text}");
+            refusals = refusals.saturating_add(u32::from(refused));
         }
     }
     assert!(rt; refusals >= 9, "each deck takes memory");
-    Ok(())
 }
 
 #[test]
 fn texts_that_ask_for_nothing(rt: HostRuntime) -> Result<(), Fail> {
     let heap = Rationed::new(rt.alloc());
     let long = vec![in rt.alloc(); b' '; 1_048_577]?;
-    heap.refuse(1);
-    let too_long = DeckFault {
-        line: 0,
-        code: DeckCode::TooLong,
-    };
-    assert_eq!(rt; read_deck(&heap, Profile::Ten, &long).err(), Some(too_long));
-    let not_ascii = DeckFault {
-        line: 2,
-        code: DeckCode::NotAscii,
-    };
-    assert_eq!(rt;
-        read_deck(&heap, Profile::Ten, b"PP 12\n\x80".as_slice()).err(),
-        Some(not_ascii)
-    );
-    assert_eq!(rt; heap.asked(), 0);
+    assert!(rt; code_of(&heap, &long, 1) == Some((0, DeckCode::TooLong)));
+    assert!(rt; heap.asked() == 0);
+    let odd = b"PP 12\n\x80".as_slice();
+    assert!(rt; code_of(&heap, odd, 1) == Some((2, DeckCode::NotAscii)));
+    assert!(rt; heap.asked() == 0);
     Ok(())
 }

@@ -19,4 +19,6 @@ mod machine;
 #[cfg(test)]
 mod no_memory;
 #[cfg(test)]
+mod refusal;
+#[cfg(test)]
 mod threads;

@@ -1,49 +1,57 @@
 //! A channel behind a lock whose growths are refused.
 
-use pp_channel::{ChanOp, Channel, Event, Locked, Memory, Reply};
+use crate::channel::is_full;
+use crate::refusal::unless_refused;
+use pp_channel::{ChanOp, Channel, Locked, Memory, Numbered, Reply};
 use rationed::Rationed;
-use std::alloc::{Allocator, Global};
-use std::process::Abort;
+use std::alloc::Global;
 use std::sync::Wait;
 use std::test::Fail;
-use test_bench::{FULL, INACTIVE, numbered, word};
+use test_bench::{INACTIVE, numbered, word};
+
+/// A channel behind a lock, over an allocator that refuses a request.
+type RationedLock<'a> = Locked<&'a Rationed<Global>>;
 
 /// The same operations behind the lock and on a channel in ample memory, which answer the same,
-/// until a request is refused. Gives how many were made.
+/// until a request is refused. Gives how many were made, or nothing where an answer is another.
 fn act_until_refused(
-    rt: &(impl Abort + Wait + AllocGlobal),
+    rt: &impl Wait,
     heap: &Rationed<Global>,
-    locked: &Locked<&Rationed<Global>>,
+    locked: &RationedLock,
     kept: &mut Channel<Global>,
     operations: &[ChanOp],
-) -> Result<usize, Fail> {
+) -> Option<usize> {
+    let had_refused = heap.has_refused();
     for (made, op) in operations.iter().enumerate() {
         let answer = locked.act(rt, *op);
-        if heap.has_refused() {
-            assert_eq!(rt; answer, Err(Memory));
-            return Ok(made);
+        if heap.has_refused() != had_refused {
+            return if answer == Err(Memory) {
+                Some(made)
+            } else {
+                None
+            };
         }
         let number = kept.history().len() as u64;
-        let expected = numbered(kept.act(*op)?, number);
-        assert_eq!(rt; answer, Ok(expected));
+        let Ok(reply) = kept.act(*op) else {
+            return None;
+        };
+        if answer != Ok(numbered(reply, number)) {
+            return None;
+        }
     }
-    Ok(operations.len())
+    Some(operations.len())
 }
 
-/// Two channels show the same.
-fn expect_same<A: Allocator>(rt: &impl Abort, channel: &Channel<A>, kept: &Channel<Global>) {
-    assert_eq!(rt; channel.history(), kept.history());
-    assert_eq!(rt; channel.flags(), kept.flags());
-    assert_eq!(rt; channel.waiting(), kept.waiting());
+/// Whether two channels show the same.
+fn is_same(channel: &Channel<&Rationed<Global>>, kept: &Channel<Global>) -> bool {
+    channel.history() == kept.history()
+        && channel.flags() == kept.flags()
+        && channel.waiting() == kept.waiting()
 }
 
-/// Operations with this request refused, and then those that are left: whether it was made.
-fn operations_refused(
-    rt: &(impl Abort + Wait + AllocGlobal),
-    heap: &Rationed<Global>,
-    number: u64,
-) -> Result<bool, Fail> {
-    let operations = [
+/// Every operation, one of them held.
+fn every_operation() -> [ChanOp; 7] {
+    [
         ChanOp::Function(word(0o12)),
         ChanOp::Activate,
         ChanOp::Put(word(5)),
@@ -51,78 +59,77 @@ fn operations_refused(
         ChanOp::Put(word(6)),
         ChanOp::Take,
         ChanOp::Disconnect,
-    ];
-    heap.refuse(number);
+    ]
+}
+
+/// Operations of which a request may be refused, and then those that are left. Nothing where one is
+/// refused and the channel is as it should be before and after these; else whether it is.
+fn operations_refused(rt: &(impl Wait + AllocGlobal), heap: &Rationed<Global>) -> Option<bool> {
+    let operations = every_operation();
     let mut kept = Channel::new(rt.alloc());
     let locked = Locked::new(Channel::new(heap));
-    let made = act_until_refused(rt, heap, &locked, &mut kept, &operations)?;
-    let refused = heap.has_refused();
-    heap.refuse(0);
+    let made = act_until_refused(rt, heap, &locked, &mut kept, &operations);
     let channel = locked.into_inner();
-    expect_same(rt, &channel, &kept);
+    let is_kept = made.is_some() && is_same(&channel, &kept);
     let locked = Locked::new(channel);
-    let rest = operations.get(made..).unwrap_or(&[]);
-    act_until_refused(rt, heap, &locked, &mut kept, rest)?;
+    let rest = operations.get(made.unwrap_or(0)..).unwrap_or(&[]);
+    let is_done = act_until_refused(rt, heap, &locked, &mut kept, rest) == Some(rest.len());
     let channel = locked.into_inner();
-    expect_same(rt, &channel, &kept);
-    assert_eq!(rt; channel.history().len(), 5);
-    Ok(refused)
+    let is_right = is_kept && is_done && is_same(&channel, &kept) && kept.history().len() == 5;
+    unless_refused(is_right, heap.has_refused())
 }
 
 #[test]
 fn locked_act_refused(rt: HostRuntime) -> Result<(), Fail> {
     let heap = Rationed::new(rt.alloc());
-    for number in 1..100u64 {
-        if !operations_refused(&rt, &heap, number)? {
-            assert!(rt; number > 2, "the history grows more than once");
-            return Ok(());
+    let last = heap.refuse_each(|_| operations_refused(&rt, &heap))?;
+    assert!(rt; last > 2, "the history grows more than once");
+    Ok(())
+}
+
+/// Whether operations behind a lock have these answers.
+fn answers(rt: &impl Wait, locked: &RationedLock, calls: &[(ChanOp, Numbered)]) -> bool {
+    for (op, answer) in calls {
+        if locked.act(rt, *op) != Ok(*answer) {
+            return false;
         }
     }
-    panic!(rt; "a request is refused in each run")
+    true
 }
 
 #[test]
-fn locked_without_event_asks_for_nothing(rt: HostRuntime) -> Result<(), Fail> {
+fn locked_without_event_asks_for_nothing(rt: HostRuntime) {
+    let calls = [
+        (ChanOp::Probe, numbered(Reply::Flags(INACTIVE), 0)),
+        (ChanOp::Disconnect, numbered(Reply::Held(INACTIVE), 0)),
+        (
+            ChanOp::Put(word(0o7777)),
+            numbered(Reply::Held(INACTIVE), 0),
+        ),
+        (ChanOp::Take, numbered(Reply::Held(INACTIVE), 0)),
+    ];
     let heap = Rationed::new(rt.alloc());
     heap.refuse(1);
-    let some = word(0o7777);
     let locked = Locked::new(Channel::new(&heap));
-    assert_eq!(rt;
-        locked.act(&rt, ChanOp::Probe)?,
-        numbered(Reply::Flags(INACTIVE), 0)
-    );
-    for op in [ChanOp::Disconnect, ChanOp::Put(some), ChanOp::Take] {
-        assert_eq!(rt; locked.act(&rt, op)?, numbered(Reply::Held(INACTIVE), 0));
-    }
-    assert_eq!(rt; locked.into_inner().history().len(), 0);
-    assert_eq!(rt; heap.asked(), 0);
-    Ok(())
+    assert!(rt; answers(&rt, &locked, &calls));
+    assert!(rt; locked.into_inner().history().is_empty());
+    assert!(rt; heap.asked() == 0);
 }
 
-/// A channel comes out of its lock as it was left: here within a session, with a word that nobody
-/// took.
+/// A channel comes out of its lock as it was left, without a request, and goes on: here within a
+/// session, with a word that nobody took.
 #[test]
-fn a_session_behind_a_lock_goes_on(rt: HostRuntime) -> Result<(), Fail> {
+fn a_session_behind_a_lock_goes_on(rt: HostRuntime) {
+    let calls = [
+        (ChanOp::Activate, numbered(Reply::Done, 0)),
+        (ChanOp::Put(word(5)), numbered(Reply::Done, 1)),
+    ];
     let heap = Rationed::new(rt.alloc());
     let locked = Locked::new(Channel::new(&heap));
-    assert_eq!(rt;
-        locked.act(&rt, ChanOp::Activate)?,
-        numbered(Reply::Done, 0)
-    );
-    let five = word(5);
-    assert_eq!(rt;
-        locked.act(&rt, ChanOp::Put(five))?,
-        numbered(Reply::Done, 1)
-    );
+    assert!(rt; answers(&rt, &locked, &calls));
     heap.refuse(1);
     let mut channel = locked.into_inner();
-    assert_eq!(rt; (channel.flags(), channel.waiting()), (FULL, Some(five)));
-    assert_eq!(rt;
-        channel.history(),
-        [Event::Activate, Event::Put(five)].as_slice()
-    );
-    assert_eq!(rt; heap.asked(), 0);
+    assert!(rt; is_full(&channel) && heap.asked() == 0);
     heap.refuse(0);
-    assert_eq!(rt; channel.act(ChanOp::Take)?, Reply::Word(five));
-    Ok(())
+    assert!(rt; channel.act(ChanOp::Take) == Ok(Reply::Word(word(5))));
 }

@@ -3,11 +3,11 @@
 ghost use Rattle.std.specs.Prelude.{◌≡◌, IfOk};
 ghost use Rattle.pp_machine.specs.DeadStart.{IsBeforeFirstTurn, WaitsWithin};
 
+use crate::refusal::unless_refused;
 use pp_channel::{CHANNELS, ChannelNo, Memory};
-use pp_machine::{Central, CentralFault, Machine, Outcome, PROCESSORS, PpNo, Profile};
-use rationed::Rationed;
+use pp_machine::{Central, CentralFault, Machine, Outcome, PROCESSORS, Pp, PpNo, Profile};
+use rationed::{Rationed, Unexpected};
 use std::alloc::{Allocator, Global};
-use std::process::Abort;
 use std::test::Fail;
 use test_bench::{HANDOFF_PAIR, Pair, first, put_program, waiting, word};
 
@@ -25,107 +25,115 @@ const LOADER: Pair = Pair {
     one: &[],
 };
 
-/// Two machines show the same processors, histories, turns and events.
-fn expect_same<R: Abort, A: Allocator, B: Allocator>(rt: &R, one: &Machine<A>, other: &Machine<B>) {
+/// A machine over an allocator that refuses a request.
+type RationedMachine<'a> = Machine<&'a Rationed<Global>>;
+
+/// Whether two processors show the same.
+pub(crate) fn is_same(one: &Pp, other: &Pp) -> bool {
+    for place in 0..4096u16 {
+        let place = word(place);
+        if one.get(place) != other.get(place) {
+            return false;
+        }
+    }
+    one.p() == other.p()
+        && one.a() == other.a()
+        && one.state() == other.state()
+        && one.block() == other.block()
+}
+
+/// Whether two machines show the same processors, histories, turns and events.
+fn are_same(machine: &RationedMachine, twin: &Machine<Global>) -> bool {
     for place in 0..PROCESSORS {
         let n = PpNo::at(place);
-        let (pp, twin) = (one.pp(n), other.pp(n));
-        assert_eq!(rt; pp.p(), twin.p());
-        assert_eq!(rt; pp.a(), twin.a());
-        assert_eq!(rt; pp.state(), twin.state());
-        assert_eq!(rt; pp.block(), twin.block());
-        for place in 0..4096u16 {
-            assert_eq!(rt; pp.get(word(place)), twin.get(word(place)));
+        if !is_same(machine.pp(n), twin.pp(n)) {
+            return false;
         }
     }
     for place in 0..CHANNELS {
         let c = ChannelNo::at(place);
-        assert_eq!(rt; one.channel(c).history(), other.channel(c).history());
-        assert_eq!(rt; one.opened(c), other.opened(c));
+        let is_same = machine.channel(c).history() == twin.channel(c).history();
+        if !is_same || machine.opened(c) != twin.opened(c) {
+            return false;
+        }
     }
-    assert_eq!(rt; one.turns(), other.turns());
-    assert_eq!(rt; one.events(), other.events());
+    machine.turns() == twin.turns() && machine.events() == twin.events()
 }
 
-/// The fault where memory is refused.
-fn no_memory(refused: bool) -> Option<CentralFault> {
-    if refused {
-        Some(CentralFault::Memory)
-    } else {
-        None
-    }
-}
-
-/// Whether a central memory and a machine are made where this request is refused.
-fn made(rt: &impl Abort, heap: &Rationed<Global>, profile: Profile, number: u64) -> (bool, bool) {
+/// The fault of a central memory and of a machine where this request is refused, and for each
+/// whether it was made.
+fn making(
+    heap: &Rationed<Global>,
+    profile: Profile,
+    number: u64,
+) -> [(Option<CentralFault>, bool); 2] {
     heap.refuse(number);
-    let central = Central::new(heap, 0o41).err();
-    assert_eq!(rt; central, no_memory(heap.has_refused()));
+    let central = (Central::new(heap, 0o41).err(), heap.has_refused());
     heap.refuse(number);
-    let machine = Machine::new(heap, profile, 0o41).err();
-    assert_eq!(rt; machine, no_memory(heap.has_refused()));
-    heap.refuse(0);
-    (central.is_none(), machine.is_none())
+    let machine = (Machine::new(heap, profile, 0o41).err(), heap.has_refused());
+    [central, machine]
 }
 
+/// Central memory makes one request, and a machine two more.
 #[test]
 fn making_refused(rt: HostRuntime) {
     let heap = Rationed::new(rt.alloc());
+    let (refused, made) = ((Some(CentralFault::Memory), true), (None, false));
     for profile in [Profile::Ten, Profile::Twenty] {
-        for number in 1..10u64 {
-            let made = made(&rt, &heap, profile, number);
-            assert_eq!(rt; made, (number > 1, number > 3));
+        assert!(rt; making(&heap, profile, 1) == [refused, refused]);
+        assert!(rt; making(&heap, profile, 2) == [made, refused]);
+        assert!(rt; making(&heap, profile, 3) == [made, refused]);
+        for number in 4..10u64 {
+            assert!(rt; making(&heap, profile, number) == [made, made]);
         }
     }
+}
+
+/// The fault of a central memory of this size, and of a machine of each profile.
+fn faults(heap: &Rationed<Global>, size: u32) -> [Option<CentralFault>; 3] {
+    [
+        Central::new(heap, size).err(),
+        Machine::new(heap, Profile::Ten, size).err(),
+        Machine::new(heap, Profile::Twenty, size).err(),
+    ]
 }
 
 #[test]
 fn a_bad_size_comes_before_memory(rt: HostRuntime) {
     let heap = Rationed::new(rt.alloc());
     heap.refuse(1);
-    for size in [0, 0o400_001] {
-        let bad_size = Some(CentralFault::BadSize);
-        assert_eq!(rt; Central::new(&heap, size).err(), bad_size);
-        assert_eq!(rt; Machine::new(&heap, Profile::Ten, size).err(), bad_size);
-        assert_eq!(rt; Machine::new(&heap, Profile::Twenty, size).err(), bad_size);
-    }
-    assert_eq!(rt; heap.asked(), 0);
+    assert!(rt; faults(&heap, 0) == [Some(CentralFault::BadSize); 3]);
+    assert!(rt; faults(&heap, 0o400_001) == [Some(CentralFault::BadSize); 3]);
+    assert!(rt; heap.asked() == 0);
 }
 
 /// A step on both machines. Where its request is refused it leaves the first as it is, and is made
-/// once memory is there.
+/// once memory is there. Nothing where it is not so.
 fn step_both(
-    rt: &impl Abort,
     heap: &Rationed<Global>,
-    machine: &mut Machine<&Rationed<Global>>,
+    machine: &mut RationedMachine,
     twin: &mut Machine<Global>,
     n: PpNo,
-) -> Result<Outcome, Fail> {
+) -> Option<Outcome> {
     let had_refused = heap.has_refused();
     let mut answer = machine.step(n);
     if heap.has_refused() != had_refused {
-        assert_eq!(rt; answer, Err(Memory));
-        expect_same(rt, machine, twin);
+        if answer != Err(Memory) || !are_same(machine, twin) {
+            return None;
+        }
         answer = machine.step(n);
     }
-    let outcome = twin.step(n)?;
-    assert_eq!(rt; answer, Ok(outcome));
-    expect_same(rt, machine, twin);
-    Ok(outcome)
+    if answer == twin.step(n) && are_same(machine, twin) {
+        answer.ok()
+    } else {
+        None
+    }
 }
 
-/// Seven steps with this request refused: whether it was made.
-fn steps_refused(
-    rt: &(impl Abort + AllocGlobal),
-    heap: &Rationed<Global>,
-    profile: Profile,
-    number: u64,
-) -> Result<bool, Fail> {
+/// The steps of `HANDOFF_PAIR`, with their outcomes.
+fn steps() -> [(PpNo, Outcome); 7] {
     let (zero, one) = (first(), first().next());
-    let mut twin = HANDOFF_PAIR.machine(rt.alloc(), profile)?;
-    let mut machine = HANDOFF_PAIR.machine(heap, profile)?;
-    heap.refuse(number);
-    for (n, expected) in [
+    [
         (one, Outcome::Held),
         (zero, Outcome::Moved),
         (zero, Outcome::Moved),
@@ -133,98 +141,106 @@ fn steps_refused(
         (one, Outcome::Moved),
         (zero, Outcome::Moved),
         (zero, Outcome::AtRest),
-    ] {
-        let outcome = step_both(rt, heap, &mut machine, &mut twin, n)?;
-        assert_eq!(rt; outcome, expected);
-    }
-    let refused = heap.has_refused();
-    heap.refuse(0);
-    Ok(refused)
+    ]
 }
 
-/// The number of the first request that is not made.
-fn first_not_made(rt: &(impl Abort + AllocGlobal), profile: Profile) -> Result<u64, Fail> {
-    let heap = Rationed::new(rt.alloc());
-    for number in 1..20u64 {
-        if !steps_refused(rt, &heap, profile, number)? {
-            return Ok(number);
+/// Nothing where these steps are made although this request is refused; else whether they are made.
+fn steps_refused(
+    heap: &Rationed<Global>,
+    alloc: Global,
+    profile: Profile,
+    number: u64,
+) -> Option<bool> {
+    heap.refuse(0);
+    let mut twin = HANDOFF_PAIR.machine(alloc, profile).ok()?;
+    let mut machine = HANDOFF_PAIR.machine(heap, profile).ok()?;
+    heap.refuse(number);
+    for (n, outcome) in steps() {
+        if step_both(heap, &mut machine, &mut twin, n) != Some(outcome) {
+            return Some(false);
         }
     }
-    panic!(rt; "a request is refused in each run")
+    unless_refused(true, heap.has_refused())
 }
 
 #[test]
 fn step_refused(rt: HostRuntime) -> Result<(), Fail> {
+    let alloc = rt.alloc();
+    let heap = Rationed::new(alloc);
     for profile in [Profile::Ten, Profile::Twenty] {
-        assert!(rt; first_not_made(&rt, profile)? > 2, "both lists grow");
+        let last = heap.refuse_each(|number| steps_refused(&heap, alloc, profile, number))?;
+        assert!(rt; last > 2, "both lists grow");
     }
     Ok(())
 }
 
-/// A run that is cut is as after the steps that it did, and goes on from there. This says whether
-/// the request of this number was made.
+/// Whether both machines are the same after these turns, which the first has taken, and after those
+/// that are left, which both take.
+fn go_on_alike(
+    machine: &mut RationedMachine,
+    twin: &mut Machine<Global>,
+    made: &[PpNo],
+    left: &[PpNo],
+) -> bool {
+    twin.run_turns(made).is_ok()
+        && are_same(machine, twin)
+        && machine.run_turns(left).is_ok()
+        && twin.run_turns(left).is_ok()
+        && are_same(machine, twin)
+}
+
+/// Nothing where this request is refused and cuts the run, which is as after the steps that it did,
+/// and goes on from there; else whether the whole run is made.
 fn run_refused(
-    rt: &(impl Abort + AllocGlobal),
     heap: &Rationed<Global>,
+    alloc: Global,
     profile: Profile,
     number: u64,
     programs: Pair,
     turns: &[PpNo],
-) -> Result<bool, Fail> {
-    let mut machine = programs.machine(heap, profile)?;
-    let mut twin = programs.machine(rt.alloc(), profile)?;
-    heap.refuse(number);
-    let answer = machine.run_turns(turns);
-    let refused = heap.has_refused();
+) -> Option<bool> {
     heap.refuse(0);
-    assert_eq!(rt; answer.is_err(), refused);
-    let done = match answer {
-        Ok(()) => turns.len(),
-        Err(cut) => cut.done as usize,
+    let mut machine = programs.machine(heap, profile).ok()?;
+    let mut twin = programs.machine(alloc, profile).ok()?;
+    heap.refuse(number);
+    let cut = machine.run_turns(turns).err();
+    let refused = heap.has_refused();
+    let done = cut.map_or(turns.len(), |cut| cut.done as usize);
+    let Some((made, left)) = turns.split_at_checked(done) else {
+        return Some(false);
     };
-    let (made, left) = turns.split_at_checked(done).ok_or("too many")?;
-    assert_eq!(rt; left.is_empty(), !refused);
-    twin.run_turns(made)?;
-    expect_same(rt, &machine, &twin);
-    machine.run_turns(left)?;
-    twin.run_turns(left)?;
-    expect_same(rt, &machine, &twin);
-    Ok(refused)
+    let is_cut = cut.is_some() == refused && left.is_empty() != refused;
+    unless_refused(
+        is_cut && go_on_alike(&mut machine, &mut twin, made, left),
+        refused,
+    )
 }
 
 /// The number of the first request that is not made.
 fn runs_refused(
-    rt: &(impl Abort + AllocGlobal),
+    alloc: Global,
     profile: Profile,
     programs: Pair,
     turns: &[PpNo],
-) -> Result<u64, Fail> {
-    let heap = Rationed::new(rt.alloc());
-    for number in 1..100u64 {
-        if !run_refused(rt, &heap, profile, number, programs, turns)? {
-            return Ok(number);
-        }
-    }
-    panic!(rt; "a request is refused in each run")
+) -> Result<u64, Unexpected> {
+    let heap = Rationed::new(alloc);
+    heap.refuse_each(|number| run_refused(&heap, alloc, profile, number, programs, turns))
 }
 
 #[test]
 fn turns_refused(rt: HostRuntime) -> Result<(), Fail> {
-    let zero = first();
-    let one = zero.next();
+    let (zero, one) = (first(), first().next());
+    let handoff = [one, zero, zero, zero, one];
     for profile in [Profile::Ten, Profile::Twenty] {
-        let handoff = [one, zero, zero, zero, one];
-        assert!(rt; runs_refused(&rt, profile, HANDOFF_PAIR, &handoff)? > 2);
-        assert!(rt;
-            runs_refused(&rt, profile, FLAPPING, &[one; 60])? > 6,
-            "the lists grow again and again"
-        );
+        assert!(rt; runs_refused(rt.alloc(), profile, HANDOFF_PAIR, &handoff)? > 2);
+        let last = runs_refused(rt.alloc(), profile, FLAPPING, &[one; 60])?;
+        assert!(rt; last > 6, "the lists grow again and again");
     }
     Ok(())
 }
 
 /// This many turns of the barrel, each by a call of `step`.
-fn step_in_turn<A: Allocator>(machine: &mut Machine<A>, turns: u64) -> Result<(), Memory> {
+fn step_in_turn(machine: &mut Machine<Global>, turns: u64) -> Result<(), Memory> {
     let profile = machine.profile();
     for turn in 0..turns {
         let place = match profile {
@@ -258,47 +274,49 @@ fn others(profile: Profile, wait: bool) -> [bool; PROCESSORS]
     waiting(profile, if wait { 1..PROCESSORS } else { 0..0 })
 }
 
-/// As for lists of turns: whether the request of this number was made.
+/// Two programs, whether all processors but 0 wait, and how many turns of the barrel are run.
+type Run = (Pair, bool, u32);
+
+/// The machine of such a run before its first turn.
+fn started<A: Allocator + Copy>(
+    (programs, wait, _): Run,
+    alloc: A,
+    profile: Profile,
+) -> Option<Machine<A>> {
+    let Ok(mut machine) = before_first_turn(programs, alloc, profile) else {
+        return None;
+    };
+    match machine.dead_start(&others(profile, wait)) {
+        Ok(()) => Some(machine),
+        Err(_) => None,
+    }
+}
+
+/// As for lists of turns.
 fn round_refused(
-    rt: &(impl Abort + AllocGlobal),
     heap: &Rationed<Global>,
+    alloc: Global,
     profile: Profile,
     number: u64,
-    programs: Pair,
-    wait: bool,
-    turns: u32,
-) -> Result<bool, Fail> {
-    let mut machine = before_first_turn(programs, heap, profile)?;
-    let mut twin = before_first_turn(programs, rt.alloc(), profile)?;
-    machine.dead_start(&others(profile, wait))?;
-    twin.dead_start(&others(profile, wait))?;
-    heap.refuse(number);
-    let answer = machine.run_barrel(turns);
-    let refused = heap.has_refused();
+    run: Run,
+) -> Option<bool> {
     heap.refuse(0);
-    assert_eq!(rt; answer.is_err(), refused);
-    let done = answer.err().map_or(u64::from(turns), |cut| cut.done);
-    assert_eq!(rt; done < u64::from(turns), refused);
-    step_in_turn(&mut twin, done)?;
-    expect_same(rt, &machine, &twin);
-    Ok(refused)
+    let mut twin = started(run, alloc, profile)?;
+    let mut machine = started(run, heap, profile)?;
+    let turns = run.2;
+    heap.refuse(number);
+    let cut = machine.run_barrel(turns).err();
+    let refused = heap.has_refused();
+    let done = cut.map_or(u64::from(turns), |cut| cut.done);
+    let is_cut = cut.is_some() == refused && (done < u64::from(turns)) == refused;
+    let is_done = step_in_turn(&mut twin, done).is_ok() && are_same(&machine, &twin);
+    unless_refused(is_cut && is_done, refused)
 }
 
 /// The number of the first request that is not made.
-fn rounds_refused(
-    rt: &(impl Abort + AllocGlobal),
-    profile: Profile,
-    programs: Pair,
-    wait: bool,
-    turns: u32,
-) -> Result<u64, Fail> {
-    let heap = Rationed::new(rt.alloc());
-    for number in 1..100u64 {
-        if !round_refused(rt, &heap, profile, number, programs, wait, turns)? {
-            return Ok(number);
-        }
-    }
-    panic!(rt; "a request is refused in each run")
+fn rounds_refused(alloc: Global, profile: Profile, run: Run) -> Result<u64, Unexpected> {
+    let heap = Rationed::new(alloc);
+    heap.refuse_each(|number| round_refused(&heap, alloc, profile, number, run))
 }
 
 #[test]
@@ -307,59 +325,50 @@ fn barrel_refused(rt: HostRuntime) -> Result<(), Fail> {
         (Profile::Ten, 40, 1405, 90),
         (Profile::Twenty, 80, 2805, 180),
     ] {
-        assert!(rt; rounds_refused(&rt, profile, HANDOFF_PAIR, false, handoff)? > 2);
-        assert!(rt;
-            rounds_refused(&rt, profile, FLAPPING, false, flapping)? > 8,
-            "the lists grow again and again"
-        );
-        assert!(rt; rounds_refused(&rt, profile, LOADER, true, loading)? > 2);
+        let last = rounds_refused(rt.alloc(), profile, (HANDOFF_PAIR, false, handoff))?;
+        assert!(rt; last > 2);
+        let last = rounds_refused(rt.alloc(), profile, (FLAPPING, false, flapping))?;
+        assert!(rt; last > 8, "the lists grow again and again");
+        let last = rounds_refused(rt.alloc(), profile, (LOADER, true, loading))?;
+        assert!(rt; last > 2);
     }
     Ok(())
 }
 
-/// All processors but one wait, with this request refused: whether it was made. After a refusal the
-/// machine is as one that was never started.
+/// Nothing where this request is refused as all processors but one are to wait, and the machine is
+/// as one that was never started; else whether they wait.
 fn waiting_refused(
-    rt: &(impl Abort + AllocGlobal),
     heap: &Rationed<Global>,
+    alloc: Global,
     profile: Profile,
     number: u64,
-) -> Result<bool, Fail> {
-    let waiting = others(profile, true);
-    let mut twin = before_first_turn(HANDOFF_PAIR, rt.alloc(), profile)?;
-    let mut machine = before_first_turn(HANDOFF_PAIR, heap, profile)?;
-    heap.refuse(number);
-    let answer = machine.dead_start(&waiting);
-    let refused = heap.has_refused();
+) -> Option<bool> {
     heap.refuse(0);
-    assert_eq!(rt; answer.is_err(), refused);
-    if !refused {
-        twin.dead_start(&waiting)?;
-    }
-    expect_same(rt, &machine, &twin);
-    Ok(refused)
+    let waiting = others(profile, true);
+    let Ok(mut twin) = before_first_turn(HANDOFF_PAIR, alloc, profile) else {
+        return Some(false);
+    };
+    let Ok(mut machine) = before_first_turn(HANDOFF_PAIR, heap, profile) else {
+        return Some(false);
+    };
+    heap.refuse(number);
+    let is_refused = machine.dead_start(&waiting).is_err();
+    let is_right = is_refused == heap.has_refused()
+        && (is_refused || twin.dead_start(&waiting).is_ok());
+    unless_refused(is_right && are_same(&machine, &twin), is_refused)
 }
 
 /// The number of the first request that no dead start makes.
-fn dead_starts_refused(rt: &(impl Abort + AllocGlobal), profile: Profile) -> Result<u64, Fail> {
-    let heap = Rationed::new(rt.alloc());
-    for number in 1..100u64 {
-        if !waiting_refused(rt, &heap, profile, number)? {
-            return Ok(number);
-        }
-    }
-    panic!(rt; "a request is refused in each run")
+fn dead_starts_refused(alloc: Global, profile: Profile) -> Result<u64, Unexpected> {
+    let heap = Rationed::new(alloc);
+    heap.refuse_each(|number| waiting_refused(&heap, alloc, profile, number))
 }
 
 #[test]
 fn dead_start_refused(rt: HostRuntime) -> Result<(), Fail> {
-    assert!(rt;
-        dead_starts_refused(&rt, Profile::Ten)? > 9,
-        "nine channels grow"
-    );
-    assert!(rt;
-        dead_starts_refused(&rt, Profile::Twenty)? > 19,
-        "nineteen channels grow"
-    );
+    let last = dead_starts_refused(rt.alloc(), Profile::Ten)?;
+    assert!(rt; last > 9, "nine channels grow");
+    let last = dead_starts_refused(rt.alloc(), Profile::Twenty)?;
+    assert!(rt; last > 19, "nineteen channels grow");
     Ok(())
 }

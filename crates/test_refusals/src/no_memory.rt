@@ -1,26 +1,25 @@
 //! Calls of central memory and of a machine that make no event answer as ever where the first
 //! request would be refused. Words and processors hold no allocator and take none.
 
-use pp_machine::{Central, CentralFault, Machine, Outcome, PpNo, PpState, Profile};
+use pp_channel::ChannelNo;
+use pp_machine::{Central, CentralFault, Machine, Outcome, PpState, Profile};
 use pp_word::{Word18, Word60};
 use rationed::Rationed;
-use std::alloc::Allocator;
-use std::process::Abort;
+use std::alloc::Global;
 use std::test::Fail;
 use test_bench::{channel, first, put_program, put_words};
 
 #[test]
 fn central_asks_for_nothing(rt: HostRuntime) -> Result<(), Fail> {
+    let (last, behind) = (Word18::truncated(0o40), Word18::truncated(0o41));
+    let word = Word60::truncated(0o1234);
     let heap = Rationed::new(rt.alloc());
     let mut central = Central::new(&heap, 0o41)?;
     heap.refuse(1);
-    let word = Word60::truncated(0o1234);
-    assert_eq!(rt; central.size(), 0o41);
-    assert!(rt; central.write(Word18::truncated(0o40), word));
-    assert!(rt; !central.write(Word18::truncated(0o41), word));
-    assert_eq!(rt; central.read(Word18::truncated(0o40)), Some(word));
-    assert_eq!(rt; central.read(Word18::truncated(0o41)), None);
-    assert_eq!(rt; heap.asked(), 0);
+    assert!(rt; central.size() == 0o41);
+    assert!(rt; central.write(last, word) && !central.write(behind, word));
+    assert!(rt; central.read(last) == Some(word) && central.read(behind).is_none());
+    assert!(rt; heap.asked() == 0);
     Ok(())
 }
 
@@ -44,9 +43,15 @@ const ENDS: [(u16, u32, PpState); 6] = [
     (0o102, 3, PpState::Stopped),
 ];
 
+/// A machine over an allocator that refuses a request.
+type RationedMachine<'a> = Machine<&'a Rationed<Global>>;
+
 /// A machine with these programs, and two central words at its end.
-fn loaded<A: Allocator + Copy>(alloc: A, profile: Profile) -> Result<Machine<A>, CentralFault> {
-    let mut machine = Machine::new(alloc, profile, 7)?;
+fn loaded<'a>(
+    heap: &'a Rationed<Global>,
+    profile: Profile,
+) -> Result<RationedMachine<'a>, CentralFault> {
+    let mut machine = Machine::new(heap, profile, 7)?;
     let mut n = first();
     for (start, words) in PROGRAMS {
         let pp = machine.pp_mut(n);
@@ -58,52 +63,61 @@ fn loaded<A: Allocator + Copy>(alloc: A, profile: Profile) -> Result<Machine<A>,
     Ok(machine)
 }
 
-/// P, A and the state of a processor.
-fn shown<A: Allocator>(machine: &Machine<A>, n: PpNo) -> (u16, u32, PpState) {
-    let pp = machine.pp(n);
-    (pp.p().get(), pp.a().get(), pp.state())
+/// Whether this many turns of the barrel are made, and four more steps.
+fn makes_turns(machine: &mut RationedMachine, turns: u32) -> bool {
+    let (zero, one) = (first(), first().next());
+    machine.run_barrel(turns).is_ok()
+        && machine.run_turns(&[one, zero]).is_ok()
+        && machine.step(one) == Ok(Outcome::Held)
+        && machine.step(zero) == Ok(Outcome::AtRest)
+        && machine.turns() == u64::from(turns) + 4
 }
 
-/// Such a machine makes this many turns of the barrel, and four more steps.
-fn expect_no_request<R: Abort + AllocGlobal>(
-    rt: &R,
-    profile: Profile,
-    turns: u32,
-) -> Result<(), Fail> {
-    let (zero, one) = (first(), first().next());
-    let five = channel(5)?;
-    let heap = Rationed::new(rt.alloc());
-    let mut machine = loaded(&heap, profile)?;
-    heap.refuse(1);
-    let words = Word60::truncated(0o0001_0002_0003_0004_0005);
-    let others = Word60::truncated(0o0006_0007_0010_0011_0012);
-    assert!(rt; machine.write_central(Word18::truncated(5), words));
-    assert!(rt; machine.write_central(Word18::truncated(6), others));
-    assert!(rt; !machine.write_central(Word18::truncated(7), others));
-    put_words(machine.pp_mut(one), 0o7000, &[1]);
-    machine.run_barrel(turns)?;
-    machine.run_turns(&[one, zero])?;
-    assert_eq!(rt; machine.step(one)?, Outcome::Held);
-    assert_eq!(rt; machine.step(zero)?, Outcome::AtRest);
-    assert_eq!(rt; machine.turns(), u64::from(turns) + 4);
-    let mut n = zero;
+/// Whether each program has ended as it should, without an event.
+fn have_ended(machine: &RationedMachine, five: ChannelNo) -> bool {
+    let mut n = first();
     for end in ENDS {
-        assert_eq!(rt; shown(&machine, n), end);
+        let pp = machine.pp(n);
+        if (pp.p().get(), pp.a().get(), pp.state()) != end {
+            return false;
+        }
         n = n.next();
     }
-    let copied = machine.central().read(Word18::truncated(3));
-    assert_eq!(rt; copied, Some(words));
-    assert_eq!(rt; machine.events().len(), 0);
-    assert_eq!(rt;
-        (machine.channel(five).history().len(), machine.opened(five)),
-        (0, false)
-    );
-    assert_eq!(rt; heap.asked(), 0);
-    Ok(())
+    machine.events().is_empty()
+        && machine.channel(five).history().is_empty()
+        && !machine.opened(five)
+}
+
+/// Whether such a machine makes so many turns without a request. The words at the end of its
+/// central memory are written, and one of them is copied.
+fn asks_for_nothing(
+    heap: &Rationed<Global>,
+    profile: Profile,
+    turns: u32,
+    five: ChannelNo,
+) -> bool {
+    let words = Word60::truncated(0o0001_0002_0003_0004_0005);
+    let others = Word60::truncated(0o0006_0007_0010_0011_0012);
+    heap.refuse(0);
+    let Ok(mut machine) = loaded(heap, profile) else {
+        return false;
+    };
+    heap.refuse(1);
+    put_words(machine.pp_mut(first().next()), 0o7000, &[1]);
+    machine.write_central(Word18::truncated(5), words)
+        && machine.write_central(Word18::truncated(6), others)
+        && !machine.write_central(Word18::truncated(7), others)
+        && makes_turns(&mut machine, turns)
+        && have_ended(&machine, five)
+        && machine.central().read(Word18::truncated(3)) == Some(words)
+        && heap.asked() == 0
 }
 
 #[test]
 fn machine_asks_for_nothing(rt: HostRuntime) -> Result<(), Fail> {
-    expect_no_request(&rt, Profile::Ten, 60)?;
-    expect_no_request(&rt, Profile::Twenty, 120)
+    let five = channel(5)?;
+    let heap = Rationed::new(rt.alloc());
+    assert!(rt; asks_for_nothing(&heap, Profile::Ten, 60, five));
+    assert!(rt; asks_for_nothing(&heap, Profile::Twenty, 120, five));
+    Ok(())
 }

@@ -2,9 +2,10 @@
 
 ghost use Rattle.pp_runner.specs.Report.{ReportFitsInMemory};
 
+use crate::machine::is_same;
 use pp_channel::{CHANNELS, Channel, ChannelNo};
 use pp_deck::read_deck;
-use pp_machine::{Central, Machine, Pp, Profile};
+use pp_machine::{Central, Machine, Profile};
 use pp_runner::{End, Gate, Limits, LockedCentral, NoGate, Report, run_threads};
 use pp_word::{Word18, Word60};
 use rationed::Rationed;
@@ -13,52 +14,35 @@ use std::process::Abort;
 use std::sync::Wait;
 use std::test::Fail;
 use std::thread::Threads;
-use test_bench::{BLOCK, channel, first, word};
+use test_bench::{BLOCK, channel, first};
 
 /// A processor that waits for one that was refused memory gives up.
 fn limits() -> Result<Limits, Fail> {
     Ok(Limits::new(100, 1000).ok_or("no limits")?)
 }
 
-/// Whether two processors show the same.
-fn is_same(one: &Pp, other: &Pp) -> bool {
-    for place in 0..4096u16 {
-        let place = word(place);
-        if one.get(place) != other.get(place) {
-            return false;
-        }
-    }
-    one.p() == other.p()
-        && one.a() == other.a()
-        && one.state() == other.state()
-        && one.block() == other.block()
-}
-
-/// How many workers of a report ended for lack of memory. The processor of each is that of its load
-/// after its answers.
-fn out_of_memory<A: Allocator, B: Allocator>(
-    rt: &impl Abort,
-    machine: &Machine<A>,
-    report: &Report<B>,
-) -> usize {
+/// How many workers of a report ended for lack of memory; nothing where the processor of one is not
+/// that of its load after its answers.
+fn out_of_memory<A: Allocator>(machine: &Machine<A>, report: &Report<A>) -> Option<usize> {
     let mut count = 0usize;
     let mut n = first();
     for worker in report.ends.as_slice() {
         let mut pp = machine.pp(n).copy();
         let given = pp.replay(worker.answers.as_slice());
-        assert_eq!(rt; given, worker.answers.len());
-        assert!(rt; is_same(&pp, &worker.pp));
+        if given != worker.answers.len() || !is_same(&pp, &worker.pp) {
+            return None;
+        }
         if worker.finish == End::Memory {
             count = count.saturating_add(1);
         }
         n = n.next();
     }
-    count
+    Some(count)
 }
 
 /// Loads a deck and runs it: how many workers ended for lack of memory, and how many events a
 /// channel had; or nothing where it was refused memory.
-fn run_deck<R: Threads + Wait + Sync + Abort, G: Gate + Sync, A: Allocator + Copy + Send + Sync>(
+fn run_deck<R: Threads + Wait + Sync, G: Gate + Sync, A: Allocator + Copy + Send + Sync>(
     rt: &R,
     gate: &G,
     alloc: A,
@@ -66,7 +50,7 @@ fn run_deck<R: Threads + Wait + Sync + Abort, G: Gate + Sync, A: Allocator + Cop
     limits: Limits,
     text: &str,
     channel: ChannelNo,
-) -> Option<(usize, usize)>
+) -> Option<(Option<usize>, usize)>
     requires { ReportFitsInMemory A.row A.Allocator }
 {
     let Ok(deck) = read_deck(alloc, profile, text.as_bytes()) else {
@@ -78,7 +62,7 @@ fn run_deck<R: Threads + Wait + Sync + Abort, G: Gate + Sync, A: Allocator + Cop
     let Ok(report) = run_threads(rt, alloc, &deck.machine, limits, gate) else {
         return None;
     };
-    let count = out_of_memory(rt, &deck.machine, &report);
+    let count = out_of_memory(&deck.machine, &report);
     Some((count, events_on(&report.channels, channel)))
 }
 
@@ -125,6 +109,22 @@ fn runs_of_twenty_refused(rt: HostRuntime) -> Result<(), Fail> {
     expect_refused(&rt, Profile::Twenty, DEAD_START, channel(1)?)
 }
 
+/// Nothing where a run is refused memory, or some of its workers are; else whether it has events.
+fn run_with_little<R: Threads + Wait + Sync>(
+    rt: &R,
+    heap: &Rationed<Global>,
+    profile: Profile,
+    limits: Limits,
+    text: &str,
+    channel: ChannelNo,
+) -> Option<bool> {
+    match run_deck(rt, &NoGate, heap, profile, limits, text, channel)? {
+        (Some(0), events) => Some(events > 0),
+        (Some(_), _) => None,
+        (None, _) => Some(false),
+    }
+}
+
 /// The deck is run with each request refused in turn, up to a run without a refusal.
 fn expect_refused<R: AllocGlobal + Threads + Wait + Sync + Abort>(
     rt: &R,
@@ -134,20 +134,9 @@ fn expect_refused<R: AllocGlobal + Threads + Wait + Sync + Abort>(
 ) -> Result<(), Fail> {
     let limits = limits()?;
     let heap = Rationed::new(rt.alloc());
-    for number in 1..1000u64 {
-        heap.refuse(number);
-        let done = run_deck(rt, &NoGate, &heap, profile, limits, text, channel);
-        let refused = heap.has_refused();
-        heap.refuse(0);
-        let (without, events) = done.unwrap_or((usize::from(refused), 0));
-        assert_eq!(rt; without > 0, refused, "request {number}");
-        if !refused {
-            assert!(rt; events > 0, "the first step is never held");
-            assert!(rt; number > 15, "lines, logs and answers grow");
-            return Ok(());
-        }
-    }
-    panic!(rt; "a request is refused in each run")
+    let last = heap.refuse_each(|_| run_with_little(rt, &heap, profile, limits, text, channel))?;
+    assert!(rt; last > 15, "lines, logs and answers grow");
+    Ok(())
 }
 
 /// The size of central memory behind locks, where this request is not refused.
@@ -171,23 +160,31 @@ fn locked_central_refused(rt: HostRuntime) -> Result<(), Fail> {
     Ok(())
 }
 
-/// The calls between two threads' steps take no memory: the size and the words at the last address
-/// and behind it.
+/// Whether central memory behind locks has this size, keeps a word at its last address, and has
+/// none behind it.
+fn keeps_last(rt: &impl Wait, locked: &LockedCentral<&Rationed<Global>>, size: u32) -> bool {
+    let (last, behind) = (
+        Word18::truncated(size.wrapping_sub(1)),
+        Word18::truncated(size),
+    );
+    let word = Word60::truncated(5);
+    locked.size() == size
+        && locked.write(rt, last, word)
+        && !locked.write(rt, behind, word)
+        && locked.read(rt, last) == Some(word)
+        && locked.read(rt, behind).is_none()
+}
+
+/// The calls between two threads' steps take no memory.
 #[test]
 fn locked_central_asks_for_nothing(rt: HostRuntime) -> Result<(), Fail> {
     let heap = Rationed::new(rt.alloc());
     let central = Central::new(&heap, 0o41)?;
     let locked = LockedCentral::new(&heap, &central)?;
     heap.refuse(1);
-    let (last, behind) = (Word18::truncated(0o40), Word18::truncated(0o41));
-    let word = Word60::truncated(5);
-    assert!(rt; locked.write(&rt, last, word));
-    assert!(rt; !locked.write(&rt, behind, word));
-    assert_eq!(rt; locked.read(&rt, last), Some(word));
-    assert_eq!(rt; locked.read(&rt, behind), None);
+    assert!(rt; keeps_last(&rt, &locked, 0o41));
     let limits = Limits::new(5, 6).map(|limits| (limits.steps(), limits.patience()));
-    assert_eq!(rt; (locked.size(), limits), (0o41, Some((5, 6))));
     NoGate.pass(first(), 0);
-    assert_eq!(rt; heap.asked(), 0);
+    assert!(rt; limits == Some((5, 6)) && heap.asked() == 0);
     Ok(())
 }
