@@ -239,6 +239,48 @@ fn turns_refused(rt: HostRuntime) -> Result<(), Fail> {
     Ok(())
 }
 
+/// Room for the events of a run, with this request refused: then the machine is as it was. Once there
+/// is room, the run asks for nothing. This says whether the request was made.
+fn room_refused(
+    rt: &(impl Abort + AllocGlobal),
+    heap: &Rationed<Global>,
+    number: u64,
+) -> Result<bool, Fail> {
+    let mut twin = FLAPPING.machine(rt.alloc(), Profile::Ten)?;
+    twin.run_barrel(600)?;
+    let counts = twin.event_counts();
+    for place in 0..CHANNELS {
+        let history = twin.channel(ChannelNo::at(place)).history();
+        assert_eq!(rt; counts[place], history.len());
+    }
+    assert!(rt; twin.events().len() > 30);
+    let fresh = FLAPPING.machine(rt.alloc(), Profile::Ten)?;
+    let mut machine = FLAPPING.machine(heap, Profile::Ten)?;
+    heap.refuse(number);
+    let answer = machine.reserve(&counts);
+    let refused = heap.has_refused();
+    assert_eq!(rt; answer.is_err(), refused);
+    expect_same(rt, &machine, &fresh);
+    if refused {
+        machine.reserve(&counts)?;
+    }
+    heap.refuse(1);
+    machine.run_barrel(600)?;
+    assert_eq!(rt; heap.asked(), 0);
+    expect_same(rt, &machine, &twin);
+    heap.refuse(0);
+    Ok(refused)
+}
+
+#[test]
+fn no_request_with_room(rt: HostRuntime) -> Result<(), Fail> {
+    let heap = Rationed::new(rt.alloc());
+    for number in 1..10u64 {
+        assert_eq!(rt; room_refused(&rt, &heap, number)?, number < 3, "{number}");
+    }
+    Ok(())
+}
+
 /// This many turns of the barrel, each by a call of `step`.
 fn step_in_turn(machine: &mut Machine<Global>, turns: u64) -> Result<(), Memory> {
     let profile = machine.profile();

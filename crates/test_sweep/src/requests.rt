@@ -1,7 +1,7 @@
 //! Requests for memory: those that are refused in a long text, and those that do not grow with a
 //! run.
 
-use crate::sweep::requests_refused;
+use crate::sweep::{requests_refused, whole};
 use pp_sim::run_program;
 use rationed::Rationed;
 use std::alloc::Global;
@@ -14,6 +14,19 @@ use test_bench::{SESSIONS, text_of_sessions};
 const LOOP: &str = "\
 PP 0
 0100 3650 0376
+START 0100
+";
+
+/// Two processors that pass words over a channel, and one that looks at it again and again.
+const LOOKED_AT: &str = "\
+PP 0
+0100 7405 2030 0000 7305 0000 0300
+START 0100
+PP 1
+0100 7005 2027 7777 7105 0001 0300
+START 0100
+PP 2
+0100 6605 0100 0100 0100
 START 0100
 ";
 
@@ -49,6 +62,19 @@ fn long_texts_refused(rt: HostRuntime) -> Result<(), Fail> {
     let text = text_of_sessions(rt.alloc(), 1000)?;
     let ending = (0, text.as_bytes(), b"".as_slice());
     let last = requests_refused(&rt, (&words, SESSIONS), ending)?;
+    assert!(rt; last > 10, "{last}");
+    Ok(())
+}
+
+/// Races whose lines go out while the run is still made: it asks for nothing any more then.
+#[test]
+fn long_races_refused(rt: HostRuntime) -> Result<(), Fail> {
+    let words = ["ppsim", "races", "--turns", "3000"];
+    let (status, output, error) = whole(&rt, &words, LOOKED_AT);
+    let lines = output.len();
+    assert!(rt; lines > 20_000, "{lines}");
+    let ending = (status, output.as_slice(), error.as_slice());
+    let last = requests_refused(&rt, (&words, LOOKED_AT), ending)?;
     assert!(rt; last > 10, "{last}");
     Ok(())
 }

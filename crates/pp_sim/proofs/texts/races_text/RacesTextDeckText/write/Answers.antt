@@ -1,20 +1,15 @@
-use Rattle.std.proofs.Common.{ap, ◌∙◌}
-use Rattle.pp_races.specs.RacesText.{findings_text}
+use Rattle.std.proofs.Common.{refl}
 use Rattle.pp_sim.proofs.texts.races_text.RacesTextDeckText.write.Goals as goal
 
-pub returns-in-Ok-write_races-clause-answer : goal.returns-in-Ok-write_races-clause-answer
-returns-in-Ok-write_races-clause-answer g c = (
+pub returns-in-Ok-clause-answer : goal.returns-in-Ok-clause-answer
+returns-in-Ok-clause-answer g c = (
   _,
   record {
     deck = _;
     meant = c.in_ok-loaded.ensures.ok;
-    told = record {
-      told = ap findings_text (c.as_slice.ensures.value ∙ c.in-Ok.ensures.found);
-      machine = c.turns-whole.ensures.sound;
-      same = λ none. c.in-Ok.ensures.same (c.in-Ok.ensures.found ∙ none);
-    };
+    told = record { told = refl; machine = c.turns-whole.ensures.sound; same = c.in-Ok.ensures.same (λ memory. cc) };
   },
-  c.in-Ok-write_races.ensures,
+  c.in-Ok.ensures.written,
 )
 
 pub returns-clause-answer : goal.returns-clause-answer
@@ -23,11 +18,7 @@ returns-clause-answer g c = (
   record {
     deck = _;
     meant = c.in_ok-loaded.ensures.ok;
-    told = record {
-      told = ap findings_text (c.as_slice.ensures.value ∙ c.in-Ok.ensures.found);
-      machine = c.turns-whole.ensures.sound;
-      same = λ none. c.in-Ok.ensures.same (c.in-Ok.ensures.found ∙ none);
-    };
+    told = record { told = refl; machine = c.turns-whole.ensures.sound; same = (rw c.in-Err-Write.field-0-is at c.in-Err-Write.ensures.same) (λ memory. cc) };
   },
-  c.in-Err.ensures,
+  rw c.in-Err-Write.field-0-is at c.in-Err-Write.ensures.written,
 )
