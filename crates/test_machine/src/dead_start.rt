@@ -1,5 +1,6 @@
 //! Dead start: programs that other processors wait for, by calls and by decks that say `DEAD`.
 
+use crate::machine::entry;
 use crate::processor::{Shown, shown};
 use pp_channel::{ChannelNo, Event, Flags};
 use pp_deck::read_deck;
@@ -31,9 +32,10 @@ fn channel_shown(
     )
 }
 
-/// The number of the first channel that is not as it should be: those of the numbers 1 to 11
-/// (octal) are opened, on the greater machine 20 to 31 too, and no other.
-fn wrong_channel(machine: &Machine<Global>, is_greater: bool) -> Option<u8> {
+/// Whether dead start opens the channels of the numbers 1 to 11 (octal), on the greater machine 20
+/// to 31 too, and no other, without a turn or an entry.
+fn opens_channels(alloc: Global, profile: Profile, is_greater: bool) -> Result<bool, Fail> {
+    let machine = dead(alloc, profile, &[0o0300])?;
     for number in (0..0o14u8).chain(0o20..0o34) {
         let near = number >= 1 && number <= 0o11;
         let far = number >= 0o20 && number <= 0o31;
@@ -42,24 +44,18 @@ fn wrong_channel(machine: &Machine<Global>, is_greater: bool) -> Option<u8> {
         } else {
             (false, None, 0, INACTIVE)
         };
-        let shown = ChannelNo::new(number).map(|channel| channel_shown(machine, channel));
+        let shown = ChannelNo::new(number).map(|channel| channel_shown(&machine, channel));
         if shown != Some(expected) {
-            return Some(number);
+            return Ok(false);
         }
     }
-    None
+    Ok(machine.turns() == 0 && machine.events().is_empty())
 }
 
 #[test]
 fn opened_channels(rt: HostRuntime) -> Result<(), Fail> {
-    for (profile, is_greater) in [(Profile::Ten, false), (Profile::Twenty, true)] {
-        let machine = dead(rt.alloc(), profile, &[0o0300])?;
-        let shown = (machine.turns(), machine.events().len());
-        assert_eq!(rt;
-            (wrong_channel(&machine, is_greater), shown),
-            (None, (0, 0))
-        );
-    }
+    assert!(rt; opens_channels(rt.alloc(), Profile::Ten, false)?);
+    assert!(rt; opens_channels(rt.alloc(), Profile::Twenty, true)?);
     Ok(())
 }
 
@@ -99,23 +95,17 @@ fn none_waits_behind_the_barrel(rt: HostRuntime) -> Result<(), Fail> {
     Ok(())
 }
 
-/// The entries of channel 1 that the deck `LOADER` makes, at these turns.
-fn entries(channel: ChannelNo, turns: [u64; 7]) -> [Trace; 7] {
-    let (zero, one) = (first(), first().next());
-    let entry = |turn, pp, event| Trace {
-        turn,
-        pp,
-        channel,
-        event,
-    };
+/// The entries that the deck `LOADER` makes on channel 1, at these turns.
+fn entries(one: ChannelNo, turns: [u64; 7]) -> [Trace; 7] {
+    let (sender, receiver) = (first(), first().next());
     [
-        entry(turns[0], zero, Event::Put(word(0))),
-        entry(turns[1], one, Event::Take(word(0))),
-        entry(turns[2], zero, Event::Put(word(0o1405))),
-        entry(turns[3], one, Event::Take(word(0o1405))),
-        entry(turns[4], zero, Event::Put(word(0o300))),
-        entry(turns[5], one, Event::Take(word(0o300))),
-        entry(turns[6], zero, Event::Disconnect),
+        entry(turns[0], sender, one, Event::Put(word(0))),
+        entry(turns[1], receiver, one, Event::Take(word(0))),
+        entry(turns[2], sender, one, Event::Put(word(0o1405))),
+        entry(turns[3], receiver, one, Event::Take(word(0o1405))),
+        entry(turns[4], sender, one, Event::Put(word(0o300))),
+        entry(turns[5], receiver, one, Event::Take(word(0o300))),
+        entry(turns[6], sender, one, Event::Disconnect),
     ]
 }
 
@@ -147,27 +137,32 @@ fn after(alloc: Global, profile: Profile, deck: &str, turns: u32) -> Result<Mach
     Ok(machine)
 }
 
-/// Whether a machine made these events on a channel that dead start opened, and the sender and the
-/// receiver of `LOADER` ended as they should; nothing is put behind the program.
-fn is_loaded(machine: &Machine<Global>, channel: ChannelNo, entries: &[Trace]) -> bool {
+/// Whether `LOADER` makes these events on a channel that dead start opened, and the sender and the
+/// receiver end as they should; nothing is put behind the program.
+fn is_loaded(
+    alloc: Global,
+    profile: Profile,
+    turns: u32,
+    channel: ChannelNo,
+    entries: &[Trace],
+) -> Result<bool, Fail> {
+    let machine = after(alloc, profile, LOADER, turns)?;
     let receiver = machine.pp(first().next());
-    machine.events() == entries
+    let is_right = machine.events() == entries
         && is_history_of(machine.channel(channel).history(), entries)
         && shown(machine.pp(first())) == (0o106, 0, PpState::Stopped)
         && shown(receiver) == (0o002, 5, PpState::Stopped)
-        && receiver.get(word(3)) == Word12::ZERO
+        && receiver.get(word(3)) == Word12::ZERO;
+    Ok(is_right)
 }
 
 #[test]
 fn dead_start_by_calls(rt: HostRuntime) -> Result<(), Fail> {
     let one = channel(1)?;
-    for (profile, turns, turns_of_events) in [
-        (Profile::Ten, 90, [20, 21, 30, 31, 40, 41, 60]),
-        (Profile::Twenty, 180, [40, 41, 60, 61, 80, 81, 120]),
-    ] {
-        let machine = after(rt.alloc(), profile, LOADER, turns)?;
-        assert!(rt; is_loaded(&machine, one, &entries(one, turns_of_events)));
-    }
+    let ten = entries(one, [20, 21, 30, 31, 40, 41, 60]);
+    assert!(rt; is_loaded(rt.alloc(), Profile::Ten, 90, one, &ten)?);
+    let twenty = entries(one, [40, 41, 60, 61, 80, 81, 120]);
+    assert!(rt; is_loaded(rt.alloc(), Profile::Twenty, 180, one, &twenty)?);
     Ok(())
 }
 
@@ -184,24 +179,29 @@ fn is_copy(one: &Pp, other: &Pp) -> bool {
 /// PP 0 sends its whole memory to PP 2, which ends as a copy of it.
 const WHOLE_MEMORY: &str = "DEAD\nPP 0\n0100 2001 0000 7302 0000 0300\nSTART 0100\n";
 
-/// Whether PP 2 has become a copy of PP 0 over this channel, up to P, A and the word at place 0.
-fn is_whole_copy(machine: &Machine<Global>, two: ChannelNo) -> bool {
+/// Whether PP 2 becomes a copy of PP 0 over this channel, up to P, A and the word at place 0.
+fn is_whole_copy(
+    alloc: Global,
+    profile: Profile,
+    turns: u32,
+    two: ChannelNo,
+) -> Result<bool, Fail> {
+    let machine = after(alloc, profile, WHOLE_MEMORY, turns)?;
     let sender = machine.pp(first());
     let receiver = machine.pp(first().next().next());
-    shown(sender) == (0o104, 0, PpState::Stopped)
+    let is_right = shown(sender) == (0o104, 0, PpState::Stopped)
         && shown(receiver) == (0o104, 0, PpState::Stopped)
         && is_copy(sender, receiver)
         && receiver.get(Word12::ZERO) == word(0o103)
-        && channel_shown(machine, two) == (true, Some(Event::Activate), 8193, EMPTY)
+        && channel_shown(&machine, two) == (true, Some(Event::Activate), 8193, EMPTY);
+    Ok(is_right)
 }
 
 #[test]
 fn whole_memory(rt: HostRuntime) -> Result<(), Fail> {
     let two = channel(2)?;
-    for (profile, turns) in [(Profile::Ten, 41_000), (Profile::Twenty, 82_000)] {
-        let machine = after(rt.alloc(), profile, WHOLE_MEMORY, turns)?;
-        assert!(rt; is_whole_copy(&machine, two));
-    }
+    assert!(rt; is_whole_copy(rt.alloc(), Profile::Ten, 41_000, two)?);
+    assert!(rt; is_whole_copy(rt.alloc(), Profile::Twenty, 82_000, two)?);
     Ok(())
 }
 

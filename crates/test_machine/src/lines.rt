@@ -33,24 +33,17 @@ fn entry(channel: ChannelNo, number: u64, what: Seen) -> Entry {
     }
 }
 
-/// The length of a line's log, its room, how many events of a channel it has seen, and its shares.
-fn shown(line: &Line<Global>, channel: ChannelNo) -> (usize, u32, u64, u32) {
-    (
-        line.log().len(),
-        line.room(),
-        line.seen(channel),
-        line.shares(),
-    )
-}
-
-/// Whether a line has this log, and shows this.
+/// Whether a line has this log, this room, so many events seen, and so many shares.
 fn is_line(
     line: &Line<Global>,
     channel: ChannelNo,
     log: &[Entry],
-    expected: (usize, u32, u64, u32),
+    (room, seen, shares): (u32, u64, u32),
 ) -> bool {
-    line.log() == log && shown(line, channel) == expected
+    line.log() == log
+        && line.room() == room
+        && line.seen(channel) == seen
+        && line.shares() == shares
 }
 
 /// A line makes the first of these calls, and is split. Then its child makes calls, then the line,
@@ -108,21 +101,17 @@ fn opening() -> [Call; 4] {
     ]
 }
 
-/// The log of these calls.
-fn entries_of_opening(channel: ChannelNo) -> [Entry; 3] {
-    [
-        entry(channel, 0, Seen::Did(Event::Activate)),
-        entry(channel, 1, Seen::Did(Event::Put(word(1)))),
-        entry(channel, 2, Seen::Saw(FULL)),
-    ]
-}
-
 #[test]
 fn log_of_a_line(rt: HostRuntime) -> Result<(), Fail> {
     let five = channel(5)?;
+    let log = [
+        entry(five, 0, Seen::Did(Event::Activate)),
+        entry(five, 1, Seen::Did(Event::Put(word(1)))),
+        entry(five, 2, Seen::Saw(FULL)),
+    ];
     let mut line = open_lines(rt.alloc(), 8, 2)?;
     assert!(rt; answers(&mut line, five, &opening()));
-    assert!(rt; is_line(&line, five, &entries_of_opening(five), (3, 5, 2, 2)));
+    assert!(rt; is_line(&line, five, &log, (5, 2, 2)));
     Ok(())
 }
 
@@ -132,7 +121,7 @@ fn line_by_calls(rt: HostRuntime) -> Result<(), Fail> {
     let taken = [(ChanOp::Take, numbered(Reply::Word(word(1)), 2))];
     let events = [Event::Activate, Event::Put(word(1)), Event::Take(word(1))];
     let line = joined(rt.alloc(), five, &opening(), &taken, &[]).ok_or("other answers")?;
-    assert!(rt; shown(&line, five) == (4, 5, 3, 2));
+    assert!(rt; line.log().len() == 4 && line.room() == 5 && line.shares() == 2);
     assert!(rt; closes_with(line, 5, &events));
     Ok(())
 }
@@ -149,8 +138,10 @@ fn far_channel(rt: HostRuntime) -> Result<(), Fail> {
     Ok(())
 }
 
-/// The calls before a split, those of the child, and those of the line.
-fn calls_at_split() -> ([Call; 1], [Call; 2], [Call; 3]) {
+/// The line's own entries stand before those of its child.
+#[test]
+fn split_lines(rt: HostRuntime) -> Result<(), Fail> {
+    let five = channel(5)?;
     let before = [(ChanOp::Activate, numbered(Reply::Done, 0))];
     let by_child = [
         (ChanOp::Probe, numbered(Reply::Flags(EMPTY), 1)),
@@ -161,41 +152,35 @@ fn calls_at_split() -> ([Call; 1], [Call; 2], [Call; 3]) {
         (ChanOp::Disconnect, numbered(Reply::Done, 3)),
         (ChanOp::Disconnect, numbered(Reply::Held(INACTIVE), 4)),
     ];
-    (before, by_child, by_line)
-}
-
-/// The log after the join: the line's own entries stand before those of its child.
-fn entries_of_split(channel: ChannelNo) -> [Entry; 6] {
-    [
-        entry(channel, 0, Seen::Did(Event::Activate)),
-        entry(channel, 2, Seen::Did(Event::Activate)),
-        entry(channel, 3, Seen::Did(Event::Disconnect)),
-        entry(channel, 4, Seen::Saw(INACTIVE)),
-        entry(channel, 1, Seen::Saw(EMPTY)),
-        entry(channel, 1, Seen::Did(Event::Disconnect)),
-    ]
-}
-
-#[test]
-fn split_lines(rt: HostRuntime) -> Result<(), Fail> {
-    let five = channel(5)?;
-    let (before, by_child, by_line) = calls_at_split();
+    let log = [
+        entry(five, 0, Seen::Did(Event::Activate)),
+        entry(five, 2, Seen::Did(Event::Activate)),
+        entry(five, 3, Seen::Did(Event::Disconnect)),
+        entry(five, 4, Seen::Saw(INACTIVE)),
+        entry(five, 1, Seen::Saw(EMPTY)),
+        entry(five, 1, Seen::Did(Event::Disconnect)),
+    ];
     let line = joined(rt.alloc(), five, &before, &by_child, &by_line).ok_or("other answers")?;
-    assert!(rt; is_line(&line, five, &entries_of_split(five), (6, 4, 4, 2)));
+    assert!(rt; is_line(&line, five, &log, (4, 4, 2)));
     Ok(())
+}
+
+/// Whether a line answers two probes, and one more once the look of the second is kept.
+fn keeps_look(line: &mut Line<Global>, channel: ChannelNo) -> bool {
+    let probe = (ChanOp::Probe, numbered(Reply::Flags(INACTIVE), 0));
+    let is_answered = answers(line, channel, &[probe; 2]);
+    line.keep();
+    is_answered && line.kept() && answers(line, channel, &[probe])
 }
 
 /// A look that is kept stays in the log, where the next one would take its place.
 #[test]
 fn kept_look(rt: HostRuntime) -> Result<(), Fail> {
     let five = channel(5)?;
-    let probe = (ChanOp::Probe, numbered(Reply::Flags(INACTIVE), 0));
     let look = entry(five, 0, Seen::Saw(INACTIVE));
     let mut line = open_lines(rt.alloc(), 8, 1)?;
-    assert!(rt; answers(&mut line, five, &[probe; 2]));
-    line.keep();
-    assert!(rt; line.kept() && answers(&mut line, five, &[probe]));
-    assert!(rt; line.room() == 6 && line.log() == [look; 2].as_slice());
+    assert!(rt; keeps_look(&mut line, five));
+    assert!(rt; is_line(&line, five, &[look; 2], (6, 0, 1)));
     Ok(())
 }
 

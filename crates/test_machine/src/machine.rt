@@ -8,34 +8,23 @@ use std::alloc::Global;
 use std::test::Fail;
 use test_bench::{HANDOFF_PAIR, channel, first, put_words, word};
 
-/// The entries of `HANDOFF_PAIR` on channel 5, at these turns.
-fn entries(channel: ChannelNo, turns: [u64; 3]) -> [Trace; 3] {
-    let entry = |turn, pp, event| Trace {
+pub(crate) fn entry(turn: u64, pp: PpNo, channel: ChannelNo, event: Event) -> Trace {
+    Trace {
         turn,
         pp,
         channel,
         event,
-    };
+    }
+}
+
+/// The entries of `HANDOFF_PAIR`, at these turns.
+fn entries(channel: ChannelNo, turns: [u64; 3]) -> [Trace; 3] {
+    let (zero, one) = (first(), first().next());
     [
-        entry(turns[0], first(), Event::Activate),
-        entry(turns[1], first(), Event::Put(word(7))),
-        entry(turns[2], first().next(), Event::Take(word(7))),
+        entry(turns[0], zero, channel, Event::Activate),
+        entry(turns[1], zero, channel, Event::Put(word(7))),
+        entry(turns[2], one, channel, Event::Take(word(7))),
     ]
-}
-
-/// The machine of `HANDOFF_PAIR` after a list of turns.
-fn after_turns(alloc: Global, profile: Profile, turns: &[PpNo]) -> Result<Machine<Global>, Fail> {
-    let mut machine = HANDOFF_PAIR.machine(alloc, profile)?;
-    machine.run_turns(turns)?;
-    Ok(machine)
-}
-
-/// Whether a machine took five turns and made these events, all of them on this channel.
-fn is_handed_over(machine: &Machine<Global>, channel: ChannelNo, entries: &[Trace]) -> bool {
-    let history = [Event::Activate, Event::Put(word(7)), Event::Take(word(7))];
-    machine.turns() == 5
-        && machine.events() == entries
-        && machine.channel(channel).history() == history.as_slice()
 }
 
 /// Whether a processor stops in its next step, and is at rest then.
@@ -43,34 +32,39 @@ fn stops(machine: &mut Machine<Global>, n: PpNo) -> bool {
     machine.step(n) == Ok(Outcome::Moved)
         && machine.pp(n).state() == PpState::Stopped
         && machine.step(n) == Ok(Outcome::AtRest)
+}
+
+/// Whether `HANDOFF_PAIR` goes as it should in a list of turns and two steps after it.
+fn goes_by_turns(alloc: Global, profile: Profile, four: ChannelNo, five: ChannelNo) -> bool {
+    let (zero, one) = (first(), first().next());
+    let history = [Event::Activate, Event::Put(word(7)), Event::Take(word(7))];
+    let Ok(mut machine) = HANDOFF_PAIR.machine(alloc, profile) else {
+        return false;
+    };
+    machine.run_turns(&[one, zero, zero, zero, one]).is_ok()
+        && machine.turns() == 5
+        && machine.events() == entries(five, [1, 3, 4]).as_slice()
+        && machine.channel(five).history() == history.as_slice()
+        && machine.channel(four).history().is_empty()
+        && stops(&mut machine, zero)
         && machine.turns() == 7
 }
 
 #[test]
 fn turn_list(rt: HostRuntime) -> Result<(), Fail> {
-    let (zero, one) = (first(), first().next());
     let (four, five) = (channel(4)?, channel(5)?);
-    let entries = entries(five, [1, 3, 4]);
-    for profile in [Profile::Ten, Profile::Twenty] {
-        let mut machine = after_turns(rt.alloc(), profile, &[one, zero, zero, zero, one])?;
-        assert!(rt; is_handed_over(&machine, five, &entries));
-        assert!(rt; machine.channel(four).history().is_empty());
-        assert!(rt; stops(&mut machine, zero));
-    }
+    assert!(rt; goes_by_turns(rt.alloc(), Profile::Ten, four, five));
+    assert!(rt; goes_by_turns(rt.alloc(), Profile::Twenty, four, five));
     Ok(())
 }
 
-/// The machine of `HANDOFF_PAIR` after so many turns of the barrel.
-fn after_barrel(alloc: Global, profile: Profile, turns: u32) -> Result<Machine<Global>, Fail> {
-    let mut machine = HANDOFF_PAIR.machine(alloc, profile)?;
-    machine.run_barrel(turns)?;
-    Ok(machine)
-}
-
-/// Whether a machine took so many turns, made these events, and its first two processors ended as
-/// they should.
-fn has_ended(machine: &Machine<Global>, turns: u32, entries: &[Trace]) -> bool {
-    machine.turns() == u64::from(turns)
+/// Whether `HANDOFF_PAIR` makes these events in so many turns of the barrel, and ends as it should.
+fn goes_in_barrel(alloc: Global, profile: Profile, turns: u32, entries: &[Trace]) -> bool {
+    let Ok(mut machine) = HANDOFF_PAIR.machine(alloc, profile) else {
+        return false;
+    };
+    machine.run_barrel(turns).is_ok()
+        && machine.turns() == u64::from(turns)
         && machine.events() == entries
         && shown(machine.pp(first())) == (0o103, 7, PpState::Stopped)
         && shown(machine.pp(first().next())) == (0o201, 7, PpState::Stopped)
@@ -79,10 +73,10 @@ fn has_ended(machine: &Machine<Global>, turns: u32, entries: &[Trace]) -> bool {
 #[test]
 fn barrel(rt: HostRuntime) -> Result<(), Fail> {
     let five = channel(5)?;
-    for (profile, turns, put, take) in [(Profile::Ten, 40, 20, 21), (Profile::Twenty, 80, 40, 41)] {
-        let machine = after_barrel(rt.alloc(), profile, turns)?;
-        assert!(rt; has_ended(&machine, turns, &entries(five, [0, put, take])));
-    }
+    let ten = entries(five, [0, 20, 21]);
+    assert!(rt; goes_in_barrel(rt.alloc(), Profile::Ten, 40, &ten));
+    let twenty = entries(five, [0, 40, 41]);
+    assert!(rt; goes_in_barrel(rt.alloc(), Profile::Twenty, 80, &twenty));
     Ok(())
 }
 

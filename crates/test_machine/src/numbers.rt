@@ -31,37 +31,24 @@ fn shown_channel(channel: Option<ChannelNo>) -> Option<(u8, usize)> {
     channel.map(|c| (c.get(), c.index()))
 }
 
-/// The first number that is taken for another processor than the one of its place, or wrongly for
-/// none.
-fn wrong_processor(numbers: &[u8], profile: Option<Profile>) -> Option<u8> {
+/// The first number that is taken for another processor or channel than those of these lists, or
+/// wrongly for none, by a profile or by none.
+fn wrong_number(profile: Option<Profile>, processors: &[u8], channels: &[u8]) -> Option<u8> {
     for number in 0..=255u8 {
-        let processor = match profile {
-            Some(profile) => profile.processor(number),
-            None => PpNo::new(number),
+        let (processor, channel) = match profile {
+            Some(profile) => (profile.processor(number), profile.channel(number)),
+            None => (PpNo::new(number), ChannelNo::new(number)),
         };
-        if shown_processor(processor) != expected(numbers, number) {
+        let is_processor = shown_processor(processor) == expected(processors, number);
+        if !is_processor || shown_channel(channel) != expected(channels, number) {
             return Some(number);
         }
     }
     None
 }
 
-/// The same of channels.
-fn wrong_channel(numbers: &[u8], profile: Option<Profile>) -> Option<u8> {
-    for number in 0..=255u8 {
-        let channel = match profile {
-            Some(profile) => profile.channel(number),
-            None => ChannelNo::new(number),
-        };
-        if shown_channel(channel) != expected(numbers, number) {
-            return Some(number);
-        }
-    }
-    None
-}
-
-/// The first place of the barrel's order at which another processor stands, or after which another
-/// comes next.
+/// The first place in the barrel's order or in that of channels at which another number stands, or
+/// after which another processor comes next.
 fn wrong_place() -> Option<usize> {
     let mut n = first();
     for (place, number) in NUMBERS_OF_PROCESSORS.iter().enumerate() {
@@ -70,31 +57,20 @@ fn wrong_place() -> Option<usize> {
         }
         n = n.next();
     }
-    if n == first() { None } else { Some(PROCESSORS) }
-}
-
-#[test]
-fn numbers_of_processors(rt: HostRuntime) {
-    assert_eq!(rt; PROCESSORS, 20);
-    assert_eq!(rt; wrong_processor(&NUMBERS_OF_PROCESSORS, None), None);
-    assert_eq!(rt; wrong_place(), None);
-}
-
-/// The first place in the order of channels at which another stands.
-fn wrong_place_of_channel() -> Option<usize> {
     for (place, number) in NUMBERS_OF_CHANNELS.iter().enumerate() {
         if place >= CHANNELS || ChannelNo::at(place).get() != *number {
             return Some(place);
         }
     }
-    None
+    if n == first() { None } else { Some(PROCESSORS) }
 }
 
 #[test]
-fn numbers_of_channels(rt: HostRuntime) {
-    assert_eq!(rt; CHANNELS, 24);
-    assert_eq!(rt; wrong_channel(&NUMBERS_OF_CHANNELS, None), None);
-    assert_eq!(rt; wrong_place_of_channel(), None);
+fn numbers_of_all(rt: HostRuntime) {
+    let (processors, channels) = (&NUMBERS_OF_PROCESSORS, &NUMBERS_OF_CHANNELS);
+    assert!(rt; PROCESSORS == 20 && CHANNELS == 24);
+    assert_eq!(rt; wrong_number(None, processors, channels), None);
+    assert_eq!(rt; wrong_place(), None);
 }
 
 /// Whether a profile has just these processors and channels, at the places that they have in the
@@ -102,8 +78,7 @@ fn numbers_of_channels(rt: HostRuntime) {
 fn has_numbers(profile: Profile, processors: &[u8], channels: &[u8]) -> bool {
     profile.processors() == processors.len()
         && profile.channels() == channels.len()
-        && wrong_processor(processors, Some(profile)).is_none()
-        && wrong_channel(channels, Some(profile)).is_none()
+        && wrong_number(Some(profile), processors, channels).is_none()
 }
 
 #[test]

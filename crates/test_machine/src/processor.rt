@@ -45,13 +45,6 @@ fn a_processor_waits_for_a_load(rt: HostRuntime) -> Result<(), Fail> {
     Ok(())
 }
 
-/// A processor at an input and a stop after these answers, and how many of them it took.
-fn input_after(profile: Profile, answers: &[Answer]) -> (Pp, usize) {
-    let mut pp = started(profile, 0o0200, &[0o7005, 0o0300], 0);
-    let taken = pp.replay(answers);
-    (pp, taken)
-}
-
 #[test]
 fn input_then_stop(rt: HostRuntime) {
     let answers = [
@@ -60,11 +53,11 @@ fn input_then_stop(rt: HostRuntime) {
         Answer::Channel(Reply::Done),
     ];
     for profile in [Profile::Ten, Profile::Twenty] {
-        let (pp, taken) = input_after(profile, &answers);
-        assert!(rt; taken == 2 && shown(&pp) == (0o201, 3, PpState::Running));
-        let (pp, taken) = input_after(profile, &[Answer::Local]);
-        assert!(rt; taken == 0 && shown(&pp) == (0o200, 0, PpState::Running));
-        assert!(rt; program(&pp) == (0o7005, 0o0300));
+        let mut pp = started(profile, 0o0200, &[0o7005, 0o0300], 0);
+        assert!(rt; pp.replay(&answers) == 2 && shown(&pp) == (0o201, 3, PpState::Running));
+        let mut pp = started(profile, 0o0200, &[0o7005, 0o0300], 0);
+        assert!(rt; pp.replay(&[Answer::Local]) == 0);
+        assert!(rt; shown(&pp) == (0o200, 0, PpState::Running) && program(&pp) == (0o7005, 0o0300));
     }
 }
 

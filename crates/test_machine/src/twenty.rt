@@ -1,5 +1,6 @@
 //! What the machine of twenty processors has besides, and what the machine of ten lacks.
 
+use crate::machine::entry;
 use crate::processor::{Shown, shown};
 use pp_channel::{ChannelNo, Event};
 use pp_machine::{Machine, Outcome, PROCESSORS, Pp, PpNo, PpState, Profile, Trace};
@@ -18,37 +19,27 @@ fn far_run(alloc: Global, sender: PpNo, receiver: PpNo) -> Result<Machine<Global
     Ok(machine)
 }
 
-/// The entries of that run, ten and nineteen turns after the beginning of a round.
-fn far_entries(sender: PpNo, receiver: PpNo, channel: ChannelNo) -> [Trace; 3] {
-    let entry = |turn, pp, event| Trace {
-        turn,
-        pp,
-        channel,
-        event,
-    };
-    [
-        entry(10, sender, Event::Activate),
-        entry(50, sender, Event::Put(word(7))),
-        entry(59, receiver, Event::Take(word(7))),
-    ]
-}
-
-/// Whether the machine made these entries, and both processors have stopped.
-fn has_sent(machine: &Machine<Global>, sender: PpNo, receiver: PpNo, entries: &[Trace]) -> bool {
-    machine.events() == entries
+/// Whether that run makes these entries, ten and nineteen turns after the beginning of a round, and
+/// both processors have stopped after it.
+fn is_sent(alloc: Global, sender: PpNo, receiver: PpNo, channel: ChannelNo) -> Result<bool, Fail> {
+    let entries = [
+        entry(10, sender, channel, Event::Activate),
+        entry(50, sender, channel, Event::Put(word(7))),
+        entry(59, receiver, channel, Event::Take(word(7))),
+    ];
+    let machine = far_run(alloc, sender, receiver)?;
+    let is_right = machine.events() == entries.as_slice()
         && shown(machine.pp(sender)) == (0o103, 7, PpState::Stopped)
         && shown(machine.pp(receiver)) == (0o201, 7, PpState::Stopped)
+        && machine.channel(channel).flags() == EMPTY;
+    Ok(is_right)
 }
 
 /// PP 20 sends to PP 31.
 #[test]
 fn far_processors(rt: HostRuntime) -> Result<(), Fail> {
     let (sender, receiver) = (processor(0o20)?, processor(0o31)?);
-    let channel = channel(0o33)?;
-    let entries = far_entries(sender, receiver, channel);
-    let machine = far_run(rt.alloc(), sender, receiver)?;
-    assert!(rt; has_sent(&machine, sender, receiver, &entries));
-    assert!(rt; machine.channel(channel).flags() == EMPTY);
+    assert!(rt; is_sent(rt.alloc(), sender, receiver, channel(0o33)?)?);
     Ok(())
 }
 
@@ -94,16 +85,6 @@ fn count_steps(pp: &mut Pp) {
     pp.start(word(0), Word18::ZERO);
 }
 
-/// All twenty processors are started, and so many turns of the barrel are taken.
-fn counted(alloc: Global, profile: Profile, turns: u32) -> Result<Machine<Global>, Fail> {
-    let mut machine = Machine::new(alloc, profile, 1)?;
-    for place in 0..PROCESSORS {
-        count_steps(machine.pp_mut(PpNo::at(place)));
-    }
-    machine.run_barrel(turns)?;
-    Ok(machine)
-}
-
 /// Whether the processors at the first places made this many steps, the others of the barrel this
 /// many, and those after it none.
 fn made_steps(machine: &Machine<Global>, more: usize, barrel: usize, steps: [u32; 2]) -> bool {
@@ -123,25 +104,37 @@ fn made_steps(machine: &Machine<Global>, more: usize, barrel: usize, steps: [u32
     true
 }
 
+/// Whether all twenty make these steps, once they are started, in so many turns of the barrel.
+fn make_steps(
+    alloc: Global,
+    profile: Profile,
+    turns: u32,
+    (more, barrel, steps): (usize, usize, [u32; 2]),
+) -> bool {
+    let Ok(mut machine) = Machine::new(alloc, profile, 1) else {
+        return false;
+    };
+    for place in 0..PROCESSORS {
+        count_steps(machine.pp_mut(PpNo::at(place)));
+    }
+    machine.run_barrel(turns).is_ok()
+        && machine.turns() == u64::from(turns)
+        && made_steps(&machine, more, barrel, steps)
+}
+
 /// Turns of the barrel come to the first ten processors, or to all.
 #[test]
-fn rounds_of_each_profile(rt: HostRuntime) -> Result<(), Fail> {
-    for (profile, turns, more, barrel, steps) in [
-        (Profile::Ten, 9, 9, 10, [1, 0]),
-        (Profile::Ten, 13, 3, 10, [2, 1]),
-        (Profile::Ten, 50_007, 7, 10, [5001, 5000]),
-        (Profile::Twenty, 19, 19, 20, [1, 0]),
-        (Profile::Twenty, 33, 13, 20, [2, 1]),
-        (Profile::Twenty, 100_017, 17, 20, [5001, 5000]),
+fn rounds_of_each_profile(rt: HostRuntime) {
+    for (profile, turns, steps) in [
+        (Profile::Ten, 9, (9, 10, [1, 0])),
+        (Profile::Ten, 13, (3, 10, [2, 1])),
+        (Profile::Ten, 50_007, (7, 10, [5001, 5000])),
+        (Profile::Twenty, 19, (19, 20, [1, 0])),
+        (Profile::Twenty, 33, (13, 20, [2, 1])),
+        (Profile::Twenty, 100_017, (17, 20, [5001, 5000])),
     ] {
-        let machine = counted(rt.alloc(), profile, turns)?;
-        let is_counted = machine.turns() == u64::from(turns);
-        assert!(rt;
-            is_counted && made_steps(&machine, more, barrel, steps),
-            "{turns}"
-        );
+        assert!(rt; make_steps(rt.alloc(), profile, turns, steps), "{turns}");
     }
-    Ok(())
 }
 
 /// The machine of ten, after 1000 turns of the barrel (decimal) and three of these processors,
@@ -155,19 +148,21 @@ fn turned_behind(alloc: Global, one: PpNo, other: PpNo) -> Result<Machine<Global
     Ok(machine)
 }
 
-/// Whether the processors between the first and the last behind the barrel are as new.
-fn are_new_between(machine: &Machine<Global>) -> bool {
+/// Whether two steps more of the last of these processors are made, both have then made theirs, and
+/// those between them are as new.
+fn steps_behind(alloc: Global, first_behind: PpNo, last: PpNo) -> Result<bool, Fail> {
+    let mut machine = turned_behind(alloc, first_behind, last)?;
     for place in 11..19 {
         if shown(machine.pp(PpNo::at(place))) != (0, 0, PpState::Stopped) {
-            return false;
+            return Ok(false);
         }
     }
-    true
-}
-
-/// Whether a processor's next two steps are made.
-fn moves_twice(machine: &mut Machine<Global>, n: PpNo) -> bool {
-    machine.step(n) == Ok(Outcome::Moved) && machine.step(n) == Ok(Outcome::Moved)
+    let is_right = machine.step(last) == Ok(Outcome::Moved)
+        && machine.step(last) == Ok(Outcome::Moved)
+        && shown(machine.pp(first_behind)) == (2, 2, PpState::Running)
+        && shown(machine.pp(last)) == (3, 3, PpState::Running)
+        && machine.turns() == 1005;
+    Ok(is_right)
 }
 
 /// Only a list of turns and a step come to a processor that the machine of ten lacks. The others of
@@ -175,10 +170,6 @@ fn moves_twice(machine: &mut Machine<Global>, n: PpNo) -> bool {
 #[test]
 fn steps_behind_the_barrel(rt: HostRuntime) -> Result<(), Fail> {
     let (first_behind, last) = (processor(0o20)?, processor(0o31)?);
-    let mut machine = turned_behind(rt.alloc(), first_behind, last)?;
-    assert!(rt; moves_twice(&mut machine, last) && machine.turns() == 1005);
-    let shown = [shown(machine.pp(first_behind)), shown(machine.pp(last))];
-    assert!(rt; shown == [(2, 2, PpState::Running), (3, 3, PpState::Running)]);
-    assert!(rt; are_new_between(&machine));
+    assert!(rt; steps_behind(rt.alloc(), first_behind, last)?);
     Ok(())
 }

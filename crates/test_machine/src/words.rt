@@ -17,30 +17,22 @@ fn eighteen(number: u32) -> Word18 {
     Word18::truncated(number)
 }
 
-/// The word of a number as a number again, or nothing where the number is too great.
-fn six_of(number: u8) -> Option<u8> {
-    Some(Word6::new(number)?.get())
-}
-
-fn twelve_of(number: u16) -> Option<u16> {
-    Some(Word12::new(number)?.get())
-}
-
-fn eighteen_of(number: u32) -> Option<u32> {
-    Some(Word18::new(number)?.get())
-}
-
-fn sixty_of(number: u64) -> Option<u64> {
-    Some(Word60::new(number)?.get())
+#[test]
+fn ranges(rt: HostRuntime) {
+    let most = 0o77_777_777_777_777_777_777;
+    assert!(rt; Word6::new(0o77) == Some(six(0o77)) && Word6::new(0o100).is_none());
+    assert!(rt; Word12::new(0o7777) == Some(twelve(0o7777)) && Word12::new(0o10_000).is_none());
+    assert!(rt; Word18::new(0o777_777) == Some(eighteen(0o777_777)));
+    assert!(rt; Word18::new(0o1_000_000).is_none());
+    assert!(rt; Word60::new(most) == Some(Word60::truncated(most)));
+    assert!(rt; Word60::new(most + 1).is_none());
 }
 
 #[test]
-fn ranges(rt: HostRuntime) {
-    assert!(rt; six_of(0o77) == Some(0o77) && six_of(0o100).is_none());
-    assert!(rt; twelve_of(0o7777) == Some(0o7777) && twelve_of(0o10_000).is_none());
-    assert!(rt; eighteen_of(0o777_777) == Some(0o777_777) && eighteen_of(0o1_000_000).is_none());
+fn greatest_words(rt: HostRuntime) {
     let most = 0o77_777_777_777_777_777_777;
-    assert!(rt; sixty_of(most) == Some(most) && sixty_of(most + 1).is_none());
+    assert!(rt; six(0o77).get() == 0o77 && twelve(0o7777).get() == 0o7777);
+    assert!(rt; eighteen(0o777_777).get() == 0o777_777 && Word60::truncated(most).get() == most);
 }
 
 #[test]

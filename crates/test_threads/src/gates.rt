@@ -1,12 +1,12 @@
 //! Gates, which see each try of each worker: workers run at once, and give up as their limits say.
 
-use crate::runs::{block_history, counting, history, limits, loaded};
+use crate::runs::{counting, has_block, limits, loaded, run};
 use pp_machine::{PROCESSORS, PpNo, Profile};
-use pp_runner::{Gate, run_threads};
+use pp_runner::Gate;
 use std::sync::atomic::{AtomicU64, Ordering};
 use std::test::Fail;
 use std::{array, thread};
-use test_bench::{BLOCK, LONG_PATIENCE};
+use test_bench::{BLOCK, LONG_PATIENCE, channel};
 
 /// At turns 0 to 2 processors 0 and 1 each set a flag, and look for the other's.
 #[derive(Drop)]
@@ -46,15 +46,14 @@ impl Gate for Meeting {
 
 #[test]
 fn gate_together(rt: HostRuntime) -> Result<(), Fail> {
+    let (five, limits) = (channel(5)?, limits(LONG_PATIENCE)?);
     for profile in [Profile::Ten, Profile::Twenty] {
         let gate = Meeting {
             flags: [zero(), zero(), zero(), zero(), zero(), zero()],
             met: zero(),
         };
-        let machine = loaded(rt.alloc(), profile, BLOCK)?;
-        let report = run_threads(&rt, rt.alloc(), &machine, limits(LONG_PATIENCE)?, &gate)?;
-        assert_eq!(rt; gate.met.load(Ordering::SeqCst), 6);
-        assert_eq!(rt; history(&report, 5)?, block_history().as_slice());
+        let report = run(&rt, &gate, limits, loaded(rt.alloc(), profile, BLOCK)?)?;
+        assert!(rt; has_block(&report, five) && gate.met.load(Ordering::SeqCst) == 6);
     }
     Ok(())
 }
@@ -87,15 +86,15 @@ impl Gate for MeetingOfAll {
 /// processor.
 #[test]
 fn all_together(rt: HostRuntime) -> Result<(), Fail> {
+    let limits = limits(1)?;
     for (profile, met) in [(Profile::Ten, 10), (Profile::Twenty, 20)] {
         let gate = MeetingOfAll {
             profile,
             flags: array::from_fn(|_| zero()),
             met: zero(),
         };
-        let machine = counting(rt.alloc(), profile)?;
-        run_threads(&rt, rt.alloc(), &machine, limits(1)?, &gate)?;
-        assert_eq!(rt; gate.met.load(Ordering::SeqCst), met);
+        let _report = run(&rt, &gate, limits, counting(rt.alloc(), profile)?)?;
+        assert!(rt; gate.met.load(Ordering::SeqCst) == met);
     }
     Ok(())
 }
@@ -117,12 +116,12 @@ impl Gate for Uneven {
 
 #[test]
 fn uneven_gates(rt: HostRuntime) -> Result<(), Fail> {
+    let (five, limits) = (channel(5)?, limits(LONG_PATIENCE)?);
     let gate = Uneven { flag: zero() };
     for profile in [Profile::Ten, Profile::Twenty] {
-        let machine = loaded(rt.alloc(), profile, BLOCK)?;
-        for _ in 0..200 {
-            let report = run_threads(&rt, rt.alloc(), &machine, limits(LONG_PATIENCE)?, &gate)?;
-            assert_eq!(rt; history(&report, 5)?, block_history().as_slice());
+        for _ in 0..200u32 {
+            let report = run(&rt, &gate, limits, loaded(rt.alloc(), profile, BLOCK)?)?;
+            assert!(rt; has_block(&report, five));
         }
     }
     Ok(())

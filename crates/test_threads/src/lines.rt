@@ -1,10 +1,10 @@
 //! Lines in two threads.
 
-ghost use Rattle.std.specs.Prelude.{◌≡◌};
+ghost use Rattle.std.specs.Prelude.{◌≡◌, ◌+◌};
 
 use pp_channel::{ChanOp, ChannelNo, Seen};
 use pp_line::{Entry, Line, open_lines};
-use std::alloc::Allocator;
+use std::alloc::{Allocator, Global};
 use std::test::Fail;
 use std::thread::join;
 use test_bench::{channel, is_lawful, word};
@@ -35,6 +35,27 @@ fn events_told(log: &[Entry]) -> usize {
         .count()
 }
 
+/// How many events the log of two lines records once they are joined, how many the channel has
+/// after a close, and whether its history is lawful.
+fn joined(
+    first: Line<Global>,
+    second: Line<Global>,
+    channel: ChannelNo,
+) -> Option<(usize, usize, bool)>
+    requires table { second.table ≡ first.table }
+    requires shares { first.view.shares + second.view.shares ≡ first.view.whole }
+{
+    let Ok(line) = first.join(second) else {
+        return None;
+    };
+    let told = events_told(line.log());
+    let Ok(channels) = line.close() else {
+        return None;
+    };
+    let history = channels[channel.index()].history();
+    Some((told, history.len(), is_lawful(history)))
+}
+
 #[test]
 fn two_threads(rt: HostRuntime) -> Result<(), Fail> {
     let five = channel(5)?;
@@ -50,15 +71,9 @@ fn two_threads(rt: HostRuntime) -> Result<(), Fail> {
         move || act_in_turn(first, five, session),
         move || act_in_turn(second, five, [ChanOp::Take; 3]),
     );
-    let Ok(line) = first.join(second) else {
-        return Err("no join".into());
+    let Some((told, made, lawful)) = joined(first, second, five) else {
+        return Err("no join, or no close".into());
     };
-    let told = events_told(line.log());
-    let Ok(channels) = line.close() else {
-        return Err("no close".into());
-    };
-    let history = channels[five.index()].history();
-    assert_eq!(rt; history.len(), told);
-    assert!(rt; is_lawful(history));
+    assert!(rt; told == made && lawful);
     Ok(())
 }

@@ -10,26 +10,33 @@ use std::test::Fail;
 #[test]
 fn central_sizes(rt: HostRuntime) {
     for size in [0, 0o400_001] {
-        let made = Central::new(rt.alloc(), size);
-        assert_eq!(rt; made.err(), Some(CentralFault::BadSize));
+        let fault = Central::new(rt.alloc(), size).err();
+        assert!(rt; fault == Some(CentralFault::BadSize));
     }
+}
+
+/// Whether central memory of 33 words, the last but one of them loaded, keeps it and a word behind
+/// it, and none behind its last.
+fn keeps_words(rt: &impl Wait, shared: &LockedCentral<Global>, loaded: Word60) -> bool {
+    let (last, behind) = (Word18::truncated(0o40), Word18::truncated(0o41));
+    let written = Word60::truncated(0o4321);
+    shared.size() == 33
+        && shared.read(rt, Word18::truncated(0o37)) == Some(loaded)
+        && shared.write(rt, last, written)
+        && shared.read(rt, last) == Some(written)
+        && !shared.write(rt, behind, loaded)
+        && shared.read(rt, behind).is_none()
+        && shared.read(rt, last) == Some(written)
+        && shared.read(rt, Word18::ZERO) == Some(Word60::ZERO)
 }
 
 #[test]
 fn central_by_calls(rt: HostRuntime) -> Result<(), Fail> {
     let loaded = Word60::truncated(0o1234);
-    let written = Word60::truncated(0o4321);
     let mut central = Central::new(rt.alloc(), 0o41)?;
     assert!(rt; central.write(Word18::truncated(0o37), loaded));
     let shared = LockedCentral::new(rt.alloc(), &central)?;
-    assert_eq!(rt; shared.size(), 33);
-    assert_eq!(rt; shared.read(&rt, Word18::truncated(0o37)), Some(loaded));
-    assert!(rt; shared.write(&rt, Word18::truncated(0o40), written));
-    assert_eq!(rt; shared.read(&rt, Word18::truncated(0o40)), Some(written));
-    assert!(rt; !shared.write(&rt, Word18::truncated(0o41), loaded));
-    assert_eq!(rt; shared.read(&rt, Word18::truncated(0o41)), None);
-    assert_eq!(rt; shared.read(&rt, Word18::truncated(0o40)), Some(written));
-    assert_eq!(rt; shared.read(&rt, Word18::ZERO), Some(Word60::ZERO));
+    assert!(rt; keeps_words(&rt, &shared, loaded));
     Ok(())
 }
 
@@ -77,23 +84,19 @@ fn takes_numbers(rt: &impl Wait, shared: &LockedCentral<Global>, size: u32, roun
     true
 }
 
+/// Whether words stay as loaded, can all be written, and stay as written.
+fn keeps_all_words(rt: &impl Wait, shared: &LockedCentral<Global>, size: u32) -> bool {
+    gives_numbers(rt, shared, size, 1)
+        && takes_numbers(rt, shared, size, 2)
+        && gives_numbers(rt, shared, size, 2)
+}
+
 #[test]
 fn each_address_has_a_word_of_its_own(rt: HostRuntime) -> Result<(), Fail> {
     for size in SIZES {
         let central = central_of_numbers(rt.alloc(), size)?;
         let shared = LockedCentral::new(rt.alloc(), &central)?;
-        assert!(rt;
-            gives_numbers(&rt, &shared, size, 1),
-            "{size} words as loaded"
-        );
-        assert!(rt;
-            takes_numbers(&rt, &shared, size, 2),
-            "{size} words written"
-        );
-        assert!(rt;
-            gives_numbers(&rt, &shared, size, 2),
-            "{size} words after that"
-        );
+        assert!(rt; keeps_all_words(&rt, &shared, size), "{size} words");
     }
     Ok(())
 }

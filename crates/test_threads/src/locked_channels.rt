@@ -1,6 +1,6 @@
 //! A channel behind a lock.
 
-use pp_channel::{ChanOp, Channel, Event, Locked, Memory, Reply};
+use pp_channel::{ChanOp, Channel, Event, Locked, Memory, Numbered, Reply};
 use std::alloc::Global;
 use std::ops::Range;
 use std::sync::Wait;
@@ -11,30 +11,34 @@ use test_bench::{FULL, numbered, word};
 /// How many function codes each of two threads sends.
 const CODES: u16 = 1000;
 
-#[test]
-fn one_session_behind_a_lock(rt: HostRuntime) -> Result<(), Fail> {
-    let mut channel = Channel::new(rt.alloc());
+/// A channel with a function code, and a session in which a word waits.
+fn waiting(alloc: Global) -> Result<Channel<Global>, Memory> {
+    let mut channel = Channel::new(alloc);
     channel.act(ChanOp::Function(word(0o12)))?;
     channel.act(ChanOp::Activate)?;
     channel.act(ChanOp::Put(word(5)))?;
-    let locked = Locked::new(channel.copy()?);
-    assert_eq!(rt;
-        locked.act(&rt, ChanOp::Probe)?,
-        numbered(Reply::Flags(FULL), 3)
-    );
-    assert_eq!(rt;
-        locked.act(&rt, ChanOp::Put(word(6)))?,
-        numbered(Reply::Held(FULL), 3)
-    );
-    assert_eq!(rt;
-        locked.act(&rt, ChanOp::Take)?,
-        numbered(Reply::Word(word(5)), 3)
-    );
-    assert_eq!(rt;
-        locked.act(&rt, ChanOp::Disconnect)?,
-        numbered(Reply::Done, 4)
-    );
-    let after = locked.into_inner();
+    Ok(channel)
+}
+
+/// Whether operations behind a lock have these answers.
+fn answers(rt: &impl Wait, locked: &Locked<Global>, calls: &[(ChanOp, Numbered)]) -> bool {
+    for (op, answer) in calls {
+        if locked.act(rt, *op) != Ok(*answer) {
+            return false;
+        }
+    }
+    true
+}
+
+/// A copy goes on behind the lock; the channel stays.
+#[test]
+fn one_session_behind_a_lock(rt: HostRuntime) -> Result<(), Fail> {
+    let calls = [
+        (ChanOp::Probe, numbered(Reply::Flags(FULL), 3)),
+        (ChanOp::Put(word(6)), numbered(Reply::Held(FULL), 3)),
+        (ChanOp::Take, numbered(Reply::Word(word(5)), 3)),
+        (ChanOp::Disconnect, numbered(Reply::Done, 4)),
+    ];
     let events = [
         Event::Function(word(0o12)),
         Event::Activate,
@@ -42,8 +46,11 @@ fn one_session_behind_a_lock(rt: HostRuntime) -> Result<(), Fail> {
         Event::Take(word(5)),
         Event::Disconnect,
     ];
-    assert_eq!(rt; after.history(), events.as_slice());
-    assert_eq!(rt; channel.history().len(), 3);
+    let channel = waiting(rt.alloc())?;
+    let locked = Locked::new(channel.copy()?);
+    assert!(rt; answers(&rt, &locked, &calls));
+    assert!(rt; locked.into_inner().history() == events.as_slice());
+    assert!(rt; channel.history().len() == 3);
     Ok(())
 }
 
@@ -60,6 +67,18 @@ fn send_codes(
     Ok(numbers)
 }
 
+/// Whether each code stands in the history at its number, and nothing else does.
+fn has_codes(channel: &Channel<Global>, one: &[u64], other: &[u64]) -> bool {
+    for (code, number) in (0..2 * CODES).zip(one.iter().chain(other.iter())) {
+        let event = Event::Function(word(code));
+        if channel.history().get(*number as usize) != Some(&event) {
+            return false;
+        }
+    }
+    let codes = usize::from(2 * CODES);
+    channel.history().len() == codes && one.len() + other.len() == codes
+}
+
 #[test]
 fn two_threads_at_one_lock(rt: HostRuntime) -> Result<(), Fail> {
     let locked = Locked::new(Channel::new(rt.alloc()));
@@ -69,13 +88,7 @@ fn two_threads_at_one_lock(rt: HostRuntime) -> Result<(), Fail> {
         || send_codes(&rt, &locked, CODES..2 * CODES),
     );
     let (one, other) = (one?, other?);
-    let channel = locked.into_inner();
-    assert_eq!(rt; channel.history().len(), usize::from(2 * CODES));
-    assert_eq!(rt; one.len() + other.len(), channel.history().len());
-    for (code, number) in (0..2 * CODES).zip(one.iter().chain(other.iter())) {
-        let event = Event::Function(word(code));
-        assert_eq!(rt; channel.history().get(*number as usize), Some(&event));
-    }
+    assert!(rt; has_codes(&locked.into_inner(), &one, &other));
     Ok(())
 }
 

@@ -1,8 +1,9 @@
 //! Ten processors that pass words round a ring, each in a thread of its own.
 
-use crate::runs::loaded;
+use crate::runs::{loaded, run};
 use pp_machine::Profile;
-use pp_runner::{End, Limits, NoGate, run_threads};
+use pp_runner::{End, Limits, NoGate, Report};
+use std::alloc::Global;
 use std::test::Fail;
 use test_bench::is_lawful;
 
@@ -41,23 +42,29 @@ PP 11
 START 0100
 ";
 
+/// Whether ten workers ended by their limits, each after its first step, which is never held, and
+/// each channel of the ring has events, and a lawful history.
+fn has_gone_round(report: &Report<Global>) -> bool {
+    for worker in &report.ends {
+        let is_ended = matches!(worker.finish, End::Steps | End::Patience);
+        if !is_ended || worker.answers.is_empty() {
+            return false;
+        }
+    }
+    for channel in report.channels.iter().take(10) {
+        if channel.history().is_empty() || !is_lawful(channel.history()) {
+            return false;
+        }
+    }
+    report.ends.len() == 10
+}
+
 /// A processor whose neighbour has made all its steps waits in vain.
 #[test]
 fn ring_of_ten(rt: HostRuntime) -> Result<(), Fail> {
-    let machine = loaded(rt.alloc(), Profile::Ten, RING)?;
     let limits = Limits::new(100_000, 1_000_000).ok_or("no limits")?;
-    let report = run_threads(&rt, rt.alloc(), &machine, limits, &NoGate)?;
-    assert_eq!(rt; report.ends.len(), 10);
-    let mut steps = 0usize;
-    for worker in &report.ends {
-        assert!(rt; matches!(worker.finish, End::Steps | End::Patience));
-        steps = steps.saturating_add(worker.answers.len());
-    }
-    assert!(rt; steps >= 10, "the first step is never held");
-    for place in 0..10usize {
-        let history = report.channels[place].history();
-        assert!(rt; is_lawful(history), "channel {place}");
-        assert!(rt; !history.is_empty(), "channel {place}");
-    }
+    let machine = loaded(rt.alloc(), Profile::Ten, RING)?;
+    let report = run(&rt, &NoGate, limits, machine)?;
+    assert!(rt; has_gone_round(&report));
     Ok(())
 }

@@ -2,13 +2,15 @@
 
 ghost use Rattle.std.specs.Prelude.{◌≡◌, [], IfOk};
 
-use pp_channel::{Channel, Event, Seen};
+use pp_channel::{ChannelNo, Event, Seen};
 use pp_deck::read_deck;
 use pp_machine::{Machine, PpNo, Profile};
-use pp_runner::{End, Limits, NoGate, Report, Worker, run_threads};
+use pp_runner::{End, Gate, Limits, NoGate, Report, Worker, run_threads};
 use pp_word::Word18;
-use std::alloc::{Allocator, Global};
+use std::alloc::Global;
+use std::sync::Wait;
 use std::test::Fail;
+use std::thread::Threads;
 use test_bench::{EMPTY, LONG_PATIENCE, channel, processor, put_program, put_words, waiting, word};
 
 /// A run of 100 steps at most.
@@ -16,9 +18,21 @@ pub(crate) fn limits(patience: u32) -> Result<Limits, Fail> {
     Ok(Limits::new(100, patience).ok_or("no such limits")?)
 }
 
-pub(crate) fn history<A: Allocator>(report: &Report<A>, number: u8) -> Result<&[Event], Fail> {
-    let channel: &Channel<A> = &report.channels[channel(number)?.index()];
-    Ok(channel.history())
+/// The report of a run of a machine, which is not needed after it.
+pub(crate) fn run<R: AllocGlobal + Threads + Wait + Sync, G: Gate + Sync>(
+    rt: &R,
+    gate: &G,
+    limits: Limits,
+    machine: Machine<Global>,
+) -> Result<Report<Global>, Fail>
+    requires { machine.trace ≡ [] }
+{
+    Ok(run_threads(rt, rt.alloc(), &machine, limits, gate)?)
+}
+
+/// The history of a channel after a run.
+pub(crate) fn history(report: &Report<Global>, channel: ChannelNo) -> &[Event] {
+    report.channels[channel.index()].history()
 }
 
 /// The machine of a deck.
@@ -52,9 +66,9 @@ pub(crate) fn quiet(machine: Machine<Global>) -> Result<Machine<Global>, Fail>
     Ok(machine)
 }
 
-/// The history of channel 5 that the deck `BLOCK` leaves.
-pub(crate) fn block_history() -> [Event; 10] {
-    [
+/// Whether channel 5 has the history that the deck `BLOCK` leaves.
+pub(crate) fn has_block(report: &Report<Global>, five: ChannelNo) -> bool {
+    let events = [
         Event::Activate,
         Event::Put(word(0o11)),
         Event::Take(word(0o11)),
@@ -65,7 +79,8 @@ pub(crate) fn block_history() -> [Event; 10] {
         Event::Put(word(0o44)),
         Event::Take(word(0o44)),
         Event::Disconnect,
-    ]
+    ];
+    history(report, five) == events.as_slice()
 }
 
 /// PP 0 puts a program of three words on channel 1, for which PP 1 waits, and disconnects it; the
@@ -100,22 +115,28 @@ fn is_sent(history: &[Event]) -> bool {
         && history.len() == if last_is_taken { 10 } else { 9 }
 }
 
-#[test]
-fn dead_start_threads(rt: HostRuntime) -> Result<(), Fail> {
-    for profile in [Profile::Ten, Profile::Twenty] {
-        let machine = sent(rt.alloc(), profile)?;
-        let report = run_threads(&rt, rt.alloc(), &machine, limits(LONG_PATIENCE)?, &NoGate)?;
-        assert!(rt; is_sent(history(&report, 1)?));
-        assert_eq!(rt; report.ends[0].finish, End::Stopped);
-        assert_eq!(rt; report.ends[0].pp.p(), word(0o104));
-        assert_eq!(rt; report.ends[1].finish, End::Stopped);
-        // The Activate stands in no worker's log.
-        let one = channel(1)?;
-        for worker in &report.ends {
-            for entry in worker.log.iter() {
-                assert!(rt; entry.channel != one || entry.number > 0);
+/// Whether the sender and the receiver have stopped, the sender at the end of its program, and no
+/// worker's log has the Activate that opened the channel before the run.
+fn have_stopped(report: &Report<Global>, channel: ChannelNo) -> bool {
+    for worker in &report.ends {
+        for entry in worker.log.iter() {
+            if entry.channel == channel && entry.number == 0 {
+                return false;
             }
         }
+    }
+    let [sender, receiver, ..] = report.ends.as_slice() else {
+        return false;
+    };
+    sender.finish == End::Stopped && sender.pp.p() == word(0o104) && receiver.finish == End::Stopped
+}
+
+#[test]
+fn dead_start_threads(rt: HostRuntime) -> Result<(), Fail> {
+    let (one, limits) = (channel(1)?, limits(LONG_PATIENCE)?);
+    for profile in [Profile::Ten, Profile::Twenty] {
+        let report = run(&rt, &NoGate, limits, sent(rt.alloc(), profile)?)?;
+        assert!(rt; is_sent(history(&report, one)) && have_stopped(&report, one));
     }
     Ok(())
 }
@@ -139,17 +160,26 @@ const NUMBERS: [(Profile, &[u8]); 2] = [
     ),
 ];
 
+/// Whether the workers of these numbers all waited so, each on a channel that stayed as it was
+/// opened.
+fn wait_in_vain(report: &Report<Global>, numbers: &[u8]) -> bool {
+    for (number, worker) in numbers.iter().zip(report.ends.iter()) {
+        let is_opened = ChannelNo::new(*number).is_some_and(|channel| history(report, channel)
+            == [Event::Activate].as_slice());
+        if !is_opened || !waits_in_vain(worker) {
+            return false;
+        }
+    }
+    true
+}
+
 /// All wait at dead start, and nobody sends: each sees its channel as it was opened.
 #[test]
 fn nobody_sends(rt: HostRuntime) -> Result<(), Fail> {
+    let limits = limits(5)?;
     for (profile, numbers) in NUMBERS {
-        let machine = loaded(rt.alloc(), profile, "DEAD\n")?;
-        let report = run_threads(&rt, rt.alloc(), &machine, limits(5)?, &NoGate)?;
-        assert_eq!(rt; report.ends.len(), numbers.len());
-        for (number, worker) in numbers.iter().zip(report.ends.iter()) {
-            assert!(rt; waits_in_vain(worker), "worker {number}");
-            assert_eq!(rt; history(&report, *number)?, [Event::Activate].as_slice());
-        }
+        let report = run(&rt, &NoGate, limits, loaded(rt.alloc(), profile, "DEAD\n")?)?;
+        assert!(rt; report.ends.len() == numbers.len() && wait_in_vain(&report, numbers));
     }
     Ok(())
 }
@@ -165,20 +195,27 @@ PP 1
 START 0200
 ";
 
+/// Whether the sum was passed, and the processors made just the steps that were left.
+fn is_passed(report: &Report<Global>, five: ChannelNo) -> bool {
+    let events = [Event::Activate, Event::Put(word(8)), Event::Take(word(8))];
+    let [zero, one, ..] = report.ends.as_slice() else {
+        return false;
+    };
+    history(report, five) == events.as_slice()
+        && zero.answers.len() == 3
+        && one.answers.len() == 2
+        && one.pp.a() == Word18::truncated(8)
+}
+
 /// A machine that has had turns, but no events, goes on by threads from where it stands.
 #[test]
 fn turns_before_threads(rt: HostRuntime) -> Result<(), Fail> {
+    let (five, limits) = (channel(5)?, limits(LONG_PATIENCE)?);
     for (profile, turns) in [(Profile::Ten, 20), (Profile::Twenty, 40)] {
-        let mut machine = read_deck(rt.alloc(), profile, SLOW_HANDOFF.as_bytes())?.machine;
-        assert!(rt; machine.run_barrel(turns).is_ok());
-        let machine = quiet(machine)?;
-        assert_eq!(rt; machine.turns(), u64::from(turns));
-        let report = run_threads(&rt, rt.alloc(), &machine, limits(LONG_PATIENCE)?, &NoGate)?;
-        let events = [Event::Activate, Event::Put(word(8)), Event::Take(word(8))];
-        assert_eq!(rt; history(&report, 5)?, events.as_slice());
-        assert_eq!(rt; report.ends[0].answers.len(), 3);
-        assert_eq!(rt; report.ends[1].answers.len(), 2);
-        assert_eq!(rt; report.ends[1].pp.a(), Word18::truncated(8));
+        let mut machine = loaded(rt.alloc(), profile, SLOW_HANDOFF)?;
+        assert!(rt; machine.run_barrel(turns).is_ok() && machine.turns() == u64::from(turns));
+        let report = run(&rt, &NoGate, limits, quiet(machine)?)?;
+        assert!(rt; is_passed(&report, five));
     }
     Ok(())
 }
