@@ -1,5 +1,5 @@
 -- What holds of each of a list of histories, by place and by channel.
-use Rattle.std.proofs.Common.{ℕ, zero, suc, ◌<◌, List, [], ◌∷◌, arith}
+use Rattle.std.proofs.Common.{ℕ, zero, suc, List, [], ◌∷◌, arith}
 use Rattle.std.specs.Prelude.{All, slice_index_or}
 use Rattle.pp_channel.specs.ChannelNo.{channel_index}
 use Rattle.pp_channel.specs.History.{IsLawful, HasTwelveBitWords, history_on}

@@ -1,6 +1,6 @@
 -- What a line knows of the histories, from what its steps tell.
-use Rattle.std.proofs.Common.{◌≡◌, ℕ, zero, suc, ◌-◌, ◌<◌, ◌≤◌, Bool, true, false, not, ◌==◌, List, [], ◌∷◌, ◌++◌, length, take, get_or, set, Option, Some, None, refl, sym, ap, ◌∙◌, arith}
-use Rattle.std.specs.Prelude.{All, slice_index_or}
+use Rattle.std.proofs.Common.{◌≡◌, ℕ, ◌-◌, ◌<◌, ◌≤◌, Bool, true, false, not, ◌==◌, List, [], ◌∷◌, ◌++◌, length, take, get_or, set, Option, Some, None, refl, sym, ap, ◌∙◌, arith}
+use Rattle.std.specs.Prelude.{All}
 use Rattle.std.specs.List.{last_or}
 use Rattle.std.proofs.lemmas.List.{length-take-le}
 use Rattle.std.proofs.lemmas.List.Elements.{All-push, All-set, All-weaker, All-contains}
@@ -13,9 +13,8 @@ use Rattle.pp_channel.specs.declared.seen.Seen.{Seen}
 use Rattle.pp_channel.specs.declared.seen.Seen.TheVariants.{Did, Saw}
 use Rattle.pp_line.specs.declared.rule.LineView.{LineView}
 use Rattle.pp_channel.specs.Answer.{flags_of}
-use Rattle.pp_channel.specs.ChannelNo.{channel_index}
 use Rattle.pp_line.specs.ChannelWord.{number_in, flags_in}
-use Rattle.pp_channel.specs.History.{IsLawful, HasTwelveBitWords, history_on}
+use Rattle.pp_channel.specs.History.{HasTwelveBitWords, history_on}
 use Rattle.pp_line.specs.LineLog.{LogState, event_entry, looked, is_event, is_look_at, ends_in_look_at, seen_on}
 use Rattle.pp_line.specs.LineSteps.{IsBackedAt, IsBacked, IsLogOf, Tells}
 use Rattle.pp_line.specs.LineView.{Knows}
