@@ -4,7 +4,7 @@ use std::alloc::Global;
 use std::io::{self, ErrorKind, Write};
 
 /// How a writer gives up.
-#[derive(Clone, Copy, Debug, PartialEq, Eq)]
+#[derive(Clone, Copy, Debug)]
 pub enum Failure {
     /// It gives errors of this kind.
     Error(ErrorKind),
@@ -63,7 +63,7 @@ impl Write for Sink {
     }
 
     fn flush(&mut self) -> io::Result<()> {
-        if self.failure == Failure::Flush {
+        if matches!(self.failure, Failure::Flush) {
             self.failures = self.failures.saturating_add(1);
             return Err(io::Error::from(ErrorKind::Interrupted));
         }
