@@ -239,46 +239,54 @@ fn turns_refused(rt: HostRuntime) -> Result<(), Fail> {
     Ok(())
 }
 
-/// Room for the events of a run, with this request refused: then the machine is as it was. Once there
-/// is room, the run asks for nothing. This says whether the request was made.
-fn room_refused(
-    rt: &(impl Abort + AllocGlobal),
-    heap: &Rationed<Global>,
-    number: u64,
-) -> Result<bool, Fail> {
-    let mut twin = FLAPPING.machine(rt.alloc(), Profile::Ten)?;
-    twin.run_barrel(600)?;
-    let counts = twin.event_counts();
+/// Whether a machine counts the events of its histories.
+fn counts_events(machine: &Machine<Global>) -> bool {
+    let counts = machine.event_counts();
     for place in 0..CHANNELS {
-        let history = twin.channel(ChannelNo::at(place)).history();
-        assert_eq!(rt; counts[place], history.len());
+        if counts[place] != machine.channel(ChannelNo::at(place)).history().len() {
+            return false;
+        }
     }
-    assert!(rt; twin.events().len() > 30);
-    let fresh = FLAPPING.machine(rt.alloc(), Profile::Ten)?;
-    let mut machine = FLAPPING.machine(heap, Profile::Ten)?;
-    heap.refuse(number);
-    let answer = machine.reserve(&counts);
-    let refused = heap.has_refused();
-    assert_eq!(rt; answer.is_err(), refused);
-    expect_same(rt, &machine, &fresh);
-    if refused {
-        machine.reserve(&counts)?;
-    }
+    machine.events().len() > 30
+}
+
+/// Whether a run of 600 turns asks for no memory, and does what the other's did.
+fn runs_in_room(
+    heap: &Rationed<Global>,
+    machine: &mut RationedMachine,
+    twin: &Machine<Global>,
+) -> bool {
     heap.refuse(1);
-    machine.run_barrel(600)?;
-    assert_eq!(rt; heap.asked(), 0);
-    expect_same(rt, &machine, &twin);
+    let is_run = machine.run_barrel(600).is_ok();
+    let is_asked = heap.asked() > 0;
     heap.refuse(0);
-    Ok(refused)
+    is_run && !is_asked && are_same(machine, twin)
+}
+
+/// Makes room for the events of a run, with this request refused: then the machine is as it was.
+/// Once there is room, the run asks for nothing. This says whether the request was made, and nothing
+/// where anything else happened.
+fn room_refused(heap: &Rationed<Global>, alloc: Global, number: u64) -> Option<bool> {
+    let fresh = FLAPPING.machine(alloc, Profile::Ten).ok()?;
+    let mut twin = FLAPPING.machine(alloc, Profile::Ten).ok()?;
+    let is_run = twin.run_barrel(600).is_ok() && counts_events(&twin);
+    let counts = twin.event_counts();
+    let mut machine = FLAPPING.machine(heap, Profile::Ten).ok()?;
+    heap.refuse(number);
+    let is_made = machine.reserve(&counts).is_ok();
+    let is_refused = heap.has_refused();
+    heap.refuse(0);
+    let is_kept = is_run && is_made != is_refused && are_same(&machine, &fresh);
+    let has_room = is_made || machine.reserve(&counts).is_ok();
+    (is_kept && has_room && runs_in_room(heap, &mut machine, &twin)).then_some(is_refused)
 }
 
 #[test]
-fn no_request_with_room(rt: HostRuntime) -> Result<(), Fail> {
+fn no_request_with_room(rt: HostRuntime) {
     let heap = Rationed::new(rt.alloc());
     for number in 1..10u64 {
-        assert_eq!(rt; room_refused(&rt, &heap, number)?, number < 3, "{number}");
+        assert!(rt; room_refused(&heap, rt.alloc(), number) == Some(number < 3));
     }
-    Ok(())
 }
 
 /// This many turns of the barrel, each by a call of `step`.

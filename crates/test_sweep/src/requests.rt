@@ -69,7 +69,7 @@ fn long_texts_refused(rt: HostRuntime) -> Result<(), Fail> {
 /// Races whose lines go out while the run is still made: it asks for nothing any more then.
 #[test]
 fn long_races_refused(rt: HostRuntime) -> Result<(), Fail> {
-    let words = ["ppsim", "races", "--turns", "3000"];
+    let words = ["ppsim", "races", "--turns", "9000"];
     let (status, output, error) = whole(&rt, &words, LOOKED_AT);
     let lines = output.len();
     assert!(rt; lines > 20_000, "{lines}");
