@@ -10,18 +10,15 @@ const NAMED = 255; // in place of a processor's number: those that the deck name
 let library, idle = null;
 const aligned = n => Math.ceil(n / 16) * 16;
 
-/** Calls an export over these bytes. An instance whose memory was given back serves for the next
-    call; one that has grown does not, since it would never shrink. */
+/** Calls an export over these bytes. An instance that gave its memory back serves again. */
 function call(name, numbers, input, channels, megabytes = 4) {
   const instance = idle ?? new WebAssembly.Instance(library), { exports } = instance;
+  if (instance !== idle) exports.memory.grow(BigInt(16 * megabytes));
   idle = null;
-  const base = Number(exports.__heap_base.value), most = base + 2 ** 20 * megabytes;
-  const missing = Math.ceil((most - exports.memory.buffer.byteLength) / 65536);
-  if (missing > 0) exports.memory.grow(BigInt(missing));
   const bytes = new Uint8Array(exports.memory.buffer), view = new DataView(bytes.buffer);
   // One after another: the answer, where the memory for the work is, a list of channels, the input,
   // the room for the text, the memory for the work.
-  const listed = bytesOf(channels ?? ''), answer = aligned(base);
+  const listed = bytesOf(channels ?? ''), answer = aligned(Number(exports.__heap_base.value));
   const memory = answer + 32, list = memory + 16, start = list + listed.length;
   const room = aligned(start + input.length), size = aligned((bytes.length - room) / 2) - 16;
   const lent = [room + size, size].map(BigInt);
@@ -31,10 +28,10 @@ function call(name, numbers, input, channels, megabytes = 4) {
   const first = channels === undefined ? numbers : [BigInt(list), BigInt(listed.length)];
   exports[`ppsim_${name}`](BigInt(answer), BigInt(memory), ...first,
     BigInt(start), BigInt(input.length), BigInt(room), BigInt(size));
-  const isBack = lent.every((it, n) => view.getBigUint64(memory + 8 * n, true) === it);
-  if (isBack && megabytes === 4) idle = instance;
   const status = view.getUint32(answer, true), line = Number(view.getBigUint64(answer + 8, true));
   const isCut = status === NO_MEMORY || status === TOO_LONG;
+  const isBack = lent.every((it, n) => view.getBigUint64(memory + 8 * n, true) === it);
+  if (isBack && !isCut && megabytes === 4) idle = instance; // one that has grown does not shrink
   if (isCut && megabytes < 1024) return call(name, numbers, input, channels, 4 * megabytes);
   const words = bytes.subarray(room, room + Number(view.getBigUint64(answer + 16, true)));
   return { status, line, text: isCut ? 'out of memory' : new TextDecoder().decode(words) };
@@ -253,10 +250,9 @@ function remember() {
 function recall() {
   const kept = Object.fromEntries(new URLSearchParams(location.hash.slice(1)));
   const example = Object.hasOwn(EXAMPLES, kept.example) ? kept.example : 'handoff';
-  const isOwn = kept.deck !== undefined;
-  const own = isOwn ? { processors: 10, turns: 200 } : EXAMPLES[example];
+  const own = 'deck' in kept ? { processors: 10, turns: 200 } : EXAMPLES[example];
   $('views').elements.view.value = Object.hasOwn(VIEWS, kept.view) ? kept.view : 'State';
-  load(isOwn ? '' : example, { ...own, ...kept }, kept.turn);
+  load('deck' in kept ? '' : example, { ...own, ...kept }, kept.turn);
 }
 
 function press(e) {
@@ -281,10 +277,8 @@ async function begin() {
   $('picture').attachShadow({ mode: 'open' });
   $('example').append(...Object.keys(EXAMPLES).map(name => make('option', { textContent: name })));
   recall();
-  $('play').onclick = play;
-  $('save').onclick = saveFile;
-  $('take').onclick = takeEvents;
-  $('open').onclick = () => $('file').click();
+  const clicks = { play, save: saveFile, take: takeEvents, open: () => $('file').click() };
+  for (const [id, does] of Object.entries(clicks)) $(id).onclick = does;
   $('file').onchange = () => openFile($('file').files[0]);
   $('example').onchange = () => load($('example').value, EXAMPLES[$('example').value]);
   $('last').onchange = () => load($('example').value, { ...deckShown(), turns: $('last').value });
