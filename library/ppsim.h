@@ -1,6 +1,6 @@
 /* The simulator of the 6600's peripheral processors, as a library for C. Each call reads a deck, or
-   a channel trace, and puts the text of a command over it into `out`. It keeps nothing, and may be
-   made from any thread, in memory of its own. docs/EMBEDDING.md says what is proved of it. */
+   a channel trace, and puts the text of a command over it into `out`. It may be made from any thread,
+   in memory of its own. No pointer that is passed is null, also if its length is 0. docs/EMBEDDING.md says what is proved of it. */
 #ifndef PPSIM_H
 #define PPSIM_H
 
