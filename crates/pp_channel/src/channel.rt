@@ -116,7 +116,7 @@ impl<A: Allocator> Channel<A> {
         })
     }
 
-    /// Makes room for so many more events, which then ask for no memory.
+    /// Makes room for this many more events, which then ask for no memory, as tests show.
     pub fn reserve(&mut self, events: usize) -> Result<(), Memory>
         ensures { self.new ≡ self.old }
     {

@@ -134,8 +134,8 @@ impl<A: Allocator> Machine<A> {
         counts
     }
 
-    /// Makes room for so many more events on each channel, by its place: those that a run makes then
-    /// ask for no memory.
+    /// Makes room for these numbers of further events, by the places of the channels: those that a run
+    /// makes then ask for no memory, as tests show.
     pub fn reserve(&mut self, events: &[usize; CHANNELS]) -> Result<(), Memory>
         ensures { self.new ≡ self.old }
     {

@@ -30,8 +30,8 @@ AreAccessesOf pp (answer ∷ answers) accesses =
     × AreAccessesOf (processor_after pp answer) answers rest
 
 -- A worker that began with this processor made these accesses by its answers. They stand in the order
--- of all accesses, one after another. Its log has the entries of its accesses to channels, and those
--- of more looks; it stands in that order too.
+-- of all accesses, in theirs, with others between. Its log has the entries of its accesses to
+-- channels, with others between, and stands in that order too.
 pub record HasAccessed {A : Type 0} (load : Processor) (order : List Access) (w : Worker A)
     (accesses : List Access) : Type 0 where
   pub given : AreAccessesOf load w.answers.items accesses

@@ -1,5 +1,5 @@
 //! The simulator for hosts that are not Rattle: for C, what calls C, and as a WebAssembly module.
-//! Each call works in memory that its host lends, and gives it back.
+//! Each call works in memory that its host lends, and gives it back or says that it keeps it.
 #![tactic(auto)]
 
 ghost use Rattle.std.specs.Prelude.{◌≡◌, MatchOption, max};
@@ -12,7 +12,7 @@ use fixed_arena::{Memory, Slot, arena_in};
 use pp_calls::{Answer, channels_of, only_of, profile_of, refused_number, tell, window_of};
 use pp_sim::Work;
 
-/// Does this work in the memory, and gives it back.
+/// Does this work in the memory, and gives it back, or leaves its place empty.
 fn tell_in(memory: &mut Memory, work: Work, input: &[u8], out: &mut [u8]) -> Answer
     requires { NeedsNoThreads work }
     ensures told { Tells work input.now result out.old out.new }

@@ -36,7 +36,7 @@ pub fn races_text<A: Allocator + Copy, R: Read, W: Write>(
 struct RacesText(u32);
 
 impl RacesText {
-    /// How many events the run makes on each channel, by its place.
+    /// How many events each channel has after the run, by its place.
     fn count_events<A: Allocator + Copy>(
         &self,
         alloc: A,
