@@ -37,10 +37,10 @@ pub fn headline_law<A: Allocator>()
 }
 
 /// What one run of a deck tells of every run of it by threads, if it shows no race, on a channel or a
-/// central word, and is settled. However the threads ended, each processor and each channel stands as at some moment of that run.
-/// Where nothing more can move, as where all came to rest, the run leads to the very processors and
-/// the very histories that the threads left, and to the words of central memory that their accesses
-/// leave.
+/// central word, and is settled. However the threads ended, each processor and each channel stands as
+/// at some moment of that run. Where nothing more can move, as where all came to rest, the run leads
+/// to the very processors and the very histories that the threads left, and to the words of central
+/// memory that their accesses leave.
 pub fn one_run_law<A: Allocator>()
     ensures parts { (profile : Profile) (text : List ℕ) (deck : LoadedDeck) (ns : List ℕ)
         (limits : RunLimits) (report : Report A)
