@@ -22,14 +22,14 @@ enum {
 enum {
     PPSIM_LAST_TURN = 999999,
     PPSIM_MOST_DRAWN = 2000, /* turns in a drawing */
-    PPSIM_NAMED = 255        /* in place of a processor's number: those that the deck names */
+    PPSIM_NAMED = 255        /* in place of a processor's number: those in use */
 };
 
 /* At PPSIM_REFUSED and PPSIM_NO_MEMORY out begins with the words for the fault, as far as there is
    room: `length` is how many bytes of them stand there. */
 typedef struct {
     uint32_t status;
-    uint64_t line; /* from 1 on; 0 where the fault is no line's */
+    uint64_t line; /* from 1 on; 0 if the fault is no line's */
     uint64_t length;
 } ppsim_answer;
 

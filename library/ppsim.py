@@ -28,7 +28,7 @@ _FIRST_SIZE, _LAST_SIZE = 1 << 20, 1 << 30
 
 
 class Fault(Exception):
-    """Why there is no text: its status as in ppsim.h, and its line, or 0 where it is no line's."""
+    """Why there is no text: its status as in ppsim.h, and its line, or 0 if it is no line's."""
 
     def __init__(self, words: str, status: int, line: int = 0):
         super().__init__(words)
@@ -137,7 +137,7 @@ def races(deck: str | bytes, *, turns: int, processors: int = 10) -> str:
 
 def steps(deck: str | bytes, *, turns: int, pp: int | None = None, start: int = 0,
           processors: int = 10) -> str:
-    """The steps from turn `start` on: of processor `pp`, or of those that the deck names."""
+    """The steps from turn `start` on: of processor `pp`, or of those in use: named by the deck, or waiting at dead start."""
     if pp == _NAMED:
         raise NumberFault("number out of range", _BAD_NUMBER)
     return _call("steps", [processors, turns, _NAMED if pp is None else pp, start], deck)

@@ -4,7 +4,7 @@ const bytesOf = text => new TextEncoder().encode(text);
 const WRITTEN = 0, NO_MEMORY = 4, TOO_LONG = 5; // statuses of an answer
 const LAST_TURN = 999999, MOST_DRAWN = 2000, STEPS_SHOWN = 200, MOST_BUTTONS = 2000;
 const MOST_BYTES = 1048577, MOST_IN_ADDRESS = 32768; // the first is one more than a deck may have
-const NAMED = 255; // in place of a processor's number: those that the deck names
+const NAMED = 255; // in place of a processor's number: those in use
 
 // ---- the library
 let library, idle = null;

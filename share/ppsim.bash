@@ -1,6 +1,6 @@
 # Completion of ppsim for bash.
 _ppsim() {
-    local commands="barrel threads list dump steps state sessions races draw check help"
+    local commands="barrel threads list dump steps state ends memory central sessions races draw check help"
     local word=${COMP_WORDS[COMP_CWORD]} previous=${COMP_WORDS[COMP_CWORD - 1]}
     local options
     if [ "$COMP_CWORD" -eq 1 ]; then
@@ -12,10 +12,13 @@ _ppsim() {
         return
     fi
     case ${COMP_WORDS[1]} in
-    barrel | dump | state | sessions | races) options="--turns --processors --help" ;;
+    sessions) options="--turns --words --processors --help" ;;
+    barrel | dump | state | ends | races) options="--turns --processors --help" ;;
     threads) options="--steps --patience --processors --help" ;;
     list) options="--processors --help" ;;
-    steps) options="--turns --pp --from --processors --help" ;;
+    steps) options="--turns --pp --ch --from --to --processors --help" ;;
+    memory) options="--turns --pp --first --last --processors --help" ;;
+    central) options="--turns --first --last --processors --help" ;;
     draw) options="--turns --from --to --processors --help" ;;
     check) options="--opened --help" ;;
     help) options=$commands ;;

@@ -9,8 +9,8 @@ use std::marker::Model;
 /// The alignment of memory, and what its size is a multiple of, in bytes.
 pub(crate) const UNIT: usize = 16;
 
-/// `size` bytes in which nothing lies, from a pointer on that is aligned to 16: a multiple of 16,
-/// below 2 ^ 63.
+/// `size` bytes in which nothing lies, at a pointer that is aligned to 16; `size` is a multiple of
+/// 16, below 2 ^ 63.
 #[repr(C)]
 #[derive(Drop)]
 pub struct Memory {
@@ -24,7 +24,7 @@ impl Model for Memory {
 }
 
 impl Memory {
-    /// Takes all of it out of its place, and leaves none there.
+    /// Takes all of it, and leaves none in its place.
     pub(crate) fn take(&mut self) -> Memory
         ensures { (result.size ≡ self.old.size) × (self.new.size ≡ 0) }
     {

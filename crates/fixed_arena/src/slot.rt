@@ -10,7 +10,7 @@ use std::cell::Cell;
 /// Hands out a memory as one block, and keeps it while the block is not out.
 #[derive(Drop)]
 pub struct Slot {
-    /// How many bytes (decimal) the memory has.
+    /// The size of the memory in bytes (decimal).
     pub size: usize,
     memory: Cell<Option<Memory>>,
     ghost fits: { IsWhole size },

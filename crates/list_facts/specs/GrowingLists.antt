@@ -21,7 +21,7 @@ range_more a n = ap (range_with_len a) (one n) ∙ from a n
         ap (λ (ks : List ℕ). a ∷ ks)
         (from (a + 1) n ∙ ap (λ (k : ℕ). range_with_len (a + 1) n ++ k ∷ []) (next a n))
 
--- numbers, and those behind them
+-- numbers, and those after them
 pub range_append : (a m n : ℕ)
     → range_with_len a (m + n) ≡ range_with_len a m ++ range_with_len (a + m) n
 range_append a zero n =
@@ -71,7 +71,7 @@ or_else None o = o
 abbrev pub last_of : {A : Type 0} → List A → Option A
 last_of xs = last_or None xs
 
--- the last of a list with perhaps one element more
+-- the last of a list with perhaps one more element
 pub last_of_more : {A : Type 0} (xs : List A) (o : Option A)
     → last_of (xs ++ option_to_list o) ≡ or_else o (last_of xs)
 last_of_more xs None = ap last_of (append-nil xs)

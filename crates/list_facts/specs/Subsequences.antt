@@ -11,7 +11,7 @@ module _ {X : Type 0} where
   stands_whole [] = tt
   stands_whole (x ∷ xs) = inl (refl, stands_whole xs)
 
-  -- what stands in a list stands in it with more before, and with more behind
+  -- what stands in a list stands in it with more before, and with more after
   pub stands_after : (xs : List X) (y : X) (ys : List X) → IsSubsequence xs ys
       → IsSubsequence xs (y ∷ ys)
   stands_after [] y ys h = tt
@@ -45,7 +45,7 @@ module _ {X : Type 0} where
       → IsSubsequence (xs ++ z ∷ []) (ys ++ z ∷ [])
   stands_push xs ys z h = stands_append xs ys (z ∷ []) (z ∷ []) h (inl (refl, tt))
 
-  -- the front of what stands in a list stands there
+  -- a prefix of what stands in a list stands there
   pub stands_front : (xs zs ys : List X) → IsSubsequence (xs ++ zs) ys → IsSubsequence xs ys
   stands_front [] zs ys h = tt
   stands_front (x ∷ xs) zs [] h = absurd h

@@ -18,7 +18,7 @@ pub get_or-tabulate : {A : Type 0} (n : ℕ) (f : ℕ → A) (i : ℕ) (d : A) �
 unfolding tabulate
 get_or-tabulate n f i d lt = get_or-map-range_with_len f 0 n i i d lt (omega arith)
 
--- a list is a table where it has its length and its entries
+-- a list is a table if it has its length and its entries
 pub tabulate_is : {A : Type 0} (d : A) (xs : List A) (n : ℕ) (f : ℕ → A) → length xs ≡ n
     → ((i : ℕ) → i < n → get_or xs i d ≡ f i) → xs ≡ tabulate n f
 tabulate_is d xs n f long same =

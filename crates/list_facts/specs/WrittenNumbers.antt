@@ -1,4 +1,4 @@
--- Lists of numbers of which one is written.
+-- Lists of numbers, one of which is written.
 use Rattle.std.proofs.Common.{◌≡◌, ℕ, zero, suc, ◌≤◌, List, [], ◌∷◌, get_or, set, refl, ap, arith}
 
 -- what holds of each, and of the new one, holds after
@@ -10,7 +10,7 @@ set_at_each P (x ∷ xs) zero n (suc d) old new = old
 set_at_each P (x ∷ xs) (suc c) n zero old new = old
 set_at_each P (x ∷ xs) (suc c) n (suc d) old new = set_at_each P xs c n d old (λ e. new (ap suc e))
 
--- none falls where the new one is no less
+-- none falls if the new one is no less
 pub set_raises : (xs : List ℕ) (c n d : ℕ) → get_or xs c 0 ≤ n
     → get_or xs d 0 ≤ get_or (set xs c n) d 0
 set_raises [] c n d l = omega arith

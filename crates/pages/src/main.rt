@@ -15,9 +15,10 @@ use std::sync::Wait;
 use std::thread::Threads;
 
 /// The pages whose commands are run. Links at the top of the repository lead to the first three.
-const PAGES: [&str; 20] = [
+const PAGES: [&str; 23] = [
     "README.md",
     "TUTORIAL.md",
+    "VIEWS.md",
     "examples/README.md",
     "cases/barrel.md",
     "cases/dead_start.md",
@@ -26,6 +27,8 @@ const PAGES: [&str; 20] = [
     "cases/dump.md",
     "cases/steps.md",
     "cases/state.md",
+    "cases/ends.md",
+    "cases/memory.md",
     "cases/sessions.md",
     "cases/draw.md",
     "cases/races.md",

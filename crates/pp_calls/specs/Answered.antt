@@ -8,15 +8,8 @@ use Rattle.pp_calls.specs.declared.answer.Answer.{Answer}
 
 -- every work but that with one thread per processor
 abbrev pub NeedsNoThreads : Work → Type 0
-NeedsNoThreads (Work.Barrel profile turns) = Unit {0}
+NeedsNoThreads (Work.Deck profile text) = Unit {0}
 NeedsNoThreads (Work.Threads profile limits) = ⊥
-NeedsNoThreads (Work.List profile) = Unit {0}
-NeedsNoThreads (Work.Dump profile turns) = Unit {0}
-NeedsNoThreads (Work.State profile turns) = Unit {0}
-NeedsNoThreads (Work.Sessions profile turns) = Unit {0}
-NeedsNoThreads (Work.Races profile turns) = Unit {0}
-NeedsNoThreads (Work.Steps profile turns only from) = Unit {0}
-NeedsNoThreads (Work.Draw profile window) = Unit {0}
 NeedsNoThreads (Work.Check opened) = Unit {0}
 
 -- the status of a fault
@@ -45,8 +38,8 @@ pub record IsWritten (text : List ℕ) (a : Answer) (old new : List ℕ) : Type 
   pub fits : length text ≤ length old → (a.status ≡ 0) × (new ≡ text ++ drop (length text) old)
   pub exceeds : length old < length text → (a.status ≡ 5) × (new ≡ old)
 
--- the words for a fault stand at the front of the room, as far as they fit; what is not written is as
--- it was
+-- the words for a fault stand at the front of the room, as far as they fit; what is not written is
+-- as it was
 pub record IsRefused (f : TextFault) (a : Answer) (old new : List ℕ) : Type 0 where
   pub status : a.status ≡ status_of f
   pub line : a.line ≡ line_of f
@@ -71,8 +64,8 @@ pub record Tells (work : Work) (input : List ℕ) (a : Answer) (old new : List �
 abbrev pub RefusesNumber : Answer → (old new : List ℕ) → Type 0
 RefusesNumber a old new = (a.status ≡ 2) × (a.line ≡ 0) × (a.length ≡ 0) × (new ≡ old)
 
--- THE PROMISE of a call on a trace: the answer tells of its check from the channels of a list on,
--- or refuses what is no list of channels
+-- THE PROMISE of a call on a trace: the answer gives the outcome of its check, begun with the
+-- channels of a list open, or refuses what is no list of channels
 abbrev pub TellsOfTrace : List ℕ → List ℕ → Answer → (old new : List ℕ) → Type 0
 TellsOfTrace listed trace a old new =
     ((flags : List Bool) × AreChannels listed flags × Tells (Work.Check flags) trace a old new)

@@ -6,7 +6,7 @@ ghost use Rattle.pp_calls.specs.Answered.{Shows, IsWritten, line_of, status_of};
 use pp_sim::TextFault;
 use std::alloc::Allocator;
 
-/// What became of a call.
+/// The outcome of a call.
 #[repr(C)]
 #[derive(Clone, Copy, Debug, PartialEq, Eq)]
 pub struct Answer {
@@ -14,10 +14,10 @@ pub struct Answer {
     /// it stands. 2: a number is out of its range, or a list is no list of channels. 4: memory was
     /// refused. 5: the text is longer than the room for it, and nothing is written.
     pub status: u32,
-    /// The line at which a deck or a trace is refused, from 1 on (decimal); 0 where no line is.
+    /// The line at which a deck or a trace is refused, from 1 on (decimal); 0 if no line is.
     pub line: u64,
-    /// How many bytes (decimal) the text has; at status 1 and 4 how many of the words for the fault
-    /// stand in its place, as far as there is room; at status 2 none.
+    /// The length of the text in bytes (decimal); at status 1 and 4 that of the words for the fault
+    /// that stand in its place, as far as there is room; at status 2, 0.
     pub length: u64,
 }
 
@@ -42,7 +42,7 @@ pub fn refused_number() -> Answer
     }
 }
 
-/// The answer to a call whose work ended so, and wrote this text.
+/// The answer to a call whose work had this outcome and wrote this text.
 pub(crate) fn answer_of<A: Allocator>(
     alloc: A,
     outcome: Result<(), TextFault>,
@@ -106,7 +106,7 @@ fn line_of(fault: &TextFault) -> u64
     }
 }
 
-/// Puts the words for a fault into the room, as far as they fit: how many bytes stand there.
+/// Puts the words for a fault into the room, as far as they fit; returns how many bytes.
 fn show_fault<A: Allocator>(alloc: A, fault: &TextFault, out: &mut [u8]) -> u64
     ensures within { result ≤ length out.old }
     ensures rest { drop result out.new ≡ drop result out.old }

@@ -6,16 +6,16 @@ ghost use Rattle.pp_calls.specs.Numbers.{AreChannels, only_of, profile_of, windo
 use pp_channel::CHANNELS;
 use pp_check::listed_channels;
 use pp_draw::{MOST_TURNS, Window};
-use pp_machine::{PpNo, Profile};
+use pp_machine::{PROCESSORS, Profile};
 
 /// The last turn of a run (decimal).
 const LAST_TURN: u32 = 999_999;
 
-/// In place of a processor's number: those that the deck names.
-const NAMED: u8 = 255;
+/// In place of a processor's number: those in use.
+const IN_USE: u8 = 255;
 
-/// The profile of a machine of this many processors, 10 or 20 (decimal), that is run for this many
-/// turns, 0 to 999,999 (decimal); nothing where a number is another.
+/// The profile of a machine of `processors` processors, 10 or 20 (decimal), for a run of `turns`
+/// turns, 0 to 999,999 (decimal); nothing for other numbers.
 pub fn profile_of(processors: u32, turns: u32) -> Option<Profile>
     ensures { result ≡ profile_of processors turns }
 {
@@ -29,22 +29,22 @@ pub fn profile_of(processors: u32, turns: u32) -> Option<Profile>
     }
 }
 
-/// The processor of this number alone, or at 255 (decimal) those that the deck names; nothing where
-/// the machine has no such processor.
-pub fn only_of(profile: Profile, number: u8) -> Option<Option<PpNo>>
+/// The processor of this number alone, by flags in the barrel's order, or at 255 (decimal) no
+/// choice of processors; nothing if the machine has no such processor.
+pub fn only_of(profile: Profile, number: u8) -> Option<Option<[bool; PROCESSORS]>>
     ensures { result ≡ only_of profile number }
 {
-    if number == NAMED {
+    if number == IN_USE {
         return Some(None);
     }
-    match profile.processor(number) {
-        Some(n) => Some(Some(n)),
-        None => None,
-    }
+    let n = profile.processor(number)?;
+    let mut alone = [false; PROCESSORS];
+    alone[n.index()] = true;
+    Some(Some(alone))
 }
 
-/// The window from one turn on and before another; nothing where it ends before it begins, or is
-/// longer than a picture, 2,000 turns (decimal).
+/// The window from turn `from` up to but not including turn `to`; nothing if it ends before it
+/// begins, or is longer than a picture, 2,000 turns (decimal).
 pub fn window_of(from: u32, to: u32) -> Option<Window>
     ensures { result ≡ window_of from to }
 {
@@ -55,8 +55,8 @@ pub fn window_of(from: u32, to: u32) -> Option<Window>
     }
 }
 
-/// The channels of a list as `1,5,13` (octal), by flags in the order of their places; none of them
-/// where the list is empty; nothing where it is no list of channels.
+/// The channels of a list like `1,5,13` (octal), by flags in the order of their places; no channel
+/// if the list is empty; nothing if it is no list of channels.
 pub fn channels_of(listed: &[u8]) -> Option<[bool; CHANNELS]>
     ensures { MatchOption result ((flags : List Bool) → ¬ AreChannels listed.now flags)
         (AreChannels listed.now) }

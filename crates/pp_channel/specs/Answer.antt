@@ -17,7 +17,7 @@ use Rattle.pp_channel.specs.History.{IsLawful, active, full, waiting, HasTwelveB
 abbrev pub flags_of : List Event → Flags
 flags_of h = record { active = active h; full = full h }
 
--- how it stands: its flags, and the word in its register
+-- its state: its flags, and the word in its register
 abbrev pub channel_state : List Event → ChannelState
 channel_state h = record { flags = flags_of h; register = waiting h }
 
@@ -34,23 +34,23 @@ operation_of (Event.Put w) = ChanOp.Put w
 operation_of (Event.Take w) = ChanOp.Take
 operation_of (Event.Function w) = ChanOp.Function w
 
--- the reply where an event is made
+-- the reply if an event is made
 abbrev pub reply_made : Event → Reply
 reply_made (Event.Take w) = Reply.Word w
 reply_made _ = Reply.Done
 
--- the reply where none is made: an operation that only looks is answered, any other is held
+-- the reply if none is made: an operation that only looks is answered, any other is held
 abbrev pub reply_shown : ChanOp → ChannelState → Reply
 reply_shown ChanOp.Probe state = Reply.Flags state.flags
 reply_shown op state = Reply.Held state.flags
 
--- the flags that a reply shows; one that tells of an event shows none
+-- the flags that a reply shows; one to an operation that made an event shows none
 abbrev pub flags_shown : Reply → Option Flags
 flags_shown (Reply.Flags f) = Some f
 flags_shown (Reply.Held f) = Some f
 flags_shown reply = None
 
--- First the relation. An operation is ready on h where it makes an event with which h stays lawful.
+-- First the relation. An operation is ready on h if it makes an event with which h stays lawful.
 pub record IsReady (h : List Event) (op : ChanOp) (e : Event) : Type 0 where
   pub operation : operation_of e ≡ op
   pub lawful : IsLawful (h ++ e ∷ [])
@@ -73,7 +73,7 @@ pub record IsShown (h : List Event) (op : ChanOp) (reply : Reply) (after : List 
 abbrev pub IsAnswer : List Event → ChanOp → Reply → List Event → Type 0
 IsAnswer h op reply after = ((e : Event) × IsMade h op reply after e) ⊎ IsShown h op reply after
 
--- Then the table. Where an operation is ready, by the flags:
+-- Then the table. Whether an operation is ready, by the flags:
 abbrev pub ready_at : ChanOp → Flags → Bool
 ready_at ChanOp.Probe f = true
 ready_at ChanOp.Activate f = not f.active
@@ -82,7 +82,7 @@ ready_at (ChanOp.Put w) f = f.active && not f.full
 ready_at ChanOp.Take f = f.active && f.full
 ready_at (ChanOp.Function w) f = not f.active
 
--- the event that it makes, where `word` is the one in the register
+-- the event that it makes, if `word` is the one in the register
 abbrev pub event_with : ChanOp → Option ℕ → Option Event
 event_with ChanOp.Probe word = None
 event_with ChanOp.Activate word = Some Event.Activate
@@ -115,7 +115,7 @@ flags_after (Event.Function w) = record { active = false; full = false }
 abbrev pub event_by : ChanOp → Flags → Option ℕ → Option Event
 event_by op f word = if ready_at op f then event_with op word else None
 
--- The event of an operation on a channel with the history h; None where it makes none.
+-- The event of an operation on a channel with the history h; None if it makes none.
 abbrev pub event_of : ChanOp → List Event → Option Event
 event_of op h = event_by op (flags_of h) (waiting h)
 
@@ -123,7 +123,7 @@ abbrev pub reply_by : ChanOp → ChannelState → Option Event → Reply
 reply_by op state None = reply_shown op state
 reply_by op state (Some e) = reply_made e
 
--- The reply to an operation where a channel stands so.
+-- The reply to an operation on a channel in this state.
 abbrev pub state_reply : ChanOp → ChannelState → Reply
 state_reply op state = reply_by op state (event_by op state.flags state.register)
 
@@ -131,7 +131,7 @@ state_reply op state = reply_by op state (event_by op state.flags state.register
 abbrev pub reply_to : ChanOp → List Event → Reply
 reply_to op h = state_reply op (channel_state h)
 
--- The history after it: one event more, or the same.
+-- The history after it: one more event, or the same.
 abbrev pub history_after : ChanOp → List Event → List Event
 history_after op h = h ++ option_to_list (event_of op h)
 

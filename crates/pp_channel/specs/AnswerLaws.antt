@@ -26,13 +26,13 @@ pub held_at : (op : ChanOp) (state : ChannelState) → only_looks op ≡ false
 held_at ChanOp.Probe state acts = absurd cc
 held_at op state acts = refl
 
--- where none is made, the reply shows the flags
+-- if none is made, the reply shows the flags
 pub shows_flags : (op : ChanOp) (state : ChannelState)
     → flags_shown (reply_shown op state) ≡ Some state.flags
 shows_flags ChanOp.Probe state = refl
 shows_flags op state = refl
 
--- and one that shows them tells of none
+-- and after one that shows them, none was made
 pub shown_makes_none : (op : ChanOp) (reply : Reply) (f : Flags) → flags_shown reply ≡ Some f
     → event_answered op reply ≡ None
 shown_makes_none op (Reply.Flags g) f shows = refl

@@ -4,7 +4,7 @@
 -- processors has twelve more, numbered 20 to 33.)
 use Rattle.std.specs.Prelude.{ℕ, ◌+◌, ◌-◌, ◌&&◌, ◌||◌, Bool, nat_lt, if◌then◌else◌}
 
--- how many channels there are
+-- the number of channels
 abbrev pub channel_count : ℕ
 channel_count = 0o30
 
@@ -12,7 +12,7 @@ channel_count = 0o30
 unfoldable pub names_channel : ℕ → Bool
 names_channel number = nat_lt number 0o14 || (nat_lt 0o17 number && nat_lt number 0o34)
 
--- the place of the channel with this number in a list of all; past its end where it names none
+-- the place of the channel with this number in a list of all; past its end if it names none
 unfoldable pub channel_index : ℕ → ℕ
 channel_index number =
     if nat_lt number 0o14 then number else if nat_lt number 0o20 then channel_count else number - 4

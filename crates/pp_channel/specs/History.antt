@@ -8,7 +8,7 @@ use Rattle.pp_channel.specs.Session.{Session, body, puts, takes}
 use Rattle.pp_channel.specs.ChannelNo.{channel_count, channel_index}
 use Rattle.pp_channel.specs.declared.event.Event.{Event}
 
--- an idle stretch: function codes alone
+-- an idle stretch: only function codes
 abbrev pub idle_stretch : List ℕ → List Event
 idle_stretch codes = map (λ code. Event.Function code) codes
 
@@ -30,7 +30,7 @@ events_of c =
     ++ flat_map whole_session c.whole_sessions
     ++ flat_map body (option_to_list c.open_session)
 
--- A history is lawful where there is a course whose events it is.
+-- A history is lawful if there is a course whose events it is.
 abbrev pub IsLawful : List Event → Type 0
 IsLawful h = (course : Course) × (events_of course ≡ h)
 
@@ -40,7 +40,7 @@ switches_to Event.Activate = Some true
 switches_to Event.Disconnect = Some false
 switches_to _ = None
 
--- A channel is active where the last of Activate and Disconnect in its history is Activate.
+-- A channel is active if the last of Activate and Disconnect in its history is Activate.
 abbrev pub active : List Event → Bool
 active h = unwrap_or (last_or None (filter_map switches_to h)) false
 
@@ -48,7 +48,7 @@ active h = unwrap_or (last_or None (filter_map switches_to h)) false
 abbrev pub last_stretch : List Event → List Event
 last_stretch h = after_last (λ e. is_some (switches_to e)) h
 
--- A channel is full where its history ends in an open session with one more put than takes.
+-- A channel is full if its history ends in an open session with one more put than takes.
 abbrev pub full : List Event → Bool
 full h = active h && (length (puts (last_stretch h)) == length (takes (last_stretch h)) + 1)
 

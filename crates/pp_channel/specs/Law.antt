@@ -1,8 +1,8 @@
 -- The law of the words that pass on a channel, over every session of its history.
 --
 -- In every session the words taken are the first of the words put, in their order, and at most one
--- word put is not taken. It waits in the register, or it is lost where a Disconnect finds the
--- channel full. No word passes outside a session.
+-- word put is not taken. It waits in the register, or it is lost if a Disconnect finds the channel
+-- full. No word passes outside a session.
 use Rattle.std.specs.Prelude.{◌≡◌, ◌≢◌, ℕ, ◌+◌, ◌≤◌, List, [], ◌∷◌, ◌++◌, length, IsTrue, All, Some, None}
 use Rattle.std.specs.List.{last_or}
 use Rattle.pp_channel.specs.declared.event.Event.{Event}
@@ -43,7 +43,7 @@ pub record KeepsLaw (h : List Event) : Type 0 where
   pub lost : (before inside later : List Event) (w : ℕ)
       → IsSession h before inside (Event.Disconnect ∷ later) → IsUntaken inside w
       → IsFullWith (before ++ Event.Activate ∷ inside) w
-  -- a word that is not taken in the session that is going on
+  -- a word that is not taken in the session that is open
   pub kept : (before inside : List Event) (w : ℕ)
       → IsSession h before inside [] → IsUntaken inside w → IsFullWith h w
   -- outside a session

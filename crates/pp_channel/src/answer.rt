@@ -28,15 +28,15 @@ pub fn answer_law()
         → flags_of (h ++ e ∷ []) ≡ flags_after e }
 {}
 
-/// The event that an operation makes, by the flags and the word in the register; nothing where it
-/// only looks or is not ready.
+/// The event that an operation makes, by the flags and the word in the register; nothing if it only
+/// looks or is not ready.
 #[inline(always)]
 pub fn event_by(op: &ChanOp, flags: Flags, register: Option<Word12>) -> Option<Event>
     ensures event { result ≡ event_by op.now flags register }
     ensures twelve_bits { IfSome result HasTwelveBitWord }
 {
     let Flags { active, full } = flags;
-    // A word is known to have 12 bits once its number is read.
+    // Reading a word's number reveals to the proof that it has 12 bits.
     match op {
         ChanOp::Activate if !active => Some(Event::Activate),
         ChanOp::Disconnect if active => Some(Event::Disconnect),
@@ -57,7 +57,7 @@ pub fn event_by(op: &ChanOp, flags: Flags, register: Option<Word12>) -> Option<E
     }
 }
 
-/// The reply where an event is made.
+/// The reply if an event is made.
 #[inline(always)]
 pub fn reply_made(event: &Event) -> Reply
     ensures { result ≡ reply_made event.now }
@@ -68,7 +68,7 @@ pub fn reply_made(event: &Event) -> Reply
     }
 }
 
-/// The reply where none is made: an operation that only looks is answered, any other is held.
+/// The reply if none is made: an operation that only looks is answered, any other is held.
 #[inline(always)]
 pub fn reply_shown(op: &ChanOp, state: &ChannelState) -> Reply
     ensures { result ≡ reply_shown op.now state.now }

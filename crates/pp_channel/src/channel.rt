@@ -116,16 +116,16 @@ impl<A: Allocator> Channel<A> {
         })
     }
 
-    /// Makes room for this many more events, which then ask for no memory, as tests show.
+    /// Makes room for `events` more events, which then take no memory, as tests show.
     pub fn reserve(&mut self, events: usize) -> Result<(), Memory>
         ensures { self.new ≡ self.old }
     {
         Ok(self.events.reserve_exact(events)?)
     }
 
-    /// The event that the operation would make now, or nothing where it would make none. It takes
-    /// no memory: who records events beside the channel asks it first, and so takes memory for a
-    /// record only where there is an event.
+    /// The event that the operation would make now, or nothing if it would make none. It takes no
+    /// memory: a caller that also records events asks first, and so takes memory for a record only
+    /// if there is an event.
     #[inline(always)]
     pub fn next_event(&self, op: &ChanOp) -> Option<Event>
         ensures event { result ≡ event_of op.now self.now }
@@ -144,7 +144,7 @@ impl<A: Allocator> Channel<A> {
         reply_shown(op, &ChannelState::of(self))
     }
 
-    /// Makes the operation where it is ready; holds it where it is not, and then nothing changes.
+    /// Makes the operation if it is ready; otherwise holds it, and nothing changes.
     #[tactic(auto, using(crate::proofs::AnswerLemmas::answered_by_table))]
     #[inline(always)]
     pub fn act(&mut self, op: ChanOp) -> Result<Reply, Memory>
@@ -164,7 +164,7 @@ impl<A: Allocator> Channel<A> {
         self.make(op, event)
     }
 
-    /// Makes an operation of which the event that it makes now is known, by `next_event`.
+    /// Makes an operation whose event is known, by `next_event`.
     #[inline(always)]
     pub fn make(&mut self, op: ChanOp, event: Event) -> Result<Reply, Memory>
         requires event { event_of op self.old ≡ Some event }
@@ -174,13 +174,13 @@ impl<A: Allocator> Channel<A> {
         ensures lawful { IsLawful self.new }
         ensures unchanged_after_memory { OnErr result (self.new ≡ self.old) }
     {
-        // The call says to the proof that the history is lawful.
+        // Reveals to the proof that the history is lawful.
         let _lawful = self.history();
         self.record(event)?;
         Ok(reply_made(&event))
     }
 
-    /// Adds an event to the history, and keeps what it leaves in the flags and the register.
+    /// Adds an event to the history, and sets the flags and the register to what it leaves.
     fn record(&mut self, event: Event) -> Result<(), Memory>
         requires lawful { IsLawful (self.old ++ event ∷ []) }
         requires twelve_bits { HasTwelveBitWord event }

@@ -5,7 +5,7 @@ ghost use Rattle.pp_channel.specs.ChannelNo.{channel_count, names_channel, chann
 
 use std::marker::Model;
 
-/// How many data channels the greater machine has (decimal).
+/// The number of data channels of the larger machine (decimal).
 pub const CHANNELS: usize = 24;
 
 /// The number of a data channel, 0 to 13 or 20 to 33 (octal). It is kept as its place in a list of

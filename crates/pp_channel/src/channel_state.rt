@@ -1,4 +1,4 @@
-//! How a channel stands, without its history.
+//! The state of a channel, without its history.
 
 ghost use Rattle.std.specs.Prelude.{◌≡◌, [], ◌∷◌, ◌++◌, List, IfSome, IfNone};
 ghost use Rattle.pp_channel.specs.Answer.{channel_state, event_by, event_of, history_after, operation_of, reply_to, state_reply};
@@ -18,8 +18,8 @@ use std::fmt::{self, Display, Formatter, Write};
 /// The flags of a channel and the word in its register: all of its history that its answers need.
 /// It takes no memory that grows.
 ///
-/// Example: where the word 0007 (octal) waits, both flags are set, the register has this word, and
-/// the state is printed as `ACTIVE FULL 0007`.
+/// Example: if the word 0007 (octal) waits, both flags are set, the register has this word, and the
+/// state is printed as `ACTIVE FULL 0007`.
 #[derive(Clone, Copy, Debug, PartialEq, Eq)]
 pub struct ChannelState {
     pub flags: Flags,
@@ -28,7 +28,8 @@ pub struct ChannelState {
 }
 
 impl ChannelState {
-    /// An inactive channel, as one on which nothing has happened. Example: `INACTIVE` is printed.
+    /// An inactive channel, like one on which nothing has happened. Example: it is printed as
+    /// `INACTIVE`.
     pub const INACTIVE: ChannelState = ChannelState {
         flags: Flags {
             active: false,
@@ -37,7 +38,7 @@ impl ChannelState {
         register: None,
     };
 
-    /// An active channel without a word. Example: `ACTIVE EMPTY` is printed.
+    /// An active channel without a word. Example: it is printed as `ACTIVE EMPTY`.
     pub const EMPTY: ChannelState = ChannelState {
         flags: Flags {
             active: true,
@@ -46,7 +47,7 @@ impl ChannelState {
         register: None,
     };
 
-    /// How a channel stands. Example: a new channel is `INACTIVE`.
+    /// The state of a channel. Example: a new channel is `INACTIVE`.
     #[inline(always)]
     pub fn of<A: Allocator>(channel: &Channel<A>) -> ChannelState
         ensures { result ≡ channel_state channel.now }
@@ -58,7 +59,7 @@ impl ChannelState {
     }
 
     /// The event that an operation would make. Example: `ChanOp::Take` would make
-    /// `Event::Take(word)` where that word waits, and none on an empty channel.
+    /// `Event::Take(word)` if that word waits, and none on an empty channel.
     pub fn next_event(&self, op: &ChanOp) -> Option<Event>
         ensures table { result ≡ event_by op.now self.now.flags self.now.register }
         ensures event { (h : List Event) → self.now ≡ channel_state h
@@ -68,7 +69,7 @@ impl ChannelState {
         event_by(op, self.flags, self.register)
     }
 
-    /// How a channel stands after an event; nothing where the event may not come. Example: after
+    /// The state of a channel after an event, or nothing if the event may not come. Example: after
     /// `Event::Activate` an inactive channel is `EMPTY`, on which `Event::Activate` may not come.
     pub fn after(&self, event: &Event) -> Option<ChannelState>
         ensures lawful { IfSome result (λ state. (h : List Event) → IsLawful h
@@ -88,9 +89,9 @@ impl ChannelState {
         })
     }
 
-    /// Makes an operation where it is ready; holds it where it is not, and then nothing changes.
-    /// Replies as a channel does. Example: an empty channel holds `ChanOp::Take`, and after
-    /// `ChanOp::Put(word)` it is full with that word.
+    /// Makes an operation if it is ready; otherwise holds it, and nothing changes. Replies as a
+    /// channel does. Example: an empty channel holds `ChanOp::Take`, and after `ChanOp::Put(word)`
+    /// it is full with that word.
     pub fn act(&mut self, op: ChanOp) -> Reply
         ensures table { result ≡ state_reply op self.old }
         ensures reply { (h : List Event) → self.old ≡ channel_state h → result ≡ reply_to op h }

@@ -25,9 +25,8 @@ impl<A: Allocator> Locked<A> {
         }
     }
 
-    /// Makes the operation under the lock where it is ready, and holds it where it is not. `number`
-    /// is the length of the history before the call, and `loaded` the same. After `Memory` nothing
-    /// has changed.
+    /// Makes the operation under the lock if it is ready, and otherwise holds it. `number` and
+    /// `loaded` are the length of the history before the call. After `Memory` nothing has changed.
     pub fn act(&self, rt: &impl Wait, op: ChanOp) -> Result<Numbered, Memory>
         ensures answer { IfOk result (λ r. IsLockedAnswer op r) }
         ensures look_takes_no_memory { only_looks op ≡ true → IsOk result }
@@ -42,14 +41,14 @@ impl<A: Allocator> Locked<A> {
         })
     }
 
-    /// The channel, which is shared no longer.
+    /// The channel, which is no longer shared.
     pub fn into_inner(self) -> Channel<A>
         ensures lawful { IsLawful result }
         ensures twelve_bits { HasTwelveBitWords result }
     {
         let Locked { channel } = self;
         let channel = channel.into_inner();
-        // The call says to the proof that the history is lawful.
+        // Reveals to the proof that the history is lawful.
         let _history = channel.history();
         channel
     }

@@ -2,7 +2,7 @@
 
 use crate::reply::Reply;
 
-/// An answer, and where it stands in the history of its channel.
+/// An answer, and its place in the history of its channel.
 #[derive(Clone, Copy, Debug, PartialEq, Eq)]
 pub struct Numbered {
     /// The answer.

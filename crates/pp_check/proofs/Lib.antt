@@ -12,4 +12,4 @@ mod PrintedTextLemmas
 mod PrintedLawLemmas
 mod PrintedReportLemmas
 mod RisingTurnLemmas
-mod ChannelListLemmas
+mod NumberListLemmas

@@ -1,4 +1,4 @@
--- What the judge keeps of the lines so far. (Private contracts alone cite this.)
+-- What the judge keeps of the lines so far. (Only private contracts cite this.)
 use Rattle.std.specs.Prelude.{◌≡◌, ℕ, ◌+◌, Bool, List, [], ◌∷◌, ◌++◌, length, false, IsTrue, count_by, slice_index_or, Result, Ok, Err, Option, None, Some, if◌then◌else◌}
 use Rattle.pp_channel.specs.Answer.{channel_state}
 use Rattle.pp_channel.specs.ChannelNo.{channel_count, channel_index, names_channel}
@@ -19,7 +19,7 @@ standing opened lines c = record {
   is_opened = is_opened opened c;
 }
 
--- of a channel of which nothing is told, and which was not opened
+-- of a channel that no line has named and that was not opened
 abbrev pub new_standing : Standing
 new_standing = record { state = inactive; events = 0; is_opened = false }
 
@@ -31,7 +31,7 @@ standing_of channels c = slice_index_or channels (channel_index c) new_standing
 abbrev pub next_number : Standing → ℕ
 next_number s = if s.is_opened then s.events + 1 else s.events
 
--- The lines so far are lawful; of each channel is kept how it stands; and events and sessions are
+-- The lines so far are lawful; the state of each channel is kept; and events and sessions are
 -- counted.
 pub record KeepsEvents (opened : List Bool) (lines : List TraceLine)
     (standings : List Standing) (event_count session_count : ℕ) : Type 0 where
@@ -59,7 +59,7 @@ Happens opened before line after (Ok done) =
     KeepsEvents opened (before ++ line ∷ []) after.channels after.events after.sessions
 Happens opened before line after (Err flaw) = IsFlawOf opened before line flaw
 
--- what judging a line behind others comes to: the judge keeps it too, or it has this flaw
+-- what judging a line after others comes to: the judge keeps it too, or it has this flaw
 abbrev pub IsJudged : List Bool → List TraceLine → TraceLine → Judge
     → Result (Unit {0}) TraceFlaw → Type 0
 IsJudged opened before line after (Ok done) = Keeps opened (before ++ line ∷ []) after

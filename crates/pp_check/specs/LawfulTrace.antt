@@ -13,14 +13,14 @@ use Rattle.pp_check.specs.declared.trace_line.TraceLine.TheVariants.{AtTurn, Num
 
 -- ---- events
 
--- the event that a line tells of channel c, if it tells one
+-- the event on channel c that a line reports, if it reports one
 abbrev pub event_on : ℕ → TraceLine → Option Event
 event_on c (AtTurn turn channel e) = if channel == c then Some e else None
 event_on c (Numbered number channel e) = if channel == c then Some e else None
 event_on c (Standing channel state) = None
 event_on c Other = None
 
--- the events that lines tell of channel c, in order
+-- the events on channel c that lines report, in order
 unfoldable pub events_on : ℕ → List TraceLine → List Event
 events_on c lines = filter_map (event_on c) lines
 
@@ -28,8 +28,7 @@ events_on c lines = filter_map (event_on c) lines
 abbrev pub is_opened : List Bool → ℕ → Bool
 is_opened opened c = slice_index_or opened (channel_index c) false
 
--- what had happened on channel c before the first line: where it was opened an Activate, else
--- nothing
+-- what had happened on channel c before the first line: an Activate if it was opened, else nothing
 abbrev pub opening : List Bool → ℕ → List Event
 opening opened c = if is_opened opened c then Activate ∷ [] else []
 
@@ -56,15 +55,15 @@ last_turn lines = last_or None (turns lines)
 -- ---- lawful traces
 
 -- A line fits those before it: its turn is greater than the last; its number counts the events of
--- its channel before it; its channel stands as the events before it leave it.
+-- its channel before it; its channel's state is the one that the events before it leave.
 abbrev pub Fits : List Bool → List TraceLine → TraceLine → Type 0
 Fits opened before (AtTurn turn c e) = IfSome (last_turn before) (λ last. last < turn)
 Fits opened before (Numbered number c e) = number ≡ length (history opened before c)
 Fits opened before (Standing c state) = state ≡ channel_state (history opened before c)
 Fits opened before Other = Unit {0}
 
--- A trace is lawful where on each channel its events, in order, are a lawful history over the
--- opening of the channel, and each line fits those before it.
+-- A trace is lawful if on each channel its events, in order, are a lawful history over the opening
+-- of the channel, and each line fits those before it.
 pub record IsLawfulTrace (opened : List Bool) (lines : List TraceLine) : Type 0 where
   pub histories : (c : ℕ) → IsLawful (history opened lines c)
   pub each_fits : (k : ℕ) → k < length lines

@@ -13,7 +13,7 @@ use Rattle.pp_report.specs.ReportLaw.{FitsItsReport}
 use Rattle.pp_text.specs.TextLaw.{FitsItsText}
 use Rattle.pp_check.specs.LawfulTrace.{is_opened}
 
--- the channels that are said to be open before the trace are those that dead start opened
+-- the channels given as open before the trace are those that dead start opened
 abbrev pub AreOpenedBy : MachineState → List Bool → Type 0
 AreOpenedBy m opened =
     (c : ℕ) → IsTrue (names_channel c) → is_opened opened c ≡ machine_state.is_opened c m

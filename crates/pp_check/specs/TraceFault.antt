@@ -12,9 +12,9 @@ use Rattle.pp_check.specs.declared.trace_fault.TraceFlaw.TheVariants.{Malformed,
 use Rattle.pp_check.specs.declared.trace_line.TraceLine.{TraceLine}
 use Rattle.pp_check.specs.declared.trace_line.TraceLine.TheVariants.{Numbered, Standing}
 
--- why a line may not come behind lawful lines: its turn is not greater than the last; its number is
--- not the next of its channel; with its event the history of the channel is lawful no longer; its
--- channel stands otherwise
+-- why a line may not come after lawful lines: its turn is not greater than the last; its number is
+-- not the next of its channel; with its event the history of the channel is no longer lawful; its
+-- channel's state is different
 abbrev pub IsFlawOf : List Bool → List TraceLine → TraceLine → TraceFlaw → Type 0
 IsFlawOf opened before line Malformed = ⊥
 IsFlawOf opened before line (TurnNotRising turn last) =
@@ -29,13 +29,13 @@ IsFlawOf opened before line (UnlawfulEvent c e state) =
 IsFlawOf opened before line (WrongState c told state) =
     (line ≡ Standing c told) × (state ≡ channel_state (history opened before c)) × (told ≢ state)
 
--- the same of a line by what it says; where it says nothing it is no line of a trace
+-- the same of a line by what it says; if it says nothing it is no line of a trace
 abbrev pub IsFlaw : List Bool → List TraceLine → Option TraceLine → TraceFlaw → Type 0
 IsFlaw opened before None flaw = flaw ≡ Malformed
 IsFlaw opened before (Some line) flaw = IsFlawOf opened before line flaw
 
 -- The fault of a text, by its lines, which are counted from 1: the lines before it are lawful, and
--- it has this flaw behind them.
+-- it has this flaw after them.
 pub record IsFault (opened : List Bool) (text : List Fields) (fault : TraceFault) : Type 0 where
   pub counted : 0 < fault.line
   pub within : fault.line ≤ length text

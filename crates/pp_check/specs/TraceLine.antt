@@ -1,6 +1,6 @@
--- What a line of a trace says, by its fields: an event of the barrel, an event of threads, how a
--- channel stands, or nothing that concerns channels. Turns and numbers of events are decimal, of
--- at most 19 digits; processors, channels and words are octal.
+-- What a line of a trace says, by its fields: an event of the barrel, an event of threads, the
+-- state of a channel, or nothing that concerns channels. Turns and numbers of events are decimal,
+-- of at most 19 digits; processors, channels and words are octal.
 use Rattle.std.specs.Prelude.{ℕ, ◌+◌, ◌&&◌, Bool, true, false, List, [], ◌∷◌, length, take, drop, codes, nat_le, nat_lt, Option, None, Some, is_some, if◌then◌else◌}
 use Rattle.std.specs.List.{list_all}
 use Rattle.std.specs.Option.{option_map}
@@ -27,13 +27,13 @@ None >>= next = None
 abbrev pub is_digit : ℕ → ℕ → Bool
 is_digit base character = nat_le 48 character && nat_lt character (48 + base)
 
--- the number that digits of a base spell: one digit at least, and this many at most
+-- the number that digits of a base spell: at least one digit, and at most `most`
 unfoldable pub numeral : ℕ → ℕ → Field → Option ℕ
 numeral base most field =
     if nat_le 1 (length field) && nat_le (length field) most && list_all (is_digit base) field
     then Some (value_of base field) else None
 
--- the number behind two letters, in at most two octal digits
+-- the number after two letters, in at most two octal digits
 unfoldable pub number_behind : List ℕ → Field → Option ℕ
 number_behind letters field =
     if bytes_eq (take 2 field) letters then numeral 8 2 (drop 2 field) else None
@@ -43,7 +43,7 @@ unfoldable pub is_processor : Field → Bool
 is_processor field = is_some (number_behind (codes "PP") field >>= λ n.
     if names_processor n then Some n else None)
 
--- the channel of a field as `CH05`
+-- the channel of a field like `CH05`
 unfoldable pub channel_in : Field → Option ℕ
 channel_in field = number_behind (codes "CH") field >>= λ c.
     if names_channel c then Some c else None
@@ -54,11 +54,11 @@ abbrev pub are_over : Fields → Bool
 are_over [] = true
 are_over (field ∷ fields) = false
 
--- something that no field more may follow
+-- something that no further field may follow
 abbrev pub alone : {A : Type 0} → A → Fields → Option A
 alone x fields = if are_over fields then Some x else None
 
--- one word, and no field more
+-- one word, and no further field
 abbrev pub last_word : Fields → Option ℕ
 last_word [] = None
 last_word (field ∷ fields) = if are_over fields then numeral 8 4 field else None
@@ -84,7 +84,7 @@ event_said (name ∷ fields) =
     else if bytes_eq name (codes "FNC") then option_map (λ w. Function w) (last_word fields)
     else None
 
--- ---- how a channel stands
+-- ---- the state of a channel
 
 abbrev pub inactive : ChannelState
 inactive = record { flags = record { active = false; full = false }; register = None }
@@ -128,7 +128,7 @@ numbered_line c number fields = do
   event ← event_said behind
   Some (Numbered number c event)
 
--- what follows `CH05`: an event with its number, or how the channel stands
+-- what follows `CH05`: an event with its number, or the state of the channel
 abbrev pub channel_line_by : ℕ → Option ℕ → Field → Fields → Option TraceLine
 channel_line_by c (Some number) field fields = numbered_line c number fields
 channel_line_by c None field fields = option_map (λ s. Standing c s) (state_said field fields)

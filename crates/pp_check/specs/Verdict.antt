@@ -21,14 +21,14 @@ abbrev pub is_activate : Event → Bool
 is_activate Activate = true
 is_activate e = false
 
--- whether a line tells that a session begins
+-- whether a line reports that a session begins
 abbrev pub begins_session : TraceLine → Bool
 begins_session (AtTurn turn c e) = is_activate e
 begins_session (Numbered number c e) = is_activate e
 begins_session (Standing c state) = false
 begins_session Other = false
 
--- whether lines tell events of channel c
+-- whether lines report events on channel c
 abbrev pub is_used : List TraceLine → ℕ → Bool
 is_used lines c = nat_lt 0 (length (events_on c lines))
 

@@ -13,8 +13,8 @@ use pp_channel::CHANNELS;
 
 /// Whether the events of a trace are those of lawful histories: a text in the lines that `barrel`
 /// or `threads` print. `opened` are flags of the channels that were open before the first line, in
-/// the order of the channels' places. A lawful trace is answered by what is counted in it; of any
-/// other the first line is named at which no lawful history is left. It takes no memory.
+/// the order of the channels' places. Returns what is counted in a lawful trace, and otherwise the
+/// first line at which no lawful history is left. It takes no memory.
 pub fn check_trace(text: &[u8], opened: &[bool; CHANNELS]) -> Result<Verdict, TraceFault>
     ensures lawful { IfOk result (λ verdict. AreLawful opened.now (lines_of text.now)) }
     ensures counted { IfOk result (λ verdict.
@@ -56,7 +56,7 @@ fn first_line(text: &[u8]) -> (&[u8], Option<&[u8]>)
     }
 }
 
-/// Where the first line of a text ends.
+/// The place where the first line of a text ends.
 fn first_line_feed(text: &[u8]) -> Option<usize>
     ensures { result ≡ position is_line_feed text.now }
 {

@@ -15,8 +15,8 @@ use crate::verdict::Verdict;
 use pp_channel::{CHANNELS, ChannelNo, Event};
 use pp_deck::Fields;
 
-/// What is kept of the lines so far: of each channel how it stands, the last turn, and how many
-/// events and sessions began. It takes no memory that grows.
+/// What is kept of the lines so far: each channel's state, the last turn, and the numbers of events
+/// and of sessions begun. It takes no memory that grows.
 #[derive(Clone, Copy, Debug)]
 pub(crate) struct Judge {
     pub(crate) channels: [Standing; CHANNELS],
@@ -26,7 +26,7 @@ pub(crate) struct Judge {
 }
 
 impl Judge {
-    /// No line is told yet, and these channels are open, by flags in the order of their places.
+    /// No line has been read, and these channels are open, by flags in the order of their places.
     pub(crate) fn new(opened: &[bool; CHANNELS]) -> Judge
         ensures { Keeps opened.now [] result }
     {
@@ -44,7 +44,7 @@ impl Judge {
         }
     }
 
-    /// Reads one line more, and judges it.
+    /// Reads the next line, and judges it.
     pub(crate) fn read(&mut self, line: &[u8]) -> Result<(), TraceFlaw>
         requires room { self.old.events < 2 ^ 63 }
         requires kept { KeepsSome self.old }
@@ -64,7 +64,7 @@ impl Judge {
         }
     }
 
-    /// Judges one line more.
+    /// Judges the next line.
     fn judge(&mut self, line: TraceLine) -> Result<(), TraceFlaw>
         requires room { self.old.events < 2 ^ 63 }
         requires kept { KeepsSome self.old }
@@ -100,7 +100,7 @@ impl Judge {
         }
     }
 
-    /// An event comes on a channel.
+    /// Applies an event to its channel.
     fn happen(&mut self, channel: ChannelNo, event: Event) -> Result<(), TraceFlaw>
         requires room { self.old.events < 2 ^ 63 }
         requires kept { KeepsSome self.old }

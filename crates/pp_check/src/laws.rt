@@ -29,8 +29,8 @@ use pp_machine::run_law;
 use std::alloc::Allocator;
 
 /// The fault of a text is the first line at which no lawful history is left: the lines before it
-/// are lawful, and so are all fronts of these, and no lines that contain it are. A text has at most
-/// one fault, flaw and all, and a lawful text has none.
+/// are lawful, and so are all prefixes of these, and no lines that contain it are. A text has at
+/// most one fault, flaw and all, and a lawful text has none.
 pub fn fault_law()
     ensures first { (opened : List Bool) (text : List Fields) (fault : TraceFault)
         → IsFault opened text fault → (k : ℕ) → k ≤ length text
@@ -53,10 +53,10 @@ pub fn trace_law()
 }
 
 /// What the barrel prints is lawful: the text of a machine whose histories are those of its trace,
-/// and whose turns rise and have at most 19 decimal digits, where the channels said to be open are
-/// those that dead start opened. On each channel the events that are read are those of the trace.
-/// The histories are so after every run (`run_law` of `pp_machine`), and a machine that is
-/// printed fits its text (`write_text`).
+/// and whose turns rise and have at most 19 decimal digits, if the channels given as open are those
+/// that dead start opened. On each channel the events that are read are those of the trace. The
+/// histories are so after every run (`run_law` of `pp_machine`), and a machine that is printed fits
+/// its text (`write_text`).
 pub fn printed_law()
     ensures lawful { (named : List Bool) (m : MachineState) (opened : List Bool)
         → IsPrintable named m → AreOpenedBy m opened
@@ -68,8 +68,8 @@ pub fn printed_law()
 {}
 
 /// What `barrel` prints is lawful, of every deck and after every list of fewer than 10^19 steps:
-/// the text of the machine, which fits it as each that is printed does (`write_text`), where the
-/// channels said to be open are those that dead start opened.
+/// the text of the machine, which fits it as each that is printed does (`write_text`), if the
+/// channels given as open are those that dead start opened.
 pub fn barrel_law()
     ensures { (profile : Profile) (text : List ℕ) (deck : LoadedDeck) (steps : List ℕ)
         (opened : List Bool) → deck_meaning profile text ≡ Ok deck → length steps < 10 ^ 19
@@ -81,9 +81,9 @@ pub fn barrel_law()
 }
 
 /// What threads print is lawful: the text of a report of any run of a machine by threads that fits
-/// its text, as each that is printed does (`write_report`), where no number of an event has more
-/// than 19 decimal digits, and the channels said to be open are those that dead start opened. On
-/// each channel the events that are read, behind what was open, are the history that the run made.
+/// its text, as each that is printed does (`write_report`), if no number of an event has more than
+/// 19 decimal digits, and the channels given as open are those that dead start opened. On each
+/// channel the events that are read, after what was open, are the history that the run made.
 pub fn printed_report_law<A: Allocator>()
     ensures lawful { (named : List Bool) (limits : RunLimits) (m : MachineState)
         (report : Report A) (opened : List Bool) → IsPrintableReport named limits m report

@@ -1,12 +1,14 @@
-//! The judge of a channel trace, whoever made it: its events, line by line, are those of lawful
-//! histories, or the first line is named at which no lawful history is left.
+//! The judge of a channel trace, whoever made it: line by line, its events are those of lawful
+//! histories, or the first line at which no lawful history is left is named.
 #![tactic(auto)]
 
 mod channel_list;
 mod check;
 mod judge;
 mod laws;
+mod number_list;
 mod numeral;
+mod processor_list;
 mod standing;
 mod trace_fault;
 mod trace_line;
@@ -17,5 +19,6 @@ pub use channel_list::listed_channels;
 pub use check::check_trace;
 pub use laws::{barrel_law, fault_law, printed_law, printed_report_law, trace_law};
 pub use pp_channel::ChannelState;
+pub use processor_list::listed_processors;
 pub use trace_fault::{TraceFault, TraceFlaw};
 pub use verdict::{Verdict, push_verdict};

@@ -3,7 +3,7 @@
 ghost use Rattle.std.specs.Prelude.{◌≡◌, ◌<◌, ◌≤◌, ◌^◌, IfSome};
 ghost use Rattle.pp_check.specs.TraceLine.{numeral};
 
-/// The number in a field of at most this many digits of a base.
+/// The number in a field of at most `most` digits of a base.
 #[tactic(auto, unfolding(crate::specs::TraceLine::numeral))]
 pub(crate) fn numeral(base: u64, most: usize, field: &[u8]) -> Option<u64>
     requires base { base ≤ 10 }

@@ -5,7 +5,7 @@ ghost use Rattle.pp_check.specs.Judge.{next_number};
 
 use pp_channel::ChannelState;
 
-/// How a channel stands, how many events of it were told, and whether it was opened before them.
+/// A channel's state, how many of its events were read, and whether it was opened before them.
 #[derive(Clone, Copy, Debug, PartialEq, Eq)]
 pub(crate) struct Standing {
     pub(crate) state: ChannelState,
@@ -14,14 +14,14 @@ pub(crate) struct Standing {
 }
 
 impl Standing {
-    /// Nothing was told of the channel, and it was not opened.
+    /// No line has named the channel, and it was not opened.
     pub(crate) const NEW: Standing = Standing {
         state: ChannelState::INACTIVE,
         events: 0,
         is_opened: false,
     };
 
-    /// Nothing was told of the channel, and it was opened.
+    /// No line has named the channel, and it was opened.
     pub(crate) const OPENED: Standing = Standing {
         state: ChannelState::EMPTY,
         events: 0,

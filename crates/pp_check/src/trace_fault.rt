@@ -17,11 +17,11 @@ pub enum TraceFlaw {
     /// Its number is not the next of the channel: the channel, the number, and the next.
     #[error("number {} where {} is next", .1, .2)]
     WrongNumber(ChannelNo, u64, u64),
-    /// The event may not come: the channel, the event, and how the channel stands before it.
+    /// The event may not come: the channel, the event, and the channel's state before it.
     #[error("{}", Unlawful(*.0, *.1, *.2))]
     UnlawfulEvent(ChannelNo, Event, ChannelState),
-    /// The channel stands otherwise: the channel, how the line shows it, and how its events leave
-    /// it.
+    /// The channel's state is different: the channel, its state in the line, and the one that its
+    /// events leave.
     #[error("CH{:02o} {}, expected {}", .0.get(), .1, .2)]
     WrongState(ChannelNo, ChannelState, ChannelState),
 }

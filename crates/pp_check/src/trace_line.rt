@@ -16,7 +16,7 @@ pub(crate) enum TraceLine {
     AtTurn(u64, ChannelNo, Event),
     /// An event of a channel with its number.
     Numbered(u64, ChannelNo, Event),
-    /// How a channel stands.
+    /// The state of a channel.
     Standing(ChannelNo, ChannelState),
     /// Nothing that concerns channels.
     Other,
@@ -66,7 +66,7 @@ fn channel_line(channel: ChannelNo, fields: &mut Fields) -> Option<TraceLine>
     }
 }
 
-/// `000001 PP00 PUT 0007` after `CH05`, behind its number.
+/// `000001 PP00 PUT 0007` after `CH05` and its number.
 #[tactic(auto, unfolding(crate::specs::TraceLine::numbered_line))]
 fn numbered_line(channel: ChannelNo, number: u64, fields: &mut Fields) -> Option<TraceLine>
     ensures { result ≡ numbered_line channel number fields.old }
@@ -168,7 +168,7 @@ fn last_word(fields: &mut Fields) -> Option<Word12>
     Some(Word12::truncated(word as u32))
 }
 
-/// Goes on behind a processor.
+/// Skips a processor.
 fn behind_processor(fields: &mut Fields) -> Option<()>
     ensures { MatchOption result (behind_processor fields.old ≡ None)
         (λ _. behind_processor fields.old ≡ Some fields.new) }
@@ -177,7 +177,7 @@ fn behind_processor(fields: &mut Fields) -> Option<()>
     if is_processor(field) { Some(()) } else { None }
 }
 
-/// The channel that comes next; goes on behind it.
+/// The next field, a channel.
 fn behind_channel(fields: &mut Fields) -> Option<ChannelNo>
     ensures { MatchOption result (behind_channel fields.old ≡ None)
         (λ c. behind_channel fields.old ≡ Some (c, fields.new)) }
@@ -197,7 +197,7 @@ fn is_processor(field: &[u8]) -> bool
     }
 }
 
-/// The channel of a field as `CH05`.
+/// The channel of a field like `CH05`.
 #[tactic(auto, unfolding(crate::specs::TraceLine::channel_in))]
 fn channel_in(field: &[u8]) -> Option<ChannelNo>
     ensures { result ≡ channel_in field.now }
@@ -205,7 +205,7 @@ fn channel_in(field: &[u8]) -> Option<ChannelNo>
     ChannelNo::new(number_behind(b"CH".as_slice(), field)?)
 }
 
-/// The number behind two letters, in at most two octal digits.
+/// The number after two letters, in at most two octal digits.
 #[tactic(auto, unfolding(crate::specs::TraceLine::number_behind))]
 fn number_behind(letters: &[u8], field: &[u8]) -> Option<u8>
     requires { length letters.now ≡ 2 }

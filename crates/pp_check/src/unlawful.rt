@@ -3,7 +3,7 @@
 use pp_channel::{ChannelNo, ChannelState, Event};
 use std::fmt::{self, Display, Formatter, Write};
 
-/// A channel, an event that may not come on it, and how the channel stands.
+/// A channel, an event that may not come on it, and the channel's state.
 #[derive(Clone, Copy, Debug)]
 pub(crate) struct Unlawful(
     pub(crate) ChannelNo,
@@ -34,8 +34,8 @@ fn write_event<W: Write>(f: &mut Formatter<W>, event: &Event) -> fmt::Result {
     }
 }
 
-/// What stands in the way of an event: words pass on an active channel, to an empty register and
-/// out of a full one.
+/// What prevents an event: words pass on an active channel, to an empty register and out of a full
+/// one.
 fn standing(event: &Event, state: &ChannelState) -> &'static str {
     if !state.flags.active {
         return "inactive";

@@ -6,7 +6,7 @@ ghost use Rattle.pp_text.specs.Piece.{HasRoom};
 
 use pp_text::{Piece, push_short_decimal};
 
-/// How much a lawful trace tells (decimal).
+/// The counts of a lawful trace (decimal).
 #[derive(Clone, Copy, Debug, PartialEq, Eq)]
 pub struct Verdict {
     /// Its events.

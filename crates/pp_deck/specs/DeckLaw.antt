@@ -23,7 +23,7 @@ pub record IsFor (lines : List Line) (k n : ℕ) : Type 0 where
   pub names : line_of lines heading ≡ section n
   pub latest : (i m : ℕ) → heading < i → i < k → line_of lines i ≡ section m → ⊥
 
--- where words stand from a first place on, w stands at this place
+-- if words stand from a first place on, w stands at this place
 pub record StandsAt (first : ℕ) (ws : List ℕ) (place w : ℕ) : Type 0 where
   pub index : ℕ
   pub at_place : place ≡ first + index
@@ -39,7 +39,7 @@ abbrev pub SetsCentralWord : Line → ℕ → ℕ → Type 0
 SetsCentralWord (central_words a ws) address w = StandsAt a ws address w
 SetsCentralWord line address w = ⊥
 
--- whether a processor goes on, its P and its A
+-- a processor's state, its P and its A
 pub record Registers : Type 0 where
   pub state : PpState
   pub p : ℕ
@@ -56,7 +56,7 @@ abbrev pub Starts : Line → Registers → Type 0
 Starts (start p a) registers = registers ≡ record { state = PpState.Running; p = p; a = a }
 Starts line registers = ⊥
 
--- a value is what the last line sets that sets it, and `otherwise` where no line does
+-- a value is what the last line that sets it sets, and `otherwise` if no line does
 pub record HoldsLast {A : Type 0} (lines : List Line) (Sets : ℕ → A → Type 0) (otherwise value : A)
     : Type 0 where
   pub last : (k : ℕ) (x : A) → k < length lines → Sets k x
@@ -89,7 +89,7 @@ pub record KeepsDeckLaw (lines : List Line) (deck : LoadedDeck) : Type 0 where
   pub central : (address : ℕ) → address < length deck.machine.central
       → HoldsLast lines (λ k w. SetsCentralWord (line_of lines k) address w) 0
       (slice_index deck.machine.central address)
-  -- a processor is named where some line names it
+  -- a processor is named exactly if some line names it
   pub named : (n : ℕ) → IsTrue (names_processor n)
       → (slice_index_or deck.named (processor_index n) false ≡ true) ↔ Contains lines (section n)
   -- one that waits does so on the channel of its own number; in all others no block is in progress
@@ -97,7 +97,7 @@ pub record KeepsDeckLaw (lines : List Line) (deck : LoadedDeck) : Type 0 where
       → processor_of n deck.machine ≡ waiting_on n (processor_of n deck.machine)
   pub no_block : (n : ℕ) → IsTrue (names_processor n) → (Waits deck.machine.profile lines n → ⊥)
       → (processor_of n deck.machine).block ≡ None
-  -- just the channels of waiting processors are opened, and nothing else has happened
+  -- exactly the channels of waiting processors are opened, and nothing else has happened
   pub opened : (c : ℕ) → IsTrue (names_channel c) → (is_opened c deck.machine ≡ true)
       ↔ Waits deck.machine.profile lines c
   pub history : (c : ℕ) → IsTrue (names_channel c)

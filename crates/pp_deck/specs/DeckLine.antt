@@ -41,18 +41,18 @@ abbrev pub ◌>>=◌ : {A B : Type 0} → Result A Flaw → (A → Result B Flaw
 (Ok x) >>= next = next x
 (Err flaw) >>= next = Err flaw
 
--- a number of at most this many digits, which must be there, and what the fields after it say
+-- a number of at most `most` digits, which must be there, and what the fields after it say
 abbrev pub number_then : ℕ → Fields → (ℕ → Fields → Result Line Flaw) → Result Line Flaw
 number_then most [] next = Err Flaw.UnknownLine
 number_then most (field ∷ fields) next = number most field >>= λ n. next n fields
 
--- the end of a line: a field more is one too many
+-- the end of a line: one more field is one too many
 abbrev pub ends_with : Line → Fields → Result Line Flaw
 ends_with line [] = Ok line
 ends_with line (field ∷ fields) = Err Flaw.UnknownLine
 
--- words of at most this many digits, in places from the first on; a word whose place is not below
--- the end is past it
+-- words of at most `most` digits, in places from the first on; a word whose place is not below the
+-- end is past it
 unfoldable pub words_in : ℕ → ℕ → ℕ → Flaw → Fields → Result (List ℕ) Flaw
 words_in most place end past [] = Ok []
 words_in most place end past (field ∷ fields) = do
@@ -71,13 +71,13 @@ central_words_line size fields =
     number_then 6 fields (λ a more. words_in 20 a size Flaw.CentralRange more >>= λ ws.
     Ok (central_words a ws))
 
--- `PP n`, where the machine has processor n
+-- `PP n`, if the machine has processor n
 unfoldable pub section_line : Profile → Fields → Result Line Flaw
 section_line profile fields =
     number_then 2 fields (λ n more. if has_processor profile n then ends_with (section n) more
     else Err Flaw.BadProcessor)
 
--- `START p`, where A is 0, or `START p a`
+-- `START p`, with A 0, or `START p a`
 abbrev pub start_from : ℕ → Fields → Result Line Flaw
 start_from p [] = Ok (start p 0)
 start_from p (field ∷ fields) = number 6 field >>= λ a. ends_with (start p a) fields

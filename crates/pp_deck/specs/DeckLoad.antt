@@ -21,12 +21,12 @@ abbrev pub is_for : ℕ → Option ℕ → Bool
 is_for n (Some m) = n == m
 is_for n None = false
 
--- the lines that are for processor n: those of which the last `PP` line before is `PP n`
+-- the lines that are for processor n: those whose last `PP` line before is `PP n`
 unfoldable pub lines_for : ℕ → List Line → List Line
 lines_for n lines = filter_map (λ k. if is_for n (section_of (take k lines))
     then Some (slice_index_or lines k nothing) else None) (range_with_len 0 (length lines))
 
--- the word that stands at a place where words stand from a first place on
+-- the word that stands at a place if words stand from a first place on
 abbrev pub word_among : ℕ → List ℕ → ℕ → Option ℕ
 word_among first ws place = if nat_le first place then slice_get ws (place - first) else None
 

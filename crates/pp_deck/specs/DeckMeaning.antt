@@ -26,7 +26,7 @@ abbrev pub unnamed_in : Profile → List Bool → List Bool
 unnamed_in profile named = each_processor (λ n. has_processor profile n
     && not (slice_index_or named (processor_index n) false))
 
--- dead start, where a deck asks for it: processors that it does not name wait for their programs
+-- dead start, if a deck asks for it: processors that it does not name wait for their programs
 abbrev pub with_dead_start : Bool → LoadedDeck → LoadedDeck
 with_dead_start true deck =
     record deck { machine = dead_started (unnamed_in deck.machine.profile deck.named) deck.machine }

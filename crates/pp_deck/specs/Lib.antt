@@ -4,5 +4,6 @@ pub mod OctalNumber
 pub mod DeckLine
 pub mod DeckLoad
 pub mod DeckMeaning
+pub mod InUse
 pub mod Reading
 pub mod DeckLaw

@@ -12,7 +12,7 @@ is_octal_digit character = nat_le 48 character && nat_le character 55
 abbrev pub octal_value : List ℕ → ℕ
 octal_value digits = fold (λ value digit. value * 8 + (digit - 48)) 0 digits
 
--- the number in a field: one octal digit at least, and this many at most
+-- the number in a field: at least one octal digit, and at most `most`
 unfoldable pub number : ℕ → Field → Result ℕ Flaw
 number most field =
     if nat_le 1 (length field) && nat_le (length field) most && list_all is_octal_digit field

@@ -1,4 +1,4 @@
--- A deck as far as it has been read, and what one line more changes: its meaning, line by line.
+-- A deck as far as it has been read, and what one more line changes: its meaning, line by line.
 use Rattle.std.specs.Prelude.{◌≡◌, ℕ, ◌+◌, Bool, true, false, List, [], ◌∷◌, Option, None, Some, Result, Ok, Err, slice_set, replicate, fold}
 use Rattle.pp_machine.specs.MachineState.{MachineState, processor_of, new_machine}
 use Rattle.pp_machine.specs.Processor.{Processor, runs_from}
@@ -34,7 +34,7 @@ with_words place (w ∷ ws) memory = with_words (place + 1) ws (slice_set memory
 abbrev pub loaded_from : ℕ → List ℕ → Processor → Processor
 loaded_from x ws pp = record pp { memory = with_words x ws pp.memory }
 
--- a machine of which processor n has changed, where there is one
+-- a machine in which processor n has changed, if there is one
 abbrev pub with_processor : Option ℕ → (Processor → Processor) → MachineState → MachineState
 with_processor None change m = m
 with_processor (Some n) change m =
@@ -44,7 +44,7 @@ with_processor (Some n) change m =
 abbrev pub with_central_words : ℕ → List ℕ → MachineState → MachineState
 with_central_words a ws m = record m { central = with_words a ws m.central }
 
--- what one line more leaves: the words that it sets; the processor that it names, which is then the
+-- what one more line leaves: the words that it sets; the processor that it names, which is then the
 -- current one; where the current one starts; or that dead start was asked for
 unfoldable pub after_line : Progress → Line → Progress
 after_line progress (central_words a ws) =

@@ -11,7 +11,7 @@ use crate::fields::Fields;
 use crate::keyword::Keyword;
 use crate::lines::Lines;
 
-/// The size where a deck sets none: 10000 words (octal).
+/// The size if a deck sets none: 10000 words (octal).
 const DEFAULT_SIZE: u32 = 0o10000;
 
 /// The size of central memory that the text of a deck asks for.

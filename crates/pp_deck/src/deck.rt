@@ -25,8 +25,8 @@ pub struct Deck<A: Allocator> {
 }
 
 /// The deck of a text, for a machine of this profile: ASCII of at most 1,048,576 bytes (decimal),
-/// whose numbers are octal. What a text means is stated in `specs/DeckMeaning`; only `Memory` takes
-/// the place of that.
+/// whose numbers are octal. What a text means is stated in `specs/DeckMeaning`; only `Memory` may
+/// be returned instead.
 #[tactic(auto, unfolding(crate::specs::DeckMeaning::deck_meaning))]
 pub fn read_deck<A: Allocator + Copy>(
     alloc: A,
@@ -66,13 +66,13 @@ pub fn read_deck<A: Allocator + Copy>(
     reading.into_deck().map_err(|_| OUT_OF_MEMORY)
 }
 
-/// No line is at fault where memory was refused.
+/// No line is at fault if memory was refused.
 const OUT_OF_MEMORY: DeckFault = DeckFault {
     line: 0,
     code: DeckCode::Memory,
 };
 
-/// Where the first byte stands that is not ASCII.
+/// The place of the first byte that is not ASCII.
 fn first_foreign(text: &[u8]) -> Option<usize>
     ensures { result ≡ position is_foreign text.now }
 {

@@ -9,10 +9,9 @@ pub enum DeckCode {
     TooLong = 1,
     /// A byte from 200 (octal) on.
     NotAscii = 2,
-    /// A line of no known kind, in a place that is not its own, or with a field too few or too
-    /// many.
+    /// A line of unknown kind, out of place, or with too few or too many fields.
     UnknownLine = 3,
-    /// A field that is not a number of this many octal digits.
+    /// A field that is not a number in octal digits, or has too many of them.
     BadDigits = 4,
     /// No processor has this number.
     BadProcessor = 5,
@@ -22,7 +21,7 @@ pub enum DeckCode {
     PastEnd = 7,
     /// A central size out of range, or a central word at or past the size.
     CentralRange = 8,
-    /// A growth was refused.
+    /// An allocation was refused.
     Memory = 9,
 }
 

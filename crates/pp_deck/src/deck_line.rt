@@ -16,7 +16,7 @@ use std::alloc::Allocator;
 /// Central memory has at most 400000 words (octal).
 const LARGEST_SIZE: u32 = 0o400_000;
 
-/// The rest of the line is words from a place on.
+/// Sets words from a place on to the rest of the line.
 pub(crate) fn set_words(pp: &mut Pp, first: Word12, fields: &mut Fields) -> Result<(), Flaw>
     ensures { Leaves pp.new result (on_read (λ ws. loaded_from first ws pp.old)
         (words_in 4 first place_count Flaw.PastEnd fields.old)) }
@@ -33,7 +33,7 @@ pub(crate) fn set_words(pp: &mut Pp, first: Word12, fields: &mut Fields) -> Resu
     Ok(())
 }
 
-/// The rest of the line is central words from an address on.
+/// Sets central words from an address on to the rest of the line.
 pub(crate) fn set_central_words<A: Allocator>(
     machine: &mut Machine<A>,
     first: Word18,
@@ -57,7 +57,7 @@ pub(crate) fn set_central_words<A: Allocator>(
     Ok(())
 }
 
-/// The line ends here.
+/// Checks that the line ends here.
 pub(crate) fn end_line(fields: &mut Fields) -> Result<(), Flaw>
     ensures ended { OnOk result (fields.old ≡ []) }
     ensures flaw { IfErr result (λ flaw. (flaw ≡ Flaw.UnknownLine) × (fields.old ≢ [])) }
@@ -68,7 +68,7 @@ pub(crate) fn end_line(fields: &mut Fields) -> Result<(), Flaw>
     }
 }
 
-/// The A of a `START` line, after its P; 0 where it gives none.
+/// The A of a `START` line, after its P; 0 if it gives none.
 pub(crate) fn start_a(fields: &mut Fields) -> Result<Word18, Flaw>
     ensures { (p : ℕ) → start_from p fields.old ≡ on_read (start p) result }
 {

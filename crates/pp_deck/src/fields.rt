@@ -35,7 +35,7 @@ impl<'a> Fields<'a> {
         }
     }
 
-    /// The next field, if there is one more.
+    /// The next field, if there is one.
     pub fn next_field(&mut self) -> Option<&'a [u8]>
         ensures taken { IfSome result (λ field. self.old ≡ field.now ∷ self.new) }
         ensures none { IfNone result (self.old ≡ []) }
@@ -68,21 +68,21 @@ fn is_blank(byte: u8) -> bool
     byte == b' ' || byte == b'\t'
 }
 
-/// Where the first character stands that is not blank.
+/// The place of the first character that is not blank.
 fn first_character(text: &[u8]) -> Option<usize>
     ensures { result ≡ position (λ byte. not (is_blank byte)) text.now }
 {
     text.iter().position(|byte| !is_blank(*byte))
 }
 
-/// Where the first blank stands.
+/// The place of the first blank.
 fn first_blank(text: &[u8]) -> Option<usize>
     ensures { result ≡ position is_blank text.now }
 {
     text.iter().position(|byte| is_blank(*byte))
 }
 
-/// How many characters stand before the first blank.
+/// The number of characters before the first blank.
 #[tactic(auto, using(crate::proofs::FieldLemmas::unwrap_or_position))]
 fn field_length(text: &[u8]) -> usize
     ensures { result ≡ position_or_len is_blank text.now }

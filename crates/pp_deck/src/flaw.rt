@@ -5,7 +5,7 @@ ghost use Rattle.pp_deck.specs.Flaw.{code_of};
 
 use crate::deck_fault::DeckCode;
 
-/// What is wrong with a line. No line wants memory.
+/// What is wrong with a line. No line takes memory.
 #[derive(Clone, Copy, Debug, PartialEq, Eq)]
 pub(crate) enum Flaw {
     UnknownLine,

@@ -13,10 +13,11 @@ ghost use Rattle.pp_machine.specs.declared.profile.Profile.{Profile};
 use pp_channel::session_law;
 
 /// In a loaded deck each place and each central word holds the word of the last line that sets it,
-/// else 0, and the last start of a processor holds. Where dead start is asked for, the processors
-/// that the deck does not name wait, each on the channel of its own number. Central memory has the
-/// size that the first line with fields says. The machine has the profile for which the text was
-/// read, and no processor is named that it lacks. Each of its channels keeps the law of sessions.
+/// else 0, and the last start of a processor holds. If dead start is asked for, the processors that
+/// the deck does not name wait, each on the channel of its own number. Central memory has the size
+/// that the first line with fields sets, else 10000 words (octal). The machine has the profile for
+/// which the text was read, and no processor is named that it lacks. Each of its channels keeps the
+/// law of sessions.
 pub fn deck_law()
     ensures size { (profile : Profile) (text : List ℕ) (deck : LoadedDeck)
         → deck_meaning profile text ≡ Ok deck

@@ -7,6 +7,7 @@ mod deck_fault;
 mod deck_line;
 mod fields;
 mod flaw;
+mod in_use;
 mod keyword;
 mod laws;
 mod lines;

@@ -34,7 +34,7 @@ impl<'a> Lines<'a> {
         Lines { text: Some(text) }
     }
 
-    /// The fields of the next line, if there is one more.
+    /// The fields of the next line, if there is one.
     pub(crate) fn next_line(&mut self) -> Option<Fields<'a>>
         ensures taken { IfSome result (λ fields. self.old ≡ fields ∷ self.new) }
         ensures none { IfNone result (self.old ≡ []) }

@@ -6,7 +6,7 @@ ghost use Rattle.pp_deck.specs.OctalNumber.{number};
 use crate::flaw::Flaw;
 use pp_word::{Word12, Word18, Word60};
 
-/// The number in a field of at most this many octal digits.
+/// The number in a field of at most `most` octal digits.
 #[tactic(auto, unfolding(crate::specs::OctalNumber::number))]
 pub(crate) fn number(field: &[u8], most: usize) -> Result<u64, Flaw>
     requires { most ≤ 20 }

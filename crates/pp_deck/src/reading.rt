@@ -1,4 +1,4 @@
-//! A deck as far as it was read.
+//! A deck, as far as it has been read.
 
 ghost use Rattle.std.specs.Prelude.{◌≡◌, ◌≤◌, ◌∷◌, ◌^◌, length, is_some, Err, IfOk, IsErrOf, ◌↔◌, if◌then◌else◌};
 ghost use Rattle.pp_machine.specs.Central.{IsCentralSize};
@@ -18,7 +18,7 @@ use pp_machine::{CentralFault, Machine, PROCESSORS, PpNo, Profile};
 use std::alloc::Allocator;
 use std::marker::Model;
 
-/// A deck as far as it was read. Contracts see it as its `Progress`.
+/// A deck, as far as it has been read. Contracts see it as its `Progress`.
 #[derive(Drop)]
 pub(crate) struct Reading<A: Allocator> {
     machine: Machine<A>,

@@ -123,16 +123,16 @@ one_of_each (suc n) said k less =
     stands_back (said k) (each_below n said) (said n) (subst (λ (j : ℕ). StandsWithin (said k) (said j)) is ([], [], sym (append-nil (said k)))))
     (cases_lt k n)
 
-pub lane_stands : (w : Window) (named : List Bool) (m : MachineState) (steps : List SeenStep) (k : ℕ) → k < 0o100
-    → StandsWithin (channel_lane w m k) (drawing w named m steps) × StandsWithin (processor_lane w named m steps k) (drawing w named m steps)
+pub lane_stands : (w : Window) (shown : List Bool) (m : MachineState) (steps : List SeenStep) (k : ℕ) → k < 0o100
+    → StandsWithin (channel_lane w m k) (drawing w shown m steps) × StandsWithin (processor_lane w shown m steps k) (drawing w shown m steps)
 unfolding drawing
-lane_stands w named m steps k less =
-    let rows = lanes named m in
+lane_stands w shown m steps k less =
+    let rows = lanes shown m in
     let above = (head_text w rows ++ colours_text ++ classes_text ++ legend_text ++ processor_legend_text) ++ ticks_text w rows in
     let channels = each_below 0o100 (channel_lane w m) in
-    let processors = each_below 0o100 (processor_lane w named m steps) in (
+    let processors = each_below 0o100 (processor_lane w shown m steps) in (
       stands_front (channel_lane w m k) ((above ++ channels) ++ processors) (foot_text rows)
           (stands_front (channel_lane w m k) (above ++ channels) processors (stands_back (channel_lane w m k) above channels (one_of_each 0o100 (channel_lane w m) k less))),
-      stands_front (processor_lane w named m steps k) ((above ++ channels) ++ processors) (foot_text rows)
-          (stands_back (processor_lane w named m steps k) (above ++ channels) processors (one_of_each 0o100 (processor_lane w named m steps) k less)),
+      stands_front (processor_lane w shown m steps k) ((above ++ channels) ++ processors) (foot_text rows)
+          (stands_back (processor_lane w shown m steps k) (above ++ channels) processors (one_of_each 0o100 (processor_lane w shown m steps) k less)),
     )

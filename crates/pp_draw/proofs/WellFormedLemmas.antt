@@ -65,12 +65,12 @@ balanced_channel w m c =
     balanced-if (is_used m c) lane
     (balanced_lane w (count_below c (is_used m)) (channel_name c) (channel_phases c m) standing (plain_channel c) (plain_standing (active (history_of c m)) (waiting (history_of c m))))
 
-balanced_processor : (w : Window) (named : List Bool) (m : MachineState) (steps : List SeenStep) (n : ℕ) → IsBalanced (processor_lane w named m steps n)
+balanced_processor : (w : Window) (shown : List Bool) (m : MachineState) (steps : List SeenStep) (n : ℕ) → IsBalanced (processor_lane w shown m steps n)
 unfolding processor_lane
-balanced_processor w named m steps n =
-    let row = used_channels m + count_below n (is_named named) in
+balanced_processor w shown m steps n =
+    let row = used_channels m + count_below n (is_named shown) in
     let standing = state_text (processor_of n m).state in
-    balanced-if (is_named named n) (lane_text w row (processor_name n) (processor_phases n steps) standing)
+    balanced-if (is_named shown n) (lane_text w row (processor_name n) (processor_phases n steps) standing)
     (balanced_lane w row (processor_name n) (processor_phases n steps) standing (plain_processor n) (plain_state (processor_of n m).state))
 
 balanced_each : (count : ℕ) (said : ℕ → List ℕ) → ((k : ℕ) → IsBalanced (said k)) → IsBalanced (each_below count said)
@@ -100,10 +100,10 @@ head_read w rows =
     (reads (at [] before) (at [] (quoted picture_tag)) here (size_text width height) (view_text width height) (size_read width height) (view_read width height []))
     (caption_read w svg [])
 
-pub drawing_read : (w : Window) (named : List Bool) (m : MachineState) (steps : List SeenStep) → IsWellFormed (drawing w named m steps)
+pub drawing_read : (w : Window) (shown : List Bool) (m : MachineState) (steps : List SeenStep) → IsWellFormed (drawing w shown m steps)
 unfolding drawing
-drawing_read w named m steps =
-    let rows = lanes named m in
+drawing_read w shown m steps =
+    let rows = lanes shown m in
     let here = at (svg ∷ []) between in
     let legend = at (codes "g" ∷ svg ∷ []) between in
     let style = at (codes "elyts" ∷ svg ∷ []) between in
@@ -114,12 +114,12 @@ drawing_read w named m steps =
     let t4 = t3 ++ processor_legend_text in
     let t5 = t4 ++ ticks_text w rows in
     let t6 = t5 ++ each_below 0o100 (channel_lane w m) in
-    let t7 = t6 ++ each_below 0o100 (processor_lane w named m steps) in
+    let t7 = t6 ++ each_below 0o100 (processor_lane w shown m steps) in
     let r1 = reads start here style (head_text w rows) colours_text (head_read w rows) (colours_read svg []) in
     let r2 = reads start style here t1 classes_text r1 (classes_read svg []) in
     let r3 = reads start here legend t2 legend_text r2 (legend_read svg []) in
     let r4 = reads start legend here t3 processor_legend_text r3 (processor_legend_read svg []) in
     let r5 = reads start here here t4 (ticks_text w rows) r4 (balanced_ticks w rows svg []) in
     let r6 = reads start here here t5 (each_below 0o100 (channel_lane w m)) r5 (balanced_each 0o100 (channel_lane w m) (balanced_channel w m) svg []) in
-    let r7 = reads start here here t6 (each_below 0o100 (processor_lane w named m steps)) r6 (balanced_each 0o100 (processor_lane w named m steps) (balanced_processor w named m steps) svg []) in
+    let r7 = reads start here here t6 (each_below 0o100 (processor_lane w shown m steps)) r6 (balanced_each 0o100 (processor_lane w shown m steps) (balanced_processor w shown m steps) svg []) in
     reads start here (at [] behind) t7 (foot_text rows) r7 (foot_read rows)

@@ -1,4 +1,4 @@
--- The drawing of a run: a lane for each channel used and for each processor named, in order of
+-- The drawing of a run: a lane for each channel used and for each processor shown, in order of
 -- number, between a legend and a scale of turns.
 use Rattle.std.specs.Prelude.{ℕ, zero, suc, ◌+◌, ◌==◌, ◌&&◌, Bool, not, List, [], ◌++◌, length, if◌then◌else◌}
 use Rattle.pp_channel.specs.ChannelNo.{names_channel}
@@ -6,6 +6,7 @@ use Rattle.pp_channel.specs.History.{active, waiting}
 use Rattle.pp_machine.specs.MachineState.{MachineState, history_of, processor_of}
 use Rattle.pp_machine.specs.Run.{barrel, run}
 use Rattle.pp_deck.specs.DeckMeaning.{LoadedDeck}
+use Rattle.pp_deck.specs.InUse.{in_use}
 use Rattle.pp_machine.specs.PpNo.{is_named}
 use Rattle.pp_text.specs.PrintedText.{channel_text, each_below, state_text}
 use Rattle.pp_draw.specs.Elements.{channel_name, lane_foot, lane_head, processor_name}
@@ -44,28 +45,28 @@ channel_lane w m c =
 abbrev pub used_channels : MachineState → ℕ
 used_channels m = count_below 0o100 (is_used m)
 
--- the lane of the processor with this number, where the deck names it: below those of the channels
+-- the lane of the processor with this number, where it is shown: below those of the channels
 unfoldable pub processor_lane : Window → List Bool → MachineState → List SeenStep → ℕ → List ℕ
-processor_lane w named m steps n =
-    if is_named named n
-    then lane_text w (used_channels m + count_below n (is_named named)) (processor_name n)
+processor_lane w shown m steps n =
+    if is_named shown n
+    then lane_text w (used_channels m + count_below n (is_named shown)) (processor_name n)
     (processor_phases n steps) (state_text (processor_of n m).state) else []
 
 -- how many lanes there are
 abbrev pub lanes : List Bool → MachineState → ℕ
-lanes named m = used_channels m + count_below 0o100 (is_named named)
+lanes shown m = used_channels m + count_below 0o100 (is_named shown)
 
 -- THE TEXT of the drawing of a machine after a run to the end of the window, whose steps in the
 -- window were these. Numbers have two octal digits
 unfoldable pub drawing : Window → List Bool → MachineState → List SeenStep → List ℕ
-drawing w named m steps =
-    (head_text w (lanes named m) ++ colours_text ++ classes_text ++ legend_text
-    ++ processor_legend_text) ++ ticks_text w (lanes named m)
-    ++ each_below 0o100 (channel_lane w m) ++ each_below 0o100 (processor_lane w named m steps)
-    ++ foot_text (lanes named m)
+drawing w shown m steps =
+    (head_text w (lanes shown m) ++ colours_text ++ classes_text ++ legend_text
+    ++ processor_legend_text) ++ ticks_text w (lanes shown m)
+    ++ each_below 0o100 (channel_lane w m) ++ each_below 0o100 (processor_lane w shown m steps)
+    ++ foot_text (lanes shown m)
 
 -- the drawing of a loaded deck, by the steps of its run
 abbrev pub drawing_of_run : Window → LoadedDeck → List ℕ
 drawing_of_run w deck =
-    drawing w deck.named (run (barrel deck.machine.profile w.to) deck.machine)
+    drawing w (in_use deck) (run (barrel deck.machine.profile w.to) deck.machine)
     (seen_in_window w deck.machine)

@@ -79,19 +79,19 @@ pub fn drawing_law()
         → StandsWithin (band_element name (part_of w phase (next_in more)))
         (drawn_from w name free (before ++ phase ∷ more)) }
     // Numbers have two octal digits. The lane of a channel that is not used is empty, and so is
-    // that of a processor that is not named.
-    ensures each_lane { (w : Window) (named : List Bool) (m : MachineState)
+    // that of a processor that is not shown.
+    ensures each_lane { (w : Window) (shown : List Bool) (m : MachineState)
         (steps : List SeenStep) (k : ℕ) → k < 0o100
-        → StandsWithin (channel_lane w m k) (drawing w named m steps)
-        × StandsWithin (processor_lane w named m steps k) (drawing w named m steps) }
+        → StandsWithin (channel_lane w m k) (drawing w shown m steps)
+        × StandsWithin (processor_lane w shown m steps k) (drawing w shown m steps) }
     // The lane of a higher number lies lower.
     ensures rows { (test : ℕ → Bool) (a b : ℕ) → IsTrue (test a) → a < b
         → count_below a test < count_below b test }
     ensures lost { (e next : Event) (turn : ℕ) → IsTrue (is_lost (condition_after e)
         (Some (record { since = turn; condition = condition_after next })))
         ↔ (((word : ℕ) × (e ≡ Put word)) × (next ≡ Disconnect)) }
-    ensures well_formed { (w : Window) (named : List Bool) (m : MachineState)
-        (steps : List SeenStep) → IsWellFormed (drawing w named m steps) }
+    ensures well_formed { (w : Window) (shown : List Bool) (m : MachineState)
+        (steps : List SeenStep) → IsWellFormed (drawing w shown m steps) }
     // Texts that are not.
     ensures unclosed { ¬ IsWellFormed (codes "<svg><g></g>") }
     ensures crossed { ¬ IsWellFormed (codes "<svg><g><text></g></text></svg>") }

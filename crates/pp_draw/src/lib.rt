@@ -1,5 +1,5 @@
 //! The drawing of a run: an SVG with a lane for each channel that the run used and for each
-//! processor that the deck names, over a scale of turns (decimal), with a legend.
+//! processor that is shown, over a scale of turns (decimal), with a legend.
 //!
 //! `run_seeing_steps` runs a machine to the end of a window of turns, and `write_drawing` writes
 //! the picture. What is drawn is a function of the steps of the run (specs/DrawingText): each lane

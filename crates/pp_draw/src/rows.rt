@@ -26,13 +26,13 @@ fn used_channel<A: Allocator>(machine: &Machine<A>, number: u8) -> Option<Channe
     }
 }
 
-/// The processor with this number, where there is one and the deck names it.
-fn named_processor(named: &[bool; PROCESSORS], number: u8) -> Option<PpNo>
-    ensures named { IsSome result ↔ IsTrue (is_named named.now number) }
+/// The processor with this number, where there is one that is shown.
+fn shown_processor(shown: &[bool; PROCESSORS], number: u8) -> Option<PpNo>
+    ensures shown { IsSome result ↔ IsTrue (is_named shown.now number) }
     ensures value { IfSome result (λ n. n ≡ number) }
 {
     match PpNo::new(number) {
-        Some(n) if named[n.index()] => Some(n),
+        Some(n) if shown[n.index()] => Some(n),
         _ => None,
     }
 }
@@ -49,14 +49,14 @@ pub(crate) fn used_channels<A: Allocator>(machine: &Machine<A>) -> u64
     count
 }
 
-/// How many processors the deck names.
-pub(crate) fn named_processors(named: &[bool; PROCESSORS]) -> u64
-    ensures count { result ≡ count_below 0o100 (is_named named.now) }
+/// How many processors are shown.
+pub(crate) fn shown_processors(shown: &[bool; PROCESSORS]) -> u64
+    ensures count { result ≡ count_below 0o100 (is_named shown.now) }
     ensures most { result ≤ 64 }
 {
     let mut count = 0;
     for number in 0..NUMBERS {
-        count += u64::from(named_processor(named, number).is_some());
+        count += u64::from(shown_processor(shown, number).is_some());
     }
     count
 }
@@ -99,12 +99,12 @@ fn print_numbered_channel<A: Allocator, W: Write>(
     row
 }
 
-/// Prints the lanes of the processors named, below those of this many channels.
+/// Prints the lanes of the processors shown, below those of this many channels.
 pub(crate) fn print_processor_lanes<A: Allocator, W: Write>(
     text: &mut TextWriter<W>,
     line: &mut Piece,
     window: Window,
-    named: &[bool; PROCESSORS],
+    shown: &[bool; PROCESSORS],
     machine: &Machine<A>,
     steps: &[SeenStep],
     channels: u64,
@@ -112,34 +112,34 @@ pub(crate) fn print_processor_lanes<A: Allocator, W: Write>(
     requires count { channels ≡ used_channels machine.now }
     requires most { channels ≤ 64 }
     ensures { Prints W.contents text.old text.new
-        (each_below NUMBERS (processor_lane window named.now machine.now steps.now)) }
+        (each_below NUMBERS (processor_lane window shown.now machine.now steps.now)) }
 {
     let mut row = channels;
     for number in 0..NUMBERS {
-        row = print_numbered_processor(text, line, window, named, machine, steps, number, row);
+        row = print_numbered_processor(text, line, window, shown, machine, steps, number, row);
     }
 }
 
-/// Prints the lane of the processor with this number, if the deck names it, and gives the row of
+/// Prints the lane of the processor with this number, if it is shown, and gives the row of
 /// the next.
 #[tactic(auto, unfolding(crate::specs::DrawingText::processor_lane))]
 fn print_numbered_processor<A: Allocator, W: Write>(
     text: &mut TextWriter<W>,
     line: &mut Piece,
     window: Window,
-    named: &[bool; PROCESSORS],
+    shown: &[bool; PROCESSORS],
     machine: &Machine<A>,
     steps: &[SeenStep],
     number: u8,
     row: u64,
 ) -> u64
-    requires row { row ≡ used_channels machine.now + count_below number (is_named named.now) }
+    requires row { row ≡ used_channels machine.now + count_below number (is_named shown.now) }
     requires most { row ≤ 128 }
     ensures lane { Prints W.contents text.old text.new
-        (processor_lane window named.now machine.now steps.now number) }
-    ensures row { result ≡ row + (if is_named named.now number then 1 else 0) }
+        (processor_lane window shown.now machine.now steps.now number) }
+    ensures row { result ≡ row + (if is_named shown.now number then 1 else 0) }
 {
-    if let Some(n) = named_processor(named, number) {
+    if let Some(n) = shown_processor(shown, number) {
         print_processor_lane(text, line, window, steps, n, machine.pp(n).state(), row);
         return row + 1;
     }

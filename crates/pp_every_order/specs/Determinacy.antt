@@ -1,8 +1,8 @@
--- When one list of steps of a machine tells the result of every other: no step of it races with
--- another, and after it every processor is settled. Processors may take their steps in any order, so
--- that a step finds its channel as the others have left it by then. What else it might have found, and
--- what it would have done then, is read off the one list alone.
--- (Manual 60100000, data channels: a processor waits for a channel, or tests its flags.)
+-- When one list of steps of a machine determines the result of every other: no step of it races
+-- with another, and after it every processor is settled. Processors may take their steps in any
+-- order, so that a step finds its channel as the others have left it by then. What else it might
+-- have found, and what it would have done then, is read off the one list alone. (Manual 60100000,
+-- data channels: a processor waits for a channel, or tests its flags.)
 use Rattle.std.specs.Prelude.{◌≡◌, ◌≢◌, ℕ, zero, suc, ◌<◌, ◌==◌, IsTrue, List, [], ◌∷◌, length, take, filter_map, Some, None, ◌⊎◌, if◌then◌else◌, slice_index}
 use Rattle.pp_channel.specs.Answer.{event_of, reply_to}
 use Rattle.pp_channel.specs.ChannelNo.{names_channel}
@@ -23,7 +23,7 @@ pub record Waits (n : ℕ) (m : MachineState) : Type 0 where
   pub event : step_event n m ≡ None
   pub central : (stepped n m).central ≡ m.central
 
--- a machine is quiet where a step of any processor waits
+-- a machine is quiet if a step of every processor waits
 pub record IsQuiet (m : MachineState) : Type 0 where
   pub waits : (n : ℕ) → Waits n m
 
@@ -53,8 +53,8 @@ pub record DoesTheSame (op : ChanOp) (pp : Processor) (found other : List Event)
   pub same : processor_after pp (Answer.Channel (reply_to op found))
       ≡ processor_after pp (Answer.Channel (reply_to op other))
 
--- Step t leaves it open where processor q stands, as channel c sees it: it is no step of q's on c, or
--- one that waits, or one that would do the same had it found channel c as it stood at moment s.
+-- Step t leaves it open where processor q stands, as channel c sees it: it is no step of q's on c,
+-- or one that waits, or one that would do the same had it found channel c as it stood at moment s.
 abbrev pub GoesOnAlone : List ℕ → MachineState → ℕ → ℕ → ℕ → ℕ → Type 0
 GoesOnAlone ns m q c t s =
     (slice_index ns t ≢ q)
@@ -67,13 +67,13 @@ abbrev pub MakesNoneOf : List ℕ → MachineState → ℕ → ℕ → ℕ → T
 MakesNoneOf ns m q c s =
     (slice_index ns s ≢ q) ⊎ (history_at ns m c (suc s) ≡ history_at ns m c s)
 
--- THE HEART: processor q may find channel c as the list had it at moment s when q itself stands as the
--- list had it at moment t. This holds wherever some order of steps finds them so. It may hold where no
--- order does, for it looks at q and c alone: what another channel or a word of memory makes wait, it
--- does not see. Think of two hands on the list, one where q stands and one where c stands. Both begin
--- at the start. The channel's hand goes on alone over every step that is no event of q's on c; q's hand
--- goes on alone over every step that leaves it open where the channel stands; and where both are at one
--- step, they go on together.
+-- THE HEART: processor q may find channel c as the list had it at moment s when q itself stands as
+-- the list had it at moment t. This holds wherever some order of steps finds them so. It may hold
+-- even if no order does, for it looks at q and c alone: what another channel or a word of memory
+-- makes wait, it does not see. Think of two hands on the list, one where q stands and one where c
+-- stands. Both begin at the start. The channel's hand goes on alone over every step that is no
+-- event of q's on c; q's hand goes on alone over every step that leaves it open where the channel
+-- stands; and when both are at one step, they go on together.
 pub data MayFind (ns : List ℕ) (m : MachineState) (q c : ℕ) : ℕ → ℕ → Type 0 where
   start : MayFind ns m q c zero zero
   channel_goes_on : (t s : ℕ) → MayFind ns m q c t s → MakesNoneOf ns m q c s
@@ -82,8 +82,8 @@ pub data MayFind (ns : List ℕ) (m : MachineState) (q c : ℕ) : ℕ → ℕ �
       → MayFind ns m q c (suc t) s
   both_go_on : (t : ℕ) → MayFind ns m q c t t → MayFind ns m q c (suc t) (suc t)
 
--- Step t races with no other on channel c as it stood at moment s: the channel stood the same way at
--- moment t, or the step would do the same, or it would wait, and moment s is before t.
+-- Step t races with no other on channel c as it stood at moment s: the channel stood the same way
+-- at moment t, or the step would do the same, or it would wait, and moment s is before t.
 abbrev pub IsInTime : List ℕ → MachineState → ℕ → ℕ → ChanOp → Processor → ℕ → Type 0
 IsInTime ns m t c op pp s =
     (history_at ns m c s ≡ history_at ns m c t)
@@ -126,9 +126,9 @@ WritesAt a x = (word : ℕ) × (x ≡ Need.Write a word)
 abbrev pub UsesAt : ℕ → Need → Type 0
 UsesAt a x = (x ≡ Need.Read a) ⊎ WritesAt a x
 
--- ONE LIST OF STEPS TELLS THE RESULT OF ALL OTHERS: each of its steps waits or is timely; after the
--- last, each processor is settled; and the processor that writes a central word is the only one that
--- uses it.
+-- ONE LIST OF STEPS DETERMINES THE RESULT OF ALL OTHERS: each of its steps waits or is timely;
+-- after the last, each processor is settled; and the processor that writes a central word is the
+-- only one that uses it.
 pub record IsDeterminate (ns : List ℕ) (m : MachineState) : Type 0 where
   pub steps : (t : ℕ) → t < length ns
       → Waits (slice_index ns t) (at_moment ns m t) ⊎ IsTimely ns m t
@@ -153,10 +153,10 @@ pub record ShowsParts (ns : List ℕ) (m now : MachineState) : Type 0 where
   pub processors : (q : ℕ) → (t : ℕ) × (processor_of q now ≡ processor_at ns m q t)
   pub channels : (c : ℕ) → (s : ℕ) × StandsAs ns m now c s
 
--- Two machines are alike: each processor stands the same, with its registers and its memory; central
--- memory has the same words; each channel has the same history; and on each channel every event was
--- made by the same processor. What no step changes, the profile and the channels that dead start
--- opened, is not said; turns, and how the events of different channels lie between one another, may
+-- Two machines are alike: each processor stands the same, with its registers and its memory;
+-- central memory has the same words; each channel has the same history; and on each channel every
+-- event was made by the same processor. What no step changes, the profile and the channels that
+-- dead start opened, is not stated; turns, and how the events of different channels interleave, may
 -- differ.
 pub record AreAlike (one other : MachineState) : Type 0 where
   pub processors : (q : ℕ) → processor_of q one ≡ processor_of q other
@@ -164,8 +164,8 @@ pub record AreAlike (one other : MachineState) : Type 0 where
   pub histories : (c : ℕ) → history_of c one ≡ history_of c other
   pub made : (c : ℕ) → IsTrue (names_channel c) → made_on c one.trace ≡ made_on c other.trace
 
--- a list of steps stands in another, in its order, with any steps between: as it does in every order
--- that goes on with each processor for long enough
+-- a list of steps stands in another, in its order, with any steps between: as it does in every
+-- order that goes on with each processor for long enough
 pub data StandsIn : List ℕ → List ℕ → Type 0 where
   over : (others : List ℕ) → StandsIn [] others
   next : (n : ℕ) (ns others : List ℕ) → StandsIn ns others → StandsIn (n ∷ ns) (n ∷ others)

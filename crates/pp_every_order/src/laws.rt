@@ -1,4 +1,5 @@
-//! The law of orders. The function does nothing: its contract says what is proved of the definitions.
+//! The law of orders. The function does nothing: its contract says what is proved of the
+//! definitions.
 
 ghost use Rattle.std.specs.Prelude.{◌≡◌, ℕ, List, length};
 ghost use Rattle.pp_channel.specs.ChannelNo.{channel_count};
@@ -7,10 +8,10 @@ ghost use Rattle.pp_machine.specs.PpNo.{processor_count};
 ghost use Rattle.pp_machine.specs.Run.{run};
 ghost use Rattle.pp_every_order.specs.Determinacy.{AreAlike, IsDeterminate, IsQuiet, ShowsParts, StandsIn};
 
-/// If one list of steps shows no race, on a channel or a central word, and is settled, it ends quiet.
-/// Every other list of steps shows each processor and each channel only as the first showed it at
-/// some moment; and one that ends quiet, or in which the first stands with any steps between, leaves
-/// the processors, central memory and the histories of the channels as the first did.
+/// If one list of steps shows no race, on a channel or a central word, and is settled, it ends
+/// quiet. Every other list of steps shows each processor and each channel only as the first showed
+/// it at some moment; and one that ends quiet, or in which the first stands with any steps between,
+/// leaves the processors, central memory and the histories of the channels as the first did.
 #[tactic(auto, using(crate::proofs::DeterminacyLemmas::ends_quiet, crate::proofs::DeterminacyLemmas::shows_parts, crate::proofs::DeterminacyLemmas::ends_alike, crate::proofs::DeterminacyLemmas::comes_alike,))]
 pub fn determinacy_law()
     ensures quiet { (ns : List ℕ) (m : MachineState)

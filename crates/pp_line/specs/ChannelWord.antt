@@ -1,6 +1,6 @@
 -- A channel as one number of 64 bits, the channel word: how many events it has had, its flags and
 -- its register; and one step of it, by the table of operations for every number of 64 bits, and by
--- the history where the word stands for one.
+-- the history if the word stands for one.
 -- (Manual 60100000, data channels: a register of 12 bits, an active flag and a full flag. That they
 -- lie in one number beside a count of events is this project's own.)
 use Rattle.std.specs.Prelude.{◌≡◌, ℕ, ◌+◌, ◌-◌, ◌*◌, ◌/◌, ◌%◌, ◌^◌, ◌<◌, ◌==◌, ◌&&◌, true, false, not, List, [], ◌∷◌, ◌++◌, length, Option, Some, None, unwrap_or, if◌then◌else◌}
@@ -42,28 +42,29 @@ abbrev pub waiting_in : ℕ → Option ℕ
 waiting_in word =
     if (flags_in word).active && (flags_in word).full then Some (register_in word) else None
 
--- how a channel with this word stands
+-- the state of a channel with this word
 abbrev pub state_in : ℕ → ChannelState
 state_in word = record { flags = flags_in word; register = waiting_in word }
 
--- the word after an event: one event more, and the flags and the register that the event leaves
+-- the word after an event: one more event, and the flags and the register that the event leaves
 abbrev pub word_with : ℕ → Event → ℕ
 word_with word e = packed (number_in word + 1) (flags_after e) (unwrap_or (word_put e) 0)
 
--- the step where it makes this event, or none
+-- the step if it makes this event, or none
 abbrev pub step_by : ChanOp → ℕ → Option Event → WordStep
 step_by op word None =
     if only_looks op then WordStep.Look (flags_in word) else WordStep.Held (flags_in word)
 step_by op word (Some e) = WordStep.Next (word_with word e) (reply_made e)
 
--- The step of an operation from any word. On a worn one none is answered but those that only look.
+-- The step of an operation from any word. On a worn one only an operation that only looks is
+-- answered.
 abbrev pub step_from : ChanOp → ℕ → WordStep
 step_from op word =
     if not (only_looks op) && (number_in word == greatest_number) then WordStep.Worn
     else step_by op word (event_by op (flags_in word) (waiting_in word))
 
--- Then by the history. What the step of an operation has to be where the word is that of a channel
--- with the history h; whether the operation is ready is said by the lawful histories.
+-- Then by the history. What the step of an operation has to be if the word is that of a channel
+-- with the history h; whether the operation is ready is decided by the lawful histories.
 pub record StepsFrom (h : List Event) (op : ChanOp) (step : WordStep) : Type 0 where
   -- an operation that only looks is shown the flags
   pub looks : only_looks op ≡ true → step ≡ WordStep.Look (flags_of h)

@@ -5,5 +5,5 @@ pub mod Order
 pub mod SharedWords
 pub mod LineView
 pub mod LineState
--- cited by private contracts alone: nobody has to read these to believe what the crate promises
+-- cited only by private contracts: nobody has to read these to believe what the crate promises
 pub mod LineSteps

@@ -68,7 +68,7 @@ abbrev pub IsFollowedBy : Entry → Entry → Type 0
 IsFollowedBy earlier later =
     earlier.channel ≡ later.channel → known_after earlier.what earlier.number ≤ later.number
 
--- A log is monotone where that holds of each entry and each later one: no number falls.
+-- A log is monotone if that holds of each entry and each later one: no number falls.
 abbrev pub IsMonotone : List Entry → Type 0
 IsMonotone log = AllPairs IsFollowedBy log
 

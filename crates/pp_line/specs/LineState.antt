@@ -33,7 +33,8 @@ pub record IsSplitFrom (parent : LineState) (room : ℕ) (line : LineState) : Ty
   pub table : line.table ≡ parent.table
 
 -- Two lines as one: the entries of the first and then those of the second, the room of the first,
--- and what both know, with the shares of both, which one more load has shown to be no more than all.
+-- and what both know, with the shares of both, which one more load has shown to be no more than
+-- all.
 abbrev pub joined : LineState → LineState → LineState
 joined line other = record line {
   log = record line.log { entries = line.log.entries ++ other.log.entries; kept = true };
@@ -48,7 +49,7 @@ all_joined line others = fold joined line others
 abbrev pub ForgetsNothing : LineState → LineState → Type 0
 ForgetsNothing line after = (c : ℕ) → seen_on c line.view.seen ≤ seen_on c after.view.seen
 
--- how many events of the channel are known after an answer: one more where it was an event
+-- how many events of the channel are known after an answer: one more if it was an event
 abbrev pub number_after : ℕ → Reply → ℕ
 number_after number reply = if is_some (flags_shown reply) then number else number + 1
 
@@ -66,9 +67,9 @@ pub record IsAnsweredBy (history : List Event) (op : ChanOp) (r : Numbered) : Ty
   pub at_once : r.number ≡ r.loaded → IsAnswer (take r.loaded history) op r.reply history
   pub lost : r.number ≢ r.loaded → IsLost history op r
 
--- The line after an answer to an operation on channel c that found these words: its log tells what
--- the operation saw or did, its view has the event, if there was one, and its program orders grow by a
--- look for each word and then that event.
+-- The line after an answer to an operation on channel c that found these words: its log records
+-- what the operation saw or did, its view has the event, if there was one, and its program orders
+-- grow by a look for each word and then that event.
 abbrev pub answered : LineState → ℕ → ChanOp → Numbered → List ℕ → LineState
 answered line c op r words = record line {
   log = with_seen line.log c r.number (seen_answered op r.reply);
@@ -95,7 +96,7 @@ pub record IsActed (line : LineState) (c : ℕ) (op : ChanOp) (r : Numbered) (af
   pub answer : IsAnsweredBy (history_on c histories) op r
   -- no look is older than what the line had seen
   pub not_older : seen_on c line.view.seen ≤ r.loaded
-  -- on a worn channel none is answered but an operation that only looks
+  -- on a worn channel only an operation that only looks is answered
   pub not_worn : only_looks op ≡ false → r.loaded < greatest_number
   -- a line that holds every share knew the whole histories before this answer
   pub alone : line.view.shares ≡ line.view.whole → (r.number ≡ r.loaded) × Merges no_opening
@@ -114,7 +115,7 @@ pub record IsWornOut (line : LineState) (c : ℕ) (op : ChanOp) (after : LineSta
   pub worn : length (history_on c histories) ≡ greatest_number
   pub all_seen : seen_on c after.view.seen ≡ greatest_number
 
--- The channels of a line that holds every share: their histories are those that its log tells.
+-- The channels of a line that holds every share: their histories are those that its log records.
 pub record AreClosed (line : LineState) (histories : List (List Event)) : Type 0 where
   pub known : Knows line.view line.log.entries histories
   pub law : All KeepsLaw histories

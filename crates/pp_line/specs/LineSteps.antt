@@ -1,5 +1,5 @@
 -- The atomic steps of a line on the shared words: what each makes of the line's view, and what it
--- tells; and how the line's log goes with its view. (Private contracts alone cite this.)
+-- reveals; and how the line's log agrees with its view. (Only private contracts cite this.)
 use Rattle.std.specs.Prelude.{◌≡◌, ◌≢◌, ℕ, ◌<◌, ◌≤◌, ◌^◌, ◌==◌, MatchBool, IsTrue, List, [], ◌∷◌, ◌++◌, length, All, Contains, slice_set}
 use mathlib.Core.Option.{Option, none, some}
 use Rattle.atomic_table.specs.Table.{Me, Step}
@@ -37,7 +37,7 @@ pub record IsLogOf (v : LineView) (log : List Entry) : Type 0 where
   pub some_program_order : 0 < length v.program_orders
   pub drawn : IsDrawnFrom v.program_orders log
 
--- what a step on channel c tells that finds this word: the histories at that moment, and an order
+-- what a step on channel c that finds this word reveals: the histories at that moment, and an order
 pub record Tells (v : LineView) (c word : ℕ) : Type 0 where
   pub named : IsTrue (names_channel c)
   pub histories : List (List Event)
@@ -78,7 +78,7 @@ pub record IsLostExchange (c expected : ℕ) (before : LineView) (word : ℕ) (a
   pub later : number_in expected < number_in word
   pub others : before.shares ≢ before.whole
 
--- An exchange: it is won where it found the word that it expected.
+-- An exchange: it is won if it found the word that it expected.
 abbrev pub IsExchange : ℕ → ℕ → Event → LineView → ℕ → LineView → Type 0
 IsExchange c expected e before word after =
     MatchBool (word == expected) (IsWonExchange c before word e after)
@@ -108,7 +108,7 @@ pub record IsRead (address : ℕ) (before : LineView) (word : ℕ) (after : Line
 abbrev pub IsWrite : ℕ → LineView → ℕ → LineView → Type 0
 IsWrite address before word after = (number : ℕ) × (after ≡ writes before address word number)
 
--- A load that is counted alone, and tells that a line has no more shares than there are.
+-- A load that is only counted, and reveals that a line has no more shares than there are.
 pub record IsShareCheck (c : ℕ) (before : LineView) (word : ℕ) (after : LineView) : Type 0 where
   pub after_is : after ≡ with_unrecorded_load before
   pub shares_fit : before.shares ≤ before.whole

@@ -12,8 +12,9 @@ use Rattle.pp_channel.specs.History.{AreHistories, history_on}
 use Rattle.pp_line.specs.Order.{extended}
 use Rattle.pp_line.specs.SharedWords.{IsFound}
 
--- the view of a line with these shares that made no event and found no word, and has seen this
--- many events of each channel, beside central memory of these words: its one program order is empty
+-- the view of a line with these shares that made no event and found no word, and has seen these
+-- numbers of events on the channels, beside central memory of these words: its one program order is
+-- empty
 abbrev pub blank_view : ℕ → ℕ → List ℕ → List ℕ → LineView
 blank_view shares whole central seen =
     record {
@@ -56,7 +57,7 @@ joined_view v w = record v {
   program_orders = v.program_orders ++ w.program_orders;
 }
 
--- the look that a word gives which was found on channel c
+-- the look that a word found on channel c gives
 abbrev pub look_by : ℕ → ℕ → Entry
 look_by c word = look_entry c (number_in word) (flags_in word)
 
@@ -76,7 +77,7 @@ makes v c number e = record v {
   program_orders = extended v.program_orders (Access.OnChannel (event_entry c number e) ∷ []);
 }
 
--- the view after a word was found in central memory, and after one was written there, so many
+-- the view after a word was found in central memory, and after one was written there, `number`
 -- writes of all lines having come before
 abbrev pub reads : LineView → ℕ → ℕ → LineView
 reads v address word =
@@ -94,7 +95,7 @@ with_unrecorded_load v = record v { unrecorded_loads = v.unrecorded_loads + 1 }
 
 -- A line knows of the histories of the channels: they are lawful, with words of 12 bits; its log is
 -- true of them; it has seen no more events than they have, and each word that it found is that of a
--- front of one. If it holds every share, it knows all that happened.
+-- prefix of one. If it holds every share, it knows all that happened.
 pub record Knows (v : LineView) (log : List Entry) (histories : List (List Event)) : Type 0 where
   pub sound : AreHistories histories
   pub log_true : All (IsTrueOf histories) log

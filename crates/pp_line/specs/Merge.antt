@@ -25,7 +25,7 @@ logs_event c number entry = is_event entry.what && (entry.channel == c) && (entr
 abbrev pub times_logged : ℕ → ℕ → List Entry → ℕ
 times_logged c number log = count_by (logs_event c number) log
 
--- A log, or several end to end, merges to the histories over the opening histories where, for each
+-- A log, or several end to end, merges to the histories over the opening histories if, for each
 -- channel, it records each event after the opening ones once, at its number, and no other; the
 -- history begins with the opening one; and every entry is true of the histories.
 pub record Merges (opening : ℕ → List Event) (histories : List (List Event)) (log : List Entry)
@@ -56,7 +56,7 @@ pub record IsRecordedBy (log : List Entry) (seen : List ℕ) (histories : List (
     pub counted : (c : ℕ) → seen_on c seen ≡ length (history_on c histories)
 
 -- the histories of all channels in order, with the event of an entry put at its number in that of
--- its channel (private contracts alone cite this)
+-- its channel (only private contracts cite this)
 abbrev pub with_recorded : List (List Event) → ℕ → ℕ → Seen → List (List Event)
 with_recorded histories place number (Seen.Did e) =
     slice_set histories place (slice_set (slice_index_or histories place []) number e)

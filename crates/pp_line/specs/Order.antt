@@ -1,7 +1,7 @@
 -- One total order of the accesses of all lines, to channels and to central memory: each channel's
 -- events in it are the channel's history, each look shows its channel as the events before it left
--- it, each read of central memory finds the word that was written last, and the accesses of one line
--- stand in it in the order of that line's program.
+-- it, each read of central memory finds the word that was written last, and the accesses of one
+-- line stand in it in the order of that line's program.
 use Rattle.std.specs.Prelude.{◌≡◌, ℕ, ◌==◌, List, [], ◌∷◌, ◌++◌, length, All, Option, Some, None, if◌then◌else◌, filter_map, map, slice_index, slice_set, fold}
 use Rattle.std.specs.List.{flat_map, count_by, range_with_len}
 use Rattle.list_facts.specs.Subsequence.{IsSubsequence}
@@ -36,7 +36,8 @@ IsLegal before (entry ∷ entries) =
     × IsLegal (λ c. before c ++ made_on c (entry ∷ [])) entries
 
 -- A total order of the events of all channels and of looks, after the opening histories: each
--- channel's history is its opening history and then its events in the order, and the order is legal.
+-- channel's history is its opening history and then its events in the order, and the order is
+-- legal.
 pub record IsTotalOrderOf (opening : ℕ → List Event) (histories : List (List Event))
     (order : List Entry) : Type 0 where
   pub each_history : (c : ℕ) → opening c ++ made_on c order ≡ history_on c histories
@@ -66,7 +67,7 @@ words_after words (Access.Write address word number) = slice_set words address w
 abbrev pub left_by : List ℕ → List Access → List ℕ
 left_by words accesses = fold words_after words accesses
 
--- the number of an access, where it is a write
+-- the number of an access, if it is a write
 abbrev pub write_number : Access → Option ℕ
 write_number (Access.OnChannel entry) = None
 write_number (Access.Read address word) = None
@@ -76,7 +77,7 @@ write_number (Access.Write address word number) = Some number
 abbrev pub writes_among : List Access → List ℕ
 writes_among accesses = filter_map write_number accesses
 
--- how often a number stands in a list
+-- how often a number occurs in a list
 abbrev pub times : ℕ → List ℕ → ℕ
 times number numbers = count_by (λ n. n == number) numbers
 
@@ -97,9 +98,10 @@ FindsWords words [] = Unit {0}
 FindsWords words (access ∷ accesses) =
     FindsWord words access × FindsWords (words_after words access) accesses
 
--- A program order is the accesses of one line, as they came to pass: a look for each word that it
--- found on a channel, its events, its reads and its writes. A line has one; a joined line has those
--- of both lines, and from then on each of them goes on with the accesses of the joined line.
+-- A program order is the accesses of one line, in the order in which they happened: a look for each
+-- word that it found on a channel, its events, its reads and its writes. A line has one; a joined
+-- line has those of both lines, and from then on each of them continues with the accesses of the
+-- joined line.
 abbrev pub extended : List (List Access) → List Access → List (List Access)
 extended program_orders more = map (λ accesses. accesses ++ more) program_orders
 

@@ -60,8 +60,8 @@ pub record KeepsRule (whole : ℕ) (words : List ℕ) (views : List LineView)
   pub program_orders : All (λ v. ExtendsEach order v.program_orders) views
 
 -- Over the words of central memory at the opening, each read in the order found the word that was
--- written last, and each word is what the order leaves there, a number of 60 bits. The writes of all
--- lines are those of the order.
+-- written last, and each word is what the order leaves there, a number of 60 bits. The writes of
+-- all lines are those of the order.
 pub record KeepsCentral (opening words : List ℕ) (views : List LineView) (order : List Access)
     : Type 0 where
   pub places : length words ≡ place_count + length opening

@@ -8,6 +8,6 @@ pub enum Access {
     OnChannel(Entry),
     /// A read, by address, of this word.
     Read(u64, u64),
-    /// A write, by address, of this word, after so many writes of all lines.
+    /// A write, by address, of this word, and how many writes of all lines came before it.
     Write(u64, u64, u64),
 }

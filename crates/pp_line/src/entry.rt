@@ -1,4 +1,4 @@
-//! What a log says.
+//! Entries of logs.
 
 use pp_channel::{ChannelNo, Seen};
 

@@ -58,7 +58,7 @@ impl<A: Allocator> Model for Line<A> {
         × IsLogOf line.words.seat.me.0 line.log.entries };
 }
 
-/// All channels, without history, and the first line of their family, which holds all of `lines`
+/// Opens all channels, without history: the first line of their family, which holds all `lines`
 /// shares, at least 1, with room for `room` entries in its log.
 pub fn open_lines<A: Allocator + Copy>(alloc: A, room: u32, lines: u32) -> Result<Line<A>, Memory>
     requires { 1 ≤ lines }
@@ -94,8 +94,8 @@ pub fn open_lines_beside<A: Allocator + Copy>(
 }
 
 impl<A: Allocator + Copy> Line<A> {
-    /// What it did and saw, in order. Every entry lies within what it has seen: an event below
-    /// `seen` of its channel, a look at most there.
+    /// What it did and saw, in order. Every entry lies within what it has seen: an event's number
+    /// is below `seen` of its channel, a look's at most that.
     pub fn log(&self) -> &[Entry]
         ensures value { result.now ≡ self.now.log.entries }
         ensures within { IsWithin self.now.view.seen self.now.log.entries }
@@ -104,7 +104,7 @@ impl<A: Allocator + Copy> Line<A> {
         self.log.entries()
     }
 
-    /// For how many more entries its log has room.
+    /// How many more entries its log has room for.
     pub fn room(&self) -> u32
         ensures { result ≡ self.now.log.room }
     {
@@ -180,10 +180,10 @@ impl<A: Allocator + Copy> Line<A> {
     /// `loaded` is how many events the load found. `number` is the same, and for an event its place
     /// in the history; but an operation whose exchange was lost to another line is held with the
     /// flags and the number that the exchange found. An event goes to the log, and so does a look,
-    /// which takes the place of a last look at the same channel that was not kept; `room` falls
-    /// where the log grows. `seen` of the channel becomes one more than the number of an event, and
-    /// the number of a look; `kept` becomes false. `Worn` comes only for an operation that does
-    /// more than look, where the load found 2^50 - 1 events; then `seen` of the channel alone has
+    /// which takes the place of a last look at the same channel that was not kept; `room` falls if
+    /// the log grows. `seen` of the channel becomes one more than the number of an event, and the
+    /// number of a look; `kept` becomes false. `Worn` is returned only for an operation that does
+    /// more than look, if the load found 2^50 - 1 events; then only `seen` of the channel has
     /// changed.
     pub fn act(&mut self, channel: ChannelNo, op: ChanOp) -> Result<Numbered, Worn>
         requires { 1 ≤ self.old.log.room }
@@ -239,7 +239,7 @@ impl<A: Allocator + Copy> Line<A> {
     }
 
     /// Writes the word of central memory at an address, by one store; at or past the size it
-    /// answers false, and nothing changes.
+    /// returns false, and nothing changes.
     pub fn write(&mut self, address: Word18, word: Word60) -> bool
         ensures inside { IsTrue result ↔ (address < length self.old.view.central) }
         ensures written { MatchBool result
@@ -263,7 +263,7 @@ impl<A: Allocator + Copy> Line<A> {
         word
     }
 
-    /// Writes down a look, by the word that the line found last, on the channel.
+    /// Logs a look at the channel, by the word that the line found last.
     fn look(&mut self, channel: ChannelNo, word: u64)
         requires room { 1 ≤ self.old.log.room }
         requires found { (v : LineView) × IsLogOf v self.old.log.entries
@@ -277,8 +277,8 @@ impl<A: Allocator + Copy> Line<A> {
         self.log.saw(channel, number_in(word), flags_in(word));
     }
 
-    /// One try to make the event, if the channel still has the word that was loaded. If another
-    /// word is there by now, the line finds that word, and writes down a look by it.
+    /// Tries once to make the event, if the channel still has the word that was loaded. If it has
+    /// another by now, the line finds that word, and logs a look by it.
     fn try_event(
         &mut self,
         channel: ChannelNo,

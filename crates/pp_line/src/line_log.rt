@@ -1,4 +1,4 @@
-//! A log with room for this many entries.
+//! A log with room for a given number of entries.
 
 ghost use Rattle.std.specs.Prelude.{◌≡◌, ◌<◌, ◌++◌, true, IfOk, OnOk, OnErr};
 ghost use Rattle.pp_line.specs.LineLog.{LogState, empty_log, event_entry, look_entry, appended, looked, ends_in_look_at};
@@ -51,7 +51,7 @@ impl<A: Allocator> LineLog<A> {
         self.entries.as_slice()
     }
 
-    /// Its entries, by which it ends.
+    /// Its entries; the log is consumed.
     pub fn into_entries(self) -> Vec<Entry, A>
         ensures { result.items ≡ self.entries }
     {
@@ -63,28 +63,28 @@ impl<A: Allocator> LineLog<A> {
         entries
     }
 
-    /// For how many more it has room.
+    /// How many more entries it has room for.
     pub fn room(&self) -> u32
         ensures { result ≡ self.now.room }
     {
         self.room
     }
 
-    /// Whether its last entry is to stay.
+    /// Whether its last entry stays when a look at the same channel follows.
     pub fn kept(&self) -> bool
         ensures { result ≡ self.now.kept }
     {
         self.kept
     }
 
-    /// Its last entry is to stay.
+    /// Keeps its last entry, even if a look at the same channel follows.
     pub fn keep(&mut self)
         ensures { self.new ≡ record self.old { kept = true } }
     {
         self.kept = true;
     }
 
-    /// An event that was made.
+    /// Logs an event.
     pub fn did(&mut self, channel: ChannelNo, number: u64, event: Event)
         requires { 0 < self.old.room }
         ensures { self.new ≡ appended self.old (event_entry channel number event) }
@@ -98,7 +98,7 @@ impl<A: Allocator> LineLog<A> {
         self.kept = false;
     }
 
-    /// A look at the flags.
+    /// Logs a look at the flags.
     pub fn saw(&mut self, channel: ChannelNo, number: u64, flags: Flags)
         requires { 0 < self.old.room }
         ensures { self.new ≡ looked self.old (look_entry channel number flags) }
@@ -135,7 +135,7 @@ impl<A: Allocator> LineLog<A> {
         }
     }
 
-    /// The entries of another log come to the end.
+    /// Adds the entries of another log at the end.
     pub fn append(&mut self, other: &LineLog<A>) -> Result<(), Memory>
         ensures ok { OnOk result (self.new ≡ record self.old {
           entries = self.old.entries ++ other.now.entries;

@@ -1,4 +1,4 @@
-//! The channels, of logs that record their histories whole.
+//! The channels of logs that record their whole histories.
 
 ghost use Rattle.std.specs.Prelude.{◌≡◌, ℕ, ◌<◌, ◌++◌, List, [], length, IfOk, slice_index_or, slice_set};
 ghost use Rattle.std.specs.List.{flat_map, fold};
@@ -28,7 +28,7 @@ impl<A: Allocator> Model for EventsByNumber<A> {
 }
 
 impl<A: Allocator> EventsByNumber<A> {
-    /// As many events, of which none is placed yet.
+    /// `count` events, none of them placed yet.
     fn untold(alloc: A, count: u64) -> Result<Self, Memory>
         ensures { IfOk result (λ untold. length untold ≡ count) }
     {
@@ -36,7 +36,7 @@ impl<A: Allocator> EventsByNumber<A> {
         Ok(EventsByNumber { events })
     }
 
-    /// Puts an event at this number, where there is one.
+    /// Puts an event at this number, if the list has it.
     #[tactic(auto, using(std::proofs::lemmas::List::set_past))]
     fn put(&mut self, number: u64, event: Event)
         ensures { self.new ≡ slice_set self.old number event }
@@ -78,7 +78,7 @@ fn put_channel<A: Allocator>(channels: &mut [Channel<A>], place: usize, channel:
     channels[place] = channel;
 }
 
-/// The events of the history at a place, and none there.
+/// Takes the events of the history at a place, and leaves none there.
 fn take_events<A: Allocator>(
     alloc: A,
     histories: &mut Vec<EventsByNumber<A>, A>,
@@ -121,7 +121,7 @@ fn put_log<A: Allocator>(histories: &mut Vec<EventsByNumber<A>, A>, log: &[Entry
     }
 }
 
-/// As many events of each channel as were seen, of which none is placed yet.
+/// As many events of each channel as were seen, none of them placed yet.
 fn unrecorded_histories<A: Allocator + Copy>(
     alloc: A,
     seen: &[u64; CHANNELS],

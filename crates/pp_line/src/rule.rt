@@ -34,8 +34,8 @@ pub struct LineView {
     pub program_orders: LinkedList<LinkedList<Access>>,
 }
 
-/// What lines share at first: so many shares, and these words, those of channels without history
-/// and then those of central memory.
+/// What lines share at first: `whole` shares, and the words of channels without history and then
+/// those of central memory.
 #[derive(Drop)]
 pub struct Opening<A: Allocator> {
     pub whole: u64,

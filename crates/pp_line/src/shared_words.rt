@@ -19,11 +19,11 @@ use pp_word::{Word18, Word60};
 use std::alloc::Allocator;
 use std::sync::Arc;
 
-/// How many words lie from one channel's word to the next: 128 bytes, so that no two channels share
-/// a cache line.
+/// The distance from one channel's word to the next, in words: 128 bytes, so that no two channels
+/// share a cache line.
 const APART: usize = 16;
 
-/// How many words there are: none lies at the place of a channel before the first.
+/// The number of places before the words of central memory. The first `APART` are not used.
 const PLACES: usize = APART * (CHANNELS + 1);
 
 /// The words of the channels and of central memory, which all lines of a family share, and one
@@ -69,7 +69,7 @@ impl<A: Allocator + Copy> SharedWords<A> {
         Ok(SharedWords { table, seat })
     }
 
-    /// The seat of another line is joined to this one.
+    /// Joins the seat of another line to this one.
     pub fn join(&mut self, other: SharedWords<A>)
         requires { other.seat.table_id ≡ self.old.seat.table_id }
         ensures table { self.new.seat.table_id ≡ self.old.seat.table_id }
@@ -89,8 +89,8 @@ impl<A: Allocator + Copy> SharedWords<A> {
             .load::<Load>(&mut self.seat, place(channel))
     }
 
-    /// One try to make an event: the word of the channel becomes `new` where it is `expected`.
-    /// Answers the word that it found.
+    /// Tries once to make an event: the word of the channel becomes `new` if it is `expected`.
+    /// Returns the word that it found.
     pub fn exchange(&mut self, channel: ChannelNo, expected: u64, new: u64, event: &Event) -> u64
         requires loaded { (v : LineView) × (self.old.seat.me.0 ≡ finds v channel expected) }
         requires next { (h : List Event) → IsLawful h → HasTwelveBitWords h
@@ -123,7 +123,7 @@ impl<A: Allocator + Copy> SharedWords<A> {
         Some(Word60::truncated(word))
     }
 
-    /// Writes the word of central memory at an address; at or past the size it answers false, and
+    /// Writes the word of central memory at an address; at or past the size it returns false, and
     /// writes nothing.
     pub fn write(&mut self, address: Word18, word: Word60) -> bool
         ensures table { self.new.seat.table_id ≡ self.old.seat.table_id }

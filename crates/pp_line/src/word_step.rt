@@ -24,7 +24,7 @@ const GREATEST_NUMBER: u64 = (1 << 50) - 1;
 /// What an operation does to a channel word.
 #[derive(Clone, Copy, Debug, PartialEq, Eq)]
 pub enum WordStep {
-    /// The word becomes this one, and the operation is answered so.
+    /// The word becomes this one, and this is the reply to the operation.
     Next(u64, Reply),
     /// The flags, for an operation that only looks.
     Look(Flags),
@@ -36,7 +36,7 @@ pub enum WordStep {
 
 /// The step of an operation from a channel word, which may be any number: bits 0 to 11 are the
 /// register, bit 12 the full flag, bit 13 the active flag, and bits 14 to 63 the number of events
-/// (decimal). `Worn` comes first, but for an operation that only looks.
+/// (decimal). `Worn` comes first, except for an operation that only looks.
 #[tactic(auto, using(crate::proofs::ChannelWordLemmas::steps_as_histories))]
 pub fn advance(word: u64, op: ChanOp) -> WordStep
     ensures table { result ≡ step_from op word }
@@ -52,7 +52,7 @@ pub fn advance(word: u64, op: ChanOp) -> WordStep
     }
 }
 
-/// The step where an operation makes no event.
+/// The step if an operation makes no event.
 fn step_shown(op: &ChanOp, word: u64) -> WordStep
     ensures { result ≡ step_by op.now word None }
 {
@@ -63,8 +63,8 @@ fn step_shown(op: &ChanOp, word: u64) -> WordStep
     }
 }
 
-/// The event that an operation makes, by the flags and the register of a word; nothing where it
-/// only looks or is not ready.
+/// The event that an operation makes, by the flags and the register of a word; nothing if it only
+/// looks or is not ready.
 pub(crate) fn next_event_in(word: u64, op: &ChanOp) -> Option<Event>
     ensures event { result ≡ event_by op.now (flags_in word) (waiting_in word) }
     ensures twelve_bits { IfSome result HasTwelveBitWord }
@@ -90,7 +90,7 @@ pub(crate) fn flags_in(word: u64) -> Flags
     }
 }
 
-/// How a channel with this word stands.
+/// The state of a channel with this word.
 pub(crate) fn state_in(word: u64) -> ChannelState
     ensures { result ≡ state_in word }
 {
@@ -100,7 +100,7 @@ pub(crate) fn state_in(word: u64) -> ChannelState
     }
 }
 
-/// The word that waits in its register, where it is active and full.
+/// The word that waits in its register, if it is active and full.
 fn waiting_in(word: u64) -> Option<Word12>
     ensures { result ≡ waiting_in word }
 {

@@ -20,7 +20,8 @@ use Rattle.pp_deck.specs.DeckLoad.{processor_with}
 use Rattle.pp_deck.specs.DeckMeaning.{LoadedDeck, deck_meaning}
 use Rattle.list_facts.specs.Tables.{length-tabulate, get_or-tabulate}
 use Rattle.pp_deck.proofs.LoadedRangeLemmas.{IsSmall}
-use Rattle.pp_listing.specs.Dump.{in_processor, processor_going_on, channel_going_on, all_going_on, first_going_on, left_of, is_in_use, deck_to_go_on, dump, after, GoesOnFrom}
+use Rattle.pp_deck.specs.InUse.{is_in_use}
+use Rattle.pp_listing.specs.Dump.{in_processor, processor_going_on, channel_going_on, all_going_on, first_going_on, left_of, deck_to_go_on, dump, after, GoesOnFrom}
 use Rattle.pp_listing.specs.Listing.{is_opened_channel, listing, numbers}
 use Rattle.pp_listing.proofs.FreshDeckLemmas.{IsFresh, fresh_listing}
 use Rattle.pp_listing.proofs.GoingOnLemmas.{none_given}

@@ -1,54 +1,20 @@
 -- Steps of what dumps a deck.
-use Rattle.std.proofs.Common.{◌≡◌, ℕ, ◌+◌, ◌<◌, Bool, false, cond, List, [], ◌∷◌, ◌++◌, length, slice_set, get_or, get_or-set_same, get_or-set_other, refl, sym, ap, ◌∙◌, arith, inl, inr}
-use Rattle.std.proofs.lemmas.Bool.Decides.{eqb_tells}
+use Rattle.std.proofs.Common.{◌≡◌, ℕ, Bool, cond, List, [], ◌∷◌, ◌++◌, length, refl, sym, ap, ◌∙◌}
 use Rattle.std.specs.List.{flat_map, range_with_len}
-use Rattle.std.proofs.lemmas.List.{append-nil, length-set}
+use Rattle.std.proofs.lemmas.List.{append-nil}
 use Rattle.pp_machine.specs.MachineState.{processor_of}
 use Rattle.pp_machine.specs.Processor.{Processor, word_at}
-use Rattle.pp_machine.specs.PpNo.{processor_count, processor_number, is_named, each_processor}
+use Rattle.pp_machine.specs.PpNo.{is_named}
 use Rattle.pp_machine.specs.declared.pp_state.PpState.{PpState}
 use Rattle.pp_machine.specs.declared.pp_state.PpState.TheVariants.{Running, Stopped, Fault}
 use Rattle.pp_deck.specs.DeckLine.{central_size, section, dead_start}
 use Rattle.pp_deck.specs.DeckMeaning.{LoadedDeck}
-use Rattle.list_facts.specs.Tables.{tabulate_is}
-use Rattle.pp_listing.specs.Dump.{deck_to_go_on, dump, is_in_use, left_of}
+use Rattle.pp_deck.specs.InUse.{in_use}
+use Rattle.pp_listing.specs.Dump.{deck_to_go_on, dump, left_of}
 use Rattle.pp_listing.specs.ListedLine.{ListedLine, bare, text_line}
 use Rattle.pp_listing.specs.Listing.{central_word_line, dead_start_line, instruction_lines, listing, named_section, numbers, section_lines, start_line}
 use Rattle.pp_listing.proofs.TextLemmas.{listing_from_pieces}
 use Rattle.pp_listing.proofs.DumpLawLemmas.{left_there, none_open}
-
--- ---- which processors are in use
-
--- a list that says it below a place
-pub record IsInUseBelow (deck : LoadedDeck) (place : ℕ) (named : List Bool) : Type 0 where
-  pub long : length named ≡ processor_count
-  pub below : (k : ℕ) → k < place → get_or named k false ≡ is_in_use deck (processor_number k)
-
-pub none_in_use : (deck : LoadedDeck) (named : List Bool) → length named ≡ processor_count → IsInUseBelow deck 0 named
-none_in_use deck named long = record { long = long; below = λ k lt. absurd (omega (arith, lt)) }
-
-pub one_more_in_use : (deck : LoadedDeck) (place n : ℕ) (named : List Bool) (used : Bool) → place < processor_count → n ≡ processor_number place → used ≡ is_in_use deck n → IsInUseBelow deck place named → IsInUseBelow deck (place + 1) (slice_set named place used)
-one_more_in_use deck place n named used within is says h = record {
-  long = length-set named place used ∙ h.long;
-  below = λ k lt. by k lt;
-}
-  where
-    less : (k : ℕ) → k < place + 1 → (k ≡ place → ⊥) → k < place
-    less k lt ne = omega (arith, lt, ne)
-
-    by : (k : ℕ) → k < place + 1 → get_or (slice_set named place used) k false ≡ is_in_use deck (processor_number k)
-    by k lt =
-        elim (eqb_tells k place) as (λ _. get_or (slice_set named place used) k false ≡ is_in_use deck (processor_number k)) [
-          | inl same ↦
-              ap (λ (i : ℕ). get_or (slice_set named place used) i false) same.1
-              ∙ get_or-set_same named place used false (omega (arith, within, h.long))
-              ∙ says ∙ ap (is_in_use deck) is ∙ ap (λ (i : ℕ). is_in_use deck (processor_number i)) (sym same.1)
-          | inr apart ↦ get_or-set_other named place k used false apart.1 ∙ h.below k (less k lt apart.1)
-        ]
-
-pub all_in_use : (deck : LoadedDeck) (place : ℕ) (named : List Bool) → place ≡ processor_count → IsInUseBelow deck place named → named ≡ each_processor (is_in_use deck)
-all_in_use deck place named all h =
-    tabulate_is false named processor_count (λ k. is_in_use deck (processor_number k)) h.long (λ k lt. h.below k (omega (arith, lt, all)))
 
 -- ---- the lines, printed from the machine as it stands
 
@@ -74,7 +40,7 @@ dump_is : (deck : LoadedDeck) → dump deck ≡ listing (deck_to_go_on deck)
 unfolding dump
 dump_is deck = refl
 
-pub dump_from_pieces : (deck : LoadedDeck) (t t1 t2 t3 first second : List ℕ) (named : List Bool) → first ≡ deck.machine.central → second ≡ deck.machine.central → named ≡ each_processor (is_in_use deck) → t ≡ [] → t1 ≡ t ++ text_line (bare (central_size (length first)))
+pub dump_from_pieces : (deck : LoadedDeck) (t t1 t2 t3 first second : List ℕ) (named : List Bool) → first ≡ deck.machine.central → second ≡ deck.machine.central → named ≡ in_use deck → t ≡ [] → t1 ≡ t ++ text_line (bare (central_size (length first)))
     → t2 ≡ t1 ++ flat_map text_line (flat_map (central_word_line second) (range_with_len 0 (length second))) → t3 ≡ t2 ++ flat_map text_line (flat_map (named_section named deck.machine) numbers) → t3 ≡ dump deck
 dump_from_pieces deck t t1 t2 t3 first second named is_first is_second is_named e0 e1 e2 e3 =
     let to_go_on = deck_to_go_on deck in

@@ -17,7 +17,7 @@ use Rattle.pp_deck.proofs.LawLemmas as law
 use Rattle.list_facts.specs.GrowingLists.{last_of}
 use Rattle.list_facts.specs.Tables.{length-tabulate}
 use Rattle.pp_deck.proofs.SectionLinesLemmas.{unnamed_empty}
-use Rattle.pp_listing.specs.Dump.{is_in_use}
+use Rattle.pp_deck.specs.InUse.{is_in_use}
 use Rattle.pp_listing.proofs.FreshDeckLemmas.{no_words}
 use Rattle.pp_listing.proofs.ListedLemmas.{processor_is}
 use Rattle.pp_listing.proofs.ListingLemmas.{each_deck, name_here, names_of}

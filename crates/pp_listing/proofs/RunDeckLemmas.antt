@@ -13,7 +13,8 @@ use Rattle.pp_machine.specs.declared.profile.Profile.{Profile}
 use Rattle.pp_machine.proofs.MachineStepLemmas.{stepped_at_rest}
 use Rattle.pp_machine.specs.ProcessorPlaces.{place_below}
 use Rattle.pp_deck.specs.DeckMeaning.{LoadedDeck}
-use Rattle.pp_listing.specs.Dump.{after, is_in_use}
+use Rattle.pp_deck.specs.InUse.{is_in_use}
+use Rattle.pp_listing.specs.Dump.{after}
 use Rattle.pp_listing.proofs.ProfileLemmas.{profile_after}
 
 -- a deck for a machine of this profile that may have run

@@ -6,7 +6,7 @@ use Rattle.pp_deck.specs.DeckLine.{Line, nothing, central_size, central_words, s
 use Rattle.pp_listing.specs.InstructionText.{instruction_text}
 use Rattle.pp_listing.specs.OctalDigits.{octal, short_octal}
 
--- a number in exactly this many digits, after a blank
+-- a number in exactly `width` digits, after a blank
 abbrev pub after_blank : ℕ → ℕ → List ℕ
 after_blank width n = 32 ∷ octal width n
 
@@ -21,7 +21,7 @@ line_text (start p a) = codes "START" ++ after_blank 4 p ++ after_blank 6 a
 line_text (words x ws) = octal 4 x ++ flat_map (after_blank 4) ws
 line_text dead_start = codes "DEAD"
 
--- a text, padded with spaces to this many columns
+-- a text, padded with spaces to `columns` columns
 abbrev pub padded : ℕ → List ℕ → List ℕ
 padded columns text = text ++ replicate (columns - length text) 32
 

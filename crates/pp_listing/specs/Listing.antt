@@ -16,7 +16,7 @@ use Rattle.pp_listing.specs.ListedLine.{ListedLine, bare, one_word, two_words, t
 unfoldable pub numbers : List ℕ
 numbers = range_with_len 0 0o100
 
--- the instructions in the words from a place on, where the word after the last is `first`, that at
+-- the instructions in the words from a place on, if the word after the last is `first`, that at
 -- place 0000. A word that is 0 begins no line
 abbrev pub instruction_lines : ℕ → ℕ → List ℕ → List ListedLine
 instruction_lines first place [] = []
@@ -26,7 +26,7 @@ instruction_lines first place (w ∷ m ∷ ws) =
     else if is_long w then two_words place w m ∷ instruction_lines first (place + 2) ws
     else one_word place w m ∷ instruction_lines first (place + 1) (m ∷ ws)
 
--- `START p a`, where a processor is running
+-- `START p a`, if a processor is running
 abbrev pub start_line : PpState → ℕ → ℕ → List ListedLine
 start_line Running p a = bare (start p a) ∷ []
 start_line state p a = []
@@ -36,7 +36,7 @@ abbrev pub section_lines : ℕ → Processor → List ListedLine
 section_lines n pp =
     bare (section n) ∷ instruction_lines (word_at pp 0) 0 pp.memory ++ start_line pp.state pp.p pp.a
 
--- the section of processor n, where it is named
+-- the section of processor n, if it is named
 abbrev pub named_section : List Bool → MachineState → ℕ → List ListedLine
 named_section named m n = if is_named named n then section_lines n (processor_of n m) else []
 
@@ -44,7 +44,7 @@ named_section named m n = if is_named named n then section_lines n (processor_of
 abbrev pub sections : List Bool → MachineState → List ListedLine
 sections named m = flat_map (named_section named m) numbers
 
--- `CM a w`, where the central word is not 0
+-- `CM a w`, if the central word is not 0
 abbrev pub central_word_line : List ℕ → ℕ → List ListedLine
 central_word_line central a =
     let w = slice_index central a in
@@ -59,7 +59,7 @@ central_word_lines central =
 abbrev pub is_opened_channel : MachineState → ℕ → Bool
 is_opened_channel m c = names_channel c && is_opened c m
 
--- `DEAD`, where dead start opened a channel
+-- `DEAD`, if dead start opened a channel
 abbrev pub dead_start_line : MachineState → List ListedLine
 dead_start_line m = if list_any (is_opened_channel m) numbers then bare dead_start ∷ [] else []
 
@@ -75,7 +75,7 @@ listed deck =
 unfoldable pub listing : LoadedDeck → List ℕ
 listing deck = text_of (listed deck)
 
--- a text means a deck, for a machine of its profile, where some text does and this one is no longer
+-- a text means a deck, for a machine of its profile, if some text does and this one is no longer
 -- than a deck may be
 abbrev pub ReadsBackAs : List ℕ → LoadedDeck → Type 0
 ReadsBackAs text deck = (source : List ℕ) → deck_meaning deck.machine.profile source ≡ Ok deck

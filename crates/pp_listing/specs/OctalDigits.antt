@@ -6,12 +6,12 @@ use Rattle.std.specs.Prelude.{ℕ, zero, suc, ◌+◌, ◌/◌, ◌%◌, List, [
 abbrev pub digit : ℕ → List ℕ
 digit n = (48 + n) ∷ []
 
--- a number in exactly this many digits, the least significant at the end
+-- a number in exactly `width` digits, the least significant at the end
 abbrev pub octal : ℕ → ℕ → List ℕ
 octal zero n = []
 octal (suc width) n = octal width (n / 8) ++ digit (n % 8)
 
--- a number without leading zeros, in at most this many digits
+-- a number without leading zeros, in at most `most` digits
 unfoldable pub short_octal : ℕ → ℕ → List ℕ
 short_octal zero n = []
 short_octal (suc most) n = if nat_lt n 8 then digit n else short_octal most (n / 8) ++ digit (n % 8)

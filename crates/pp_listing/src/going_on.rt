@@ -1,4 +1,4 @@
-//! What goes on in a machine that is not between programs.
+//! Why a machine is not between programs.
 
 ghost use Rattle.std.specs.Prelude.{◌≡◌, slice_get, filter_map};
 ghost use Rattle.pp_listing.specs.Dump.{first_going_on, processor_going_on, channel_going_on, in_processor};
@@ -10,7 +10,7 @@ use pp_machine::{Machine, Pp, PpNo, PpState};
 use std::alloc::Allocator;
 use thiserror::Error;
 
-/// What goes on in a machine that is not between programs. Numbers are printed in two octal digits.
+/// Why a machine is not between programs. Numbers are printed in two octal digits.
 #[derive(Clone, Copy, Debug, PartialEq, Eq, Error)]
 pub enum GoingOn {
     /// A block transfer is in progress.
@@ -24,7 +24,7 @@ pub enum GoingOn {
     Active(ChannelNo),
 }
 
-/// The first of it: in a processor, by number, or else on a channel, by number.
+/// The first reason: in a processor, by number, or else on a channel, by number.
 pub(crate) fn first_going_on<A: Allocator>(machine: &Machine<A>) -> Option<GoingOn>
     ensures { result ≡ first_going_on machine.now }
 {

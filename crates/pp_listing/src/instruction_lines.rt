@@ -12,7 +12,7 @@ use pp_machine::Pp;
 use pp_word::{Word12, decode, next};
 use std::alloc::{AllocError, Allocator};
 
-/// How many places a processor's memory has.
+/// The number of places in a processor's memory.
 const PLACES: u32 = 0o10000;
 
 /// Adds the lines of all words that are not 0.

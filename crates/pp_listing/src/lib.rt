@@ -14,7 +14,7 @@ mod sections;
 
 pub use dumped_deck::{DumpFault, dump};
 pub use going_on::GoingOn;
-pub use instruction_text::push_instruction;
+pub use instruction_text::push_running;
 pub use laws::{dump_law, listing_law};
 pub use listed_deck::listing;
 pub use octal_digits::{push_octal, push_short_octal};

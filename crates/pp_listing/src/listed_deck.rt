@@ -14,10 +14,10 @@ use pp_machine::{Central, Machine};
 use pp_word::Word18;
 use std::alloc::{AllocError, Allocator};
 
-/// The listing of a deck: its central words, `DEAD` where dead start opened a channel, and the
+/// The listing of a deck: its central words, `DEAD` if dead start opened a channel, and the
 /// instructions of each processor that it names, one a line with its text. Numbers are octal. Read
-/// as a deck for a machine of the same profile, it is that deck, where a text means the deck and
-/// the listing is no longer than a deck may be (1,048,576 bytes, decimal).
+/// as a deck for a machine of the same profile, it is that deck, if a text means the deck and the
+/// listing is no longer than a deck may be (1,048,576 bytes, decimal).
 #[tactic(auto, using(crate::proofs::TextLemmas::listing_in_parts))]
 pub fn listing<A: Allocator + Copy, B: Allocator>(
     alloc: A,
@@ -64,7 +64,7 @@ pub(crate) fn push_central<A: Allocator, B: Allocator>(
     Ok(())
 }
 
-/// Adds `CM 0 00060007001000110012` and a line feed, where the word is not 0.
+/// Adds `CM 0 00060007001000110012` and a line feed, if the word is not 0.
 fn push_central_word<A: Allocator, B: Allocator>(
     text: &mut Vec<u8, A>,
     central: &Central<B>,
@@ -87,7 +87,7 @@ fn push_central_word<A: Allocator, B: Allocator>(
     }
 }
 
-/// Adds `DEAD` and a line feed, where dead start opened a channel.
+/// Adds `DEAD` and a line feed, if dead start opened a channel.
 fn push_dead_start<A: Allocator, B: Allocator>(
     text: &mut Vec<u8, A>,
     machine: &Machine<B>,
@@ -101,7 +101,6 @@ fn push_dead_start<A: Allocator, B: Allocator>(
     Ok(())
 }
 
-/// Whether dead start opened a channel.
 #[tactic(auto, unfolding(crate::specs::Listing::numbers))]
 fn has_opened_channel<A: Allocator>(machine: &Machine<A>) -> bool
     ensures { result ≡ list_any (is_opened_channel machine.now) numbers }

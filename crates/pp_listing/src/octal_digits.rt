@@ -5,7 +5,7 @@ ghost use Rattle.pp_listing.specs.OctalDigits.{octal, short_octal};
 
 use std::alloc::{AllocError, Allocator};
 
-/// Adds a number in exactly this many octal digits.
+/// Adds a number in exactly `width` octal digits.
 pub fn push_octal<A: Allocator>(text: &mut Vec<u8, A>, width: u32, n: u64) -> Result<(), AllocError>
     ensures { OnOk result (text.new.items ≡ text.old.items ++ octal width n) }
 {
@@ -17,7 +17,7 @@ pub fn push_octal<A: Allocator>(text: &mut Vec<u8, A>, width: u32, n: u64) -> Re
     Ok(())
 }
 
-/// Adds a number in octal digits without leading zeros, but at most this many digits.
+/// Adds a number in at most `most` octal digits, without leading zeros.
 #[tactic(auto, using(crate::proofs::OctalDigitLemmas::short_one_digit, crate::proofs::OctalDigitLemmas::short_digit_more, crate::proofs::OctalDigitLemmas::short_rest))]
 pub fn push_short_octal<A: Allocator>(
     text: &mut Vec<u8, A>,

@@ -5,11 +5,11 @@ ghost use Rattle.pp_word.specs.Opcode.{code_of};
 
 use pp_word::Opcode;
 
-/// What comes after the mnemonic of an instruction, of which d is the lower six bits and m the
-/// second word.
+/// What comes after the mnemonic of an instruction, whose lower six bits are d and whose second
+/// word is m.
 #[derive(Clone, Copy, Debug, PartialEq, Eq)]
 pub enum Operands {
-    /// `mmmm`, and `,dd` where d is not 00: a place, and the place of its index.
+    /// `mmmm`, and `,dd` if d is not 00: a place, and the place of its index.
     IndexedPlace,
     /// The place that a taken jump leads to.
     JumpPlace,

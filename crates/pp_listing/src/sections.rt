@@ -9,7 +9,7 @@ use crate::octal_digits::{push_octal, push_short_octal};
 use pp_machine::{Machine, PROCESSORS, Pp, PpNo, PpState};
 use std::alloc::{AllocError, Allocator};
 
-/// How many numbers two octal digits can show.
+/// The number of values of two octal digits.
 pub(crate) const NUMBERS: u8 = 0o100;
 
 /// Adds the sections of all processors named, in order of number.
@@ -53,7 +53,7 @@ fn push_section<A: Allocator>(text: &mut Vec<u8, A>, n: PpNo, pp: &Pp) -> Result
     push_start(text, pp)
 }
 
-/// Adds `START 0100 000000` and a line feed, where the processor is running.
+/// Adds `START 0100 000000` and a line feed, if the processor is running.
 fn push_start<A: Allocator>(text: &mut Vec<u8, A>, pp: &Pp) -> Result<(), AllocError>
     ensures { OnOk result (text.new.items ≡ text.old.items
         ++ text_of (start_line pp.now.state pp.now.p pp.now.a)) }

@@ -10,7 +10,6 @@ mod RoundLemmas
 mod DeadStartLemmas
 mod QuietLemmas
 mod TakenLemmas
-mod KeptLemmas
 -- facts of the definitions, which proofs of other crates cite
 pub mod MemoryLemmas
 pub mod StepLemmas

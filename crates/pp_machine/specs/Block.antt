@@ -57,7 +57,7 @@ counts_down pp kind place =
     let counted = record pp { a = difference pp.a 1 } in
     if counted.a == 0 then ends counted else continues counted kind (next_place place)
 
--- CRM, CWM: a central word has gone; A rises by 1, and the block ends where no more are left
+-- CRM, CWM: a central word has gone; A rises by 1, and the block ends if no more are left
 abbrev pub counts_up : Processor → ℕ → BlockKind → ℕ → Processor
 counts_up pp left kind place =
     let counted = record pp { a = sum pp.a 1 } in
@@ -81,7 +81,7 @@ cut_short (Input channel) place pp = ends (stores_at pp place 0)
 cut_short (Output channel) place pp = ends pp
 cut_short kind place pp = pp
 
--- a channel that was not ready holds an instruction, and ends a block where it is inactive
+-- a channel that was not ready holds an instruction, and ends a block if it is inactive
 abbrev pub held : Option Block → Processor → Flags → Processor
 held None pp flags = pp
 held (Some block) pp flags = if flags.active then pp else cut_short block.kind block.place pp

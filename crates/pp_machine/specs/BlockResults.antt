@@ -22,7 +22,7 @@ use Rattle.pp_machine.specs.declared.pp_state.PpState.TheVariants.{Running}
 abbrev pub kept_memory : Processor → List ℕ
 kept_memory pp = (keeps_place pp).memory
 
--- word i of this many comes to place i from m on, and all other places are as before
+-- word i of `count` comes to place i from m on, and all other places are as before
 pub record BringsWords (old new : List ℕ) (m count : ℕ) (word : ℕ → ℕ) : Type 0 where
   pub words : (i : ℕ) → i < count → slice_index new (place_after m i) ≡ word i
   pub others : (place : ℕ) → place < place_count → ((i : ℕ) → i < count → place ≢ place_after m i)
@@ -55,7 +55,7 @@ inactive full = Answer.Channel (Held (record { active = false; full = full }))
 abbrev pub input_answers : List ℕ → List Answer
 input_answers words = Answer.Local ∷ map (λ word. Answer.Channel (Word word)) words
 
--- OAM: the start, and this many words put
+-- OAM: the start, and `count` words put
 abbrev pub output_answers : ℕ → List Answer
 output_answers count = Answer.Local ∷ replicate count (Answer.Channel Done)
 

@@ -42,7 +42,7 @@ pub record IsBeforeFirstTurn (m : MachineState) : Type 0 where
 abbrev pub processor_started : (ℕ → Bool) → MachineState → ℕ → Processor
 processor_started waits m n = if waits n then waiting_on n (processor_of n m) else processor_of n m
 
--- the history of channel c: an Activate where the processor of this number waits
+-- the history of channel c: an Activate if the processor of this number waits
 abbrev pub history_started : (ℕ → Bool) → MachineState → ℕ → List Event
 history_started waits m c = if waits c then Event.Activate ∷ [] else history_of c m
 

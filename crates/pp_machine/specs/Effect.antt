@@ -1,5 +1,5 @@
--- What single instructions leave, in the words of the instruction table. n is how many words the
--- instruction has.
+-- What single instructions leave, in the words of the instruction table. n is the number of words
+-- of the instruction.
 -- (Manual 60100000, peripheral processors: descriptions of the instructions.)
 use Rattle.std.specs.Prelude.{ℕ, ◌%◌, ◌^◌, ◌==◌, ◌||◌, Bool, None, if◌then◌else◌, slice_set}
 use Rattle.pp_word.specs.Address.{next_place, place_after, relative_to}
@@ -9,7 +9,7 @@ use Rattle.pp_machine.specs.Operand.{second_word}
 use Rattle.pp_machine.specs.Processor.{Processor, word_at}
 use Rattle.pp_machine.specs.declared.pp_state.PpState.TheVariants.{Stopped, Fault}
 
--- P goes on after the instruction
+-- P moves past the instruction
 abbrev pub goes_on : Processor → ℕ → Processor
 goes_on pp n = record pp { p = place_after pp.p n }
 
@@ -33,17 +33,18 @@ leads_to_itself d = d == 0 || d == 0o77
 abbrev pub jumps_or_stops : Processor → ℕ → Processor
 jumps_or_stops pp d = if leads_to_itself d then stops pp else goes_to pp (relative_to pp.p d)
 
--- a relative jump where a test holds
+-- a relative jump if a test holds
 abbrev pub jumps_where : Bool → Processor → ℕ → ℕ → Processor
 jumps_where test pp d n =
     if test then (if leads_to_itself d then pp else goes_to pp (relative_to pp.p d))
     else goes_on pp n
 
--- a long jump to the second word where a test holds
+-- a long jump to the second word if a test holds
 abbrev pub branches_where : Bool → Processor → ℕ → Processor
 branches_where test pp n = if test then goes_to pp (second_word pp) else goes_on pp n
 
--- RJM: the place after the instruction is stored at the target, and the program goes on after that
+-- RJM: the place after the instruction is stored at the target, and the program continues after
+-- that
 abbrev pub calls : Processor → ℕ → ℕ → Processor
 calls pp target n =
     record pp { memory = slice_set pp.memory target (place_after pp.p n); p = next_place target }

@@ -1,5 +1,5 @@
--- Which replies fit an operation: those of a channel do, and each that does tells what was seen or
--- done.
+-- Which replies fit an operation: those of a channel do, and each that does determines what was
+-- seen or done.
 use Rattle.std.proofs.Common.{◌≡◌, ℕ, Bool, true, false, Option, None, Some, refl}
 use Rattle.std.specs.Prelude.{if◌then◌else◌}
 use Rattle.pp_channel.specs.Answer.{event_with, only_looks, operation_of, ready_at, reply_by, reply_made, reply_shown, seen_answered, state_reply}
@@ -23,7 +23,7 @@ made_fits (events.Put w) = refl
 made_fits (events.Take w) = refl
 made_fits (events.Function w) = refl
 
--- and so does the reply where it makes none
+-- and so does the reply if it makes none
 pub shown_fits : (op : ChanOp) (state : ChannelState) → reply_fits op (reply_shown op state) ≡ true
 shown_fits operations.Probe state = refl
 shown_fits op state = refl
@@ -53,7 +53,7 @@ pub acts_where_held : (op : ChanOp) (f : Flags) → reply_fits op (replies.Held 
 acts_where_held operations.Probe f fits = absurd cc
 acts_where_held op f fits = refl
 
--- a reply that fits tells what the operation did or saw
+-- a reply that fits determines what the operation did or saw
 pub tells_where_fits : (op : ChanOp) (reply : Reply) → reply_fits op reply ≡ true
     → (what : Seen) × (seen_answered op reply ≡ Some what)
 tells_where_fits op (replies.Flags f) fits = (Saw f, refl)

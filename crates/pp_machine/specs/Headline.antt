@@ -14,7 +14,7 @@ abbrev pub events_on : ℕ → List Trace → List Event
 events_on c trace =
     filter_map (λ entry. if entry.channel == c then Some entry.event else None) trace
 
--- what had happened on channel c before the first step: an Activate where dead start opened it
+-- what had happened on channel c before the first step: an Activate if dead start opened it
 abbrev pub opening_history : ℕ → MachineState → List Event
 opening_history c m = if is_opened c m then Event.Activate ∷ [] else []
 

@@ -34,7 +34,7 @@ memory_instruction code pp d n =
     slice_index_or memory_operations (code % 8) loads_word pp
     (slice_index_or (operand_places pp d) (code / 8 - 3) d) n
 
--- what an operation with lower six bits d means for a processor, where its instruction has n words
+-- what an operation with lower six bits d means for a processor, if its instruction has n words
 abbrev pub table : Opcode → Processor → ℕ → ℕ → Step
 table PSN pp d n = local (goes_on pp n)
 table LJM pp d n = local (goes_to pp (index pp d))
@@ -86,7 +86,7 @@ row op pp d = table op pp d (length_of op)
 abbrev pub works_on_channel : Opcode → Bool
 works_on_channel op = nat_le 0o64 (code_of op)
 
--- an instruction: its row, but fault 3 where it works on channel d and the machine has none
+-- an instruction: its row, but fault 3 if it works on channel d and the machine has none
 abbrev pub instruction : Opcode → Processor → ℕ → Step
 instruction op pp d =
     if works_on_channel op && not (has_channel pp.profile d) then local (faults pp no_such_channel)

@@ -1,14 +1,12 @@
--- What a machine is, and all its processors are, once one that was lent comes back.
+-- A machine once a lent processor comes back.
 use Rattle.std.specs.Prelude.{ℕ, slice_set}
 use Rattle.std.specs.Borrow.{Lends, MutBor, Fml, RattleType}
 use Rattle.std.specs.declared.alloc.Allocator.{Ghosts}
 use Rattle.pp_machine.specs.MachineState.{MachineState}
 use Rattle.pp_machine.specs.Processor.{Processor}
-use Rattle.pp_machine.specs.Processors.{AllProcessors}
 use Rattle.pp_machine.specs.PpNo.{processor_index}
 use Rattle.pp_machine.specs.contracts.machine.Machine.{the_row as machine_row}
 use Rattle.pp_machine.specs.contracts.pp.Pp.{the_row as pp_row}
-use Rattle.pp_machine.specs.contracts.processors.Processors.{the_row as processors_row}
 
 -- the machine ends with processor n as it was left after r, and all else as before
 abbrev pub LendsProcessor : (A : RattleType) → Ghosts A.Denot → MutBor MachineState → ℕ
@@ -16,11 +14,3 @@ abbrev pub LendsProcessor : (A : RattleType) → Ghosts A.Denot → MutBor Machi
 LendsProcessor A alloc m n r =
     Lends (machine_row A alloc) pp_row m r (λ s.
     record m.now { processors = slice_set m.now.processors (processor_index n) s })
-
--- all processors end with the one at a place as it was left after r, and the others as before
--- (private contracts alone cite this)
-abbrev pub LendsAt : (A : RattleType) → Ghosts A.Denot → MutBor AllProcessors → ℕ
-    → MutBor Processor → Fml
-LendsAt A alloc all place r =
-    Lends (processors_row A alloc) pp_row all r (λ s.
-    record all.now { items = slice_set all.now.items place s })

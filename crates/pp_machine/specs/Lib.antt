@@ -17,8 +17,7 @@ pub mod Run
 pub mod Headline
 pub mod DeadStart
 pub mod Lending
--- cited by private contracts alone: nobody has to read these to believe what the crate promises
-pub mod Processors
+-- cited only by private contracts: nobody has to read these to believe what the crate promises
 pub mod Rounds
 pub mod NextStep
 pub mod Quiet

@@ -37,7 +37,7 @@ abbrev pub central_after : Need → MachineState → List ℕ
 central_after (Need.Write a w) m = slice_set m.central a w
 central_after _ m = m.central
 
--- the trace after it, where it is processor n's
+-- the trace after it, if it is processor n's
 abbrev pub trace_after : ℕ → Need → MachineState → List Trace
 trace_after n (Need.Channel c op) m =
     m.trace ++ map (λ e. record { turn = m.turns; pp = n; channel = c; event = e })
@@ -53,7 +53,7 @@ served n x m =
       trace = trace_after n x m;
     }
 
--- one turn more; the greatest count stays
+-- one more turn; the greatest count stays
 abbrev pub counted : ℕ → ℕ
 counted turns = min (turns + 1) (2 ^ 64 - 1)
 

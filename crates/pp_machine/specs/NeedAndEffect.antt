@@ -24,7 +24,7 @@ step_of (Some block) pp = block_word block.kind block.place pp
 abbrev pub next_step : Processor → Step
 next_step pp = step_of pp.block pp
 
--- the processor after an answer to a step: a fault where central memory has no such address, and a
+-- the processor after an answer to a step: a fault if central memory has no such address, and a
 -- channel that was not ready holds what it was to give, take or do; no other answer fits
 abbrev pub answered : Step → Processor → Answer → Processor
 answered (local after) pp Local = after
@@ -43,18 +43,18 @@ answered step pp answer = pp
 abbrev pub IsHeldAnswer : Answer → Type 0
 IsHeldAnswer answer = (flags : Flags) × (answer ≡ Channel (Reply.Held flags))
 
--- a channel that was not ready holds an instruction, and a block only where it is active
+-- a channel that was not ready holds an instruction, and a block only if it is active
 abbrev pub is_held : Option Block → Answer → Bool
 is_held None (Channel (Reply.Held flags)) = true
 is_held (Some block) (Channel (Reply.Held flags)) = flags.active
 is_held block answer = false
 
--- only a running processor has a next step: the first where it runs, else the second
+-- only a running processor has a next step: the first if it runs, else the second
 abbrev pub if_running : {X : Type 0} → PpState → X → X → X
 if_running Running step rest = step
 if_running state step rest = rest
 
--- what the next step needs: nothing where there is none
+-- what the next step needs: nothing if there is none
 unfoldable pub need : Processor → Need
 need pp = if_running pp.state (need_of (next_step pp)) Need.Nothing
 

@@ -1,4 +1,4 @@
--- What a processor's next step is made of, told beforehand. (Private contracts alone cite this.)
+-- What is known of a processor's next step before it is made. (Only private contracts cite this.)
 use Rattle.std.specs.Prelude.{◌≡◌, ℕ, Bool, true, false, Option, None, Some, IsSome, nat_lt}
 use Rattle.pp_word.specs.Opcode.{code_of}
 use Rattle.pp_word.specs.declared.opcode.Opcode.{Opcode}

@@ -19,7 +19,7 @@ lower_six pp = word_at pp pp.p % 2 ^ 6
 abbrev pub second_word : Processor → ℕ
 second_word pp = word_at pp (place_after pp.p 1)
 
--- the indexed place: m where d is 0, else m indexed by the word at place d
+-- the indexed place: m if d is 0, else m indexed by the word at place d
 abbrev pub index : Processor → ℕ → ℕ
 index pp d = if d == 0 then second_word pp else indexed (second_word pp) (word_at pp d)
 

@@ -5,7 +5,7 @@
 use Rattle.std.specs.Prelude.{ℕ, ◌+◌, ◌-◌, ◌&&◌, ◌||◌, Bool, false, List, nat_lt, slice_index_or, if◌then◌else◌}
 use Rattle.list_facts.specs.Tables.{tabulate}
 
--- how many processors there are
+-- the number of processors
 abbrev pub processor_count : ℕ
 processor_count = 0o24
 
@@ -13,7 +13,7 @@ processor_count = 0o24
 unfoldable pub names_processor : ℕ → Bool
 names_processor number = nat_lt number 0o12 || (nat_lt 0o17 number && nat_lt number 0o32)
 
--- the place of the processor with this number in a list of all; past its end where it names none
+-- the place of the processor with this number in a list of all; past its end if it names none
 unfoldable pub processor_index : ℕ → ℕ
 processor_index number =
     if nat_lt number 0o12 then number else if nat_lt number 0o20 then processor_count

@@ -8,8 +8,8 @@ use Rattle.pp_machine.specs.declared.pp_state.PpState.{PpState}
 use Rattle.pp_machine.specs.declared.pp_state.PpState.TheVariants.{Running, Stopped, Fault}
 use Rattle.pp_machine.specs.declared.profile.Profile.{Profile}
 
--- the profile of its machine, memory, A of 18 bits, P of 12 bits, whether it goes on, and perhaps a
--- block transfer in progress
+-- the profile of its machine, memory, A of 18 bits, P of 12 bits, its state, and perhaps a block
+-- transfer in progress
 pub record Processor : Type 0 where
   pub profile : Profile
   pub memory : List ℕ

@@ -54,7 +54,7 @@ number_of_place n names =
     one_place n (processor_number (processor_index n)) names
     (place_of_number (processor_index n) (place_below n names))
 
--- the number of a place is n's just where the place is
+-- the number of a place is n's exactly if the place is
 pub number_at : (place n : ℕ) → place < processor_count
     → eqb (processor_number place) n ≡ eqb place (processor_index n)
 number_at place n below = ⊎_elim

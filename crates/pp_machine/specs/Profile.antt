@@ -9,12 +9,12 @@ use Rattle.pp_machine.specs.PpNo.{processor_count, processor_index, processor_nu
 use Rattle.pp_machine.specs.declared.profile.Profile.{Profile}
 use Rattle.pp_machine.specs.declared.profile.Profile.TheVariants.{Ten, Twenty}
 
--- how many processors it has
+-- the number of its processors
 abbrev pub processors_in : Profile → ℕ
 processors_in Ten = 0o12
 processors_in Twenty = processor_count
 
--- how many channels
+-- and of its channels
 abbrev pub channels_in : Profile → ℕ
 channels_in Ten = 0o14
 channels_in Twenty = channel_count
@@ -27,6 +27,6 @@ has_processor profile number = nat_lt (processor_index number) (processors_in pr
 unfoldable pub has_channel : Profile → ℕ → Bool
 has_channel profile number = nat_lt (channel_index number) (channels_in profile)
 
--- the processor whose turn it is after this many turns of the barrel
+-- the processor whose turn it is after `turn` turns of the barrel
 abbrev pub processor_in_turn : Profile → ℕ → ℕ
 processor_in_turn profile turn = processor_number (turn % processors_in profile)

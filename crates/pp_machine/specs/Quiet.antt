@@ -1,6 +1,6 @@
 -- Quiet steps: they make no event and write no central word, so they change nothing but their own
--- processor. Where all steps of some rounds of the barrel are quiet, those of different processors
--- can change places. (Private contracts alone cite this.)
+-- processor. If all steps of some rounds of the barrel are quiet, those of different processors can
+-- change places. (Only private contracts cite this.)
 use Rattle.std.specs.Prelude.{◌≡◌, ℕ, zero, suc, ◌<◌, ◌≤◌, Bool, true, false, IsTrue, List, Option, Some, None, length, slice_index_or}
 use Rattle.pp_channel.specs.Answer.{event_of}
 use Rattle.pp_channel.specs.declared.event.Event.{Event}
@@ -26,22 +26,22 @@ is_quiet (Channel c operation) m = is_none (event_of operation (history_of c m))
 is_quiet (Read a) m = false
 is_quiet (Write a w) m = false
 
--- a processor after its next step, where the channels and central memory are those of a machine
+-- a processor after its next step, if the channels and central memory are those of a machine
 abbrev pub step_beside : MachineState → Processor → Processor
 step_beside m pp = processor_after pp (answer_to (need pp) m)
 
--- and after this many
+-- and after `steps` of them
 unfoldable pub steps_beside : ℕ → MachineState → Processor → Processor
 steps_beside zero m pp = pp
 steps_beside (suc steps) m pp = step_beside m (steps_beside steps m pp)
 
--- a processor went this many steps ahead, each of them quiet
+-- a processor went `steps` steps ahead, each of them quiet
 pub record IsAhead (steps : ℕ) (m : MachineState) (old new : Processor) : Type 0 where
   pub quiet : (j : ℕ) → j < steps → IsTrue (is_quiet (need (steps_beside j m old)) m)
   pub after : new ≡ steps_beside steps m old
 
--- the processors of a round from a place of the barrel on went this many quiet steps ahead, and all
--- others stand where they stood
+-- the processors of a round from a place of the barrel on went `steps` quiet steps ahead, and all
+-- others are as they were
 pub record AreAhead (steps round place : ℕ) (m : MachineState) (old new : List Processor) : Type 0
   where
     pub as_many : length new ≡ length old

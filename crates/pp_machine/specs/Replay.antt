@@ -34,7 +34,7 @@ replayed pp [] = pp
 replayed pp (answer ∷ more) =
     if fits (need pp) answer then replayed (processor_after pp answer) more else pp
 
--- how many of the answers are given
+-- the number of answers given
 unfoldable pub given_count : Processor → List Answer → ℕ
 given_count pp [] = 0
 given_count pp (answer ∷ more) =
@@ -45,7 +45,7 @@ pub record OfChannel (X : Type 0) : Type 0 where
   pub channel : ℕ
   pub what : X
 
--- what an answer to a need gives, which is told by the operation and its reply
+-- what an answer to a need gives, which the operation and its reply determine
 abbrev pub given_by : {X : Type 0} → (ChanOp → Reply → Option X) → Need → Answer
     → List (OfChannel X)
 given_by tells (Need.Channel channel operation) (Answer.Channel reply) =

@@ -56,7 +56,7 @@ Gives-append [] ys pp middle new g h = rw g h
 Gives-append (x ∷ xs) ys pp middle new g h =
     (g.0, Gives-append xs ys (processor_after pp x) middle new g.1 h)
 
--- one more answer, where all before it are given and it fits
+-- one more answer, if all before it are given and it fits
 
 pub replayed-push : (xs : List Answer) (pp : Processor) (x : Answer) → given_count pp xs ≡ length xs
     → fits (need (replayed pp xs)) x ≡ true

@@ -1,5 +1,5 @@
 -- Rounds of the barrel in which processors at rest are passed over: a step of theirs counts a turn,
--- and does nothing else. (Private contracts alone cite this.)
+-- and does nothing else. (Only private contracts cite this.)
 use Rattle.std.specs.Prelude.{ℕ, ◌*◌, ◌<◌, ◌≤◌, List, slice_index, slice_index_or}
 use Rattle.pp_machine.specs.Processor.{Processor, no_processor, IsAtRest}
 use Rattle.pp_machine.specs.PpNo.{processor_count}
@@ -19,6 +19,6 @@ abbrev pub PassesOverRest : List ℕ → List Processor → Type 0
 PassesOverRest next processors =
     (place : ℕ) → place ≤ processor_count → RestBetween place (slice_index next place) processors
 
--- the processors of this many whole rounds of the barrel, in order
+-- the processors of `rounds` whole rounds of the barrel, in order
 abbrev pub whole_rounds : Profile → ℕ → List ℕ
 whole_rounds profile rounds = barrel profile (rounds * processors_in profile)

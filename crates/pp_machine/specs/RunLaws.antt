@@ -1,4 +1,4 @@
--- A run that goes on by one step.
+-- A run with one more step.
 use Rattle.std.proofs.Common.{◌≡◌, ℕ, zero, suc, ◌+◌, ◌<◌, List, [], ◌∷◌, ◌++◌, take, length, get_or, refl, ap, ◌∙◌, arith}
 use Rattle.std.proofs.lemmas.List.{take_more, length_push}
 use Rattle.pp_machine.specs.MachineState.{MachineState}

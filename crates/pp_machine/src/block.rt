@@ -6,9 +6,9 @@ use pp_word::Word12;
 /// What a block instruction moves, one word a step.
 #[derive(Clone, Copy, Debug, PartialEq, Eq)]
 pub enum BlockKind {
-    /// CRM: central words go to the processor's memory, and this many are left.
+    /// CRM: central words go to the processor's memory, and `left` of them remain.
     CentralIn { left: Word12 },
-    /// CWM: the processor's words go to central memory, and this many central words are left.
+    /// CWM: the processor's words go to central memory, and `left` central words remain.
     CentralOut { left: Word12 },
     /// IAM: words come in from a channel.
     Input { channel: ChannelNo },

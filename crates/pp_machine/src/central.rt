@@ -14,7 +14,7 @@ const LARGEST_SIZE: u32 = 0o400_000;
 /// Why no central memory was made.
 #[derive(Clone, Copy, Debug, PartialEq, Eq, Error)]
 pub enum CentralFault {
-    /// A growth was refused.
+    /// An allocation was refused.
     #[error("out of memory")]
     Memory = 1,
     /// The size is 0 or past 400000 (octal). Reported before `Memory`.
@@ -65,7 +65,7 @@ impl<A: Allocator> Model for Central<A> {
 impl<A: Allocator> Central<A> {
     ghost use Rattle.pp_machine.specs.Central.{IsCentral, IsCentralSize};
 
-    /// Central memory of this many words, all 0.
+    /// Central memory of `size` words, all 0.
     pub fn new(alloc: A, size: u32) -> Result<Self, CentralFault>
         ensures zeros { IfOk result (λ c. c ≡ replicate size 0) }
         ensures sized { OnOk result (IsCentralSize size) }
@@ -86,14 +86,14 @@ impl<A: Allocator> Central<A> {
         self.words.get(a.get() as usize).copied()
     }
 
-    /// Writes the word at an address; at or past the size it answers false, and nothing changes.
+    /// Writes the word at an address; at or past the size it returns false, and nothing changes.
     pub fn write(&mut self, a: Word18, w: Word60) -> bool
         ensures within { IsTrue result ↔ (a < length self.old) }
         ensures written { self.new ≡ slice_set self.old a w }
         ensures refused { OnFalse result (self.new ≡ self.old) }
         ensures sound { IsCentral self.new }
     {
-        // The call says to the proof that the word has sixty bits.
+        // Reveals to the proof that the word has sixty bits.
         let _small = w.get();
         match self.words.get_mut(a.get() as usize) {
             Some(word) => {

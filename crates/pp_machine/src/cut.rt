@@ -2,7 +2,7 @@
 
 use thiserror::Error;
 
-/// A run ended early: memory was refused to the step after these.
+/// A run ended early: the step after these was refused memory.
 #[derive(Clone, Copy, Debug, PartialEq, Eq, Error)]
 #[error("cut after {done} steps")]
 pub struct Cut {

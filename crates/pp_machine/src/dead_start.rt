@@ -21,7 +21,7 @@ impl<A: Allocator> Machine<A> {
         self.opened[ch.index()]
     }
 
-    /// Lets processors wait for their programs, each on the channel of its own number, which is
+    /// Makes processors wait for their programs, each on the channel of its own number, which is
     /// then active and empty; `waiting` has the processors in the barrel's order, and false for
     /// those that the profile lacks. No turn is counted yet, and no channel has a history. These
     /// Activates are in no trace. After `Memory` nothing has changed.
@@ -35,12 +35,13 @@ impl<A: Allocator> Machine<A> {
         ensures headline { HoldsOnEachChannel self.new }
     {
         let answer = self.open_below(waiting, PROCESSORS);
-        // This call tells the proof what holds of every machine.
+        // Reveals to the proof what holds of every machine.
         let _turns = self.turns();
         answer
     }
 
-    /// The same for the first processors alone. All channels are there before the first is put in.
+    /// The same for the first `count` processors alone. All channels are there before the first is
+    /// put in.
     fn open_below(&mut self, waiting: &[bool; PROCESSORS], count: usize) -> Result<(), Memory>
     where
         A: Clone,
@@ -49,7 +50,7 @@ impl<A: Allocator> Machine<A> {
         ensures ok { OnOk result (self.new ≡ dead_started (take count waiting.now) self.old) }
         ensures unchanged_after_memory { OnErr result (self.new ≡ self.old) }
     {
-        // This call tells the proof what holds of every machine.
+        // Reveals to the proof what holds of every machine.
         let _turns = self.turns();
         if count == 0 {
             return Ok(());
@@ -65,7 +66,7 @@ impl<A: Allocator> Machine<A> {
         Ok(())
     }
 
-    /// One processor waits, on the channel of its own number; this is that channel, opened.
+    /// Makes one processor wait, on the channel of its own number, which is `channel`, opened.
     fn let_wait(&mut self, n: PpNo, channel: Channel<A>)
         requires opened { channel ≡ Activate ∷ [] }
         requires unused { history_of n self.old ≡ [] }
@@ -73,9 +74,9 @@ impl<A: Allocator> Machine<A> {
     {
         let own = own_channel(n);
         let i = own.index();
-        // The call says to the proof that the history is lawful.
+        // Reveals to the proof that the history is lawful.
         let _history = channel.history();
-        self.processors.any_mut(n.index()).wait_load(own);
+        self.processors[n.index()].wait_load(own);
         put_channel(&mut self.channels, i, channel);
         self.opened[i] = true;
     }
@@ -103,7 +104,7 @@ fn opened_channel<A: Allocator + Clone>(channel: &Channel<A>) -> Result<Channel<
     Ok(opened)
 }
 
-/// A channel at a place.
+/// Puts a channel at a place.
 fn put_channel<A: Allocator>(channels: &mut Vec<Channel<A>, A>, place: usize, channel: Channel<A>)
     requires { place < vec_len channels.old }
     ensures { channels.new.items ≡ slice_set channels.old.items place channel }

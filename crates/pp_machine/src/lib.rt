@@ -2,6 +2,7 @@
 #![tactic(auto)]
 
 mod answer;
+mod barrel;
 mod block;
 mod central;
 mod cut;
@@ -14,7 +15,6 @@ mod pp;
 mod pp_memory;
 mod pp_no;
 mod pp_state;
-mod processors;
 mod profile;
 mod quiet;
 mod replay;

@@ -6,22 +6,24 @@ ghost use Rattle.pp_channel.specs.ChannelNo.{channel_count, channel_index, names
 ghost use Rattle.pp_channel.specs.History.{IsLawful};
 ghost use Rattle.pp_channel.specs.Law.{KeepsLaw};
 ghost use Rattle.pp_machine.specs.Headline.{HoldsOnChannel};
+ghost use Rattle.pp_machine.specs.PpNo.{processor_count};
+ghost use Rattle.pp_machine.specs.Processor.{new_processor};
 
 use crate::central::{Central, CentralFault};
 use crate::pp::Pp;
-use crate::pp_no::PpNo;
-use crate::processors::Processors;
+use crate::pp_no::{PROCESSORS, PpNo};
 use crate::profile::Profile;
 use crate::trace::Trace;
 use pp_channel::{CHANNELS, Channel, ChannelNo, Memory};
 use pp_word::{Word18, Word60};
-use std::alloc::Allocator;
+use std::alloc::{AllocError, Allocator};
 use std::marker::Model;
 
-/// A machine. Contracts see it as a `MachineState`: its channels by their histories alone.
+/// A machine. Contracts see it as a `MachineState`: its channels only by their histories.
 #[derive(Drop)]
 pub struct Machine<A: Allocator> {
-    pub(crate) processors: Processors<A>,
+    pub(crate) profile: Profile,
+    pub(crate) processors: Vec<Pp, A>,
     pub(crate) channels: Vec<Channel<A>, A>,
     pub(crate) central: Central<A>,
     pub(crate) turns: u64,
@@ -36,7 +38,7 @@ impl<A: Allocator> Model for Machine<A> {
     ghost Value = { MachineState };
 
     ghost view = { λ m. record {
-      profile = m.processors.profile;
+      profile = m.profile;
       processors = m.processors.items;
       histories = m.channels.items;
       central = m.central;
@@ -46,7 +48,7 @@ impl<A: Allocator> Model for Machine<A> {
     } };
 
     ghost invariant = { λ m. IsMachine (record {
-      profile = m.processors.profile;
+      profile = m.profile;
       processors = m.processors.items;
       histories = m.channels.items;
       central = m.central;
@@ -61,9 +63,9 @@ impl<A: Allocator> Machine<A> {
     ghost use Rattle.pp_machine.specs.Headline.{events_on, opening_history, IsMachine};
     ghost use Rattle.pp_machine.specs.MachineState.{history_of, new_machine, processor_of};
 
-    /// A machine of this profile, with central memory of this many words, all 0: its processors as
+    /// A machine of this profile, with central memory of `size` words, all 0: its processors as
     /// `Pp::new(profile)`, its channels without history, no turn counted. Processors and channels
-    /// that the profile lacks come after the others, and no turn of the barrel is theirs.
+    /// that the profile lacks come after the others, and have no turn of the barrel.
     #[tactic(auto, using(pp_channel::specs::ChannelPlaces::place_below))]
     pub fn new(alloc: A, profile: Profile, size: u32) -> Result<Self, CentralFault>
     where
@@ -74,7 +76,8 @@ impl<A: Allocator> Machine<A> {
     {
         let central = Central::new(alloc, size)?;
         Ok(Machine {
-            processors: Processors::new(alloc, profile)?,
+            profile,
+            processors: new_processors(alloc, profile)?,
             channels: new_channels(alloc)?,
             central,
             turns: 0,
@@ -87,10 +90,10 @@ impl<A: Allocator> Machine<A> {
     pub fn profile(&self) -> Profile
         ensures { result ≡ self.now.profile }
     {
-        self.processors.profile()
+        self.profile
     }
 
-    /// How many turns it has counted (decimal); the greatest count stays.
+    /// The number of turns counted (decimal), which stays at the greatest count.
     pub fn turns(&self) -> u64
         ensures value { result ≡ self.now.turns }
         ensures sound { IsMachine self.now }
@@ -109,7 +112,7 @@ impl<A: Allocator> Machine<A> {
     pub fn pp(&self, n: PpNo) -> &Pp
         ensures { result.now ≡ processor_of n self.now }
     {
-        self.processors.any(n.index())
+        &self.processors[n.index()]
     }
 
     /// A channel.
@@ -134,8 +137,8 @@ impl<A: Allocator> Machine<A> {
         counts
     }
 
-    /// Makes room for these numbers of further events, by the places of the channels: those that a run
-    /// makes then ask for no memory, as tests show.
+    /// Makes room for these numbers of further events, by the places of the channels: a run then
+    /// takes no memory for them, as tests show.
     pub fn reserve(&mut self, events: &[usize; CHANNELS]) -> Result<(), Memory>
         ensures { self.new ≡ self.old }
     {
@@ -172,8 +175,19 @@ impl<A: Allocator> Machine<A> {
         ensures* lends { sem 𝓛 (LendsProcessor A.row A.Allocator self.entry n result) }
         ensures value { result.now ≡ processor_of n self.old }
     {
-        self.processors.any_mut(n.index())
+        &mut self.processors[n.index()]
     }
+}
+
+/// Processors at rest, in the order of the barrel.
+fn new_processors<A: Allocator>(alloc: A, profile: Profile) -> Result<Vec<Pp, A>, AllocError>
+    ensures { IfOk result (λ v. v.items ≡ replicate processor_count (new_processor profile)) }
+{
+    let mut processors = Vec::with_capacity(alloc, PROCESSORS)?;
+    for _ in 0..PROCESSORS {
+        processors.push_reserved(Pp::new(profile));
+    }
+    Ok(processors)
 }
 
 /// Channels on which nothing has happened.
@@ -186,14 +200,15 @@ fn new_channels<A: Allocator + Copy>(alloc: A) -> Result<Vec<Channel<A>, A>, Cen
     let mut channels = Vec::with_capacity(alloc, CHANNELS)?;
     for _ in 0..CHANNELS {
         let channel = Channel::new(alloc);
-        // The call says to the proof that the history is lawful.
+        // Reveals to the proof that the history is lawful.
         let _history = channel.history();
         channels.push(channel)?;
     }
     Ok(channels)
 }
 
-/// Makes room for so many more events on each channel, and says how many they are in all.
+/// Makes room for these numbers of further events, by the places of the channels, and returns their
+/// sum.
 fn reserve_each<A: Allocator>(
     channels: &mut Vec<Channel<A>, A>,
     events: &[usize; CHANNELS],

@@ -107,7 +107,7 @@ impl Pp {
         self.a
     }
 
-    /// Whether it goes on.
+    /// Whether it is running.
     pub fn state(&self) -> PpState
         ensures value { result ≡ self.now.state }
         // Every processor at a fault is at a numbered one, however it came there.

@@ -6,7 +6,7 @@ ghost use Rattle.pp_machine.specs.PpMemory.{IsMemory, empty_memory};
 use pp_word::Word12;
 use std::marker::Model;
 
-/// How many words it has.
+/// The number of its words.
 const WORDS: usize = 0o10000;
 
 /// The 4096 (decimal) words of a processor's memory. Contracts see the list of their numbers, from
@@ -49,12 +49,12 @@ impl PpMemory {
     pub fn set(&mut self, place: Word12, word: Word12)
         ensures { self.new ≡ slice_set self.old place word }
     {
-        // The call says to the proof that the word has twelve bits.
+        // Reveals to the proof that the word has twelve bits.
         let _in_range = word.get();
         self.words[usize::from(place.get())] = word;
     }
 
-    /// The same words once more.
+    /// A memory of the same words.
     pub fn copy(&self) -> Self
         ensures { result ≡ self.now }
     {
@@ -65,7 +65,7 @@ impl PpMemory {
     pub fn has_widths(&self)
         ensures { IsMemory self.now }
     {
-        // To look at the words says to the proof that there are 4096, of twelve bits.
+        // Reveals to the proof that there are 4096 words, of twelve bits each.
         let _words = &self.words;
     }
 }

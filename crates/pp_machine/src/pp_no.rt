@@ -5,7 +5,7 @@ ghost use Rattle.pp_machine.specs.PpNo.{processor_count, names_processor, proces
 
 use std::marker::Model;
 
-/// How many peripheral processors the greater machine has (decimal).
+/// The number of peripheral processors of the larger machine (decimal).
 pub const PROCESSORS: usize = 20;
 
 /// The number of a peripheral processor, 0 to 11 or 20 to 31 (octal). It is kept as its place in

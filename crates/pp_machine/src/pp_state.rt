@@ -1,4 +1,4 @@
-//! Whether a processor goes on.
+//! Whether a processor is running.
 
 /// The state of a peripheral processor.
 #[derive(Clone, Copy, Debug, PartialEq, Eq)]
@@ -18,7 +18,7 @@ pub const EXCHANGE_JUMP: u8 = 1;
 /// Fault 2: RPN, which reads the program address of a central processor.
 pub const NO_CENTRAL_PROCESSOR: u8 = 2;
 
-/// Fault 3: an instruction of the codes 64 to 77 (octal) names a channel that the machine has not.
+/// Fault 3: an instruction of the codes 64 to 77 (octal) names a channel that the machine lacks.
 pub const NO_SUCH_CHANNEL: u8 = 3;
 
 /// Fault 4: a central address at or past the size of central memory.

@@ -17,14 +17,14 @@ pub enum Profile {
     Twenty,
 }
 
-/// How many processors the smaller machine has (decimal).
+/// The number of processors of the smaller machine (decimal).
 const TEN: usize = 10;
 
-/// How many channels the smaller machine has (decimal).
+/// The number of channels of the smaller machine (decimal).
 const TWELVE: usize = 12;
 
 impl Profile {
-    /// How many processors it has, 10 or 20 (decimal): this many turns are a round of the barrel.
+    /// The number of its processors, 10 or 20 (decimal), and of the turns in a round of the barrel.
     pub fn processors(self) -> usize
         ensures { result ≡ processors_in self }
     {
@@ -34,7 +34,7 @@ impl Profile {
         }
     }
 
-    /// How many channels it has, 12 or 24 (decimal).
+    /// The number of its channels, 12 or 24 (decimal).
     pub fn channels(self) -> usize
         ensures { result ≡ channels_in self }
     {

@@ -6,7 +6,6 @@ ghost use Rattle.pp_channel.specs.ChannelNo.{channel_count, channel_index};
 ghost use Rattle.pp_machine.specs.MachineState.{MachineState};
 ghost use Rattle.pp_machine.specs.NeedAndEffect.{need};
 ghost use Rattle.pp_machine.specs.PpNo.{processor_count};
-ghost use Rattle.pp_machine.specs.Profile.{processors_in};
 ghost use Rattle.pp_machine.specs.Quiet.{is_quiet, IsAhead, AreAhead};
 ghost use Rattle.pp_machine.specs.Replay.{reply_fits};
 
@@ -15,14 +14,13 @@ use crate::need::Need;
 use crate::outcome::Outcome;
 use crate::pp::{Pp, ends};
 use crate::pp_state::PpState;
-use crate::processors::Processors;
 use pp_channel::{ChanOp, Channel, ChannelNo, Reply};
 use std::alloc::Allocator;
 
-/// Runs the processors of a round from a place of the barrel on, each as many steps, up to this
-/// many, as all of them can make quietly, and says how many that are.
+/// Runs the processors of a round from a place of the barrel on, each by the same number of quiet
+/// steps, at most `most`; returns that number.
 pub(crate) fn run_ahead<A: Allocator>(
-    processors: &mut Processors<A>,
+    processors: &mut Vec<Pp, A>,
     channels: &Vec<Channel<A>, A>,
     round: usize,
     place: usize,
@@ -30,10 +28,9 @@ pub(crate) fn run_ahead<A: Allocator>(
 ) -> u32
     requires all { length processors.old.items ≡ processor_count }
     requires channels { vec_len channels.now ≡ channel_count }
-    requires round { round ≤ processors_in processors.old.profile }
+    requires round { round ≤ processor_count }
     requires within { place ≤ round }
     ensures most { result ≤ most }
-    ensures profile { processors.new.profile ≡ processors.old.profile }
     ensures as_many { length processors.new.items ≡ processor_count }
     ensures ahead { (m : MachineState) → m.histories ≡ channels.now.items
         → AreAhead result round place m processors.old.items processors.new.items }
@@ -44,23 +41,23 @@ pub(crate) fn run_ahead<A: Allocator>(
     if place == round {
         return most;
     }
-    match processors.at(place).state() {
+    match processors[place].state() {
         PpState::Running => {}
         PpState::Stopped | PpState::Fault(_) => {
             return run_ahead(processors, channels, round, place + 1, most);
         }
     }
-    let before = processors.at(place).copy();
-    let made = run_quiet_steps(processors.at_mut(place), channels, most);
+    let before = processors[place].copy();
+    let made = run_quiet_steps(&mut processors[place], channels, most);
     let all = run_ahead(processors, channels, round, place + 1, made);
     if all < made {
-        *processors.at_mut(place) = before;
-        let _again = run_quiet_steps(processors.at_mut(place), channels, all);
+        processors[place] = before;
+        let _again = run_quiet_steps(&mut processors[place], channels, all);
     }
     all
 }
 
-/// Makes up to this many steps of a processor, as long as each is quiet, and says how many it made.
+/// Makes at most `most` steps of a processor, while they are quiet; returns their number.
 fn run_quiet_steps<A: Allocator>(pp: &mut Pp, channels: &Vec<Channel<A>, A>, most: u32) -> u32
     requires channels { vec_len channels.now ≡ channel_count }
     ensures most { result ≤ most }
@@ -77,7 +74,7 @@ fn run_quiet_steps<A: Allocator>(pp: &mut Pp, channels: &Vec<Channel<A>, A>, mos
             return made;
         }
         match pp.wants() {
-            // At rest all further steps are the same.
+            // At rest, all further steps do the same.
             Need::Nothing => return most,
             Need::Local => {
                 let _moved = pp.give(Answer::Local);
@@ -99,8 +96,8 @@ fn run_quiet_steps<A: Allocator>(pp: &mut Pp, channels: &Vec<Channel<A>, A>, mos
     made
 }
 
-/// Makes up to this many steps of a processor, as long as each is an instruction of the codes 00 to
-/// 57 (octal) or a test of flags, and says how many of them are left.
+/// Makes at most `most` steps of a processor, while each is an instruction of the codes 00 to 57
+/// (octal) or a test of flags; returns how many of `most` are left.
 #[inline(never)]
 fn run_free_steps<A: Allocator>(pp: &mut Pp, channels: &Vec<Channel<A>, A>, most: u32) -> u32
     requires channels { vec_len channels.now ≡ channel_count }
@@ -134,7 +131,7 @@ fn run_free_steps<A: Allocator>(pp: &mut Pp, channels: &Vec<Channel<A>, A>, most
     left
 }
 
-/// What a channel answers to an operation where that makes no event.
+/// What a channel answers to an operation that makes no event.
 fn shown<A: Allocator>(
     channels: &Vec<Channel<A>, A>,
     channel: ChannelNo,

@@ -1,45 +1,18 @@
 //! Lists of steps.
 
-ghost use Rattle.std.specs.Prelude.{◌≡◌, ◌*◌, ◌<◌, ◌≤◌, length, take, slice_index, IfErr, IsSome, OnOk};
-ghost use Rattle.pp_machine.specs.PpNo.{processor_count};
-ghost use Rattle.pp_machine.specs.Rounds.{RestBetween, PassesOverRest};
+ghost use Rattle.std.specs.Prelude.{◌≡◌, ◌<◌, length, take, slice_index, IfErr, IsSome, OnOk};
 
 use crate::cut::Cut;
 use crate::machine::Machine;
-use crate::pp_no::{PROCESSORS, PpNo};
-use crate::pp_state::PpState;
-use crate::processors::Processors;
-use crate::quiet::run_ahead;
+use crate::pp_no::PpNo;
 use std::alloc::Allocator;
-
-/// How many rounds the barrel tries to make quietly at once (decimal). A window costs a copy of
-/// each running processor's memory, and one that fails all that the processors ran too far.
-const SHORTEST_WINDOW: u32 = 64;
-
-const LONGEST_WINDOW: u32 = 8192;
-
-/// After how many rounds of the barrel it looks again which processors are at rest (decimal): a
-/// look costs as much as some turns.
-const LOOK_AFTER: u32 = 512;
-
-/// How many rounds it makes turn by turn where a window failed, before it tries again: twice as
-/// many each time, but few again after this many quiet rounds that it paid (decimal).
-const SHORTEST_PAUSE: u32 = 64;
-
-const LONGEST_PAUSE: u32 = 8192;
-
-const LONG_QUIET: u32 = 2048;
 
 impl<A: Allocator> Machine<A> {
     ghost use Rattle.pp_machine.specs.Headline.{HoldsOnEachChannel};
     ghost use Rattle.pp_machine.specs.MachineStep.{step_event};
-    ghost use Rattle.pp_machine.specs.Profile.{processors_in, processor_in_turn};
-    ghost use Rattle.pp_machine.specs.Rounds.{whole_rounds};
-    ghost use Rattle.pp_machine.specs.declared.profile.Profile.{Profile};
-    ghost use Rattle.pp_machine.specs.MachineState.{MachineState};
-    ghost use Rattle.pp_machine.specs.Run.{run, barrel};
+    ghost use Rattle.pp_machine.specs.Run.{run};
 
-    /// One step of each processor of a list, in order, with any repeats.
+    /// Makes one step of each processor of a list, in order, with any repeats.
     #[tactic(auto, using(crate::specs::RunLaws::run_more, crate::proofs::RunLemmas::some_event))]
     pub fn run_turns(&mut self, turns: &[PpNo]) -> Result<(), Cut>
         ensures ok { OnOk result (self.new ≡ run turns.now self.old) }
@@ -50,7 +23,7 @@ impl<A: Allocator> Machine<A> {
             IsSome (step_event (slice_index turns.now c.done) self.new)) }
         ensures headline { HoldsOnEachChannel self.new }
     {
-        // To look at the machine says to the proof that it is sound.
+        // Reveals to the proof that the machine is sound.
         let _sound = &self.turns;
         for (i, n) in turns.iter().enumerate() {
             if self.step(*n).is_err() {
@@ -59,227 +32,4 @@ impl<A: Allocator> Machine<A> {
         }
         Ok(())
     }
-
-    /// Runs this many turns of the barrel from its first processor on, in rounds of ten or of
-    /// twenty by its profile. Processors at rest are passed over.
-    pub fn run_barrel(&mut self, turns: u32) -> Result<(), Cut>
-        ensures ok { OnOk result (self.new ≡ run (barrel self.old.profile turns) self.old) }
-        ensures cut { IfErr result (λ c. self.new ≡ run (barrel self.old.profile c.done) self.old) }
-        ensures within { IfErr result (λ c. c.done < turns) }
-        // A run is cut only at a step that makes an event.
-        ensures cut_at_event { IfErr result (λ c.
-            IsSome (step_event (processor_in_turn self.old.profile c.done) self.new)) }
-        ensures headline { HoldsOnEachChannel self.new }
-    {
-        // To look at the machine says to the proof that it is sound.
-        let _sound = &self.turns;
-        let round = self.round();
-        let whole = turns / round;
-        if let Err(done) = self.run_rounds(whole) {
-            return Err(Cut { done });
-        }
-        let next = next_running(&self.processors);
-        match self.run_passing(1, turns % round, &next) {
-            Ok(()) => Ok(()),
-            Err(before) => Err(Cut {
-                done: u64::from(whole) * u64::from(round) + before,
-            }),
-        }
-    }
-
-    /// How many turns a round of the barrel has.
-    fn round(&self) -> u32
-        ensures { result ≡ processors_in self.now.profile }
-    {
-        self.profile().processors() as u32
-    }
-
-    /// This many whole rounds of the barrel, as many as can be made quietly, and the others turn by
-    /// turn. Refused, it says how many steps were done.
-    fn run_rounds(&mut self, rounds: u32) -> Result<(), u64>
-        requires { HoldsOnEachChannel self.old }
-        ensures ok { OnOk result (self.new ≡ run (whole_rounds self.old.profile rounds) self.old) }
-        ensures cut { IfErr result (λ done. self.new
-            ≡ run (barrel self.old.profile done) self.old) }
-        ensures within { IfErr result (λ done. done < rounds * processors_in self.old.profile) }
-        ensures cut_at_event { IfErr result (λ done.
-            IsSome (step_event (processor_in_turn self.old.profile done) self.new)) }
-        ensures headline { HoldsOnEachChannel self.new }
-    {
-        let round = self.round();
-        let mut done = 0;
-        let mut held: u32 = 0;
-        let mut pause = SHORTEST_PAUSE;
-        while done < rounds {
-            let window = window_after(held).min(rounds - done);
-            let quiet = self.run_quiet_rounds(window);
-            done += quiet;
-            held = held.saturating_add(quiet);
-            if quiet < window {
-                if held >= LONG_QUIET {
-                    pause = SHORTEST_PAUSE;
-                }
-                let further = (rounds - done).min(pause);
-                if let Err(before) = self.run_by_turns(further) {
-                    return Err(u64::from(done) * u64::from(round) + before);
-                }
-                done += further;
-                held = 0;
-                pause = (2 * pause).min(LONGEST_PAUSE);
-            }
-        }
-        Ok(())
-    }
-
-    /// Up to this many whole rounds of the barrel, as many as are made quietly, and says how
-    /// many that are.
-    #[inline(never)]
-    fn run_quiet_rounds(&mut self, most: u32) -> u32
-        ensures most { result ≤ most }
-        ensures ran { self.new ≡ run (whole_rounds self.old.profile result) self.old }
-        ensures headline { HoldsOnEachChannel self.new }
-    {
-        let turns = self.turns;
-        let round = self.round();
-        let rounds = run_ahead(
-            &mut self.processors,
-            &self.channels,
-            round as usize,
-            0,
-            most,
-        );
-        self.turns = turns.saturating_add(u64::from(rounds) * u64::from(round));
-        rounds
-    }
-
-    /// This many whole rounds of the barrel, turn by turn; processors at rest are passed over.
-    /// Refused, it says how many steps were done.
-    #[inline(never)]
-    fn run_by_turns(&mut self, rounds: u32) -> Result<(), u64>
-        requires { HoldsOnEachChannel self.old }
-        ensures ok { OnOk result (self.new ≡ run (whole_rounds self.old.profile rounds) self.old) }
-        ensures cut { IfErr result (λ done. self.new
-            ≡ run (barrel self.old.profile done) self.old) }
-        ensures within { IfErr result (λ done. done < rounds * processors_in self.old.profile) }
-        ensures cut_at_event { IfErr result (λ done.
-            IsSome (step_event (processor_in_turn self.old.profile done) self.new)) }
-        ensures headline { HoldsOnEachChannel self.new }
-    {
-        let round = self.round();
-        let mut done = 0;
-        while done < rounds {
-            let further = (rounds - done).min(LOOK_AFTER);
-            let next = next_running(&self.processors);
-            if let Err(before) = self.run_passing(further, round, &next) {
-                return Err(u64::from(done) * u64::from(round) + before);
-            }
-            done += further;
-        }
-        Ok(())
-    }
-
-    /// This many rounds of the barrel, or the first turns of one, where `next` says which
-    /// processors at rest to pass over. Refused, it says how many steps were done.
-    #[inline(never)]
-    fn run_passing(
-        &mut self,
-        rounds: u32,
-        turns: u32,
-        next: &[usize; PROCESSORS + 1],
-    ) -> Result<(), u64>
-        requires round { turns ≤ processors_in self.old.profile }
-        requires whole { 1 < rounds → turns ≡ processors_in self.old.profile }
-        requires passes { PassesOverRest next.now self.old.processors }
-        requires sound { HoldsOnEachChannel self.old }
-        ensures ok { OnOk result (self.new ≡ run
-            (barrel self.old.profile (rounds * turns)) self.old) }
-        ensures cut { IfErr result (λ done. self.new
-            ≡ run (barrel self.old.profile done) self.old) }
-        ensures within { IfErr result (λ done. done < rounds * turns) }
-        ensures cut_at_event { IfErr result (λ done.
-            IsSome (step_event (processor_in_turn self.old.profile done) self.new)) }
-        ensures headline { HoldsOnEachChannel self.new }
-    {
-        let mut left = rounds;
-        while left > 0 {
-            if let Err(before) = self.run_round(turns as usize, next) {
-                return Err(u64::from(rounds - left) * u64::from(turns) + before as u64);
-            }
-            left -= 1;
-        }
-        Ok(())
-    }
-
-    /// The first turns of a round of the barrel, where `next` says which processors at rest to pass
-    /// over. Refused, it says how many steps were done.
-    #[tactic(auto, using(crate::specs::RunLaws::barrel_more, crate::proofs::RunLemmas::some_event, crate::proofs::RoundLemmas::rest_to, crate::proofs::RoundLemmas::passes_over_stepped))]
-    fn run_round(&mut self, turns: usize, next: &[usize; PROCESSORS + 1]) -> Result<(), usize>
-        requires round { turns ≤ processors_in self.old.profile }
-        requires passes { PassesOverRest next.now self.old.processors }
-        requires sound { HoldsOnEachChannel self.old }
-        ensures ok { OnOk result (self.new ≡ run (barrel self.old.profile turns) self.old) }
-        ensures cut { IfErr result (λ done. self.new
-            ≡ run (barrel self.old.profile done) self.old) }
-        ensures within { IfErr result (λ done. done < turns) }
-        ensures cut_at_event { IfErr result (λ done.
-            IsSome (step_event (processor_in_turn self.old.profile done) self.new)) }
-        ensures passes { PassesOverRest next.now self.new.processors }
-        ensures headline { HoldsOnEachChannel self.new }
-    {
-        let mut place = 0;
-        loop {
-            let running = next[place];
-            if running >= turns {
-                self.pass_to(place, turns);
-                return Ok(());
-            }
-            self.pass_to(place, running);
-            let Ok(_outcome) = self.step_in_barrel(PpNo::at(running)) else {
-                return Err(running);
-            };
-            place = running + 1;
-        }
-    }
-
-    /// Counts the turns of processors at rest, from a place to a place.
-    #[tactic(auto, using(crate::proofs::RoundLemmas::passed_to))]
-    fn pass_to(&mut self, place: usize, running: usize)
-        requires { RestBetween place running self.old.processors }
-        ensures ran { (profile : Profile) (m : MachineState) → running ≤ processors_in profile
-            → self.old ≡ run (barrel profile place) m → self.new ≡ run (barrel profile running) m }
-        ensures processors { self.new.processors ≡ self.old.processors }
-        ensures headline { HoldsOnEachChannel self.new }
-    {
-        let turns = self.turns;
-        if place < running {
-            self.turns = turns.saturating_add((running - place) as u64);
-        }
-    }
-}
-
-/// The next window after this many quiet rounds since a window failed: half as many.
-fn window_after(held: u32) -> u32
-    ensures some { 1 ≤ result }
-    ensures most { result ≤ 8192 }
-{
-    (held / 2).max(SHORTEST_WINDOW).min(LONGEST_WINDOW)
-}
-
-/// For each place of the barrel, and for its end, the first place from there on whose processor is
-/// running, or the number of processors where there is none.
-#[tactic(auto, using(crate::proofs::RoundLemmas::passes_from_end, crate::proofs::RoundLemmas::passes_from_running, crate::proofs::RoundLemmas::passes_from_rest, crate::proofs::RoundLemmas::passes_from_start))]
-fn next_running<A: Allocator>(processors: &Processors<A>) -> [usize; PROCESSORS + 1]
-    requires { length processors.now.items ≡ processor_count }
-    ensures { PassesOverRest result processors.now.items }
-{
-    let mut next = [PROCESSORS; PROCESSORS + 1];
-    let mut running = PROCESSORS;
-    for place in (0..PROCESSORS).rev() {
-        match processors.any(place).state() {
-            PpState::Running => running = place,
-            PpState::Stopped | PpState::Fault(_) => {}
-        }
-        next[place] = running;
-    }
-    next
 }

@@ -44,7 +44,7 @@ impl<A: Allocator> Machine<A> {
             → KeepsMemoryAndRegisters (processor_of n self.old) (processor_of n self.new) }
         ensures headline { HoldsOnEachChannel self.new }
     {
-        match self.processors.any(n.index()).state() {
+        match self.processors[n.index()].state() {
             PpState::Running => self.step_by_need(n),
             PpState::Stopped | PpState::Fault(_) => {
                 self.count_turn();
@@ -63,9 +63,9 @@ impl<A: Allocator> Machine<A> {
         ensures headline { HoldsOnEachChannel self.new }
     {
         let i = n.index();
-        let need = self.processors.any(i).wants();
+        let need = self.processors[i].wants();
         let answer = self.serve(n, need)?;
-        let outcome = self.processors.any_mut(i).give(answer);
+        let outcome = self.processors[i].give(answer);
         self.count_turn();
         Ok(outcome)
     }
@@ -97,7 +97,7 @@ impl<A: Allocator> Machine<A> {
         ensures no_event { IsNone (step_event n self.old) → IsOk result }
         ensures headline { HoldsOnEachChannel self.new }
     {
-        match self.processors.at(n.index()).state() {
+        match self.processors[n.index()].state() {
             PpState::Running => self.go_on(n),
             PpState::Stopped | PpState::Fault(_) => {
                 self.count_turn();
@@ -106,7 +106,7 @@ impl<A: Allocator> Machine<A> {
         }
     }
 
-    /// One turn more; the greatest count stays.
+    /// One more turn; the greatest count stays.
     fn count_turn(&mut self)
         ensures turn { self.new ≡ record self.old { turns = counted self.old.turns } }
         ensures headline { HoldsOnEachChannel self.new }
@@ -126,14 +126,14 @@ impl<A: Allocator> Machine<A> {
         ensures headline { HoldsOnEachChannel self.new }
     {
         let i = n.index();
-        let (next, d) = self.processors.at(i).next_instruction();
+        let (next, d) = self.processors[i].next_instruction();
         if let Some(op) = &next {
-            if self.processors.at_mut(i).run_inner(*op, d) {
+            if self.processors[i].run_inner(*op, d) {
                 self.count_turn();
                 return Ok(Outcome::Moved);
             }
-            if self.processors.at(i).tests_flags(*op, d) {
-                let profile = self.processors.at(i).profile();
+            if self.processors[i].tests_flags(*op, d) {
+                let profile = self.processors[i].profile();
                 self.test_flags(n, *op, d, profile);
                 return Ok(Outcome::Moved);
             }
@@ -141,7 +141,7 @@ impl<A: Allocator> Machine<A> {
         self.step_with_answer(n, &next, d)
     }
 
-    /// The step of a processor that tests the flags of a channel, a fault where there is no such
+    /// The step of a processor that tests the flags of a channel, a fault if there is no such
     /// channel.
     #[tactic(auto, using(crate::proofs::MachineStepLemmas::stepped_by_probe, crate::proofs::MachineStepLemmas::outcome_by_probe, crate::proofs::MachineStepLemmas::stepped_alone, crate::proofs::MachineStepLemmas::outcome_alone))]
     fn test_flags(&mut self, n: PpNo, op: Opcode, d: Word6, profile: Profile)
@@ -154,12 +154,12 @@ impl<A: Allocator> Machine<A> {
         ensures headline { HoldsOnEachChannel self.new }
     {
         let Some(channel) = profile.channel(d.get()) else {
-            let _fault = self.processors.at_mut(n.index()).give_local(&Some(op), d);
+            let _fault = self.processors[n.index()].give_local(&Some(op), d);
             self.count_turn();
             return;
         };
         let flags = self.channel(channel).flags();
-        self.processors.at_mut(n.index()).test_flags(op, d, flags);
+        self.processors[n.index()].test_flags(op, d, flags);
         self.count_turn();
     }
 
@@ -180,21 +180,21 @@ impl<A: Allocator> Machine<A> {
         ensures headline { HoldsOnEachChannel self.new }
     {
         let i = n.index();
-        match self.processors.at(i).wants_next(next, d) {
+        match self.processors[i].wants_next(next, d) {
             Need::Nothing | Need::Local => {
-                let outcome = self.processors.at_mut(i).give_local(next, d);
+                let outcome = self.processors[i].give_local(next, d);
                 self.count_turn();
                 Ok(outcome)
             }
             Need::Channel(channel, op) => {
                 let reply = self.exchange(n, channel, op)?;
-                let outcome = self.processors.at_mut(i).give_reply(next, d, reply);
+                let outcome = self.processors[i].give_reply(next, d, reply);
                 self.count_turn();
                 Ok(outcome)
             }
             Need::Read(address) => {
                 let word = self.central.read(address);
-                self.processors.at_mut(i).give_central(next, d, word);
+                self.processors[i].give_central(next, d, word);
                 self.count_turn();
                 Ok(Outcome::Moved)
             }
@@ -202,7 +202,7 @@ impl<A: Allocator> Machine<A> {
                 // The processor first, since no store then comes between its two looks at its
                 // block.
                 let is_within = address.get() < self.central.size();
-                self.processors.at_mut(i).give_written(next, d, is_within);
+                self.processors[i].give_written(next, d, is_within);
                 let _written = self.central.write(address, word);
                 self.count_turn();
                 Ok(Outcome::Moved)
@@ -210,8 +210,8 @@ impl<A: Allocator> Machine<A> {
         }
     }
 
-    /// One operation of a processor on a channel. Most of them move a word: what they do is
-    /// compiled for each of these by itself.
+    /// One operation of a processor on a channel. Most of them move a word: these are each compiled
+    /// by themselves.
     #[inline(always)]
     fn exchange(&mut self, n: PpNo, channel: ChannelNo, op: ChanOp) -> Result<Reply, Memory>
         ensures reply { IfOk result (λ r. Answer.Channel r
@@ -236,7 +236,7 @@ impl<A: Allocator> Machine<A> {
         ensures unchanged_after_memory { OnErr result (self.new ≡ self.old) }
         ensures no_event { IsNone (event_for (Need.Channel channel op) self.old) → IsOk result }
     {
-        // The call says to the proof that the number is one of a channel.
+        // Reveals to the proof that the number is that of a channel.
         let _named = channel.get();
         let i = channel.index();
         let made = self.channels[i].next_event(&op);
@@ -262,7 +262,7 @@ impl<A: Allocator> Machine<A> {
     }
 }
 
-/// One operation on one of the channels, of which the event that it makes now is known.
+/// One operation, whose event is known, on one of the channels.
 #[inline(always)]
 fn make_on<A: Allocator>(
     channels: &mut Vec<Channel<A>, A>,
@@ -285,7 +285,7 @@ fn make_on<A: Allocator>(
 {
     let channel = &mut channels[channel.index()];
     let reply = channel.make(op, event);
-    // The call says to the proof that the history is lawful.
+    // Reveals to the proof that the history is lawful.
     let _history = channel.history();
     reply
 }

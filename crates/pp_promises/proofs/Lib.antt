@@ -1,3 +1,9 @@
+mod CircleLemmas
+mod MachineLemmas
+mod AnswerLemmas
+mod WorkingLemmas
+mod ServeLemmas
+mod ReportLemmas
 mod LoadedLemmas
 mod ThreadsLemmas
 mod OneRunLemmas

@@ -13,7 +13,7 @@ use Rattle.pp_machine.specs.declared.profile.Profile.{Profile}
 use Rattle.pp_deck.specs.DeckLaw.{IsFor, KeepsDeckLaw, NamesWithin, Registers, Starts, at_rest, line_of, registers_of}
 use Rattle.pp_deck.specs.DeckLine.{Line, nothing, section}
 use Rattle.pp_deck.specs.DeckMeaning.{LoadedDeck}
-use Rattle.pp_serial.specs.Serial.{HasNotRun}
+use Rattle.pp_promises.specs.Serial.{HasNotRun}
 
 pub not_run : (lines : List Line) (deck : LoadedDeck) → KeepsDeckLaw lines deck → HasNotRun deck.machine
 not_run lines deck holds = record { processors = holds.each_processor; channels = holds.each_channel; histories = holds.history }

@@ -33,7 +33,7 @@ use Rattle.pp_runner.specs.declared.end.End.{End}
 use Rattle.pp_runner.specs.declared.end.End.TheVariants as ends
 use Rattle.pp_runner.specs.declared.report.Report.{Report}
 use Rattle.pp_runner.specs.declared.worker.Worker.{Worker}
-use Rattle.pp_serial.specs.Serial.{LeadsTo, processors_left}
+use Rattle.pp_promises.specs.Serial.{LeadsTo, processors_left}
 use Rattle.pp_promises.specs.OneRun.{CannotMove, EndsAtRest, IsOver, ShowsPartsOf}
 
 -- a run keeps the number of processors and of channels

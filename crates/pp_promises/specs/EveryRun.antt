@@ -1,6 +1,6 @@
 -- THE HEADLINE, of every run of a deck. After any list of processor steps from any loaded deck, on
 -- each channel, in every session, the words taken are the first of the words put, all but at most
--- one, which is lost only where a Disconnect finds the channel full, and no word passes outside a
+-- one, which is lost only if a Disconnect finds the channel full, and no word passes outside a
 -- session. The histories that threads leave obey the same law.
 use Rattle.std.specs.Prelude.{ℕ, IsTrue, List}
 use Rattle.pp_channel.specs.ChannelNo.{names_channel}
@@ -13,7 +13,7 @@ use Rattle.pp_machine.specs.Run.{run}
 use Rattle.pp_runner.specs.Limits.{RunLimits}
 use Rattle.pp_runner.specs.Report.{IsReportOf}
 use Rattle.pp_runner.specs.declared.report.Report.{Report}
-use Rattle.pp_serial.specs.Serial.{IsSerialRunOf}
+use Rattle.pp_promises.specs.Serial.{IsSerialRunOf}
 
 -- It holds of a report by threads, whose accesses came in this order: what holds of each channel
 -- after any list of steps holds of each channel here; and some list of steps leads to the very

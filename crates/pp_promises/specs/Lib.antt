@@ -1,2 +1,4 @@
+pub mod Circle
 pub mod EveryRun
 pub mod OneRun
+pub mod Serial

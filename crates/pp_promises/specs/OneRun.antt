@@ -1,4 +1,4 @@
--- What one run of a machine tells of a run by threads.
+-- What one run of a machine determines of a run by threads.
 use Rattle.std.specs.Prelude.{◌≡◌, ◌⊎◌, ℕ, List, All, slice_index_or}
 use Rattle.pp_channel.specs.History.{history_on}
 use Rattle.pp_channel.specs.declared.chan_op.ChanOp.{ChanOp}
@@ -11,7 +11,7 @@ use Rattle.pp_every_order.specs.Determinacy.{Stays, TurnsInPlace, history_at, pr
 use Rattle.pp_runner.specs.declared.end.End.{End}
 use Rattle.pp_runner.specs.declared.end.End.TheVariants.{Fault, Stopped}
 use Rattle.pp_runner.specs.declared.report.Report.{Report}
-use Rattle.pp_serial.specs.Serial.{processors_left}
+use Rattle.pp_promises.specs.Serial.{processors_left}
 
 -- a processor waits for a channel with the history that a report gives
 pub record WaitsIn {A : Type 0} (report : Report A) (pp : Processor) : Type 0 where

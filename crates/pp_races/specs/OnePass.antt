@@ -1,5 +1,5 @@
--- A run that is watched as it goes: what is kept of it after each step, so that at its end it is known
--- whether it tells the result of every order. (Private contracts alone cite this.)
+-- A run that is watched as it goes: what is kept of it after each step, so that at its end it is
+-- known whether it tells the result of every order. (Private contracts alone cite this.)
 use Rattle.std.specs.Prelude.{◌≡◌, ℕ, suc, ◌+◌, ◌<◌, ◌≤◌, Bool, true, not, ◌||◌, IsTrue, List, length, take, None, Some, ◌++◌, ◌∷◌, [], ◌⊎◌, slice_index, ◌≢◌}
 use Rattle.pp_channel.specs.Answer.{event_of, flags_of, ready_at, only_looks, reply_shown}
 use Rattle.pp_channel.specs.ChannelNo.{names_channel}
@@ -29,8 +29,8 @@ abbrev pub NoneBetween : List ℕ → MachineState → ℕ → ℕ → ℕ → �
 NoneBetween ns m q c u t = (v : ℕ) → u ≤ v → v < t → slice_index ns v ≡ q
     → history_at ns m c (suc v) ≡ history_at ns m c v
 
--- step u makes an event, or it does the same wherever it may find its channel up to moment t, and will
--- do so as long as the flags are open to it
+-- step u makes an event, or it does the same wherever it may find its channel up to moment t, and
+-- will do so as long as the flags are open to it
 pub record IsOpen (ns : List ℕ) (m : MachineState) (t : ℕ) (open_to : ℕ → ℕ → Flags → Bool)
     (u c : ℕ) (op : ChanOp) : Type 0 where
   pub so_far : (s : ℕ) → u ≤ s → s ≤ t → NoneBetween ns m (slice_index ns u) c u s
@@ -61,15 +61,16 @@ pub record Watched (ns : List ℕ) (m : MachineState) (t : ℕ) (least : ℕ →
       ⊎ ((c : ℕ) (op : ChanOp) → need_at ns m u ≡ Need.Channel c op
       → Passed ns m t open_to u c op)
 
--- Then what is checked before a step of processor n, of the machine as it stands: least and open_to are
--- what is kept before it, new_least and new_open what is kept after it.
+-- Then what is checked before a step of processor n, of the machine as it stands: least and open_to
+-- are what is kept before it, new_least and new_open what is kept after it.
 
 -- the flags of a channel when its history had p events
 abbrev pub flags_at : List Event → ℕ → Flags
 flags_at h p = flags_of (take p h)
 
--- The step looks: it makes no event, and its processor goes on. At each number of events with which it
--- may have found its channel it waits or does the same; and it did not do so below the new least one.
+-- The step looks: it makes no event, and its processor goes on. At each number of events with which
+-- it may have found its channel it waits or does the same; and it did not do so below the new least
+-- one.
 pub record IsLook (now : MachineState) (n c : ℕ) (op : ChanOp) (least new_least : ℕ → ℕ → ℕ)
     (open_to new_open : ℕ → ℕ → Flags → Bool) : Type 0 where
   pub needs : need (processor_of n now) ≡ Need.Channel c op
@@ -90,8 +91,8 @@ pub record IsLook (now : MachineState) (n c : ℕ) (op : ChanOp) (least new_leas
   pub open_now : new_open n c (flags_of (history_of c now)) ≡ true
   pub open_others : (x e : ℕ) (f : Flags) → (x ≡ n → e ≡ c → ⊥) → new_open x e f ≡ open_to x e f
 
--- The step makes an event. At each number of events before it with which it may have found its channel
--- it waits; and the flags after it are open to all others.
+-- The step makes an event. At each number of events before it with which it may have found its
+-- channel it waits; and the flags after it are open to all others.
 pub record IsEvent (now : MachineState) (n c : ℕ) (op : ChanOp) (event : Event)
     (least new_least : ℕ → ℕ → ℕ) (open_to new_open : ℕ → ℕ → Flags → Bool) : Type 0 where
   pub needs : need (processor_of n now) ≡ Need.Channel c op

@@ -20,8 +20,8 @@ abbrev pub shown_to : ChanOp → Processor → Flags → Processor
 shown_to op pp flags =
     processor_after pp (Answer.Channel (reply_shown op (record { flags = flags; register = None })))
 
--- A processor's position: P, and whether it is in a block. Two outcomes of one operation that makes no
--- event differ in it, if they differ at all.
+-- A processor's position: P, and whether it is in a block. Two outcomes of one operation that makes
+-- no event differ in it, if they differ at all.
 abbrev pub position_of : Processor → Position
 position_of pp = record { p = pp.p; in_block = is_some pp.block }
 

@@ -1,5 +1,5 @@
--- Where an operation that makes no event leaves a processor, by its registers alone. (Private contracts
--- alone cite this.)
+-- Where an operation that makes no event leaves a processor, by its registers alone. (Private
+-- contracts alone cite this.)
 use Rattle.std.specs.Prelude.{ℕ, Bool, false, not, ◌==◌, Option, None, Some, is_some, if◌then◌else◌}
 use Rattle.pp_word.specs.Address.{next_place, place_after}
 use Rattle.pp_word.specs.Opcode.{code_of}
@@ -13,7 +13,8 @@ use Rattle.pp_machine.specs.declared.block.BlockKind.TheVariants.{Input, Output}
 use Rattle.pp_races.specs.OtherFlags.{position_of}
 use Rattle.pp_races.specs.declared.position.Position.{Position}
 
--- whether an instruction that tests flags, with this code, jumps at these: AJM, IJM, FJM and else EJM
+-- whether an instruction that tests flags, with this code, jumps at these: AJM, IJM, FJM and else
+-- EJM
 abbrev pub tests_flags : ℕ → Flags → Bool
 tests_flags code f =
     if code == 0o64 then f.active else if code == 0o65 then not f.active

@@ -1,13 +1,10 @@
 -- The text of the races of a run: a line for each finding, and what they come to.
-use Rattle.std.specs.Prelude.{ℕ, Bool, true, false, List, [], ◌∷◌, ◌++◌, Option, Some, None, codes, count_by, flat_map, nat_lt, slice_index_or, take, if◌then◌else◌}
+use Rattle.std.specs.Prelude.{ℕ, Bool, true, false, List, [], ◌∷◌, ◌++◌, codes, count_by, flat_map, nat_lt, slice_index_or, take, if◌then◌else◌}
 use Rattle.std.specs.List.{list_all}
 use Rattle.pp_machine.specs.MachineState.{MachineState}
 use Rattle.pp_machine.specs.PpNo.{processor_count, processor_number}
-use Rattle.pp_machine.specs.declared.block.Block.{Block}
-use Rattle.pp_machine.specs.declared.block.BlockKind.{BlockKind}
-use Rattle.pp_machine.specs.declared.block.BlockKind.TheVariants.{CentralIn, CentralOut, Input, Output}
 use Rattle.pp_machine.specs.declared.trace.Trace.{Trace}
-use Rattle.pp_listing.specs.InstructionText.{instruction_text}
+use Rattle.pp_listing.specs.InstructionText.{running_text}
 use Rattle.pp_listing.specs.ListedLine.{padded}
 use Rattle.pp_text.specs.Numeral.{decimal, octal}
 use Rattle.pp_text.specs.PrintedText.{event_text, line_end}
@@ -21,24 +18,12 @@ use Rattle.pp_races.specs.declared.verdict.Verdict.TheVariants.{Same, NoRaceSoFa
 
 -- ---- steps and events
 
--- `IAM 05`, of a block in progress
-abbrev pub block_text : BlockKind → List ℕ
-block_text (Input channel) = codes "IAM " ++ octal 2 channel
-block_text (Output channel) = codes "OAM " ++ octal 2 channel
-block_text (CentralIn left) = codes "CRM"
-block_text (CentralOut left) = codes "CWM"
-
--- the instruction that runs: the one at P, or that of the block in progress, whose words may have
--- been overwritten
-abbrev pub running_text : AskingStep → Option Block → List ℕ
-running_text step None = instruction_text step.p step.word step.next
-running_text step (Some block) = block_text block.kind
-
 -- `PP01 0204 DCN 05        CH05`
 abbrev pub place_text : AskingStep → List ℕ
 place_text step =
     codes "PP" ++ octal 2 step.pp ++ codes " " ++ octal 4 step.p ++ codes " "
-    ++ padded 13 (running_text step step.block) ++ codes " CH" ++ octal 2 step.channel
+    ++ padded 13 (running_text step.block step.p step.word step.next)
+    ++ codes " CH" ++ octal 2 step.channel
 
 -- `000040 PP00 TAK 0002`
 abbrev pub entry_text : Trace → List ℕ

@@ -66,9 +66,9 @@ abbrev pub found_past : Latest → Flags → ℕ
 found_past latest flags =
     by_flags latest.inactive latest.inactive_full latest.empty latest.full flags
 
--- What is known of the events on channel c in all of a trace: from a place on, the last of them leaves
--- the flags that are kept, if there is one; and none finds flags that are kept with no further place,
--- unless they stand at that place.
+-- What is known of the events on channel c in all of a trace: from a place on, the last of them
+-- leaves the flags that are kept, if there is one; and none finds flags that are kept with no
+-- further place, unless they stand at that place.
 pub record IsLatest (c : ℕ) (trace : List Trace) (latest : Latest) : Type 0 where
   pub after : (from : ℕ) (f : Flags) → (flags_through c f (drop from trace) ≡ f)
       ⊎ (latest.last ≡ Some (flags_through c f (drop from trace)))

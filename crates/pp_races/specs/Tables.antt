@@ -1,5 +1,5 @@
--- The tables by which a run is watched: an entry for each processor and each channel, and one for each
--- central word. (Private contracts alone cite this.)
+-- The tables by which a run is watched: an entry for each processor and each channel, and one for
+-- each central word. (Private contracts alone cite this.)
 use Rattle.std.specs.Prelude.{◌≡◌, ◌≢◌, ℕ, ◌+◌, ◌*◌, ◌<◌, ◌≤◌, Bool, false, ◌||◌, is_some, nat_eq, IsTrue, List, [], ◌∷◌, ◌==◌, drop, length, slice_index_or, if◌then◌else◌}
 use Rattle.std.specs.Int.{bit_at}
 use Rattle.pp_channel.specs.Answer.{flags_of, flags_after}
@@ -84,7 +84,8 @@ pub record IsUseOf (w : Watch) (a : ℕ) (use_of : WordUse) : Type 0 where
 abbrev pub AreUses : Watch → List WordUse → Type 0
 AreUses w table = (a : ℕ) → a < length table → IsUseOf w a (slice_index_or table a unused)
 
--- the looks of processor q at channel c after an event of the maker there, with these flags after it
+-- the looks of processor q at channel c after an event of the maker there, with these flags after
+-- it
 abbrev pub looks_after_event : ℕ → Flags → ℕ → List Looks → ℕ → Looks
 looks_after_event maker after q table c =
     if q == maker || is_some (look_at (looks_of table q c) after) then no_looks

@@ -31,8 +31,8 @@ missed_event flags entry = record { found = flags; entry = entry }
 
 -- By processor and channel, the events that the processor may still find to come, in order; and for
 -- each flags the first of its looks, since its last event there, that would have done otherwise at
--- them. By address and processor, whether a step of the processor wrote the central word, and whether
--- one used it. And what was found so far.
+-- them. By address and processor, whether a step of the processor wrote the central word, and
+-- whether one used it. And what was found so far.
 pub record Watch : Type 0 where
   pub missed : ℕ → ℕ → List Missed
   pub looks : ℕ → ℕ → Flags → Option AskingStep
@@ -112,8 +112,8 @@ each_number of = each_below processor_count (λ place. of (processor_number plac
 abbrev pub entry_of : ℕ → ℕ → Event → MachineState → Trace
 entry_of n c event m = record { turn = m.turns; pp = n; channel = c; event = event }
 
--- An event of processor n on channel c: all others may miss it, and those whose looks would have done
--- otherwise at the flags after it are done with these looks.
+-- An event of processor n on channel c: all others may miss it, and those whose looks would have
+-- done otherwise at the flags after it are done with these looks.
 abbrev pub made : ℕ → ℕ → ChanOp → Event → MachineState → Watch → Watch
 made n c op event m w =
     let pp = processor_of n m in

@@ -12,8 +12,8 @@ pub enum Finding {
     After(AskingStep, Trace),
     /// The processor goes on after the last step.
     GoingOn(PpNo),
-    /// The processor is held after the last step, by the step that it is to make, and would have gone
-    /// on before this event.
+    /// The processor is held after the last step, by the step that it is to make, and would have
+    /// gone on before this event.
     HeldBefore(AskingStep, Trace),
     /// The central word of this address was written by one processor and used by another. The flags
     /// are those of all processors that wrote and used it, in the order of the barrel.

@@ -12,8 +12,8 @@ use crate::flag_set::FlagSet;
 use crate::low::Low;
 use pp_channel::Flags;
 
-/// Of one channel: for each flags a place of the trace from which on no event found them, but perhaps
-/// the first from there on; and the flags after the last event.
+/// Of one channel: for each flags a place of the trace from which on no event found them, but
+/// perhaps the first from there on; and the flags after the last event.
 #[derive(Clone, Copy)]
 pub(crate) struct Latest {
     pub(crate) inactive: usize,

@@ -2,19 +2,18 @@
 
 ghost use Rattle.std.specs.Prelude.{◌≡◌, ◌+◌, ◌*◌, ◌≤◌, ◌<◌, ◌^◌, ◌++◌, [], ℕ, Bool, List, codes, count_by, length, nat_lt, take, if◌then◌else◌};
 ghost use Rattle.pp_machine.specs.PpNo.{processor_number};
-ghost use Rattle.pp_listing.specs.ListedLine.{padded};
 ghost use Rattle.pp_text.specs.Numeral.{octal};
 ghost use Rattle.pp_text.specs.Piece.{HasRoom};
 ghost use Rattle.pp_text.specs.PrintedText.{event_text, line_end};
-ghost use Rattle.pp_races.specs.RacesText.{block_text, entry_text, finding_line, name_text, place_text, processors_text, running_text, step_line};
+ghost use Rattle.pp_races.specs.RacesText.{entry_text, finding_line, name_text, place_text, processors_text, step_line};
 ghost use Rattle.pp_races.specs.Watch.{each_below};
 
 use crate::asking_step::AskingStep;
 use crate::finding::Finding;
 use pp_channel::Event;
-use pp_machine::{BlockKind, PROCESSORS, PpNo, Trace};
-use pp_state::instruction_field;
-use pp_text::{Piece, channel_name, octal2, octal4, octal6, processor_name, push_decimal};
+use pp_machine::{PROCESSORS, PpNo, Trace};
+use pp_state::running_field;
+use pp_text::{Piece, channel_name, octal4, octal6, processor_name, push_decimal};
 
 /// Adds the line of a finding and a line feed.
 #[tactic(auto, unfolding(crate::specs::RacesText::finding_line))]
@@ -36,8 +35,8 @@ pub(crate) fn push_finding(line: &mut Piece, finding: &Finding)
     }
 }
 
-/// Adds `000041 PP01 0204 DCN 05        CH05 BEFORE 000040 PP00 TAK 0002` and a line feed, with this
-/// word between the step and the event.
+/// Adds `000041 PP01 0204 DCN 05        CH05 BEFORE 000040 PP00 TAK 0002` and a line feed, with
+/// this word between the step and the event.
 fn push_step_line(line: &mut Piece, step: &AskingStep, between: &[u8], entry: &Trace)
     requires room { HasRoom 120 line.old }
     requires short { length between.now ≤ 10 }
@@ -121,42 +120,9 @@ fn push_place(line: &mut Piece, step: &AskingStep)
     line.push(b" ");
     line.push(&octal4(step.p.get()));
     line.push(b" ");
-    line.push(&running_field(step));
+    line.push(&running_field(step.block, step.p, step.word, step.next));
     line.push(b" ");
     line.push(&channel_name(step.channel));
-}
-
-/// `IAM 0201,05  `, or `IAM 05       ` where the block is in progress.
-fn running_field(step: &AskingStep) -> [u8; 13]
-    ensures { result ≡ padded 13 (running_text step.now step.now.block) }
-{
-    match step.block {
-        Some(block) => block_field(block.kind),
-        None => instruction_field(step.p, step.word, step.next),
-    }
-}
-
-/// `IAM 05       `, of a block in progress.
-fn block_field(kind: BlockKind) -> [u8; 13]
-    ensures { result ≡ padded 13 (block_text kind) }
-{
-    match kind {
-        BlockKind::Input { channel } => channel_field(*b"IAM", octal2(channel.get())),
-        BlockKind::Output { channel } => channel_field(*b"OAM", octal2(channel.get())),
-        BlockKind::CentralIn { .. } => *b"CRM          ",
-        BlockKind::CentralOut { .. } => *b"CWM          ",
-    }
-}
-
-/// `IAM 05       `
-fn channel_field(name: [u8; 3], channel: [u8; 2]) -> [u8; 13]
-    ensures { result ≡ padded 13 (name ++ codes " " ++ channel) }
-{
-    let [n0, n1, n2] = name;
-    let [c0, c1] = channel;
-    [
-        n0, n1, n2, b' ', c0, c1, b' ', b' ', b' ', b' ', b' ', b' ', b' ',
-    ]
 }
 
 /// Adds `000040 PP00 TAK 0002`.

@@ -9,8 +9,8 @@ use crate::asking_step::AskingStep;
 use crate::flag_set::FlagSet;
 use pp_channel::Flags;
 
-/// For each of the flags of a channel, the first look of a processor, since its last event there, that
-/// would have done otherwise at them.
+/// For each of the flags of a channel, the first look of a processor, since its last event there,
+/// that would have done otherwise at them.
 #[derive(Clone, Copy)]
 pub(crate) struct Looks {
     pub(crate) inactive: Option<AskingStep>,

@@ -44,8 +44,8 @@ impl Low {
     }
 
     /// The first place from here on where the channel had one of these flags; the end of the trace,
-    /// where there is none. Places are passed over once: where the channel had one of them here, or no
-    /// event of it follows, this place serves.
+    /// where there is none. Places are passed over once: where the channel had one of them here, or
+    /// no event of it follows, this place serves.
     #[tactic(auto, using(crate::proofs::LowLemmas::alike_here))]
     pub(crate) fn from_alike<A: Allocator>(
         &self,

@@ -20,15 +20,15 @@ use pp_text::{ReportFault, TextWriter};
 use std::alloc::Allocator;
 use std::io::Write;
 
-/// Runs this many turns of the barrel from its first processor on, and writes the steps that race with
-/// others, the processors that are not settled at the end, the central words that one processor wrote
-/// and another used, and what they come to; and flushes the writer. Where nothing is found, the run
-/// tells the result of every order of steps.
+/// Runs this many turns of the barrel from its first processor on, and writes the steps that race
+/// with others, the processors that are not settled at the end, the central words that one
+/// processor wrote and another used, and what they come to; and flushes the writer. Where nothing
+/// is found, the run tells the result of every order of steps.
 ///
-/// The lines go out as they come. Memory is asked for before the first of them, for these numbers of
-/// events, by the places of the channels: a run that makes no more asks for none later, as tests show.
-/// One that makes more may be refused it, which is a fault of writing once a line was printed. After a
-/// fault the machine has made some first turns.
+/// The lines go out as they come. Memory is asked for before the first of them, for these numbers
+/// of events, by the places of the channels: a run that makes no more asks for none later, as tests
+/// show. One that makes more may be refused it, which is a fault of writing once a line was
+/// printed. After a fault the machine has made some first turns.
 pub fn write_races<A: Allocator + Copy, W: Write>(
     alloc: A,
     writer: &mut W,

@@ -71,8 +71,8 @@ impl<A: Allocator> TraceIndex<A> {
         latest.may_find(low, set)
     }
 
-    /// Where a search for one of a set of flags may go on, if a span begins here in which no event of
-    /// the channel found one.
+    /// Where a search for one of a set of flags may go on, if a span begins here in which no event
+    /// of the channel found one.
     #[inline(always)]
     pub(crate) fn pass(
         &self,

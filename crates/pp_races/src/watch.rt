@@ -88,8 +88,8 @@ fn take_look<A: Allocator>(
     Ok(())
 }
 
-/// Closes the looks of a processor at a channel on which another makes this event: those of the maker,
-/// and those of which one would have done otherwise at the flags after it.
+/// Closes the looks of a processor at a channel on which another makes this event: those of the
+/// maker, and those of which one would have done otherwise at the flags after it.
 fn close_looks<A: Allocator>(
     looks: &mut [Looks],
     q: PpNo,

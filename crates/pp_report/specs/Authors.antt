@@ -1,4 +1,4 @@
--- Finding the authors of events, log after log. (Private contracts alone cite this.)
+-- Finding the authors of events, log after log. (Only private contracts cite this.)
 use Rattle.std.specs.Prelude.{◌≡◌, ℕ, ◌<◌, Bool, List, [], length, slice_index_or, Option, Some, None, option_map, IsTrue, if◌then◌else◌}
 use Rattle.pp_channel.specs.ChannelNo.{channel_index, names_channel}
 use Rattle.pp_channel.specs.History.{history_on}
@@ -7,7 +7,7 @@ use Rattle.pp_machine.specs.PpNo.{processor_number}
 use Rattle.pp_runner.specs.declared.worker.Worker.{Worker}
 use Rattle.pp_report.specs.PrintedReport.{author_place}
 
--- the author known so far, or else this one where its log records the event
+-- the author known so far, or else this one if its log records the event
 abbrev pub or_told : Option ℕ → Bool → ℕ → Option ℕ
 or_told (Some known) told author = Some known
 or_told None told author = if told then Some author else None

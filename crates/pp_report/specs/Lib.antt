@@ -1,4 +1,4 @@
 pub mod PrintedReport
 pub mod ReportLaw
--- cited by private contracts alone: nobody has to read these to believe what the crate promises
+-- cited only by private contracts: nobody has to read these to believe what the crate promises
 pub mod Authors

@@ -15,8 +15,8 @@ use Rattle.pp_text.specs.PrintedText.{each_below, event_text, line_end, processo
 
 -- ---- events, each with its number in the history of its channel
 
--- the place of the worker in whose log the event stands: where the logs merge, an opening event has
--- none, and any other just one
+-- the place of the worker in whose log the event stands: if the logs merge, an opening event has
+-- none, and any other exactly one
 abbrev pub author_place : {Z : Type 0} → ℕ → List (Worker Z) → ℕ → Option ℕ
 author_place {Z} c workers number =
     position (λ (worker : Worker Z). nat_lt 0 (times_logged c number worker.log.items)) workers
@@ -32,7 +32,7 @@ unfoldable pub numbered_event_line : {Z : Type 0} → ℕ → List (Worker Z) �
 numbered_event_line c workers (number, event) =
     line_by c number event (author_place c workers number)
 
--- the lines of the events of the channel with this number, where there is one
+-- the lines of the events of the channel with this number, if there is one
 abbrev pub channel_events : {Z : Type 0} → List (Worker Z) → List (List Event) → ℕ → List ℕ
 channel_events workers histories c =
     if names_channel c then flat_map (numbered_event_line c workers)
@@ -52,7 +52,7 @@ abbrev pub worker_line : {Z : Type 0} → ℕ → Option (Worker Z) → List ℕ
 worker_line n None = []
 worker_line n (Some worker) = processor_line n worker.pp (end_text worker.finish)
 
--- the line of the processor with this number, where the deck names it
+-- the line of the processor with this number, if the deck names it
 abbrev pub named_worker_line : {Z : Type 0} → List Bool → List (Worker Z) → ℕ → List ℕ
 named_worker_line named workers n =
     if is_named named n then worker_line n (slice_get workers (processor_index n)) else []

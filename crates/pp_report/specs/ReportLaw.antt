@@ -63,7 +63,7 @@ pub record FitsItsReport {Z : Type 0} (named : List Bool) (report : Report Z) : 
   pub workers : (n : ℕ) → IsTrue (is_named named n) → IfSome (end_of n report) FitsItsEnd
   pub channels : (c : ℕ) → IsTrue (names_channel c) → IsListed (history_on c report.channels)
 
--- what is shown of processor n: nothing where it is not named
+-- what is shown of processor n: nothing if it is not named
 abbrev pub shown_of : {Z : Type 0} → List Bool → ℕ → Report Z → Option ShownEnd
 shown_of named n report = if is_named named n then end_of n report else None
 

@@ -30,7 +30,7 @@ impl<A: Allocator> Model for ChannelAuthors<A> {
 }
 
 impl<A: Allocator> ChannelAuthors<A> {
-    /// Those of this many events, when none is known.
+    /// The authors of `count` events, none of them known.
     fn unknown(alloc: A, count: usize) -> Result<Self, AllocError>
         ensures length { IfOk result (λ authors. length authors ≡ count) }
         ensures none { IfOk result (λ authors. (number : ℕ)
@@ -40,7 +40,7 @@ impl<A: Allocator> ChannelAuthors<A> {
         Ok(ChannelAuthors { by_number })
     }
 
-    /// The author of the event with this number, where it is known.
+    /// The author of the event with this number, if it is known.
     pub(crate) fn of(&self, number: usize) -> Option<PpNo>
         ensures { result ≡ slice_index_or self.now number None }
     {
@@ -50,7 +50,7 @@ impl<A: Allocator> ChannelAuthors<A> {
         }
     }
 
-    /// Marks an event, where it has no author yet.
+    /// Marks an event, if it has no author yet.
     fn mark(&mut self, number: usize, author: PpNo)
         ensures length { length self.new ≡ length self.old }
         ensures marked { (k : ℕ) → k < length self.old
@@ -98,7 +98,7 @@ fn unknown_authors<A: Allocator + Copy>(
     Ok(authors)
 }
 
-/// Marks the events that a log records, on all channels, where they have no author yet.
+/// Marks the events that a log records, on all channels, if they have no author yet.
 fn mark<A: Allocator>(authors: &mut Vec<ChannelAuthors<A>, A>, log: &[Entry], author: PpNo)
     requires { length authors.old.items ≡ channel_count }
     ensures each_channel { length authors.new.items ≡ channel_count }

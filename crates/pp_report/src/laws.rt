@@ -17,8 +17,8 @@ ghost use Rattle.pp_text.specs.TextLaw.{IsToldAlike};
 
 use std::alloc::Allocator;
 
-/// Only opening events have no author, and so no line: where the logs of workers merge to
-/// histories, each event that is not one of the opening history stands in the log of one of them.
+/// Only opening events have no author, and so no line: if the logs of workers merge to histories,
+/// each event that is not one of the opening history stands in the log of one of them.
 pub fn author_law<A: Allocator>()
     ensures { (opening : ℕ → List Event) (histories : List (List Event)) (workers : List (Worker A))
         → Merges opening histories (logs_of workers)
@@ -26,12 +26,12 @@ pub fn author_law<A: Allocator>()
         → (author_place c workers number ≡ None) ↔ (number < length (opening c)) }
 {}
 
-/// The text of a run by threads is its report: two reports with one text, each of whose faults is a
-/// numbered one, agree on the events of each channel that have an author, each with its number and
-/// its author, on which processors are shown and on P, A and the end of each, and on what is shown
-/// of each channel. Where the logs of both merge over the same opening histories, the histories are
-/// the same too; and where they merge over those that dead start left of two machines, the text
-/// says that these openings are the same.
+/// The text of a run by threads determines its report: two reports with one text, which both fit
+/// and in which each fault is a numbered one, agree on the events of each channel that have an
+/// author, each with its number and its author, on which processors are shown and on P, A and the
+/// end of each, and on what is shown of each channel. If the logs of both merge over the same
+/// opening histories, the histories are the same too; and so they are if the logs merge to lawful
+/// histories, each over what dead start left of its own machine.
 pub fn report_law<A: Allocator>()
     ensures text { (named others : List Bool) (one other : Report A)
         → FitsItsReport named one → FitsItsReport others other

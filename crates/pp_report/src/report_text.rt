@@ -24,9 +24,9 @@ use pp_text::{NUMBERS, Piece, ReportFault, TextWriter, WriteFault, push_channel_
 use std::alloc::Allocator;
 use std::io::Write;
 
-/// Writes the text of a report, with the lines of the processors named, and flushes the writer. Who
-/// made which event is found first, and takes memory; then the text goes out in pieces, and takes
-/// none. Where the writer fails, the rest of the text is lost.
+/// Writes the text of a report, with the lines of the processors named, and flushes the writer. The
+/// author of each event is found first, which takes memory; then the text goes out in pieces, which
+/// takes none. If the writer fails, the rest of the text is lost.
 pub fn write_report<A: Allocator + Copy, W: Write>(
     alloc: A,
     writer: &mut W,
@@ -121,7 +121,7 @@ fn print_history<A: Allocator, W: Write>(
     }
 }
 
-/// Adds the line of an event, where it has an author.
+/// Adds the line of an event, if it has an author.
 fn push_event_by(
     piece: &mut Piece,
     c: ChannelNo,
@@ -174,7 +174,7 @@ fn print_named_worker<A: Allocator, W: Write>(
     }
 }
 
-/// Prints the line of a processor, where it has a worker.
+/// Prints the line of a processor, if it has a worker.
 fn print_worker<A: Allocator, W: Write>(text: &mut TextWriter<W>, workers: &[Worker<A>], n: PpNo)
     ensures text { Prints W.contents text.old text.new
         (worker_line n (slice_get workers.now (processor_index n))) }

@@ -1,4 +1,4 @@
--- The steps of a run, one more.
+-- The steps of a run with one more step.
 use Rattle.std.proofs.Common.{◌≡◌, ◌≢◌, ℕ, suc, ◌+◌, ◌<◌, ◌≤◌, ◌⊎◌, inl, inr, Bool, true, false, cond, List, [], ◌∷◌, ◌++◌, append-nil, length, map, set, get_or, eqb, refl, sym, ap, ◌∙◌, add-one, arith}
 use Rattle.std.specs.Prelude.{count_by}
 use Rattle.std.specs.List.{filter}
@@ -27,7 +27,8 @@ run_steps-both (n ∷ ns) ks m =
 
 -- over one step at the end of a list
 pub run_steps-append : (ns : List ℕ) (n : ℕ) (m : MachineState)
-    → run_steps (ns ++ n ∷ []) m ≡ run_steps ns m ++ record { processor = n; before = run ns m } ∷ []
+    → run_steps (ns ++ n ∷ []) m
+    ≡ run_steps ns m ++ record { processor = n; before = run ns m } ∷ []
 run_steps-append ns n m = run_steps-both ns (n ∷ []) m
 
 pub length-run_steps : (ns : List ℕ) (m : MachineState) → length (run_steps ns m) ≡ length ns
@@ -109,7 +110,8 @@ seen_other {X} of n steps step other =
 -- ---- a list that counts something of the steps of each processor
 
 number_at_place : (n i : ℕ) → i ≡ processor_index n → i < processor_count → processor_number i ≡ n
-number_at_place n i is low = ap processor_number is ∙ number_of_place n (named_below n (omega arith))
+number_at_place n i is low =
+    ap processor_number is ∙ number_of_place n (named_below n (omega arith))
 
 -- at its place
 pub counted_at : {X T : Type 0} (of : RunStep → X) (count : List X → T) (d : T) (counts : List T)
@@ -120,7 +122,7 @@ counted_at {X} {T} of count d counts steps n i are is low =
     ap (λ (ts : List T). get_or ts i d) are ∙ get_or-tabulate processor_count f i d low
     ∙ ap (λ (k : ℕ). count (seen_of of k steps)) (number_at_place n i is low)
 
--- with one step more, of processor n
+-- with one more step, of processor n
 pub counted_more : {X T : Type 0} (of : RunStep → X) (count : List X → T) (d : T) (counts : List T)
     (steps : List RunStep) (step : RunStep) (n i : ℕ) (x : T)
     → counts ≡ each_processor (λ k. count (seen_of of k steps))
@@ -138,7 +140,8 @@ counted_more {X} {T} of count d counts steps step n i x are is within own right 
     after k = count (seen_of of k (steps ++ step ∷ []))
 
     long : length counts ≡ processor_count
-    long = ap length are ∙ length-tabulate processor_count (λ place. before (processor_number place))
+    long =
+        ap length are ∙ length-tabulate processor_count (λ place. before (processor_number place))
 
     by_place : (place : ℕ) → place < processor_count → (place ≡ i) ⊎ (place ≢ i)
         → get_or (set counts i x) place d ≡ after (processor_number place)

@@ -7,7 +7,7 @@ use Rattle.pp_machine.specs.Profile.{processor_in_turn}
 use Rattle.pp_machine.specs.Run.{barrel, run}
 use Rattle.pp_machine.specs.declared.outcome.Outcome.{Outcome}
 
--- a step: the processor whose it is, and the machine before it
+-- a step: its processor, and the machine before it
 pub record RunStep : Type 0 where
   pub processor : ℕ
   pub before : MachineState
@@ -39,7 +39,7 @@ pub record IsMade (step : RunStep) (n : ℕ) (outcome : Outcome) (after : Machin
   pub outcome_is : outcome ≡ outcome_of step
   pub after_is : after ≡ after_step step
 
--- the step of the barrel after this many turns
+-- the step of the barrel after `turns` turns
 abbrev pub barrel_step : MachineState → ℕ → RunStep
 barrel_step m turns = record {
   processor = processor_in_turn m.profile turns;
@@ -51,8 +51,8 @@ abbrev pub MakesEvent : MachineState → ℕ → Type 0
 MakesEvent m turns =
     IsSome (step_event (processor_in_turn m.profile turns) (run (barrel m.profile turns) m))
 
--- A run of so many turns is cut after these where something had to be kept: in front of a step
--- that makes an event, or behind one that is kept itself.
+-- A run of `turns` turns is cut after `done` of them, where something had to be kept: before a step
+-- that makes an event, or after a step that is kept itself.
 abbrev pub IsCutAt : (RunStep → Type 0) → ℕ → MachineState → ℕ → Type 0
 IsCutAt Keeps turns m done =
     ((done < turns) × MakesEvent m done)

@@ -1,4 +1,4 @@
-//! The run.
+//! An observed run.
 
 ghost use Rattle.std.specs.Prelude.{◌≡◌, [], IfErr, OnOk};
 ghost use Rattle.pp_machine.specs.Headline.{HoldsOnEachChannel};
@@ -9,7 +9,7 @@ use crate::observer::Observer;
 use pp_machine::{Cut, Machine, PpNo};
 use std::alloc::Allocator;
 
-/// Runs so many turns of the barrel (decimal), as `Machine::run_barrel` does, and shows each step
+/// Runs `turns` turns of the barrel (decimal), as `Machine::run_barrel` does, and shows each step
 /// to an observer.
 pub fn run_observed<A: Allocator, O: Observer<A>>(
     machine: &mut Machine<A>,
@@ -31,7 +31,7 @@ pub fn run_observed<A: Allocator, O: Observer<A>>(
         observer.new) }
     ensures headline { HoldsOnEachChannel machine.new }
 {
-    // The call says to the proof that the machine is sound.
+    // Reveals to the proof that the machine is sound.
     let _sound = machine.turns();
     let round = machine.profile().processors() as u32;
     for turn in 0..turns {

@@ -22,11 +22,11 @@ pub trait Observer<A: Allocator> {
     // From this state on it has to keep this step, and may lack the memory for it.
     ghost Keeps: { Self → RunStep → Type 0 } = { λ start step. ⊥ };
 
-    /// What the next step of a processor is to be seen by.
+    /// Notes of a machine what seeing the next step of a processor needs.
     fn note(&self, machine: &Machine<A>, n: PpNo) -> Self::Note
         ensures { IsNote result (record { processor = n; before = machine.now }) };
 
-    /// Sees the machine after that step.
+    /// Sees that step, by the machine after it.
     fn see(
         &mut self,
         note: &Self::Note,

@@ -10,8 +10,8 @@ use Rattle.pp_machine.specs.declared.answer.Answer.{Answer}
 use Rattle.pp_machine.specs.declared.need.Need.{Need}
 use Rattle.pp_runner.specs.declared.worker.Worker.{Worker}
 
--- What an answer to a need accessed, where an event, a look or a write has this number: a channel,
--- a word that it read, or one that it wrote.
+-- What an answer to a need accessed, if its event, look or write has this number: a channel, a word
+-- that it read, or one that it wrote.
 abbrev pub accesses_by : ℕ → Need → Answer → List Access
 accesses_by number (Need.Channel channel operation) (Answer.Channel reply) =
     map (λ what. Access.OnChannel (record { channel = channel; number = number; what = what }))
@@ -29,9 +29,9 @@ AreAccessesOf pp (answer ∷ answers) accesses =
     × (accesses ≡ accesses_by number (need pp) answer ++ rest)
     × AreAccessesOf (processor_after pp answer) answers rest
 
--- A worker that began with this processor made these accesses by its answers. They stand in the order
--- of all accesses, in theirs, with others between. Its log has the entries of its accesses to
--- channels, with others between, and stands in that order too.
+-- A worker that began with this processor made these accesses by its answers. They stand in the
+-- order of all accesses, in their own order, with others between. Its log has the entries of its
+-- accesses to channels, with others between, and stands in that order too.
 pub record HasAccessed {A : Type 0} (load : Processor) (order : List Access) (w : Worker A)
     (accesses : List Access) : Type 0 where
   pub given : AreAccessesOf load w.answers.items accesses

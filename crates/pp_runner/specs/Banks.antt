@@ -1,5 +1,5 @@
 -- The banks of central memory under locks: 32 of them with 4,096 words each (decimal), which have
--- room for central memory of any size. (Private contracts alone cite this.)
+-- room for central memory of any size. (Only private contracts cite this.)
 use Rattle.std.specs.Prelude.{◌≡◌, ◌<◌, ◌+◌, ◌*◌, ℕ, List, length, slice_index}
 
 -- The word of this address stands in this bank, at this place: neighbours stand in different banks.

@@ -1,4 +1,4 @@
--- Workers that run at once, with their lines. (Private contracts alone cite this.)
+-- Workers that run at once, with their lines. (Only private contracts cite this.)
 use Rattle.std.specs.Prelude.{◌≡◌, ◌<◌, ◌≤◌, ℕ, List, [], ◌∷◌, All, length}
 use Rattle.pp_line.specs.LineState.{LineState, IsSplitFrom}
 use Rattle.pp_line.specs.LineLog.{seen_on}

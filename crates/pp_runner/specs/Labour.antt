@@ -1,4 +1,4 @@
--- What holds of a worker between any two tries of a step. (Private contracts alone cite this.)
+-- What holds of a worker between any two tries of a step. (Only private contracts cite this.)
 use Rattle.std.specs.Prelude.{◌≡◌, ◌<◌, ◌≤◌, ◌+◌, ◌*◌, ℕ, true, false, not, List, [], ◌∷◌, ◌++◌, length, All, Option, Some, is_some, option_to_list, flat_map}
 use Rattle.pp_channel.specs.Answer.{seen_answered}
 use Rattle.pp_line.specs.ChannelWord.{greatest_number, number_in}
@@ -39,15 +39,15 @@ pub record HasMade (load : Processor) (answers : List Answer) (done : List Entry
   pub logged : IsSubsequence (entries_among accesses) done
   pub written : v.written ≡ writes_among accesses
 
--- Beside central memory of this size, the line has room for this many steps, and made no access.
+-- Beside central memory of this size, the line has room for `steps` steps, and made no access.
 pub record IsUnused (size steps : ℕ) (line : LineState) : Type 0 where
   pub log : line.log ≡ empty_log (2 * steps + 1)
   pub central : length line.view.central ≡ size
   pub written : line.view.written ≡ []
   pub program_orders : line.view.program_orders ≡ [] ∷ []
 
--- The processor is the replay of its answers, and the line's log and accesses tell what that replay
--- did and saw.
+-- The processor is the replay of its answers, and the line's log and accesses record what that
+-- replay did and saw.
 pub record IsAtWork (load : Processor) (size steps : ℕ) (pp : Processor) (answers : List Answer)
     (line : LineState) : Type 0 where
   pub pp_is : pp ≡ replayed load answers
@@ -66,7 +66,7 @@ pub record IsAtWork (load : Processor) (size steps : ℕ) (pp : Processor) (answ
   pub held : line.log.kept ≡ false → WasHeld pp line.log.entries
   pub room : line.log.room + length line.log.entries ≡ 2 * steps + 1
 
--- the log after an answer tells what the answer did or saw, by its number, and nothing else
+-- the log after an answer records what the answer did or saw, by its number, and nothing else
 abbrev pub IsNoted : ℕ → List (OfChannel Seen) → LogState → LogState → Type 0
 IsNoted number [] before after = after ≡ before
 IsNoted number (sight ∷ []) before after =
@@ -79,8 +79,8 @@ pub record HasLooked (before after : LineState) : Type 0 where
   pub program_orders : after.view.program_orders ≡ extended before.view.program_orders more
   pub written : after.view.written ≡ before.view.written
 
--- An answer to a need, and the line before and after it: the log tells what the answer did or saw,
--- and the program orders have grown by some accesses, those of the answer among them.
+-- An answer to a need, and the line before and after it: the log records what the answer did or
+-- saw, and the program orders have grown by some accesses, those of the answer among them.
 pub record IsAnswered (size : ℕ) (needed : Need) (answer : Answer) (before after : LineState)
     : Type 0 where
   pub fits : fits needed answer ≡ true
@@ -95,7 +95,7 @@ pub record IsAnswered (size : ℕ) (needed : Need) (answer : Answer) (before aft
   pub monotone : IsMonotone before.log.entries → IsMonotone after.log.entries
 
 -- What a step's operation on a channel, read or write did to the line: it gave this answer. Without
--- one the line stays, and so it does where central memory has no word at the address.
+-- one the line stays, and so it does if central memory has no word at the address.
 abbrev pub HasActed : Need → LineState → Answer → LineState → Type 0
 HasActed (Need.Channel channel operation) before answer after =
     (numbered : Numbered) × (answer ≡ Answer.Channel numbered.reply)
@@ -106,7 +106,7 @@ HasActed (Need.Write address word) before (Answer.Wrote true) after =
     (number : ℕ) × (after ≡ record before { view = writes before.view address word number })
 HasActed needed before answer after = after ≡ before
 
--- how many operations on channels one try of a step makes
+-- the number of operations on channels that one try of a step makes
 abbrev pub operations : Need → ℕ
 operations (Need.Channel channel operation) = 1
 operations needed = 0
@@ -118,24 +118,25 @@ AreFoundByOne (word ∷ other ∷ []) =
     (other.channel ≡ word.channel) × (number_in word.word < number_in other.word)
 AreFoundByOne words = ⊥
 
--- The line has made so many operations, and has found what each of them finds, one after another.
+-- The line has made `count` operations, and has found what each of them finds, one after another.
 pub record HasOperated (count : ℕ) (before after : LineState) : Type 0 where
   pub finds : List (List FoundWord)
   pub each : All AreFoundByOne finds
   pub number : length finds ≡ count
   pub found : after.view.found ≡ before.view.found ++ flat_map (λ words. words) finds
 
--- Of each channel the line has seen so many events, no more than its word can count.
+-- Of each channel the line has seen at least `happened` events, and its word can count these.
 pub record HasSeen (happened : ℕ → ℕ) (line : LineState) : Type 0 where
   pub countable : (c : ℕ) → happened c ≤ greatest_number
   pub seen : (c : ℕ) → happened c ≤ seen_on c line.view.seen
 
--- No entry of a log is older than so many events of its channel.
+-- No entry of a log is older than `happened` events of its channel.
 abbrev pub NoneOlder : (ℕ → ℕ) → List Entry → Type 0
 NoneOlder happened log = All (λ entry. happened entry.channel ≤ entry.number) log
 
--- The same line, later: it stands at the same channels and central memory, with as many shares and
--- program orders. It has forgotten nothing, and no entry that came is older than what it had seen.
+-- The same line, later: it stands at the same channels and central memory, with the same shares and
+-- number of program orders. It has forgotten nothing, and no entry that came is older than what it
+-- had seen.
 pub record IsSameLine (before after : LineState) : Type 0 where
   pub shares : after.view.shares ≡ before.view.shares
   pub whole : after.view.whole ≡ before.view.whole

@@ -3,7 +3,7 @@ pub mod End
 pub mod WorkerReport
 pub mod Accesses
 pub mod Report
--- cited by private contracts alone: nobody has to read these to believe what the crate promises
+-- cited only by private contracts: nobody has to read these to believe what the crate promises
 pub mod Banks
 pub mod Labour
 pub mod Crew

@@ -1,4 +1,4 @@
--- How long each worker of a run goes on.
+-- How long each worker of a run runs.
 use Rattle.std.specs.Prelude.{ℕ, ◌≤◌}
 
 -- the steps that a worker makes at most, and how often in a row it is held before it gives up

@@ -24,10 +24,10 @@ use Rattle.pp_runner.specs.declared.report.Report.{Report}
 -- profile, in their order, and the channels, whose histories are lawful, keep the law of sessions,
 -- and are what the workers' logs merge to. The workers began when dead start's channels were open:
 -- nothing that one did or saw is older than the opening history of its channel. A worker ended as
--- worn only at a channel whose history has as many events as its word can count. There is one
--- total order of all accesses to channels and to central memory, after what dead start opened: each
--- read in it finds the word that was written last, or the machine's, and each write in it is one
--- that one worker's answers made; the accesses of each worker stand in it in their order, and so does
+-- worn only at a channel whose history has as many events as its word can count. There is one total
+-- order of all accesses to channels and to central memory, after what dead start opened: each read
+-- in it finds the word that was written last, or the machine's, and each write in it is one that
+-- one worker's answers made; the accesses of each worker stand in it in their order, and so does
 -- its log. No report shows how often a worker was held, so the patience is not stated.
 pub record IsReportOf {A : Type 0} (limits : RunLimits) (machine : MachineState) (report : Report A)
     : Type 0 where

@@ -25,8 +25,8 @@ OfEachAnswer P load xs =
 abbrev pub AllMoved : Processor → List Answer → Type 0
 AllMoved load xs = OfEachAnswer (λ pp x. outcome pp x ≡ Moved) load xs
 
--- central memory of this size has no word exactly where the address is at or past its size, and
--- takes one exactly where it is below
+-- central memory of this size has no word exactly if the address is at or past its size, and takes
+-- one exactly if it is below
 abbrev pub IsBySize : ℕ → Need → Answer → Type 0
 IsBySize size (Need.Read address) (Answer.Read word) = IsNone word ↔ (size ≤ address)
 IsBySize size (Need.Write address word) (Answer.Wrote written) = IsTrue written ↔ (address < size)
@@ -35,7 +35,7 @@ IsBySize size needed answer = Unit {0}
 abbrev pub AllBySize : ℕ → Processor → List Answer → Type 0
 AllBySize size load xs = OfEachAnswer (λ pp x. IsBySize size (need pp) x) load xs
 
--- the event of an entry, with its channel, and none where it is a look
+-- the event of an entry, with its channel, and none if it is a look
 abbrev pub event_in : ℕ → Seen → Option (OfChannel Event)
 event_in channel (Seen.Did e) = Some (record { channel = channel; what = e })
 event_in channel (Seen.Saw f) = None
@@ -48,8 +48,8 @@ events_in log = filter_map (λ entry. event_in entry.channel entry.what) log
 abbrev pub sights_in : List Entry → List (OfChannel Seen)
 sights_in log = map (λ entry. record { channel = entry.channel; what = entry.what }) log
 
--- A worker that began with this processor, beside central memory of this size, and was to make this
--- many steps at most: it leaves the replay of its answers; this log records what that did and saw.
+-- A worker that began with this processor, beside central memory of this size, and was to make at
+-- most `steps` steps: it leaves the replay of its answers; this log records what that did and saw.
 pub record IsLoggedWorker {A : Type 0} (load : Processor) (size steps : ℕ) (log : List Entry)
     (w : Worker A) : Type 0 where
   pub pp : w.pp ≡ replayed load w.answers.items

@@ -9,10 +9,10 @@ use pp_word::{Word18, Word60};
 use std::alloc::Allocator;
 use std::marker::Model;
 
-/// How many banks there are (decimal). The low five bits of an address choose one.
+/// The number of banks (decimal). The low five bits of an address choose one.
 pub const BANKS: usize = 32;
 
-/// How many words a bank has (decimal), whatever the size of central memory.
+/// The number of words in a bank (decimal), whatever the size of central memory.
 const BANK_WORDS: usize = 4096;
 
 /// Where a word of central memory stands: in which bank, and at which place there.
@@ -44,8 +44,8 @@ impl Location {
     }
 }
 
-/// How many numbers a bank has beside its words: with its lock it takes 128 bytes at least, so that
-/// no two banks share a cache line.
+/// The length of a bank's padding: with its lock a bank takes at least 128 bytes, so that no two
+/// banks share a cache line.
 const APART: usize = 12;
 
 /// One bank. Contracts see the list of its words, by place.

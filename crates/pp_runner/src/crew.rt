@@ -41,7 +41,7 @@ impl<A: Allocator> Promise<Ended<A>> for EndOf<A> {
         ended.line };
 }
 
-/// A worker after the others.
+/// Adds a worker after the others.
 fn combined<A: Allocator>(others: Crew<A>, last: Ended<A>) -> Result<Crew<A>, RunFault>
     ensures workers { IfOk result (λ crew. crew.workers.items
         ≡ others.workers.items ++ last.worker ∷ []) }
@@ -57,8 +57,8 @@ fn combined<A: Allocator>(others: Crew<A>, last: Ended<A>) -> Result<Crew<A>, Ru
     Ok(Crew { workers, lines })
 }
 
-/// The workers of the barrel's first processors, one on each line, at once. The first works in this
-/// thread.
+/// Runs the workers of the barrel's first processors at once, one on each line. The first works in
+/// this thread.
 #[cycle(crew)]
 pub fn run_first<R: Threads + Wait + Sync, G: Gate + Sync, A: Allocator + Copy + Send + Sync>(
     rt: &R,
@@ -89,7 +89,7 @@ pub fn run_first<R: Threads + Wait + Sync, G: Gate + Sync, A: Allocator + Copy +
     combined(nobody, first)
 }
 
-/// The worker on the last line in a thread of its own, beside those before it.
+/// Runs the worker on the last line in a thread of its own, beside those before it.
 #[cycle(crew)]
 fn beside<R: Threads + Wait + Sync, G: Gate + Sync, A: Allocator + Copy + Send + Sync>(
     rt: &R,

@@ -68,7 +68,7 @@ fn ask<A: Allocator + Copy>(line: &mut Line<A>, needed: Need) -> Result<Answer, 
 }
 
 impl<A: Allocator + Copy> Labour<A> {
-    /// The answer moved the processor: a look that gave it stays in the log.
+    /// Notes that the answer moved the processor: a look that gave it stays in the log.
     fn note(&mut self, answer: Answer)
         requires { vec_len self.old.answers < vec_capacity self.old.answers }
         ensures items { self.new.answers.items ≡ self.old.answers.items ++ (answer ∷ []) }
@@ -224,7 +224,7 @@ pub fn work<G: Gate, A: Allocator + Copy>(
     ensures patience { result.worker.finish ≡ End.Patience
         → length line.view.found + site.now.limits.patience ≤ length result.line.view.found }
 {
-    // This call tells the proof that the patience has 32 bits, so that tries can be counted.
+    // Reveals to the proof that the patience has 32 bits, so that tries can be counted.
     let _patience = site.limits.patience();
     let mut labour = Labour {
         number,

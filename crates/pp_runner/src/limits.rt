@@ -1,4 +1,4 @@
-//! How long each worker goes on.
+//! How long each worker runs.
 
 ghost use Rattle.std.specs.Prelude.{◌≡◌, ◌↔◌, IsSome, IfSome};
 ghost use Rattle.pp_runner.specs.Limits.{RunLimits, AreLimits};

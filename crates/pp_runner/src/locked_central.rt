@@ -11,8 +11,8 @@ use std::alloc::Allocator;
 use std::marker::Model;
 use std::sync::{Mutex, Wait};
 
-/// Central memory in banks, a lock each. Contracts see its size alone: what a word is, other
-/// threads may change at any time.
+/// Central memory in banks, a lock each. Contracts see only its size: other threads may change its
+/// words at any time.
 #[derive(Drop)]
 pub struct LockedCentral<A: Allocator> {
     banks: Vec<Mutex<Bank<A>>, A>,
@@ -66,7 +66,7 @@ impl<A: Allocator> LockedCentral<A> {
         Some(self.banks[found.bank].lock(rt).get(found.place))
     }
 
-    /// Writes the word at an address; at or past the size it answers false, and writes nothing.
+    /// Writes the word at an address; at or past the size it returns false, and writes nothing.
     pub fn write(&self, rt: &impl Wait, a: Word18, w: Word60) -> bool
         ensures { IsTrue result ↔ (a < self.now) }
     {
@@ -77,7 +77,7 @@ impl<A: Allocator> LockedCentral<A> {
         true
     }
 
-    /// How many words it has (decimal).
+    /// The number of its words (decimal).
     pub fn size(&self) -> u32
         ensures { result ≡ self.now }
     {

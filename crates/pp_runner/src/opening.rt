@@ -13,7 +13,7 @@ use pp_line::{Line, open_lines_beside};
 use pp_machine::Machine;
 use std::alloc::Allocator;
 
-/// The first line of a family of so many shares. It holds them all, and has opened the channels
+/// The first line of a family of `shares` shares. It holds them all, and has opened the channels
 /// that dead start opened, and seen that: its log has an Activate for each, and no other event. The
 /// words of central memory are those of the machine.
 pub fn opening_line<A: Allocator + Copy>(
@@ -31,7 +31,7 @@ pub fn opening_line<A: Allocator + Copy>(
     ensures no_write { IfOk result (λ line. line.view.written ≡ []) }
     ensures central { IfOk result (λ line. line.view.central ≡ machine.now.central) }
 {
-    // This call tells the proof what holds of every machine.
+    // Reveals to the proof what holds of every machine.
     let _turns = machine.turns();
     let mut line = open_lines_beside(alloc, CHANNELS as u32, shares, machine.central().words())?;
     for place in 0..CHANNELS {
@@ -57,7 +57,7 @@ fn activate<A: Allocator + Copy>(line: &mut Line<A>, channel: ChannelNo)
     ensures no_write { line.new.view.written ≡ line.old.view.written }
     ensures central { line.new.view.central ≡ line.old.view.central }
 {
-    // The call says to the proof where the channel stands among the twelve.
+    // Reveals to the proof the channel's place among all channels.
     let _index = channel.index();
     let Ok(_done) = line.act(channel, ChanOp::Activate) else {
         unreachable!()

@@ -8,7 +8,7 @@ use thiserror::Error;
 /// Why a run left no report.
 #[derive(Clone, Copy, Debug, PartialEq, Eq, Error)]
 pub enum RunFault {
-    /// A growth was refused, or the system could not start a worker.
+    /// An allocation was refused, or the system could not start a worker.
     #[error("out of memory")]
     Memory = 1,
 }

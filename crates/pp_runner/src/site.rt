@@ -8,7 +8,7 @@ use std::alloc::Allocator;
 #[derive(Drop)]
 pub struct Site<A: Allocator> {
     pub alloc: A,
-    /// How many words central memory has (decimal).
+    /// The number of words of central memory (decimal).
     pub size: u32,
     pub limits: Limits,
     /// How each worker begins to spin.

@@ -1,4 +1,4 @@
-//! How long a held worker spins before it gives its core away.
+//! How long a held worker spins before it yields its core.
 
 ghost use Rattle.std.specs.Prelude.{◌≡◌, ◌⊎◌, ◌<◌, ◌≤◌, ◌+◌, ◌*◌, ◌/◌, max, min};
 ghost use Rattle.pp_runner.specs.declared.spinning.TheConstants.{LEAST, LONG_WAIT, MOST};
@@ -6,27 +6,27 @@ ghost use Rattle.pp_runner.specs.declared.spinning.TheConstants.{LEAST, LONG_WAI
 use std::thread::Threads;
 use std::{hint, thread};
 
-/// After how many tries in vain a worker gives its core away at first, and at most (decimal).
+/// The failed tries after which a worker yields its core at first, and at most (decimal).
 const MOST: u32 = 16_384;
 
-/// After how many it does at least (decimal).
+/// The fewest failed tries after which it does (decimal).
 const LEAST: u32 = 32;
 
-/// How often a worker gives its core away in one step before it spins as long as at first again,
-/// from the next time on (decimal): what has waited for so long need not be quick, and each time
-/// costs a busy machine's time slice.
+/// How often a worker yields its core in one step before it spins as long as at first again, from
+/// the next time on (decimal): a step that has waited so long need not be quick, and each yield
+/// costs a time slice of a busy machine.
 const LONG_WAIT: u32 = 1_024;
 
-/// After how many tries in vain a worker gives its core away, which it adapts by itself: half as
-/// many after each time, since the processor that it waits for may have no core, twice as many
-/// where fewer were enough, and as many as at first where a step has long been held.
+/// The number of failed tries after which a worker yields its core. It adapts: half as many after
+/// each yield, since the processor that it waits for may have no core, twice as many if fewer were
+/// enough, and as many as at first if a step has long been held.
 #[derive(Clone, Copy)]
 pub struct Spinning {
     most: u32,
     tries: u32,
-    /// Tries in vain in this step, since the core was last given away.
+    /// Failed tries in this step, since the core was last yielded.
     in_vain: u32,
-    /// How often the core was given away in this step, as far as that is counted.
+    /// How often the core was yielded in this step, as far as that is counted.
     yields: u32,
     ghost at_most: { tries ≤ most },
     ghost at_least: { min most LEAST ≤ tries },
@@ -36,7 +36,7 @@ pub struct Spinning {
 
 impl Spinning {
     /// How each worker of a run begins: with the greatest number of tries. If the system lets the
-    /// program run on one core alone, the core is given away after each try in vain.
+    /// program run on only one core, the core is yielded after each failed try.
     pub fn of_run<R: Threads>(rt: &R) -> Self
         ensures most { (result.most ≡ 1) ⊎ (result.most ≡ MOST) }
         ensures tries { result.tries ≡ result.most }
@@ -60,7 +60,7 @@ impl Spinning {
         }
     }
 
-    /// What a worker does after a try in vain.
+    /// What a worker does after a failed try.
     pub fn wait(&mut self)
         ensures most { self.new.most ≡ self.old.most }
         ensures spun { self.old.in_vain + 1 < self.old.tries
@@ -90,7 +90,7 @@ impl Spinning {
         }
     }
 
-    /// The step that was tried has moved the processor.
+    /// Notes that the step that was tried has moved the processor.
     pub fn moved(&mut self)
         ensures most { self.new.most ≡ self.old.most }
         ensures next_step { (self.new.in_vain ≡ 0) × (self.new.yields ≡ 0) }

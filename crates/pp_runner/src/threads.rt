@@ -26,8 +26,7 @@ use std::sync::Wait;
 use std::thread::Threads;
 
 /// The line that opened the channels of the machine, beside the words of its central memory, and a
-/// line for each processor that was split from it. The first belongs to no processor, and keeps a
-/// share.
+/// line for each processor, split from it. The first belongs to no processor, and keeps a share.
 fn open_family<A: Allocator + Copy>(
     alloc: A,
     machine: &Machine<A>,
@@ -59,9 +58,9 @@ fn open_family<A: Allocator + Copy>(
 /// new channels and a copy of central memory. The machine stays as it is. No step of it has made a
 /// channel event.
 ///
-/// A worker goes on until its processor is at rest, until it has made the steps of the limit, or
-/// until it is held at one step as often in a row as its patience allows. `Memory` is answered
-/// where a growth outside the workers' steps was refused, or the system could not start a worker.
+/// A worker runs until its processor is at rest, until it has made the steps of the limit, or until
+/// it is held at one step as often in a row as its patience allows. `Memory` is returned if an
+/// allocation outside the workers' steps was refused, or the system could not start a worker.
 pub fn run_threads<R: Threads + Wait + Sync, G: Gate + Sync, A: Allocator + Copy + Send + Sync>(
     rt: &R,
     alloc: A,
@@ -72,7 +71,7 @@ pub fn run_threads<R: Threads + Wait + Sync, G: Gate + Sync, A: Allocator + Copy
     requires { machine.now.trace ≡ [] }
     ensures { IfOk result (λ report. IsReportOf limits machine.now report) }
 {
-    // This call tells the proof what holds of every machine.
+    // Reveals to the proof what holds of every machine.
     let _turns = machine.turns();
     let site = Site {
         alloc,

@@ -35,7 +35,7 @@ pub fn with_logs<A: Allocator>(
     workers
 }
 
-/// The worker at a place has this log.
+/// Gives the worker at a place this log.
 fn put_log<A: Allocator>(workers: &mut Vec<Worker<A>, A>, place: usize, log: Vec<Entry, A>)
     requires { place < length workers.old.items }
     ensures { (w : Worker A) → slice_get workers.old.items place ≡ Some w

@@ -43,12 +43,12 @@ none_mapped : (events : List TimedEvent) → events_in events ≡ [] → events 
 none_mapped [] is = refl
 none_mapped (e ∷ events) is = absurd (cc)
 
-pub lines_of_none : (m : MachineState) (c : ℕ) (h : List Event) → h ≡ [] → h ≡ opening_history c m ++ events_on c m.trace → channel_lines m c ≡ []
+pub lines_of_none : (w : Bool) (m : MachineState) (c : ℕ) (h : List Event) → h ≡ [] → h ≡ opening_history c m ++ events_on c m.trace → channel_lines w m c ≡ []
 unfolding channel_lines
-lines_of_none m c h none is =
-    ap (λ (events : List TimedEvent). cond (names_channel c) (lines_from c 1 (stretches events)) []) (none_mapped (timed_events c m) (timed_history c m ∙ sym is ∙ none))
-    ∙ ap (λ (parts : List (List TimedEvent)). cond (names_channel c) (lines_from c 1 parts) []) (cut-nil are_parted)
-    ∙ ap (λ (text : List ℕ). cond (names_channel c) text []) (no_lines c 1)
+lines_of_none w m c h none is =
+    ap (λ (events : List TimedEvent). cond (names_channel c) (lines_from w c 1 (stretches events)) []) (none_mapped (timed_events c m) (timed_history c m ∙ sym is ∙ none))
+    ∙ ap (λ (parts : List (List TimedEvent)). cond (names_channel c) (lines_from w c 1 parts) []) (cut-nil are_parted)
+    ∙ ap (λ (text : List ℕ). cond (names_channel c) text []) (no_lines w c 1)
     ∙ either (names_channel c)
   where
     either : (b : Bool) → cond b (let text : List ℕ = [] in text) [] ≡ []

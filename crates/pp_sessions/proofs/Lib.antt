@@ -2,6 +2,7 @@ mod TallyLemmas
 mod LineLemmas
 mod CutLemmas
 mod TakeInLemmas
+mod WordLemmas
 mod HistoryLemmas
 mod CountLemmas
 mod CourseLemmas

@@ -2,7 +2,7 @@
 use Rattle.std.proofs.Common.{◌≡◌, ℕ, ◌+◌, Bool, true, false, ◌||◌, cond, List, [], ◌∷◌, ◌++◌, length, map, Option, Some, None, refl, sym, ap, subst, ◌∙◌, append_assoc, arith}
 use Rattle.std.specs.Prelude.{count_by}
 use Rattle.std.specs.Option.{option_to_list}
-use Rattle.std.specs.List.{after_last, flat_map, last_or}
+use Rattle.std.specs.List.{after_last, cons_option, filter_map, flat_map, last_or}
 use Rattle.std.proofs.lemmas.List.{append-nil, length-append, length-map}
 use Rattle.std.proofs.lemmas.List.Elements.{filter_map-append}
 use Rattle.std.proofs.lemmas.List.Sums.{sum_by-cons}
@@ -13,8 +13,8 @@ use Rattle.pp_channel.specs.declared.event.Event.TheVariants.{Activate, Disconne
 use Rattle.list_facts.specs.LastElements.{after_last-found, after_last-push}
 use Rattle.pp_sessions.specs.OpenStretch.{IsUncut}
 use Rattle.pp_sessions.specs.SessionsLaw.{TellsIdle, TellsSession, idle_part, session_events, stretches_of, whole_parts}
-use Rattle.pp_sessions.specs.SessionsText.{lines_from, next_number, stretch_line}
-use Rattle.pp_sessions.specs.Stretches.{is_session, begins_session, cut_between, ends_session, is_over, is_take, stretches, tally_of, untaken}
+use Rattle.pp_sessions.specs.SessionsText.{lines_from, next_number, stretch_text}
+use Rattle.pp_sessions.specs.Stretches.{is_session, begins_session, cut_between, ends_session, is_over, is_take, stretches, tally_of, untaken, word_of, words_in}
 use Rattle.pp_sessions.specs.TimedEvents.{events_in}
 use Rattle.pp_sessions.specs.declared.moment.TimedEvent.{TimedEvent}
 use Rattle.pp_sessions.proofs.CourseLemmas.{BeginsSession, begins_with_session, course_parts, lone_word, passed_words, sessions_on, whole_then}
@@ -216,20 +216,43 @@ idle_told (code ∷ codes) first others are =
       functions = ap length are ∙ length-map (code ∷ codes) (λ (k : ℕ). Function k);
     }
 
+-- ---- the words of a stretch
+
+of_events : (events : List TimedEvent) → words_in events ≡ filter_map word_of (events_in events)
+of_events [] = refl
+of_events (e ∷ events) = ap (cons_option (word_of e.event)) (of_events events)
+
+all_words : (passed : List ℕ) (lone : Option ℕ) (ended : Bool) → filter_map word_of ((passed_words passed ++ lone_word lone) ++ cond ended (Disconnect ∷ []) []) ≡ passed ++ option_to_list lone
+all_words [] None true = refl
+all_words [] None false = refl
+all_words [] (Some w) true = refl
+all_words [] (Some w) false = refl
+all_words (w ∷ passed) lone ended = ap (λ (ws : List ℕ). w ∷ ws) (all_words passed lone ended)
+
+pub session_words : (s : Session) (ended : Bool) (events : List TimedEvent) → events_in events ≡ session_events s ended → words_in events ≡ s.passed ++ option_to_list s.lone
+session_words s ended events are = of_events events ∙ ap (filter_map word_of) are ∙ all_words s.passed s.lone ended
+
+all_codes : (codes : List ℕ) → filter_map word_of (idle_stretch codes) ≡ codes
+all_codes [] = refl
+all_codes (code ∷ codes) = ap (λ (ws : List ℕ). code ∷ ws) (all_codes codes)
+
+pub idle_words : (codes : List ℕ) (events : List TimedEvent) → events_in events ≡ idle_stretch codes → words_in events ≡ codes
+idle_words codes events are = of_events events ∙ ap (filter_map word_of) are ∙ all_codes codes
+
 -- ---- the numbers of sessions
 
-numbered_from : (c number : ℕ) (before after : List (List TimedEvent)) → lines_from c number (before ++ after) ≡ lines_from c number before ++ lines_from c (number + count_by is_session before) after
+numbered_from : (w : Bool) (c number : ℕ) (before after : List (List TimedEvent)) → lines_from w c number (before ++ after) ≡ lines_from w c number before ++ lines_from w c (number + count_by is_session before) after
 unfolding lines_from
-numbered_from c number [] after = let same : number ≡ number + 0 = omega arith in ap (λ (k : ℕ). lines_from c k after) same
-numbered_from c number (stretch ∷ before) after =
-    let others = lines_from c (next_number number stretch) before in
-    ap (λ (text : List ℕ). stretch_line c number stretch ++ text) (numbered_from c (next_number number stretch) before after)
-    ∙ sym (append_assoc (stretch_line c number stretch) others (lines_from c (next_number number stretch + count_by is_session before) after))
-    ∙ ap (λ (k : ℕ). (stretch_line c number stretch ++ others) ++ lines_from c k after) (one_more (is_session stretch) (sum_by-cons (λ (s : List TimedEvent). cond (is_session s) 1 0) stretch before))
+numbered_from w c number [] after = let same : number ≡ number + 0 = omega arith in ap (λ (k : ℕ). lines_from w c k after) same
+numbered_from w c number (stretch ∷ before) after =
+    let others = lines_from w c (next_number number stretch) before in
+    ap (λ (text : List ℕ). stretch_text w c number stretch ++ text) (numbered_from w c (next_number number stretch) before after)
+    ∙ sym (append_assoc (stretch_text w c number stretch) others (lines_from w c (next_number number stretch + count_by is_session before) after))
+    ∙ ap (λ (k : ℕ). (stretch_text w c number stretch ++ others) ++ lines_from w c k after) (one_more (is_session stretch) (sum_by-cons (λ (s : List TimedEvent). cond (is_session s) 1 0) stretch before))
   where
     one_more : (b : Bool) {total : ℕ} → total ≡ cond b 1 0 + count_by is_session before → cond b (number + 1) number + count_by is_session before ≡ number + total
     one_more true all = omega (arith, all)
     one_more false all = omega (arith, all)
 
-pub numbered : (c : ℕ) (before after : List (List TimedEvent)) → lines_from c 1 (before ++ after) ≡ lines_from c 1 before ++ lines_from c (1 + count_by is_session before) after
-numbered c before after = numbered_from c 1 before after
+pub numbered : (w : Bool) (c : ℕ) (before after : List (List TimedEvent)) → lines_from w c 1 (before ++ after) ≡ lines_from w c 1 before ++ lines_from w c (1 + count_by is_session before) after
+numbered w c before after = numbered_from w c 1 before after

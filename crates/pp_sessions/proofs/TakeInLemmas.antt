@@ -1,16 +1,16 @@
 -- The lines of a channel, event by event.
-use Rattle.std.proofs.Common.{◌≡◌, ℕ, ◌+◌, ◌<◌, ◌≤◌, Bool, true, false, ◌||◌, cond, eqb, List, [], ◌∷◌, ◌++◌, length, take, get_or, Option, None, Some, refl, sym, ap, subst, ◌∙◌, append_assoc, arith}
+use Rattle.std.proofs.Common.{◌≡◌, ◌≢◌, ℕ, zero, suc, ◌+◌, ◌-◌, ◌<◌, ◌≤◌, Bool, true, false, ◌||◌, cond, eqb, List, [], ◌∷◌, ◌++◌, length, drop, take, get_or, Option, None, Some, refl, sym, ap, subst, ◌∙◌, append_assoc, arith}
 use Rattle.std.specs.Prelude.{IfSome}
 use Rattle.std.specs.List.{cons_option}
-use Rattle.std.proofs.lemmas.Bool.{eq-eqb}
-use Rattle.std.proofs.lemmas.List.{append-nil, take_more}
+use Rattle.std.proofs.lemmas.Bool.{eq-eqb, ne_eqb}
+use Rattle.std.proofs.lemmas.List.{append-nil, length-drop, take_all, take_more}
 use Rattle.std.proofs.lemmas.List.Elements.{filter_map-append}
 use Rattle.pp_channel.specs.declared.event.Event.TheVariants.{Activate}
 use Rattle.pp_machine.specs.MachineState.{MachineState, is_opened}
 use Rattle.pp_machine.specs.declared.trace.Trace.{Trace}
-use Rattle.pp_sessions.specs.OpenStretch.{CountsAtMost, HasAtMost, IsOpen, IsUncut, TakesIn}
-use Rattle.pp_sessions.specs.SessionsText.{lines_from, next_number, stretch_line, tally_line}
-use Rattle.pp_sessions.specs.Stretches.{are_parted, begins_session, ends_session, stretches, tally_of}
+use Rattle.pp_sessions.specs.OpenStretch.{CountsAtMost, HasAtMost, IsOpen, IsUncut, Open, TakesIn, open_at}
+use Rattle.pp_sessions.specs.SessionsText.{lines_from, next_number, stretch_text, line_and_words}
+use Rattle.pp_sessions.specs.Stretches.{are_parted, begins_session, ends_session, stretches, tally_of, word_of, words_in}
 use Rattle.pp_sessions.specs.TimedEvents.{opening_events, timed_event, timed_on}
 use Rattle.pp_sessions.specs.declared.moment.Moment.TheVariants.{DeadStart}
 use Rattle.pp_sessions.specs.declared.moment.TimedEvent.{TimedEvent}
@@ -20,27 +20,28 @@ use Rattle.pp_sessions.proofs.CutLemmas.{cut-append, cut-nil, last_in, uncut-pus
 
 -- ---- the stretch that is open
 
-none_open : (o : Option Tally) (stretch : List TimedEvent) → o ≡ None → IsOpen o stretch → stretch ≡ []
-none_open None [] e is = refl
-none_open None (first ∷ others) e is = absurd is
-none_open (Some told) stretch e is = absurd (cc)
+none_open : (o : Option Tally) (words : List ℕ) (stretch : List TimedEvent) → o ≡ None → IsOpen o words stretch → stretch ≡ []
+none_open None words [] e is = refl
+none_open None words (first ∷ others) e is = absurd is
+none_open (Some told) words stretch e is = absurd (cc)
 
-record IsStretch (told : Tally) (stretch : List TimedEvent) : Type 0 where
+record IsStretch (told : Tally) (words : List ℕ) (stretch : List TimedEvent) : Type 0 where
   first : TimedEvent
   others : List TimedEvent
   is_stretch : stretch ≡ first ∷ others
   is_told : told ≡ tally_of first others
+  has_words : words ≡ words_in (first ∷ others)
   uncut : IsUncut are_parted first others
 
-some_open : (o : Option Tally) (told : Tally) (stretch : List TimedEvent) → o ≡ Some told → IsOpen o stretch → IsStretch told stretch
-some_open None told stretch e is = absurd (cc)
-some_open (Some other) told [] e is = absurd is
-some_open (Some other) told (first ∷ others) e is =
+some_open : (o : Option Tally) (told : Tally) (words : List ℕ) (stretch : List TimedEvent) → o ≡ Some told → IsOpen o words stretch → IsStretch told words stretch
+some_open None told words stretch e is = absurd (cc)
+some_open (Some other) told words [] e is = absurd is
+some_open (Some other) told words (first ∷ others) e (is, has, uncut) =
     let same : told ≡ other = cc in
-    record { first = first; others = others; is_stretch = refl; is_told = same ∙ is.0; uncut = is.1 }
+    record { first = first; others = others; is_stretch = refl; is_told = same ∙ is; has_words = has; uncut = uncut }
 
-pub open_again : (o : Option Tally) (told : Tally) (first : TimedEvent) (others : List TimedEvent) → o ≡ Some told → told ≡ tally_of first others → IsUncut are_parted first others → IsOpen o (first ∷ others)
-open_again o told first others is told_is uncut = subst (λ (x : Option Tally). IsOpen x (first ∷ others)) (sym is) (told_is, uncut)
+pub open_again : (o : Option Tally) (words : List ℕ) (told : Tally) (first : TimedEvent) (others : List TimedEvent) → o ≡ Some told → told ≡ tally_of first others → words ≡ words_in (first ∷ others) → IsUncut are_parted first others → IsOpen o words (first ∷ others)
+open_again o words told first others is told_is has uncut = subst (λ (x : Option Tally). IsOpen x words (first ∷ others)) (sym is) (told_is, has, uncut)
 
 tells_session : (first : TimedEvent) (others : List TimedEvent) → (tally_of first others).is_session ≡ begins_session first.event
 unfolding tally_of
@@ -55,103 +56,110 @@ parted_by told first others e b is over = ap (λ (x : Bool). x || begins_session
 
 -- ---- lines
 
-lines_more : (c number : ℕ) (stretch : List TimedEvent) (others : List (List TimedEvent)) → lines_from c number (stretch ∷ others) ≡ stretch_line c number stretch ++ lines_from c (next_number number stretch) others
+lines_more : (w : Bool) (c number : ℕ) (stretch : List TimedEvent) (others : List (List TimedEvent)) → lines_from w c number (stretch ∷ others) ≡ stretch_text w c number stretch ++ lines_from w c (next_number number stretch) others
 unfolding lines_from
-lines_more c number stretch others = refl
+lines_more w c number stretch others = refl
 
-pub no_lines : (c number : ℕ) → lines_from c number [] ≡ []
+pub no_lines : (w : Bool) (c number : ℕ) → lines_from w c number [] ≡ []
 unfolding lines_from
-no_lines c number = refl
+no_lines w c number = refl
+
+-- the words with those of more events
+pub words_more : (events more : List TimedEvent) → words_in (events ++ more) ≡ words_in events ++ words_in more
+words_more events more = filter_map-append (λ (e : TimedEvent). word_of e.event) events more
 
 -- ---- an event comes
 
-pub takes_first : (c : ℕ) (old new : OpenStretch) (e : TimedEvent) (told : Tally) → old.tally ≡ None → new.number ≡ old.number → new.tally ≡ Some told → told ≡ tally_of e [] → TakesIn c old (e ∷ []) [] new
-takes_first c old new e told none number is told_is = λ stretch is_open. (
+pub takes_first : (w : Bool) (c : ℕ) (old new : Open) (e : TimedEvent) (told : Tally) → old.tally ≡ None → new.number ≡ old.number → new.tally ≡ Some told → told ≡ tally_of e [] → new.words ≡ words_in (e ∷ []) → TakesIn w c old (e ∷ []) [] new
+takes_first w c old new e told none number is told_is has = λ stretch is_open. (
   e ∷ [],
-  open_again new.tally told e [] is told_is tt,
+  open_again new.tally new.words told e [] is told_is has tt,
   λ rest.
-      ap (λ (es : List TimedEvent). lines_from c old.number (stretches (es ++ (e ∷ rest)))) (none_open old.tally stretch none is_open)
-      ∙ ap (λ (k : ℕ). lines_from c k (stretches (e ∷ rest))) (sym number),
+      ap (λ (es : List TimedEvent). lines_from w c old.number (stretches (es ++ (e ∷ rest)))) (none_open old.tally old.words stretch none is_open)
+      ∙ ap (λ (k : ℕ). lines_from w c k (stretches (e ∷ rest))) (sym number),
 )
 
-pub takes_more : (c : ℕ) (old new : OpenStretch) (e : TimedEvent) (told more : Tally) → old.tally ≡ Some told → (told.has_ended || begins_session e.event) ≡ false → new.number ≡ old.number → new.tally ≡ Some more
-    → ((first : TimedEvent) (others : List TimedEvent) → told ≡ tally_of first others → more ≡ tally_of first (others ++ e ∷ [])) → TakesIn c old (e ∷ []) [] new
-takes_more c old new e told more was on number is tells = λ stretch is_open.
-    let s = some_open old.tally told stretch was is_open in (
+pub takes_more : (w : Bool) (c : ℕ) (old new : Open) (e : TimedEvent) (told more : Tally) → old.tally ≡ Some told → (told.has_ended || begins_session e.event) ≡ false → new.number ≡ old.number → new.tally ≡ Some more
+    → ((first : TimedEvent) (others : List TimedEvent) → told ≡ tally_of first others → more ≡ tally_of first (others ++ e ∷ [])) → new.words ≡ old.words ++ words_in (e ∷ []) → TakesIn w c old (e ∷ []) [] new
+takes_more w c old new e told more was on number is tells has = λ stretch is_open.
+    let s = some_open old.tally told old.words stretch was is_open in (
       (s.first ∷ s.others) ++ e ∷ [],
-      open_again new.tally more s.first (s.others ++ e ∷ []) is (tells s.first s.others s.is_told) (uncut-push are_parted s.first s.others e s.uncut (parted_by told s.first s.others e false s.is_told on)),
+      open_again new.tally new.words more s.first (s.others ++ e ∷ []) is (tells s.first s.others s.is_told)
+          (has ∙ ap (λ (ws : List ℕ). ws ++ words_in (e ∷ [])) s.has_words ∙ sym (words_more (s.first ∷ s.others) (e ∷ []))) (uncut-push are_parted s.first s.others e s.uncut (parted_by told s.first s.others e false s.is_told on)),
       λ rest.
-          ap (λ (es : List TimedEvent). lines_from c old.number (stretches (es ++ (e ∷ rest)))) s.is_stretch
-          ∙ ap (λ (es : List TimedEvent). lines_from c old.number (stretches es)) (sym (append_assoc (s.first ∷ s.others) (e ∷ []) rest))
-          ∙ ap (λ (k : ℕ). lines_from c k (stretches (((s.first ∷ s.others) ++ e ∷ []) ++ rest))) (sym number),
+          ap (λ (es : List TimedEvent). lines_from w c old.number (stretches (es ++ (e ∷ rest)))) s.is_stretch
+          ∙ ap (λ (es : List TimedEvent). lines_from w c old.number (stretches es)) (sym (append_assoc (s.first ∷ s.others) (e ∷ []) rest))
+          ∙ ap (λ (k : ℕ). lines_from w c k (stretches (((s.first ∷ s.others) ++ e ∷ []) ++ rest))) (sym number),
     )
 
-pub takes_next : (c : ℕ) (old new : OpenStretch) (e : TimedEvent) (told next : Tally) → old.tally ≡ Some told → (told.has_ended || begins_session e.event) ≡ true → new.number ≡ cond told.is_session (old.number + 1) old.number → new.tally ≡ Some next
-    → next ≡ tally_of e [] → TakesIn c old (e ∷ []) (tally_line c old.number told) new
-takes_next c old new e told next was over number is next_is = λ stretch is_open.
-    let s = some_open old.tally told stretch was is_open in (
+pub takes_next : (w : Bool) (c : ℕ) (old new : Open) (e : TimedEvent) (told next : Tally) → old.tally ≡ Some told → (told.has_ended || begins_session e.event) ≡ true → new.number ≡ cond told.is_session (old.number + 1) old.number → new.tally ≡ Some next
+    → next ≡ tally_of e [] → new.words ≡ words_in (e ∷ []) → TakesIn w c old (e ∷ []) (line_and_words w c old.number told old.words) new
+takes_next w c old new e told next was over number is next_is has = λ stretch is_open.
+    let s = some_open old.tally told old.words stretch was is_open in (
       e ∷ [],
-      open_again new.tally next e [] is next_is tt,
+      open_again new.tally new.words next e [] is next_is has tt,
       λ rest.
-          ap (λ (es : List TimedEvent). lines_from c old.number (stretches (es ++ (e ∷ rest)))) s.is_stretch
-          ∙ ap (lines_from c old.number) (cut-append are_parted s.first s.others (e ∷ rest) s.uncut (parted_by told s.first s.others e true s.is_told over))
-          ∙ lines_more c old.number (s.first ∷ s.others) (stretches (e ∷ rest))
-          ∙ ap (λ (t : Tally). tally_line c old.number t ++ lines_from c (cond (begins_session s.first.event) (old.number + 1) old.number) (stretches (e ∷ rest))) (sym s.is_told)
-          ∙ ap (λ (b : Bool). tally_line c old.number told ++ lines_from c (cond b (old.number + 1) old.number) (stretches (e ∷ rest))) (sym (tells_session s.first s.others) ∙ sym (ap (λ (t : Tally). t.is_session) s.is_told))
-          ∙ ap (λ (k : ℕ). tally_line c old.number told ++ lines_from c k (stretches (e ∷ rest))) (sym number),
+          ap (λ (es : List TimedEvent). lines_from w c old.number (stretches (es ++ (e ∷ rest)))) s.is_stretch
+          ∙ ap (lines_from w c old.number) (cut-append are_parted s.first s.others (e ∷ rest) s.uncut (parted_by told s.first s.others e true s.is_told over))
+          ∙ lines_more w c old.number (s.first ∷ s.others) (stretches (e ∷ rest))
+          ∙ ap (λ (t : Tally). line_and_words w c old.number t (words_in (s.first ∷ s.others)) ++ lines_from w c (cond (begins_session s.first.event) (old.number + 1) old.number) (stretches (e ∷ rest))) (sym s.is_told)
+          ∙ ap (λ (ws : List ℕ). line_and_words w c old.number told ws ++ lines_from w c (cond (begins_session s.first.event) (old.number + 1) old.number) (stretches (e ∷ rest))) (sym s.has_words)
+          ∙ ap (λ (b : Bool). line_and_words w c old.number told old.words ++ lines_from w c (cond b (old.number + 1) old.number) (stretches (e ∷ rest))) (sym (tells_session s.first s.others) ∙ sym (ap (λ (t : Tally). t.is_session) s.is_told))
+          ∙ ap (λ (k : ℕ). line_and_words w c old.number told old.words ++ lines_from w c k (stretches (e ∷ rest))) (sym number),
     )
 
 -- ---- events come
 
 -- none
-pub takes_none : (c : ℕ) (old : OpenStretch) → TakesIn c old [] [] old
-takes_none c old = λ stretch is_open. (stretch, is_open, λ rest. refl)
+pub takes_none : (w : Bool) (c : ℕ) (old : Open) → TakesIn w c old [] [] old
+takes_none w c old = λ stretch is_open. (stretch, is_open, λ rest. refl)
 
 -- some, and then some more
-pub takes_then : (c : ℕ) (a b d : OpenStretch) (es fs : List TimedEvent) (xs ys : List ℕ) → TakesIn c a es xs b → TakesIn c b fs ys d → TakesIn c a (es ++ fs) (xs ++ ys) d
-takes_then c a b d es fs xs ys first then = λ stretch is_open.
+pub takes_then : (w : Bool) (c : ℕ) (a b d : Open) (es fs : List TimedEvent) (xs ys : List ℕ) → TakesIn w c a es xs b → TakesIn w c b fs ys d → TakesIn w c a (es ++ fs) (xs ++ ys) d
+takes_then w c a b d es fs xs ys first then = λ stretch is_open.
     let (middle, is_middle, lines) = first stretch is_open in
     let (last, is_last, more) = then middle is_middle in (
       last,
       is_last,
       λ rest.
-          ap (λ (gs : List TimedEvent). lines_from c a.number (stretches (stretch ++ gs))) (append_assoc es fs rest)
+          ap (λ (gs : List TimedEvent). lines_from w c a.number (stretches (stretch ++ gs))) (append_assoc es fs rest)
           ∙ lines (fs ++ rest)
           ∙ ap (λ (text : List ℕ). xs ++ text) (more rest)
-          ∙ sym (append_assoc xs ys (lines_from c d.number (stretches (last ++ rest)))),
+          ∙ sym (append_assoc xs ys (lines_from w c d.number (stretches (last ++ rest)))),
     )
 
 -- no event has come
-abbrev pub nothing_open : OpenStretch
-nothing_open = record { number = 1; tally = None }
+abbrev pub nothing_open : Open
+nothing_open = record { number = 1; tally = None; words = [] }
 
 -- all events have come: the line of the stretch that is open is the last
-pub takes_all : (c : ℕ) (events : List TimedEvent) (printed : List ℕ) (last : OpenStretch) (told : Tally) → TakesIn c nothing_open events printed last → last.tally ≡ Some told → lines_from c 1 (stretches events) ≡ printed ++ tally_line c last.number told
-takes_all c events printed last told takes is =
+pub takes_all : (w : Bool) (c : ℕ) (events : List TimedEvent) (printed : List ℕ) (last : Open) (told : Tally) → TakesIn w c nothing_open events printed last → last.tally ≡ Some told → lines_from w c 1 (stretches events) ≡ printed ++ line_and_words w c last.number told last.words
+takes_all w c events printed last told takes is =
     let (stretch, is_open, lines) = takes [] tt in
-    let s = some_open last.tally told stretch is is_open in
-    ap (λ (es : List TimedEvent). lines_from c 1 (stretches es)) (sym (append-nil events))
+    let s = some_open last.tally told last.words stretch is is_open in
+    ap (λ (es : List TimedEvent). lines_from w c 1 (stretches es)) (sym (append-nil events))
     ∙ lines []
-    ∙ ap (λ (es : List TimedEvent). printed ++ lines_from c last.number (stretches (es ++ []))) s.is_stretch
-    ∙ ap (λ (parts : List (List TimedEvent)). printed ++ lines_from c last.number parts) (cut-append are_parted s.first s.others [] s.uncut tt ∙ ap (λ (parts : List (List TimedEvent)). (s.first ∷ s.others) ∷ parts) (cut-nil are_parted))
-    ∙ ap (λ (text : List ℕ). printed ++ text) (lines_more c last.number (s.first ∷ s.others) [] ∙ ap (λ (text : List ℕ). tally_line c last.number (tally_of s.first s.others) ++ text) (no_lines c (next_number last.number (s.first ∷ s.others))) ∙ append-nil (tally_line c last.number (tally_of s.first s.others)))
-    ∙ ap (λ (t : Tally). printed ++ tally_line c last.number t) (sym s.is_told)
+    ∙ ap (λ (es : List TimedEvent). printed ++ lines_from w c last.number (stretches (es ++ []))) s.is_stretch
+    ∙ ap (λ (parts : List (List TimedEvent)). printed ++ lines_from w c last.number parts) (cut-append are_parted s.first s.others [] s.uncut tt ∙ ap (λ (parts : List (List TimedEvent)). (s.first ∷ s.others) ∷ parts) (cut-nil are_parted))
+    ∙ ap (λ (text : List ℕ). printed ++ text) (lines_more w c last.number (s.first ∷ s.others) [] ∙ ap (λ (text : List ℕ). line_and_words w c last.number (tally_of s.first s.others) (words_in (s.first ∷ s.others)) ++ text) (no_lines w c (next_number last.number (s.first ∷ s.others))) ∙ append-nil (line_and_words w c last.number (tally_of s.first s.others) (words_in (s.first ∷ s.others))))
+    ∙ ap (λ (t : Tally). printed ++ line_and_words w c last.number t (words_in (s.first ∷ s.others))) (sym s.is_told)
+    ∙ ap (λ (ws : List ℕ). printed ++ line_and_words w c last.number told ws) (sym s.has_words)
 
 -- or there is none
-pub takes_nothing : (c : ℕ) (events : List TimedEvent) (printed : List ℕ) (last : OpenStretch) → TakesIn c nothing_open events printed last → last.tally ≡ None → lines_from c 1 (stretches events) ≡ printed
-takes_nothing c events printed last takes is =
+pub takes_nothing : (w : Bool) (c : ℕ) (events : List TimedEvent) (printed : List ℕ) (last : Open) → TakesIn w c nothing_open events printed last → last.tally ≡ None → lines_from w c 1 (stretches events) ≡ printed
+takes_nothing w c events printed last takes is =
     let (stretch, is_open, lines) = takes [] tt in
-    ap (λ (es : List TimedEvent). lines_from c 1 (stretches es)) (sym (append-nil events))
+    ap (λ (es : List TimedEvent). lines_from w c 1 (stretches es)) (sym (append-nil events))
     ∙ lines []
-    ∙ ap (λ (es : List TimedEvent). printed ++ lines_from c last.number (stretches (es ++ []))) (none_open last.tally stretch is is_open)
-    ∙ ap (λ (parts : List (List TimedEvent)). printed ++ lines_from c last.number parts) (cut-nil are_parted)
-    ∙ ap (λ (text : List ℕ). printed ++ text) (no_lines c last.number)
+    ∙ ap (λ (es : List TimedEvent). printed ++ lines_from w c last.number (stretches (es ++ []))) (none_open last.tally last.words stretch is is_open)
+    ∙ ap (λ (parts : List (List TimedEvent)). printed ++ lines_from w c last.number parts) (cut-nil are_parted)
+    ∙ ap (λ (text : List ℕ). printed ++ text) (no_lines w c last.number)
     ∙ append-nil printed
 
 -- ---- an entry of the trace, and what dead start made
 
-pub takes_these : (c : ℕ) (old new : OpenStretch) (es fs : List TimedEvent) (printed : List ℕ) → es ≡ fs → TakesIn c old es printed new → TakesIn c old fs printed new
-takes_these c old new es fs printed same takes = subst (λ (gs : List TimedEvent). TakesIn c old gs printed new) same takes
+pub takes_these : (w : Bool) (c : ℕ) (old new : Open) (es fs : List TimedEvent) (printed : List ℕ) → es ≡ fs → TakesIn w c old es printed new → TakesIn w c old fs printed new
+takes_these w c old new es fs printed same takes = subst (λ (gs : List TimedEvent). TakesIn w c old gs printed new) same takes
 
 pub entry_on : (c : ℕ) (entry : Trace) → entry.channel ≡ c → timed_event entry ∷ [] ≡ timed_on c (entry ∷ [])
 entry_on c entry here = ap (λ (b : Bool). cons_option (cond b (Some (timed_event entry)) None) []) (sym (eq-eqb entry.channel c here))
@@ -166,10 +174,10 @@ not_opened c m opened is so = ap (λ (b : Bool). cond b (let e : TimedEvent = re
 abbrev pub dead_start_event : TimedEvent
 dead_start_event = record { moment = DeadStart; event = Activate }
 
-pub takes_dead_start : (c : ℕ) (m : MachineState) (opened : Bool) (told : Tally) → opened ≡ is_opened c m → opened ≡ true → told ≡ tally_of dead_start_event [] → TakesIn c nothing_open (opening_events c m) [] (record { number = 1; tally = Some told })
-takes_dead_start c m opened told is so told_is =
-    let new : OpenStretch = record { number = 1; tally = Some told } in
-    takes_these c nothing_open new (dead_start_event ∷ []) (opening_events c m) [] (opened_there c m opened is so) (takes_first c nothing_open new dead_start_event told refl refl refl told_is)
+pub takes_dead_start : (w : Bool) (c : ℕ) (m : MachineState) (opened : Bool) (told : Tally) → opened ≡ is_opened c m → opened ≡ true → told ≡ tally_of dead_start_event [] → TakesIn w c nothing_open (opening_events c m) [] (record { number = 1; tally = Some told; words = [] })
+takes_dead_start w c m opened told is so told_is =
+    let new : Open = record { number = 1; tally = Some told; words = [] } in
+    takes_these w c nothing_open new (dead_start_event ∷ []) (opening_events c m) [] (opened_there c m opened is so) (takes_first w c nothing_open new dead_start_event told refl refl refl told_is refl)
 
 -- ---- how many events have come
 
@@ -188,3 +196,42 @@ pub timed_more : (c : ℕ) (trace : List Trace) (i : ℕ) (entry : Trace) → i 
 timed_more c trace i entry within is =
     ap (timed_on c) (take_more trace i entry within ∙ ap (λ (e : Trace). take i trace ++ e ∷ []) (sym is))
     ∙ filter_map-append (λ (e : Trace). cond (eqb e.channel c) (Some (timed_event e)) None) (take i trace) (entry ∷ [])
+
+-- ---- the words of the stretch that is open
+
+drop_more : (s : ℕ) (past : List Trace) (entry : Trace) → s ≤ length past → drop s (past ++ entry ∷ []) ≡ drop s past ++ entry ∷ []
+drop_more zero past entry low = refl
+drop_more (suc s) [] entry low = absurd (omega (arith, low))
+drop_more (suc s) (x ∷ past) entry low = drop_more s past entry (omega (arith, low))
+
+drop_all : (past : List Trace) (entry : Trace) → drop (length past) (past ++ entry ∷ []) ≡ entry ∷ []
+drop_all [] entry = refl
+drop_all (x ∷ past) entry = drop_all past entry
+
+-- the entries from a place on
+pub rest_of : (s : ℕ) (past : List Trace) → take (length past - s) (drop s past) ≡ drop s past
+rest_of s past = take_all (length past - s) (drop s past) (omega (arith, length-drop s past))
+
+-- with an entry more
+pub open_words_more : (c s : ℕ) (past : List Trace) (entry : Trace) → s ≤ length past
+    → words_in (timed_on c (drop s (past ++ entry ∷ []))) ≡ words_in (timed_on c (drop s past)) ++ words_in (timed_on c (entry ∷ []))
+open_words_more c s past entry low =
+    ap (λ (es : List Trace). words_in (timed_on c es)) (drop_more s past entry low)
+    ∙ ap words_in (filter_map-append (λ (e : Trace). cond (eqb e.channel c) (Some (timed_event e)) None) (drop s past) (entry ∷ []))
+    ∙ words_more (timed_on c (drop s past)) (timed_on c (entry ∷ []))
+
+-- of an entry alone
+pub open_words_first : (c : ℕ) (past : List Trace) (entry : Trace) → words_in (timed_on c (drop (length past) (past ++ entry ∷ []))) ≡ words_in (timed_on c (entry ∷ []))
+open_words_first c past entry = ap (λ (es : List Trace). words_in (timed_on c es)) (drop_all past entry)
+
+-- an entry on another channel
+pub entry_off : (c : ℕ) (entry : Trace) → entry.channel ≢ c → timed_on c (entry ∷ []) ≡ []
+entry_off c entry off = ap (λ (b : Bool). cons_option (cond b (Some (timed_event entry)) None) []) (ne_eqb entry.channel c off)
+
+pub takes_other : (w : Bool) (c : ℕ) (past : List Trace) (entry : Trace) (o : OpenStretch) → o.start ≤ length past → timed_on c (entry ∷ []) ≡ []
+    → TakesIn w c (open_at c past o) (timed_on c (entry ∷ [])) [] (open_at c (past ++ entry ∷ []) o)
+takes_other w c past entry o low none =
+    let same : words_in (timed_on c (drop o.start past)) ≡ words_in (timed_on c (drop o.start (past ++ entry ∷ []))) =
+    sym (open_words_more c o.start past entry low ∙ ap (λ (es : List TimedEvent). words_in (timed_on c (drop o.start past)) ++ words_in es) none ∙ append-nil (words_in (timed_on c (drop o.start past)))) in
+    subst (λ (ws : List ℕ). TakesIn w c (open_at c past o) (timed_on c (entry ∷ [])) [] (record { number = o.number; tally = o.tally; words = ws })) same
+    (takes_these w c (open_at c past o) (open_at c past o) [] (timed_on c (entry ∷ [])) [] (sym none) (takes_none w c (open_at c past o)))

@@ -1,10 +1,12 @@
 -- How far the lines of a channel are printed: the stretch that is not over yet, and the number of
 -- the next session. (Private contracts alone cite this.)
-use Rattle.std.specs.Prelude.{◌≡◌, ℕ, ◌+◌, ◌≤◌, Bool, false, List, [], ◌∷◌, ◌++◌, Option, None, Some, IfSome}
+use Rattle.std.specs.Prelude.{◌≡◌, ℕ, ◌+◌, ◌≤◌, Bool, false, List, [], ◌∷◌, ◌++◌, drop, Option, None, Some, IfSome}
 use Rattle.pp_channel.specs.declared.event.Event.{Event}
 use Rattle.pp_channel.specs.declared.event.Event.TheVariants.{Put, Take}
+use Rattle.pp_machine.specs.declared.trace.Trace.{Trace}
 use Rattle.pp_sessions.specs.SessionsText.{lines_from}
-use Rattle.pp_sessions.specs.Stretches.{are_parted, stretches, tally_of}
+use Rattle.pp_sessions.specs.Stretches.{are_parted, stretches, tally_of, words_in}
+use Rattle.pp_sessions.specs.TimedEvents.{timed_on}
 use Rattle.pp_sessions.specs.declared.moment.TimedEvent.{TimedEvent}
 use Rattle.pp_sessions.specs.declared.open_stretch.OpenStretch.{OpenStretch}
 use Rattle.pp_sessions.specs.declared.tally.Tally.{Tally}
@@ -14,21 +16,37 @@ abbrev pub IsUncut : {X : Type 0} → (X → X → Bool) → X → List X → Ty
 IsUncut test x [] = Unit {0}
 IsUncut test x (next ∷ xs) = (test x next ≡ false) × IsUncut test next xs
 
--- these events make up the stretch that is open, if one is
-abbrev pub IsOpen : Option Tally → List TimedEvent → Type 0
-IsOpen None [] = Unit {0}
-IsOpen None (first ∷ others) = ⊥
-IsOpen (Some tally) [] = ⊥
-IsOpen (Some tally) (first ∷ others) =
-    (tally ≡ tally_of first others) × IsUncut are_parted first others
+-- what is known of the stretch that is open, if one is: the number of the next session, what its
+-- line tells, and its words
+pub record Open : Type 0 where
+  pub number : ℕ
+  pub tally : Option Tally
+  pub words : List ℕ
+
+-- the same, after these entries of the trace
+abbrev pub open_at : ℕ → List Trace → OpenStretch → Open
+open_at c past stretch = record {
+  number = stretch.number;
+  tally = stretch.tally;
+  words = words_in (timed_on c (drop stretch.start past));
+}
+
+-- these events make up the stretch with this tally and these words, if one is open
+abbrev pub IsOpen : Option Tally → List ℕ → List TimedEvent → Type 0
+IsOpen None words [] = Unit {0}
+IsOpen None words (first ∷ others) = ⊥
+IsOpen (Some tally) words [] = ⊥
+IsOpen (Some tally) words (first ∷ others) =
+    (tally ≡ tally_of first others) × (words ≡ words_in (first ∷ others))
+    × IsUncut are_parted first others
 
 -- events come, and these lines are printed: whatever comes then, the other lines are still to come
-abbrev pub TakesIn : ℕ → OpenStretch → List TimedEvent → List ℕ → OpenStretch → Type 0
-TakesIn c old events printed new =
-    (stretch : List TimedEvent) → IsOpen old.tally stretch
-    → (after : List TimedEvent) × IsOpen new.tally after × ((rest : List TimedEvent)
-    → lines_from c old.number (stretches (stretch ++ (events ++ rest)))
-    ≡ printed ++ lines_from c new.number (stretches (after ++ rest)))
+abbrev pub TakesIn : Bool → ℕ → Open → List TimedEvent → List ℕ → Open → Type 0
+TakesIn with_words c old events printed new =
+    (stretch : List TimedEvent) → IsOpen old.tally old.words stretch
+    → (after : List TimedEvent) × IsOpen new.tally new.words after × ((rest : List TimedEvent)
+    → lines_from with_words c old.number (stretches (stretch ++ (events ++ rest)))
+    ≡ printed ++ lines_from with_words c new.number (stretches (after ++ rest)))
 
 -- the word put and not taken after an event, where it was this before
 abbrev pub untaken_after : Event → Option ℕ → Option ℕ

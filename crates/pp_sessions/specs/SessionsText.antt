@@ -1,16 +1,18 @@
--- The text of the sessions of a run: for each channel a line for each of its stretches, and for
--- each processor that the deck names a line with the counts of its steps.
-use Rattle.std.specs.Prelude.{ℕ, ◌+◌, Bool, List, [], ◌∷◌, ◌++◌, Option, None, Some, codes, slice_index_or, if◌then◌else◌}
+-- The text of the sessions of a run: for each channel a line for each of its stretches, and after
+-- it the words of the stretch where they are asked for; and for each processor that is shown a line
+-- with the counts of its steps.
+use Rattle.std.specs.Prelude.{ℕ, ◌+◌, ◌%◌, ◌==◌, Bool, List, [], ◌∷◌, ◌++◌, Option, None, Some, codes, slice_index_or, if◌then◌else◌}
 use Rattle.pp_channel.specs.ChannelNo.{names_channel}
 use Rattle.pp_machine.specs.MachineState.{MachineState}
 use Rattle.pp_machine.specs.PpNo.{processor_index, is_named}
 use Rattle.pp_machine.specs.Run.{run}
 use Rattle.pp_deck.specs.DeckMeaning.{LoadedDeck}
+use Rattle.pp_deck.specs.InUse.{in_use}
 use Rattle.pp_text.specs.Numeral.{decimal, octal, short_decimal}
 use Rattle.pp_text.specs.PrintedText.{each_below, line_end}
 use Rattle.pp_run.specs.RunSteps.{run_steps}
 use Rattle.pp_sessions.specs.StepCounts.{each_step_counts, no_steps}
-use Rattle.pp_sessions.specs.Stretches.{is_session, stretches, tally_of}
+use Rattle.pp_sessions.specs.Stretches.{is_session, stretches, tally_of, words_in}
 use Rattle.pp_sessions.specs.TimedEvents.{timed_events}
 use Rattle.pp_sessions.specs.declared.moment.Moment.{Moment}
 use Rattle.pp_sessions.specs.declared.moment.Moment.TheVariants.{DeadStart, Turn}
@@ -55,24 +57,43 @@ abbrev pub tally_line : ℕ → ℕ → Tally → List ℕ
 tally_line c number stretch =
     if stretch.is_session then session_line c number stretch else idle_line c stretch
 
-abbrev pub stretch_line : ℕ → ℕ → List TimedEvent → List ℕ
-stretch_line c number [] = []
-stretch_line c number (first ∷ others) = tally_line c number (tally_of first others)
+-- ` 0033`, a word after this many others on its line, or `  0011` where it is the first; the eighth
+-- ends the line
+abbrev pub one_word : ℕ → ℕ → List ℕ
+one_word count word =
+    (if count == 0 then codes "  " else codes " ") ++ octal 4 word
+    ++ (if count == 7 then line_end else [])
+
+-- words, eight a line, after this many others on the first line
+unfoldable pub words_from : ℕ → List ℕ → List ℕ
+words_from count [] = if count == 0 then [] else line_end
+words_from count (word ∷ words) = one_word count word ++ words_from ((count + 1) % 8) words
+
+-- the line of a stretch, and where they are asked for its words
+abbrev pub line_and_words : Bool → ℕ → ℕ → Tally → List ℕ → List ℕ
+line_and_words with_words c number stretch words =
+    tally_line c number stretch ++ (if with_words then words_from 0 words else [])
+
+abbrev pub stretch_text : Bool → ℕ → ℕ → List TimedEvent → List ℕ
+stretch_text with_words c number [] = []
+stretch_text with_words c number (first ∷ others) =
+    line_and_words with_words c number (tally_of first others) (words_in (first ∷ others))
 
 -- the number of the next session after a stretch, where it was this before
 abbrev pub next_number : ℕ → List TimedEvent → ℕ
 next_number number stretch = if is_session stretch then number + 1 else number
 
 -- the lines of stretches, where the first session among them has this number
-unfoldable pub lines_from : ℕ → ℕ → List (List TimedEvent) → List ℕ
-lines_from c number [] = []
-lines_from c number (stretch ∷ others) =
-    stretch_line c number stretch ++ lines_from c (next_number number stretch) others
+unfoldable pub lines_from : Bool → ℕ → ℕ → List (List TimedEvent) → List ℕ
+lines_from with_words c number [] = []
+lines_from with_words c number (stretch ∷ others) =
+    stretch_text with_words c number stretch
+    ++ lines_from with_words c (next_number number stretch) others
 
 -- the lines of the channel with this number, where there is one
-unfoldable pub channel_lines : MachineState → ℕ → List ℕ
-channel_lines m c =
-    if names_channel c then lines_from c 1 (stretches (timed_events c m)) else []
+unfoldable pub channel_lines : Bool → MachineState → ℕ → List ℕ
+channel_lines with_words m c =
+    if names_channel c then lines_from with_words c 1 (stretches (timed_events c m)) else []
 
 -- ---- processors
 
@@ -83,22 +104,24 @@ counts_line n counts =
     ++ codes " HELD " ++ short_decimal counts.held ++ codes " REST " ++ short_decimal counts.at_rest
     ++ line_end
 
--- the line of the processor with this number, where the deck names it; `counts` has the counts of
+-- the line of the processor with this number, where it is shown; `counts` has the counts of
 -- each processor, in the order of the barrel
-abbrev pub named_counts_line : List Bool → List StepCounts → ℕ → List ℕ
-named_counts_line named counts n =
-    if is_named named n
+abbrev pub shown_counts_line : List Bool → List StepCounts → ℕ → List ℕ
+shown_counts_line shown counts n =
+    if is_named shown n
     then counts_line n (slice_index_or counts (processor_index n) no_steps) else []
 
 -- ---- the whole text
 
 -- THE TEXT of the sessions of a machine, in order of channel and processor. Numbers have two octal
 -- digits.
-unfoldable pub sessions_text : List Bool → MachineState → List StepCounts → List ℕ
-sessions_text named m counts =
-    each_below 0o100 (channel_lines m) ++ each_below 0o100 (named_counts_line named counts)
+unfoldable pub sessions_text : Bool → List Bool → MachineState → List StepCounts → List ℕ
+sessions_text with_words shown m counts =
+    each_below 0o100 (channel_lines with_words m)
+    ++ each_below 0o100 (shown_counts_line shown counts)
 
 -- the text of a loaded deck after these steps
-abbrev pub sessions_after : List ℕ → LoadedDeck → List ℕ
-sessions_after steps deck =
-    sessions_text deck.named (run steps deck.machine) (each_step_counts (run_steps steps deck.machine))
+abbrev pub sessions_after : Bool → List ℕ → LoadedDeck → List ℕ
+sessions_after with_words steps deck =
+    sessions_text with_words (in_use deck) (run steps deck.machine)
+    (each_step_counts (run_steps steps deck.machine))

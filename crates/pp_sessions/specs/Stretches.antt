@@ -1,9 +1,9 @@
 -- The stretches of a channel: its sessions, and the idle stretches between them.
-use Rattle.std.specs.Prelude.{ℕ, Bool, true, false, ◌||◌, List, [], ◌∷◌, Option, None, fold, length, if◌then◌else◌}
-use Rattle.std.specs.List.{after_last, last_or, onto_first}
+use Rattle.std.specs.Prelude.{ℕ, Bool, true, false, ◌||◌, List, [], ◌∷◌, Option, None, Some, fold, length, if◌then◌else◌}
+use Rattle.std.specs.List.{after_last, filter_map, last_or, onto_first}
 use Rattle.pp_channel.specs.Session.{puts, takes}
 use Rattle.pp_channel.specs.declared.event.Event.{Event}
-use Rattle.pp_channel.specs.declared.event.Event.TheVariants.{Activate, Disconnect, Take}
+use Rattle.pp_channel.specs.declared.event.Event.TheVariants.{Activate, Disconnect, Function, Put, Take}
 use Rattle.pp_sessions.specs.TimedEvents.{events_in}
 use Rattle.pp_sessions.specs.declared.moment.TimedEvent.{TimedEvent}
 use Rattle.pp_sessions.specs.declared.tally.Tally.{Tally}
@@ -49,6 +49,16 @@ is_take event = false
 -- the word that was put and not taken: the last word put after the last Take
 abbrev pub untaken : List Event → Option ℕ
 untaken events = last_or None (puts (after_last is_take events))
+
+-- the word that an event puts, or the function code that it sends
+abbrev pub word_of : Event → Option ℕ
+word_of (Put w) = Some w
+word_of (Function w) = Some w
+word_of event = None
+
+-- the words put in a session, or the function codes of an idle stretch
+abbrev pub words_in : List TimedEvent → List ℕ
+words_in events = filter_map (λ (e : TimedEvent). word_of e.event) events
 
 -- What the line of a stretch tells of it, by its first event and the others: whether it is a
 -- session, and whether it ended; when it began, and when its last event was; how many events it

@@ -3,6 +3,7 @@
 
 ghost use Rattle.std.specs.Prelude.{◌≡◌, ◌==◌, ◌+◌, ◌∷◌, ◌++◌, ℕ, Bool, IsTrue, List, count_by, map};
 ghost use Rattle.std.specs.List.{flat_map};
+ghost use Rattle.std.specs.Option.{option_to_list};
 ghost use Rattle.pp_channel.specs.ChannelNo.{names_channel};
 ghost use Rattle.pp_channel.specs.History.{Course, events_of, idle_stretch};
 ghost use Rattle.pp_channel.specs.Session.{Session};
@@ -12,7 +13,7 @@ ghost use Rattle.pp_run.specs.RunSteps.{run_steps};
 ghost use Rattle.pp_sessions.specs.SessionsLaw.{TellsIdle, TellsMoments, TellsSession, session_events, stretches_of};
 ghost use Rattle.pp_sessions.specs.SessionsText.{lines_from};
 ghost use Rattle.pp_sessions.specs.StepCounts.{step_counts};
-ghost use Rattle.pp_sessions.specs.Stretches.{is_session, stretches, tally_of};
+ghost use Rattle.pp_sessions.specs.Stretches.{is_session, stretches, tally_of, words_in};
 ghost use Rattle.pp_sessions.specs.TimedEvents.{events_in, timed_events};
 ghost use Rattle.pp_sessions.specs.declared.moment.TimedEvent.{TimedEvent};
 
@@ -23,7 +24,8 @@ pub fn course_law()
 
 /// The lines of a channel are about its whole history, and each about a session or an idle stretch
 /// of its course, in order; what is told of a session is whether it ended, how many words were put
-/// and taken in it, its lone last word, and the turns of its first event and its last.
+/// and taken in it, its lone last word, and the turns of its first event and its last; and its
+/// words are those that passed, and the lone one.
 pub fn sessions_law()
     ensures history { (c : ℕ) (m : MachineState) → IsTrue (names_channel c)
         → HoldsOnEachChannel m → events_in (timed_events c m) ≡ history_of c m }
@@ -33,9 +35,10 @@ pub fn sessions_law()
         → events_of course ≡ events_in events
         → map events_in (stretches events) ≡ stretches_of course }
     // The sessions of a channel are numbered from 1 on, in order.
-    ensures numbers { (c : ℕ) (before after : List (List TimedEvent))
-        → lines_from c 1 (before ++ after)
-        ≡ lines_from c 1 before ++ lines_from c (1 + count_by is_session before) after }
+    ensures numbers { (with_words : Bool) (c : ℕ) (before after : List (List TimedEvent))
+        → lines_from with_words c 1 (before ++ after)
+        ≡ lines_from with_words c 1 before
+        ++ lines_from with_words c (1 + count_by is_session before) after }
     ensures session { (session : Session) (ended : Bool) (first : TimedEvent)
         (others : List TimedEvent) → events_in (first ∷ others) ≡ session_events session ended
         → TellsSession session ended (tally_of first others) }
@@ -45,6 +48,11 @@ pub fn sessions_law()
     ensures idle { (codes : List ℕ) (first : TimedEvent) (others : List TimedEvent)
         → events_in (first ∷ others) ≡ idle_stretch codes
         → TellsIdle codes (tally_of first others) }
+    ensures words { (session : Session) (ended : Bool) (events : List TimedEvent)
+        → events_in events ≡ session_events session ended
+        → words_in events ≡ session.passed ++ option_to_list session.lone }
+    ensures codes { (codes : List ℕ) (events : List TimedEvent)
+        → events_in events ≡ idle_stretch codes → words_in events ≡ codes }
 {}
 
 /// The steps of a processor that moved it, that were held, and that found it at rest are all its

@@ -9,6 +9,7 @@ mod open_stretch;
 mod sessions_text;
 mod step_counts;
 mod tally;
+mod words;
 
 pub use laws::{counts_law, course_law, sessions_law};
 pub use sessions_text::write_sessions;

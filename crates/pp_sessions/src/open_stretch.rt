@@ -1,14 +1,17 @@
 //! The stretch of a channel that is not over yet.
 
-ghost use Rattle.std.specs.Prelude.{◌≡◌, ◌+◌, ◌<◌, ◌^◌, ◌∷◌, [], ℕ, List, if◌then◌else◌};
+ghost use Rattle.std.specs.Prelude.{◌≡◌, ◌+◌, ◌<◌, ◌≤◌, ◌^◌, ◌∷◌, ◌++◌, [], ℕ, Bool, List, length, if◌then◌else◌};
 ghost use Rattle.pp_text.specs.TextWriter.{Prints};
-ghost use Rattle.pp_sessions.specs.OpenStretch.{HasAtMost, TakesIn};
-ghost use Rattle.pp_sessions.specs.SessionsText.{tally_line};
+ghost use Rattle.pp_sessions.specs.OpenStretch.{HasAtMost, TakesIn, open_at};
+ghost use Rattle.pp_sessions.specs.SessionsText.{line_and_words};
+ghost use Rattle.pp_sessions.specs.Stretches.{words_in};
 ghost use Rattle.pp_sessions.specs.TimedEvents.{opening_events, timed_on};
+ghost use Rattle.pp_machine.specs.declared.trace.Trace.{Trace};
 
 use crate::lines::push_stretch;
 use crate::moment::{Moment, TimedEvent};
 use crate::tally::Tally;
+use crate::words::print_words;
 use pp_channel::{ChannelNo, Event};
 use pp_machine::{Machine, Trace};
 use pp_text::{Piece, TextWriter};
@@ -21,19 +24,24 @@ use std::io::Write;
 pub(crate) struct OpenStretch {
     pub(crate) number: u64,
     pub(crate) tally: Option<Tally>,
+    /// How many entries the trace has before those of the stretch.
+    pub(crate) start: usize,
 }
 
 impl OpenStretch {
     /// Before the first turn, after what dead start made.
     pub(crate) fn opening<A: Allocator>(machine: &Machine<A>, c: ChannelNo) -> OpenStretch
-        ensures opens { TakesIn c (record { number = 1; tally = None })
-            (opening_events c machine.now) [] result }
+        ensures opens { (with_words : Bool) → TakesIn with_words c
+            (record { number = 1; tally = None; words = [] }) (opening_events c machine.now) []
+            (open_at c [] result) }
         ensures few { HasAtMost 1 result }
+        ensures start { result.start ≡ 0 }
     {
         if !machine.opened(c) {
             return OpenStretch {
                 number: 1,
                 tally: None,
+                start: 0,
             };
         }
         let event = TimedEvent {
@@ -43,30 +51,36 @@ impl OpenStretch {
         OpenStretch {
             number: 1,
             tally: Some(Tally::of(&event)),
+            start: 0,
         }
     }
 }
 
-/// Prints what is over before an entry of the trace, and takes the entry in, where it is on this
-/// channel.
+/// Prints what is over before an entry of the trace, which comes after these entries, and takes the
+/// entry in, where it is on this channel.
 pub(crate) fn take_in_entry<W: Write>(
     text: &mut TextWriter<W>,
     line: &mut Piece,
     c: ChannelNo,
+    with_words: bool,
     current: &mut OpenStretch,
+    past: &[Trace],
     entry: &Trace,
 )
-    requires { HasAtMost (2 ^ 63) current.old }
+    requires few { HasAtMost (2 ^ 63) current.old }
+    requires start { current.old.start ≤ length past.now }
     ensures lines { (printed : List ℕ) × Prints W.contents text.old text.new printed
-        × TakesIn c current.old (timed_on c (entry.now ∷ [])) printed current.new }
+        × TakesIn with_words c (open_at c past.now current.old) (timed_on c (entry.now ∷ []))
+        printed (open_at c (past.now ++ entry.now ∷ []) current.new) }
     ensures few { (most : ℕ) → HasAtMost most current.old → HasAtMost (most + 1) current.new }
+    ensures start { current.new.start ≤ length past.now }
 {
     if entry.channel.get() == c.get() {
         let event = TimedEvent {
             moment: Moment::Turn(entry.turn),
             event: entry.event,
         };
-        take_in(text, line, c, current, &event);
+        take_in(text, line, c, with_words, current, past, &event);
     }
 }
 
@@ -74,40 +88,56 @@ fn take_in<W: Write>(
     text: &mut TextWriter<W>,
     line: &mut Piece,
     c: ChannelNo,
+    with_words: bool,
     current: &mut OpenStretch,
+    past: &[Trace],
     event: &TimedEvent,
 )
-    requires { HasAtMost (2 ^ 63) current.old }
-    ensures lines { (printed : List ℕ) × Prints W.contents text.old text.new printed
-        × TakesIn c current.old (event.now ∷ []) printed current.new }
+    requires few { HasAtMost (2 ^ 63) current.old }
+    requires start { current.old.start ≤ length past.now }
+    ensures lines { (entry : Trace) → timed_on c (entry ∷ []) ≡ event.now ∷ []
+        → (printed : List ℕ) × Prints W.contents text.old text.new printed
+        × TakesIn with_words c (open_at c past.now current.old) (event.now ∷ [])
+        printed (open_at c (past.now ++ entry ∷ []) current.new) }
     ensures few { (most : ℕ) → HasAtMost most current.old → HasAtMost (most + 1) current.new }
+    ensures start { current.new.start ≤ length past.now }
 {
     let Some(tally) = current.tally else {
         current.tally = Some(Tally::of(event));
+        current.start = past.len();
         return;
     };
     if !tally.is_over(&event.event) {
         current.tally = Some(tally.with(event));
         return;
     }
-    print_stretch(text, line, c, current.number, &tally);
+    let entries = &past[current.start..];
+    print_stretch(text, line, c, with_words, current.number, &tally, entries);
     current.number = next_number(current.number, &tally);
     current.tally = Some(Tally::of(event));
+    current.start = past.len();
 }
 
-/// Prints the line of a stretch; where it is a session, it has this number.
+/// Prints the line of a stretch, and where they are asked for its words, which are in these entries
+/// of the trace; where it is a session, it has this number.
 pub(crate) fn print_stretch<W: Write>(
     text: &mut TextWriter<W>,
     line: &mut Piece,
     c: ChannelNo,
+    with_words: bool,
     number: u64,
     stretch: &Tally,
+    entries: &[Trace],
 )
-    ensures { Prints W.contents text.old text.new (tally_line c number stretch.now) }
+    ensures { Prints W.contents text.old text.new
+        (line_and_words with_words c number stretch.now (words_in (timed_on c entries.now))) }
 {
     line.clear();
     push_stretch(line, c, number, stretch);
     text.print(line.as_slice());
+    if with_words {
+        print_words(text, line, c, entries);
+    }
 }
 
 /// The number of the next session after a stretch, where it was this before.

@@ -1,11 +1,12 @@
 -- From what was read, and the answer to it, to what a call promises of every reader.
-use Rattle.std.proofs.Common.{◌≡◌, ◌≢◌, refl, ℕ, ◌≤◌, ◌<◌, List, length, take, Option, Some, None, Result, Ok, Err}
-use Rattle.std.specs.Prelude.{IfErr, IfSome, OnErr, OnOk}
+use Rattle.std.proofs.Common.{◌≡◌, ◌≢◌, refl, ℕ, ◌≤◌, ◌<◌, Bool, true, false, cond, List, length, take, inl, inr, Option, Some, None, Result, Ok, Err}
+use Rattle.std.specs.Prelude.{◌⊎◌, IfErr, IfSome, OnErr, OnOk}
 use Rattle.std.specs.Io.KnownBytes.{Appends, Consumes, IsAtEnd, Keeps}
-use Rattle.std.proofs.lemmas.Bool.{cases_lt}
+use Rattle.std.proofs.lemmas.Bool.{cases_lt, lt-ltb}
 use Rattle.pp_sim.proofs.ByteLemmas.{read_front}
 use Rattle.pp_machine.specs.declared.profile.Profile.{Profile}
-use Rattle.pp_deck.specs.DeckMeaning.{LoadedDeck}
+use Rattle.pp_deck.specs.DeckMeaning.{LoadedDeck, deck_meaning}
+use Rattle.pp_deck.specs.declared.deck_fault.DeckFault.{DeckFault}
 use Rattle.pp_text.specs.Written.{AppendsFront}
 use Rattle.pp_sim.specs.TextAnswer.{AnswersDeckUnless, IsAnswerUnless, IsOfDeck, IsLoadFault, IsReadFault, most_bytes}
 use Rattle.pp_listing.specs.declared.going_on.GoingOn.{GoingOn}
@@ -38,6 +39,22 @@ unwritten_answer profile Hinders IsDeckText (Err (fault.Trace f)) front old new 
 unwritten_answer profile Hinders IsDeckText (Err fault.Read) front old new keeps = λ _. keeps
 unwritten_answer profile Hinders IsDeckText (Err fault.Memory) front old new keeps = λ _. keeps
 
+no_meaning : (b : Bool) (fault : DeckFault) (meaning : Result LoadedDeck DeckFault) (deck : LoadedDeck) → b ≡ true → cond b (Err fault) meaning ≡ Ok deck → ⊥
+no_meaning true fault meaning deck long is = cc
+no_meaning false fault meaning deck long is = cc
+
+-- a deck with a meaning is shorter than what is read at most
+short_deck : (profile : Profile) (bytes : List ℕ) (deck : LoadedDeck) → (length bytes < most_bytes) ⊎ (most_bytes ≤ length bytes) → deck_meaning profile bytes ≡ Ok deck → length bytes < most_bytes
+unfolding deck_meaning
+short_deck profile bytes deck (inl short) is = short
+short_deck profile bytes deck (inr long) is = absurd (no_meaning _ _ _ deck (lt-ltb 1048576 (length bytes) long) is)
+
+-- so that the answer says of a text that all of its deck was read
+short_answer : (profile : Profile) (Hinders : LoadedDeck → GoingOn → Type 0) (IsDeckText : LoadedDeck → List ℕ → Type 0) (answer : Result (Unit {0}) TextFault) (bytes : List ℕ) (old new : Option (List ℕ))
+    → IsAnswerUnless profile Hinders IsDeckText answer bytes old new → OnOk answer (length bytes < most_bytes)
+short_answer profile Hinders IsDeckText (Ok done) bytes old new (text, is, _) = short_deck profile bytes is.deck (cases_lt (length bytes) most_bytes) is.meant
+short_answer profile Hinders IsDeckText (Err f) bytes old new answered = tt
+
 at_end : {X : Type 0} {E : Type 0} {P Q : Type 0} (answer : Result X E) → OnOk answer P → (P → Q) → OnOk answer Q
 at_end (Ok done) holds then = then holds
 at_end (Err f) holds then = tt
@@ -45,15 +62,15 @@ at_end (Err f) holds then = tt
 -- where the bytes were read that a deck may have, and the answer is that to them
 pub answered_deck : (profile : Profile) (before after old new : Option (List ℕ)) (Hinders : LoadedDeck → GoingOn → Type 0) (IsDeckText : LoadedDeck → List ℕ → Type 0) (front : List ℕ) (answer : Result (Unit {0}) TextFault)
     → IsAnswerUnless profile Hinders IsDeckText answer front old new → Consumes before after front → length front ≤ most_bytes → (length front < most_bytes → IsAtEnd after)
-    → OnOk answer (length front < most_bytes) → AnswersDeckUnless profile Hinders IsDeckText answer before after old new
-answered_deck profile before after old new Hinders IsDeckText front answer answered consumed le end bounded = record {
+    → AnswersDeckUnless profile Hinders IsDeckText answer before after old new
+answered_deck profile before after old new Hinders IsDeckText front answer answered consumed le end = record {
   every_reader = (
     front,
     record {
       consumed = consumed;
       bounded = le;
       answered = answered;
-      whole = at_end answer bounded end;
+      whole = at_end answer (short_answer profile Hinders IsDeckText answer front old new answered) end;
     },
   );
   telling_reader = told_answer profile before after old new Hinders IsDeckText front most_bytes answer answered consumed le end;

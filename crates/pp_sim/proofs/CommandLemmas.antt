@@ -9,16 +9,15 @@ use Rattle.clap.specs.declared.parser.matches.Found.{Found}
 use Rattle.clap.specs.declared.parser.matches.SubCommand.{SubCommand}
 use Rattle.clap.specs.declared.parser.matches.ArgMatches.{ArgMatches}
 use Rattle.clap.specs.declared.parser.matches.ArgMatches.TheViews.{out-ArgMatches, out-SubCommand}
-use Rattle.clap.proofs.WalkLemmas.{first_value-rows}
 use Rattle.clap.proofs.OnLiterals.{clap_on_literals}
 use Rattle.pp_draw.specs.declared.window.Window.{Window}
 use Rattle.pp_machine.specs.Profile.{processors_in}
 use Rattle.pp_machine.specs.declared.profile.Profile.{Profile}
-use Rattle.pp_sim.specs.CommandLine.{IsFaultBy, IsRefused, IsWorkAmong, IsWorkOf, AsksForMore, AsksForMoreAmong, ReadsEnd, ReadsNumber, ReadsProfile, ReadsTurn, ReadsWindow, ppsim, refusals}
+use Rattle.pp_sim.specs.CommandLine.{IsFaultBy, IsRefused, AsksForMore, AsksForText, ReadsEnd, ReadsNumber, ReadsProfile, ReadsTurn, ReadsWindow, ppsim, refusals}
 use Rattle.pp_sim.specs.declared.line_fault.LineFault.{LineFault}
 use Rattle.pp_sim.specs.declared.line_fault.LineFault.TheVariants.{Memory, Refused, Number, Picture}
-use Rattle.pp_sim.specs.declared.work.Work.{Work}
-use Rattle.pp_sim.specs.declared.work.Work.TheVariants as works
+use Rattle.pp_sim.specs.declared.text_of.TextOf.{TextOf}
+use Rattle.pp_sim.specs.declared.text_of.TextOf.TheVariants as texts
 
 simple : is_simple ppsim ≡ true
 unfolding clap_on_literals ppsim
@@ -73,154 +72,57 @@ met_none words app m is h e =
     let met = subst (λ a. HasMatchesOf a words m) is h in
     sym (met simple).1 ∙ none_of (out-ArgMatches m).subcommand e
 
--- an option's text is the same by its matches and by its rows
-window_by_rows : (f : Found) (w : Window) → ReadsWindow (first_value f) w → ReadsWindow (λ id. first_of id (rows_of f)) w
-unfolding ReadsWindow
-window_by_rows f w k = (
-  k.0,
-  rw (← first_value-rows f (codes "turns")) k.1,
-  k.2,
-  rw (← first_value-rows f (codes "to")) k.3,
-  rw (← first_value-rows f (codes "from")) k.4,
-  k.5,
-)
-
-window_by_values : (f : Found) (w : Window) → ReadsWindow (λ id. first_of id (rows_of f)) w → ReadsWindow (first_value f) w
-unfolding ReadsWindow
-window_by_values f w k = (
-  k.0,
-  rw (first_value-rows f (codes "turns")) k.1,
-  k.2,
-  rw (first_value-rows f (codes "to")) k.3,
-  rw (first_value-rows f (codes "from")) k.4,
-  k.5,
-)
-
-pub more_by_rows : (name : Text) (f : Found) → AsksForMore name (first_value f) → AsksForMoreAmong (Some (name, rows_of f))
-more_by_rows name f k = (k.0, (k.1.0, window_by_rows f k.1.0 k.1.1, k.1.2))
-
-pub more_by_values : (name : Text) (f : Found) → AsksForMoreAmong (Some (name, rows_of f)) → AsksForMore name (first_value f)
-more_by_values name f k = (k.0, (k.1.0, window_by_values f k.1.0 k.1.1, k.1.2))
-
 -- ---- options that say one window alone
 
 one_number : (text : Option Text) (n m : ℕ) → ReadsNumber text n → ReadsNumber text m → n ≡ m
 one_number None n m one also = absurd one
 one_number (Some text) n m one also = one.1 ∙ sym also.1
 
-one_turn : (text : Option Text) (n m : ℕ) → ReadsTurn text n → ReadsTurn text m → n ≡ m
-one_turn None n m one also = one ∙ sym also
-one_turn (Some text) n m one also = one_number (Some text) n m one.0 also.0
+one_turn : (default : ℕ) (text : Option Text) (n m : ℕ) → ReadsTurn default text n → ReadsTurn default text m → n ≡ m
+one_turn default None n m one also = one ∙ sym also
+one_turn default (Some text) n m one also = one_number (Some text) n m one.0 also.0
 
 one_end : (text : Option Text) (turns others n m : ℕ) → turns ≡ others → ReadsEnd turns text n → ReadsEnd others text m → n ≡ m
 one_end None turns others n m same one also = one ∙ same ∙ sym also
 one_end (Some text) turns others n m same one also = one_number (Some text) n m one.0 also.0
 
-one_length : (text_of : Text → Option Text) (v w : Window) → ReadsWindow text_of v → ReadsWindow text_of w → v.to - v.from ≡ w.to - w.from
+one_length : (value_of : Text → Option Text) (v w : Window) → ReadsWindow value_of v → ReadsWindow value_of w → v.to - v.from ≡ w.to - w.from
 unfolding ReadsWindow
-one_length text_of v w one also =
-    let turns = one_number (text_of (codes "turns")) one.0 also.0 one.1 also.1 in
-    let to = one_end (text_of (codes "to")) one.0 also.0 v.to w.to turns one.3 also.3 in
-    let from = one_turn (text_of (codes "from")) v.from w.from one.4 also.4 in
+one_length value_of v w one also =
+    let turns = one_number (value_of (codes "turns")) one.0 also.0 one.1.0 also.1.0 in
+    let to = one_end (value_of (codes "to")) one.0 also.0 v.to w.to turns one.2 also.2 in
+    let from = one_turn 0 (value_of (codes "from")) v.from w.from one.3 also.3 in
     ap₂ (λ (t f : ℕ). t - f) to from
 
 -- where the options say a window and more turns than a picture has, the window does not fit one
-pub no_fit : (fits : Bool) (name : Text) (text_of : Text → Option Text) (w : Window) → ReadsWindow text_of w → (IsTrue fits → w.to - w.from ≤ 2000) → AsksForMore name text_of → IsTrue (not fits)
-no_fit true name text_of w reads short k = absurd (omega (arith, short refl, k.1.2, one_length text_of w k.1.0 reads k.1.1))
-no_fit false name text_of w reads short k = refl
+pub no_fit : (fits : Bool) (name : Text) (value_of : Text → Option Text) (w : Window) → ReadsWindow value_of w → (IsTrue fits → w.to - w.from ≤ 2000) → AsksForMore name value_of → IsTrue (not fits)
+no_fit true name value_of w reads short k = absurd (omega (arith, short refl, k.1.2, one_length value_of w k.1.0 reads k.1.1))
+no_fit false name value_of w reads short k = refl
 
--- a drawing of more turns than a picture has is no work
-pub no_picture : (name : Text) (text_of : Text → Option Text) (w : Window) → name ≡ codes "draw" → ReadsWindow text_of w → 2000 < w.to - w.from → (work : Work) → IsWorkOf name text_of work → ⊥
-no_picture name text_of w draw reads long (works.Barrel profile turns) k =
+-- a drawing of more turns than a picture has is no text
+pub no_picture : (name : Text) (value_of : Text → Option Text) (profile : Profile) (w : Window) → name ≡ codes "draw" → ReadsWindow value_of w → 2000 < w.to - w.from → (text : TextOf) → AsksForText name value_of profile text → ⊥
+no_picture name value_of profile w draw reads long (texts.Barrel turns) k =
     let bad : 98 ≡ 100 = ap (λ (t : Text). slice_index t 0) (sym k.0 ∙ draw) in absurd (omega (arith, bad))
-no_picture name text_of w draw reads long (works.Threads profile limits) k =
-    let bad : 116 ≡ 100 = ap (λ (t : Text). slice_index t 0) (sym k.0 ∙ draw) in absurd (omega (arith, bad))
-no_picture name text_of w draw reads long (works.List profile) k =
-    let bad : 108 ≡ 100 = ap (λ (t : Text). slice_index t 0) (sym k.0 ∙ draw) in absurd (omega (arith, bad))
-no_picture name text_of w draw reads long (works.Dump profile turns) k =
+no_picture name value_of profile w draw reads long texts.List k =
+    let bad : 108 ≡ 100 = ap (λ (t : Text). slice_index t 0) (sym k ∙ draw) in absurd (omega (arith, bad))
+no_picture name value_of profile w draw reads long (texts.Dump turns) k =
     let bad : 117 ≡ 114 = ap (λ (t : Text). slice_index t 1) (sym k.0 ∙ draw) in absurd (omega (arith, bad))
-no_picture name text_of w draw reads long (works.State profile turns) k =
+no_picture name value_of profile w draw reads long (texts.State turns) k =
     let bad : 115 ≡ 100 = ap (λ (t : Text). slice_index t 0) (sym k.0 ∙ draw) in absurd (omega (arith, bad))
-no_picture name text_of w draw reads long (works.Sessions profile turns) k =
+no_picture name value_of profile w draw reads long (texts.Sessions turns words) k =
     let bad : 115 ≡ 100 = ap (λ (t : Text). slice_index t 0) (sym k.0 ∙ draw) in absurd (omega (arith, bad))
-no_picture name text_of w draw reads long (works.Races profile turns) k =
+no_picture name value_of profile w draw reads long (texts.Races turns) k =
     let bad : 114 ≡ 100 = ap (λ (t : Text). slice_index t 0) (sym k.0 ∙ draw) in absurd (omega (arith, bad))
-no_picture name text_of w draw reads long (works.Steps profile turns only from) k =
-    let bad : 115 ≡ 100 = ap (λ (t : Text). slice_index t 0) (sym k.0 ∙ draw) in absurd (omega (arith, bad))
-no_picture name text_of w draw reads long (works.Check opened) k =
+no_picture name value_of profile w draw reads long (texts.Ends turns) k =
+    let bad : 101 ≡ 100 = ap (λ (t : Text). slice_index t 0) (sym k.0 ∙ draw) in absurd (omega (arith, bad))
+no_picture name value_of profile w draw reads long (texts.Memory turns n bounds) k =
+    let bad : 109 ≡ 100 = ap (λ (t : Text). slice_index t 0) (sym k.0 ∙ draw) in absurd (omega (arith, bad))
+no_picture name value_of profile w draw reads long (texts.Central turns bounds) k =
     let bad : 99 ≡ 100 = ap (λ (t : Text). slice_index t 0) (sym k.0 ∙ draw) in absurd (omega (arith, bad))
-no_picture name text_of w draw reads long (works.Draw profile window) k =
-    omega (arith, long, k.3, one_length text_of w window reads k.2)
-
-pub work_by_rows : (name : Text) (f : Found) (work : Work) → IsWorkOf name (first_value f) work → IsWorkAmong (Some (name, rows_of f)) work
-work_by_rows name f (works.Barrel profile turns) k =
-    (k.0, rw (← first_value-rows f (codes "processors")) k.1, rw (← first_value-rows f (codes "turns")) k.2, k.3)
-work_by_rows name f (works.Threads profile limits) k = (
-  k.0,
-  rw (← first_value-rows f (codes "processors")) k.1,
-  rw (← first_value-rows f (codes "steps")) k.2,
-  rw (← first_value-rows f (codes "patience")) k.3,
-  k.4,
-)
-work_by_rows name f (works.List profile) k = (k.0, rw (← first_value-rows f (codes "processors")) k.1)
-work_by_rows name f (works.Dump profile turns) k =
-    (k.0, rw (← first_value-rows f (codes "processors")) k.1, rw (← first_value-rows f (codes "turns")) k.2, k.3)
-work_by_rows name f (works.State profile turns) k =
-    (k.0, rw (← first_value-rows f (codes "processors")) k.1, rw (← first_value-rows f (codes "turns")) k.2, k.3)
-work_by_rows name f (works.Sessions profile turns) k =
-    (k.0, rw (← first_value-rows f (codes "processors")) k.1, rw (← first_value-rows f (codes "turns")) k.2, k.3)
-work_by_rows name f (works.Races profile turns) k =
-    (k.0, rw (← first_value-rows f (codes "processors")) k.1, rw (← first_value-rows f (codes "turns")) k.2, k.3)
-work_by_rows name f (works.Steps profile turns only from) k = (
-  k.0,
-  rw (← first_value-rows f (codes "processors")) k.1,
-  rw (← first_value-rows f (codes "turns")) k.2,
-  k.3,
-  rw (← first_value-rows f (codes "pp")) k.4,
-  rw (← first_value-rows f (codes "from")) k.5,
-)
-work_by_rows name f (works.Draw profile window) k = (
-  k.0,
-  rw (← first_value-rows f (codes "processors")) k.1,
-  window_by_rows f window k.2,
-  k.3,
-)
-work_by_rows name f (works.Check opened) k = (k.0, rw (← first_value-rows f (codes "opened")) k.1)
-
-pub work_by_values : (name : Text) (f : Found) (work : Work) → IsWorkAmong (Some (name, rows_of f)) work → IsWorkOf name (first_value f) work
-work_by_values name f (works.Barrel profile turns) k =
-    (k.0, rw (first_value-rows f (codes "processors")) k.1, rw (first_value-rows f (codes "turns")) k.2, k.3)
-work_by_values name f (works.Threads profile limits) k = (
-  k.0,
-  rw (first_value-rows f (codes "processors")) k.1,
-  rw (first_value-rows f (codes "steps")) k.2,
-  rw (first_value-rows f (codes "patience")) k.3,
-  k.4,
-)
-work_by_values name f (works.List profile) k = (k.0, rw (first_value-rows f (codes "processors")) k.1)
-work_by_values name f (works.Dump profile turns) k =
-    (k.0, rw (first_value-rows f (codes "processors")) k.1, rw (first_value-rows f (codes "turns")) k.2, k.3)
-work_by_values name f (works.State profile turns) k =
-    (k.0, rw (first_value-rows f (codes "processors")) k.1, rw (first_value-rows f (codes "turns")) k.2, k.3)
-work_by_values name f (works.Sessions profile turns) k =
-    (k.0, rw (first_value-rows f (codes "processors")) k.1, rw (first_value-rows f (codes "turns")) k.2, k.3)
-work_by_values name f (works.Races profile turns) k =
-    (k.0, rw (first_value-rows f (codes "processors")) k.1, rw (first_value-rows f (codes "turns")) k.2, k.3)
-work_by_values name f (works.Steps profile turns only from) k = (
-  k.0,
-  rw (first_value-rows f (codes "processors")) k.1,
-  rw (first_value-rows f (codes "turns")) k.2,
-  k.3,
-  rw (first_value-rows f (codes "pp")) k.4,
-  rw (first_value-rows f (codes "from")) k.5,
-)
-work_by_values name f (works.Draw profile window) k = (
-  k.0,
-  rw (first_value-rows f (codes "processors")) k.1,
-  window_by_values f window k.2,
-  k.3,
-)
-work_by_values name f (works.Check opened) k = (k.0, rw (first_value-rows f (codes "opened")) k.1)
+no_picture name value_of profile w draw reads long (texts.Steps turns chosen) k =
+    let bad : 115 ≡ 100 = ap (λ (t : Text). slice_index t 0) (sym k.0 ∙ draw) in absurd (omega (arith, bad))
+no_picture name value_of profile w draw reads long (texts.Draw window) k =
+    omega (arith, long, k.2, one_length value_of w window reads k.1)
 
 -- where the text of an option is there, and is no number, it says no profile
 pub no_profile : {B : Type 0} (of : B → Text) (o : Option B) (text : Option Text) → is_some o ≡ true → option_map of o ≡ text → ((n : ℕ) → ReadsNumber text n → ⊥) → (profile : Profile) → ReadsProfile text profile → ⊥

@@ -4,10 +4,9 @@ pub mod ThreadsText
 pub mod ListText
 pub mod CheckText
 pub mod DumpText
-pub mod StateText
-pub mod SessionsText
 pub mod RacesText
 pub mod StepsText
-pub mod DrawingText
+pub mod EndsText
+pub mod TextOf
 pub mod CommandLine
 pub mod Program

@@ -4,19 +4,12 @@ use Rattle.std.specs.Io.KnownBytes.{Appends, Keeps}
 use Rattle.clap.specs.Words.{Text, kind_of}
 use Rattle.clap.specs.declared.error.Error.{Error}
 use Rattle.clap.specs.declared.error.kind.ErrorKind.TheVariants.{DisplayHelp, DisplayVersion}
-use Rattle.pp_sim.specs.BarrelText.{IsBarrelText}
 use Rattle.pp_sim.specs.CheckText.{AnswersTrace}
 use Rattle.pp_sim.specs.CommandLine.{AskFor, IsRefused, refusals}
-use Rattle.pp_sim.specs.DrawingText.{IsDrawing}
-use Rattle.pp_sim.specs.DumpText.{HindersDump, IsDumpText}
-use Rattle.pp_sim.specs.ListText.{IsListText}
-use Rattle.pp_sim.specs.RacesText.{IsRacesText}
-use Rattle.pp_sim.specs.SessionsText.{IsSessionsText}
-use Rattle.pp_sim.specs.StateText.{IsStateText}
-use Rattle.pp_sim.specs.StepsText.{IsStepsText}
 use Rattle.pp_sim.specs.TextAnswer.{AnswersDeck, AnswersDeckUnless}
-use Rattle.pp_text.specs.Written.{AppendsFront}
+use Rattle.pp_sim.specs.TextOf.{IsTextOf, hindrance}
 use Rattle.pp_sim.specs.ThreadsText.{IsThreadsText}
+use Rattle.pp_text.specs.Written.{AppendsFront}
 use Rattle.pp_sim.specs.declared.line_fault.LineFault.{LineFault}
 use Rattle.pp_sim.specs.declared.text_fault.TextFault.{TextFault}
 use Rattle.pp_sim.specs.declared.work.Work.{Work}
@@ -27,16 +20,8 @@ use Rattle.pp_sim.specs.declared.work.Work.{Work}
 -- of the trace that was read. Z is the allocator's type, of which a report is made.
 abbrev pub IsDone : Type 0 → Work → Result (Unit {0}) TextFault → Option (List ℕ) → Option (List ℕ)
     → Option (List ℕ) → Option (List ℕ) → Type 0
-IsDone Z (Work.Barrel profile turns) = AnswersDeck profile (IsBarrelText turns)
+IsDone Z (Work.Deck profile text) = AnswersDeckUnless profile (hindrance text) (IsTextOf text)
 IsDone Z (Work.Threads profile limits) = AnswersDeck profile (IsThreadsText Z limits)
-IsDone Z (Work.List profile) = AnswersDeck profile IsListText
-IsDone Z (Work.Dump profile turns) =
-    AnswersDeckUnless profile (HindersDump turns) (IsDumpText turns)
-IsDone Z (Work.State profile turns) = AnswersDeck profile (IsStateText turns)
-IsDone Z (Work.Sessions profile turns) = AnswersDeck profile (IsSessionsText turns)
-IsDone Z (Work.Races profile turns) = AnswersDeck profile (IsRacesText turns)
-IsDone Z (Work.Steps profile turns only from) = AnswersDeck profile (IsStepsText turns only from)
-IsDone Z (Work.Draw profile window) = AnswersDeck profile (IsDrawing window)
 IsDone Z (Work.Check opened) = AnswersTrace opened
 
 -- the status of a work that was done, or failed: by what was read, a device, or want of memory

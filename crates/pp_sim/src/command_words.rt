@@ -1,43 +1,50 @@
 //! Reading the words of a command line.
 
-ghost use Rattle.std.specs.Prelude.{◌≡◌, ◌-◌, ◌≤◌, ◌↔◌, ℕ, [], IsTrue, codes, map, Bool, List, Option, IfOk, IfErr, IfSome, IsSome, OnOk, MatchOption};
-ghost use Rattle.clap.specs.Words.{first_value, found_of};
-ghost use Rattle.pp_draw.specs.declared.window.Window.{Window};
-ghost use Rattle.pp_machine.specs.declared.profile.Profile.{Profile};
+ghost use Rattle.std.specs.Prelude.{◌≡◌, ◌≢◌, ◌-◌, ◌≤◌, ◌↔◌, [], IsTrue, codes, map, option_map, IfOk, IfErr, IfSome, IsSome, OnOk};
 ghost use Rattle.pp_runner.specs.Limits.{AreLimits};
-ghost use Rattle.pp_sim.specs.CommandLine.{AskFor, AsksForMore, IsFaultBy, IsRefused, IsWorkOf, ReadsChannels, ReadsEnd, ReadsNumber, ReadsProcessor, ReadsProfile, ReadsTurn, ReadsWindow, refusals};
-ghost use Rattle.pp_sim.specs.declared.work.Work.{Work};
+ghost use Rattle.pp_sim.specs.CommandLine.{AskFor, AsksForMore, AsksForText, Finds, IsFaultBy, IsRefused, IsWorkOf, ReadsAddress, ReadsBounds, ReadsChannels, ReadsChosen, ReadsEnd, ReadsNumber, ReadsProcessor, ReadsProcessors, ReadsProfile, ReadsTurn, ReadsFlag, ReadsTurns, ReadsWindow, refusals, value_in};
 
 use crate::command::command;
 use crate::line_fault::LineFault;
 use crate::number_range::{FROM, PATIENCE, STEPS, TURNS};
+use crate::text_of::{ChosenSteps, TextOf};
 use crate::work::Work;
 use clap::error::ErrorKind;
 use clap::{ArgMatches, Error};
 use pp_channel::CHANNELS;
-use pp_check::listed_channels;
+use pp_check::{listed_channels, listed_processors};
 use pp_draw::{MOST_TURNS, Window};
-use pp_machine::{PpNo, Profile};
+use pp_machine::{PROCESSORS, PpNo, Profile};
+use pp_memory::Bounds;
 use pp_runner::Limits;
 use std::alloc::Global;
 
-/// The number in an option's text.
-fn number_of(matches: &ArgMatches<'_>, id: &str) -> Option<u32>
-    ensures { MatchOption result ((n : ℕ) → ¬ ReadsNumber
-        (first_value (found_of matches.now) id.now) n)
-        (ReadsNumber (first_value (found_of matches.now) id.now)) }
+/// How many places a processor's memory has.
+const PLACES: u32 = 0o10000;
+
+/// How many words central memory has at most.
+const MOST_CENTRAL_WORDS: u32 = 0o400000;
+
+/// The value of an option, if the words give it one.
+fn value_of<'a>(matches: &ArgMatches<'a>, id: &str) -> Option<&'a str>
+    ensures { option_map (λ s. s.now) result ≡ value_in matches.now id.now }
 {
-    matches.get_str(id)?.parse::<u32>().ok()
+    matches.get_str(id)
+}
+
+/// The number in an option's value.
+fn number_of(matches: &ArgMatches<'_>, id: &str) -> Option<u32>
+    ensures { Finds (ReadsNumber (value_in matches.now id.now)) result }
+{
+    value_of(matches, id)?.parse::<u32>().ok()
 }
 
 /// The profile with as many processors as the options say, if there is one; the 6600's own where
 /// they do not say it.
 fn profile_of(matches: &ArgMatches<'_>) -> Option<Profile>
-    ensures { MatchOption result ((profile : Profile)
-        → ¬ ReadsProfile (first_value (found_of matches.now) (codes "processors")) profile)
-        (ReadsProfile (first_value (found_of matches.now) (codes "processors"))) }
+    ensures { Finds (ReadsProfile (value_in matches.now (codes "processors"))) result }
 {
-    if matches.get_str("processors").is_none() {
+    if value_of(matches, "processors").is_none() {
         return Some(Profile::Ten);
     }
     match number_of(matches, "processors") {
@@ -64,10 +71,7 @@ fn limits_of(steps: u32, patience: u32) -> Option<Limits>
 
 /// The number of turns that the options say, if it is in range.
 fn turns_of(matches: &ArgMatches<'_>) -> Option<u32>
-    ensures { MatchOption result
-        ((n : ℕ)
-        → ¬ (ReadsNumber (first_value (found_of matches.now) (codes "turns")) n × (n ≤ 999999)))
-        (λ n. ReadsNumber (first_value (found_of matches.now) (codes "turns")) n × (n ≤ 999999)) }
+    ensures { Finds (ReadsTurns (value_in matches.now)) result }
 {
     let turns = number_of(matches, "turns")?;
     if !TURNS.contains(turns) {
@@ -76,29 +80,64 @@ fn turns_of(matches: &ArgMatches<'_>) -> Option<u32>
     Some(turns)
 }
 
-/// The processor of a machine of this profile that the options say, in octal; or nothing where they
-/// say no such processor. They need not say one.
-fn only_of(matches: &ArgMatches<'_>, profile: Profile) -> Option<Option<PpNo>>
-    ensures { MatchOption result ((only : Option ℕ) → ¬ ReadsProcessor profile
-        (first_value (found_of matches.now) (codes "pp")) only)
-        (ReadsProcessor profile (first_value (found_of matches.now) (codes "pp"))) }
+/// The processor of a machine of this profile that `--pp` gives, in octal, if there is one.
+fn processor_of(matches: &ArgMatches<'_>, profile: Profile) -> Option<PpNo>
+    ensures { Finds (ReadsProcessor profile (value_in matches.now (codes "pp"))) result }
 {
-    let Some(text) = matches.get_str("pp") else {
-        return Some(None);
-    };
-    let number = u8::from_str_radix(text, 8).ok()?;
-    let n = profile.processor(number)?;
-    Some(Some(n))
+    let number = u8::from_str_radix(value_of(matches, "pp")?, 8).ok()?;
+    profile.processor(number)
 }
 
-/// The turn from which on lines are printed, if it is in range; 0 where the options do not say it.
-fn from_of(matches: &ArgMatches<'_>) -> Option<u32>
-    ensures { MatchOption result
-        ((n : ℕ) → ¬ ReadsTurn (first_value (found_of matches.now) (codes "from")) n)
-        (ReadsTurn (first_value (found_of matches.now) (codes "from"))) }
+/// The processors of a machine of this profile that `--pp` lists, in octal, if it is given; nothing
+/// if the list is none of these.
+fn processors_of(matches: &ArgMatches<'_>, profile: Profile) -> Option<Option<[bool; PROCESSORS]>>
+    ensures { Finds (ReadsProcessors profile (value_in matches.now (codes "pp"))) result }
 {
-    let Some(text) = matches.get_str("from") else {
-        return Some(0);
+    let Some(text) = value_of(matches, "pp") else {
+        return Some(None);
+    };
+    let listed = listed_processors(profile, text.as_bytes())?;
+    Some(Some(listed))
+}
+
+/// The channels that `--ch` lists, in octal, if it is given; nothing if the list is none of
+/// channels.
+fn channels_of(matches: &ArgMatches<'_>) -> Option<Option<[bool; CHANNELS]>>
+    ensures { Finds (ReadsChosen (value_in matches.now (codes "ch"))) result }
+{
+    let Some(text) = value_of(matches, "ch") else {
+        return Some(None);
+    };
+    let listed = listed_channels(text.as_bytes())?;
+    Some(Some(listed))
+}
+
+/// The address in an option's value, in octal; this one if the option is not given.
+fn address_of(matches: &ArgMatches<'_>, id: &str, default: u32) -> Option<u32>
+    ensures { Finds (ReadsAddress default (value_in matches.now id.now)) result }
+{
+    match value_of(matches, id) {
+        Some(text) => u32::from_str_radix(text, 8).ok(),
+        None => Some(default),
+    }
+}
+
+/// The bounds of the words to print, if they lie within a memory of this size.
+fn bounds_of(matches: &ArgMatches<'_>, size: u32) -> Option<Bounds>
+    requires { 1 ≤ size }
+    ensures { Finds (ReadsBounds size (value_in matches.now)) result }
+{
+    let first = address_of(matches, "first", 0)?;
+    let last = address_of(matches, "last", size - 1)?;
+    Bounds::new(first, last, size)
+}
+
+/// The turn in an option's value, if it is in range; this one if the option is not given.
+fn turn_of(matches: &ArgMatches<'_>, id: &str, default: u32) -> Option<u32>
+    ensures { Finds (ReadsTurn default (value_in matches.now id.now)) result }
+{
+    let Some(text) = value_of(matches, id) else {
+        return Some(default);
     };
     match text.parse::<u32>() {
         Ok(turn) if FROM.contains(turn) => Some(turn),
@@ -109,11 +148,9 @@ fn from_of(matches: &ArgMatches<'_>) -> Option<u32>
 /// The turn before which a picture of a run of so many turns ends, if it is in range; that of the
 /// run where the options do not say it.
 fn end_of(matches: &ArgMatches<'_>, turns: u32) -> Option<u32>
-    ensures { MatchOption result
-        ((n : ℕ) → ¬ ReadsEnd turns (first_value (found_of matches.now) (codes "to")) n)
-        (ReadsEnd turns (first_value (found_of matches.now) (codes "to"))) }
+    ensures { Finds (ReadsEnd turns (value_in matches.now (codes "to"))) result }
 {
-    let Some(text) = matches.get_str("to") else {
+    let Some(text) = value_of(matches, "to") else {
         return Some(turns);
     };
     match text.parse::<u32>() {
@@ -125,13 +162,11 @@ fn end_of(matches: &ArgMatches<'_>, turns: u32) -> Option<u32>
 /// The turns that the options say to be drawn, if they are in range, however many they are.
 #[tactic(auto, unfolding(crate::specs::CommandLine::ReadsWindow))]
 fn window_of(matches: &ArgMatches<'_>) -> Option<Window>
-    ensures { MatchOption result
-        ((w : Window) → ¬ ReadsWindow (first_value (found_of matches.now)) w)
-        (ReadsWindow (first_value (found_of matches.now))) }
+    ensures { Finds (ReadsWindow (value_in matches.now)) result }
 {
     let turns = turns_of(matches)?;
     let to = end_of(matches, turns)?;
-    let from = from_of(matches)?;
+    let from = turn_of(matches, "from", 0)?;
     if to < from {
         return None;
     }
@@ -147,7 +182,7 @@ fn fits_a_picture(window: Window) -> bool
 
 /// Whether a command asks for a picture of more turns than it has.
 fn asks_for_more(name: &str, matches: &ArgMatches<'_>) -> bool
-    ensures { IsTrue result ↔ AsksForMore name.now (first_value (found_of matches.now)) }
+    ensures { IsTrue result ↔ AsksForMore name.now (value_in matches.now) }
 {
     if name != "draw" {
         return false;
@@ -161,11 +196,9 @@ fn asks_for_more(name: &str, matches: &ArgMatches<'_>) -> bool
 /// The channels that the options say to be open, by flags in the order of their places, if they are
 /// channels; none where the options do not say any.
 fn opened_of(matches: &ArgMatches<'_>) -> Option<[bool; CHANNELS]>
-    ensures { MatchOption result ((flags : List Bool) → ¬ ReadsChannels
-        (first_value (found_of matches.now) (codes "opened")) flags)
-        (ReadsChannels (first_value (found_of matches.now) (codes "opened"))) }
+    ensures { Finds (ReadsChannels (value_in matches.now (codes "opened"))) result }
 {
-    match matches.get_str("opened") {
+    match value_of(matches, "opened") {
         Some(text) => listed_channels(text.as_bytes()),
         None => Some([false; CHANNELS]),
     }
@@ -173,9 +206,7 @@ fn opened_of(matches: &ArgMatches<'_>) -> Option<[bool; CHANNELS]>
 
 /// The work that `threads` asks for.
 fn threads_work(matches: &ArgMatches<'_>) -> Option<Work>
-    ensures { MatchOption result
-        ((work : Work) → ¬ IsWorkOf (codes "threads") (first_value (found_of matches.now)) work)
-        (IsWorkOf (codes "threads") (first_value (found_of matches.now))) }
+    ensures { Finds (IsWorkOf (codes "threads") (value_in matches.now)) result }
 {
     let profile = profile_of(matches)?;
     let steps = number_of(matches, "steps")?;
@@ -184,82 +215,124 @@ fn threads_work(matches: &ArgMatches<'_>) -> Option<Work>
     Some(Work::Threads { profile, limits })
 }
 
-/// The work that `steps` asks for.
-fn steps_work(matches: &ArgMatches<'_>) -> Option<Work>
-    ensures { MatchOption result
-        ((work : Work) → ¬ IsWorkOf (codes "steps") (first_value (found_of matches.now)) work)
-        (IsWorkOf (codes "steps") (first_value (found_of matches.now))) }
+/// The text of a deck that `steps` asks for.
+fn steps_text_of(matches: &ArgMatches<'_>, profile: Profile) -> Option<TextOf>
+    ensures { Finds (AsksForText (codes "steps") (value_in matches.now) profile) result }
 {
-    let profile = profile_of(matches)?;
     let turns = turns_of(matches)?;
-    let only = only_of(matches, profile)?;
-    let from = from_of(matches)?;
-    Some(Work::Steps {
-        profile,
-        turns,
-        only,
+    let processors = processors_of(matches, profile)?;
+    let channels = channels_of(matches)?;
+    let from = turn_of(matches, "from", 0)?;
+    let to = turn_of(matches, "to", turns)?;
+    let chosen = ChosenSteps {
+        processors,
+        channels,
         from,
+        to,
+    };
+    Some(TextOf::Steps { turns, chosen })
+}
+
+/// Whether an option without a value is given.
+fn is_flagged(matches: &ArgMatches<'_>, id: &str) -> bool
+    ensures { ReadsFlag (value_in matches.now id.now) result }
+{
+    match value_of(matches, id) {
+        Some("true") => true,
+        Some(_) | None => false,
+    }
+}
+
+/// The text of a deck that `sessions` asks for.
+fn sessions_text_of(matches: &ArgMatches<'_>, profile: Profile) -> Option<TextOf>
+    ensures { Finds (AsksForText (codes "sessions") (value_in matches.now) profile) result }
+{
+    let turns = turns_of(matches)?;
+    let words = is_flagged(matches, "words");
+    Some(TextOf::Sessions { turns, words })
+}
+
+/// The text of a deck that `memory` asks for.
+fn memory_text_of(matches: &ArgMatches<'_>, profile: Profile) -> Option<TextOf>
+    ensures { Finds (AsksForText (codes "memory") (value_in matches.now) profile) result }
+{
+    let turns = turns_of(matches)?;
+    let processor = processor_of(matches, profile)?;
+    let bounds = bounds_of(matches, PLACES)?;
+    Some(TextOf::Memory {
+        turns,
+        processor,
+        bounds,
     })
 }
 
-/// The work that `draw` asks for.
-fn draw_work(matches: &ArgMatches<'_>) -> Option<Work>
-    ensures { MatchOption result
-        ((work : Work) → ¬ IsWorkOf (codes "draw") (first_value (found_of matches.now)) work)
-        (IsWorkOf (codes "draw") (first_value (found_of matches.now))) }
+/// The text of a deck that `central` asks for.
+fn central_text_of(matches: &ArgMatches<'_>, profile: Profile) -> Option<TextOf>
+    ensures { Finds (AsksForText (codes "central") (value_in matches.now) profile) result }
 {
-    let profile = profile_of(matches)?;
+    let turns = turns_of(matches)?;
+    let bounds = bounds_of(matches, MOST_CENTRAL_WORDS)?;
+    Some(TextOf::Central { turns, bounds })
+}
+
+/// The text of a deck that `draw` asks for.
+fn drawn_text_of(matches: &ArgMatches<'_>, profile: Profile) -> Option<TextOf>
+    ensures { Finds (AsksForText (codes "draw") (value_in matches.now) profile) result }
+{
     let window = window_of(matches)?;
     if !fits_a_picture(window) {
         return None;
     }
-    Some(Work::Draw { profile, window })
+    Some(TextOf::Draw(window))
+}
+
+/// The text of a deck that a command asks for, if its numbers are in range.
+fn text_of(name: &str, matches: &ArgMatches<'_>, profile: Profile) -> Option<TextOf>
+    ensures { Finds (AsksForText name.now (value_in matches.now) profile) result }
+{
+    match name {
+        "barrel" => Some(TextOf::Barrel(turns_of(matches)?)),
+        "list" => Some(TextOf::List),
+        "dump" => Some(TextOf::Dump(turns_of(matches)?)),
+        "state" => Some(TextOf::State(turns_of(matches)?)),
+        "sessions" => sessions_text_of(matches, profile),
+        "races" => Some(TextOf::Races(turns_of(matches)?)),
+        "ends" => Some(TextOf::Ends(turns_of(matches)?)),
+        "memory" => memory_text_of(matches, profile),
+        "central" => central_text_of(matches, profile),
+        "steps" => steps_text_of(matches, profile),
+        "draw" => drawn_text_of(matches, profile),
+        _ => None,
+    }
+}
+
+/// The work that `check` asks for.
+fn check_work(matches: &ArgMatches<'_>) -> Option<Work>
+    ensures { Finds (IsWorkOf (codes "check") (value_in matches.now)) result }
+{
+    let opened = opened_of(matches)?;
+    Some(Work::Check { opened })
+}
+
+/// The work that a command asks for which takes a deck and runs no threads.
+fn deck_work(name: &str, matches: &ArgMatches<'_>) -> Option<Work>
+    requires threads { name.now ≢ codes "threads" }
+    requires check { name.now ≢ codes "check" }
+    ensures { Finds (IsWorkOf name.now (value_in matches.now)) result }
+{
+    let profile = profile_of(matches)?;
+    let text = text_of(name, matches, profile)?;
+    Some(Work::Deck { profile, text })
 }
 
 /// The work that a command asks for, if its numbers are in range.
 fn work_of(name: &str, matches: &ArgMatches<'_>) -> Option<Work>
-    ensures { MatchOption result ((work : Work)
-        → ¬ IsWorkOf name.now (first_value (found_of matches.now)) work)
-        (IsWorkOf name.now (first_value (found_of matches.now))) }
+    ensures { Finds (IsWorkOf name.now (value_in matches.now)) result }
 {
     match name {
-        "barrel" => {
-            let profile = profile_of(matches)?;
-            let turns = turns_of(matches)?;
-            Some(Work::Barrel { profile, turns })
-        }
         "threads" => threads_work(matches),
-        "list" => {
-            let profile = profile_of(matches)?;
-            Some(Work::List { profile })
-        }
-        "dump" => {
-            let profile = profile_of(matches)?;
-            let turns = turns_of(matches)?;
-            Some(Work::Dump { profile, turns })
-        }
-        "state" => {
-            let profile = profile_of(matches)?;
-            let turns = turns_of(matches)?;
-            Some(Work::State { profile, turns })
-        }
-        "sessions" => {
-            let profile = profile_of(matches)?;
-            let turns = turns_of(matches)?;
-            Some(Work::Sessions { profile, turns })
-        }
-        "races" => {
-            let profile = profile_of(matches)?;
-            let turns = turns_of(matches)?;
-            Some(Work::Races { profile, turns })
-        }
-        "steps" => steps_work(matches),
-        "draw" => draw_work(matches),
-        "check" => {
-            let opened = opened_of(matches)?;
-            Some(Work::Check { opened })
-        }
-        _ => None,
+        "check" => check_work(matches),
+        _ => deck_work(name, matches),
     }
 }
 

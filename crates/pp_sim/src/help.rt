@@ -79,8 +79,8 @@ The exit status is 0 when the work is done or help was asked for, 1 when the dec
 can't be dumped as it stands, or when a trace is not lawful, 2 when the command line is refused, 3
 after a read or write fault, and 4 when memory runs out.
 
-The pages TUTORIAL.md, docs/MACHINE.md (the instructions), docs/DECK.md, docs/OUTPUT.md and
-docs/VIEWS.md of the repository say more.
+The pages TUTORIAL.md, VIEWS.md, docs/MACHINE.md (the instructions), docs/DECK.md and
+docs/OUTPUT.md of the repository say more.
 
 ",
     "barrel --turns 40"
@@ -168,14 +168,59 @@ Runs a deck in the barrel, and prints how things stand then: where each processo
 it, what the run has changed in the memories, and the state of the channels.
 
 Reads the deck from standard input. Prints to standard output, for each processor that the deck
-names, its P, its A and its state, the instruction at P, the next place of a block in progress, and,
-where its next step is held, by which channel and how many of its last steps in a row were; then the
-words of processors and of central memory that differ from those loaded, as lines of a deck; and the
-state of each channel that has a history. What goes wrong is one line on standard error.
+names or that waited at dead start, its P, its A and its state, the instruction that runs, the next
+place of a block in progress, and, if its next step is held, by which channel and how many of its
+last steps in a row were; then the words of processors and of central memory that differ from those
+loaded, as lines of a deck; and the state of each channel that has a history. What goes wrong is one
+line on standard error.
 
 FAULT 1 is an exchange jump, FAULT 2 a request to the central processor, FAULT 3 a channel that the
 machine does not have, and FAULT 4 an address past the end of central memory.",
     example: four_example!("state --turns 40"),
+};
+
+pub(crate) const ENDS_HELP: Help = Help {
+    about: "Runs a deck in the barrel, and says how the run ends",
+    long_about: "\
+Runs a deck in the barrel, and says how the run ends, as far as these turns tell.
+
+Reads the deck from standard input. Prints to standard output AT REST FROM t, if from turn t on
+every processor is stopped or at fault; STUCK FROM t, if from then on nothing can move, though some
+processor is running; REPEATS FROM t EVERY n, if after each n turns the machine stands as it stood
+at turn t; or GOING ON AT t, the last turn. Then, as they stand at turn t, a line for each processor
+that the deck names or that waited at dead start, with the places between which it LOOPS in a
+repetition; and the state of each channel that has a history. What goes wrong is one line on
+standard error.",
+    example: four_example!("ends --turns 999999"),
+};
+
+pub(crate) const MEMORY_HELP: Help = Help {
+    about: "Runs a deck in the barrel, and prints the words of a processor's memory",
+    long_about: "\
+Runs a deck in the barrel, and prints the words of a processor's memory, in octal and in display
+code.
+
+Reads the deck from standard input. Prints to standard output a line for each eight places, from a
+multiple of 10 on (octal), of which one lies within the bounds and one has a word that is not 0: the
+first place, the eight words, and the same in display code, two characters a word (00 and 55 are
+spaces). What goes wrong is one line on standard error.",
+    example: four_example!("memory --turns 40 --pp 0"),
+};
+
+pub(crate) const CENTRAL_HELP: Help = Help {
+    about: "Runs a deck in the barrel, and prints the words of central memory",
+    long_about: "\
+Runs a deck in the barrel, and prints the words of central memory, in octal and in display code.
+
+Reads the deck from standard input. Prints to standard output a line for each word within the bounds
+that is not 0: the address, the word, and the same in display code, ten characters (00 and 55 are
+spaces). What goes wrong is one line on standard error.",
+    example: "\
+Example:
+  ppsim central --turns 40 < word.deck
+where word.deck has the lines
+  CM 10 00010002000300040005
+  PP 0",
 };
 
 pub(crate) const SESSIONS_HELP: Help = Help {
@@ -188,9 +233,10 @@ Reads the deck from standard input. Prints to standard output, channel by channe
 session: the turns of its activate and its disconnect (DEAD START, where it was open before the
 first turn; GOING ON, where it still is), how many words were put and taken, and the word that was
 put and not taken, which was LOST by the disconnect or is WAITING; and a line for each idle stretch
-with function codes. Then, for each processor that the deck names, how many of its turns MOVED it,
-were HELD, and found it at REST. Turns and counts are decimal, words octal. What goes wrong is one
-line on standard error.",
+with function codes. Then, for each processor that the deck names or that waited at dead start, how
+many of its turns MOVED it, were HELD, and found it at REST. With --words the line of a session is
+followed by the words put, and that of an idle stretch by its function codes, eight a line. Turns
+and counts are decimal, words octal. What goes wrong is one line on standard error.",
     example: handoff_example!("sessions --turns 40"),
 };
 
@@ -204,10 +250,10 @@ Reads the deck from standard input. Prints to standard output a line for each st
 an event of its channel, since it would have done something else BEFORE that event, which it came
 after, or AFTER it, which it came before: the turn, the processor, P and the instruction, the
 channel, and the event with its turn and its processor. Then a line for each processor that is still
-GOING ON, or that is HELD and would not have been BEFORE an event; and one for each central word (CM)
-that was WRITTEN BY one processor and USED BY another. The last line is SAME IN EVERY ORDER if it is
-the only one, NO RACE SO FAR if all others are of processors going on, and else MAY DIFFER. What goes
-wrong is one line on standard error.
+GOING ON, or that is HELD and would not have been BEFORE an event; and one for each central word
+(CM) that was WRITTEN BY one processor and USED BY another. The last line is SAME IN EVERY ORDER if
+it is the only one, NO RACE SO FAR if all others are of processors going on, and else MAY DIFFER.
+What goes wrong is one line on standard error.
 
 MAY DIFFER may stand where nothing differs: each processor is looked at with one channel at a time,
 so an order that another channel or a word of memory brings about is not seen, and each look counts
@@ -221,11 +267,13 @@ pub(crate) const STEPS_HELP: Help = Help {
 Runs a deck in the barrel, and prints each step: what the instruction is, and what it did.
 
 Reads the deck from standard input. Prints to standard output a line for each step of the processors
-that the deck names: the turn, the processor, P, the word or two at P, the instruction that they
-are, and A after it; then each place and each central word that the step changed; the channel event,
-or the flags that were seen; and STOPPED or FAULT with its number. Steps of a processor that are
-held in a row, with the same flags, are one line, at the first of them: HELD, the channel with its
-flags, and how many there are. What goes wrong is one line on standard error.
+that the deck names or that waited at dead start: the turn, the processor, P, the word or two at P
+(none within a block), the instruction that runs, and A after it; then each place and each central
+word that the step changed; the channel event, or the flags that were seen; and STOPPED or FAULT
+with its number. Steps of a processor that are held in a row, with the same flags, are one line, at
+the first of them: HELD, the channel with its flags, and how many there are. With --pp, --ch, --from
+or --to only the steps chosen are printed, and counted. What goes wrong is one line on standard
+error.
 
 FAULT 1 is an exchange jump, FAULT 2 a request to the central processor, FAULT 3 a channel that the
 machine does not have, and FAULT 4 an address past the end of central memory.",
@@ -239,9 +287,9 @@ Runs a deck in the barrel, and draws what happened, as an SVG for a browser.
 
 Reads the deck from standard input. Prints to standard output a picture with a lane for each channel
 that was used, where it was active and full, with its words and function codes, and with the words
-that were lost; and a lane for each processor that the deck names, where it was running, held and by
-which channel, in a block, stopped or at fault. Turns go from left to right. What goes wrong is one
-line on standard error.
+that were lost; and a lane for each processor that the deck names or that waited at dead start,
+where it was running, held and by which channel, in a block, stopped or at fault. Turns go from left
+to right. What goes wrong is one line on standard error.
 
 A picture has at most 2000 turns. Of a longer run, give the first turn to draw and the one before
 which the picture ends: --turns 999999 --from 5000 --to 6000.",
@@ -276,6 +324,18 @@ where handoff.trace has the lines
 pub(crate) const PROCESSORS_HELP: &str =
     "How many processors the machine has, 10 or 20 (decimal); 10 if not given";
 
-pub(crate) const PP_HELP: &str = "Print the steps of this processor only (octal)";
+pub(crate) const PP_HELP: &str = "Print the steps of these processors only (octal)";
+
+pub(crate) const CHANNELS_HELP: &str = "Print the steps that ask these channels only (octal)";
+
+pub(crate) const MEMORY_PP_HELP: &str = "The processor (octal)";
+
+pub(crate) const FIRST_HELP: &str = "The first address to print (octal; 0 if not given)";
+
+pub(crate) const MEMORY_LAST_HELP: &str = "The last address to print (octal; 7777 if not given)";
+
+pub(crate) const CENTRAL_LAST_HELP: &str = "The last address to print (octal; 377777 if not given)";
+
+pub(crate) const WORDS_HELP: &str = "Print the words and function codes as well";
 
 pub(crate) const OPENED_HELP: &str = "The channels that were open before the trace (octal)";

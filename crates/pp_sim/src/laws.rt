@@ -11,12 +11,12 @@ ghost use Rattle.pp_machine.specs.Run.{barrel, run};
 ghost use Rattle.pp_machine.specs.declared.profile.Profile.{Profile};
 ghost use Rattle.pp_every_order.specs.Determinacy.{AreAlike, IsQuiet, ShowsParts, StandsIn};
 ghost use Rattle.pp_promises.specs.OneRun.{IsOver, ShowsPartsOf};
+ghost use Rattle.pp_promises.specs.Serial.{LeadsTo};
 ghost use Rattle.pp_races.specs.RacesText.{verdict_line};
 ghost use Rattle.pp_races.specs.declared.verdict.Verdict.TheVariants.{Same};
 ghost use Rattle.pp_runner.specs.Limits.{RunLimits};
 ghost use Rattle.pp_runner.specs.Report.{IsReportOf};
 ghost use Rattle.pp_runner.specs.declared.report.Report.{Report};
-ghost use Rattle.pp_serial.specs.Serial.{LeadsTo};
 ghost use Rattle.pp_sim.specs.BarrelText.{IsBarrelText};
 ghost use Rattle.pp_sim.specs.RacesText.{IsRacesText};
 ghost use Rattle.pp_sim.specs.ThreadsText.{IsThreadsText};
@@ -76,11 +76,11 @@ pub fn checked_text_law<A: Allocator>()
     printed_report_law::<A>();
 }
 
-/// Where the last line of a text that `races_text` wrote is `SAME IN EVERY ORDER`, the run ends quiet;
-/// every other list of steps of the deck's machine shows each processor and each channel only as this
-/// run showed it at some moment; and one that ends quiet, or in which the turns of this run stand with
-/// any steps between, leaves the processors, central memory, and the histories of the channels, each
-/// event made by the same processor, as this run did.
+/// Where the last line of a `TextOf::Races` is `SAME IN EVERY ORDER`, the run ends quiet; every
+/// other list of steps of the deck's machine shows each processor and each channel only as this run
+/// showed it at some moment; and one that ends quiet, or in which the turns of this run stand with
+/// any steps between, leaves the processors, central memory, and the histories of the channels,
+/// each event made by the same processor, as this run did.
 pub fn races_text_law()
     ensures quiet { (turns : ℕ) (deck : LoadedDeck) (text before : List ℕ)
         → IsRacesText turns deck text → text ≡ before ++ verdict_line Same
@@ -104,8 +104,8 @@ pub fn races_text_law()
 
 /// What such a text tells of every run of the deck by threads. However the threads ended, each
 /// processor and each channel stands as at some moment of the run in the barrel. Where nothing more
-/// can move, the barrel leads to the very processors and the very histories that the threads left, and
-/// to the words of central memory that their accesses leave.
+/// can move, the barrel leads to the very processors and the very histories that the threads left,
+/// and to the words of central memory that their accesses leave.
 pub fn races_report_law<A: Allocator>()
     ensures parts { (profile : Profile) (bytes text before : List ℕ) (deck : LoadedDeck)
         (turns : ℕ) (limits : RunLimits) (report : Report A)

@@ -3,7 +3,7 @@
 
 mod command;
 mod command_words;
-mod deck_text;
+mod deck_bytes;
 mod entry;
 mod help;
 mod laws;
@@ -13,6 +13,7 @@ mod numeral;
 mod program;
 mod streams;
 mod text_fault;
+mod text_of;
 mod texts;
 mod work;
 
@@ -42,14 +43,9 @@ pub use pp_state::{printed_state, run_counting_held, state_law};
 pub use pp_steps::{steps_law, write_steps};
 pub use program::run_program;
 pub use text_fault::TextFault;
+pub use text_of::{ChosenSteps, TextOf};
 pub use texts::barrel_text::barrel_text;
 pub use texts::check_text::check_text;
-pub use texts::drawing_text::drawing_text;
-pub use texts::dump_text::dump_text;
-pub use texts::list_text::list_text;
-pub use texts::races_text::races_text;
-pub use texts::sessions_text::sessions_text;
-pub use texts::state_text::state_text;
-pub use texts::steps_text::steps_text;
+pub use texts::deck_text::deck_text;
 pub use texts::threads_text::threads_text;
 pub use work::Work;

@@ -26,11 +26,11 @@ pub(crate) const TURNS: NumberRange = range!("How many turns to run", 0 to 999_9
 pub(crate) const FROM: NumberRange =
     range!("The first turn to print (0 if not given)", 0 to 999_999);
 
+pub(crate) const TO: NumberRange =
+    range!("The turn to end before (that of --turns if not given)", 0 to 999_999);
+
 pub(crate) const DRAWN_FROM: NumberRange =
     range!("The first turn to draw (0 if not given)", 0 to 999_999);
-
-pub(crate) const DRAWN_TO: NumberRange =
-    range!("The turn to end before (that of --turns if not given)", 0 to 999_999);
 
 /// The range of `Limits`, as is the next.
 pub(crate) const STEPS: NumberRange = range!("How many steps each processor may do", 1 to 100_000);

@@ -8,15 +8,8 @@ use crate::command_words::read_words;
 use crate::line_fault::LineFault;
 use crate::streams::write_whole;
 use crate::text_fault::TextFault;
-use crate::texts::barrel_text::barrel_text;
 use crate::texts::check_text::check_text;
-use crate::texts::drawing_text::drawing_text;
-use crate::texts::dump_text::dump_text;
-use crate::texts::list_text::list_text;
-use crate::texts::races_text::races_text;
-use crate::texts::sessions_text::sessions_text;
-use crate::texts::state_text::state_text;
-use crate::texts::steps_text::steps_text;
+use crate::texts::deck_text::deck_text;
 use crate::texts::threads_text::threads_text;
 use crate::work::Work;
 use clap::Error;
@@ -72,22 +65,10 @@ fn do_work<T: Threads + Wait + Sync, I: Read, A: Allocator + Copy + Send + Sync,
         (O.contents output.old) (O.contents output.new) }
 {
     match work {
-        Work::Barrel { profile, turns } => barrel_text(alloc, profile, input, output, turns),
+        Work::Deck { profile, text } => deck_text(alloc, profile, input, output, &text),
         Work::Threads { profile, limits } => {
             threads_text(rt, alloc, profile, input, output, limits)
         }
-        Work::List { profile } => list_text(alloc, profile, input, output),
-        Work::Dump { profile, turns } => dump_text(alloc, profile, input, output, turns),
-        Work::State { profile, turns } => state_text(alloc, profile, input, output, turns),
-        Work::Sessions { profile, turns } => sessions_text(alloc, profile, input, output, turns),
-        Work::Races { profile, turns } => races_text(alloc, profile, input, output, turns),
-        Work::Steps {
-            profile,
-            turns,
-            only,
-            from,
-        } => steps_text(alloc, profile, input, output, turns, only, from),
-        Work::Draw { profile, window } => drawing_text(alloc, profile, input, output, window),
         Work::Check { opened } => check_text(alloc, &opened, input, output),
     }
 }

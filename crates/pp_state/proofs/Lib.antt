@@ -1,7 +1,7 @@
-mod TextLemmas
 mod InstructionLemmas
 mod NeighbourLemmas
 mod ChangeLemmas
 mod WaitLemmas
 -- facts of the definitions, which proofs of other crates cite
 pub mod HeldLemmas
+pub mod TextLemmas

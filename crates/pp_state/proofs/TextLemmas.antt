@@ -6,6 +6,7 @@ use Rattle.std.proofs.lemmas.List.{append-nil}
 use Rattle.std.proofs.lemmas.List.Concat.{flat_map-append}
 use Rattle.pp_word.specs.Address.{place_count}
 use Rattle.list_facts.specs.GrowingLists.{range_more}
+use Rattle.pp_listing.specs.InstructionText.{running_instruction}
 use Rattle.pp_listing.specs.Listing.{numbers}
 use Rattle.pp_listing.specs.OctalDigits.{octal, short_octal}
 use Rattle.pp_text.specs.PrintedText.{each_below, processor_line, state_text as running_or_not}
@@ -16,7 +17,7 @@ use Rattle.pp_machine.specs.NeedAndEffect.{need}
 use Rattle.pp_machine.specs.Processor.{Processor}
 use Rattle.pp_machine.specs.declared.block.Block.{Block}
 use Rattle.pp_machine.specs.declared.pp_state.PpState.{PpState}
-use Rattle.pp_state.specs.StateText.{block_text, deck_line, held_text, next_instruction, standing}
+use Rattle.pp_state.specs.StateText.{block_place_text, deck_line, held_text, standing}
 
 -- ---- what is said of each number
 
@@ -84,18 +85,30 @@ central_in_pieces t t1 t2 t3 t4 t5 before after a first w old is was differs is_
 
 -- ---- the line of a processor
 
-line_pieces : (t a b c d e f g h i j k l z : List ℕ) → ((((t ++ (((a ++ b ++ c ++ d ++ e ++ f ++ g) ++ h) ++ i)) ++ j) ++ k) ++ l) ++ z
-    ≡ t ++ (a ++ b ++ c ++ d ++ e ++ f ++ g ++ (h ++ i ++ j ++ k ++ l) ++ z)
-line_pieces t a b c d e f g h i j k l z = simp append_assoc refl
+line_pieces : (t a b c d e f g said z : List ℕ) → ((t ++ (a ++ b ++ c ++ d ++ e ++ f ++ g)) ++ said) ++ z
+    ≡ t ++ (a ++ b ++ c ++ d ++ e ++ f ++ g ++ said ++ z)
+line_pieces t a b c d e f g said z = simp append_assoc refl
 
-pub line_in_pieces : (heading p p1 p2 p3 start t t1 t2 t3 t4 t5 : List ℕ) (n count : ℕ) (m : MachineState) (pp : Processor) (state : PpState) (block : Option Block)
-    → pp ≡ processor_of n m → state ≡ pp.state → block ≡ pp.block
+-- the line of a processor, with what is said of it
+pub line_in_pieces : (heading t t1 t2 t3 said : List ℕ) (n : ℕ) (pp : Processor) (m : MachineState)
+    → pp ≡ processor_of n m
     → heading ≡ codes "PP" ++ octal 2 n ++ codes " P=" ++ octal 4 pp.p ++ codes " A=" ++ octal 6 pp.a ++ codes " "
-    → p ≡ [] → p1 ≡ p ++ heading → p2 ≡ p1 ++ running_or_not state → p3 ≡ p2 ++ 32 ∷ [] → start ≡ p3
-    → t1 ≡ t ++ start → t2 ≡ t1 ++ next_instruction pp → t3 ≡ t2 ++ block_text block
-    → t4 ≡ t3 ++ held_text (need (processor_of n m)) (step_outcome n m) m count → t5 ≡ t4 ++ 10 ∷ []
-    → t5 ≡ t ++ processor_line n (processor_of n m) (standing n m count)
+    → t1 ≡ t ++ heading → t2 ≡ t1 ++ said → t3 ≡ t2 ++ 10 ∷ []
+    → t3 ≡ t ++ processor_line n (processor_of n m) said
 unfolding processor_line
-line_in_pieces heading p p1 p2 p3 start t t1 t2 t3 t4 t5 n count m pp state block is is_state is_block is_heading q q1 q2 q3 same e1 e2 e3 e4 e5 =
-    rw (e5, e4, e3, e2, e1, same, q3, q2, q1, q, is_heading, is_state, is_block, is)
-    (line_pieces t (codes "PP") (octal 2 n) (codes " P=") (octal 4 (processor_of n m).p) (codes " A=") (octal 6 (processor_of n m).a) (32 ∷ []) (running_or_not (processor_of n m).state) (32 ∷ []) (next_instruction (processor_of n m)) (block_text (processor_of n m).block) (held_text (need (processor_of n m)) (step_outcome n m) m count) (10 ∷ []))
+line_in_pieces heading t t1 t2 t3 said n pp m is is_heading e1 e2 e3 =
+    rw (e3, e2, e1, is_heading, is)
+    (line_pieces t (codes "PP") (octal 2 n) (codes " P=") (octal 4 (processor_of n m).p) (codes " A=") (octal 6 (processor_of n m).a) (32 ∷ []) said (10 ∷ []))
+
+said_pieces : (t h i j k l : List ℕ) → (((t ++ (h ++ i)) ++ j) ++ k) ++ l ≡ t ++ (h ++ i ++ j ++ k ++ l)
+said_pieces t h i j k l = simp append_assoc refl
+
+pub standing_in_pieces : (p p1 p2 start t t1 t2 t3 t4 : List ℕ) (n count : ℕ) (m : MachineState) (pp : Processor) (state : PpState) (block : Option Block)
+    → pp ≡ processor_of n m → state ≡ pp.state → block ≡ pp.block
+    → p ≡ [] → p1 ≡ p ++ running_or_not state → p2 ≡ p1 ++ 32 ∷ [] → start ≡ p2
+    → t1 ≡ t ++ start → t2 ≡ t1 ++ running_instruction pp → t3 ≡ t2 ++ block_place_text block
+    → t4 ≡ t3 ++ held_text (need (processor_of n m)) (step_outcome n m) m count
+    → t4 ≡ t ++ standing n m count
+standing_in_pieces p p1 p2 start t t1 t2 t3 t4 n count m pp state block is is_state is_block q q1 q2 same e1 e2 e3 e4 =
+    rw (e4, e3, e2, e1, same, q2, q1, q, is_state, is_block, is)
+    (said_pieces t (running_or_not (processor_of n m).state) (32 ∷ []) (running_instruction (processor_of n m)) (block_place_text (processor_of n m).block) (held_text (need (processor_of n m)) (step_outcome n m) m count))

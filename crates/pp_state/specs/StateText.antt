@@ -1,14 +1,12 @@
--- How things stand after a run: the processors that the deck names, each with the instruction at P,
--- what differs from the load, and the channels.
+-- How things stand after a run: the processors that are shown, each with the instruction that
+-- runs, what differs from the load, and the channels.
 use Rattle.std.specs.Prelude.{ℕ, ◌==◌, Bool, List, [], ◌++◌, Option, None, Some, codes, slice_index, if◌then◌else◌}
 use Rattle.std.specs.List.{flat_map}
-use Rattle.pp_word.specs.Address.{next_place}
 use Rattle.pp_channel.specs.Answer.{flags_of}
 use Rattle.pp_channel.specs.declared.flags.Flags.{Flags}
 use Rattle.pp_machine.specs.MachineState.{MachineState, history_of, processor_of}
 use Rattle.pp_machine.specs.MachineStep.{step_outcome}
 use Rattle.pp_machine.specs.NeedAndEffect.{need}
-use Rattle.pp_machine.specs.Processor.{Processor, word_at}
 use Rattle.pp_machine.specs.PpNo.{processor_index, is_named}
 use Rattle.pp_machine.specs.Run.{run}
 use Rattle.pp_machine.specs.declared.block.Block.{Block}
@@ -18,7 +16,8 @@ use Rattle.pp_machine.specs.declared.outcome.Outcome.{Outcome}
 use Rattle.pp_machine.specs.declared.outcome.Outcome.TheVariants.{Held}
 use Rattle.pp_deck.specs.DeckLine.{Line}
 use Rattle.pp_deck.specs.DeckMeaning.{LoadedDeck}
-use Rattle.pp_listing.specs.InstructionText.{instruction_text}
+use Rattle.pp_deck.specs.InUse.{in_use}
+use Rattle.pp_listing.specs.InstructionText.{running_instruction}
 use Rattle.pp_listing.specs.ListedLine.{line_text}
 use Rattle.pp_listing.specs.OctalDigits.{octal}
 use Rattle.pp_text.specs.Numeral.{unpadded}
@@ -28,15 +27,10 @@ use Rattle.pp_run.specs.RunSteps.{run_steps}
 use Rattle.pp_state.specs.Changes.{changed_central, changed_sections}
 use Rattle.pp_state.specs.HeldSteps.{each_held_steps}
 
--- the instruction at P
-abbrev pub next_instruction : Processor → List ℕ
-next_instruction pp =
-    instruction_text pp.p (word_at pp pp.p) (word_at pp (next_place pp.p))
-
 -- ` BLOCK 0302`: the next place of a block in progress. Only a running processor is in a block
-abbrev pub block_text : Option Block → List ℕ
-block_text None = []
-block_text (Some block) = codes " BLOCK " ++ octal 4 block.place
+abbrev pub block_place_text : Option Block → List ℕ
+block_place_text None = []
+block_place_text (Some block) = codes " BLOCK " ++ octal 4 block.place
 
 -- `ACTIVE FULL`
 abbrev pub flags_text : Flags → List ℕ
@@ -64,14 +58,14 @@ held_text need outcome m count = []
 abbrev pub standing : ℕ → MachineState → ℕ → List ℕ
 standing n m count =
     let pp = processor_of n m in
-    running_or_not pp.state ++ codes " " ++ next_instruction pp ++ block_text pp.block
+    running_or_not pp.state ++ codes " " ++ running_instruction pp ++ block_place_text pp.block
     ++ held_text (need pp) (step_outcome n m) m count
 
--- the line of the processor with this number, where the deck names it; `held` has the count of held
+-- the line of the processor with this number, where it is shown; `held` has the count of held
 -- steps of each processor, in the order of the barrel
 abbrev pub standing_line : List Bool → MachineState → List ℕ → ℕ → List ℕ
-standing_line named m held n =
-    if is_named named n
+standing_line shown m held n =
+    if is_named shown n
     then processor_line n (processor_of n m) (standing n m (slice_index held (processor_index n)))
     else []
 
@@ -81,8 +75,8 @@ deck_line line = line_text line ++ line_end
 
 -- the text of two machines, before and after a run. Numbers have two octal digits
 unfoldable pub state_text : List Bool → MachineState → MachineState → List ℕ → List ℕ
-state_text named before after held =
-    each_below 0o100 (standing_line named after held)
+state_text shown before after held =
+    each_below 0o100 (standing_line shown after held)
     ++ flat_map deck_line (changed_sections before after)
     ++ flat_map deck_line (changed_central before.central after.central)
     ++ each_below 0o100 (used_channel_line after.histories)
@@ -90,5 +84,5 @@ state_text named before after held =
 -- the text of a loaded deck after these steps
 abbrev pub state_after : List ℕ → LoadedDeck → List ℕ
 state_after steps deck =
-    state_text deck.named deck.machine (run steps deck.machine)
+    state_text (in_use deck) deck.machine (run steps deck.machine)
     (each_held_steps (run_steps steps deck.machine))

@@ -1,15 +1,50 @@
 //! The text of an instruction, in columns.
 
-ghost use Rattle.std.specs.Prelude.{◌≡◌};
-ghost use Rattle.pp_listing.specs.InstructionText.{instruction_text, operands_text};
+ghost use Rattle.std.specs.Prelude.{◌≡◌, ◌++◌, codes};
+ghost use Rattle.pp_listing.specs.InstructionText.{block_text, instruction_text, operands_text, running_text};
 ghost use Rattle.pp_listing.specs.ListedLine.{padded};
 
 use pp_listing::Operands;
+use pp_machine::{Block, BlockKind};
 use pp_text::{octal2, octal4};
 use pp_word::{Word6, Word12, decode, relative};
 
+/// The text of the instruction that runs: `IAM 05       `, of the block in progress; else that of
+/// the word at a place, before the next word m: `IAM 0300,05  `.
+pub fn running_field(block: Option<Block>, place: Word12, word: Word12, m: Word12) -> [u8; 13]
+    ensures { result ≡ padded 13 (running_text block place word m) }
+{
+    match block {
+        Some(block) => block_field(block.kind),
+        None => instruction_field(place, word, m),
+    }
+}
+
+/// `IAM 05       `, of a block in progress.
+fn block_field(kind: BlockKind) -> [u8; 13]
+    ensures { result ≡ padded 13 (block_text kind) }
+{
+    match kind {
+        BlockKind::Input { channel } => channel_field(*b"IAM", octal2(channel.get())),
+        BlockKind::Output { channel } => channel_field(*b"OAM", octal2(channel.get())),
+        BlockKind::CentralIn { .. } => *b"CRM          ",
+        BlockKind::CentralOut { .. } => *b"CWM          ",
+    }
+}
+
+/// `IAM 05       `
+fn channel_field(name: [u8; 3], channel: [u8; 2]) -> [u8; 13]
+    ensures { result ≡ padded 13 (name ++ codes " " ++ channel) }
+{
+    let [n0, n1, n2] = name;
+    let [c0, c1] = channel;
+    [
+        n0, n1, n2, b' ', c0, c1, b' ', b' ', b' ', b' ', b' ', b' ', b' ',
+    ]
+}
+
 /// `IAM 0300,05  `: the text of the instruction in a word at a place, before the next word m.
-pub fn instruction_field(place: Word12, word: Word12, m: Word12) -> [u8; 13]
+fn instruction_field(place: Word12, word: Word12, m: Word12) -> [u8; 13]
     ensures { result ≡ padded 13 (instruction_text place word m) }
 {
     let (operation, d) = decode(word);

@@ -7,64 +7,64 @@ ghost use Rattle.pp_state.specs.Changes.{changed_section, changed_sections};
 ghost use Rattle.pp_state.specs.StateText.{deck_line, standing_line, state_text};
 
 use crate::changes::{has_changes, push_changed_central, push_section};
-use crate::standing::push_standing;
+use crate::standing::push_standing_line;
 use pp_channel::ChannelNo;
 use pp_machine::{Machine, PROCESSORS, PpNo};
 use pp_text::{NUMBERS, Piece, push_channel_line};
 use std::alloc::{AllocError, Allocator};
 
-/// How things stand after a run: the processors named, each with the instruction at P, the block
-/// that it is in and the channel that holds it; the words that differ from the machine as it was
-/// loaded, `before`; and the channels that have a history. `held` has for each processor, in the
-/// order of the barrel, the count of its last steps in a row that were held. Numbers are octal, but
-/// this count.
+/// How things stand after a run: the processors shown, each with the instruction that runs, the
+/// place of a block in progress and the channel that holds it; the words that differ from the
+/// machine as it was loaded, `before`; and the channels that have a history. `held` has for each
+/// processor, in the order of the barrel, the count of its last steps in a row that were held.
+/// Numbers are octal, but this count.
 #[tactic(auto, unfolding(crate::specs::StateText::state_text))]
 pub fn printed_state<A: Allocator + Copy, B: Allocator>(
     alloc: A,
-    named: &[bool; PROCESSORS],
+    shown: &[bool; PROCESSORS],
     before: &Machine<B>,
     after: &Machine<B>,
     held: &[u32; PROCESSORS],
 ) -> Result<Vec<u8, A>, AllocError>
     ensures text { IfOk result (λ text.
-        text.items ≡ state_text named.now before.now after.now held.now) }
+        text.items ≡ state_text shown.now before.now after.now held.now) }
 {
     let mut text = Vec::new(alloc);
-    push_processors(&mut text, named, after, held)?;
+    push_processors(&mut text, shown, after, held)?;
     push_memories(&mut text, before, after)?;
     push_changed_central(&mut text, before.central(), after.central())?;
     push_channels(&mut text, after)?;
     Ok(text)
 }
 
-/// Adds the lines of all processors named, in order of number.
+/// Adds the lines of all processors shown, in order of number.
 fn push_processors<A: Allocator, B: Allocator>(
     text: &mut Vec<u8, A>,
-    named: &[bool; PROCESSORS],
+    shown: &[bool; PROCESSORS],
     machine: &Machine<B>,
     held: &[u32; PROCESSORS],
 ) -> Result<(), AllocError>
     ensures { OnOk result (text.new.items ≡ text.old.items
-        ++ each_below NUMBERS (standing_line named.now machine.now held.now)) }
+        ++ each_below NUMBERS (standing_line shown.now machine.now held.now)) }
 {
     for number in 0..NUMBERS {
-        push_named_processor(text, named, machine, held, number)?;
+        push_shown_processor(text, shown, machine, held, number)?;
     }
     Ok(())
 }
 
-fn push_named_processor<A: Allocator, B: Allocator>(
+fn push_shown_processor<A: Allocator, B: Allocator>(
     text: &mut Vec<u8, A>,
-    named: &[bool; PROCESSORS],
+    shown: &[bool; PROCESSORS],
     machine: &Machine<B>,
     held: &[u32; PROCESSORS],
     number: u8,
 ) -> Result<(), AllocError>
     ensures { OnOk result (text.new.items ≡ text.old.items
-        ++ standing_line named.now machine.now held.now number) }
+        ++ standing_line shown.now machine.now held.now number) }
 {
     match PpNo::new(number) {
-        Some(n) if named[n.index()] => push_standing(text, machine, n, held[n.index()]),
+        Some(n) if shown[n.index()] => push_standing_line(text, machine, n, held[n.index()]),
         _ => Ok(()),
     }
 }
@@ -102,7 +102,7 @@ fn push_memory<A: Allocator, B: Allocator>(
 }
 
 /// Adds the lines of all channels that have a history, in order of number.
-fn push_channels<A: Allocator, B: Allocator>(
+pub fn push_channels<A: Allocator, B: Allocator>(
     text: &mut Vec<u8, A>,
     machine: &Machine<B>,
 ) -> Result<(), AllocError>

@@ -1,50 +1,23 @@
 -- The times that processors are held, turn by turn of the barrel.
-use Rattle.std.proofs.Common.{◌≡◌, ◌≢◌, ℕ, ◌+◌, ◌<◌, ◌≤◌, ◌⊎◌, inl, inr, zero, suc, add-one, set, get_or, Bool, true, false, ◌&&◌, eqb, List, [], ◌∷◌, ◌++◌, length, refl, sym, ap, ◌∙◌, append_assoc, arith}
+use Rattle.std.proofs.Common.{◌≡◌, ◌≢◌, ℕ, ◌+◌, ◌<◌, ◌≤◌, ◌⊎◌, inl, inr, zero, suc, set, get_or, Bool, true, false, cond, List, [], ◌∷◌, ◌++◌, length, refl, sym, ap, ◌∙◌, append_assoc, arith}
 use Rattle.std.specs.Prelude.{IsTrue, replicate}
-use Rattle.std.proofs.lemmas.Bool.{cases_eq, eq-eqb, ne_eqb, cond-true, cond-false}
+use Rattle.std.proofs.lemmas.Bool.{cases_eq}
 use Rattle.std.proofs.lemmas.List.{append-nil, length-set, get_or-set_same, get_or-set_other}
-use Rattle.pp_machine.specs.MachineState.{MachineState}
-use Rattle.pp_machine.specs.MachineStep.{stepped}
-use Rattle.pp_machine.specs.PpNo.{names_processor, processor_count, processor_index, is_named}
-use Rattle.pp_machine.specs.Profile.{processor_in_turn}
-use Rattle.pp_machine.specs.Run.{barrel, run}
-use Rattle.pp_machine.specs.declared.profile.Profile.{Profile}
+use Rattle.pp_machine.specs.PpNo.{names_processor, processor_count, processor_index}
 use Rattle.pp_machine.specs.ProcessorPlaces.{one_place, place_below}
-use Rattle.pp_machine.specs.RunLaws.{barrel_more}
-use Rattle.pp_steps.specs.BareMachine.{progress}
-use Rattle.pp_steps.specs.HeldRuns.{AreCounted, HeldTimes, all_times, held_counts, no_times, open_time, progress_along}
-use Rattle.pp_steps.specs.declared.progress.Progress.{Progress}
-use Rattle.pp_steps.specs.declared.progress.Progress.TheVariants.{AtRest}
+use Rattle.pp_run.specs.RunSteps.{RunStep, seen_of}
+use Rattle.pp_run.specs.RunStepLaws.{seen_more, seen_other}
+use Rattle.pp_steps.specs.HeldRuns.{AreCounted, HeldTimes, all_times, held_counts, no_times, open_time, progress_of}
+use Rattle.pp_bare.specs.declared.progress.Progress.{Progress}
+use Rattle.pp_bare.specs.declared.progress.Progress.TheVariants.{AtRest}
 
--- ---- the steps of one processor
+-- ---- step by step
 
-pub none_along : (n : ℕ) (m : MachineState) → progress_along n [] m ≡ []
-unfolding progress_along
-none_along n m = refl
-
-pub own_along : (n : ℕ) (steps : List ℕ) (m : MachineState) → progress_along n (n ∷ steps) m ≡ progress n m ∷ progress_along n steps (stepped n m)
-unfolding progress_along
-own_along n steps m = cond-true (eqb n n) _ _ (eq-eqb n n refl)
-
-pub other_along : (n k : ℕ) (steps : List ℕ) (m : MachineState) → k ≢ n → progress_along n (k ∷ steps) m ≡ progress_along n steps (stepped k m)
-unfolding progress_along
-other_along n k steps m other = cond-false (eqb k n) _ _ (ne_eqb k n other)
-
--- a processor that is named has a place
-pub named_names : (named : List Bool) (n : ℕ) → IsTrue (is_named named n) → IsTrue (names_processor n)
-named_names named n is = first (names_processor n) (get_or named (processor_index n) false) is
-  where
-    first : (a b : Bool) → IsTrue (a && b) → IsTrue a
-    first true b h = refl
-    first false b h = absurd (cc)
-
--- ---- turn by turn
-
--- after so many turns: whatever steps may come, the times with them are those of the whole run
-pub record AreCountedSoFar (named : List Bool) (turn : ℕ) (p : Profile) (m : MachineState) (runs : List HeldTimes) : Type 0 where
+-- after some steps, in so many turns: whatever steps may come, the times with them are those of all
+pub record AreCountedSoFar (turn : ℕ) (past : List RunStep) (runs : List HeldTimes) : Type 0 where
   pub as_many : length runs ≡ processor_count
-  pub times : (n : ℕ) → IsTrue (is_named named n) → (steps : List ℕ)
-      → all_times (get_or runs (processor_index n) no_times) (progress_along n steps (run (barrel p turn) m)) ≡ held_counts AtRest (progress_along n (barrel p turn ++ steps) m)
+  pub times : (n : ℕ) → IsTrue (names_processor n) → (future : List Progress)
+      → all_times (get_or runs (processor_index n) no_times) future ≡ held_counts AtRest (seen_of progress_of n past ++ future)
   pub low : (n : ℕ) → IsTrue (names_processor n) → (get_or runs (processor_index n) no_times).current ≤ turn
 
 without_steps : (k i : ℕ) → get_or (replicate k no_times) i no_times ≡ no_times
@@ -52,51 +25,41 @@ without_steps zero i = refl
 without_steps (suc k) zero = refl
 without_steps (suc k) (suc i) = without_steps k i
 
-pub none_so_far : (named : List Bool) (p : Profile) (m : MachineState) (runs : List HeldTimes) → runs ≡ replicate processor_count no_times → AreCountedSoFar named 0 p m runs
-none_so_far named p m runs is = record {
+pub none_so_far : (runs : List HeldTimes) → runs ≡ replicate processor_count no_times → AreCountedSoFar 0 [] runs
+none_so_far runs is = record {
   as_many = ap length is;
-  times = λ n names steps. ap (λ (t : HeldTimes). all_times t (progress_along n steps m)) (none n);
+  times = λ n names future. ap (λ (t : HeldTimes). all_times t future) (none n);
   low = λ n names. omega (arith, ap (λ (t : HeldTimes). t.current) (none n));
 }
   where
     none : (n : ℕ) → get_or runs (processor_index n) no_times ≡ no_times
     none n = ap (λ (ts : List HeldTimes). get_or ts (processor_index n) no_times) is ∙ without_steps processor_count (processor_index n)
 
-pub more_so_far : (named : List Bool) (turn : ℕ) (p : Profile) (m : MachineState) (runs new : List HeldTimes) (k : ℕ) (step : Progress)
-    → IsTrue (names_processor k) → k ≡ processor_in_turn p turn → step ≡ progress k (run (barrel p turn) m) → AreCountedSoFar named turn p m runs → length new ≡ processor_count
+-- a step more
+one_more : (turn : ℕ) (past : List RunStep) (runs new : List HeldTimes) (k : ℕ) (step : RunStep) (did : Progress)
+    → IsTrue (names_processor k) → step.processor ≡ k → did ≡ progress_of step → AreCountedSoFar turn past runs → length new ≡ processor_count
     → ((i : ℕ) → i ≢ processor_index k → get_or new i no_times ≡ get_or runs i no_times)
-    → (IsTrue (is_named named k) → (steps : List Progress) → all_times (get_or new (processor_index k) no_times) steps ≡ all_times (get_or runs (processor_index k) no_times) (step ∷ steps))
+    → ((future : List Progress) → all_times (get_or new (processor_index k) no_times) future ≡ all_times (get_or runs (processor_index k) no_times) (did ∷ future))
     → (get_or new (processor_index k) no_times).current ≤ (get_or runs (processor_index k) no_times).current + 1
-    → AreCountedSoFar named (turn + 1) p m new
-more_so_far named turn p m runs new k step names is made h as_many others own low = record {
+    → AreCountedSoFar (turn + 1) (past ++ step ∷ []) new
+one_more turn past runs new k step did names is made h as_many others own low = record {
   as_many = as_many;
-  times = λ n named_n steps.
-      ap (λ (x : MachineState). all_times (get_or new (processor_index n) no_times) (progress_along n steps x)) after
-      ∙ by_number n named_n steps (cases_eq n k)
-      ∙ h.times n named_n (k ∷ steps)
-      ∙ ap (λ (ss : List ℕ). held_counts AtRest (progress_along n ss m)) (sym (append_assoc (barrel p turn) (k ∷ []) steps) ∙ ap (λ (ss : List ℕ). ss ++ steps) (sym more));
+  times = λ n names_n future. by_number n names_n future (cases_eq n k);
   low = λ n names_n. at_most n names_n (cases_eq n k);
 }
   where
-    old : MachineState
-    old = run (barrel p turn) m
-
-    after : run (barrel p (turn + 1)) m ≡ stepped k (run (barrel p turn) m)
-    after = barrel_more p turn m ∙ ap (λ (j : ℕ). stepped j (run (barrel p turn) m)) (sym is)
-
-    more : barrel p (turn + 1) ≡ barrel p turn ++ k ∷ []
-    more = ap (barrel p) (add-one turn) ∙ ap (λ (j : ℕ). barrel p turn ++ j ∷ []) (sym is)
-
-    by_number : (n : ℕ) → IsTrue (is_named named n) → (steps : List ℕ) → (n ≡ k) ⊎ (n ≢ k)
-        → all_times (get_or new (processor_index n) no_times) (progress_along n steps (stepped k (run (barrel p turn) m)))
-        ≡ all_times (get_or runs (processor_index n) no_times) (progress_along n (k ∷ steps) (run (barrel p turn) m))
-    by_number n named_n steps (inl same) = rw same (
-        own (rw (← same) named_n) (progress_along k steps (stepped k (run (barrel p turn) m)))
-        ∙ ap (λ (s : Progress). all_times (get_or runs (processor_index k) no_times) (s ∷ progress_along k steps (stepped k (run (barrel p turn) m)))) made
-        ∙ ap (λ (ss : List Progress). all_times (get_or runs (processor_index k) no_times) ss) (sym (own_along k steps (run (barrel p turn) m))))
-    by_number n named_n steps (inr other) =
-        ap (λ (t : HeldTimes). all_times t (progress_along n steps (stepped k (run (barrel p turn) m)))) (others (processor_index n) (λ e. other (one_place k n names e)))
-        ∙ ap (λ (ss : List Progress). all_times (get_or runs (processor_index n) no_times) ss) (sym (other_along n k steps (run (barrel p turn) m) (λ e. other (sym e))))
+    by_number : (n : ℕ) → IsTrue (names_processor n) → (future : List Progress) → (n ≡ k) ⊎ (n ≢ k)
+        → all_times (get_or new (processor_index n) no_times) future ≡ held_counts AtRest (seen_of progress_of n (past ++ step ∷ []) ++ future)
+    by_number n names_n future (inl same) = rw same (
+        own future
+        ∙ h.times k names (did ∷ future)
+        ∙ ap (λ (p : Progress). held_counts AtRest (seen_of progress_of k past ++ p ∷ future)) made
+        ∙ ap (held_counts AtRest) (sym (append_assoc (seen_of progress_of k past) (progress_of step ∷ []) future))
+        ∙ ap (λ (ps : List Progress). held_counts AtRest (ps ++ future)) (sym (seen_more progress_of k past step is)))
+    by_number n names_n future (inr other) =
+        ap (λ (t : HeldTimes). all_times t future) (others (processor_index n) (λ e. other (one_place k n names e)))
+        ∙ h.times n names_n future
+        ∙ ap (λ (ps : List Progress). held_counts AtRest (ps ++ future)) (sym (seen_other progress_of n past step (λ e. other (sym e ∙ is))))
 
     at_most : (n : ℕ) → IsTrue (names_processor n) → (n ≡ k) ⊎ (n ≢ k) → (get_or new (processor_index n) no_times).current ≤ turn + 1
     at_most n names_n (inl same) = rw same (omega (arith, low, h.low k names))
@@ -104,15 +67,29 @@ more_so_far named turn p m runs new k step names is made h as_many others own lo
         let here : (get_or new (processor_index n) no_times).current ≡ (get_or runs (processor_index n) no_times).current = ap (λ (t : HeldTimes). t.current) (others (processor_index n) (λ e. other (one_place k n names e))) in
         omega (arith, here, h.low n names_n)
 
-pub all_so_far : (named : List Bool) (turn : ℕ) (p : Profile) (m : MachineState) (runs new : List HeldTimes) → AreCountedSoFar named turn p m runs → length new ≡ processor_count
-    → ((k : ℕ) → k < processor_count → (get_or new k no_times).counts ≡ all_times (get_or runs k no_times) []) → AreCounted named (barrel p turn) m new
-all_so_far named turn p m runs new h as_many counts = record {
+-- a turn more, whose step is chosen or not
+pub turn_counted : (is_chosen : Bool) (turn : ℕ) (past : List RunStep) (runs new : List HeldTimes) (k : ℕ) (step : RunStep) (did : Progress)
+    → IsTrue (names_processor k) → step.processor ≡ k → did ≡ progress_of step → AreCountedSoFar turn past runs → length new ≡ processor_count
+    → ((i : ℕ) → i ≢ processor_index k → get_or new i no_times ≡ get_or runs i no_times)
+    → (IsTrue is_chosen → (future : List Progress) → all_times (get_or new (processor_index k) no_times) future ≡ all_times (get_or runs (processor_index k) no_times) (did ∷ future))
+    → (is_chosen ≡ false → new ≡ runs)
+    → (get_or new (processor_index k) no_times).current ≤ (get_or runs (processor_index k) no_times).current + 1
+    → AreCountedSoFar (turn + 1) (cond is_chosen (past ++ step ∷ []) past) new
+turn_counted true turn past runs new k step did names is made h as_many others own unchosen low = one_more turn past runs new k step did names is made h as_many others (own refl) low
+turn_counted false turn past runs new k step did names is made h as_many others own unchosen low = record {
   as_many = as_many;
-  counts = λ n named_n.
-      counts (processor_index n) (place_below n (named_names named n named_n))
-      ∙ ap (all_times (get_or runs (processor_index n) no_times)) (sym (none_along n (run (barrel p turn) m)))
-      ∙ h.times n named_n []
-      ∙ ap (λ (ss : List ℕ). held_counts AtRest (progress_along n ss m)) (append-nil (barrel p turn));
+  times = λ n names_n future. ap (λ (ts : List HeldTimes). all_times (get_or ts (processor_index n) no_times) future) (unchosen refl) ∙ h.times n names_n future;
+  low = λ n names_n. omega (arith, ap (λ (ts : List HeldTimes). (get_or ts (processor_index n) no_times).current) (unchosen refl), h.low n names_n);
+}
+
+pub all_so_far : (turn : ℕ) (steps : List RunStep) (runs new : List HeldTimes) → AreCountedSoFar turn steps runs → length new ≡ processor_count
+    → ((k : ℕ) → k < processor_count → (get_or new k no_times).counts ≡ all_times (get_or runs k no_times) []) → AreCounted steps new
+all_so_far turn steps runs new h as_many counts = record {
+  as_many = as_many;
+  counts = λ n names.
+      counts (processor_index n) (place_below n names)
+      ∙ h.times n names []
+      ∙ ap (held_counts AtRest) (append-nil (seen_of progress_of n steps));
 }
 
 -- ---- the end of the run

@@ -1,5 +1,5 @@
 -- The events on the lines of a run are those of its trace.
-use Rattle.std.proofs.Common.{◌≡◌, ℕ, Bool, true, false, ◌&&◌, cond, nat_le, List, [], ◌∷◌, ◌++◌, length, drop, refl, sym, ap, ◌∙◌, append_assoc}
+use Rattle.std.proofs.Common.{◌≡◌, ℕ, Bool, true, false, ◌&&◌, cond, List, [], ◌∷◌, ◌++◌, length, drop, refl, sym, ap, ◌∙◌, append_assoc}
 use Rattle.std.specs.Prelude.{Option, Some, None, map}
 use Rattle.std.specs.List.{filter, flat_map}
 use Rattle.std.specs.Option.{option_to_list}
@@ -18,17 +18,18 @@ use Rattle.pp_machine.specs.declared.need.Need.TheVariants.{Nothing, Local, Chan
 use Rattle.pp_machine.specs.declared.outcome.Outcome.{Outcome}
 use Rattle.pp_machine.specs.declared.outcome.Outcome.TheVariants as outcomes
 use Rattle.pp_machine.specs.declared.trace.Trace.{Trace}
-use Rattle.pp_machine.specs.RunLaws.{run-append}
+use Rattle.pp_run.specs.RunSteps.{RunStep, run_steps, seen_of}
 use Rattle.pp_state.proofs.HeldLemmas.{moves_where_made}
-use Rattle.pp_machine.specs.PpNo.{is_named}
-use Rattle.pp_steps.specs.BareMachine.{progress, progress_by}
-use Rattle.pp_steps.specs.HeldRuns.{last_of, progress_along}
-use Rattle.pp_steps.specs.StepsLaw.{entry_of, event_on, is_shown_event, line_event}
-use Rattle.pp_steps.specs.StepsText.{StepWithLine, is_shown, line_kind, next_step, steps_with_lines, steps_from}
+use Rattle.pp_bare.specs.BareMachine.{progress, progress_by}
+use Rattle.pp_steps.specs.Choice.{chooses_channel, chooses_need, chooses_turn, chosen_steps, is_chosen}
+use Rattle.pp_steps.specs.HeldRuns.{last_of, progress_of}
+use Rattle.pp_steps.specs.StepsLaw.{entry_of, event_on, is_chosen_event, line_event}
+use Rattle.pp_steps.specs.StepsText.{line_kind, lines_from, with_line, with_lines}
+use Rattle.pp_steps.specs.declared.choice.Choice.{Choice}
 use Rattle.pp_steps.specs.declared.line_kind.LineKind.{LineKind}
 use Rattle.pp_steps.specs.declared.line_kind.LineKind.TheVariants.{NoLine, OneStep, HeldSteps}
-use Rattle.pp_steps.specs.declared.progress.Progress.{Progress}
-use Rattle.pp_steps.specs.declared.progress.Progress.TheVariants.{Moved}
+use Rattle.pp_bare.specs.declared.progress.Progress.{Progress}
+use Rattle.pp_bare.specs.declared.progress.Progress.TheVariants.{Moved}
 
 -- ---- the trace
 
@@ -79,32 +80,36 @@ by_need last n m steps (Channel c operation) is =
     (λ e made. ap (λ (p : Progress). line_kind last p steps) (moved n m (moves_where_made n c operation m e (sym is) made)))
     (ap (λ (y : Need). entry_of n y m) (sym is))
 
-event_of_next : (past : List ℕ) (n : ℕ) (future : List ℕ) (load : MachineState) → line_event (next_step past n future load) ≡ entry_of n (need (processor_of n (run past load))) (run past load)
-event_of_next past n future load =
-    by_need (last_of (progress_along n past load)) n (run past load) (progress_along n future (stepped n (run past load))) (need (processor_of n (run past load))) refl
+-- the event of a step, as an entry of the trace
+abbrev entries_of : RunStep → List Trace
+entries_of step = entry_of step.processor (need (processor_of step.processor step.before)) step.before
+
+event_of_line : (past : List RunStep) (step : RunStep) (future : List RunStep) → line_event (with_line past step future) ≡ entries_of step
+event_of_line past step future =
+    let n = step.processor in
+    by_need (last_of (seen_of progress_of n past)) n step.before (seen_of progress_of n future) (need (processor_of n step.before)) refl
+
+lines_events : (past steps : List RunStep) → flat_map line_event (lines_from past steps) ≡ flat_map entries_of steps
+lines_events past [] = refl
+lines_events past (step ∷ steps) =
+    ap (λ (ts : List Trace). ts ++ flat_map line_event (lines_from (past ++ step ∷ []) steps)) (event_of_line past step steps)
+    ∙ ap (λ (ts : List Trace). entries_of step ++ ts) (lines_events (past ++ step ∷ []) steps)
 
 -- ---- the trace of a run
 
-traced_from : (past steps : List ℕ) (load : MachineState) → (run (past ++ steps) load).trace ≡ (run past load).trace ++ flat_map line_event (steps_from past steps load)
-traced_from past [] load = ap (λ (ks : List ℕ). (run ks load).trace) (append-nil past) ∙ sym (append-nil (run past load).trace)
-traced_from past (n ∷ steps) load =
-    let rest = flat_map line_event (steps_from (past ++ n ∷ []) steps load) in
-    let own = entry_of n (need (processor_of n (run past load))) (run past load) in
-    ap (λ (ks : List ℕ). (run ks load).trace) (sym (append_assoc past (n ∷ []) steps))
-    ∙ traced_from (past ++ n ∷ []) steps load
-    ∙ ap (λ (ts : List Trace). ts ++ rest) (ap (λ (m : MachineState). m.trace) (run-append past n load) ∙ trace_more n (run past load))
-    ∙ append_assoc (run past load).trace own rest
-    ∙ ap (λ (ts : List Trace). (run past load).trace ++ (ts ++ rest)) (sym (event_of_next past n steps load))
+traced : (steps : List ℕ) (load : MachineState) → (run steps load).trace ≡ load.trace ++ flat_map entries_of (run_steps steps load)
+traced [] load = sym (append-nil load.trace)
+traced (n ∷ steps) load =
+    let rest = flat_map entries_of (run_steps steps (stepped n load)) in
+    traced steps (stepped n load)
+    ∙ ap (λ (ts : List Trace). ts ++ rest) (trace_more n load)
+    ∙ append_assoc load.trace (entry_of n (need (processor_of n load)) load) rest
 
-traced : (steps : List ℕ) (load : MachineState) → (run steps load).trace ≡ load.trace ++ flat_map line_event (steps_with_lines steps load)
-unfolding steps_with_lines
-traced steps load = traced_from [] steps load
+past_first : (xs ys : List Trace) → drop (length xs) (xs ++ ys) ≡ ys
+past_first [] ys = refl
+past_first (x ∷ xs) ys = past_first xs ys
 
-behind : (xs ys : List Trace) → drop (length xs) (xs ++ ys) ≡ ys
-behind [] ys = refl
-behind (x ∷ xs) ys = behind xs ys
-
--- ---- the events shown
+-- ---- the events of the steps chosen
 
 all_or_none : (test : Trace → Bool) (b : Bool) (n c : ℕ) (m : MachineState) (o : Option Event) → ((e : Event) → test (record { turn = m.turns; pp = n; channel = c; event = e }) ≡ b)
     → filter test (map (λ (e : Event). record { turn = m.turns; pp = n; channel = c; event = e }) (option_to_list o)) ≡ cond b (map (λ (e : Event). record { turn = m.turns; pp = n; channel = c; event = e }) (option_to_list o)) []
@@ -117,32 +122,35 @@ nothing : (b : Bool) (entries : List Trace) → cond b entries entries ≡ entri
 nothing true entries = refl
 nothing false entries = refl
 
-shown_entry : (named : List Bool) (from n : ℕ) (m : MachineState) (x : Need) → filter (is_shown_event named from) (entry_of n x m) ≡ cond (is_named named n && nat_le from m.turns) (entry_of n x m) []
-shown_entry named from n m Nothing = sym (nothing (is_named named n && nat_le from m.turns) [])
-shown_entry named from n m Local = sym (nothing (is_named named n && nat_le from m.turns) [])
-shown_entry named from n m (Read a) = sym (nothing (is_named named n && nat_le from m.turns) [])
-shown_entry named from n m (Write a w) = sym (nothing (is_named named n && nat_le from m.turns) [])
-shown_entry named from n m (Channel c operation) = all_or_none (is_shown_event named from) (is_named named n && nat_le from m.turns) n c m (event_of operation (history_of c m)) (λ e. refl)
+by_channel : (channels : Option (List Bool)) (c : ℕ) (operation : ChanOp) → chooses_channel channels c ≡ chooses_need channels (Channel c operation)
+by_channel None c operation = refl
+by_channel (Some channels) c operation = refl
 
-shown_line : (named : List Bool) (from : ℕ) (line : LineKind) (n : ℕ) (m : MachineState) → filter (is_shown_event named from) (event_on line n m) ≡ cond (is_named named n && nat_le from m.turns) (event_on line n m) []
-shown_line named from OneStep n m = shown_entry named from n m (need (processor_of n m))
-shown_line named from NoLine n m = sym (nothing (is_named named n && nat_le from m.turns) [])
-shown_line named from (HeldSteps count) n m = sym (nothing (is_named named n && nat_le from m.turns) [])
+chosen_entry : (choice : Choice) (n : ℕ) (m : MachineState) (x : Need) → filter (is_chosen_event choice) (entry_of n x m) ≡ cond (chooses_turn choice n m.turns && chooses_need choice.channels x) (entry_of n x m) []
+chosen_entry choice n m Nothing = sym (nothing (chooses_turn choice n m.turns && chooses_need choice.channels Nothing) [])
+chosen_entry choice n m Local = sym (nothing (chooses_turn choice n m.turns && chooses_need choice.channels Local) [])
+chosen_entry choice n m (Read a) = sym (nothing (chooses_turn choice n m.turns && chooses_need choice.channels (Read a)) [])
+chosen_entry choice n m (Write a w) = sym (nothing (chooses_turn choice n m.turns && chooses_need choice.channels (Write a w)) [])
+chosen_entry choice n m (Channel c operation) =
+    all_or_none (is_chosen_event choice) (chooses_turn choice n m.turns && chooses_need choice.channels (Channel c operation)) n c m (event_of operation (history_of c m))
+    (λ e. ap (λ (b : Bool). chooses_turn choice n m.turns && b) (by_channel choice.channels c operation))
 
-with_first : (shown : Bool) (step : StepWithLine) (rest : List StepWithLine) → cond shown (line_event step) [] ++ flat_map line_event rest ≡ flat_map line_event (cond shown (step ∷ rest) rest)
+with_first : (b : Bool) (step : RunStep) (rest : List RunStep) → cond b (entries_of step) [] ++ flat_map entries_of rest ≡ flat_map entries_of (cond b (step ∷ rest) rest)
 with_first true step rest = refl
 with_first false step rest = refl
 
-shown_events : (named : List Bool) (from : ℕ) (steps : List StepWithLine) → filter (is_shown_event named from) (flat_map line_event steps) ≡ flat_map line_event (filter (is_shown named from) steps)
-shown_events named from [] = refl
-shown_events named from (step ∷ steps) =
-    filter-append (is_shown_event named from) (line_event step) (flat_map line_event steps)
-    ∙ ap (λ (ts : List Trace). ts ++ filter (is_shown_event named from) (flat_map line_event steps)) (shown_line named from step.line step.step.processor step.step.before)
-    ∙ ap (λ (ts : List Trace). cond (is_shown named from step) (line_event step) [] ++ ts) (shown_events named from steps)
-    ∙ with_first (is_shown named from step) step (filter (is_shown named from) steps)
+chosen_events : (choice : Choice) (steps : List RunStep) → filter (is_chosen_event choice) (flat_map entries_of steps) ≡ flat_map entries_of (filter (is_chosen choice) steps)
+chosen_events choice [] = refl
+chosen_events choice (step ∷ steps) =
+    filter-append (is_chosen_event choice) (entries_of step) (flat_map entries_of steps)
+    ∙ ap (λ (ts : List Trace). ts ++ filter (is_chosen_event choice) (flat_map entries_of steps)) (chosen_entry choice step.processor step.before (need (processor_of step.processor step.before)))
+    ∙ ap (λ (ts : List Trace). cond (is_chosen choice step) (entries_of step) [] ++ ts) (chosen_events choice steps)
+    ∙ with_first (is_chosen choice step) step (filter (is_chosen choice) steps)
 
-pub events_told : (named : List Bool) (from : ℕ) (steps : List ℕ) (load : MachineState)
-    → flat_map line_event (filter (is_shown named from) (steps_with_lines steps load)) ≡ filter (is_shown_event named from) (drop (length load.trace) (run steps load).trace)
-events_told named from steps load =
-    sym (shown_events named from (steps_with_lines steps load))
-    ∙ ap (filter (is_shown_event named from)) (sym (ap (drop (length load.trace)) (traced steps load) ∙ behind load.trace (flat_map line_event (steps_with_lines steps load))))
+pub events_told : (choice : Choice) (steps : List ℕ) (load : MachineState)
+    → flat_map line_event (with_lines (chosen_steps choice steps load)) ≡ filter (is_chosen_event choice) (drop (length load.trace) (run steps load).trace)
+unfolding chosen_steps with_lines
+events_told choice steps load =
+    lines_events [] (filter (is_chosen choice) (run_steps steps load))
+    ∙ sym (chosen_events choice (run_steps steps load))
+    ∙ ap (filter (is_chosen_event choice)) (sym (ap (drop (length load.trace)) (traced steps load) ∙ past_first load.trace (flat_map entries_of (run_steps steps load))))

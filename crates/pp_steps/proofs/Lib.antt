@@ -1,9 +1,9 @@
-mod BareLemmas
 mod StoreLemmas
 mod LineLemmas
 mod PlaceLemmas
 mod RunCountLemmas
 mod CountedRuns
+mod ChosenSteps
 mod TextOfSteps
 mod EventLawLemmas
 mod StepLawLemmas

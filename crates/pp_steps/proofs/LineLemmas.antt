@@ -1,10 +1,6 @@
 -- The line of a step, put together from its parts.
-use Rattle.std.proofs.Common.{get_or-set_same, ◌≡◌, ℕ, suc, ◌-◌, ◌/◌, ◌%◌, ◌^◌, ◌<◌, List, [], ◌∷◌, ◌++◌, codes, length, get_or, replicate, refl, sym, ap, ◌∙◌, append_assoc, arith}
+use Rattle.std.proofs.Common.{get_or-set_same, ◌≡◌, ℕ, ◌/◌, ◌%◌, ◌^◌, ◌<◌, List, [], ◌∷◌, ◌++◌, codes, length, refl, append_assoc}
 use Rattle.pp_word.specs.Address.{next_place}
-use Rattle.pp_word.specs.Opcode.{row_of}
-use Rattle.pp_word.specs.declared.opcode.Opcode.{Opcode}
-use Rattle.pp_word.specs.declared.opcode.Opcode.TheVariants.{PSN, LJM, RJM, UJN, ZJN, NJN, PJN, MJN, SHN, LMN, LPN, SCN, LDN, LCN, ADN, SBN, LDC, ADC, LPC, LMC, PSN24, PSN25, EXN, RPN, LDD, ADD, SBD, LMD, STD, RAD, AOD, SOD, LDI, ADI, SBI, LMI, STI, RAI, AOI, SOI, LDM, ADM, SBM, LMM, STM, RAM, AOM, SOM, CRD, CRM, CWD, CWM, AJM, IJM, FJM, EJM, IAN, IAM, OAN, OAM, ACN, DCN, FAN, FNC}
-use Rattle.list_facts.specs.Tables.{tabulate, tabulate_is}
 use Rattle.pp_machine.specs.MachineState.{MachineState, processor_of}
 use Rattle.pp_machine.specs.MachineStep.{answer_to, central_after, stepped}
 use Rattle.pp_machine.specs.PpNo.{processor_index}
@@ -12,7 +8,7 @@ use Rattle.pp_machine.specs.NeedAndEffect.{need, processor_after}
 use Rattle.pp_machine.specs.Processor.{Processor, no_processor, word_at}
 use Rattle.pp_machine.specs.declared.need.Need.{Need}
 use Rattle.pp_machine.specs.declared.pp_state.PpState.{PpState}
-use Rattle.pp_listing.specs.InstructionText.{instruction_text}
+use Rattle.pp_listing.specs.InstructionText.{running_instruction}
 use Rattle.pp_listing.specs.ListedLine.{padded}
 use Rattle.pp_text.specs.Numeral.{decimal, digits, octal, unpadded}
 use Rattle.pp_steps.specs.StepLine.{centrals_text, channel_text, end_text, heading, places_text, step_line, words_text}
@@ -20,8 +16,8 @@ use Rattle.pp_steps.specs.StepLine.{centrals_text, channel_text, end_text, headi
 -- the turn, the processor and P, the words, the instruction, A
 pub heading_in_pieces : (text upper first words instruction last : List ℕ) (turn n : ℕ) (pp : Processor) (a : ℕ) → upper ≡ unpadded 14 (turn / 10 ^ 6)
     → first ≡ digits 10 6 (turn % 10 ^ 6) ++ codes " PP" ++ octal 2 n ++ codes " " ++ octal 4 pp.p ++ codes " "
-    → words ≡ padded 9 (words_text (word_at pp pp.p) (word_at pp (next_place pp.p))) ++ codes "  "
-    → instruction ≡ padded 13 (instruction_text pp.p (word_at pp pp.p) (word_at pp (next_place pp.p)))
+    → words ≡ padded 9 (words_text pp.block (word_at pp pp.p) (word_at pp (next_place pp.p))) ++ codes "  "
+    → instruction ≡ padded 13 (running_instruction pp)
     → last ≡ codes " A=" ++ octal 6 a
     → ((((text ++ upper) ++ first) ++ words) ++ instruction) ++ last ≡ text ++ heading turn n pp a
 unfolding decimal

@@ -1,23 +1,19 @@
 -- The steps on the lines of a processor are all its steps while it ran.
-use Rattle.std.proofs.Common.{◌≡◌, ◌≢◌, ℕ, ◌+◌, ◌⊎◌, inl, inr, suc, Bool, true, false, cond, List, [], ◌∷◌, ◌++◌, drop, refl, sym, ap, subst, ◌∙◌, arith}
+use Rattle.std.proofs.Common.{◌≡◌, ◌≢◌, ℕ, ◌+◌, ◌⊎◌, inl, inr, suc, Bool, true, false, cond, eqb, List, [], ◌∷◌, ◌++◌, drop, refl, sym, ap, subst, ◌∙◌, arith}
 use Rattle.std.specs.Prelude.{replicate}
 use Rattle.std.specs.List.{filter, flat_map, prefix_len}
-use Rattle.std.proofs.lemmas.Bool.{cases_eq, eq-eqb, eqb-true, le-leb, ne_eqb}
+use Rattle.std.proofs.lemmas.Bool.{cases_eq, cond-false, cond-true, eq-eqb, ne_eqb}
 use Rattle.pp_channel.specs.declared.flags.Flags.{Flags}
-use Rattle.pp_machine.specs.MachineState.{MachineState}
-use Rattle.pp_machine.specs.Run.{run}
-use Rattle.pp_machine.specs.RunLaws.{run-append}
-use Rattle.pp_steps.specs.BareMachine.{progress}
-use Rattle.pp_steps.specs.HeldRuns.{is_held_with, last_of, progress_along}
+use Rattle.pp_run.specs.RunSteps.{RunStep, seen_of}
+use Rattle.pp_run.specs.RunStepLaws.{seen_other}
+use Rattle.pp_steps.specs.HeldRuns.{is_held_with, last_of, progress_of}
 use Rattle.pp_steps.specs.StepsLaw.{is_by, is_running, line_steps, steps_on}
-use Rattle.pp_machine.specs.PpNo.{is_named}
-use Rattle.pp_steps.specs.StepsText.{StepWithLine, is_shown, line_kind, next_step, steps_with_lines, steps_from}
+use Rattle.pp_steps.specs.StepsText.{line_kind, lines_from, with_line, with_lines}
 use Rattle.pp_steps.specs.declared.line_kind.LineKind.TheVariants.{HeldSteps, NoLine}
-use Rattle.pp_steps.specs.declared.progress.Progress.{Progress}
-use Rattle.pp_steps.specs.declared.progress.Progress.TheVariants.{AtRest, Moved, Held}
-use Rattle.pp_steps.proofs.CountedRuns.{none_along, other_along, own_along}
+use Rattle.pp_bare.specs.declared.progress.Progress.{Progress}
+use Rattle.pp_bare.specs.declared.progress.Progress.TheVariants.{AtRest, Moved, Held}
 use Rattle.pp_steps.proofs.RunCountLemmas.{first_of, with_other, with_same}
-use Rattle.pp_steps.proofs.TextOfSteps.{along_other, along_own, fold_more}
+use Rattle.pp_steps.proofs.TextOfSteps.{last_own, seen_first, seen_past_first}
 
 -- the steps on the lines of these steps of one processor, behind a last one
 abbrev pub steps_told : Progress → List Progress → List Progress
@@ -99,70 +95,38 @@ told_all (Held f) (Held g ∷ steps) = by_test f g steps (is_held_with g (Held f
 
 -- ---- the lines of one processor
 
-abbrev IsTold : ℕ → List ℕ → List ℕ → MachineState → Type 0
-IsTold n past steps load =
-    flat_map line_steps (filter (is_by n) (steps_from past steps load)) ≡ steps_told (last_of (progress_along n past load)) (progress_along n steps (run past load))
+abbrev IsTold : ℕ → List RunStep → List RunStep → Type 0
+IsTold n past steps =
+    flat_map line_steps (filter (is_by n) (lines_from past steps)) ≡ steps_told (last_of (seen_of progress_of n past)) (seen_of progress_of n steps)
 
-own_told : (n : ℕ) (past steps : List ℕ) (load : MachineState) → IsTold n (past ++ n ∷ []) steps load → IsTold n past (n ∷ steps) load
-own_told n past steps load rest =
-    opened
-    ∙ ap (λ (ss : List Progress). steps_on (next_step past n steps load).line (progress n (run past load)) ++ ss) rest
-    ∙ ap (λ (last : Progress). steps_on (next_step past n steps load).line (progress n (run past load)) ++ steps_told last (progress_along n steps (run (past ++ n ∷ []) load))) last
-    ∙ ap (λ (x : MachineState). steps_on (next_step past n steps load).line (progress n (run past load)) ++ steps_told (progress n (run past load)) (progress_along n steps x)) (run-append past n load)
-    ∙ ap (steps_told (last_of (progress_along n past load))) (sym (own_along n steps (run past load)))
-  where
-    opened : flat_map line_steps (filter (is_by n) (steps_from past (n ∷ steps) load)) ≡ steps_on (next_step past n steps load).line (progress n (run past load)) ++ flat_map line_steps (filter (is_by n) (steps_from (past ++ n ∷ []) steps load))
-    opened = ap (λ (b : Bool). flat_map line_steps (cond b (next_step past n steps load ∷ filter (is_by n) (steps_from (past ++ n ∷ []) steps load)) (filter (is_by n) (steps_from (past ++ n ∷ []) steps load)))) (eq-eqb n n refl)
+own_told : (past : List RunStep) (step : RunStep) (steps : List RunStep) → IsTold step.processor (past ++ step ∷ []) steps → IsTold step.processor past (step ∷ steps)
+own_told past step steps rest =
+    let n = step.processor in
+    let last = last_of (seen_of progress_of n past) in
+    let own = steps_on (line_kind last (progress_of step) (seen_of progress_of n steps)) (progress_of step) in
+    let others = filter (is_by n) (lines_from (past ++ step ∷ []) steps) in
+    ap (flat_map line_steps) (cond-true (eqb n n) (with_line past step steps ∷ others) others (eq-eqb n n refl))
+    ∙ ap (λ (ss : List Progress). own ++ ss) rest
+    ∙ ap (λ (p : Progress). own ++ steps_told p (seen_of progress_of n steps)) (last_own past step)
+    ∙ ap (steps_told last) (sym (seen_first step steps))
 
-    last : last_of (progress_along n (past ++ n ∷ []) load) ≡ progress n (run past load)
-    last = ap last_of (along_own n past load) ∙ fold_more AtRest (progress_along n past load) (progress n (run past load))
-
-other_told : (n k : ℕ) (past steps : List ℕ) (load : MachineState) → k ≢ n → IsTold n (past ++ k ∷ []) steps load → IsTold n past (k ∷ steps) load
-other_told n k past steps load other rest =
-    ap (λ (b : Bool). flat_map line_steps (cond b (next_step past k steps load ∷ filter (is_by n) (steps_from (past ++ k ∷ []) steps load)) (filter (is_by n) (steps_from (past ++ k ∷ []) steps load)))) (ne_eqb k n other)
+other_told : (n : ℕ) (past : List RunStep) (step : RunStep) (steps : List RunStep) → step.processor ≢ n → IsTold n (past ++ step ∷ []) steps → IsTold n past (step ∷ steps)
+other_told n past step steps other rest =
+    let others = filter (is_by n) (lines_from (past ++ step ∷ []) steps) in
+    ap (flat_map line_steps) (cond-false (eqb step.processor n) (with_line past step steps ∷ others) others (ne_eqb step.processor n other))
     ∙ rest
-    ∙ ap (λ (ss : List Progress). steps_told (last_of ss) (progress_along n steps (run (past ++ k ∷ []) load))) (along_other n k past load other)
-    ∙ ap (λ (x : MachineState). steps_told (last_of (progress_along n past load)) (progress_along n steps x)) (run-append past k load)
-    ∙ ap (steps_told (last_of (progress_along n past load))) (sym (other_along n k steps (run past load) other))
+    ∙ ap (λ (ss : List Progress). steps_told (last_of ss) (seen_of progress_of n steps)) (seen_other progress_of n past step other)
+    ∙ ap (steps_told (last_of (seen_of progress_of n past))) (sym (seen_past_first n step steps other))
 
-by_number : (n k : ℕ) (past steps : List ℕ) (load : MachineState) → (k ≡ n) ⊎ (k ≢ n) → ((j : ℕ) → IsTold n (past ++ j ∷ []) steps load) → IsTold n past (k ∷ steps) load
-by_number n k past steps load (inl same) rest = subst (λ (j : ℕ). IsTold n past (j ∷ steps) load) (sym same) (own_told n past steps load (rest n))
-by_number n k past steps load (inr other) rest = other_told n k past steps load other (rest k)
+by_number : (n : ℕ) (past : List RunStep) (step : RunStep) (steps : List RunStep) → (step.processor ≡ n) ⊎ (step.processor ≢ n) → IsTold n (past ++ step ∷ []) steps → IsTold n past (step ∷ steps)
+by_number n past step steps (inl same) rest =
+    subst (λ (j : ℕ). IsTold j past (step ∷ steps)) same (own_told past step steps (subst (λ (j : ℕ). IsTold j (past ++ step ∷ []) steps) (sym same) rest))
+by_number n past step steps (inr other) rest = other_told n past step steps other rest
 
-told_from : (n : ℕ) (past steps : List ℕ) (load : MachineState) → IsTold n past steps load
-told_from n past [] load = ap (steps_told (last_of (progress_along n past load))) (sym (none_along n (run past load)))
-told_from n past (k ∷ steps) load = by_number n k past steps load (cases_eq k n) (λ j. told_from n (past ++ j ∷ []) steps load)
+told_from : (n : ℕ) (past steps : List RunStep) → IsTold n past steps
+told_from n past [] = refl
+told_from n past (step ∷ steps) = by_number n past step steps (cases_eq step.processor n) (told_from n (past ++ step ∷ []) steps)
 
-pub steps_all_told : (n : ℕ) (steps : List ℕ) (load : MachineState) → flat_map line_steps (filter (is_by n) (steps_with_lines steps load)) ≡ filter is_running (progress_along n steps load)
-unfolding steps_with_lines
-steps_all_told n steps load =
-    told_from n [] steps load
-    ∙ ap (λ (ss : List Progress). steps_told (last_of ss) (progress_along n steps load)) (none_along n load)
-    ∙ told_all AtRest (progress_along n steps load)
-
--- ---- the lines that are shown
-
--- a step of a named processor is shown where no turn is left out
-step_shown : (named : List Bool) (n : ℕ) (step : StepWithLine) → is_named named n ≡ true → is_by n step ≡ true → is_shown named 0 step ≡ true
-step_shown named n step names own = rw (eqb-true step.step.processor n own) (rw names (le-leb 0 step.step.before.turns (omega arith)))
-
-dropped : (n : ℕ) (step : StepWithLine) (rest : List StepWithLine) (b : Bool) → is_by n step ≡ false → filter (is_by n) (cond b (step ∷ rest) rest) ≡ filter (is_by n) rest
-dropped n step rest true other = rw other refl
-dropped n step rest false other = refl
-
-one_more : (named : List Bool) (n : ℕ) (step : StepWithLine) (steps : List StepWithLine) (b : Bool) → is_by n step ≡ b → is_named named n ≡ true
-    → filter (is_by n) (filter (is_shown named 0) steps) ≡ filter (is_by n) steps
-    → filter (is_by n) (filter (is_shown named 0) (step ∷ steps)) ≡ filter (is_by n) (step ∷ steps)
-one_more named n step steps true own names rest =
-    rw (step_shown named n step names own) (rw own (ap (λ (ss : List StepWithLine). step ∷ ss) rest))
-one_more named n step steps false other names rest =
-    dropped n step (filter (is_shown named 0) steps) (is_shown named 0 step) other ∙ rest ∙ rw other refl
-
-all_shown : (named : List Bool) (n : ℕ) (steps : List StepWithLine) → is_named named n ≡ true → filter (is_by n) (filter (is_shown named 0) steps) ≡ filter (is_by n) steps
-all_shown named n [] names = refl
-all_shown named n (step ∷ steps) names = one_more named n step steps (is_by n step) refl names (all_shown named n steps names)
-
-pub shown_all_told : (named : List Bool) (n : ℕ) (steps : List ℕ) (load : MachineState) → is_named named n ≡ true
-    → flat_map line_steps (filter (is_by n) (filter (is_shown named 0) (steps_with_lines steps load))) ≡ filter is_running (progress_along n steps load)
-shown_all_told named n steps load names =
-    ap (flat_map line_steps) (all_shown named n (steps_with_lines steps load) names) ∙ steps_all_told n steps load
+pub steps_all_told : (n : ℕ) (steps : List RunStep) → flat_map line_steps (filter (is_by n) (with_lines steps)) ≡ filter is_running (seen_of progress_of n steps)
+unfolding with_lines
+steps_all_told n steps = told_from n [] steps ∙ told_all AtRest (seen_of progress_of n steps)

@@ -1,20 +1,16 @@
 -- How long a processor is held each time.
-use Rattle.std.specs.Prelude.{◌≡◌, ℕ, ◌+◌, Bool, true, false, ◌==◌, ◌&&◌, IsTrue, List, [], ◌∷◌, ◌++◌, length, slice_index_or, if◌then◌else◌}
+use Rattle.std.specs.Prelude.{◌≡◌, ℕ, ◌+◌, Bool, true, false, ◌&&◌, IsTrue, List, [], ◌∷◌, ◌++◌, length, slice_index_or, if◌then◌else◌}
 use Rattle.std.specs.List.{fold, prefix_len}
 use Rattle.pp_channel.specs.declared.flags.Flags.{Flags}
-use Rattle.pp_machine.specs.MachineState.{MachineState}
-use Rattle.pp_machine.specs.MachineStep.{stepped}
-use Rattle.pp_machine.specs.PpNo.{processor_count, processor_index, is_named}
-use Rattle.pp_steps.specs.BareMachine.{progress}
-use Rattle.pp_steps.specs.declared.progress.Progress.{Progress}
-use Rattle.pp_steps.specs.declared.progress.Progress.TheVariants.{AtRest, Held}
+use Rattle.pp_machine.specs.PpNo.{names_processor, processor_count, processor_index}
+use Rattle.pp_run.specs.RunSteps.{RunStep, seen_of}
+use Rattle.pp_bare.specs.BareMachine.{progress}
+use Rattle.pp_bare.specs.declared.progress.Progress.{Progress}
+use Rattle.pp_bare.specs.declared.progress.Progress.TheVariants.{AtRest, Held}
 
--- what each step of processor n does, in order, where a machine takes these steps
-unfoldable pub progress_along : ℕ → List ℕ → MachineState → List Progress
-progress_along n [] m = []
-progress_along n (k ∷ steps) m =
-    if k == n then progress n m ∷ progress_along n steps (stepped k m)
-    else progress_along n steps (stepped k m)
+-- what a step did
+abbrev pub progress_of : RunStep → Progress
+progress_of step = progress step.processor step.before
 
 -- two flags that are the same
 abbrev pub same_flag : Bool → Bool → Bool
@@ -67,10 +63,9 @@ all_times times steps =
 abbrev pub no_times : HeldTimes
 no_times = record { counts = []; current = 0; last = AtRest }
 
--- how long each processor named is held each time, where a machine takes these steps
-pub record AreCounted (named : List Bool) (steps : List ℕ) (m : MachineState)
-    (runs : List HeldTimes) : Type 0 where
+-- how long each processor is held each time in some steps
+pub record AreCounted (steps : List RunStep) (runs : List HeldTimes) : Type 0 where
   pub as_many : length runs ≡ processor_count
-  pub counts : (n : ℕ) → IsTrue (is_named named n)
+  pub counts : (n : ℕ) → IsTrue (names_processor n)
       → (slice_index_or runs (processor_index n) no_times).counts
-      ≡ held_counts AtRest (progress_along n steps m)
+      ≡ held_counts AtRest (seen_of progress_of n steps)

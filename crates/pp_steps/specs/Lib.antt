@@ -1,4 +1,4 @@
-pub mod BareMachine
+pub mod Choice
 pub mod StepLine
 pub mod HeldRuns
 pub mod StepsText

@@ -8,33 +8,33 @@ use Rattle.pp_channel.specs.declared.flags.Flags.{Flags}
 use Rattle.pp_machine.specs.MachineState.{MachineState, history_of, processor_of}
 use Rattle.pp_machine.specs.NeedAndEffect.{need}
 use Rattle.pp_machine.specs.Processor.{Processor, word_at}
+use Rattle.pp_machine.specs.declared.block.Block.{Block}
 use Rattle.pp_machine.specs.declared.need.Need.{Need}
 use Rattle.pp_machine.specs.declared.need.Need.TheVariants.{Channel, Write}
 use Rattle.pp_machine.specs.declared.outcome.Outcome.TheVariants.{Held}
 use Rattle.pp_machine.specs.declared.pp_state.PpState.{PpState}
 use Rattle.pp_machine.specs.declared.pp_state.PpState.TheVariants.{Running}
-use Rattle.pp_listing.specs.InstructionText.{instruction_text, is_long}
+use Rattle.pp_listing.specs.InstructionText.{is_long, running_instruction}
 use Rattle.pp_listing.specs.ListedLine.{padded}
 use Rattle.pp_text.specs.Numeral.{decimal, octal}
 use Rattle.pp_text.specs.PrintedText.{event_text, line_end, state_text}
 use Rattle.pp_state.specs.Changes.{differs, places}
 use Rattle.pp_state.specs.StateText.{flags_text, held_text}
 
--- `7105 0300`: a word and, where a second belongs to the instruction, the next
-abbrev pub words_text : ℕ → ℕ → List ℕ
-words_text word m = if is_long word then octal 4 word ++ codes " " ++ octal 4 m else octal 4 word
+-- `7105 0300`: a word and, where a second belongs to the instruction, the next; a block in progress
+-- reads none
+abbrev pub words_text : Option Block → ℕ → ℕ → List ℕ
+words_text None word m =
+    if is_long word then octal 4 word ++ codes " " ++ octal 4 m else octal 4 word
+words_text (Some block) word m = []
 
--- `7105 0300  IAM 0300,05  `: the words at a place, and the instruction that they are
-abbrev pub words_and_instruction : ℕ → ℕ → ℕ → List ℕ
-words_and_instruction place word m =
-    padded 9 (words_text word m) ++ codes "  " ++ padded 13 (instruction_text place word m)
-
--- `000021 PP01 0201 7105 0300  IAM 0300,05   A=000004`: the turn, processor n at P, and A
+-- `000021 PP01 0201 7105 0300  IAM 0300,05   A=000004`: the turn, processor n at P, the words that
+-- it reads, the instruction that runs, and A
 abbrev pub heading : ℕ → ℕ → Processor → ℕ → List ℕ
 heading turn n pp a =
     decimal turn ++ codes " PP" ++ octal 2 n ++ codes " " ++ octal 4 pp.p ++ codes " "
-    ++ words_and_instruction pp.p (word_at pp pp.p) (word_at pp (next_place pp.p))
-    ++ codes " A=" ++ octal 6 a
+    ++ padded 9 (words_text pp.block (word_at pp pp.p) (word_at pp (next_place pp.p)))
+    ++ codes "  " ++ padded 13 (running_instruction pp) ++ codes " A=" ++ octal 6 a
 
 -- ` (0300)=0001`, where the word at a place differs
 abbrev pub place_text : List ℕ → List ℕ → ℕ → List ℕ

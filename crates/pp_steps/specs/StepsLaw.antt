@@ -1,5 +1,5 @@
 -- What the lines of a run tell: which events there were, and how many steps.
-use Rattle.std.specs.Prelude.{ℕ, Bool, true, false, ◌&&◌, nat_le, List, [], ◌∷◌, map, replicate}
+use Rattle.std.specs.Prelude.{ℕ, Bool, true, false, ◌&&◌, List, [], ◌∷◌, map, replicate}
 use Rattle.std.specs.Option.{option_to_list}
 use Rattle.pp_channel.specs.Answer.{event_of}
 use Rattle.pp_machine.specs.MachineState.{MachineState, history_of, processor_of}
@@ -7,14 +7,15 @@ use Rattle.pp_machine.specs.NeedAndEffect.{need}
 use Rattle.pp_machine.specs.declared.need.Need.{Need}
 use Rattle.pp_machine.specs.declared.need.Need.TheVariants.{Channel}
 use Rattle.pp_machine.specs.declared.trace.Trace.{Trace}
-use Rattle.pp_machine.specs.PpNo.{is_named}
-use Rattle.pp_steps.specs.BareMachine.{progress}
 use Rattle.pp_run.specs.RunSteps.{is_of}
+use Rattle.pp_steps.specs.Choice.{chooses_channel, chooses_turn}
+use Rattle.pp_steps.specs.HeldRuns.{progress_of}
+use Rattle.pp_steps.specs.declared.choice.Choice.{Choice}
 use Rattle.pp_steps.specs.StepsText.{StepWithLine}
 use Rattle.pp_steps.specs.declared.line_kind.LineKind.{LineKind}
 use Rattle.pp_steps.specs.declared.line_kind.LineKind.TheVariants.{NoLine, OneStep, HeldSteps}
-use Rattle.pp_steps.specs.declared.progress.Progress.{Progress}
-use Rattle.pp_steps.specs.declared.progress.Progress.TheVariants.{AtRest}
+use Rattle.pp_bare.specs.declared.progress.Progress.{Progress}
+use Rattle.pp_bare.specs.declared.progress.Progress.TheVariants.{AtRest}
 
 -- the event that a step of processor n with this need makes, as an entry of the trace
 abbrev pub entry_of : ℕ → Need → MachineState → List Trace
@@ -31,9 +32,10 @@ event_on line n m = []
 abbrev pub line_event : StepWithLine → List Trace
 line_event x = event_on x.line x.step.processor x.step.before
 
--- whether an event is shown: of a processor that is named, and of a turn from this one on
-abbrev pub is_shown_event : List Bool → ℕ → Trace → Bool
-is_shown_event named from entry = is_named named entry.pp && nat_le from entry.turn
+-- whether the step that made an event is chosen
+abbrev pub is_chosen_event : Choice → Trace → Bool
+is_chosen_event choice entry =
+    chooses_turn choice entry.pp entry.turn && chooses_channel choice.channels entry.channel
 
 -- the steps on a line: none, one, or as many as it counts
 abbrev pub steps_on : LineKind → Progress → List Progress
@@ -42,7 +44,7 @@ steps_on OneStep step = step ∷ []
 steps_on (HeldSteps count) step = replicate count step
 
 abbrev pub line_steps : StepWithLine → List Progress
-line_steps x = steps_on x.line (progress x.step.processor x.step.before)
+line_steps x = steps_on x.line (progress_of x.step)
 
 -- whether it is a step of processor n
 abbrev pub is_by : ℕ → StepWithLine → Bool

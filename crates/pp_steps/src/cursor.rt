@@ -1,14 +1,14 @@
 //! How far a processor has come in the times that it is held.
 
 ghost use Rattle.std.specs.Prelude.{◌≡◌, ◌≢◌, ℕ, ◌+◌, ◌<◌, ◌≤◌, ◌^◌, IsTrue, false, length, slice_index_or};
-ghost use Rattle.pp_machine.specs.PpNo.{processor_count, processor_index, is_named};
+ghost use Rattle.pp_machine.specs.PpNo.{processor_count, processor_index};
 ghost use Rattle.pp_steps.specs.Cursor.{Passes, no_cursor};
 ghost use Rattle.pp_steps.specs.HeldRuns.{no_times};
 ghost use Rattle.pp_steps.specs.declared.line_kind.LineKind.TheVariants.{NoLine};
 
 use crate::held_runs::{HeldRuns, goes_on};
 use crate::line_kind::LineKind;
-use crate::progress::Progress;
+use pp_bare::Progress;
 use pp_machine::{PROCESSORS, PpNo};
 use std::alloc::Allocator;
 
@@ -51,11 +51,11 @@ impl Cursor {
     }
 }
 
-/// The cursor of a processor goes past a step, where the processor is named.
+/// The cursor of a processor goes past a step, where the step is chosen.
 pub(crate) fn pass_step<A: Allocator>(
     cursors: &mut [Cursor; PROCESSORS],
     runs: &Vec<HeldRuns<A>, A>,
-    named: &[bool; PROCESSORS],
+    is_chosen: bool,
     n: PpNo,
     step: Progress,
 ) -> LineKind
@@ -63,15 +63,15 @@ pub(crate) fn pass_step<A: Allocator>(
     requires low { (slice_index_or cursors.old (processor_index n) no_cursor).times + 1 < 2 ^ 64 }
     ensures others { (k : ℕ) → k ≢ processor_index n
         → slice_index_or cursors.new k no_cursor ≡ slice_index_or cursors.old k no_cursor }
-    ensures own { IsTrue (is_named named.now n)
+    ensures own { IsTrue is_chosen
         → Passes (slice_index_or runs.now.items (processor_index n) no_times).counts step
         (slice_index_or cursors.old (processor_index n) no_cursor)
         (slice_index_or cursors.new (processor_index n) no_cursor) result }
-    ensures unnamed { is_named named.now n ≡ false → result ≡ NoLine }
+    ensures unchosen { is_chosen ≡ false → (result ≡ NoLine) × (cursors.new ≡ cursors.old) }
     ensures most { (slice_index_or cursors.new (processor_index n) no_cursor).times
         ≤ (slice_index_or cursors.old (processor_index n) no_cursor).times + 1 }
 {
-    if !named[n.index()] {
+    if !is_chosen {
         return LineKind::NoLine;
     }
     cursors[n.index()].pass(&runs[n.index()], step)

@@ -2,18 +2,17 @@
 //! one line.
 #![tactic(auto)]
 
-mod bare_machine;
-mod bare_step;
+mod choice;
 mod cursor;
 mod held_runs;
 mod laws;
 mod line_kind;
-mod progress;
 mod run_counts;
 mod step_line;
 mod steps_text;
 mod stores;
 mod words_field;
 
+pub use choice::Choice;
 pub use laws::steps_law;
 pub use steps_text::write_steps;

@@ -1,44 +1,48 @@
 //! The held steps of a run, counted.
 
-ghost use Rattle.std.specs.Prelude.{◌≡◌, ◌≢◌, ℕ, ◌+◌, ◌<◌, ◌≤◌, ◌^◌, ◌∷◌, [], length, List, IfOk, OnOk, IsTrue, replicate, slice_index_or};
-ghost use Rattle.pp_machine.specs.PpNo.{processor_count, processor_index, is_named};
+ghost use Rattle.std.specs.Prelude.{◌≡◌, ◌≢◌, ℕ, ◌+◌, ◌<◌, ◌≤◌, ◌^◌, ◌∷◌, [], false, length, List, IfOk, OnOk, IsTrue, replicate, slice_index_or};
+ghost use Rattle.pp_machine.specs.PpNo.{processor_count, processor_index};
 ghost use Rattle.pp_machine.specs.Run.{barrel};
+ghost use Rattle.pp_steps.specs.Choice.{chosen_steps};
 ghost use Rattle.pp_steps.specs.HeldRuns.{AreCounted, all_times, no_times};
-ghost use Rattle.pp_steps.specs.declared.progress.Progress.{Progress};
+ghost use Rattle.pp_bare.specs.declared.progress.Progress.{Progress};
 
-use crate::bare_machine::BareMachine;
+use crate::choice::Choice;
 use crate::held_runs::HeldRuns;
-use crate::progress::Progress;
+use pp_bare::{BareMachine, Progress};
 use pp_channel::Memory;
 use pp_machine::{Machine, PROCESSORS, PpNo};
 use std::alloc::Allocator;
 
-/// How long each processor named is held each time, in a run of so many turns of the barrel.
+/// How long each processor is held each time, in the steps chosen of a run of this many turns of
+/// the barrel.
 pub(crate) fn counted_runs<A: Allocator + Copy>(
     alloc: A,
     machine: &Machine<A>,
-    named: &[bool; PROCESSORS],
+    choice: &Choice,
     turns: u32,
 ) -> Result<Vec<HeldRuns<A>, A>, Memory>
     ensures { IfOk result (λ runs.
-        AreCounted named.now (barrel machine.now.profile turns) machine.now runs.items) }
+        AreCounted (chosen_steps choice.now (barrel machine.now.profile turns) machine.now)
+        runs.items) }
 {
     let mut runs = no_runs(alloc)?;
     let mut bare = BareMachine::of(alloc, machine)?;
     let round = machine.profile().processors() as u32;
     for turn in 0..turns {
         let n = PpNo::at((turn % round) as usize);
+        let is_chosen = choice.has(&bare, n);
         let step = bare.step(n);
-        note_step(&mut runs, named, n, step)?;
+        note_step(&mut runs, is_chosen, n, step)?;
     }
     end_runs(&mut runs)?;
     Ok(runs)
 }
 
-/// Counts a step of a processor, where it is named.
+/// Counts a step of a processor, where it is chosen.
 fn note_step<A: Allocator>(
     runs: &mut Vec<HeldRuns<A>, A>,
-    named: &[bool; PROCESSORS],
+    is_chosen: bool,
     n: PpNo,
     step: Progress,
 ) -> Result<(), Memory>
@@ -48,13 +52,14 @@ fn note_step<A: Allocator>(
     ensures as_many { OnOk result (length runs.new.items ≡ processor_count) }
     ensures others { OnOk result ((k : ℕ) → k ≢ processor_index n
         → slice_index_or runs.new.items k no_times ≡ slice_index_or runs.old.items k no_times) }
-    ensures own { OnOk result (IsTrue (is_named named.now n) → (steps : List Progress)
+    ensures own { OnOk result (IsTrue is_chosen → (steps : List Progress)
         → all_times (slice_index_or runs.new.items (processor_index n) no_times) steps
         ≡ all_times (slice_index_or runs.old.items (processor_index n) no_times) (step ∷ steps)) }
+    ensures unchosen { OnOk result (is_chosen ≡ false → runs.new.items ≡ runs.old.items) }
     ensures low { OnOk result ((slice_index_or runs.new.items (processor_index n) no_times).current
         ≤ (slice_index_or runs.old.items (processor_index n) no_times).current + 1) }
 {
-    if !named[n.index()] {
+    if !is_chosen {
         return Ok(());
     }
     runs[n.index()].note(step)

@@ -1,43 +1,43 @@
 //! The text of the steps of a run.
 
-ghost use Rattle.std.specs.Prelude.{◌≡◌, ◌+◌, ◌<◌, nat_le, if◌then◌else◌};
+ghost use Rattle.std.specs.Prelude.{◌≡◌, ◌+◌, ◌<◌};
 ghost use Rattle.pp_machine.specs.MachineState.{MachineState};
 ghost use Rattle.pp_machine.specs.MachineStep.{stepped};
 ghost use Rattle.pp_machine.specs.Run.{barrel};
 ghost use Rattle.pp_text.specs.TextWriter.{Prints};
 ghost use Rattle.pp_text.specs.Written.{IsReportWritten};
-ghost use Rattle.pp_steps.specs.BareMachine.{StandsFor};
+ghost use Rattle.pp_bare.specs.BareMachine.{StandsFor};
+ghost use Rattle.pp_steps.specs.Choice.{chosen_steps};
 ghost use Rattle.pp_steps.specs.HeldRuns.{AreCounted};
 ghost use Rattle.pp_steps.specs.StepsText.{kind_text, steps_text};
-ghost use Rattle.pp_steps.specs.declared.line_kind.LineKind.TheVariants.{NoLine};
 
-use crate::bare_machine::BareMachine;
+use crate::choice::Choice;
 use crate::cursor::{Cursor, pass_step};
 use crate::held_runs::HeldRuns;
 use crate::line_kind::LineKind;
 use crate::run_counts::counted_runs;
 use crate::step_line::{push_held_line, push_step_line};
+use pp_bare::BareMachine;
 use pp_machine::{Machine, PROCESSORS, PpNo};
 use pp_text::{Piece, ReportFault, TextWriter};
 use std::alloc::Allocator;
 use std::io::Write;
 
-/// Writes the steps of a machine in the first turns (decimal) of the barrel, of the processors
-/// named and from a turn on, and flushes the writer. The run is made twice: first the held steps in
-/// a row are counted, which takes the memory, and then the lines go out in pieces.
+/// Writes the steps chosen of a machine in the first turns (decimal) of the barrel, and flushes the
+/// writer. The run is made twice: first the held steps in a row are counted, which takes the
+/// memory, and then the lines go out in pieces.
 pub fn write_steps<A: Allocator + Copy, W: Write>(
     alloc: A,
     writer: &mut W,
     machine: &Machine<A>,
-    named: &[bool; PROCESSORS],
+    choice: &Choice,
     turns: u32,
-    from: u32,
 ) -> Result<(), ReportFault>
     ensures { IsReportWritten
-        (steps_text named.now from (barrel machine.now.profile turns) machine.now)
+        (steps_text choice.now (barrel machine.now.profile turns) machine.now)
         result (W.contents writer.old) (W.contents writer.new) }
 {
-    let Ok(runs) = counted_runs(alloc, machine, named, turns) else {
+    let Ok(runs) = counted_runs(alloc, machine, choice, turns) else {
         return Err(ReportFault::Memory);
     };
     let Ok(mut before) = BareMachine::of(alloc, machine) else {
@@ -53,39 +53,38 @@ pub fn write_steps<A: Allocator + Copy, W: Write>(
         &mut before,
         &mut after,
         &runs,
-        named,
+        choice,
         turns,
-        from,
     );
     text.finish().map_err(|_| ReportFault::Write)
 }
 
-/// Prints the steps of a machine, from two that stand for it: one goes a step ahead of the other.
+/// Prints the steps chosen of a machine, from two that stand for it: one goes a step ahead of the
+/// other.
 fn print_steps<A: Allocator, W: Write>(
     text: &mut TextWriter<W>,
     machine: &Machine<A>,
     before: &mut BareMachine<A>,
     after: &mut BareMachine<A>,
     runs: &Vec<HeldRuns<A>, A>,
-    named: &[bool; PROCESSORS],
+    choice: &Choice,
     turns: u32,
-    from: u32,
 )
     requires before { StandsFor before.old machine.now }
     requires after { StandsFor after.old machine.now }
-    requires counted { AreCounted named.now (barrel machine.now.profile turns) machine.now
-        runs.now.items }
+    requires counted { AreCounted
+        (chosen_steps choice.now (barrel machine.now.profile turns) machine.now) runs.now.items }
     ensures { Prints W.contents text.old text.new
-        (steps_text named.now from (barrel machine.now.profile turns) machine.now) }
+        (steps_text choice.now (barrel machine.now.profile turns) machine.now) }
 {
     let round = machine.profile().processors() as u32;
     let mut line = Piece::new();
     let mut cursors = [Cursor::new(); PROCESSORS];
     for turn in 0..turns {
         let n = PpNo::at((turn % round) as usize);
+        let is_chosen = choice.has(after, n);
         let step = after.step(n);
-        let kind = pass_step(&mut cursors, runs, named, n, step);
-        let kind = from_turn(from, before.turns(), kind);
+        let kind = pass_step(&mut cursors, runs, is_chosen, n, step);
         print_line(text, &mut line, n, before, after, kind);
         let _same = before.step(n);
     }
@@ -110,15 +109,4 @@ fn print_line<A: Allocator, W: Write>(
         LineKind::HeldSteps(count) => push_held_line(line, n, before, count),
     }
     text.print(line.as_slice());
-}
-
-/// The line of a step, where its turn is not before the first that is shown.
-fn from_turn(from: u32, turn: u64, kind: LineKind) -> LineKind
-    ensures { result ≡ (if nat_le from turn then kind else NoLine) }
-{
-    if turn < u64::from(from) {
-        LineKind::NoLine
-    } else {
-        kind
-    }
 }

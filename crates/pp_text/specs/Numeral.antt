@@ -6,30 +6,30 @@ use Rattle.std.specs.List.{flat_map, range_with_len}
 abbrev pub digit : ℕ → List ℕ
 digit n = (48 + n) ∷ []
 
--- the last digits of a number, as many as asked for, the least significant at the end
+-- the last `width` digits of a number in a base, the least significant at the end
 abbrev pub digits : ℕ → ℕ → ℕ → List ℕ
 digits base zero n = []
 digits base (suc width) n = digits base width (n / base) ++ digit (n % base)
 
--- a number in exactly this many octal digits
+-- a number in exactly `width` octal digits
 abbrev pub octal : ℕ → ℕ → List ℕ
 octal width n = digits 8 width n
 
--- a number in decimal digits, without leading zeros, but at most this many digits
+-- a number in decimal digits, without leading zeros, but at most `most` digits
 abbrev pub unpadded : ℕ → ℕ → List ℕ
 unpadded zero n = []
 unpadded (suc most) n = if n == 0 then [] else unpadded most (n / 10) ++ digit (n % 10)
 
--- a count of 64 bits in decimal digits, without zeros in front: one digit at least
+-- a count of 64 bits in decimal digits, without leading zeros, but at least one digit
 unfoldable pub short_decimal : ℕ → List ℕ
 short_decimal n = unpadded 19 (n / 10) ++ digit (n % 10)
 
--- a count of 64 bits in decimal: six digits, with leading zeros, and more only where it needs more
+-- a count of 64 bits in decimal: six digits, with leading zeros, and more only if it needs more
 unfoldable pub decimal : ℕ → List ℕ
 decimal n = unpadded 14 (n / 10 ^ 6) ++ digits 10 6 (n % 10 ^ 6)
 
 -- the two digits of each number below 100 in decimal, one number after another: a table from which
--- lines are put together (a private contract alone cites this)
+-- lines are put together (only a private contract cites this)
 unfoldable pub decimal_pairs : List ℕ
 decimal_pairs = flat_map (digits 10 2) (range_with_len 0 100)
 

@@ -1,11 +1,11 @@
 -- Pieces of a text, which have a fixed size.
 use Rattle.std.specs.Prelude.{ℕ, ◌+◌, ◌≤◌, List, length}
 
--- how many bytes a piece holds at most (decimal)
+-- the most bytes that a piece holds (decimal)
 abbrev pub piece_length : ℕ
 piece_length = 8192
 
--- there is room for this many more bytes in a piece
+-- there is room for `count` more bytes in a piece
 abbrev pub HasRoom : ℕ → List ℕ → Type 0
 HasRoom count piece = length piece + count ≤ piece_length
 

@@ -35,7 +35,7 @@ state_text PpState.Running = codes "RUNNING"
 state_text PpState.Stopped = codes "STOPPED"
 state_text (PpState.Fault number) = codes "FAULT " ++ octal 1 number
 
--- `PP00 P=0103 A=000007 STOPPED`, with what is said of the processor last
+-- `PP00 P=0103 A=000007 STOPPED`, with what is printed of the processor last
 unfoldable pub processor_line : ℕ → Processor → List ℕ → List ℕ
 processor_line n pp said =
     codes "PP" ++ octal 2 n ++ codes " P=" ++ octal 4 pp.p ++ codes " A=" ++ octal 6 pp.a
@@ -55,17 +55,17 @@ channel_line c (e ∷ h) =
 
 -- ---- the whole text
 
--- what is said of 0, of 1, .. and of count - 1, one after another
+-- what is printed of 0, of 1, .. and of count - 1, one after another
 unfoldable pub each_below : ℕ → (ℕ → List ℕ) → List ℕ
 each_below zero said = []
 each_below (suc k) said = each_below k said ++ said k
 
--- the line of the processor with this number, where the deck names it
+-- the line of the processor with this number, if the deck names it
 abbrev pub named_processor_line : List Bool → MachineState → ℕ → List ℕ
 named_processor_line named m n = if is_named named n
     then (let pp = processor_of n m in processor_line n pp (state_text pp.state)) else []
 
--- the line of the channel with this number, where there is one and it has a history
+-- the line of the channel with this number, if there is one and it has a history
 abbrev pub used_channel_line : List (List Event) → ℕ → List ℕ
 used_channel_line histories c =
     if names_channel c then channel_line c (history_on c histories) else []

@@ -28,12 +28,12 @@ pub prints_on : {W : Type 0} (contents : W → Option (List ℕ)) (a b c : TextW
 prints_on contents a b c xs ys text h k is =
     subst (Prints contents a c) is (prints_then contents a b c xs ys h k)
 
--- what is said of no number
+-- what is printed of no number
 pub nothing_said : (said : ℕ → List ℕ) → each_below 0 said ≡ []
 unfolding each_below
 nothing_said said = refl
 
--- what is said so far, and of one number more
+-- what is printed so far, and of one more number
 pub said_goes_on : (k : ℕ) (said : ℕ → List ℕ)
     → each_below k said ++ said k ≡ each_below (k + 1) said
 unfolding each_below

@@ -12,7 +12,7 @@ pub record HasPrinted {W : Type 0} (contents : W → Option (List ℕ)) (start :
       × Appends start (contents out.writer.now) written
   pub front : out.failed ≡ true → AppendsFront start (contents out.writer.now) text
 
--- whatever has been printed, it goes on by this text, on the same writer
+-- whatever has been printed, this text is printed after it, on the same writer
 pub record Prints {W : Type 0} (contents : W → Option (List ℕ)) (old new : TextWriter W)
     (text : List ℕ) : Type 0 where
   pub same_writer : new.writer.ghost_name ≡ old.writer.ghost_name

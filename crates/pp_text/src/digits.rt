@@ -17,7 +17,7 @@ pub fn octal1(n: u8) -> [u8; 1]
 }
 
 // Each event's line has some of these fields: octal digits are put together in one register,
-// decimal ones stand in a table.
+// decimal ones come from a table.
 
 /// The last two octal digits.
 pub fn octal2(n: u8) -> [u8; 2]
@@ -71,8 +71,8 @@ pub fn decimal6(n: u32) -> [u8; 6]
     [n0, n1, n2, n3, n4, n5]
 }
 
-/// Adds those decimal digits of a count that stand before its last six, and gives what is left for
-/// these.
+/// Adds the decimal digits of a count before its last six, and returns the number that these six
+/// make.
 #[inline]
 pub fn push_upper_digits(piece: &mut Piece, n: u64) -> u32
     requires { HasRoom 14 piece.old }
@@ -87,7 +87,7 @@ pub fn push_upper_digits(piece: &mut Piece, n: u64) -> u32
     (n % SEVEN_DIGITS) as u32
 }
 
-/// Adds a count in decimal: six digits, with zeros in front, and more only where it needs more.
+/// Adds a count in decimal: six digits, with leading zeros, and more only if it needs more.
 #[tactic(auto, unfolding(crate::specs::Numeral::decimal))]
 pub fn push_decimal(piece: &mut Piece, n: u64)
     requires { HasRoom 20 piece.old }
@@ -98,7 +98,7 @@ pub fn push_decimal(piece: &mut Piece, n: u64)
     piece.push(&decimal6(lower));
 }
 
-/// Adds a number in decimal digits, without zeros in front, but at most so many digits.
+/// Adds a number in decimal digits, without leading zeros, but at most `most` digits.
 #[tactic(auto, using(crate::proofs::TextLemmas::unpadded_more))]
 pub fn push_unpadded(piece: &mut Piece, n: u64, most: u32)
     requires { HasRoom most piece.old }
@@ -112,7 +112,7 @@ pub fn push_unpadded(piece: &mut Piece, n: u64, most: u32)
     piece.push(&[b'0' + (n % 10) as u8]);
 }
 
-/// Adds a count in decimal digits, without zeros in front, one digit at least.
+/// Adds a count in decimal digits, without leading zeros, but at least one digit.
 #[tactic(auto, unfolding(crate::specs::Numeral::short_decimal))]
 pub fn push_short_decimal(piece: &mut Piece, n: u64)
     requires { HasRoom 20 piece.old }

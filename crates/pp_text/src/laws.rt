@@ -7,11 +7,11 @@ ghost use Rattle.pp_machine.specs.MachineState.{MachineState};
 ghost use Rattle.pp_text.specs.PrintedText.{printed};
 ghost use Rattle.pp_text.specs.TextLaw.{AgreeOnText, AreSameHistories, FitsItsText};
 
-/// The text of a run is the run: two machines with one text have the same processors named, and
-/// agree on the trace, event by event, on what is shown of each processor named and on what is
+/// The text of a run determines the run: two machines with one text have the same processors named,
+/// and agree on the trace, event by event, on what is shown of each processor named and on what is
 /// shown of each channel. A machine that is printed fits its text, by the clause `fits` of
-/// `write_text`. Where the headline holds of both, each channel has the same history in both,
-/// opening events and all.
+/// `write_text`. If the headline holds of both, each channel has the same history in both, opening
+/// events and all.
 pub fn text_law()
     ensures text { (named others : List Bool) (one other : MachineState)
         → FitsItsText named one → FitsItsText others other

@@ -5,7 +5,7 @@ ghost use Rattle.pp_text.specs.Piece.{HasRoom, piece_length};
 
 use std::marker::Model;
 
-/// How many bytes a piece holds at most (decimal).
+/// The most bytes that a piece holds (decimal).
 const PIECE_LENGTH: usize = 8192;
 
 /// The bytes of a text that are held back, to be written at once. It takes no memory. Contracts see
@@ -28,7 +28,7 @@ impl Model for Piece {
 }
 
 impl Piece {
-    /// No bytes.
+    /// A piece without bytes.
     pub fn new() -> Piece
         ensures { result ≡ [] }
     {
@@ -66,7 +66,7 @@ impl Piece {
         self.filled = end;
     }
 
-    /// Lets all bytes go.
+    /// Drops all bytes.
     pub fn clear(&mut self)
         ensures { self.new ≡ [] }
     {

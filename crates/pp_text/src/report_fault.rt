@@ -5,7 +5,7 @@ use thiserror::Error;
 /// Why the text of a report was not written. `Memory` comes before the first byte is written.
 #[derive(Clone, Copy, Debug, PartialEq, Eq, Error)]
 pub enum ReportFault {
-    /// A growth was refused.
+    /// An allocation was refused.
     #[error("out of memory")]
     Memory,
     /// The writer failed, or took nothing.

@@ -1,4 +1,4 @@
-//! How processors and channels stand, in words.
+//! The states of processors and channels, in words.
 
 ghost use Rattle.std.specs.Prelude.{◌≡◌, ◌+◌, ◌≤◌, ◌<◌, ◌^◌, ◌++◌, codes, length};
 ghost use Rattle.pp_channel.specs.History.{active, waiting};
@@ -13,7 +13,7 @@ use pp_channel::{Channel, ChannelNo};
 use pp_machine::{Pp, PpNo, PpState};
 use std::alloc::Allocator;
 
-/// How many numbers two octal digits can show.
+/// The number of values of two octal digits.
 pub const NUMBERS: u8 = 0o100;
 
 /// `PP00`
@@ -89,7 +89,7 @@ pub fn push_channel_text<A: Allocator>(piece: &mut Piece, channel: &Channel<A>)
     }
 }
 
-/// Adds `CH05 ACTIVE FULL 0007` and a line feed, where the channel has a history.
+/// Adds `CH05 ACTIVE FULL 0007` and a line feed, if the channel has a history.
 pub fn push_channel_line<A: Allocator>(piece: &mut Piece, c: ChannelNo, channel: &Channel<A>)
     requires { HasRoom 22 piece.old }
     ensures text { piece.new ≡ piece.old ++ channel_line c channel.now }

@@ -10,7 +10,7 @@ use std::io::Write;
 const LONGEST_LINE: usize = 40;
 
 /// Holds back what is printed until a piece is full, and then writes it. A writer that has failed
-/// is written to no more, and what is printed then is lost.
+/// is not written to again, and what is printed then is lost.
 #[derive(Drop)]
 pub struct TextWriter<'a, W> {
     writer: &'a mut W,
@@ -35,7 +35,7 @@ impl<'a, W: Write> TextWriter<'a, W> {
         }
     }
 
-    /// Makes room for a line, whichever it is.
+    /// Makes room for any line.
     #[inline]
     pub(crate) fn make_room(&mut self)
         ensures nothing_more { Prints W.contents self.old self.new [] }

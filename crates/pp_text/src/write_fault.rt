@@ -10,7 +10,7 @@ use thiserror::Error;
 pub struct WriteFault;
 
 /// Writes all of these bytes, in as many calls as it takes. An error ends it, and so does a call
-/// that takes nothing; no error is tried again.
+/// that takes nothing; no call is retried.
 pub fn write_bytes<W: Write>(writer: &mut W, bytes: &[u8]) -> Result<(), WriteFault>
     ensures { IsWritten bytes.now result (W.contents writer.old) (W.contents writer.new) }
 {

@@ -2,7 +2,7 @@
 -- (Manual 60100000, peripheral processors: indexed addressing, relative jumps both ways.)
 use Rattle.std.specs.Prelude.{ℕ, ◌+◌, ◌-◌, ◌%◌, nat_lt, if◌then◌else◌}
 
--- how many places there are
+-- the number of places
 abbrev pub place_count : ℕ
 place_count = 0o10000
 
@@ -14,7 +14,7 @@ place_after p n = (p + n) % place_count
 abbrev pub next_place : ℕ → ℕ
 next_place p = place_after p 1
 
--- an address m with an index x: their sum, less 7777 where it is past the last place
+-- an address m with an index x: their sum, less 7777 if it is past the last place
 abbrev pub indexed : ℕ → ℕ → ℕ
 indexed m x = if nat_lt (m + x) place_count then m + x else m + x - 0o7777
 

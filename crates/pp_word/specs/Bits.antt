@@ -35,7 +35,7 @@ shift word d =
     if nat_lt d 0o40 then number_of (rotation d (bits_of word))
     else number_of (right_shift (0o77 - d) (bits_of word))
 
--- each bit turned
+-- each bit inverted
 abbrev pub complement : ℕ → ℕ
 complement word = number_of (map not (bits_of word))
 
@@ -47,7 +47,7 @@ combination f a b = number_of (map (λ pair. f pair.0 pair.1) (zip (bits_of a) (
 abbrev pub logical_product : ℕ → ℕ → ℕ
 logical_product a b = combination (λ x y. x && y) a b
 
--- LMN: 1 where just one is
+-- LMN: 1 where exactly one is
 abbrev pub logical_difference : ℕ → ℕ → ℕ
 logical_difference a b = combination (λ x y. if x then not y else y) a b
 

@@ -6,13 +6,13 @@ use Rattle.std.specs.Prelude.{ℕ, ◌≡◌, ◌+◌, ◌-◌, ◌%◌, ◌^◌
 abbrev pub all_ones : ℕ
 all_ones = 2 ^ 18 - 1
 
--- c is a sum of a and b: congruent to a + b, and all ones exactly where both are
+-- c is a sum of a and b: congruent to a + b, and all ones exactly if both are
 pub record IsSum (a b c : ℕ) : Type 0 where
   pub fits : c < 2 ^ 18
   pub congruent : c % all_ones ≡ (a + b) % all_ones
   pub negative_zero : (c ≡ all_ones) ↔ ((a ≡ all_ones) × (b ≡ all_ones))
 
--- c is a difference of a and b: c + b is congruent to a; c is all ones just where a is and b is 0
+-- c is a difference of a and b: c + b is congruent to a; c is all ones exactly if a is and b is 0
 pub record IsDifference (a b c : ℕ) : Type 0 where
   pub fits : c < 2 ^ 18
   pub congruent : (c + b) % all_ones ≡ a % all_ones

@@ -17,7 +17,7 @@ short code mnemonic = record { code = code; long = false; mnemonic = mnemonic }
 abbrev pub long : ℕ → List ℕ → Row
 long code mnemonic = record { code = code; long = true; mnemonic = mnemonic }
 
--- the table
+-- the row of each operation
 abbrev pub row_of : Opcode → Row
 row_of PSN = short 0o00 (codes "PSN")
 row_of LJM = long 0o01 (codes "LJM")
@@ -87,7 +87,7 @@ row_of FNC = long 0o77 (codes "FNC")
 abbrev pub code_of : Opcode → ℕ
 code_of op = (row_of op).code
 
--- how many words an instruction has
+-- the number of words of an instruction
 abbrev pub length_of : Opcode → ℕ
 length_of op = if (row_of op).long then 2 else 1
 

@@ -6,7 +6,7 @@ ghost use Rattle.pp_word.specs.Address.{indexed, next_place, place_count, relati
 use crate::word6::Word6;
 use crate::word12::Word12;
 
-/// How many places a processor's memory has.
+/// The number of places in a processor's memory.
 const PLACES: u32 = 0o10000;
 
 /// The address m with the index x: m + x, less 7777 from 10000 on (octal).

@@ -9,7 +9,7 @@ use crate::word18::Word18;
 /// A word of 18 ones.
 const ALL_ONES: u32 = 0o777_777;
 
-/// Each bit turned.
+/// Each bit inverted.
 pub fn complement18(a: Word18) -> Word18
     ensures value { result ≡ complement a }
     ensures each_bit { (i : ℕ) → i < 18 → bit result i ≡ not (bit a i) }
@@ -43,7 +43,7 @@ pub fn and18(a: Word18, b: Word18) -> Word18
     Word18::truncated(a.get() & b.get())
 }
 
-/// LMN, the logical difference: 1 in each bit where just one of the words has 1.
+/// LMN, the logical difference: 1 in each bit where exactly one of the words has 1.
 pub fn xor18(a: Word18, b: Word18) -> Word18
     ensures value { result ≡ logical_difference a b }
     ensures each_bit { (i : ℕ) → i < 18 → bit result i

@@ -25,7 +25,7 @@ impl Word12 {
     /// The word 0.
     pub const ZERO: Word12 = Word12 { value: 0 };
 
-    /// The word of this number, or nothing where it needs more than 12 bits.
+    /// The word of this number, or nothing if it needs more than 12 bits.
     pub fn new(value: u16) -> Option<Self>
         ensures fits { IsSome result ↔ (value < 2 ^ 12) }
         ensures value { IfSome result (λ w. w ≡ value) }

@@ -29,7 +29,7 @@ impl Word18 {
     /// The word 1.
     pub const ONE: Word18 = Word18 { value: 1 };
 
-    /// The word of this number, or nothing where it needs more than 18 bits.
+    /// The word of this number, or nothing if it needs more than 18 bits.
     pub fn new(value: u32) -> Option<Self>
         ensures fits { IsSome result ↔ (value < 2 ^ 18) }
         ensures value { IfSome result (λ w. w ≡ value) }

@@ -21,7 +21,7 @@ impl Model for Word6 {
 }
 
 impl Word6 {
-    /// The word of this number, or nothing where it needs more than 6 bits.
+    /// The word of this number, or nothing if it needs more than 6 bits.
     pub fn new(value: u8) -> Option<Self>
         ensures fits { IsSome result ↔ (value < 2 ^ 6) }
         ensures value { IfSome result (λ w. w ≡ value) }

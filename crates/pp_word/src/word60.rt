@@ -7,8 +7,8 @@ use std::marker::Model;
 /// A word of 60 bits, 0 to 2^60 - 1, twenty octal digits. Contracts see it as that number.
 #[derive(Clone, Copy, Debug, PartialEq, Eq)]
 pub struct Word60 {
-    // In halves, so that what holds a word is aligned to 4 bytes and not to 8: an answer to a
-    // processor, of which a run by threads keeps one for each step, takes 16 bytes, not 24.
+    // In halves, so that a type that holds a word is aligned to 4 bytes, not 8: an answer to a
+    // processor, one of which is kept for each step of a run by threads, takes 16 bytes, not 24.
     upper: u32,
     lower: u32,
 }
@@ -34,7 +34,7 @@ impl Word60 {
     /// The word 0.
     pub const ZERO: Word60 = Word60 { upper: 0, lower: 0 };
 
-    /// The word of this number, or nothing where it needs more than 60 bits.
+    /// The word of this number, or nothing if it needs more than 60 bits.
     pub fn new(value: u64) -> Option<Self>
         ensures fits { IsSome result ↔ (value < 2 ^ 60) }
         ensures value { IfSome result (λ w. w ≡ value) }

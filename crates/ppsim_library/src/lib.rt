@@ -2,15 +2,16 @@
 //! Each call works in memory that its host lends, and gives it back or says that it keeps it.
 #![tactic(auto)]
 
-ghost use Rattle.std.specs.Prelude.{◌≡◌, MatchOption, max};
+ghost use Rattle.std.specs.Prelude.{◌≡◌, MatchOption, None, false, max};
 ghost use Rattle.fixed_arena.specs.Lending.{IsGivenBack};
 ghost use Rattle.pp_calls.specs.Answered.{NeedsNoThreads, RefusesNumber, Tells, TellsOfTrace};
 ghost use Rattle.pp_calls.specs.Numbers.{only_of, profile_of, window_of};
+ghost use Rattle.pp_sim.specs.declared.text_of.TextOf.{TextOf};
 ghost use Rattle.pp_sim.specs.declared.work.Work.{Work};
 
 use fixed_arena::{Memory, Slot, arena_in};
 use pp_calls::{Answer, channels_of, only_of, profile_of, refused_number, tell, window_of};
-use pp_sim::Work;
+use pp_sim::{ChosenSteps, TextOf, Work};
 
 /// Does this work in the memory, and gives it back, or leaves its place empty.
 fn tell_in(memory: &mut Memory, work: Work, input: &[u8], out: &mut [u8]) -> Answer
@@ -24,7 +25,7 @@ fn tell_in(memory: &mut Memory, work: Work, input: &[u8], out: &mut [u8]) -> Ans
     answer
 }
 
-/// The text of a run of this many turns in the barrel.
+/// The text of a run of `turns` turns in the barrel.
 #[unsafe(no_mangle)]
 pub extern "C" fn ppsim_barrel(
     memory: &mut Memory,
@@ -34,13 +35,15 @@ pub extern "C" fn ppsim_barrel(
     out: &mut [u8],
 ) -> Answer
     ensures told { MatchOption (profile_of processors turns) (RefusesNumber result out.old out.new)
-        (λ profile. Tells (Work.Barrel profile turns) deck.now result out.old out.new) }
+        (λ profile. Tells (Work.Deck profile (TextOf.Barrel turns)) deck.now
+        result out.old out.new) }
     ensures memory { IsGivenBack memory.old memory.new }
 {
     let Some(profile) = profile_of(processors, turns) else {
         return refused_number();
     };
-    tell_in(memory, Work::Barrel { profile, turns }, deck, out)
+    let text = TextOf::Barrel(turns);
+    tell_in(memory, Work::Deck { profile, text }, deck, out)
 }
 
 /// The listing. Nothing is run.
@@ -52,16 +55,17 @@ pub extern "C" fn ppsim_list(
     out: &mut [u8],
 ) -> Answer
     ensures told { MatchOption (profile_of processors 0) (RefusesNumber result out.old out.new)
-        (λ profile. Tells (Work.List profile) deck.now result out.old out.new) }
+        (λ profile. Tells (Work.Deck profile TextOf.List) deck.now result out.old out.new) }
     ensures memory { IsGivenBack memory.old memory.new }
 {
     let Some(profile) = profile_of(processors, 0) else {
         return refused_number();
     };
-    tell_in(memory, Work::List { profile }, deck, out)
+    let text = TextOf::List;
+    tell_in(memory, Work::Deck { profile, text }, deck, out)
 }
 
-/// The dump after this many turns: a deck to go on from.
+/// The dump after `turns` turns: a deck to go on from.
 #[unsafe(no_mangle)]
 pub extern "C" fn ppsim_dump(
     memory: &mut Memory,
@@ -71,16 +75,18 @@ pub extern "C" fn ppsim_dump(
     out: &mut [u8],
 ) -> Answer
     ensures told { MatchOption (profile_of processors turns) (RefusesNumber result out.old out.new)
-        (λ profile. Tells (Work.Dump profile turns) deck.now result out.old out.new) }
+        (λ profile. Tells (Work.Deck profile (TextOf.Dump turns)) deck.now
+        result out.old out.new) }
     ensures memory { IsGivenBack memory.old memory.new }
 {
     let Some(profile) = profile_of(processors, turns) else {
         return refused_number();
     };
-    tell_in(memory, Work::Dump { profile, turns }, deck, out)
+    let text = TextOf::Dump(turns);
+    tell_in(memory, Work::Deck { profile, text }, deck, out)
 }
 
-/// How things stand after this many turns.
+/// The state report after `turns` turns.
 #[unsafe(no_mangle)]
 pub extern "C" fn ppsim_state(
     memory: &mut Memory,
@@ -90,16 +96,18 @@ pub extern "C" fn ppsim_state(
     out: &mut [u8],
 ) -> Answer
     ensures told { MatchOption (profile_of processors turns) (RefusesNumber result out.old out.new)
-        (λ profile. Tells (Work.State profile turns) deck.now result out.old out.new) }
+        (λ profile. Tells (Work.Deck profile (TextOf.State turns)) deck.now
+        result out.old out.new) }
     ensures memory { IsGivenBack memory.old memory.new }
 {
     let Some(profile) = profile_of(processors, turns) else {
         return refused_number();
     };
-    tell_in(memory, Work::State { profile, turns }, deck, out)
+    let text = TextOf::State(turns);
+    tell_in(memory, Work::Deck { profile, text }, deck, out)
 }
 
-/// The sessions of a run of this many turns.
+/// The sessions of a run of `turns` turns.
 #[unsafe(no_mangle)]
 pub extern "C" fn ppsim_sessions(
     memory: &mut Memory,
@@ -109,16 +117,21 @@ pub extern "C" fn ppsim_sessions(
     out: &mut [u8],
 ) -> Answer
     ensures told { MatchOption (profile_of processors turns) (RefusesNumber result out.old out.new)
-        (λ profile. Tells (Work.Sessions profile turns) deck.now result out.old out.new) }
+        (λ profile. Tells (Work.Deck profile (TextOf.Sessions turns false)) deck.now
+        result out.old out.new) }
     ensures memory { IsGivenBack memory.old memory.new }
 {
     let Some(profile) = profile_of(processors, turns) else {
         return refused_number();
     };
-    tell_in(memory, Work::Sessions { profile, turns }, deck, out)
+    let text = TextOf::Sessions {
+        turns,
+        words: false,
+    };
+    tell_in(memory, Work::Deck { profile, text }, deck, out)
 }
 
-/// The races of a run of this many turns.
+/// The races of a run of `turns` turns.
 #[unsafe(no_mangle)]
 pub extern "C" fn ppsim_races(
     memory: &mut Memory,
@@ -128,17 +141,19 @@ pub extern "C" fn ppsim_races(
     out: &mut [u8],
 ) -> Answer
     ensures told { MatchOption (profile_of processors turns) (RefusesNumber result out.old out.new)
-        (λ profile. Tells (Work.Races profile turns) deck.now result out.old out.new) }
+        (λ profile. Tells (Work.Deck profile (TextOf.Races turns)) deck.now
+        result out.old out.new) }
     ensures memory { IsGivenBack memory.old memory.new }
 {
     let Some(profile) = profile_of(processors, turns) else {
         return refused_number();
     };
-    tell_in(memory, Work::Races { profile, turns }, deck, out)
+    let text = TextOf::Races(turns);
+    tell_in(memory, Work::Deck { profile, text }, deck, out)
 }
 
-/// The steps of a run of this many turns, from a turn on: of one processor alone, or at 255
-/// (decimal) of those that the deck names.
+/// The steps of a run of `turns` turns, from turn `from` on: of processor `pp` alone, or at 255
+/// (decimal) of those that the deck names or that waited at dead start.
 #[unsafe(no_mangle)]
 pub extern "C" fn ppsim_steps(
     memory: &mut Memory,
@@ -152,25 +167,34 @@ pub extern "C" fn ppsim_steps(
     ensures told { MatchOption (profile_of processors (max turns from))
         (RefusesNumber result out.old out.new)
         (λ profile. MatchOption (only_of profile pp) (RefusesNumber result out.old out.new)
-        (λ only. Tells (Work.Steps profile turns only from) deck.now result out.old out.new)) }
+        (λ only. Tells (Work.Deck profile (TextOf.Steps turns (record {
+          processors = only;
+          channels = None;
+          from = from;
+          to = turns;
+        }))) deck.now
+        result out.old out.new)) }
     ensures memory { IsGivenBack memory.old memory.new }
 {
     let Some(profile) = profile_of(processors, turns.max(from)) else {
         return refused_number();
     };
-    let Some(only) = only_of(profile, pp) else {
+    let Some(processors) = only_of(profile, pp) else {
         return refused_number();
     };
-    let work = Work::Steps {
-        profile,
+    let text = TextOf::Steps {
         turns,
-        only,
-        from,
+        chosen: ChosenSteps {
+            processors,
+            channels: None,
+            from,
+            to: turns,
+        },
     };
-    tell_in(memory, work, deck, out)
+    tell_in(memory, Work::Deck { profile, text }, deck, out)
 }
 
-/// The drawing of the turns from one on and before another.
+/// The drawing of the turns from `from` up to but not including `to`.
 #[unsafe(no_mangle)]
 pub extern "C" fn ppsim_draw(
     memory: &mut Memory,
@@ -182,7 +206,8 @@ pub extern "C" fn ppsim_draw(
 ) -> Answer
     ensures told { MatchOption (profile_of processors to) (RefusesNumber result out.old out.new)
         (λ profile. MatchOption (window_of from to) (RefusesNumber result out.old out.new)
-        (λ window. Tells (Work.Draw profile window) deck.now result out.old out.new)) }
+        (λ window. Tells (Work.Deck profile (TextOf.Draw window)) deck.now
+        result out.old out.new)) }
     ensures memory { IsGivenBack memory.old memory.new }
 {
     let Some(profile) = profile_of(processors, to) else {
@@ -191,11 +216,12 @@ pub extern "C" fn ppsim_draw(
     let Some(window) = window_of(from, to) else {
         return refused_number();
     };
-    tell_in(memory, Work::Draw { profile, window }, deck, out)
+    let text = TextOf::Draw(window);
+    tell_in(memory, Work::Deck { profile, text }, deck, out)
 }
 
-/// The check of a channel trace. The channels of this list, as `1,5,13` (octal), are open before
-/// it; none is where the list is empty.
+/// The check of a channel trace. The channels of the list `opened`, like `1,5,13` (octal), are open
+/// before it; none is if the list is empty.
 #[unsafe(no_mangle)]
 pub extern "C" fn ppsim_check(
     memory: &mut Memory,

@@ -1,20 +1,20 @@
-//! Odd numbers, the same in each run.
+//! Pseudo-random numbers, the same in each run.
 
 ghost use Rattle.std.specs.Prelude.{◌<◌};
 
-/// Numbers one after another, of which none tells the next at a glance.
+/// A sequence of pseudo-random numbers.
 #[derive(Drop)]
 pub struct Chance {
     state: u32,
 }
 
 impl Chance {
-    /// The numbers that begin here.
+    /// The sequence from this state on.
     pub fn new(state: u32) -> Chance {
         Chance { state }
     }
 
-    /// The next of them.
+    /// The next number, below 4096 (decimal).
     pub fn next(&mut self) -> u16
         ensures twelve_bits { result < 4096 }
     {

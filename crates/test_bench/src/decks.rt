@@ -48,7 +48,7 @@ PP 1
 START 0100
 ";
 
-/// So long a patience that no processor loses it while another works.
+/// A patience so long that no processor loses it while another works.
 pub const LONG_PATIENCE: u32 = 4_294_967_295;
 
 /// A word is lost, and another waits.

@@ -2,7 +2,7 @@
 
 use pp_channel::Event;
 
-/// Whether a history has idle stretches and sessions alone, in which each word is put and then
+/// Whether a history has only idle stretches and sessions, in which each word is put and then
 /// taken.
 pub fn is_lawful(events: &[Event]) -> bool {
     let mut active = false;

@@ -1,27 +1,29 @@
-//! What the crates of tests share: decks with their texts, devices that fail and texts from and
-//! onto them, a plain check of histories, words, channels, processors and programs by number, odd
-//! numbers, and which processors wait.
+//! What the crates of tests share: decks with their texts, devices that fail, an allocator that
+//! refuses the Nth request, a plain check of histories, words, channels, processors and programs by
+//! number, odd numbers, and which processors wait.
 #![tactic(auto)]
 
+mod allocator;
 mod chance;
 mod dead_start;
 mod decks;
-mod devices;
 mod flags;
 mod histories;
+mod in_turn;
 mod long_texts;
 mod numbers;
 mod programs;
+mod ration;
 mod sink;
 mod source;
 
+pub use allocator::Rationed;
 pub use chance::Chance;
 pub use dead_start::waiting;
 pub use decks::{
     BLOCK, HANDOFF, HANDOFF_ON_TWENTY, HANDOFF_TEXT, LONG_PATIENCE, LOST_AND_WAITING,
     WORDS_OF_A_RUN, WORDS_OF_TWENTY,
 };
-pub use devices::{wrong_reading, wrong_writing};
 pub use flags::{EMPTY, FULL, INACTIVE};
 pub use histories::is_lawful;
 pub use long_texts::{SESSIONS, report_of_sessions, text_of_sessions};

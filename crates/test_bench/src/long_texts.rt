@@ -1,4 +1,4 @@
-//! A deck whose texts are as long as one likes.
+//! A deck whose texts can be of any length.
 
 use std::alloc::{AllocError, Global};
 
@@ -10,8 +10,8 @@ PP 0
 START 0100
 ";
 
-/// The text of that deck in the barrel, after this many sessions of three rounds of ten turns: 42
-/// bytes for each, and 43.
+/// The text of that deck in the barrel, after `sessions` sessions of three rounds of ten turns: 42
+/// bytes for each, and 43 more.
 pub fn text_of_sessions(alloc: Global, sessions: u32) -> Result<String, AllocError> {
     let mut text = String::new(alloc);
     for session in 0..sessions {
@@ -27,7 +27,7 @@ pub fn text_of_sessions(alloc: Global, sessions: u32) -> Result<String, AllocErr
     Ok(text)
 }
 
-/// The same by threads, after three steps for each session: 42 bytes for each, and 41.
+/// The same by threads, after three steps for each session: 42 bytes for each, and 41 more.
 pub fn report_of_sessions(alloc: Global, sessions: u32) -> Result<String, AllocError> {
     let mut text = String::new(alloc);
     for session in 0..sessions {

@@ -14,7 +14,7 @@ pub enum Failure {
     Flush,
 }
 
-/// Takes this many bytes in pieces, and then fails at each call, which it counts.
+/// Takes `room` bytes in pieces, and then fails at each call, which it counts.
 #[derive(Drop)]
 pub struct Sink {
     taken: Vec<u8>,
@@ -25,7 +25,7 @@ pub struct Sink {
 }
 
 impl Sink {
-    /// Takes this many bytes in pieces, and then fails in this way.
+    /// Takes `room` bytes in pieces, and then fails in this way.
     pub fn new(alloc: Global, room: usize, piece: usize, failure: Failure) -> Sink {
         Sink {
             taken: Vec::new(alloc),

@@ -2,8 +2,8 @@
 
 use std::io::{self, ErrorKind, Read};
 
-/// Gives a text in pieces, and then nothing but errors, which it counts; or the end of the text,
-/// where it has no error to give.
+/// Gives a text in pieces, and then nothing but errors, which it counts; or the end of the text, if
+/// it has no error to give.
 #[derive(Drop)]
 pub struct Source<'a> {
     left: &'a [u8],
@@ -14,7 +14,7 @@ pub struct Source<'a> {
 }
 
 impl<'a> Source<'a> {
-    /// Gives this text in pieces of this many bytes, and then errors of this kind.
+    /// Gives this text in pieces of `piece` bytes, and then errors of this kind.
     pub fn new(text: &'a [u8], piece: usize, error: Option<ErrorKind>) -> Source<'a> {
         Source {
             left: text,

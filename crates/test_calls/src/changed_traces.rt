@@ -4,8 +4,6 @@ use crate::told::{Form, Stand, Told, after, first_unlawful, text_of};
 use pp_channel::{CHANNELS, Event};
 use pp_check::check_trace;
 use std::alloc::{AllocError, Global};
-use std::process::Abort;
-use std::test::Fail;
 use test_bench::{Chance, report_of_sessions, text_of_sessions, word};
 
 /// No channel was open before the trace.
@@ -102,69 +100,70 @@ fn changed(alloc: Global, lines: &[Told], chance: &mut Chance) -> Result<Vec<Tol
     Ok(changed)
 }
 
-/// The judge says of a trace what the plain check says. Answers whether it is refused.
-fn is_refused(rt: &impl Abort, alloc: Global, lines: &[Told], form: Form) -> Result<bool, Fail> {
+/// Whether the judge finds the same first unlawful line as the plain check, or none as it, and
+/// whether there is one.
+fn judged(alloc: Global, lines: &[Told], form: Form) -> Result<(bool, bool), AllocError> {
     let text = text_of(alloc, lines, form)?;
-    match (
-        check_trace(text.as_bytes(), &NONE),
-        first_unlawful(lines, form),
-    ) {
-        (Ok(verdict), None) => {
-            assert_eq!(rt; verdict.events, lines.len() as u64);
-            Ok(false)
-        }
-        (Err(fault), Some(place)) => {
-            assert_eq!(rt;
-                fault.line,
-                (place as u64).wrapping_add(1),
-                "{fault} in\n{text}"
-            );
-            Ok(true)
-        }
-        (Ok(_), Some(_)) => Err("an unlawful trace is accepted".into()),
-        (Err(_), None) => Err("a lawful trace is refused".into()),
-    }
+    let unlawful = first_unlawful(lines, form);
+    let agrees = match (check_trace(text.as_bytes(), &NONE), unlawful) {
+        (Ok(verdict), None) => verdict.events == lines.len() as u64,
+        (Err(fault), Some(place)) => fault.line == (place as u64).wrapping_add(1),
+        _ => false,
+    };
+    Ok((agrees, unlawful.is_some()))
+}
+
+/// Whether a lawful trace is found lawful, and a changed one judged as it should; and whether that
+/// one is refused.
+fn round(alloc: Global, chance: &mut Chance, form: Form) -> Result<(bool, bool), AllocError> {
+    let lines = lawful_trace(alloc, chance)?;
+    let is_lawful = judged(alloc, &lines, form)? == (true, false);
+    let changed = changed(alloc, &lines, chance)?;
+    let (agrees, is_refused) = judged(alloc, &changed, form)?;
+    Ok((is_lawful && agrees, is_refused))
 }
 
 #[test]
-fn changed_traces(rt: HostRuntime) -> Result<(), Fail> {
+fn changed_traces(rt: HostRuntime) -> Result<(), AllocError> {
     let mut chance = Chance::new(6600);
     let mut refused = 0;
-    for round in 0..4 * REFUSED {
+    for number in 0..4 * REFUSED {
         if refused >= REFUSED {
             break;
         }
-        let form = if round % 2 == 0 {
+        let form = if number % 2 == 0 {
             Form::ByTurn
         } else {
             Form::ByNumber
         };
-        let lines = lawful_trace(rt.alloc(), &mut chance)?;
-        let is_lawful = !is_refused(&rt, rt.alloc(), lines.as_slice(), form)?;
-        assert!(rt; is_lawful);
-        let changed = changed(rt.alloc(), lines.as_slice(), &mut chance)?;
-        if is_refused(&rt, rt.alloc(), changed.as_slice(), form)? {
+        let (is_right, is_refused) = round(rt.alloc(), &mut chance, form)?;
+        assert!(rt; is_right, "round {number}");
+        if is_refused {
             refused += 1;
         }
     }
-    assert_eq!(rt; refused, REFUSED);
+    assert!(rt; refused == REFUSED);
     Ok(())
 }
 
 /// How many sessions the long texts have, of two events each.
 const SESSIONS: u32 = 1000;
 
+/// Whether a text is lawful, with all these sessions on one channel.
+fn has_sessions(text: &str) -> bool {
+    match check_trace(text.as_bytes(), &NONE) {
+        Ok(verdict) => {
+            let sessions = u64::from(SESSIONS);
+            (verdict.events, verdict.channels, verdict.sessions) == (2 * sessions, 1, sessions)
+        }
+        Err(_) => false,
+    }
+}
+
 /// Long texts of runs, as the barrel and threads print them, are lawful.
 #[test]
-fn long_texts(rt: HostRuntime) -> Result<(), Fail> {
-    let by_turns = text_of_sessions(rt.alloc(), SESSIONS)?;
-    let by_numbers = report_of_sessions(rt.alloc(), SESSIONS)?;
-    for text in [by_turns.as_str(), by_numbers.as_str()] {
-        let Ok(verdict) = check_trace(text.as_bytes(), &NONE) else {
-            return Err("a lawful trace is refused".into());
-        };
-        let counts = (verdict.events, verdict.channels, verdict.sessions);
-        assert_eq!(rt; counts, (2 * u64::from(SESSIONS), 1, u64::from(SESSIONS)));
-    }
+fn long_texts(rt: HostRuntime) -> Result<(), AllocError> {
+    assert!(rt; has_sessions(&text_of_sessions(rt.alloc(), SESSIONS)?));
+    assert!(rt; has_sessions(&report_of_sessions(rt.alloc(), SESSIONS)?));
     Ok(())
 }

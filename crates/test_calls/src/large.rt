@@ -2,194 +2,103 @@
 //! lines by the hundred thousand.
 
 use pp_listing::listing;
-use pp_machine::Profile;
+use pp_machine::{Machine, Profile};
+use pp_sim::DeckCode::{
+    BadDigits, BadProcessor, CentralRange, NoProcessor, NotAscii, PastEnd, TooLong, UnknownLine,
+};
 use pp_sim::{DeckCode, DeckFault, read_deck};
 use pp_word::{Word12, Word18, Word60};
-use std::alloc::Global;
+use std::alloc::{AllocError, Global};
 use std::test::Fail;
 use test_bench::first;
 
-/// A long deck: its beginning, a piece that follows this many times, and its end.
-#[derive(Clone, Copy)]
-struct Long(&'static [u8], &'static [u8], u32, &'static [u8]);
+/// A long deck: its beginning, a piece that is repeated up to its end, its end, and its length in
+/// bytes.
+type Long = (&'static [u8], &'static [u8], &'static [u8], usize);
 
-impl Long {
-    fn text(&self, alloc: Global) -> Result<Vec<u8>, Fail> {
-        let Long(front, piece, times, end) = *self;
-        let mut text = front.to_vec(alloc)?;
-        for _ in 0..times {
-            text.extend_from_slice(piece)?;
-        }
-        text.extend_from_slice(end)?;
-        Ok(text)
+fn text_of((front, piece, end, length): Long, alloc: Global) -> Result<Vec<u8>, AllocError> {
+    let room = length.saturating_sub(front.len()).saturating_sub(end.len());
+    let mut text = front.to_vec(alloc)?;
+    for _ in 0..room / piece.len().max(1) {
+        text.extend_from_slice(piece)?;
     }
+    text.extend_from_slice(end)?;
+    Ok(text)
 }
 
-/// A deck, its length in bytes, and where it is at fault.
-const FAULTS: &[(Long, usize, u32, DeckCode)] = &[
+/// Decks that are too long, or as long as may be, and others; and where each is at fault.
+const FAULTS: [(Long, u32, DeckCode); 17] = [
+    ((b"", b" ", b"\x80", 1_048_577), 0, TooLong),
+    ((b"PP 3\n", b" ", b"0100 0007", 1_048_577), 0, TooLong),
+    ((b"words \x80\n", b" ", b"", 1_048_577), 0, TooLong),
+    ((b"", b"\n", b"\x80", 1_048_576), 1_048_576, NotAscii),
+    ((b"9\n", b" ", b"\x80", 1_048_576), 2, NotAscii),
+    ((b"", b"\n", b"9", 1_048_576), 1_048_576, NoProcessor),
+    ((b"", b"1", b"", 1_048_576), 1, NoProcessor),
+    ((b"PP 0\n", b"1", b"", 1_048_576), 2, BadDigits),
+    ((b"CM 0 ", b"7", b"", 1_048_576), 1, BadDigits),
+    ((b"PP 0", b"\r", b"", 1_048_576), 1, BadDigits),
+    ((b"", b"PP 0\n", b"9", 500_001), 100_001, BadDigits),
+    ((b"", b"\r", b"\n", 1_048_576), 1, UnknownLine),
+    ((b"", b"\0", b"", 1_048_576), 1, UnknownLine),
+    ((b"PP ", b"\t", b"0 0", 1_048_576), 1, UnknownLine),
+    ((b"", b"* PP 0\n", b"PP 12", 980_005), 140_001, BadProcessor),
+    ((b"PP 0\n0 ", b"1 ", b"", 8201), 2, PastEnd),
     (
-        Long(b"", b" ", 1_048_576, b"\x80"),
-        1_048_577,
-        0,
-        DeckCode::TooLong,
-    ),
-    (
-        Long(b"PP 3\n", b" ", 1_048_563, b"0100 0007"),
-        1_048_577,
-        0,
-        DeckCode::TooLong,
-    ),
-    (
-        Long(b"words \x80\n", b" ", 1_048_569, b""),
-        1_048_577,
-        0,
-        DeckCode::TooLong,
-    ),
-    (
-        Long(b"", b"\n", 1_048_575, b"\x80"),
-        1_048_576,
-        1_048_576,
-        DeckCode::NotAscii,
-    ),
-    (
-        Long(b"9\n", b" ", 1_048_573, b"\x80"),
-        1_048_576,
+        (b"CENTRAL 400000\nCM 0 ", b"1 ", b"", 262_166),
         2,
-        DeckCode::NotAscii,
-    ),
-    (
-        Long(b"", b"\n", 1_048_575, b"9"),
-        1_048_576,
-        1_048_576,
-        DeckCode::NoProcessor,
-    ),
-    (
-        Long(b"", b"1", 1_048_576, b""),
-        1_048_576,
-        1,
-        DeckCode::NoProcessor,
-    ),
-    (
-        Long(b"PP 0\n", b"1", 1_048_571, b""),
-        1_048_576,
-        2,
-        DeckCode::BadDigits,
-    ),
-    (
-        Long(b"CM 0 ", b"7", 1_048_571, b""),
-        1_048_576,
-        1,
-        DeckCode::BadDigits,
-    ),
-    (
-        Long(b"PP 0", b"\r", 1_048_572, b""),
-        1_048_576,
-        1,
-        DeckCode::BadDigits,
-    ),
-    (
-        Long(b"", b"PP 0\n", 100_000, b"9"),
-        500_001,
-        100_001,
-        DeckCode::BadDigits,
-    ),
-    (
-        Long(b"", b"\r", 1_048_575, b"\n"),
-        1_048_576,
-        1,
-        DeckCode::UnknownLine,
-    ),
-    (
-        Long(b"", b"\0", 1_048_576, b""),
-        1_048_576,
-        1,
-        DeckCode::UnknownLine,
-    ),
-    (
-        Long(b"PP ", b"\t", 1_048_570, b"0 0"),
-        1_048_576,
-        1,
-        DeckCode::UnknownLine,
-    ),
-    (
-        Long(b"", b"* PP 0\n", 140_000, b"PP 12"),
-        980_005,
-        140_001,
-        DeckCode::BadProcessor,
-    ),
-    (
-        Long(b"PP 0\n0 ", b"1 ", 4097, b""),
-        8201,
-        2,
-        DeckCode::PastEnd,
-    ),
-    (
-        Long(b"CENTRAL 400000\nCM 0 ", b"1 ", 131_073, b""),
-        262_166,
-        2,
-        DeckCode::CentralRange,
+        CentralRange,
     ),
 ];
 
-/// A deck, its length in bytes, and its listing, which shows all that it loads.
-const DECKS: &[(Long, usize, &str)] = &[
-    (
-        Long(b"PP 3\n", b" ", 1_048_562, b"0100 0007"),
-        1_048_576,
-        "CENTRAL 10000\nPP 3\n0100 0007           * PSN 07\n",
-    ),
-    (
-        Long(b"", b"*", 1_048_576, b""),
-        1_048_576,
-        "CENTRAL 10000\n",
-    ),
-    (
-        Long(b"", b"\r\n", 524_288, b""),
-        1_048_576,
-        "CENTRAL 10000\n",
-    ),
-    (
-        Long(b"", b"PP 0\n", 100_000, b""),
-        500_000,
-        "CENTRAL 10000\nPP 0\n",
-    ),
-    (
-        Long(b"PP 0\n", b"START 7777 777777\n", 50_000, b"START 1"),
-        900_012,
-        "CENTRAL 10000\nPP 0\nSTART 0001 000000\n",
-    ),
-];
+/// Whether a long deck is at fault so.
+fn is_at_fault(alloc: Global, deck: Long, fault: DeckFault) -> Result<bool, AllocError> {
+    let text = text_of(deck, alloc)?;
+    let told = read_deck(alloc, Profile::Ten, &text).err();
+    Ok(text.len() == deck.3 && told == Some(fault))
+}
 
 #[test]
-fn faults_of_long_decks(rt: HostRuntime) -> Result<(), Fail> {
-    for (deck, length, line, code) in FAULTS {
-        let text = deck.text(rt.alloc())?;
-        assert_eq!(rt; text.len(), *length);
-        let fault = DeckFault {
-            line: *line,
-            code: *code,
-        };
-        let answer = read_deck(rt.alloc(), Profile::Ten, &text).err();
-        assert_eq!(rt; answer, Some(fault));
+fn faults_of_long_decks(rt: HostRuntime) -> Result<(), AllocError> {
+    for (deck, line, code) in FAULTS {
+        let fault = DeckFault { line, code };
+        assert!(rt; is_at_fault(rt.alloc(), deck, fault)?, "{fault}");
     }
     Ok(())
 }
 
+/// Decks, with their listings, which show all that they load.
+const DECKS: [(Long, &str); 5] = [
+    (
+        (b"PP 3\n", b" ", b"0100 0007", 1_048_576),
+        "CENTRAL 10000\nPP 3\n0100 0007           * PSN 07\n",
+    ),
+    ((b"", b"*", b"", 1_048_576), "CENTRAL 10000\n"),
+    ((b"", b"\r\n", b"", 1_048_576), "CENTRAL 10000\n"),
+    ((b"", b"PP 0\n", b"", 500_000), "CENTRAL 10000\nPP 0\n"),
+    (
+        (b"PP 0\n", b"START 7777 777777\n", b"START 1", 900_012),
+        "CENTRAL 10000\nPP 0\nSTART 0001 000000\n",
+    ),
+];
+
+/// Whether a long deck is listed so.
+fn is_listed(alloc: Global, deck: Long, listed: &str) -> Result<bool, Fail> {
+    let text = text_of(deck, alloc)?;
+    let shown = listing(alloc, &read_deck(alloc, Profile::Ten, &text)?)?;
+    Ok(text.len() == deck.3 && shown.as_slice() == listed.as_bytes())
+}
+
 #[test]
 fn long_decks(rt: HostRuntime) -> Result<(), Fail> {
-    for (deck, length, listed) in DECKS {
-        let text = deck.text(rt.alloc())?;
-        assert_eq!(rt; text.len(), *length);
-        let shown = listing(rt.alloc(), &read_deck(rt.alloc(), Profile::Ten, &text)?)?;
-        assert_eq!(rt; shown.as_slice(), listed.as_bytes());
+    for (deck, listed) in DECKS {
+        assert!(rt; is_listed(rt.alloc(), deck, listed)?, "{listed}");
     }
     Ok(())
 }
 
 /// How many places of processor 0 hold 1, and how many central words.
-fn ones(alloc: Global, deck: Long) -> Result<(u32, u32), Fail> {
-    let text = deck.text(alloc)?;
-    let machine = read_deck(alloc, Profile::Ten, &text)?.machine;
+fn ones(machine: &Machine<Global>) -> (u32, u32) {
     let pp = machine.pp(first());
     let central = machine.central();
     let mut places = 0u32;
@@ -204,15 +113,26 @@ fn ones(alloc: Global, deck: Long) -> Result<(u32, u32), Fail> {
             words = words.saturating_add(1);
         }
     }
-    Ok((places, words))
+    (places, words)
 }
+
+/// Whether a deck of one line loads so many ones.
+fn loads(alloc: Global, deck: Long, expected: (u32, u32)) -> Result<bool, AllocError> {
+    let text = text_of(deck, alloc)?;
+    match read_deck(alloc, Profile::Ten, &text) {
+        Ok(deck) => Ok(ones(&deck.machine) == expected),
+        Err(_) => Ok(false),
+    }
+}
+
+const PLACES: Long = (b"PP 0\n0 ", b"1 ", b"", 8199);
+
+const WORDS: Long = (b"CENTRAL 400000\nCM 0 ", b"1 ", b"", 262_164);
 
 /// One line that sets every place of a processor, and one that sets every central word.
 #[test]
-fn whole_memories(rt: HostRuntime) -> Result<(), Fail> {
-    let places = Long(b"PP 0\n0 ", b"1 ", 4096, b"");
-    assert_eq!(rt; ones(rt.alloc(), places)?, (4096, 0));
-    let words = Long(b"CENTRAL 400000\nCM 0 ", b"1 ", 131_072, b"");
-    assert_eq!(rt; ones(rt.alloc(), words)?, (0, 131_072));
+fn whole_memories(rt: HostRuntime) -> Result<(), AllocError> {
+    assert!(rt; loads(rt.alloc(), PLACES, (4096, 0))?);
+    assert!(rt; loads(rt.alloc(), WORDS, (0, 131_072))?);
     Ok(())
 }

@@ -3,7 +3,7 @@
 
 use pp_machine::Profile;
 use pp_sim::barrel_text;
-use std::test::Fail;
+use std::alloc::{AllocError, Global};
 
 /// Five pairs on channels 0 to 4: one puts 99,968 words (decimal), the other takes them.
 const FRONT: &str = "\
@@ -69,27 +69,28 @@ const PLAIN: usize = 21;
 
 const WITH_WORD: usize = 26;
 
-#[test]
-fn everything_at_its_limit(rt: HostRuntime) -> Result<(), Fail> {
-    let mut deck = FRONT.as_bytes().to_vec(rt.alloc())?;
-    fill(&mut deck)?;
-    assert_eq!(rt; deck.len(), LONGEST);
-    let mut reader = deck.as_slice();
-    let mut text = Vec::new(rt.alloc());
-    let done = barrel_text(rt.alloc(), Profile::Ten, &mut reader, &mut text, 999_999);
-    assert!(rt; done.is_ok());
-    assert!(rt; text.ends_with(END.as_bytes()));
-    // Each pair makes one Activate and passes its words.
-    let events = 5 * PLAIN + 5 * 2 * 99_968 * WITH_WORD;
-    assert_eq!(rt; text.len(), events + END.len());
-    Ok(())
-}
-
-/// Fills a deck up with spaces.
-fn fill(deck: &mut Vec<u8>) -> Result<(), Fail> {
-    let room = LONGEST.saturating_sub(deck.len());
-    for _ in 0..room {
+/// The deck, filled up with spaces.
+fn longest_deck(alloc: Global) -> Result<Vec<u8>, AllocError> {
+    let mut deck = FRONT.as_bytes().to_vec(alloc)?;
+    for _ in 0..LONGEST.saturating_sub(FRONT.len()) {
         deck.push(b' ')?;
     }
+    Ok(deck)
+}
+
+/// Whether a deck has the text that it should after the most turns: each pair makes one Activate
+/// and passes its words.
+fn runs(alloc: Global, mut deck: &[u8]) -> bool {
+    let mut text = Vec::new(alloc);
+    let events = 5 * PLAIN + 5 * 2 * 99_968 * WITH_WORD;
+    barrel_text(alloc, Profile::Ten, &mut deck, &mut text, 999_999).is_ok()
+        && text.ends_with(END.as_bytes())
+        && text.len() == events + END.len()
+}
+
+#[test]
+fn everything_at_its_limit(rt: HostRuntime) -> Result<(), AllocError> {
+    let deck = longest_deck(rt.alloc())?;
+    assert!(rt; deck.len() == LONGEST && runs(rt.alloc(), &deck));
     Ok(())
 }

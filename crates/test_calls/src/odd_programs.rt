@@ -2,7 +2,7 @@
 
 use crate::well_formed::is_well_formed;
 use pp_draw::{Window, run_seeing_steps, write_drawing};
-use pp_machine::{Machine, PROCESSORS, PpNo, Profile};
+use pp_machine::{CentralFault, Machine, PROCESSORS, PpNo, Profile};
 use std::alloc::Global;
 use std::test::Fail;
 use test_bench::{Chance, put_program};
@@ -28,8 +28,8 @@ fn odd_word(chance: &mut Chance) -> u16 {
     }
 }
 
-/// The drawing of a run of such programs.
-fn odd_drawing(alloc: Global, chance: &mut Chance) -> Result<Vec<u8>, Fail> {
+/// A machine with such programs.
+fn odd_machine(alloc: Global, chance: &mut Chance) -> Result<Machine<Global>, CentralFault> {
     let mut machine = Machine::new(alloc, Profile::Twenty, 64)?;
     for place in 0..PROGRAMS {
         let mut words = [0; 32];
@@ -38,21 +38,16 @@ fn odd_drawing(alloc: Global, chance: &mut Chance) -> Result<Vec<u8>, Fail> {
         }
         put_program(machine.pp_mut(PpNo::at(place)), 0o100, &words);
     }
-    let from = u32::from(chance.next() % 100);
-    let window = Window {
-        from,
-        to: from + u32::from(chance.next() % 500),
-    };
+    Ok(machine)
+}
+
+/// The drawing of a machine's run in a window of turns.
+fn drawing(alloc: Global, mut machine: Machine<Global>, window: Window) -> Result<String, Fail> {
     let steps = run_seeing_steps(alloc, &mut machine, window)?;
     let mut written = Vec::new(alloc);
-    write_drawing(
-        &mut written,
-        &machine,
-        &[true; PROCESSORS],
-        steps.as_slice(),
-        window,
-    )?;
-    Ok(written)
+    let (named, steps) = ([true; PROCESSORS], steps.as_slice());
+    write_drawing(&mut written, &machine, &named, steps, window)?;
+    Ok(String::from_utf8(written)?)
 }
 
 #[test]
@@ -60,8 +55,11 @@ fn odd_programs_are_drawn(rt: HostRuntime) -> Result<(), Fail> {
     let mut chance = Chance::new(1);
     let mut loses_words = false;
     for run in 0..RUNS {
-        let drawing = String::from_utf8(odd_drawing(rt.alloc(), &mut chance)?)?;
-        assert!(rt; is_well_formed(rt.alloc(), drawing.as_str())?, "run {run}");
+        let machine = odd_machine(rt.alloc(), &mut chance)?;
+        let from = u32::from(chance.next() % 100);
+        let to = from + u32::from(chance.next() % 500);
+        let drawing = drawing(rt.alloc(), machine, Window { from, to })?;
+        assert!(rt; is_well_formed(rt.alloc(), &drawing)?, "run {run}");
         loses_words |= drawing.contains(" lost ");
     }
     assert!(rt; loses_words, "in some runs");
@@ -72,18 +70,10 @@ fn odd_programs_are_drawn(rt: HostRuntime) -> Result<(), Fail> {
 #[test]
 fn a_window_with_its_ends_exchanged(rt: HostRuntime) -> Result<(), Fail> {
     let mut machine = Machine::new(rt.alloc(), Profile::Ten, 64)?;
-    put_program(
-        machine.pp_mut(PpNo::at(0)),
-        0o100,
-        &[0o7405, 0o7505, 0o0300],
-    );
-    let window = Window { from: 30, to: 20 };
-    let steps = run_seeing_steps(rt.alloc(), &mut machine, window)?;
-    let mut written = Vec::new(rt.alloc());
-    let (named, steps) = ([true; PROCESSORS], steps.as_slice());
-    write_drawing(&mut written, &machine, &named, steps, window)?;
-    let drawing = String::from_utf8(written)?;
-    assert!(rt; is_well_formed(rt.alloc(), drawing.as_str())?);
+    let pp = machine.pp_mut(PpNo::at(0));
+    put_program(pp, 0o100, &[0o7405, 0o7505, 0o0300]);
+    let drawing = drawing(rt.alloc(), machine, Window { from: 30, to: 20 })?;
+    assert!(rt; is_well_formed(rt.alloc(), &drawing)?);
     assert!(rt; drawing.contains("turns 30 to 20"));
     assert!(rt; drawing.contains("<rect class='u' y='30' width='0' height='1'/>"));
     assert!(rt; !drawing.contains("<rect class='i' x='0' y"));

@@ -49,7 +49,7 @@ fn texts_that_are_not_well_formed(rt: HostRuntime) -> Result<(), Fail> {
         ("text", false),
     ];
     for (text, well_formed) in rows {
-        assert_eq!(rt; is_well_formed(rt.alloc(), text)?, well_formed, "{text}");
+        assert!(rt; is_well_formed(rt.alloc(), text)? == well_formed, "{text}");
     }
     Ok(())
 }

@@ -1,25 +1,24 @@
 //! The allocator of the tests: it refuses the request that it is armed for, and that one alone.
 
-use rationed::Rationed;
 use std::alloc::{AllocError, Global};
-use std::test::Fail;
-use std::thread;
+use std::thread::{self, Threads};
+use test_bench::Rationed;
 
-/// The first hundred squares, in a list that grows.
-fn squares(heap: &Rationed<Global>) -> Result<(usize, Option<u64>), AllocError> {
+/// Whether a list grows to the first hundred squares.
+fn has_squares(heap: &Rationed<Global>) -> bool {
     let mut squares = Vec::new(heap);
     for number in 0..100u64 {
-        squares.push(number * number)?;
+        if squares.push(number * number).is_err() {
+            return false;
+        }
     }
-    Ok((squares.len(), squares.last().copied()))
+    squares.len() == 100 && squares.last() == Some(&9801)
 }
 
 #[test]
-fn refuses_nothing_until_armed(rt: HostRuntime) -> Result<(), Fail> {
+fn refuses_nothing_until_armed(rt: HostRuntime) {
     let heap = Rationed::new(rt.alloc());
-    assert_eq!(rt; squares(&heap)?, (100, Some(9801)));
-    assert!(rt; heap.asked() > 0 && !heap.has_refused());
-    Ok(())
+    assert!(rt; has_squares(&heap) && heap.asked() > 0 && !heap.has_refused());
 }
 
 /// Whether a request is refused, the number of requests up to it, and whether one was refused.
@@ -54,47 +53,52 @@ fn grows_after_refusal(heap: &Rationed<Global>) -> Result<bool, AllocError> {
 }
 
 #[test]
-fn a_refused_growth_leaves_the_list(rt: HostRuntime) -> Result<(), Fail> {
+fn a_refused_growth_leaves_the_list(rt: HostRuntime) {
     let heap = Rationed::new(rt.alloc());
-    assert!(rt; grows_after_refusal(&heap)? && heap.asked() == 2);
-    Ok(())
+    assert!(rt; matches!(grows_after_refusal(&heap), Ok(true)) && heap.asked() == 2);
 }
 
 #[test]
-fn counts_requests_and_no_returns(rt: HostRuntime) -> Result<(), Fail> {
+fn counts_requests_and_no_returns(rt: HostRuntime) {
     let heap = Rationed::new(rt.alloc());
-    assert_eq!(rt; heap.asked(), 0);
+    assert!(rt; heap.asked() == 0);
     for _ in 0..3u8 {
-        let _boxed = Box::new(&heap, 5u8)?;
+        assert!(rt; Box::new(&heap, 5u8).is_ok());
     }
-    assert_eq!(rt; heap.asked(), 3);
+    assert!(rt; heap.asked() == 3);
     heap.refuse(0);
-    assert_eq!(rt; heap.asked(), 0);
-    Ok(())
+    assert!(rt; heap.asked() == 0);
 }
 
-/// A refused request is not passed on.
+/// Whether a request is made of the inner allocator too, but for one that is refused.
+fn asks_inner(inner: &Rationed<Global>) -> bool {
+    let outer = Rationed::new(inner);
+    let is_passed_on = Box::new(&outer, 5u8).is_ok() && inner.asked() == 1;
+    outer.refuse(1);
+    let is_refused = Box::new(&outer, 5u8).is_err() && inner.asked() == 1;
+    inner.refuse(1);
+    let is_refused_there = Box::new(&outer, 5u8).is_err() && inner.has_refused();
+    is_passed_on && is_refused && is_refused_there && outer.asked() == 2
+}
+
 #[test]
 fn asks_the_inner_allocator(rt: HostRuntime) {
-    let inner = Rationed::new(rt.alloc());
-    let outer = Rationed::new(&inner);
-    assert!(rt; Box::new(&outer, 5u8).is_ok() && inner.asked() == 1);
-    outer.refuse(1);
-    assert!(rt; Box::new(&outer, 5u8).is_err() && inner.asked() == 1);
-    inner.refuse(1);
-    assert!(rt; Box::new(&outer, 5u8).is_err() && inner.has_refused());
-    assert!(rt; outer.asked() == 2);
+    assert!(rt; asks_inner(&Rationed::new(rt.alloc())));
 }
 
-// The blocks are given back in this thread, whichever one took them.
+/// Whether requests of two threads are answered. The blocks are given back in this thread,
+/// whichever one took them.
+fn by_two_threads(rt: &impl Threads, heap: &Rationed<Global>) -> (bool, bool) {
+    let (one, other) = thread::join(rt, || Box::new(heap, 5u8), || Box::new(heap, 6u8));
+    (one.is_ok(), other.is_ok())
+}
+
 #[test]
 fn refuses_one_of_two_threads(rt: HostRuntime) {
     let heap = Rationed::new(rt.alloc());
     for number in 1..4u64 {
         heap.refuse(number);
-        let (one, other) = thread::join(&rt, || Box::new(&heap, 5u8), || Box::new(&heap, 6u8));
-        assert_eq!(rt; one.is_ok() && other.is_ok(), number == 3);
-        assert!(rt; one.is_ok() || other.is_ok());
-        assert_eq!(rt; heap.asked(), 2);
+        let (one, other) = by_two_threads(&rt, &heap);
+        assert!(rt; (one && other) == (number == 3) && (one || other) && heap.asked() == 2);
     }
 }

@@ -3,10 +3,8 @@
 
 use pp_machine::{Central, Machine, Profile};
 use pp_word::{Word18, Word60};
-use rationed::Rationed;
 use std::alloc::{Allocator, Global};
-use std::test::Fail;
-use test_bench::{Pair, first};
+use test_bench::{Pair, Rationed, first};
 
 /// Whether the last word of a central memory holds what is put there, and none comes after it.
 fn holds_its_last_word<A: Allocator>(central: &mut Central<A>, size: u32) -> bool {
@@ -64,7 +62,7 @@ fn numbers_of_faults(rt: HostRuntime) {
         (0, 0, Some(2)),
         (0o400_001, 0, Some(2)),
     ] {
-        assert_eq!(rt; fault_number(&heap, size, number), fault, "{size}");
+        assert!(rt; fault_number(&heap, size, number) == fault, "{size}");
     }
 }
 
@@ -74,27 +72,24 @@ const LATE: Pair = Pair {
     one: &[],
 };
 
-/// The turn of the first event after so many turns, and where PP 0 is then.
-fn late_event(
-    heap: &Rationed<Global>,
-    profile: Profile,
-    turns: u32,
-) -> Result<(Option<u64>, u16), Fail> {
-    let mut machine = LATE.machine(heap, profile)?;
-    machine.run_barrel(turns)?;
-    let turn = machine.events().first().map(|entry| entry.turn);
-    Ok((turn, machine.pp(first()).p().get()))
+/// Whether the first event of so many turns comes in this one, and PP 0 is behind it then.
+fn is_late(heap: &Rationed<Global>, profile: Profile, turns: u32, late: u64) -> bool {
+    let Ok(mut machine) = LATE.machine(heap, profile) else {
+        return false;
+    };
+    let is_run = machine.run_barrel(turns).is_ok();
+    match machine.events().first() {
+        Some(entry) => is_run && entry.turn == late && machine.pp(first()).p().get() == 0o105,
+        None => false,
+    }
 }
 
 #[test]
-fn a_late_event(rt: HostRuntime) -> Result<(), Fail> {
+fn a_late_event(rt: HostRuntime) {
     let heap = Rationed::new(rt.alloc());
     // One step loads A, and two go with each number from 177777 down to 1 (octal).
     let late = 1 + 2 * 65_535;
-    let ten = late_event(&heap, Profile::Ten, 1_400_000)?;
-    assert_eq!(rt; ten, (Some(10 * late), 0o105));
-    let twenty = late_event(&heap, Profile::Twenty, 2_800_000)?;
-    assert_eq!(rt; twenty, (Some(20 * late), 0o105));
+    assert!(rt; is_late(&heap, Profile::Ten, 1_400_000, 10 * late));
+    assert!(rt; is_late(&heap, Profile::Twenty, 2_800_000, 20 * late));
     assert!(rt; heap.asked() > 0);
-    Ok(())
 }

@@ -2,26 +2,21 @@
 
 use crate::refusal::unless_refused;
 use pp_channel::{ChanOp, Channel, Event, Memory, Reply};
-use rationed::Rationed;
 use std::alloc::Global;
-use std::test::Fail;
-use test_bench::{EMPTY, FULL, INACTIVE, word};
+use test_bench::{EMPTY, FULL, INACTIVE, Rationed, word};
 
 /// Channels over an allocator that refuses a request.
 type RationedChannel<'a> = Channel<&'a Rationed<Global>>;
 
-/// Acts where a request may be refused, which is Memory. Whether nothing has changed then, and the
-/// operation is answered as ever once memory is there.
+/// Acts after these events where a request may be refused, which is Memory. Whether nothing has
+/// changed then, and the operation is answered as ever once memory is there.
 fn act_again(
     heap: &Rationed<Global>,
-    alloc: Global,
     channel: &mut RationedChannel,
+    events: &[Event],
     op: &ChanOp,
     reply: &Reply,
 ) -> bool {
-    let Ok(events) = channel.history().to_vec(alloc) else {
-        return false;
-    };
     let (flags, waiting) = (channel.flags(), channel.waiting());
     let had_refused = heap.has_refused();
     let answer = channel.act(*op);
@@ -29,7 +24,7 @@ fn act_again(
         return answer == Ok(*reply);
     }
     answer == Err(Memory)
-        && channel.history() == events.as_slice()
+        && channel.history() == events
         && channel.flags() == flags
         && channel.waiting() == waiting
         && channel.act(*op) == Ok(*reply)
@@ -64,11 +59,12 @@ fn events() -> [Event; 6] {
 }
 
 /// Nothing where a request is refused and the channel goes on as it should; else whether it does.
-fn operations_refused(heap: &Rationed<Global>, alloc: Global) -> Option<bool> {
+fn operations_refused(heap: &Rationed<Global>) -> Option<bool> {
     let events = events();
     let mut channel = Channel::new(heap);
     for (op, reply) in &operations() {
-        if !act_again(heap, alloc, &mut channel, op, reply) {
+        let made = events.get(..channel.history().len()).unwrap_or(&[]);
+        if !act_again(heap, &mut channel, made, op, reply) {
             return Some(false);
         }
     }
@@ -76,12 +72,10 @@ fn operations_refused(heap: &Rationed<Global>, alloc: Global) -> Option<bool> {
 }
 
 #[test]
-fn act_refused(rt: HostRuntime) -> Result<(), Fail> {
-    let alloc = rt.alloc();
-    let heap = Rationed::new(alloc);
-    let last = heap.refuse_each(|_| operations_refused(&heap, alloc))?;
-    assert!(rt; last > 2, "the history grows more than once");
-    Ok(())
+fn act_refused(rt: HostRuntime) {
+    let heap = Rationed::new(rt.alloc());
+    let last = heap.refuse_each(|_| operations_refused(&heap));
+    assert!(rt; last > Some(2), "the history grows more than once");
 }
 
 /// Whether a channel is at its second word of a session: Activate, Put 0005.
@@ -92,23 +86,29 @@ pub(crate) fn is_full(channel: &RationedChannel) -> bool {
         && channel.waiting() == Some(word(5))
 }
 
-/// Nothing where a copy is refused; else whether it is as its channel. The channel stays.
-fn copy(channel: &RationedChannel) -> Option<bool> {
+/// Activates a channel and puts a word on it; whether both are done.
+fn fill(channel: &mut RationedChannel, number: u16) -> bool {
+    let done = Ok(Reply::Done);
+    channel.act(ChanOp::Activate) == done && channel.act(ChanOp::Put(word(number))) == done
+}
+
+/// Nothing where this request of a copy is refused; else whether it is as its channel. The channel
+/// stays.
+fn copy(heap: &Rationed<Global>, number: u64) -> Option<bool> {
+    heap.refuse(0);
+    let mut channel = Channel::new(heap);
+    let is_filled = fill(&mut channel, 5);
+    heap.refuse(number);
     match channel.copy() {
-        Ok(copy) => Some(is_full(&copy) && is_full(channel)),
-        Err(_) => unless_refused(is_full(channel), true),
+        Ok(copy) => Some(is_filled && is_full(&copy) && is_full(&channel)),
+        Err(_) => unless_refused(is_filled && is_full(&channel), true),
     }
 }
 
 #[test]
-fn copy_refused(rt: HostRuntime) -> Result<(), Fail> {
+fn copy_refused(rt: HostRuntime) {
     let heap = Rationed::new(rt.alloc());
-    let mut channel = Channel::new(&heap);
-    channel.act(ChanOp::Activate)?;
-    channel.act(ChanOp::Put(word(5)))?;
-    let last = heap.refuse_each(|_| copy(&channel))?;
-    assert!(rt; last > 1);
-    Ok(())
+    assert!(rt; heap.refuse_each(|number| copy(&heap, number)) > Some(1));
 }
 
 /// Whether a channel answers these operations so, none has an event, and nothing is asked for.
@@ -144,18 +144,21 @@ fn without_event() -> ([(ChanOp, Reply); 4], [(ChanOp, Reply); 4]) {
     (inactive, full)
 }
 
+/// Whether such operations ask for nothing, on a new channel and once it is full.
+fn asks_for_nothing(heap: &Rationed<Global>) -> bool {
+    let (inactive, full) = without_event();
+    let mut channel = Channel::new(heap);
+    let is_inactive = answers(heap, &mut channel, &inactive)
+        && channel.waiting().is_none()
+        && channel.history().is_empty();
+    heap.refuse(0);
+    is_inactive
+        && fill(&mut channel, 0o7777)
+        && answers(heap, &mut channel, &full)
+        && channel.waiting() == Some(word(0o7777))
+}
+
 #[test]
 fn no_event_asks_for_nothing(rt: HostRuntime) {
-    let (inactive, full) = without_event();
-    let heap = Rationed::new(rt.alloc());
-    let mut channel = Channel::new(&heap);
-    assert!(rt; answers(&heap, &mut channel, &inactive));
-    assert!(rt; channel.waiting().is_none() && channel.history().is_empty());
-    heap.refuse(0);
-    let opened = [
-        channel.act(ChanOp::Activate),
-        channel.act(ChanOp::Put(word(0o7777))),
-    ];
-    assert!(rt; opened == [Ok(Reply::Done); 2] && answers(&heap, &mut channel, &full));
-    assert!(rt; channel.waiting() == Some(word(0o7777)));
+    assert!(rt; asks_for_nothing(&Rationed::new(rt.alloc())));
 }

@@ -1,13 +1,12 @@
 //! A deck whose growths are refused.
 
+use crate::refusal::unless_refused;
 use pp_channel::ChannelNo;
 use pp_deck::{Deck, DeckCode, DeckFault, read_deck};
 use pp_machine::{Machine, Profile};
 use pp_word::{Word12, Word18, Word60};
-use rationed::Rationed;
-use std::alloc::{Allocator, Global};
-use std::test::Fail;
-use test_bench::first;
+use std::alloc::{AllocError, Allocator, Global};
+use test_bench::{Rationed, first};
 
 const DECK: &[u8] = b"CENTRAL 7\nCM 5 00010002000300040005\nPP 1\n0200 7005 0300\nSTART 0200\n";
 
@@ -22,29 +21,27 @@ fn is_loaded<A: Allocator>(deck: &Deck<A>) -> bool {
         && deck.named[1]
 }
 
-/// Whether the deck is loaded, or why it is refused.
-fn load(heap: &Rationed<Global>, profile: Profile) -> Result<bool, DeckFault> {
-    let deck = read_deck(heap, profile, DECK)?;
-    Ok(is_loaded(&deck))
-}
-
 /// A deck that is refused for lack of memory.
 const NO_MEMORY: DeckFault = DeckFault {
     line: 0,
     code: DeckCode::Memory,
 };
 
+/// Nothing where the deck is refused for lack of memory; else whether it is loaded.
+fn load(heap: &Rationed<Global>, profile: Profile) -> Option<bool> {
+    match read_deck(heap, profile, DECK) {
+        Ok(deck) => Some(is_loaded(&deck)),
+        Err(fault) => unless_refused(fault == NO_MEMORY, true),
+    }
+}
+
 #[test]
-fn deck_refused(rt: HostRuntime) -> Result<(), Fail> {
+fn deck_refused(rt: HostRuntime) {
     let heap = Rationed::new(rt.alloc());
     for profile in [Profile::Ten, Profile::Twenty] {
-        let last = heap.refuse_each(|_| match load(&heap, profile) {
-            Err(fault) if fault == NO_MEMORY => None,
-            loaded => Some(loaded == Ok(true)),
-        })?;
-        assert!(rt; last > 1, "a machine grows");
+        let last = heap.refuse_each(|_| load(&heap, profile));
+        assert!(rt; last > Some(1), "a machine grows");
     }
-    Ok(())
 }
 
 /// PP 0 has a program, and the nine others, or nineteen, wait for theirs.
@@ -62,26 +59,30 @@ fn opened_in<A: Allocator>(machine: &Machine<A>) -> u64 {
     opened
 }
 
-/// How many channels the deck opens, or why it is refused. PP 0 is named, and alone in no block.
-fn load_at_dead_start(heap: &Rationed<Global>, profile: Profile) -> Result<(u64, bool), DeckFault> {
-    let deck = read_deck(heap, profile, DEAD_START)?;
-    let zero = deck.machine.pp(first()).block().is_none();
-    let one = deck.machine.pp(first().next()).block().is_some();
-    let is_alone = deck.named[0] && !deck.named[1] && zero && one;
-    Ok((opened_in(&deck.machine), is_alone))
+/// Whether the deck opens so many channels. PP 0 is named, and alone in no block.
+fn is_dead_started<A: Allocator>(deck: &Deck<A>, opened: u64) -> bool {
+    opened_in(&deck.machine) == opened
+        && deck.named[0]
+        && !deck.named[1]
+        && deck.machine.pp(first()).block().is_none()
+        && deck.machine.pp(first().next()).block().is_some()
+}
+
+/// The same of this deck.
+fn load_at_dead_start(heap: &Rationed<Global>, profile: Profile, opened: u64) -> Option<bool> {
+    match read_deck(heap, profile, DEAD_START) {
+        Ok(deck) => Some(is_dead_started(&deck, opened)),
+        Err(fault) => unless_refused(fault == NO_MEMORY, true),
+    }
 }
 
 #[test]
-fn dead_start_refused(rt: HostRuntime) -> Result<(), Fail> {
+fn dead_start_refused(rt: HostRuntime) {
     let heap = Rationed::new(rt.alloc());
     for (profile, opened) in [(Profile::Ten, 9), (Profile::Twenty, 19u64)] {
-        let last = heap.refuse_each(|_| match load_at_dead_start(&heap, profile) {
-            Err(fault) if fault == NO_MEMORY => None,
-            loaded => Some(loaded == Ok((opened, true))),
-        })?;
-        assert!(rt; last > opened, "each of these channels grows");
+        let last = heap.refuse_each(|_| load_at_dead_start(&heap, profile, opened));
+        assert!(rt; last > Some(opened), "each of these channels grows");
     }
-    Ok(())
 }
 
 /// Decks with their faults, or none: where a request is refused, Memory at line 0 takes their
@@ -105,30 +106,40 @@ fn code_of(heap: &Rationed<Global>, text: &[u8], number: u64) -> Option<(u32, De
     Some((fault.line, fault.code))
 }
 
-#[test]
-fn faulty_decks_refused(rt: HostRuntime) {
-    let heap = Rationed::new(rt.alloc());
-    let memory = Some((0, DeckCode::Memory));
+/// How many of the first requests of a text are refused; nothing where it has another fault.
+fn refusals(heap: &Rationed<Global>, text: &[u8], fault: Option<(u32, DeckCode)>) -> Option<u32> {
     let mut refusals = 0u32;
-    for (text, fault) in DECKS {
-        for number in 1..10u64 {
-            let told = code_of(&heap, text.as_bytes(), number);
-            let refused = heap.has_refused();
-            assert!(rt; told == if refused { memory } else { fault }, "{text}");
-            refusals = refusals.saturating_add(u32::from(refused));
+    for number in 1..10u64 {
+        let told = code_of(heap, text, number);
+        let refused = heap.has_refused();
+        let expected = if refused {
+            Some((0, DeckCode::Memory))
+        } else {
+            fault
+        };
+        if told != expected {
+            return None;
         }
+        refusals = refusals.saturating_add(u32::from(refused));
     }
-    assert!(rt; refusals >= 9, "each deck takes memory");
+    Some(refusals)
 }
 
 #[test]
-fn texts_that_ask_for_nothing(rt: HostRuntime) -> Result<(), Fail> {
+fn faulty_decks_refused(rt: HostRuntime) {
     let heap = Rationed::new(rt.alloc());
+    for (text, fault) in DECKS {
+        let refusals = refusals(&heap, text.as_bytes(), fault);
+        assert!(rt; refusals > Some(0), "{text}: each deck takes memory");
+    }
+}
+
+#[test]
+fn texts_that_ask_for_nothing(rt: HostRuntime) -> Result<(), AllocError> {
     let long = vec![in rt.alloc(); b' '; 1_048_577]?;
-    assert!(rt; code_of(&heap, &long, 1) == Some((0, DeckCode::TooLong)));
-    assert!(rt; heap.asked() == 0);
+    let heap = Rationed::new(rt.alloc());
+    assert!(rt; code_of(&heap, &long, 1) == Some((0, DeckCode::TooLong)) && heap.asked() == 0);
     let odd = b"PP 12\n\x80".as_slice();
-    assert!(rt; code_of(&heap, odd, 1) == Some((2, DeckCode::NotAscii)));
-    assert!(rt; heap.asked() == 0);
+    assert!(rt; code_of(&heap, odd, 1) == Some((2, DeckCode::NotAscii)) && heap.asked() == 0);
     Ok(())
 }

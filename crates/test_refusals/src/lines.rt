@@ -3,45 +3,67 @@
 ghost use Rattle.std.specs.Prelude.{◌≡◌, IfSome};
 
 use crate::refusal::unless_refused;
-use pp_channel::{ChanOp, Channel, ChannelNo, Event};
+use pp_channel::{ChanOp, Channel, ChannelNo, Event, Seen};
 use pp_line::{Entry, Line, open_lines};
-use rationed::Rationed;
 use std::alloc::Global;
-use std::test::Fail;
-use test_bench::{channel, word};
+use test_bench::{FULL, Rationed, word};
 
 /// Lines over an allocator that refuses a request.
 type RationedLine<'a> = Line<&'a Rationed<Global>>;
 
-/// Makes calls on a channel; whether all are answered.
-fn act(line: &mut RationedLine, channel: ChannelNo, ops: &[ChanOp]) -> bool
+/// Makes calls on channel 5; whether all are answered.
+fn act(line: &mut RationedLine, ops: &[ChanOp]) -> bool
     ensures shares { line.new.view.shares ≡ line.old.view.shares }
     ensures whole { line.new.view.whole ≡ line.old.view.whole }
     ensures table { line.new.table ≡ line.old.table }
 {
     for op in ops {
-        if line.room() == 0 || line.act(channel, *op).is_err() {
+        if line.room() == 0 || line.act(ChannelNo::at(5), *op).is_err() {
             return false;
         }
     }
     true
 }
 
-/// What a line shows: its log, of at most four entries, its room, whether a look is kept, how many
-/// events of channel 5 it has seen, and its shares.
-type Shown = ([Option<Entry>; 4], u32, bool, u64, u32);
+/// Whether a line has this log, this room, so many events of channel 5 seen and so many shares, and
+/// keeps its last look, or has none.
+fn is_line(
+    line: &RationedLine,
+    log: &[(u64, Seen)],
+    (room, seen, shares, keeps): (u32, u64, u32, bool),
+) -> bool {
+    let five = ChannelNo::at(5);
+    let entries = line.log();
+    for (place, (number, what)) in log.iter().enumerate() {
+        let entry = Entry {
+            channel: five,
+            number: *number,
+            what: *what,
+        };
+        if entries.get(place) != Some(&entry) {
+            return false;
+        }
+    }
+    entries.len() == log.len()
+        && line.room() == room
+        && line.seen(five) == seen
+        && line.shares() == shares
+        && line.kept() == keeps
+}
 
-fn shown(line: &RationedLine, five: ChannelNo) -> Shown {
-    let log = line.log();
-    let entry = |place: usize| log.get(place).copied();
-    let entries = [entry(0), entry(1), entry(2), entry(3)];
-    (
-        entries,
-        line.room(),
-        line.kept(),
-        line.seen(five),
-        line.shares(),
-    )
+/// The log of a line after the calls of the worked row: two events, and the look of the put that is
+/// held in the place of the probe's.
+fn log_of_row() -> [(u64, Seen); 3] {
+    [
+        (0, Seen::Did(Event::Activate)),
+        (1, Seen::Did(Event::Put(word(1)))),
+        (2, Seen::Saw(FULL)),
+    ]
+}
+
+/// The log of its child, which takes the word.
+fn log_of_child() -> [(u64, Seen); 1] {
+    [(2, Seen::Did(Event::Take(word(1))))]
 }
 
 /// Nothing where a line is refused; else whether it is as new.
@@ -51,16 +73,14 @@ fn open(heap: &Rationed<Global>) -> Option<bool> {
 }
 
 #[test]
-fn open_refused(rt: HostRuntime) -> Result<(), Fail> {
+fn open_refused(rt: HostRuntime) {
     let heap = Rationed::new(rt.alloc());
-    let last = heap.refuse_each(|_| open(&heap))?;
-    assert!(rt; last > 1);
-    Ok(())
+    assert!(rt; heap.refuse_each(|_| open(&heap)) > Some(1));
 }
 
 /// A line after the calls of the worked row before the split: two events, a look, and a put that is
 /// held.
-fn opened<'a>(heap: &'a Rationed<Global>, five: ChannelNo) -> Option<RationedLine<'a>>
+fn opened<'a>(heap: &'a Rationed<Global>) -> Option<RationedLine<'a>>
     ensures shares { IfSome result (λ line. line.view.shares ≡ 2) }
     ensures whole { IfSome result (λ line. line.view.whole ≡ 2) }
 {
@@ -71,7 +91,7 @@ fn opened<'a>(heap: &'a Rationed<Global>, five: ChannelNo) -> Option<RationedLin
         ChanOp::Put(word(2)),
     ];
     let mut line = open_lines(heap, 8, 2).ok()?;
-    if act(&mut line, five, &ops) {
+    if act(&mut line, &ops) {
         Some(line)
     } else {
         None
@@ -80,77 +100,67 @@ fn opened<'a>(heap: &'a Rationed<Global>, five: ChannelNo) -> Option<RationedLin
 
 /// Nothing where this request of a split is refused, which leaves the line as it was; else whether
 /// the child is as it should be.
-fn split(heap: &Rationed<Global>, five: ChannelNo, number: u64) -> Option<bool> {
+fn split(heap: &Rationed<Global>, number: u64) -> Option<bool> {
     heap.refuse(0);
-    let mut line = opened(heap, five)?;
-    let before = shown(&line, five);
+    let mut line = opened(heap)?;
     heap.refuse(number);
-    if let Ok(child) = line.split(4) {
-        return Some(child.room() == 4 && child.seen(five) == 2);
+    match line.split(4) {
+        Ok(child) => Some(is_line(&child, &[], (4, 2, 1, true))),
+        Err(_) => unless_refused(is_line(&line, &log_of_row(), (5, 2, 2, false)), true),
     }
-    unless_refused(shown(&line, five) == before, true)
 }
 
 #[test]
-fn split_refused(rt: HostRuntime) -> Result<(), Fail> {
-    let five = channel(5)?;
+fn split_refused(rt: HostRuntime) {
     let heap = Rationed::new(rt.alloc());
-    let last = heap.refuse_each(|number| split(&heap, five, number))?;
-    assert!(rt; last > 1);
-    Ok(())
+    assert!(rt; heap.refuse_each(|number| split(&heap, number)) > Some(1));
 }
 
 /// Nothing where a join is refused, which leaves both lines as they were; else whether the line is
 /// as it should be.
-fn join<'a>(
-    heap: &'a Rationed<Global>,
-    five: ChannelNo,
-    number: u64,
-    line: RationedLine<'a>,
-    other: RationedLine<'a>,
-) -> Option<bool>
+fn join<'a>(line: RationedLine<'a>, other: RationedLine<'a>) -> Option<bool>
     requires { other.table ≡ line.table }
 {
-    let before = (shown(&line, five), shown(&other, five));
-    heap.refuse(number);
     match line.join(other) {
         Ok(both) => Some((both.log().len(), both.room(), both.shares()) == (4, 5, 2)),
         Err((line, other, _memory)) => {
-            unless_refused((shown(&line, five), shown(&other, five)) == before, true)
+            let is_kept = is_line(&line, &log_of_row(), (5, 2, 1, false));
+            unless_refused(
+                is_kept && is_line(&other, &log_of_child(), (3, 3, 1, false)),
+                true,
+            )
         }
     }
 }
 
 /// As for a split; the child of the line has taken the word.
-fn join_refusing(heap: &Rationed<Global>, five: ChannelNo, number: u64) -> Option<bool> {
+fn join_refusing(heap: &Rationed<Global>, number: u64) -> Option<bool> {
     heap.refuse(0);
-    let mut line = opened(heap, five)?;
+    let mut line = opened(heap)?;
     let mut other = line.split(4).ok()?;
-    if !act(&mut other, five, &[ChanOp::Take]) {
+    if !act(&mut other, &[ChanOp::Take]) {
         return Some(false);
     }
-    join(heap, five, number, line, other)
+    heap.refuse(number);
+    join(line, other)
 }
 
 #[test]
-fn join_refused(rt: HostRuntime) -> Result<(), Fail> {
-    let five = channel(5)?;
+fn join_refused(rt: HostRuntime) {
     let heap = Rationed::new(rt.alloc());
-    let last = heap.refuse_each(|number| join_refusing(&heap, five, number))?;
-    assert!(rt; last > 1);
-    Ok(())
+    assert!(rt; heap.refuse_each(|number| join_refusing(&heap, number)) > Some(1));
 }
 
 /// The line of the worked row, whole again.
-fn whole_line<'a>(heap: &'a Rationed<Global>, five: ChannelNo) -> Option<RationedLine<'a>>
+fn whole_line<'a>(heap: &'a Rationed<Global>) -> Option<RationedLine<'a>>
     ensures { IfSome result (λ line. line.view.shares ≡ line.view.whole) }
 {
-    let mut line = opened(heap, five)?;
+    let mut line = opened(heap)?;
     let mut other = line.split(4).ok()?;
-    let is_taken = act(&mut other, five, &[ChanOp::Take]);
-    match line.join(other) {
-        Ok(both) if is_taken => Some(both),
-        _ => None,
+    if act(&mut other, &[ChanOp::Take]) {
+        line.join(other).ok()
+    } else {
+        None
     }
 }
 
@@ -168,28 +178,30 @@ fn have_history_of_row(channels: &[Channel<&Rationed<Global>>]) -> bool {
 
 /// Nothing where this request of a close is refused, which leaves the line as it was; else whether
 /// the channels are as they should be.
-fn close(heap: &Rationed<Global>, five: ChannelNo, number: u64) -> Option<bool> {
+fn close(heap: &Rationed<Global>, number: u64) -> Option<bool> {
     heap.refuse(0);
-    let line = whole_line(heap, five)?;
-    let before = shown(&line, five);
+    let line = whole_line(heap)?;
     heap.refuse(number);
     match line.close() {
         Ok(channels) => Some(have_history_of_row(&channels)),
-        Err((line, _memory)) => { unless_refused(shown(&line, five) == before, true) }
+        Err((line, _memory)) => {
+            let [one, other, look] = log_of_row();
+            let [taken] = log_of_child();
+            let log = [one, other, look, taken];
+            unless_refused(is_line(&line, &log, (5, 3, 2, true)), true)
+        }
     }
 }
 
 #[test]
-fn close_refused(rt: HostRuntime) -> Result<(), Fail> {
-    let five = channel(5)?;
+fn close_refused(rt: HostRuntime) {
     let heap = Rationed::new(rt.alloc());
-    let last = heap.refuse_each(|number| close(&heap, five, number))?;
-    assert!(rt; last > 1);
-    Ok(())
+    assert!(rt; heap.refuse_each(|number| close(&heap, number)) > Some(1));
 }
 
-/// Whether a line makes every operation, one of them held, and then keeps a look.
-fn acts_and_keeps(line: &mut RationedLine, five: ChannelNo) -> bool {
+/// Whether a line makes every operation, one of them held, and then keeps a look, and none of it
+/// asks for memory.
+fn asks_for_nothing(heap: &Rationed<Global>) -> bool {
     let ops = [
         ChanOp::Function(word(0o12)),
         ChanOp::Activate,
@@ -199,21 +211,21 @@ fn acts_and_keeps(line: &mut RationedLine, five: ChannelNo) -> bool {
         ChanOp::Take,
         ChanOp::Disconnect,
     ];
-    let is_answered = act(line, five, &ops);
+    let Ok(mut line) = open_lines(heap, 8, 2) else {
+        return false;
+    };
+    heap.refuse(1);
+    let is_answered = act(&mut line, &ops);
     line.keep();
     // Five events, and the look of the held Put in the place of the probe's.
     is_answered
         && (line.log().len(), line.room()) == (6, 2)
-        && (line.seen(five), line.kept()) == (5, true)
+        && (line.seen(ChannelNo::at(5)), line.kept()) == (5, true)
         && (line.shares(), line.whole()) == (2, 2)
+        && heap.asked() == 0
 }
 
 #[test]
-fn a_line_asks_for_nothing(rt: HostRuntime) -> Result<(), Fail> {
-    let five = channel(5)?;
-    let heap = Rationed::new(rt.alloc());
-    let mut line = open_lines(&heap, 8, 2)?;
-    heap.refuse(1);
-    assert!(rt; acts_and_keeps(&mut line, five) && heap.asked() == 0);
-    Ok(())
+fn a_line_asks_for_nothing(rt: HostRuntime) {
+    assert!(rt; asks_for_nothing(&Rationed::new(rt.alloc())));
 }

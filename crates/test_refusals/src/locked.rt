@@ -3,11 +3,9 @@
 use crate::channel::is_full;
 use crate::refusal::unless_refused;
 use pp_channel::{ChanOp, Channel, Locked, Memory, Numbered, Reply};
-use rationed::Rationed;
 use std::alloc::Global;
 use std::sync::Wait;
-use std::test::Fail;
-use test_bench::{INACTIVE, numbered, word};
+use test_bench::{INACTIVE, Rationed, numbered, word};
 
 /// A channel behind a lock, over an allocator that refuses a request.
 type RationedLock<'a> = Locked<&'a Rationed<Global>>;
@@ -62,29 +60,47 @@ fn every_operation() -> [ChanOp; 7] {
     ]
 }
 
+/// The same of a channel that is locked for them, and how many were made; nothing where it does not
+/// show what the other does afterwards.
+fn act_behind_lock<'a>(
+    rt: &impl Wait,
+    heap: &'a Rationed<Global>,
+    channel: Channel<&'a Rationed<Global>>,
+    kept: &mut Channel<Global>,
+    operations: &[ChanOp],
+) -> Option<(Channel<&'a Rationed<Global>>, usize)> {
+    let locked = Locked::new(channel);
+    let made = act_until_refused(rt, heap, &locked, kept, operations);
+    let channel = locked.into_inner();
+    match made {
+        Some(made) if is_same(&channel, kept) => Some((channel, made)),
+        _ => None,
+    }
+}
+
 /// Operations of which a request may be refused, and then those that are left. Nothing where one is
 /// refused and the channel is as it should be before and after these; else whether it is.
-fn operations_refused(rt: &(impl Wait + AllocGlobal), heap: &Rationed<Global>) -> Option<bool> {
+fn operations_refused(rt: &impl Wait, heap: &Rationed<Global>, alloc: Global) -> Option<bool> {
     let operations = every_operation();
-    let mut kept = Channel::new(rt.alloc());
-    let locked = Locked::new(Channel::new(heap));
-    let made = act_until_refused(rt, heap, &locked, &mut kept, &operations);
-    let channel = locked.into_inner();
-    let is_kept = made.is_some() && is_same(&channel, &kept);
-    let locked = Locked::new(channel);
-    let rest = operations.get(made.unwrap_or(0)..).unwrap_or(&[]);
-    let is_done = act_until_refused(rt, heap, &locked, &mut kept, rest) == Some(rest.len());
-    let channel = locked.into_inner();
-    let is_right = is_kept && is_done && is_same(&channel, &kept) && kept.history().len() == 5;
-    unless_refused(is_right, heap.has_refused())
+    let mut kept = Channel::new(alloc);
+    let begun = act_behind_lock(rt, heap, Channel::new(heap), &mut kept, &operations);
+    let Some((channel, made)) = begun else {
+        return Some(false);
+    };
+    let rest = operations.get(made..).unwrap_or(&[]);
+    let is_done = match act_behind_lock(rt, heap, channel, &mut kept, rest) {
+        Some((_, made)) => made == rest.len() && kept.history().len() == 5,
+        None => false,
+    };
+    unless_refused(is_done, heap.has_refused())
 }
 
 #[test]
-fn locked_act_refused(rt: HostRuntime) -> Result<(), Fail> {
-    let heap = Rationed::new(rt.alloc());
-    let last = heap.refuse_each(|_| operations_refused(&rt, &heap))?;
-    assert!(rt; last > 2, "the history grows more than once");
-    Ok(())
+fn locked_act_refused(rt: HostRuntime) {
+    let alloc = rt.alloc();
+    let heap = Rationed::new(alloc);
+    let last = heap.refuse_each(|_| operations_refused(&rt, &heap, alloc));
+    assert!(rt; last > Some(2), "the history grows more than once");
 }
 
 /// Whether operations behind a lock have these answers.

@@ -6,10 +6,8 @@ ghost use Rattle.pp_machine.specs.DeadStart.{IsBeforeFirstTurn, WaitsWithin};
 use crate::refusal::unless_refused;
 use pp_channel::{CHANNELS, ChannelNo, Memory};
 use pp_machine::{Central, CentralFault, Machine, Outcome, PROCESSORS, Pp, PpNo, Profile};
-use rationed::{Rationed, Unexpected};
 use std::alloc::{Allocator, Global};
-use std::test::Fail;
-use test_bench::{HANDOFF_PAIR, Pair, first, put_program, waiting, word};
+use test_bench::{HANDOFF_PAIR, Pair, Rationed, first, put_program, waiting, word};
 
 /// PP 1 activates channel 5 and disconnects it, again and again; PP 0 is held.
 const FLAPPING: Pair = Pair {
@@ -144,7 +142,21 @@ fn steps() -> [(PpNo, Outcome); 7] {
     ]
 }
 
-/// Nothing where these steps are made although this request is refused; else whether they are made.
+/// Nothing where these steps are made although a request is refused; else whether they are made.
+fn take_steps(
+    heap: &Rationed<Global>,
+    machine: &mut RationedMachine,
+    twin: &mut Machine<Global>,
+) -> Option<bool> {
+    for (n, outcome) in steps() {
+        if step_both(heap, machine, twin, n) != Some(outcome) {
+            return Some(false);
+        }
+    }
+    unless_refused(true, heap.has_refused())
+}
+
+/// The same of a new machine and its twin, with this request refused.
 fn steps_refused(
     heap: &Rationed<Global>,
     alloc: Global,
@@ -152,26 +164,24 @@ fn steps_refused(
     number: u64,
 ) -> Option<bool> {
     heap.refuse(0);
-    let mut twin = HANDOFF_PAIR.machine(alloc, profile).ok()?;
-    let mut machine = HANDOFF_PAIR.machine(heap, profile).ok()?;
+    let Ok(mut twin) = HANDOFF_PAIR.machine(alloc, profile) else {
+        return Some(false);
+    };
+    let Ok(mut machine) = HANDOFF_PAIR.machine(heap, profile) else {
+        return Some(false);
+    };
     heap.refuse(number);
-    for (n, outcome) in steps() {
-        if step_both(heap, &mut machine, &mut twin, n) != Some(outcome) {
-            return Some(false);
-        }
-    }
-    unless_refused(true, heap.has_refused())
+    take_steps(heap, &mut machine, &mut twin)
 }
 
 #[test]
-fn step_refused(rt: HostRuntime) -> Result<(), Fail> {
+fn step_refused(rt: HostRuntime) {
     let alloc = rt.alloc();
     let heap = Rationed::new(alloc);
     for profile in [Profile::Ten, Profile::Twenty] {
-        let last = heap.refuse_each(|number| steps_refused(&heap, alloc, profile, number))?;
-        assert!(rt; last > 2, "both lists grow");
+        let last = heap.refuse_each(|number| steps_refused(&heap, alloc, profile, number));
+        assert!(rt; last > Some(2), "both lists grow");
     }
-    Ok(())
 }
 
 /// Whether both machines are the same after these turns, which the first has taken, and after those
@@ -189,8 +199,25 @@ fn go_on_alike(
         && are_same(machine, twin)
 }
 
-/// Nothing where this request is refused and cuts the run, which is as after the steps that it did,
+/// Nothing where a request is refused and cuts the run, which is as after the steps that it did,
 /// and goes on from there; else whether the whole run is made.
+fn run_cut(
+    heap: &Rationed<Global>,
+    machine: &mut RationedMachine,
+    twin: &mut Machine<Global>,
+    turns: &[PpNo],
+) -> Option<bool> {
+    let cut = machine.run_turns(turns).err();
+    let refused = heap.has_refused();
+    let done = cut.map_or(turns.len(), |cut| cut.done as usize);
+    let Some((made, left)) = turns.split_at_checked(done) else {
+        return Some(false);
+    };
+    let is_cut = cut.is_some() == refused && left.is_empty() != refused;
+    unless_refused(is_cut && go_on_alike(machine, twin, made, left), refused)
+}
+
+/// The same of a new machine and its twin, with this request refused.
 fn run_refused(
     heap: &Rationed<Global>,
     alloc: Global,
@@ -200,85 +227,90 @@ fn run_refused(
     turns: &[PpNo],
 ) -> Option<bool> {
     heap.refuse(0);
-    let mut machine = programs.machine(heap, profile).ok()?;
-    let mut twin = programs.machine(alloc, profile).ok()?;
-    heap.refuse(number);
-    let cut = machine.run_turns(turns).err();
-    let refused = heap.has_refused();
-    let done = cut.map_or(turns.len(), |cut| cut.done as usize);
-    let Some((made, left)) = turns.split_at_checked(done) else {
+    let Ok(mut twin) = programs.machine(alloc, profile) else {
         return Some(false);
     };
-    let is_cut = cut.is_some() == refused && left.is_empty() != refused;
-    unless_refused(
-        is_cut && go_on_alike(&mut machine, &mut twin, made, left),
-        refused,
-    )
+    let Ok(mut machine) = programs.machine(heap, profile) else {
+        return Some(false);
+    };
+    heap.refuse(number);
+    run_cut(heap, &mut machine, &mut twin, turns)
 }
 
 /// The number of the first request that is not made.
-fn runs_refused(
-    alloc: Global,
-    profile: Profile,
-    programs: Pair,
-    turns: &[PpNo],
-) -> Result<u64, Unexpected> {
+fn runs_refused(alloc: Global, profile: Profile, programs: Pair, turns: &[PpNo]) -> Option<u64> {
     let heap = Rationed::new(alloc);
     heap.refuse_each(|number| run_refused(&heap, alloc, profile, number, programs, turns))
 }
 
 #[test]
-fn turns_refused(rt: HostRuntime) -> Result<(), Fail> {
+fn turns_refused(rt: HostRuntime) {
     let (zero, one) = (first(), first().next());
     let handoff = [one, zero, zero, zero, one];
     for profile in [Profile::Ten, Profile::Twenty] {
-        assert!(rt; runs_refused(rt.alloc(), profile, HANDOFF_PAIR, &handoff)? > 2);
-        let last = runs_refused(rt.alloc(), profile, FLAPPING, &[one; 60])?;
-        assert!(rt; last > 6, "the lists grow again and again");
+        assert!(rt; runs_refused(rt.alloc(), profile, HANDOFF_PAIR, &handoff) > Some(2));
+        let last = runs_refused(rt.alloc(), profile, FLAPPING, &[one; 60]);
+        assert!(rt; last > Some(6), "the lists grow again and again");
     }
-    Ok(())
 }
 
-/// Whether a machine counts the events of its histories.
-fn counts_events(machine: &Machine<Global>) -> bool {
+/// How many events each channel has after 600 turns, more than 30 in all, as the machine counts
+/// them and as its histories have them.
+fn event_counts(alloc: Global) -> Option<[usize; CHANNELS]> {
+    let Ok(mut machine) = FLAPPING.machine(alloc, Profile::Ten) else {
+        return None;
+    };
+    let is_run = machine.run_barrel(600).is_ok() && machine.events().len() > 30;
     let counts = machine.event_counts();
     for place in 0..CHANNELS {
         if counts[place] != machine.channel(ChannelNo::at(place)).history().len() {
-            return false;
+            return None;
         }
     }
-    machine.events().len() > 30
+    is_run.then_some(counts)
 }
 
-/// Whether a run of 600 turns asks for no memory, and does what the other's did.
+/// Whether a run of 600 turns asks for no memory, and does what the other's does.
 fn runs_in_room(
     heap: &Rationed<Global>,
     machine: &mut RationedMachine,
-    twin: &Machine<Global>,
+    twin: &mut Machine<Global>,
 ) -> bool {
     heap.refuse(1);
     let is_run = machine.run_barrel(600).is_ok();
     let is_asked = heap.asked() > 0;
     heap.refuse(0);
-    is_run && !is_asked && are_same(machine, twin)
+    is_run && !is_asked && twin.run_barrel(600).is_ok() && are_same(machine, twin)
 }
 
-/// Makes room for the events of a run, with this request refused: then the machine is as it was.
-/// Once there is room, the run asks for nothing. This says whether the request was made, and nothing
-/// where anything else happened.
-fn room_refused(heap: &Rationed<Global>, alloc: Global, number: u64) -> Option<bool> {
-    let fresh = FLAPPING.machine(alloc, Profile::Ten).ok()?;
-    let mut twin = FLAPPING.machine(alloc, Profile::Ten).ok()?;
-    let is_run = twin.run_barrel(600).is_ok() && counts_events(&twin);
-    let counts = twin.event_counts();
-    let mut machine = FLAPPING.machine(heap, Profile::Ten).ok()?;
-    heap.refuse(number);
-    let is_made = machine.reserve(&counts).is_ok();
+/// Makes room for the events of a run, of which a request may be refused: then the machine is as it
+/// was. Once there is room, the run asks for nothing. This says whether the request was made, and
+/// nothing where anything else happened.
+fn make_room(
+    heap: &Rationed<Global>,
+    machine: &mut RationedMachine,
+    twin: &mut Machine<Global>,
+    counts: &[usize; CHANNELS],
+) -> Option<bool> {
+    let is_made = machine.reserve(counts).is_ok();
     let is_refused = heap.has_refused();
     heap.refuse(0);
-    let is_kept = is_run && is_made != is_refused && are_same(&machine, &fresh);
-    let has_room = is_made || machine.reserve(&counts).is_ok();
-    (is_kept && has_room && runs_in_room(heap, &mut machine, &twin)).then_some(is_refused)
+    let is_kept = is_made != is_refused && are_same(machine, twin);
+    let has_room = is_made || machine.reserve(counts).is_ok();
+    (is_kept && has_room && runs_in_room(heap, machine, twin)).then_some(is_refused)
+}
+
+/// The same of a new machine and its twin, with this request refused.
+fn room_refused(heap: &Rationed<Global>, alloc: Global, number: u64) -> Option<bool> {
+    let counts = event_counts(alloc)?;
+    let Ok(mut twin) = FLAPPING.machine(alloc, Profile::Ten) else {
+        return None;
+    };
+    let Ok(mut machine) = FLAPPING.machine(heap, Profile::Ten) else {
+        return None;
+    };
+    heap.refuse(number);
+    make_room(heap, &mut machine, &mut twin, &counts)
 }
 
 #[test]
@@ -364,25 +396,24 @@ fn round_refused(
 }
 
 /// The number of the first request that is not made.
-fn rounds_refused(alloc: Global, profile: Profile, run: Run) -> Result<u64, Unexpected> {
+fn rounds_refused(alloc: Global, profile: Profile, run: Run) -> Option<u64> {
     let heap = Rationed::new(alloc);
     heap.refuse_each(|number| round_refused(&heap, alloc, profile, number, run))
 }
 
 #[test]
-fn barrel_refused(rt: HostRuntime) -> Result<(), Fail> {
+fn barrel_refused(rt: HostRuntime) {
     for (profile, handoff, flapping, loading) in [
         (Profile::Ten, 40, 1405, 90),
         (Profile::Twenty, 80, 2805, 180),
     ] {
-        let last = rounds_refused(rt.alloc(), profile, (HANDOFF_PAIR, false, handoff))?;
-        assert!(rt; last > 2);
-        let last = rounds_refused(rt.alloc(), profile, (FLAPPING, false, flapping))?;
-        assert!(rt; last > 8, "the lists grow again and again");
-        let last = rounds_refused(rt.alloc(), profile, (LOADER, true, loading))?;
-        assert!(rt; last > 2);
+        let last = rounds_refused(rt.alloc(), profile, (HANDOFF_PAIR, false, handoff));
+        assert!(rt; last > Some(2));
+        let last = rounds_refused(rt.alloc(), profile, (FLAPPING, false, flapping));
+        assert!(rt; last > Some(8), "the lists grow again and again");
+        let last = rounds_refused(rt.alloc(), profile, (LOADER, true, loading));
+        assert!(rt; last > Some(2));
     }
-    Ok(())
 }
 
 /// Nothing where this request is refused as all processors but one are to wait, and the machine is
@@ -409,16 +440,15 @@ fn waiting_refused(
 }
 
 /// The number of the first request that no dead start makes.
-fn dead_starts_refused(alloc: Global, profile: Profile) -> Result<u64, Unexpected> {
+fn dead_starts_refused(alloc: Global, profile: Profile) -> Option<u64> {
     let heap = Rationed::new(alloc);
     heap.refuse_each(|number| waiting_refused(&heap, alloc, profile, number))
 }
 
 #[test]
-fn dead_start_refused(rt: HostRuntime) -> Result<(), Fail> {
-    let last = dead_starts_refused(rt.alloc(), Profile::Ten)?;
-    assert!(rt; last > 9, "nine channels grow");
-    let last = dead_starts_refused(rt.alloc(), Profile::Twenty)?;
-    assert!(rt; last > 19, "nineteen channels grow");
-    Ok(())
+fn dead_start_refused(rt: HostRuntime) {
+    let last = dead_starts_refused(rt.alloc(), Profile::Ten);
+    assert!(rt; last > Some(9), "nine channels grow");
+    let last = dead_starts_refused(rt.alloc(), Profile::Twenty);
+    assert!(rt; last > Some(19), "nineteen channels grow");
 }

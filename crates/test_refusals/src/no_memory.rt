@@ -4,10 +4,9 @@
 use pp_channel::ChannelNo;
 use pp_machine::{Central, CentralFault, Machine, Outcome, PpState, Profile};
 use pp_word::{Word18, Word60};
-use rationed::Rationed;
 use std::alloc::Global;
 use std::test::Fail;
-use test_bench::{channel, first, put_program, put_words};
+use test_bench::{Rationed, channel, first, put_program, put_words};
 
 #[test]
 fn central_asks_for_nothing(rt: HostRuntime) -> Result<(), Fail> {

@@ -8,13 +8,11 @@ use pp_deck::read_deck;
 use pp_machine::{Central, Machine, Profile};
 use pp_runner::{End, Gate, Limits, LockedCentral, NoGate, Report, run_threads};
 use pp_word::{Word18, Word60};
-use rationed::Rationed;
 use std::alloc::{Allocator, Global};
-use std::process::Abort;
 use std::sync::Wait;
 use std::test::Fail;
 use std::thread::Threads;
-use test_bench::{BLOCK, channel, first};
+use test_bench::{BLOCK, Rationed, channel, first};
 
 /// A processor that waits for one that was refused memory gives up.
 fn limits() -> Result<Limits, Fail> {
@@ -96,18 +94,13 @@ PP 31
 START 0100
 ";
 
-#[test]
-fn runs_refused(rt: HostRuntime) -> Result<(), Fail> {
-    expect_refused(&rt, Profile::Ten, BLOCK, channel(5)?)?;
-    expect_refused(&rt, Profile::Ten, DEAD_START, channel(1)?)
-}
-
-/// The same of twenty processors.
-#[test]
-fn runs_of_twenty_refused(rt: HostRuntime) -> Result<(), Fail> {
-    expect_refused(&rt, Profile::Twenty, FAR, channel(0o33)?)?;
-    expect_refused(&rt, Profile::Twenty, DEAD_START, channel(1)?)
-}
+/// Decks, and for each a channel that its run uses.
+const DECKS: [(Profile, &str, u8); 4] = [
+    (Profile::Ten, BLOCK, 5),
+    (Profile::Ten, DEAD_START, 1),
+    (Profile::Twenty, FAR, 0o33),
+    (Profile::Twenty, DEAD_START, 1),
+];
 
 /// Nothing where a run is refused memory, or some of its workers are; else whether it has events.
 fn run_with_little<R: Threads + Wait + Sync>(
@@ -125,39 +118,34 @@ fn run_with_little<R: Threads + Wait + Sync>(
     }
 }
 
-/// The deck is run with each request refused in turn, up to a run without a refusal.
-fn expect_refused<R: AllocGlobal + Threads + Wait + Sync + Abort>(
-    rt: &R,
-    profile: Profile,
-    text: &str,
-    channel: ChannelNo,
-) -> Result<(), Fail> {
+/// Each deck is run with each request refused in turn, up to a run without a refusal.
+#[test]
+fn runs_refused(rt: HostRuntime) -> Result<(), Fail> {
     let limits = limits()?;
-    let heap = Rationed::new(rt.alloc());
-    let last = heap.refuse_each(|_| run_with_little(rt, &heap, profile, limits, text, channel))?;
-    assert!(rt; last > 15, "lines, logs and answers grow");
+    for (profile, text, number) in DECKS {
+        let channel = channel(number)?;
+        let heap = Rationed::new(rt.alloc());
+        let last = heap.refuse_each(|_| run_with_little(
+            &rt, &heap, profile, limits, text, channel,
+        ));
+        assert!(rt; last > Some(15), "lines, logs and answers grow");
+    }
     Ok(())
 }
 
 /// The size of central memory behind locks, where this request is not refused.
-fn locked_size<'a>(
-    heap: &'a Rationed<Global>,
-    central: &Central<&'a Rationed<Global>>,
-) -> Option<u32> {
-    Some(LockedCentral::new(heap, central).ok()?.size())
+fn locked_size(heap: &Rationed<Global>, number: u64) -> Option<u32> {
+    heap.refuse(0);
+    let central = Central::new(heap, 0o41).ok()?;
+    heap.refuse(number);
+    Some(LockedCentral::new(heap, &central).ok()?.size())
 }
 
 #[test]
-fn locked_central_refused(rt: HostRuntime) -> Result<(), Fail> {
+fn locked_central_refused(rt: HostRuntime) {
     let heap = Rationed::new(rt.alloc());
-    let last = heap.refuse_each(|number| {
-        heap.refuse(0);
-        let central = Central::new(&heap, 0o41).ok()?;
-        heap.refuse(number);
-        Some(locked_size(&heap, &central)? == 0o41)
-    })?;
-    assert!(rt; last > 32, "each bank grows");
-    Ok(())
+    let last = heap.refuse_each(|number| Some(locked_size(&heap, number)? == 0o41));
+    assert!(rt; last > Some(32), "each bank grows");
 }
 
 /// Whether central memory behind locks has this size, keeps a word at its last address, and has

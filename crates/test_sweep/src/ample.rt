@@ -4,12 +4,11 @@
 use pp_machine::Profile;
 use pp_runner::Limits;
 use pp_sim::{DeckFault, barrel_text, read_deck, threads_text};
-use rationed::Rationed;
 use std::alloc::Global;
 use std::sync::Wait;
 use std::test::Fail;
 use std::thread::Threads;
-use test_bench::{BLOCK, HANDOFF, HANDOFF_ON_TWENTY, HANDOFF_TEXT, LONG_PATIENCE};
+use test_bench::{BLOCK, HANDOFF, HANDOFF_ON_TWENTY, HANDOFF_TEXT, LONG_PATIENCE, Rationed};
 
 /// The text of a run with one thread per processor, as long as allowed.
 pub fn text_by_threads<R: AllocGlobal + Threads + Wait + Sync>(
@@ -83,35 +82,25 @@ fn many_events_by_threads(rt: HostRuntime) -> Result<(), Fail> {
     assert!(rt; text.ends_with(ENDS.as_bytes()));
     // A line of 26 bytes for each event.
     let events = 2 * (1562 * 63 + 32);
-    assert_eq!(rt; text.len(), events * 26 + ENDS.len());
+    assert!(rt; text.len() == events * 26 + ENDS.len());
     Ok(())
 }
 
-/// Whether a run of one turn more than the program takes has a text, and what was written of it.
-fn text_after_a_million(
-    alloc: Global,
-    heap: &Rationed<Global>,
-    profile: Profile,
-) -> (bool, Vec<u8>) {
+/// Whether a run of one turn more than the program takes has this text, and asks for memory more
+/// than five times: bytes, fields, processors, events and text grow.
+fn ends_after_a_million(alloc: Global, profile: Profile, text: &str) -> bool {
+    let heap = Rationed::new(alloc);
     let mut reader = HANDOFF.as_bytes();
     let mut writer = Vec::new(alloc);
-    let done = barrel_text(heap, profile, &mut reader, &mut writer, 1_000_001);
-    (done.is_ok(), writer)
+    barrel_text(&heap, profile, &mut reader, &mut writer, 1_000_001).is_ok()
+        && writer.as_slice() == text.as_bytes()
+        && heap.asked() > 5
 }
 
 #[test]
 fn a_million_and_one_turns(rt: HostRuntime) {
-    let heap = Rationed::new(rt.alloc());
-    let (is_done, text) = text_after_a_million(rt.alloc(), &heap, Profile::Ten);
-    assert!(rt; is_done);
-    assert!(rt; text.as_slice() == HANDOFF_TEXT.as_bytes());
-    assert!(rt;
-        heap.asked() > 5,
-        "bytes, fields, processors, events and text grow"
-    );
-    let (is_done, text) = text_after_a_million(rt.alloc(), &heap, Profile::Twenty);
-    assert!(rt; is_done);
-    assert!(rt; text.as_slice() == HANDOFF_ON_TWENTY.as_bytes());
+    assert!(rt; ends_after_a_million(rt.alloc(), Profile::Ten, HANDOFF_TEXT));
+    assert!(rt; ends_after_a_million(rt.alloc(), Profile::Twenty, HANDOFF_ON_TWENTY));
 }
 
 /// The size of the central memory of a deck.
@@ -131,7 +120,7 @@ fn decks_of_each_size(rt: HostRuntime) -> Result<(), Fail> {
     let text = vec![in rt.alloc(); b'*'; 2000]?;
     for size in 0..=2000usize {
         let deck = text.get(..size).unwrap_or(&[]);
-        assert_eq!(rt; central_size(&heap, deck), Ok(0o10000), "{size} bytes");
+        assert!(rt; central_size(&heap, deck) == Ok(0o10000), "{size} bytes");
     }
     assert!(rt; heap.asked() > 2000, "a machine grows");
     Ok(())
@@ -151,6 +140,6 @@ const SIZES: [(&str, u32); 6] = [
 fn decks_with_central_memory(rt: HostRuntime) {
     let heap = Rationed::new(rt.alloc());
     for (line, size) in SIZES {
-        assert_eq!(rt; central_size(&heap, line.as_bytes()), Ok(size), "{line}");
+        assert!(rt; central_size(&heap, line.as_bytes()) == Ok(size), "{line}");
     }
 }

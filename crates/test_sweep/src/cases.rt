@@ -7,7 +7,7 @@ use test_bench::{HANDOFF, LOST_AND_WAITING};
 pub(crate) type Case = (&'static [&'static str], &'static str, u64);
 
 /// Command lines that are done, or whose deck or trace is refused.
-pub(crate) const CASES: [Case; 17] = [
+pub(crate) const CASES: [Case; 20] = [
     (&["ppsim", "barrel", "--turns", "40"], HANDOFF, 5),
     (
         &["ppsim", "barrel", "--turns", "80", "--processors", "20"],
@@ -22,6 +22,17 @@ pub(crate) const CASES: [Case; 17] = [
         6,
     ),
     (&["ppsim", "state", "--turns", "40"], HANDOFF, 5),
+    (&["ppsim", "ends", "--turns", "40"], HANDOFF, 5),
+    (
+        &["ppsim", "memory", "--turns", "40", "--pp", "1"],
+        HANDOFF,
+        4,
+    ),
+    (
+        &["ppsim", "central", "--turns", "20"],
+        CENTRAL_AND_WAITING,
+        3,
+    ),
     (
         &["ppsim", "sessions", "--turns", "100"],
         LOST_AND_WAITING,

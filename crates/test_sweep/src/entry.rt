@@ -40,38 +40,32 @@ impl<R: Threads> Threads for Words<'_, R> {}
 
 impl<R: Wait> Wait for Words<'_, R> {}
 
-/// The status of a run with these words, whether its output and its standard error are as they have
-/// to be, and how often it asked the reader.
-fn ending<R: AllocGlobal + Threads + Wait + Sync>(
+/// Whether a run with these words has this status, this output and this standard error, and asks
+/// the reader so often.
+fn ends<R: AllocGlobal + Threads + Wait + Sync>(
     rt: &R,
     words: &[&[u8]],
-    output: &str,
-    error: &str,
-) -> (ExitCode, bool, bool, u32) {
+    (status, output, error): (u8, &str, &str),
+    calls: usize,
+) -> bool {
     let mut input = Source::new(HANDOFF.as_bytes(), 1, None);
     let mut written = Vec::new(rt.alloc());
     let mut told = Vec::new(rt.alloc());
     let given = (Words { rt, words }, rt.alloc());
-    let status = run_main(&given, &mut input, &mut written, &mut told);
-    (
-        status,
-        written.as_slice() == output.as_bytes(),
-        told.as_slice() == error.as_bytes(),
-        input.calls(),
-    )
+    run_main(&given, &mut input, &mut written, &mut told) == ExitCode::from(status)
+        && written.as_slice() == output.as_bytes()
+        && told.as_slice() == error.as_bytes()
+        && input.calls() as usize == calls
 }
 
 #[test]
 fn a_word_that_is_not_utf8(rt: HostRuntime) {
     let words: [&[u8]; 4] = [b"ppsim", b"barrel", b"--turns", b"4\xff"];
-    let ended = ending(&rt, &words, "", "ppsim: a word is not UTF-8\n");
-    assert_eq!(rt; ended, (ExitCode::from(2), true, true, 0));
+    assert!(rt; ends(&rt, &words, (2, "", "ppsim: a word is not UTF-8\n"), 0));
 }
 
 #[test]
 fn words_of_a_run(rt: HostRuntime) {
     let words: [&[u8]; 4] = [b"ppsim", b"barrel", b"--turns", b"40"];
-    let ended = ending(&rt, &words, HANDOFF_TEXT, "");
-    let calls = HANDOFF.len() as u32 + 1;
-    assert_eq!(rt; ended, (ExitCode::from(0), true, true, calls));
+    assert!(rt; ends(&rt, &words, (0, HANDOFF_TEXT, ""), HANDOFF.len() + 1));
 }

@@ -21,6 +21,8 @@ mod pieces;
 #[cfg(test)]
 mod requests;
 #[cfg(test)]
+mod runs;
+#[cfg(test)]
 mod sweep;
 #[cfg(test)]
 mod threads;

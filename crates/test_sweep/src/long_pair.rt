@@ -3,9 +3,9 @@
 
 use crate::ample::text_by_threads;
 use pp_machine::Profile;
-use rationed::Rationed;
 use std::alloc::{AllocError, Global};
 use std::test::Fail;
+use test_bench::Rationed;
 
 /// PP 0 activates channel 5 and sends its whole memory over it, again and again, from place 0 on,
 /// 300000 words (octal). PP 1 takes the first of them by IAN, and all further ones into its own
@@ -54,39 +54,40 @@ fn word_of_sender(place: u32) -> u32 {
 /// The line of an event of channel 5, by its number: each word is put and then taken.
 fn line_of_event(alloc: Global, number: u32) -> Result<String, AllocError> {
     if number == 0 {
-        return format!(in alloc; "CH05 000000 PP00 ACN");
+        return format!(in alloc; "CH05 000000 PP00 ACN\n");
     }
     let sent_before = (number - 1) / 2;
     let word = word_of_sender(sent_before % 4096);
     if number % 2 == 1 {
-        format!(in alloc; "CH05 {number:06} PP00 PUT {word:04o}")
+        format!(in alloc; "CH05 {number:06} PP00 PUT {word:04o}\n")
     } else {
-        format!(in alloc; "CH05 {number:06} PP01 TAK {word:04o}")
+        format!(in alloc; "CH05 {number:06} PP01 TAK {word:04o}\n")
     }
 }
 
 /// The memory of PP 1 has become a copy of that of PP 0, so both stop at the same place.
-const ENDS: [&str; 3] = [
-    "PP00 P=0105 A=000000 STOPPED",
-    "PP01 P=0105 A=000000 STOPPED",
-    "CH05 ACTIVE EMPTY",
-];
+const ENDS: &str = "\
+PP00 P=0105 A=000000 STOPPED
+PP01 P=0105 A=000000 STOPPED
+CH05 ACTIVE EMPTY
+";
+
+/// The text of the run.
+fn long_text(alloc: Global) -> Result<String, AllocError> {
+    let mut text = String::new(alloc);
+    for number in 0..=2 * SENT {
+        text.push_str(line_of_event(alloc, number)?.as_str())?;
+    }
+    text.push_str(ENDS)?;
+    Ok(text)
+}
 
 #[test]
 fn long_pair_by_threads(rt: HostRuntime) -> Result<(), Fail> {
     let heap = Rationed::new(rt.alloc());
     let deck = deck(rt.alloc())?;
     let text = text_by_threads(&rt, &heap, Profile::Ten, deck.as_str())?;
-    let text = String::from_utf8(text)?;
-    let mut lines = text.lines();
-    for number in 0..=2 * SENT {
-        let line = line_of_event(rt.alloc(), number)?;
-        assert_eq!(rt; lines.next(), Some(line.as_str()));
-    }
-    for line in ENDS {
-        assert_eq!(rt; lines.next(), Some(line));
-    }
-    assert_eq!(rt; lines.next(), None);
+    assert!(rt; text.as_slice() == long_text(rt.alloc())?.as_bytes());
     assert!(rt; heap.asked() > 40, "lines, logs, answers and text grow");
     Ok(())
 }

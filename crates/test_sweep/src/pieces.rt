@@ -1,38 +1,24 @@
 //! Texts that are longer than a piece in which they go out, and writers that give up in the middle.
 
-use pp_sim::run_program;
+use crate::runs::{Run, ends, is_write_fault};
 use std::alloc::Global;
 use std::io::{self, ErrorKind, Write};
-use std::process::Abort;
 use std::sync::Wait;
 use std::test::Fail;
 use std::thread::Threads;
-use test_bench::{Failure, SESSIONS, Sink, report_of_sessions, text_of_sessions};
+use test_bench::{Failure, SESSIONS, report_of_sessions, text_of_sessions};
 
 /// A thousand sessions in the barrel, and by threads: about 42,000 bytes.
 const BARREL: [&str; 4] = ["ppsim", "barrel", "--turns", "30000"];
 
 const THREADS: [&str; 6] = ["ppsim", "threads", "--steps", "3000", "--patience", "5"];
 
-/// The command lines of these runs, and their texts.
-fn runs(alloc: Global) -> Result<[(&'static [&'static str], String); 2], Fail> {
+/// These runs, and their texts.
+fn runs(alloc: Global) -> Result<[(Run, String); 2], Fail> {
     Ok([
-        (&BARREL, text_of_sessions(alloc, 1000)?),
-        (&THREADS, report_of_sessions(alloc, 1000)?),
+        ((&BARREL, SESSIONS), text_of_sessions(alloc, 1000)?),
+        ((&THREADS, SESSIONS), report_of_sessions(alloc, 1000)?),
     ])
-}
-
-/// A run into a writer: the status, and whether the standard error is this line.
-fn run_into<R: AllocGlobal + Threads + Wait + Sync>(
-    rt: &R,
-    words: &[&str],
-    output: &mut impl Write,
-    line: &str,
-) -> (u8, bool) {
-    let mut input = SESSIONS.as_bytes();
-    let mut error = Vec::new(rt.alloc());
-    let status = run_program(rt, rt.alloc(), words, &mut input, output, &mut error);
-    (status, error.as_slice() == line.as_bytes())
 }
 
 /// Takes all, and remembers how often it was called and the most bytes that it was given at once.
@@ -56,19 +42,27 @@ impl Write for Tray {
     }
 }
 
-/// The whole text comes, in few pieces of bounded size.
+/// Whether the whole text comes, in few pieces of bounded size.
+fn comes_in_pieces<R: AllocGlobal + Threads + Wait + Sync>(
+    rt: &R,
+    (words, input): Run,
+    text: &str,
+) -> bool {
+    let mut tray = Tray {
+        taken: Vec::new(rt.alloc()),
+        calls: 0,
+        most: 0,
+    };
+    ends(rt, words, &mut input.as_bytes(), &mut tray, 0, b"")
+        && tray.taken.as_slice() == text.as_bytes()
+        && tray.most <= 8192
+        && tray.calls < 10
+}
+
 #[test]
 fn texts_in_pieces(rt: HostRuntime) -> Result<(), Fail> {
-    for (words, text) in &runs(rt.alloc())? {
-        let mut tray = Tray {
-            taken: Vec::new(rt.alloc()),
-            calls: 0,
-            most: 0,
-        };
-        assert_eq!(rt; run_into(&rt, words, &mut tray, ""), (0, true));
-        assert!(rt; tray.taken.as_slice() == text.as_bytes());
-        assert!(rt; tray.most <= 8192, "{}", tray.most);
-        assert!(rt; tray.calls < 10, "{}", tray.calls);
+    for (run, text) in &runs(rt.alloc())? {
+        assert!(rt; comes_in_pieces(&rt, *run, text));
     }
     Ok(())
 }
@@ -79,31 +73,30 @@ const ROOMS: [usize; 11] = [
     0, 1, 8151, 8168, 8169, 8170, 8192, 8193, 16_338, 40_000, 42_040,
 ];
 
-/// A writer that fails in this way is not called again, and has what it took of the text.
-fn expect_front<R: AllocGlobal + Threads + Wait + Sync + Abort>(
+/// Whether a writer that fails in this way, after what it took, is a fault and not called again.
+fn tells_failure<R: AllocGlobal + Threads + Wait + Sync>(
     rt: &R,
-    words: &[&str],
-    text: &str,
+    run: Run,
+    text: &[u8],
     failure: Failure,
-) {
+) -> bool {
     for room in ROOMS {
         for piece in [1000, 1_000_000usize] {
-            let mut output = Sink::new(rt.alloc(), room, piece, failure);
-            let ended = run_into(rt, words, &mut output, "ppsim: write fault\n");
-            assert_eq!(rt; ended, (3, true), "{failure:?} after {room}");
-            assert_eq!(rt; output.failures(), 1, "{failure:?} after {room}");
-            let front = text.as_bytes().get(..room);
-            assert!(rt; Some(output.taken()) == front, "{failure:?} after {room}");
+            let front = text.get(..room).unwrap_or(&[]);
+            if front.len() != room || !is_write_fault(rt, run, front, piece, failure) {
+                return false;
+            }
         }
     }
+    true
 }
 
 #[test]
 fn writers_that_give_up_between_pieces(rt: HostRuntime) -> Result<(), Fail> {
-    for (words, text) in &runs(rt.alloc())? {
-        let error = Failure::Error(ErrorKind::Interrupted);
-        expect_front(&rt, words, text.as_str(), error);
-        expect_front(&rt, words, text.as_str(), Failure::TakesNothing);
+    let error = Failure::Error(ErrorKind::Interrupted);
+    for (run, text) in &runs(rt.alloc())? {
+        assert!(rt; tells_failure(&rt, *run, text.as_bytes(), error));
+        assert!(rt; tells_failure(&rt, *run, text.as_bytes(), Failure::TakesNothing));
     }
     Ok(())
 }

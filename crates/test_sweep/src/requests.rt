@@ -1,14 +1,11 @@
 //! Requests for memory: those that are refused in a long text, and those that do not grow with a
 //! run.
 
-use crate::sweep::{requests_refused, whole};
-use pp_sim::run_program;
-use rationed::Rationed;
-use std::alloc::Global;
+use crate::runs::{ending, requests_refused, whole};
 use std::sync::Wait;
 use std::test::Fail;
 use std::thread::Threads;
-use test_bench::{SESSIONS, text_of_sessions};
+use test_bench::{Rationed, SESSIONS, text_of_sessions};
 
 /// A loop that no channel holds.
 const LOOP: &str = "\
@@ -30,51 +27,40 @@ PP 2
 START 0100
 ";
 
-/// How many requests are made for the steps of this loop in so many turns.
-fn requests_in<R: AllocGlobal + Threads + Wait + Sync>(
-    rt: &R,
-    heap: &Rationed<Global>,
-    turns: &str,
-) -> (u8, u64) {
-    heap.refuse(0);
+/// The status of so many turns of a loop, whose steps are printed, and how many requests are made.
+fn requests_in<R: AllocGlobal + Threads + Wait + Sync>(rt: &R, turns: &str) -> (u8, u64) {
+    let heap = Rationed::new(rt.alloc());
     let words = ["ppsim", "steps", "--turns", turns];
-    let mut written = Vec::new(rt.alloc());
-    let mut told = Vec::new(rt.alloc());
-    let mut reader = LOOP.as_bytes();
-    let status = run_program(rt, heap, &words, &mut reader, &mut written, &mut told);
+    let (status, _, _) = ending(rt, &heap, &words, LOOP);
     (status, heap.asked())
 }
 
 #[test]
-fn lines_take_no_memory(rt: HostRuntime) -> Result<(), Fail> {
-    let heap = Rationed::new(rt.alloc());
-    let (status, few) = requests_in(&rt, &heap, "100");
-    assert_eq!(rt; status, 0);
-    assert_eq!(rt; requests_in(&rt, &heap, "20000"), (0, few));
-    Ok(())
+fn lines_take_no_memory(rt: HostRuntime) {
+    let (status, few) = requests_in(&rt, "100");
+    assert!(rt; status == 0 && requests_in(&rt, "20000") == (0, few));
 }
 
-/// A text that is longer than a piece in which it goes out: nothing of it is written where a
-/// request is refused.
+/// A command line whose text is longer than a piece in which it goes out.
+const LONG_TEXT: [&str; 4] = ["ppsim", "barrel", "--turns", "30000"];
+
+/// Nothing of a long text is written where a request is refused.
 #[test]
 fn long_texts_refused(rt: HostRuntime) -> Result<(), Fail> {
-    let words = ["ppsim", "barrel", "--turns", "30000"];
     let text = text_of_sessions(rt.alloc(), 1000)?;
-    let ending = (0, text.as_bytes(), b"".as_slice());
-    let last = requests_refused(&rt, (&words, SESSIONS), ending)?;
-    assert!(rt; last > 10, "{last}");
+    let (status, output, error) = whole(&rt, (&LONG_TEXT, SESSIONS));
+    assert!(rt; status == 0 && output.as_slice() == text.as_bytes() && error.is_empty());
+    assert!(rt; requests_refused(&rt, (&LONG_TEXT, SESSIONS)) > Some(10));
     Ok(())
 }
 
-/// Races whose lines go out while the run is still made: it asks for nothing any more then.
+/// A command line whose lines go out while the run is still made: it asks for nothing any more
+/// then.
+const LONG_RACES: [&str; 4] = ["ppsim", "races", "--turns", "9000"];
+
 #[test]
-fn long_races_refused(rt: HostRuntime) -> Result<(), Fail> {
-    let words = ["ppsim", "races", "--turns", "9000"];
-    let (status, output, error) = whole(&rt, &words, LOOKED_AT);
-    let lines = output.len();
-    assert!(rt; lines > 20_000, "{lines}");
-    let ending = (status, output.as_slice(), error.as_slice());
-    let last = requests_refused(&rt, (&words, LOOKED_AT), ending)?;
-    assert!(rt; last > 10, "{last}");
-    Ok(())
+fn long_races_refused(rt: HostRuntime) {
+    let (_, output, _) = whole(&rt, (&LONG_RACES, LOOKED_AT));
+    assert!(rt; output.len() > 20_000);
+    assert!(rt; requests_refused(&rt, (&LONG_RACES, LOOKED_AT)) > Some(10));
 }

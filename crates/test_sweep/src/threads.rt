@@ -3,60 +3,53 @@
 use pp_machine::Profile;
 use pp_runner::Limits;
 use pp_sim::{TextFault, threads_text};
-use rationed::Rationed;
 use std::alloc::Global;
-use std::process::Abort;
 use std::sync::Wait;
 use std::test::Fail;
 use std::thread::Threads;
-use test_bench::BLOCK;
+use test_bench::{BLOCK, Rationed};
 
-/// How the text of a run ends, whether a worker ended for lack of memory, whether the first event
-/// is shown, and whether nothing was written.
-fn text_of<R: AllocGlobal + Threads + Wait + Sync>(
+/// Nothing where a run ends for want of memory as it should, in a worker, which the text says, or
+/// as a whole, and then without a text; else whether all of the text comes.
+fn with_little<R: AllocGlobal + Threads + Wait + Sync>(
     rt: &R,
     heap: &Rationed<Global>,
     profile: Profile,
     limits: Limits,
-) -> Result<(Result<(), TextFault>, bool, bool, bool), Fail> {
+) -> Option<bool> {
     let (mut reader, mut writer) = (BLOCK.as_bytes(), Vec::new(rt.alloc()));
     let done = threads_text(rt, heap, profile, &mut reader, &mut writer, limits);
-    let text = String::from_utf8(writer)?;
-    Ok((
-        done,
-        text.contains(" MEMORY\n"),
-        text.contains("CH05 000000 PP00 ACN\n"),
-        text.is_empty(),
-    ))
+    let Ok(text) = String::from_utf8(writer) else {
+        return Some(false);
+    };
+    let is_without = if done.is_ok() {
+        text.contains(" MEMORY\n")
+    } else {
+        done == Err(TextFault::Memory) && text.is_empty()
+    };
+    if is_without {
+        return None;
+    }
+    Some(done.is_ok() && text.contains("CH05 000000 PP00 ACN\n"))
+}
+
+/// The number of the first request that a run does not make, if each before it is refused as it
+/// should be.
+fn requests_refused<R: AllocGlobal + Threads + Wait + Sync>(
+    rt: &R,
+    heap: &Rationed<Global>,
+    profile: Profile,
+    limits: Limits,
+) -> Option<u64> {
+    heap.refuse_each(|_| with_little(rt, heap, profile, limits))
 }
 
 #[test]
 fn text_refused(rt: HostRuntime) -> Result<(), Fail> {
-    expect_text_refused(&rt, Profile::Ten)?;
-    expect_text_refused(&rt, Profile::Twenty)
-}
-
-/// The text is made with each request refused in turn, up to a run without a refusal.
-fn expect_text_refused<R: AllocGlobal + Threads + Wait + Sync + Abort>(
-    rt: &R,
-    profile: Profile,
-) -> Result<(), Fail> {
     let limits = Limits::new(100, 1000).ok_or("no limits")?;
     let heap = Rationed::new(rt.alloc());
-    for number in 1..1000u64 {
-        heap.refuse(number);
-        let (done, without, first, is_empty) = text_of(rt, &heap, profile, limits)?;
-        let refused = heap.has_refused();
-        if !refused {
-            assert_eq!(rt; (done, without, first), (Ok(()), false, true));
-            return Ok(());
-        }
-        if done.is_ok() {
-            assert!(rt; without, "request {number}");
-        } else {
-            let ended = (done, is_empty);
-            assert_eq!(rt; ended, (Err(TextFault::Memory), true), "request {number}");
-        }
+    for profile in [Profile::Ten, Profile::Twenty] {
+        assert!(rt; requests_refused(&rt, &heap, profile, limits).is_some());
     }
-    panic!(rt; "a request is refused in each run")
+    Ok(())
 }

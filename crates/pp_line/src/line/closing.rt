@@ -58,7 +58,7 @@ impl<A: Allocator + Copy> Line<A> {
     }
 }
 
-/// The shares of another line come to these, with what it has seen. Its log is left.
+/// Adds the shares of another line to these, with what it has seen, and returns its log.
 fn absorb<A: Allocator + Copy>(
     words: &mut SharedWords<A>,
     seen: &mut [u64; CHANNELS],

@@ -21,7 +21,7 @@ fn one_less(left: Word12) -> Word12
     Word12::truncated(u32::from(left.get()).saturating_sub(1))
 }
 
-/// One more in A: the sum with 1, without its end-around cases where there are none.
+/// The sum of A and 1, by plain addition if no end-around carry is possible.
 fn one_more(a: Word18) -> Word18
     ensures { result ≡ sum a 1 }
 {
@@ -48,7 +48,7 @@ fn following_place(place: Word12) -> Word12
 }
 
 impl Pp {
-    /// The five parts of a central word come to a place and the four after it.
+    /// Stores the five parts of a central word at a place and the four after it.
     pub(super) fn receive(&mut self, place: Word12, central: Word60)
         ensures { self.new ≡ receives self.old place central }
     {
@@ -141,7 +141,7 @@ impl Pp {
         }
     }
 
-    /// A word of IAM or OAM has gone.
+    /// Counts a word that IAM or OAM has moved.
     fn count_down(&mut self, kind: BlockKind, place: Word12)
         requires running { self.old.state ≡ PpState.Running }
         requires left { HasWordsLeft kind }
@@ -156,7 +156,7 @@ impl Pp {
         }
     }
 
-    /// A central word of CRM or CWM has gone, and this many are left.
+    /// Counts a central word that CRM or CWM has moved; `left` remain.
     fn count_up(&mut self, left: Word12, kind: BlockKind, place: Word12)
         requires running { self.old.state ≡ PpState.Running }
         requires left { 0 < left → HasWordsLeft kind }
@@ -171,7 +171,7 @@ impl Pp {
         }
     }
 
-    /// CRM: the start of a block of this many central words.
+    /// CRM: the start of a block of `left` central words.
     pub(super) fn start_central_in(&mut self, left: Word12)
         requires { self.old.state ≡ PpState.Running }
         ensures { self.new ≡ starts self.old left (BlockKind.CentralIn left) }
@@ -179,7 +179,7 @@ impl Pp {
         self.start_block(u32::from(left.get()), BlockKind::CentralIn { left });
     }
 
-    /// CWM: the start of a block of this many central words.
+    /// CWM: the start of a block of `left` central words.
     pub(super) fn start_central_out(&mut self, left: Word12)
         requires { self.old.state ≡ PpState.Running }
         ensures { self.new ≡ starts self.old left (BlockKind.CentralOut left) }

@@ -10,7 +10,7 @@ impl Pp {
         ensures { IsProcessor self.now }
     {
         self.memory.has_widths();
-        // The calls say to the proof that A has 18 bits and P twelve.
+        // Reveals to the proof that A has 18 bits and P twelve.
         let _a = self.a.get();
         let _p = self.p.get();
     }

@@ -8,7 +8,7 @@ use crate::pp::Pp;
 use crate::pp_state::PpState;
 use pp_word::{Word6, Word12, Word18, add18, next, relative, sub18, xor18};
 
-/// The uppermost place of A: 1 in a negative number.
+/// The uppermost bit of A: 1 in a negative number.
 const SIGN: u32 = 0o400_000;
 
 /// Whether a jump by d leads to itself.
@@ -20,7 +20,7 @@ pub(super) fn leads_to_itself(d: Word6) -> bool
 }
 
 impl Pp {
-    /// P goes on after an instruction of this many words.
+    /// P moves past an instruction of `words` words.
     pub(super) fn go_on(&mut self, words: u8)
         ensures { self.new ≡ goes_on self.old words }
     {
@@ -34,7 +34,6 @@ impl Pp {
         self.p = place;
     }
 
-    /// A numbered fault.
     pub(super) fn fault(&mut self, number: u8)
         requires { IsFaultNumber number }
         ensures { self.new ≡ faults self.old number }
@@ -55,7 +54,7 @@ impl Pp {
         }
     }
 
-    /// A relative jump where a test holds.
+    /// A relative jump if a test holds.
     #[inline(always)]
     pub(super) fn jump_where(&mut self, test: bool, d: Word6)
         ensures { self.new ≡ jumps_where test self.old d 1 }
@@ -67,7 +66,7 @@ impl Pp {
         }
     }
 
-    /// A long jump to the second word where a test holds.
+    /// A long jump to the second word if a test holds.
     pub(super) fn branch_where(&mut self, test: bool)
         ensures { self.new ≡ branches_where test self.old 2 }
     {
@@ -86,7 +85,6 @@ impl Pp {
         self.p = next(target);
     }
 
-    /// Whether A is negative.
     #[tactic(auto, using(crate::proofs::SignLemmas::uppermost_place))]
     pub(super) fn is_negative(&self) -> bool
         ensures { result ≡ is_negative self.now }

@@ -28,9 +28,9 @@ impl Pp {
         self.block = None;
     }
 
-    /// Lets it wait for a program that comes on a channel: a block input of 10000 words to its
+    /// Makes it wait for a program that comes on a channel: a block input of 10000 words to its
     /// memory from place 0000 on (octal), with P = 0000, on the memory as it is. Once the channel
-    /// is inactive it goes on after the place whose number stands in place 0000.
+    /// is inactive it continues after the place whose number stands in place 0000.
     pub fn wait_load(&mut self, ch: ChannelNo)
         ensures { self.new ≡ waiting_on ch self.old }
     {

@@ -118,7 +118,7 @@ impl Pp {
     }
 
     /// The same, as a call of its own: so the instructions of this kind are compiled once, and what
-    /// the barrel knows of a step does not have to stand in memory for it.
+    /// the barrel knows of a step need not be in memory for it.
     #[inline(never)]
     pub(super) fn run_local_apart(&mut self, op: Opcode, d: Word6)
         requires running { self.old.state ≡ PpState.Running }

@@ -1,5 +1,5 @@
-//! The parts of which a step is made: the next instruction, decoded once, what it needs, and what
-//! each kind of answer does. `wants` and `give` are made of them, and so is a turn of the barrel.
+//! The parts of a step: the next instruction, decoded once, what it needs, and what each kind of
+//! answer does. `wants` and `give` are made of them, and so is a turn of the barrel.
 
 ghost use Rattle.std.specs.Prelude.{◌≡◌, ℕ, None, IsTrue, false, if◌then◌else◌};
 ghost use Rattle.std.specs.Bool.{OnTrue, OnFalse};
@@ -69,7 +69,7 @@ impl Pp {
     }
 
     /// The operation of the next instruction of a running processor and the lower six bits of its
-    /// word; no operation where it is in a block.
+    /// word; no operation if it is in a block.
     #[inline(always)]
     pub(crate) fn next_instruction(&self) -> (Option<Opcode>, Word6)
         requires { self.now.state ≡ PpState.Running }
@@ -82,7 +82,7 @@ impl Pp {
         (Some(op), d)
     }
 
-    /// Makes its next step where that is an instruction of the codes 00 to 57 (octal), and says
+    /// Makes its next step if that is an instruction of the codes 00 to 57 (octal), and returns
     /// whether it was.
     #[tactic(auto, unfolding(crate::specs::NeedAndEffect::need, crate::specs::NeedAndEffect::processor_after, crate::specs::NeedAndEffect::outcome))]
     #[inline(always)]
@@ -149,7 +149,7 @@ impl Pp {
         }
     }
 
-    /// Makes its next step where that needs nothing from outside.
+    /// Makes its next step if that needs nothing from outside.
     #[tactic(auto, unfolding(crate::specs::NeedAndEffect::need, crate::specs::NeedAndEffect::processor_after, crate::specs::NeedAndEffect::outcome))]
     #[inline(always)]
     pub(crate) fn give_local(&mut self, next: &Option<Opcode>, d: Word6) -> Outcome
@@ -255,7 +255,7 @@ impl Pp {
         }
     }
 
-    /// Gives whether the central word was written that its next step writes.
+    /// Gives whether the central word that its next step writes was written.
     #[tactic(auto, unfolding(crate::specs::NeedAndEffect::need, crate::specs::NeedAndEffect::processor_after, crate::specs::NeedAndEffect::outcome))]
     #[inline(always)]
     pub(crate) fn give_written(&mut self, next: &Option<Opcode>, d: Word6, written: bool)

@@ -9,7 +9,7 @@ use crate::pp::Pp;
 use pp_word::{Opcode, Word6, Word12, Word18, decode, index_address};
 
 impl Pp {
-    /// The place this many places after P.
+    /// The place `words` places after P.
     pub(super) fn place_after_p(&self, words: u8) -> Word12
         ensures { result ≡ place_after self.now.p words }
     {

@@ -19,7 +19,7 @@ use pp_channel::ChanOp;
 use pp_word::{Opcode, Word6, Word12};
 
 impl Pp {
-    /// The need of an operation on channel d: local where there is no such channel.
+    /// The need of an operation on channel d: local if there is no such channel.
     fn channel_need(&self, d: Word6, operation: ChanOp) -> Need
         ensures { result ≡ (if has_channel self.now.profile d then Need.Channel d operation
             else Need.Local) }
@@ -30,7 +30,6 @@ impl Pp {
         }
     }
 
-    /// What an instruction needs.
     #[inline(always)]
     pub(super) fn instruction_need(&self, op: Opcode, d: Word6) -> Need
         ensures { result ≡ need_of (instruction op self.now d) }
@@ -71,7 +70,7 @@ impl Pp {
         }
     }
 
-    /// What the next step needs from outside: nothing where it is at rest.
+    /// What the next step needs from outside: nothing if it is at rest.
     #[tactic(auto, unfolding(crate::specs::NeedAndEffect::need), using(crate::proofs::StepLemmas::nothing_at_rest))]
     pub fn wants(&self) -> Need
         ensures need { result ≡ need self.now }
@@ -86,7 +85,7 @@ impl Pp {
         }
     }
 
-    /// Gives the answer to what `wants` gives.
+    /// Gives the answer to the need that `wants` returns.
     #[tactic(auto, using(crate::proofs::StepLemmas::held_changes_nothing, crate::proofs::StepLemmas::held_by_answer, crate::proofs::StepLemmas::at_rest, crate::proofs::StepLemmas::rest_changes_nothing, crate::proofs::StepLemmas::fault_keeps))]
     pub fn give(&mut self, answer: Answer) -> Outcome
         requires fits { IsTrue (fits (need self.old) answer) }

@@ -1,10 +1,12 @@
-//! Reading a deck, running it and writing the text of the run.
+//! The text of a run in the barrel.
 
 ghost use Rattle.pp_sim.specs.BarrelText.{IsBarrelText};
-ghost use Rattle.pp_sim.specs.TextAnswer.{AnswersDeck};
+ghost use Rattle.pp_sim.specs.TextAnswer.{AnswersDeck, IsAnswer};
 
-use crate::deck_text::{DeckBytes, DeckText, deck_text};
+use crate::deck_bytes::DeckBytes;
 use crate::text_fault::TextFault;
+use crate::text_of::TextOf;
+use crate::texts::deck_text::deck_text;
 use pp_machine::Profile;
 use pp_text::write_text;
 use std::alloc::Allocator;
@@ -23,24 +25,24 @@ pub fn barrel_text<A: Allocator + Copy, R: Read, W: Write>(
         (R.remaining reader.old) (R.remaining reader.new)
         (W.contents writer.old) (W.contents writer.new) }
 {
-    deck_text(alloc, profile, reader, writer, &BarrelText(turns))
+    deck_text(alloc, profile, reader, writer, &TextOf::Barrel(turns))
 }
 
-/// The text of a run of this many turns in the barrel.
-#[derive(Drop)]
-struct BarrelText(u32);
-
-impl<A: Allocator + Copy, W: Write> DeckText<A, W> for BarrelText {
-    ghost IsText = { λ text. IsBarrelText text.0 };
-
-    fn write(&self, alloc: A, deck: &DeckBytes, writer: &mut W) -> Result<(), TextFault> {
-        let mut loaded = deck.load(alloc)?;
-        let Ok(()) = loaded.machine.run_barrel(self.0) else {
-            return Err(TextFault::Memory);
-        };
-        match write_text(writer, &loaded.machine, &loaded.named) {
-            Ok(()) => Ok(()),
-            Err(_) => Err(TextFault::Write),
-        }
+pub(crate) fn write_barrel<A: Allocator + Copy, W: Write>(
+    alloc: A,
+    deck: &DeckBytes,
+    writer: &mut W,
+    turns: u32,
+) -> Result<(), TextFault>
+    ensures { IsAnswer deck.now.profile (IsBarrelText turns) result deck.now.bytes.now
+        (W.contents writer.old) (W.contents writer.new) }
+{
+    let mut loaded = deck.load(alloc)?;
+    let Ok(()) = loaded.machine.run_barrel(turns) else {
+        return Err(TextFault::Memory);
+    };
+    match write_text(writer, &loaded.machine, &loaded.named) {
+        Ok(()) => Ok(()),
+        Err(_) => Err(TextFault::Write),
     }
 }

@@ -1,47 +1,32 @@
-//! Reading a deck, running it and writing the sessions of its run.
+//! The sessions of a run in the barrel.
 
-ghost use Rattle.pp_sim.specs.SessionsText.{IsSessionsText};
-ghost use Rattle.pp_sim.specs.TextAnswer.{AnswersDeck};
+ghost use Rattle.pp_sessions.specs.SessionsText.{sessions_after};
+ghost use Rattle.pp_sim.specs.TextAnswer.{IsAnswer};
+ghost use Rattle.pp_sim.specs.TextOf.{IsTextAfter};
 
-use crate::deck_text::{DeckBytes, DeckText, deck_text};
+use crate::deck_bytes::DeckBytes;
 use crate::text_fault::TextFault;
-use pp_machine::Profile;
 use pp_sessions::{run_counting_steps, write_sessions};
 use std::alloc::Allocator;
-use std::io::{Read, Write};
+use std::io::Write;
 
-/// Reads a deck for a machine of this profile, runs it in the barrel for this many turns (decimal),
-/// and writes the sessions of the run, channel by channel, and how many turns of each processor
-/// that the deck names moved it, were held, and found it at rest.
-pub fn sessions_text<A: Allocator + Copy, R: Read, W: Write>(
+pub(crate) fn write_sessions_after<A: Allocator + Copy, W: Write>(
     alloc: A,
-    profile: Profile,
-    reader: &mut R,
+    deck: &DeckBytes,
     writer: &mut W,
     turns: u32,
+    words: bool,
 ) -> Result<(), TextFault>
-    ensures { AnswersDeck profile (IsSessionsText turns) result
-        (R.remaining reader.old) (R.remaining reader.new)
-        (W.contents writer.old) (W.contents writer.new) }
+    ensures { IsAnswer deck.now.profile (IsTextAfter turns (sessions_after words)) result
+        deck.now.bytes.now (W.contents writer.old) (W.contents writer.new) }
 {
-    deck_text(alloc, profile, reader, writer, &SessionsText(turns))
-}
-
-/// The sessions of a run of this many turns in the barrel.
-#[derive(Drop)]
-struct SessionsText(u32);
-
-impl<A: Allocator + Copy, W: Write> DeckText<A, W> for SessionsText {
-    ghost IsText = { λ text. IsSessionsText text.0 };
-
-    fn write(&self, alloc: A, deck: &DeckBytes, writer: &mut W) -> Result<(), TextFault> {
-        let mut loaded = deck.load(alloc)?;
-        let Ok(counts) = run_counting_steps(&mut loaded.machine, self.0) else {
-            return Err(TextFault::Memory);
-        };
-        match write_sessions(writer, &loaded.machine, &loaded.named, &counts) {
-            Ok(()) => Ok(()),
-            Err(_) => Err(TextFault::Write),
-        }
+    let mut loaded = deck.load(alloc)?;
+    let shown = loaded.in_use();
+    let Ok(counts) = run_counting_steps(&mut loaded.machine, turns) else {
+        return Err(TextFault::Memory);
+    };
+    match write_sessions(writer, &loaded.machine, &shown, &counts, words) {
+        Ok(()) => Ok(()),
+        Err(_) => Err(TextFault::Write),
     }
 }

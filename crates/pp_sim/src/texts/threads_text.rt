@@ -1,11 +1,10 @@
 //! Reading a deck, running it with one thread per processor and writing the text of the run.
 
-ghost use Rattle.std.specs.Prelude.{◌<◌, length, OnOk};
 ghost use Rattle.pp_runner.specs.Report.{ReportFitsInMemory};
-ghost use Rattle.pp_sim.specs.TextAnswer.{AnswersDeck, IsAnswer, most_bytes};
+ghost use Rattle.pp_sim.specs.TextAnswer.{AnswersDeck, IsAnswer};
 ghost use Rattle.pp_sim.specs.ThreadsText.{IsThreadsText};
 
-use crate::deck_text::DeckBytes;
+use crate::deck_bytes::DeckBytes;
 use crate::streams::read_front;
 use crate::text_fault::TextFault;
 use pp_machine::Profile;
@@ -44,8 +43,7 @@ pub fn threads_text<T: Threads + Wait + Sync, R: Read, A: Allocator + Copy + Sen
     write_threads(rt, &NoGate, alloc, &deck, writer, limits)
 }
 
-/// Runs a deck, and then writes the text of its run. This is no method of a `DeckText`: in one, the
-/// checker does not cover a call that starts threads.
+/// Runs a deck, and then writes the text of its run.
 fn write_threads<
     T: Threads + Wait + Sync,
     G: Gate + Sync,
@@ -60,9 +58,8 @@ fn write_threads<
     limits: Limits,
 ) -> Result<(), TextFault>
     requires { ReportFitsInMemory A.row A.Allocator }
-    ensures answer { IsAnswer deck.now.profile (IsThreadsText A limits) result deck.now.bytes.now
+    ensures { IsAnswer deck.now.profile (IsThreadsText A limits) result deck.now.bytes.now
         (W.contents writer.old) (W.contents writer.new) }
-    ensures bounded { OnOk result (length deck.now.bytes.now < most_bytes) }
 {
     headline_law::<A>();
     let loaded = deck.load(alloc)?;

@@ -1,10 +1,12 @@
 use Rattle.std.proofs.Common.{length}
-use Rattle.pp_check.proofs.ChannelListLemmas.{HasFlagged}
+use Rattle.pp_channel.specs.ChannelNo.{channel_count, names_channel}
+use Rattle.pp_check.proofs.NumberListLemmas.{HasFlagged}
 use Rattle.pp_check.proofs.channel_list.listed_channels.Given as goal
-use Rattle.pp_check.specs.ChannelList.{numbers_of}
+use Rattle.pp_check.specs.LawfulTrace.{is_opened}
+use Rattle.pp_check.specs.NumberList.{numbers_of}
 
 abbrev pub invariant-numbers : goal.invariant-numbers
-invariant-numbers l = HasFlagged (numbers_of l.text) l.flags (numbers_of l.left)
+invariant-numbers l = HasFlagged names_channel channel_count is_opened (numbers_of l.text) l.flags (numbers_of l.left)
 
 abbrev pub decreases-numbers : goal.decreases-numbers
 decreases-numbers l = length l.left

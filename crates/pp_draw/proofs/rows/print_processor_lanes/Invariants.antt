@@ -7,7 +7,7 @@ use Rattle.pp_draw.proofs.rows.print_processor_lanes.Given as goal
 
 abbrev pub invariant-loop-number : goal.invariant-loop-number
 invariant-loop-number g l = record {
-  row : l.row ≡ l.channels + count_below l.number (is_named l.named);
+  row : l.row ≡ l.channels + count_below l.number (is_named l.shown);
   most : l.row ≤ l.channels + l.number;
-  lanes : Prints g.W.Write.contents l.fn.text l.text (each_below l.number (processor_lane l.window l.named l.machine l.steps));
+  lanes : Prints g.W.Write.contents l.fn.text l.text (each_below l.number (processor_lane l.window l.shown l.machine l.steps));
 }

@@ -1,15 +1,35 @@
-use Rattle.std.proofs.Common.{[], refl, rules}
+use Rattle.std.proofs.Common.{◌++◌, List, [], refl, ap, subst, ◌∙◌, drop, rules}
+use Rattle.pp_machine.specs.declared.trace.Trace.{Trace}
+use Rattle.pp_text.specs.TextWriter.{Prints}
 use Rattle.pp_text.specs.PrintingLaws.{prints_nothing}
-use Rattle.pp_sessions.specs.SessionsText.{tally_line}
-use Rattle.pp_sessions.proofs.TakeInLemmas.{takes_first, takes_more, takes_next}
+use Rattle.pp_sessions.specs.OpenStretch.{open_at}
+use Rattle.pp_sessions.specs.SessionsText.{line_and_words}
+use Rattle.pp_sessions.specs.Stretches.{words_in}
+use Rattle.pp_sessions.specs.TimedEvents.{timed_on}
+use Rattle.pp_sessions.specs.declared.moment.TimedEvent.{TimedEvent}
+use Rattle.pp_sessions.proofs.TakeInLemmas.{open_words_first, open_words_more, rest_of, takes_first, takes_more, takes_next}
 use Rattle.pp_sessions.proofs.open_stretch.take_in.Goals as goal
 
 pub returns-in_default-clause-lines : goal.returns-in_default-clause-lines
-returns-in_default-clause-lines g c = ([], prints_nothing _ _, takes_first c.args.c c.args.current.now _ c.args.event.now c.of.result (search rules) refl refl c.of.ensures.tally)
+returns-in_default-clause-lines g c = λ entry on.
+    let past = c.args.past.now in
+    let words = open_words_first c.args.c past entry ∙ ap words_in on in
+    ([], prints_nothing _ _, takes_first c.args.with_words c.args.c (open_at c.args.c past c.args.current.now) _ c.args.event.now c.of.result (search rules) refl refl c.of.ensures.tally words)
 
 pub returns-then-not-is_over-clause-lines : goal.returns-then-not-is_over-clause-lines
-returns-then-not-is_over-clause-lines g c = ([], prints_nothing _ _, takes_more c.args.c c.args.current.now _ c.args.event.now c.in-Some.tally c.with.result c.in-Some.is (search rules) refl refl c.with.ensures.tally)
+returns-then-not-is_over-clause-lines g c = λ entry on.
+    let past = c.args.past.now in
+    let old = c.args.current.now in
+    let words = open_words_more c.args.c old.start past entry c.requires.start
+    ∙ ap (λ (es : List TimedEvent). words_in (timed_on c.args.c (drop old.start past)) ++ words_in es) on in
+    ([], prints_nothing _ _, takes_more c.args.with_words c.args.c (open_at c.args.c past old) _ c.args.event.now c.in-Some.tally c.with.result c.in-Some.is (search rules) refl refl c.with.ensures.tally words)
 
 pub returns-clause-lines : goal.returns-clause-lines
-returns-clause-lines g c =
-    (tally_line c.args.c c.args.current.now.number c.in-Some.tally, c.print_stretch.ensures, takes_next c.args.c c.args.current.now _ c.args.event.now c.in-Some.tally c.of-2.result c.in-Some.is (search rules) c.next_number-current.ensures refl c.of-2.ensures.tally)
+returns-clause-lines g c = λ entry on.
+    let past = c.args.past.now in
+    let old = c.args.current.now in
+    let words = open_words_first c.args.c past entry ∙ ap words_in on in (
+      line_and_words c.args.with_words c.args.c old.number c.in-Some.tally (words_in (timed_on c.args.c (drop old.start past))),
+      subst (Prints _ _ _) (ap (λ (es : List Trace). line_and_words c.args.with_words c.args.c old.number c.in-Some.tally (words_in (timed_on c.args.c es))) (rest_of old.start past)) c.print_stretch.ensures,
+      takes_next c.args.with_words c.args.c (open_at c.args.c past old) _ c.args.event.now c.in-Some.tally c.of-2.result c.in-Some.is (search rules) c.next_number-current.ensures refl c.of-2.ensures.tally words,
+    )

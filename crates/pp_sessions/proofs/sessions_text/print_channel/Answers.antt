@@ -1,59 +1,83 @@
 use Rattle.std.proofs.Common.{◌≡◌, ◌<◌, ◌+◌, ◌∷◌, ◌++◌, [], List, length, take, sym, ap, subst, ◌∙◌, append_assoc, arith, rules}
-use Rattle.std.proofs.lemmas.List.{append-nil, take_all}
+use Rattle.std.proofs.lemmas.List.{append-nil, length-take, take_all, take_more}
 use Rattle.pp_text.specs.TextWriter.{Prints}
 use Rattle.pp_text.specs.PrintingLaws.{prints_nothing, prints_on, prints_then}
 use Rattle.pp_machine.specs.declared.trace.Trace.{Trace}
-use Rattle.pp_sessions.specs.SessionsText.{tally_line}
+use Rattle.pp_sessions.specs.OpenStretch.{TakesIn, open_at}
+use Rattle.pp_sessions.specs.SessionsText.{line_and_words}
+use Rattle.pp_sessions.specs.Stretches.{words_in}
 use Rattle.pp_sessions.specs.TimedEvents.{opening_events, timed_events, timed_on}
 use Rattle.pp_sessions.specs.declared.moment.TimedEvent.{TimedEvent}
-use Rattle.pp_sessions.proofs.TakeInLemmas.{nothing_open, takes_all, takes_nothing, takes_then, takes_these, timed_more}
+use Rattle.pp_sessions.proofs.TakeInLemmas.{nothing_open, rest_of, takes_all, takes_nothing, takes_then, takes_these, timed_more}
 use Rattle.pp_sessions.proofs.sessions_text.print_channel.Goals as goal
 
-pub loop-entry-init : goal.loop-entry-init
-loop-entry-init g c =
+pub loop-index-init : goal.loop-index-init
+loop-index-init g c =
     let made = opening_events c.args.c c.args.machine.now in
     record {
-      lines = ([], prints_nothing _ _, takes_these c.args.c nothing_open c.opening-current.result made (made ++ []) [] (sym (append-nil made)) c.opening-current.ensures.opens);
+      lines = ([], prints_nothing _ _, takes_these c.args.with_words c.args.c nothing_open (open_at c.args.c [] c.opening-current.result) made (made ++ []) [] (sym (append-nil made)) (c.opening-current.ensures.opens c.args.with_words));
       few = c.opening-current.ensures.few;
+      start = omega (arith, c.opening-current.ensures.start);
     }
 
-pub loop-entry-preserved : goal.loop-entry-preserved
-loop-entry-preserved g c =
+pub loop-index-preserved : goal.loop-index-preserved
+loop-index-preserved g c =
     let n = c.args.c in
-    let trace = c.events-entry-items.result.now in
-    let i = c.loop-entry.entry-index in
-    let entry = c.entry-item.result in
-    let within : i < length trace = omega arith in
+    let w = c.args.with_words in
+    let trace = c.events-entries.result.now in
+    let i = c.loop-index.index in
+    let entry = c.index-entries-index.result in
+    let past = take i trace in
+    let current = c.take_in_entry.new.current in
+    let within : i < length trace = c.loop-index-test.true in
     let made = opening_events n c.args.machine.now in
-    let (printed, prints, takes) = c.loop-entry.invariant.lines in
+    let (printed, prints, takes) = c.loop-index.invariant.lines in
     let (more, out, further) = c.take_in_entry.ensures.lines in
-    let events : (made ++ timed_on n (take i trace)) ++ timed_on n (entry ∷ []) ≡ made ++ timed_on n (take (i + 1) trace) =
-    append_assoc made (timed_on n (take i trace)) (timed_on n (entry ∷ [])) ∙ ap (λ (es : List TimedEvent). made ++ es) (sym (timed_more n trace i entry within c.entry-item.is)) in
+    let next : past ++ entry ∷ [] ≡ take (i + 1) trace =
+    sym (take_more trace i entry within ∙ ap (λ (e : Trace). past ++ e ∷ []) (sym c.index-entries-index.is)) in
+    let events : (made ++ timed_on n past) ++ timed_on n (entry ∷ []) ≡ made ++ timed_on n (take (i + 1) trace) =
+    append_assoc made (timed_on n past) (timed_on n (entry ∷ [])) ∙ ap (λ (es : List TimedEvent). made ++ es) (sym (timed_more n trace i entry within c.index-entries-index.is)) in
     record {
       lines = (
         printed ++ more,
         prints_then _ _ _ _ printed more prints out,
-        takes_these n nothing_open c.take_in_entry.new.current _ _ (printed ++ more) events
-            (takes_then n nothing_open c.loop-entry.current c.take_in_entry.new.current (made ++ timed_on n (take i trace)) (timed_on n (entry ∷ [])) printed more takes further),
+        subst (λ (es : List Trace). TakesIn w n nothing_open (made ++ timed_on n (take (i + 1) trace)) (printed ++ more) (open_at n es current)) next
+            (takes_these w n nothing_open (open_at n (past ++ entry ∷ []) current) _ _ (printed ++ more) events
+            (takes_then w n nothing_open (open_at n past c.loop-index.current) (open_at n (past ++ entry ∷ []) current) (made ++ timed_on n past) (timed_on n (entry ∷ [])) printed more takes further)),
       );
-      few = c.take_in_entry.ensures.few (i + 1) c.loop-entry.invariant.few;
+      few = c.take_in_entry.ensures.few (i + 1) c.loop-index.invariant.few;
+      start = omega (arith, c.take_in_entry.ensures.start, length-take i trace);
     }
 
 pub returns-in-Some : goal.returns-in-Some
 returns-in-Some g c =
     let n = c.args.c in
+    let w = c.args.with_words in
     let m = c.args.machine.now in
-    let (printed, prints, takes) = c.loop-entry.invariant.lines in
-    let all : opening_events n m ++ timed_on n (take c.loop-entry.entry-index c.events-entry-items.result.now) ≡ timed_events n m =
-    ap (λ (trace : List Trace). opening_events n m ++ timed_on n trace) (take_all c.loop-entry.entry-index c.events-entry-items.result.now (omega arith) ∙ c.events-entry-items.ensures) in
-    prints_on _ _ _ _ printed (tally_line n c.loop-entry.current.number c.in-Some.last) _ prints c.print_stretch.ensures
-    (sym (takes_all n (timed_events n m) printed c.loop-entry.current c.in-Some.last (takes_these n nothing_open c.loop-entry.current _ _ printed all takes) c.in-Some.is))
+    let trace = c.events-entries.result.now in
+    let current = c.loop-index.current in
+    let last = c.in-Some.last in
+    let (printed, prints, takes) = c.loop-index.invariant.lines in
+    let all : take c.loop-index.index trace ≡ trace = take_all c.loop-index.index trace c.loop-index-test.false in
+    let events : opening_events n m ++ timed_on n trace ≡ timed_events n m = ap (λ (es : List Trace). opening_events n m ++ timed_on n es) c.events-entries.ensures in
+    let whole : TakesIn w n nothing_open (timed_events n m) printed (open_at n trace current) =
+    takes_these w n nothing_open (open_at n trace current) _ _ printed events
+    (subst (λ (es : List Trace). TakesIn w n nothing_open (opening_events n m ++ timed_on n es) printed (open_at n es current)) all takes) in
+    prints_on _ _ _ _ printed _ _ prints c.print_stretch.ensures
+    (ap (λ (es : List Trace). printed ++ line_and_words w n current.number last (words_in (timed_on n es))) (rest_of current.start trace)
+    ∙ sym (takes_all w n (timed_events n m) printed (open_at n trace current) last whole c.in-Some.is))
 
 pub returns-in_default : goal.returns-in_default
 returns-in_default g c =
     let n = c.args.c in
+    let w = c.args.with_words in
     let m = c.args.machine.now in
-    let (printed, prints, takes) = c.loop-entry.invariant.lines in
-    let all : opening_events n m ++ timed_on n (take c.loop-entry.entry-index c.events-entry-items.result.now) ≡ timed_events n m =
-    ap (λ (trace : List Trace). opening_events n m ++ timed_on n trace) (take_all c.loop-entry.entry-index c.events-entry-items.result.now (omega arith) ∙ c.events-entry-items.ensures) in
-    subst (Prints _ _ _) (sym (takes_nothing n (timed_events n m) printed c.loop-entry.current (takes_these n nothing_open c.loop-entry.current _ _ printed all takes) (search rules))) prints
+    let trace = c.events-entries.result.now in
+    let current = c.loop-index.current in
+    let (printed, prints, takes) = c.loop-index.invariant.lines in
+    let all : take c.loop-index.index trace ≡ trace = take_all c.loop-index.index trace c.loop-index-test.false in
+    let events : opening_events n m ++ timed_on n trace ≡ timed_events n m = ap (λ (es : List Trace). opening_events n m ++ timed_on n es) c.events-entries.ensures in
+    let whole : TakesIn w n nothing_open (timed_events n m) printed (open_at n trace current) =
+    takes_these w n nothing_open (open_at n trace current) _ _ printed events
+    (subst (λ (es : List Trace). TakesIn w n nothing_open (opening_events n m ++ timed_on n es) printed (open_at n es current)) all takes) in
+    subst (Prints _ _ _) (sym (takes_nothing w n (timed_events n m) printed (open_at n trace current) whole (search rules))) prints

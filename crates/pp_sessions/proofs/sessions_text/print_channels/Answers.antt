@@ -3,7 +3,7 @@ use Rattle.pp_sessions.specs.SessionsText.{channel_lines}
 use Rattle.pp_sessions.proofs.sessions_text.print_channels.Goals as goal
 
 pub loop-number-init : goal.loop-number-init
-loop-number-init g c = rw (nothing_said (channel_lines c.args.machine.now)) (prints_nothing _ _)
+loop-number-init g c = rw (nothing_said (channel_lines c.args.with_words c.args.machine.now)) (prints_nothing _ _)
 
 pub loop-number-preserved : goal.loop-number-preserved
 loop-number-preserved g c = prints_on _ _ _ _ _ _ _ c.loop-number.invariant c.print_numbered_channel.ensures (said_goes_on c.loop-number.number _)

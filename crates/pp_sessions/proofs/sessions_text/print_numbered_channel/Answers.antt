@@ -13,4 +13,4 @@ returns-else-not-is_empty g c =
     let empty : length c.history.result.now ≡ 0 = eqb-true (length c.history.result.now) 0 (sym c.is_empty.ensures ∙ c.if-not-is_empty.false) in
     let none : c.channel.result.now ≡ [] = sym c.history.ensures.value ∙ nil_from_length c.history.result.now empty in
     let here = subst (λ k. c.channel.result.now ≡ opening_history k m ++ events_on k m.trace) c.in-Some.ensures.value c.channel.ensures.traced in
-    subst (Prints _ _ _) (sym (lines_of_none m c.args.number c.channel.result.now none here)) (prints_nothing _ _)
+    subst (Prints _ _ _) (sym (lines_of_none c.args.with_words m c.args.number c.channel.result.now none here)) (prints_nothing _ _)

@@ -1,7 +1,7 @@
 use Rattle.pp_text.specs.PrintedText.{each_below}
 use Rattle.pp_text.specs.TextWriter.{Prints}
-use Rattle.pp_sessions.specs.SessionsText.{named_counts_line}
+use Rattle.pp_sessions.specs.SessionsText.{shown_counts_line}
 use Rattle.pp_sessions.proofs.sessions_text.print_processors.Given as goal
 
 abbrev pub invariant-loop-number : goal.invariant-loop-number
-invariant-loop-number g l = Prints g.W.Write.contents l.fn.text l.text (each_below l.number (named_counts_line l.named l.counts))
+invariant-loop-number g l = Prints g.W.Write.contents l.fn.text l.text (each_below l.number (shown_counts_line l.shown l.counts))

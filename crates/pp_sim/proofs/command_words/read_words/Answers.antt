@@ -1,7 +1,7 @@
 use Rattle.std.proofs.Common.{None}
 use Rattle.clap.specs.Words.{found_of}
 use Rattle.pp_sim.specs.CommandLine.{AsksForMoreAmong, IsWorkAmong}
-use Rattle.pp_sim.proofs.CommandLemmas.{met_command, met_none, more_by_rows, more_by_values, refused_words, taken_words, work_by_rows, work_by_values}
+use Rattle.pp_sim.proofs.CommandLemmas.{met_command, met_none, refused_words, taken_words}
 use Rattle.pp_sim.proofs.command_words.read_words.Goals as goal
 
 pub returns-in-Err-clause-refused : goal.returns-in-Err-clause-refused
@@ -14,16 +14,15 @@ pub returns-in-Some-work_of-clause-work : goal.returns-in-Some-work_of-clause-wo
 returns-in-Some-work_of-clause-work c =
     let e = met_command _ _ c.in-Ok-try_get_matches_from.matches c.in-Some.name.now (found_of c.in-Some.inner.now)
     c.in-Ok.ensures c.in-Ok-try_get_matches_from.ensures.matches c.in-Some.ensures.name c.in-Some.ensures.rows in
-    rw e (work_by_rows c.in-Some.name.now (found_of c.in-Some.inner.now) c.in-Some-work_of.work c.in-Some-work_of.ensures)
+    rw e c.in-Some-work_of.ensures
 
 pub returns-in-Some-clause-refused : goal.returns-in-Some-clause-refused
 returns-in-Some-clause-refused c =
     let e = met_command _ _ c.in-Ok-try_get_matches_from.matches c.in-Some.name.now (found_of c.in-Some.inner.now)
     c.in-Ok.ensures c.in-Ok-try_get_matches_from.ensures.matches c.in-Some.ensures.name c.in-Some.ensures.rows in (
       taken_words _ _ c.in-Ok.ensures c.in-Ok-try_get_matches_from.ensures.kinds,
-      λ work k. c.in-None-work_of.ensures work (work_by_values c.in-Some.name.now (found_of c.in-Some.inner.now) work (rw e at k)),
-      λ k. let asked = more_by_values c.in-Some.name.now (found_of c.in-Some.inner.now) (rw e at k) in
-          let is = c.asks_for_more.ensures.1 asked in let not = c.if-asks_for_more.false in cc,
+      λ work k. c.in-None-work_of.ensures work (rw e at k),
+      λ k. let is = c.asks_for_more.ensures.1 (rw e at k) in let not = c.if-asks_for_more.false in cc,
     )
 
 pub returns-in-None-work_of-clause-refused : goal.returns-in-None-work_of-clause-refused
@@ -31,8 +30,8 @@ returns-in-None-work_of-clause-refused c =
     let e = met_command _ _ c.in-Ok-try_get_matches_from.matches c.in-Some.name.now (found_of c.in-Some.inner.now)
     c.in-Ok.ensures c.in-Ok-try_get_matches_from.ensures.matches c.in-Some.ensures.name c.in-Some.ensures.rows in (
       taken_words _ _ c.in-Ok.ensures c.in-Ok-try_get_matches_from.ensures.kinds,
-      λ work k. c.in-None-work_of.ensures work (work_by_values c.in-Some.name.now (found_of c.in-Some.inner.now) work (rw e at k)),
-      rw e (more_by_rows c.in-Some.name.now (found_of c.in-Some.inner.now) (c.asks_for_more.ensures.0 c.if-asks_for_more.true)),
+      λ work k. c.in-None-work_of.ensures work (rw e at k),
+      rw e (c.asks_for_more.ensures.0 c.if-asks_for_more.true),
     )
 
 pub returns-clause-refused : goal.returns-clause-refused

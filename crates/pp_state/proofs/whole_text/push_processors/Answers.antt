@@ -5,4 +5,4 @@ pub loop-number-init : goal.loop-number-init
 loop-number-init g c = nothing_said _ _
 
 pub loop-number-preserved : goal.loop-number-preserved
-loop-number-preserved g c = more_said _ _ _ _ _ c.loop-number.invariant c.in_ok-push_named_processor.ensures
+loop-number-preserved g c = more_said _ _ _ _ _ c.loop-number.invariant c.in_ok-push_shown_processor.ensures

@@ -4,4 +4,4 @@ use Rattle.pp_state.specs.StateText.{standing_line}
 use Rattle.pp_state.proofs.whole_text.push_processors.Given as goal
 
 abbrev pub invariant-loop-number : goal.invariant-loop-number
-invariant-loop-number g l = l.text.items ≡ l.fn.text.items ++ each_below l.number (standing_line l.named l.machine l.held)
+invariant-loop-number g l = l.text.items ≡ l.fn.text.items ++ each_below l.number (standing_line l.shown l.machine l.held)

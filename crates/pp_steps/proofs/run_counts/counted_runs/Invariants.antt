@@ -1,10 +1,11 @@
 use Rattle.pp_machine.specs.Run.{barrel, run}
-use Rattle.pp_steps.specs.BareMachine.{StandsFor}
+use Rattle.pp_bare.specs.BareMachine.{StandsFor}
+use Rattle.pp_steps.specs.Choice.{chosen_steps}
 use Rattle.pp_steps.proofs.CountedRuns.{AreCountedSoFar}
 use Rattle.pp_steps.proofs.run_counts.counted_runs.Given as goal
 
 abbrev pub invariant-loop-turn : goal.invariant-loop-turn
 invariant-loop-turn g l = record {
   stands : StandsFor l.bare (run (barrel l.fn.machine.profile l.turn) l.fn.machine);
-  counted : AreCountedSoFar l.fn.named l.turn l.fn.machine.profile l.fn.machine l.runs.items;
+  counted : AreCountedSoFar l.turn (chosen_steps l.fn.choice (barrel l.fn.machine.profile l.turn) l.fn.machine) l.runs.items;
 }

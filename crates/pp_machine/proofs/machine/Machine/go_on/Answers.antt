@@ -19,8 +19,8 @@ use Rattle.pp_machine.proofs.machine.Machine.go_on.Goals as goal
 pub run_inner-requires : goal.run_inner-requires
 run_inner-requires g c =
     let within : c.index-i.result < length c.self.inside.processors.items = omega (arith, c.index-i.ensures.below, c.self.invariant.processors) in
-    let read = own_processor c.args.n c.self.view_is c.index-i.ensures.place within c.at.ensures in
-    let lent = own_processor c.args.n c.self.view_is c.index-i.ensures.place within c.at_mut.ensures.value in
+    let read = own_processor c.args.n c.self.view_is c.index-i.ensures.place within c.index.ensures in
+    let lent = own_processor c.args.n c.self.view_is c.index-i.ensures.place within c.index_mut.ensures.value in
     subst (λ (pp : Processor). IsNext (Some c.in-Some.op) c.next_instruction-next.result.1 pp) (read ∙ sym lent) (rw c.in-Some.is at c.next_instruction-next.ensures)
 
 pub invariant_of-self : goal.invariant_of-self
@@ -34,13 +34,13 @@ invariant_of-self g c = record {
 
 pub returns-then-run_inner-clause-ok : goal.returns-then-run_inner-clause-ok
 returns-then-run_inner-clause-ok g c =
-    let own = own_processor c.args.n c.self.view_is c.index-i.ensures.place (omega (arith, c.index-i.ensures.below, c.self.invariant.processors)) c.at_mut.ensures.value in
+    let own = own_processor c.args.n c.self.view_is c.index-i.ensures.place (omega (arith, c.index-i.ensures.below, c.self.invariant.processors)) c.index_mut.ensures.value in
     let local : need (processor_of c.args.n c.args.self.now) ≡ Local = ap need (sym own) ∙ c.if-run_inner.ensures.local in
     taken_by c.args.n answers.Local c.self.view_is c.index-i.ensures.place own c.if-run_inner.ensures.after c.count_turn.ensures.turn ∙ sym (stepped_alone c.args.n c.args.self.now local)
 
 pub returns-then-run_inner-clause-outcome : goal.returns-then-run_inner-clause-outcome
 returns-then-run_inner-clause-outcome g c =
-    let own = own_processor c.args.n c.self.view_is c.index-i.ensures.place (omega (arith, c.index-i.ensures.below, c.self.invariant.processors)) c.at_mut.ensures.value in
+    let own = own_processor c.args.n c.self.view_is c.index-i.ensures.place (omega (arith, c.index-i.ensures.below, c.self.invariant.processors)) c.index_mut.ensures.value in
     let local : need (processor_of c.args.n c.args.self.now) ≡ Local = ap need (sym own) ∙ c.if-run_inner.ensures.local in
     sym (outcome_alone c.args.n c.args.self.now local (ap (λ pp. outcome pp answers.Local) (sym own) ∙ c.if-run_inner.ensures.moved))
 
@@ -50,9 +50,9 @@ returns-then-run_inner-clause-no_event g c = λ none. refl
 pub tests_flags-requires : goal.tests_flags-requires
 tests_flags-requires g c =
     let within : c.index-i.result < length c.self.inside.processors.items = omega (arith, c.index-i.ensures.below, c.self.invariant.processors) in
-    let read = own_processor c.args.n c.self.view_is c.index-i.ensures.place within c.at.ensures in
-    let again = own_processor c.args.n (same_machine c.index-i.result c.self.view_is c.at_mut.ensures.value c.if-run_inner.ensures.otherwise) c.index-i.ensures.place
-    (subst (λ k. c.index-i.result < k) (sym (length-set c.self.inside.processors.items c.index-i.result c.run_inner.new.self)) within) c.at-in-Some.ensures in
+    let read = own_processor c.args.n c.self.view_is c.index-i.ensures.place within c.index.ensures in
+    let again = own_processor c.args.n (same_machine c.index-i.result c.self.view_is c.index_mut.ensures.value c.if-run_inner.ensures.otherwise) c.index-i.ensures.place
+    (subst (λ k. c.index-i.result < k) (sym (length-set c.self.inside.processors.items c.index-i.result c.run_inner.new.self)) within) c.index-in-Some.ensures in
     subst (λ (pp : Processor). IsNext (Some c.in-Some.op) c.next_instruction-next.result.1 pp) (read ∙ sym again) (rw c.in-Some.is at c.next_instruction-next.ensures)
 
 pub invariant_of-self-then-tests_flags : goal.invariant_of-self-then-tests_flags
@@ -66,25 +66,25 @@ invariant_of-self-then-tests_flags g c = record {
 
 pub test_flags-requires-clause-next : goal.test_flags-requires-clause-next
 test_flags-requires-clause-next g c =
-    let read = own_processor c.args.n c.self.view_is c.index-i.ensures.place (omega (arith, c.index-i.ensures.below, c.self.invariant.processors)) c.at.ensures in
-    subst (λ (m : MachineState). IsNext (Some c.in-Some.op) c.next_instruction-next.result.1 (processor_of c.args.n m)) (sym (same_machine c.index-i.result c.self.view_is c.at_mut.ensures.value c.if-run_inner.ensures.otherwise))
+    let read = own_processor c.args.n c.self.view_is c.index-i.ensures.place (omega (arith, c.index-i.ensures.below, c.self.invariant.processors)) c.index.ensures in
+    subst (λ (m : MachineState). IsNext (Some c.in-Some.op) c.next_instruction-next.result.1 (processor_of c.args.n m)) (sym (same_machine c.index-i.result c.self.view_is c.index_mut.ensures.value c.if-run_inner.ensures.otherwise))
     (subst (λ (pp : Processor). IsNext (Some c.in-Some.op) c.next_instruction-next.result.1 pp) read (rw c.in-Some.is at c.next_instruction-next.ensures))
 
 pub test_flags-requires-clause-probes : goal.test_flags-requires-clause-probes
 test_flags-requires-clause-probes g c =
     let within : c.index-i.result < length c.self.inside.processors.items = omega (arith, c.index-i.ensures.below, c.self.invariant.processors) in
-    let same = same_machine c.index-i.result c.self.view_is c.at_mut.ensures.value c.if-run_inner.ensures.otherwise in
+    let same = same_machine c.index-i.result c.self.view_is c.index_mut.ensures.value c.if-run_inner.ensures.otherwise in
     let again = own_processor c.args.n same c.index-i.ensures.place
-    (subst (λ k. c.index-i.result < k) (sym (length-set c.self.inside.processors.items c.index-i.result c.run_inner.new.self)) within) c.at-in-Some.ensures in
+    (subst (λ k. c.index-i.result < k) (sym (length-set c.self.inside.processors.items c.index-i.result c.run_inner.new.self)) within) c.index-in-Some.ensures in
     let once_more = own_processor c.args.n same c.index-i.ensures.place
-    (subst (λ k. c.index-i.result < k) (sym (length-set c.self.inside.processors.items c.index-i.result c.run_inner.new.self)) within) c.at-then-tests_flags.ensures in
+    (subst (λ k. c.index-i.result < k) (sym (length-set c.self.inside.processors.items c.index-i.result c.run_inner.new.self)) within) c.index-then-tests_flags.ensures in
     ap (λ (m : MachineState). need (processor_of c.args.n m)) same ∙ (ap need (sym again) ∙ c.if-tests_flags.ensures ∙ ap (λ p. if has_channel p c.next_instruction-next.result.1 then Channel c.next_instruction-next.result.1 Probe else Local) (ap (λ (pp : Processor). pp.profile) (again ∙ sym once_more) ∙ sym c.profile-profile.ensures))
 
 pub returns-then-tests_flags-clause-ok : goal.returns-then-tests_flags-clause-ok
-returns-then-tests_flags-clause-ok g c = c.test_flags.ensures.stepped ∙ ap (stepped c.args.n) (same_machine c.index-i.result c.self.view_is c.at_mut.ensures.value c.if-run_inner.ensures.otherwise)
+returns-then-tests_flags-clause-ok g c = c.test_flags.ensures.stepped ∙ ap (stepped c.args.n) (same_machine c.index-i.result c.self.view_is c.index_mut.ensures.value c.if-run_inner.ensures.otherwise)
 
 pub returns-then-tests_flags-clause-outcome : goal.returns-then-tests_flags-clause-outcome
-returns-then-tests_flags-clause-outcome g c = sym c.test_flags.ensures.outcome ∙ ap (step_outcome c.args.n) (same_machine c.index-i.result c.self.view_is c.at_mut.ensures.value c.if-run_inner.ensures.otherwise)
+returns-then-tests_flags-clause-outcome g c = sym c.test_flags.ensures.outcome ∙ ap (step_outcome c.args.n) (same_machine c.index-i.result c.self.view_is c.index_mut.ensures.value c.if-run_inner.ensures.otherwise)
 
 pub invariant_of-self-else-tests_flags : goal.invariant_of-self-else-tests_flags
 invariant_of-self-else-tests_flags g c = record {
@@ -98,16 +98,16 @@ invariant_of-self-else-tests_flags g c = record {
 pub step_with_answer-requires-clause-place : goal.step_with_answer-requires-clause-place
 step_with_answer-requires-clause-place g c =
     let same : c.match-next.self ≡ c.args.self.now = elim c.match-next.branch [
-      | in-Some+else-run_inner+else-tests_flags w ↦ w.self-is ∙ same_machine c.index-i.result c.self.view_is w.at_mut.ensures.value w.if-run_inner.ensures.otherwise
+      | in-Some+else-run_inner+else-tests_flags w ↦ w.self-is ∙ same_machine c.index-i.result c.self.view_is w.index_mut.ensures.value w.if-run_inner.ensures.otherwise
       | in_default w ↦ w.self-is
     ] in
     subst (λ (m : MachineState). processor_index c.args.n < processors_in m.profile) (sym same) c.requires.place
 
 pub step_with_answer-requires-clause-next : goal.step_with_answer-requires-clause-next
 step_with_answer-requires-clause-next g c =
-    let read = own_processor c.args.n c.self.view_is c.index-i.ensures.place (omega (arith, c.index-i.ensures.below, c.self.invariant.processors)) c.at.ensures in
+    let read = own_processor c.args.n c.self.view_is c.index-i.ensures.place (omega (arith, c.index-i.ensures.below, c.self.invariant.processors)) c.index.ensures in
     let same : c.match-next.self ≡ c.args.self.now = elim c.match-next.branch [
-      | in-Some+else-run_inner+else-tests_flags w ↦ w.self-is ∙ same_machine c.index-i.result c.self.view_is w.at_mut.ensures.value w.if-run_inner.ensures.otherwise
+      | in-Some+else-run_inner+else-tests_flags w ↦ w.self-is ∙ same_machine c.index-i.result c.self.view_is w.index_mut.ensures.value w.if-run_inner.ensures.otherwise
       | in_default w ↦ w.self-is
     ] in
     subst (λ (pp : Processor). IsNext c.next_instruction-next.result.0 c.next_instruction-next.result.1 pp) (read ∙ ap (processor_of c.args.n) (sym same)) c.next_instruction-next.ensures
@@ -115,7 +115,7 @@ step_with_answer-requires-clause-next g c =
 pub returns-clause-ok : goal.returns-clause-ok
 returns-clause-ok g c =
     let same : c.match-next.self ≡ c.args.self.now = elim c.match-next.branch [
-      | in-Some+else-run_inner+else-tests_flags w ↦ w.self-is ∙ same_machine c.index-i.result c.self.view_is w.at_mut.ensures.value w.if-run_inner.ensures.otherwise
+      | in-Some+else-run_inner+else-tests_flags w ↦ w.self-is ∙ same_machine c.index-i.result c.self.view_is w.index_mut.ensures.value w.if-run_inner.ensures.otherwise
       | in_default w ↦ w.self-is
     ] in
     subst (λ (m : MachineState). OnOk c.step_with_answer.result (c.step_with_answer.new.self ≡ stepped c.args.n m)) same c.step_with_answer.ensures.ok
@@ -123,7 +123,7 @@ returns-clause-ok g c =
 pub returns-clause-outcome : goal.returns-clause-outcome
 returns-clause-outcome g c =
     let same : c.match-next.self ≡ c.args.self.now = elim c.match-next.branch [
-      | in-Some+else-run_inner+else-tests_flags w ↦ w.self-is ∙ same_machine c.index-i.result c.self.view_is w.at_mut.ensures.value w.if-run_inner.ensures.otherwise
+      | in-Some+else-run_inner+else-tests_flags w ↦ w.self-is ∙ same_machine c.index-i.result c.self.view_is w.index_mut.ensures.value w.if-run_inner.ensures.otherwise
       | in_default w ↦ w.self-is
     ] in
     subst (λ (m : MachineState). IfOk c.step_with_answer.result (λ o. o ≡ step_outcome c.args.n m)) same c.step_with_answer.ensures.outcome

@@ -11,7 +11,7 @@ use Rattle.pp_machine.proofs.machine.Machine.let_wait.Goals as goal
 pub invariant_of-self : goal.invariant_of-self
 invariant_of-self g c =
     let inside = c.self.inside in
-    let m : MachineState = record { profile = inside.processors.profile; processors = inside.processors.items; histories = inside.channels.items; central = inside.central; turns = inside.turns; trace = inside.trace.items; opened = inside.opened } in
+    let m : MachineState = record { profile = inside.profile; processors = inside.processors.items; histories = inside.channels.items; central = inside.central; turns = inside.turns; trace = inside.trace.items; opened = inside.opened } in
     let n = c.args.n in
     let place : c.index-i.result ≡ channel_index n = c.index-i.ensures.place ∙ ap channel_index c.own_channel-own.ensures.value in
     let histories : c.put_channel.new.channels.items ≡ slice_set inside.channels.items (channel_index n) (Activate ∷ []) =

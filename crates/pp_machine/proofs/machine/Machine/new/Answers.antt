@@ -8,7 +8,6 @@ use Rattle.pp_channel.specs.declared.event.Event.TheVariants.{Activate}
 use Rattle.pp_machine.specs.Headline.{HoldsOnChannel, events_on}
 use Rattle.pp_machine.specs.Processor.{new_processor}
 use Rattle.pp_machine.specs.PpNo.{processor_count}
-use Rattle.pp_machine.specs.Processors.{AllProcessors}
 use Rattle.pp_machine.specs.declared.trace.Trace.{Trace}
 use Rattle.pp_machine.proofs.HeadlineLemmas.{none_opened}
 use Rattle.pp_machine.proofs.machine.Machine.new.Goals as goal
@@ -17,12 +16,12 @@ pub invariant_of-result : goal.invariant_of-result
 invariant_of-result g c =
     let histories = c.in_ok-new_channels.field-0.items in
     record {
-      processors = ap (λ (all : AllProcessors). length all.items) c.in_ok-new.ensures ∙ length-replicate processor_count (new_processor c.args.profile);
+      processors = ap length c.in_ok-new_processors.ensures ∙ length-replicate processor_count (new_processor c.args.profile);
       channels = ap length c.in_ok-new_channels.ensures.items ∙ length-replicate {A = List Event} channel_count [];
       opened = length-replicate channel_count false;
       central = c.in_ok-central.ensures.sound;
       headline = λ k names.
           let P : Bool → Type 0 = λ opened. HoldsOnChannel (if opened then Activate ∷ [] else []) [] (get_or histories (channel_index k) []) in
           let Q : List Trace → Type 0 = λ trace. HoldsOnChannel (if get_or (replicate channel_count false) (channel_index k) false then Activate ∷ [] else []) (events_on k trace) (get_or histories (channel_index k) []) in
-          subst Q (sym c.new-3.ensures.items) (subst P (sym (none_opened channel_count (channel_index k))) (c.in_ok-new_channels.ensures.headline (channel_index k) (place_below k names)));
+          subst Q (sym c.new-2.ensures.items) (subst P (sym (none_opened channel_count (channel_index k))) (c.in_ok-new_channels.ensures.headline (channel_index k) (place_below k names)));
     }

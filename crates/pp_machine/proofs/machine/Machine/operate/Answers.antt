@@ -67,7 +67,7 @@ returns-in-Ok-clause-ok g c =
     let n = c.args.n in
     let x : Need = Channel c.args.channel c.args.op in
     let entry : Trace = record { turn = inside.turns; pp = n; channel = c.args.channel; event = c.in-Some.event } in
-    let before : MachineState = record { profile = inside.processors.profile; processors = inside.processors.items; histories = inside.channels.items; central = inside.central; turns = inside.turns; trace = inside.trace.items; opened = inside.opened } in
+    let before : MachineState = record { profile = inside.profile; processors = inside.processors.items; histories = inside.channels.items; central = inside.central; turns = inside.turns; trace = inside.trace.items; opened = inside.opened } in
     let one : event_of c.args.op (history_of c.args.channel before) ≡ Some c.in-Some.event = ap (λ (m : MachineState). event_of c.args.op (history_of c.args.channel m)) c.self.view_is ∙ made in
     ap (λ (hs : List (List Event)). record before { histories = hs; trace = c.push.new.self.items }) c.in-Ok.ensures.ok
     ∙ ap (λ (t : List Trace). record before { histories = histories_after x before; trace = t }) c.in_ok-push-in-Some.ensures.items

@@ -5,7 +5,6 @@ use Rattle.pp_machine.specs.Processor.{Processor}
 use Rattle.pp_machine.specs.PpNo.{processor_count}
 use Rattle.pp_machine.specs.Profile.{processors_in}
 use Rattle.pp_machine.specs.Quiet.{AreAhead}
-use Rattle.pp_machine.specs.declared.profile.Profile.{Profile}
 use Rattle.pp_machine.specs.ProfilePlaces.{most_processors}
 use Rattle.pp_machine.proofs.QuietLemmas.{rounds_ahead}
 use Rattle.pp_machine.proofs.machine.Machine.run_quiet_rounds.Goals as goal
@@ -37,7 +36,6 @@ returns-clause-ran g c =
     let counted : turns ≡ min (now.turns + rounds * processors_in p) (2 ^ 64 - 1) = omega (arith, was, product, c.saturating_add-self-inside.ensures) in
     let ahead : AreAhead rounds c.round-round.result 0 now now.processors new = subst (λ (ps : List Processor). AreAhead rounds c.round-round.result 0 now ps new) old (c.run_ahead-rounds.ensures.ahead now histories) in
     let by_rounds : AreAhead rounds (processors_in p) 0 now now.processors new = subst (λ round. AreAhead rounds round 0 now now.processors new) round ahead in
-    ap (λ (profile : Profile). record { profile = profile; histories = c.self.inside.channels.items; central = c.self.inside.central; trace = c.self.inside.trace.items; opened = c.self.inside.opened; processors = new; turns = turns }) c.run_ahead-rounds.ensures.profile
-    ∙ ap (λ (n : MachineState). record n { processors = new; turns = turns }) c.self.view_is
+    ap (λ (n : MachineState). record n { processors = new; turns = turns }) c.self.view_is
     ∙ ap (λ t. record now { processors = new; turns = t }) counted
     ∙ rounds_ahead p rounds now new (omega arith) bound by_rounds

@@ -16,10 +16,10 @@ use Rattle.pp_machine.proofs.machine.Machine.step_with_answer.Goals as goal
 
 pub wants_next-requires : goal.wants_next-requires
 wants_next-requires g c =
-    subst (λ (pp : Processor). IsNext c.args.next.now c.args.d pp) (sym (own_processor c.args.n c.self.view_is c.index-i.ensures.place (omega (arith, c.index-i.ensures.below, c.self.invariant.processors)) c.at.ensures)) c.requires.next
+    subst (λ (pp : Processor). IsNext c.args.next.now c.args.d pp) (sym (own_processor c.args.n c.self.view_is c.index-i.ensures.place (omega (arith, c.index-i.ensures.below, c.self.invariant.processors)) c.index.ensures)) c.requires.next
 
 pub give_local-outcome-requires-clause-next : goal.give_local-outcome-requires-clause-next
-give_local-outcome-requires-clause-next g c = subst (λ (pp : Processor). IsNext c.args.next.now c.args.d pp) (sym (own_processor c.args.n c.self.view_is c.index-i.ensures.place (omega (arith, c.index-i.ensures.below, c.self.invariant.processors)) c.at_mut.ensures.value)) c.requires.next
+give_local-outcome-requires-clause-next g c = subst (λ (pp : Processor). IsNext c.args.next.now c.args.d pp) (sym (own_processor c.args.n c.self.view_is c.index-i.ensures.place (omega (arith, c.index-i.ensures.below, c.self.invariant.processors)) c.index_mut.ensures.value)) c.requires.next
 
 pub invariant_of-self : goal.invariant_of-self
 invariant_of-self g c = record {
@@ -31,7 +31,7 @@ invariant_of-self g c = record {
 }
 
 pub give_reply-outcome-requires-clause-next : goal.give_reply-outcome-requires-clause-next
-give_reply-outcome-requires-clause-next g c = subst (λ (pp : Processor). IsNext c.args.next.now c.args.d pp) (sym (own_processor c.args.n (c.self-in-Channel.view_is ∙ c.in_ok-reply-in-Channel.ensures.ok) c.index-i.ensures.place (omega (arith, c.index-i.ensures.below, c.self-in-Channel.invariant.processors)) c.at_mut-in-Channel.ensures.value)) c.requires.next
+give_reply-outcome-requires-clause-next g c = subst (λ (pp : Processor). IsNext c.args.next.now c.args.d pp) (sym (own_processor c.args.n (c.self-in-Channel.view_is ∙ c.in_ok-reply-in-Channel.ensures.ok) c.index-i.ensures.place (omega (arith, c.index-i.ensures.below, c.self-in-Channel.invariant.processors)) c.index_mut-in-Channel.ensures.value)) c.requires.next
 
 pub invariant_of-self-in-Channel : goal.invariant_of-self-in-Channel
 invariant_of-self-in-Channel g c = record {
@@ -43,12 +43,12 @@ invariant_of-self-in-Channel g c = record {
 }
 
 pub give_central-requires-clause-next : goal.give_central-requires-clause-next
-give_central-requires-clause-next g c = subst (λ (pp : Processor). IsNext c.args.next.now c.args.d pp) (sym (own_processor c.args.n c.self.view_is c.index-i.ensures.place (omega (arith, c.index-i.ensures.below, c.self.invariant.processors)) c.at_mut-in-Read.ensures.value)) c.requires.next
+give_central-requires-clause-next g c = subst (λ (pp : Processor). IsNext c.args.next.now c.args.d pp) (sym (own_processor c.args.n c.self.view_is c.index-i.ensures.place (omega (arith, c.index-i.ensures.below, c.self.invariant.processors)) c.index_mut-in-Read.ensures.value)) c.requires.next
 
 pub give_central-requires-clause-fits : goal.give_central-requires-clause-fits
 give_central-requires-clause-fits g c =
-    let needs : need (processor_of c.args.n c.args.self.now) ≡ Read c.in-Read.address = ap need (sym (own_processor c.args.n c.self.view_is c.index-i.ensures.place (omega (arith, c.index-i.ensures.below, c.self.invariant.processors)) c.at.ensures)) ∙ (sym c.wants_next.ensures ∙ c.in-Read.is) in
-    let own = own_processor c.args.n c.self.view_is c.index-i.ensures.place (omega (arith, c.index-i.ensures.below, c.self.invariant.processors)) c.at_mut-in-Read.ensures.value in
+    let needs : need (processor_of c.args.n c.args.self.now) ≡ Read c.in-Read.address = ap need (sym (own_processor c.args.n c.self.view_is c.index-i.ensures.place (omega (arith, c.index-i.ensures.below, c.self.invariant.processors)) c.index.ensures)) ∙ (sym c.wants_next.ensures ∙ c.in-Read.is) in
+    let own = own_processor c.args.n c.self.view_is c.index-i.ensures.place (omega (arith, c.index-i.ensures.below, c.self.invariant.processors)) c.index_mut-in-Read.ensures.value in
     subst (λ (x : Need). IsTrue (fits x (answers.Read c.read-word.result))) (sym (ap need own ∙ needs)) refl
 
 pub invariant_of-self-in-Read : goal.invariant_of-self-in-Read
@@ -61,12 +61,12 @@ invariant_of-self-in-Read g c = record {
 }
 
 pub give_written-requires-clause-next : goal.give_written-requires-clause-next
-give_written-requires-clause-next g c = subst (λ (pp : Processor). IsNext c.args.next.now c.args.d pp) (sym (own_processor c.args.n c.self.view_is c.index-i.ensures.place (omega (arith, c.index-i.ensures.below, c.self.invariant.processors)) c.at_mut-in-Write.ensures.value)) c.requires.next
+give_written-requires-clause-next g c = subst (λ (pp : Processor). IsNext c.args.next.now c.args.d pp) (sym (own_processor c.args.n c.self.view_is c.index-i.ensures.place (omega (arith, c.index-i.ensures.below, c.self.invariant.processors)) c.index_mut-in-Write.ensures.value)) c.requires.next
 
 pub give_written-requires-clause-fits : goal.give_written-requires-clause-fits
 give_written-requires-clause-fits g c =
-    let needs : need (processor_of c.args.n c.args.self.now) ≡ Write c.in-Write.address c.in-Write.word = ap need (sym (own_processor c.args.n c.self.view_is c.index-i.ensures.place (omega (arith, c.index-i.ensures.below, c.self.invariant.processors)) c.at.ensures)) ∙ (sym c.wants_next.ensures ∙ c.in-Write.is) in
-    let own = own_processor c.args.n c.self.view_is c.index-i.ensures.place (omega (arith, c.index-i.ensures.below, c.self.invariant.processors)) c.at_mut-in-Write.ensures.value in
+    let needs : need (processor_of c.args.n c.args.self.now) ≡ Write c.in-Write.address c.in-Write.word = ap need (sym (own_processor c.args.n c.self.view_is c.index-i.ensures.place (omega (arith, c.index-i.ensures.below, c.self.invariant.processors)) c.index.ensures)) ∙ (sym c.wants_next.ensures ∙ c.in-Write.is) in
+    let own = own_processor c.args.n c.self.view_is c.index-i.ensures.place (omega (arith, c.index-i.ensures.below, c.self.invariant.processors)) c.index_mut-in-Write.ensures.value in
     subst (λ (x : Need). IsTrue (fits x (answers.Wrote (nat_lt c.get.result c.size.result)))) (sym (ap need own ∙ needs)) refl
 
 pub invariant_of-self-in-Write : goal.invariant_of-self-in-Write
@@ -83,8 +83,8 @@ returns-in_ok-reply-in-Channel-clause-ok g c =
     let n = c.args.n in
     let m = c.args.self.now in
     let x : Need = Channel c.in-Channel.channel c.in-Channel.op in
-    let needs : need (processor_of c.args.n c.args.self.now) ≡ x = ap need (sym (own_processor c.args.n c.self.view_is c.index-i.ensures.place (omega (arith, c.index-i.ensures.below, c.self.invariant.processors)) c.at.ensures)) ∙ (sym c.wants_next.ensures ∙ c.in-Channel.is) in
-    let own = own_processor c.args.n (c.self-in-Channel.view_is ∙ c.in_ok-reply-in-Channel.ensures.ok) c.index-i.ensures.place (omega (arith, c.index-i.ensures.below, c.self-in-Channel.invariant.processors)) c.at_mut-in-Channel.ensures.value in
+    let needs : need (processor_of c.args.n c.args.self.now) ≡ x = ap need (sym (own_processor c.args.n c.self.view_is c.index-i.ensures.place (omega (arith, c.index-i.ensures.below, c.self.invariant.processors)) c.index.ensures)) ∙ (sym c.wants_next.ensures ∙ c.in-Channel.is) in
+    let own = own_processor c.args.n (c.self-in-Channel.view_is ∙ c.in_ok-reply-in-Channel.ensures.ok) c.index-i.ensures.place (omega (arith, c.index-i.ensures.below, c.self-in-Channel.invariant.processors)) c.index_mut-in-Channel.ensures.value in
     taken_by n (answers.Channel c.in_ok-reply-in-Channel.reply) (c.self-in-Channel.view_is ∙ c.in_ok-reply-in-Channel.ensures.ok) c.index-i.ensures.place own c.give_reply-outcome.ensures.after c.count_turn-in-Channel.ensures.turn
     ∙ (ap (λ (y : Answer). taken n y (served n x m)) c.in_ok-reply-in-Channel.ensures.reply ∙ sym (stepped_for n x m needs))
 
@@ -93,8 +93,8 @@ returns-in_ok-reply-in-Channel-clause-outcome g c =
     let n = c.args.n in
     let m = c.args.self.now in
     let x : Need = Channel c.in-Channel.channel c.in-Channel.op in
-    let needs : need (processor_of c.args.n c.args.self.now) ≡ x = ap need (sym (own_processor c.args.n c.self.view_is c.index-i.ensures.place (omega (arith, c.index-i.ensures.below, c.self.invariant.processors)) c.at.ensures)) ∙ (sym c.wants_next.ensures ∙ c.in-Channel.is) in
-    let own = own_processor c.args.n (c.self-in-Channel.view_is ∙ c.in_ok-reply-in-Channel.ensures.ok) c.index-i.ensures.place (omega (arith, c.index-i.ensures.below, c.self-in-Channel.invariant.processors)) c.at_mut-in-Channel.ensures.value in
+    let needs : need (processor_of c.args.n c.args.self.now) ≡ x = ap need (sym (own_processor c.args.n c.self.view_is c.index-i.ensures.place (omega (arith, c.index-i.ensures.below, c.self.invariant.processors)) c.index.ensures)) ∙ (sym c.wants_next.ensures ∙ c.in-Channel.is) in
+    let own = own_processor c.args.n (c.self-in-Channel.view_is ∙ c.in_ok-reply-in-Channel.ensures.ok) c.index-i.ensures.place (omega (arith, c.index-i.ensures.below, c.self-in-Channel.invariant.processors)) c.index_mut-in-Channel.ensures.value in
     c.give_reply-outcome.ensures.outcome
     ∙ (ap (λ (pp : Processor). outcome pp (answers.Channel c.in_ok-reply-in-Channel.reply)) own
     ∙ (ap (λ (y : Answer). outcome (processor_of n m) y) c.in_ok-reply-in-Channel.ensures.reply ∙ sym (outcome_for n x m needs)))
@@ -104,8 +104,8 @@ returns-in-Read-clause-ok g c =
     let n = c.args.n in
     let m = c.args.self.now in
     let x : Need = Read c.in-Read.address in
-    let needs : need (processor_of c.args.n c.args.self.now) ≡ x = ap need (sym (own_processor c.args.n c.self.view_is c.index-i.ensures.place (omega (arith, c.index-i.ensures.below, c.self.invariant.processors)) c.at.ensures)) ∙ (sym c.wants_next.ensures ∙ c.in-Read.is) in
-    let own = own_processor c.args.n c.self.view_is c.index-i.ensures.place (omega (arith, c.index-i.ensures.below, c.self.invariant.processors)) c.at_mut-in-Read.ensures.value in
+    let needs : need (processor_of c.args.n c.args.self.now) ≡ x = ap need (sym (own_processor c.args.n c.self.view_is c.index-i.ensures.place (omega (arith, c.index-i.ensures.below, c.self.invariant.processors)) c.index.ensures)) ∙ (sym c.wants_next.ensures ∙ c.in-Read.is) in
+    let own = own_processor c.args.n c.self.view_is c.index-i.ensures.place (omega (arith, c.index-i.ensures.below, c.self.invariant.processors)) c.index_mut-in-Read.ensures.value in
     let word : answers.Read c.read-word.result ≡ answer_to x m = ap answers.Read (c.read-word.ensures ∙ ap (λ (k : MachineState). slice_get k.central c.in-Read.address) c.self.view_is) in
     taken_by n (answers.Read c.read-word.result) c.self.view_is c.index-i.ensures.place own c.give_central.ensures.after c.count_turn-in-Read.ensures.turn
     ∙ (ap (λ (y : Answer). taken n y m) word ∙ sym (stepped_for n x m needs))
@@ -115,8 +115,8 @@ returns-in-Read-clause-outcome g c =
     let n = c.args.n in
     let m = c.args.self.now in
     let x : Need = Read c.in-Read.address in
-    let needs : need (processor_of c.args.n c.args.self.now) ≡ x = ap need (sym (own_processor c.args.n c.self.view_is c.index-i.ensures.place (omega (arith, c.index-i.ensures.below, c.self.invariant.processors)) c.at.ensures)) ∙ (sym c.wants_next.ensures ∙ c.in-Read.is) in
-    let own = own_processor c.args.n c.self.view_is c.index-i.ensures.place (omega (arith, c.index-i.ensures.below, c.self.invariant.processors)) c.at_mut-in-Read.ensures.value in
+    let needs : need (processor_of c.args.n c.args.self.now) ≡ x = ap need (sym (own_processor c.args.n c.self.view_is c.index-i.ensures.place (omega (arith, c.index-i.ensures.below, c.self.invariant.processors)) c.index.ensures)) ∙ (sym c.wants_next.ensures ∙ c.in-Read.is) in
+    let own = own_processor c.args.n c.self.view_is c.index-i.ensures.place (omega (arith, c.index-i.ensures.below, c.self.invariant.processors)) c.index_mut-in-Read.ensures.value in
     let word : answers.Read c.read-word.result ≡ answer_to x m = ap answers.Read (c.read-word.ensures ∙ ap (λ (k : MachineState). slice_get k.central c.in-Read.address) c.self.view_is) in
     sym (outcome_for n x m needs ∙ (ap (λ (y : Answer). outcome (processor_of n m) y) (sym word) ∙ (ap (λ (pp : Processor). outcome pp (answers.Read c.read-word.result)) (sym own) ∙ c.give_central.ensures.moved)))
 
@@ -125,8 +125,8 @@ returns-in-Write-clause-ok g c =
     let n = c.args.n in
     let m = c.args.self.now in
     let x : Need = Write c.in-Write.address c.in-Write.word in
-    let needs : need (processor_of c.args.n c.args.self.now) ≡ x = ap need (sym (own_processor c.args.n c.self.view_is c.index-i.ensures.place (omega (arith, c.index-i.ensures.below, c.self.invariant.processors)) c.at.ensures)) ∙ (sym c.wants_next.ensures ∙ c.in-Write.is) in
-    let own = own_processor c.args.n c.self.view_is c.index-i.ensures.place (omega (arith, c.index-i.ensures.below, c.self.invariant.processors)) c.at_mut-in-Write.ensures.value in
+    let needs : need (processor_of c.args.n c.args.self.now) ≡ x = ap need (sym (own_processor c.args.n c.self.view_is c.index-i.ensures.place (omega (arith, c.index-i.ensures.below, c.self.invariant.processors)) c.index.ensures)) ∙ (sym c.wants_next.ensures ∙ c.in-Write.is) in
+    let own = own_processor c.args.n c.self.view_is c.index-i.ensures.place (omega (arith, c.index-i.ensures.below, c.self.invariant.processors)) c.index_mut-in-Write.ensures.value in
     let within : answers.Wrote (nat_lt c.get.result c.size.result) ≡ answer_to x m =
     ap (λ a. answers.Wrote (nat_lt a c.size.result)) c.get.ensures.value
     ∙ (ap (λ k. answers.Wrote (nat_lt c.in-Write.address k)) c.size.ensures.value
@@ -141,8 +141,8 @@ returns-in-Write-clause-outcome g c =
     let n = c.args.n in
     let m = c.args.self.now in
     let x : Need = Write c.in-Write.address c.in-Write.word in
-    let needs : need (processor_of c.args.n c.args.self.now) ≡ x = ap need (sym (own_processor c.args.n c.self.view_is c.index-i.ensures.place (omega (arith, c.index-i.ensures.below, c.self.invariant.processors)) c.at.ensures)) ∙ (sym c.wants_next.ensures ∙ c.in-Write.is) in
-    let own = own_processor c.args.n c.self.view_is c.index-i.ensures.place (omega (arith, c.index-i.ensures.below, c.self.invariant.processors)) c.at_mut-in-Write.ensures.value in
+    let needs : need (processor_of c.args.n c.args.self.now) ≡ x = ap need (sym (own_processor c.args.n c.self.view_is c.index-i.ensures.place (omega (arith, c.index-i.ensures.below, c.self.invariant.processors)) c.index.ensures)) ∙ (sym c.wants_next.ensures ∙ c.in-Write.is) in
+    let own = own_processor c.args.n c.self.view_is c.index-i.ensures.place (omega (arith, c.index-i.ensures.below, c.self.invariant.processors)) c.index_mut-in-Write.ensures.value in
     let within : answers.Wrote (nat_lt c.get.result c.size.result) ≡ answer_to x m =
     ap (λ a. answers.Wrote (nat_lt a c.size.result)) c.get.ensures.value
     ∙ (ap (λ k. answers.Wrote (nat_lt c.in-Write.address k)) c.size.ensures.value

@@ -4,8 +4,8 @@ use Rattle.pp_sessions.proofs.TakeInLemmas.{not_opened, nothing_open, takes_dead
 use Rattle.pp_sessions.proofs.open_stretch.OpenStretch.opening.Goals as goal
 
 pub returns-then-not-opened-clause-opens : goal.returns-then-not-opened-clause-opens
-returns-then-not-opened-clause-opens g c =
-    takes_these c.args.c nothing_open nothing_open [] (opening_events c.args.c c.args.machine.now) [] (not_opened c.args.c c.args.machine.now c.opened.result c.opened.ensures (search rules)) (takes_none c.args.c nothing_open)
+returns-then-not-opened-clause-opens g c = λ w.
+    takes_these w c.args.c nothing_open nothing_open [] (opening_events c.args.c c.args.machine.now) [] (not_opened c.args.c c.args.machine.now c.opened.result c.opened.ensures (search rules)) (takes_none w c.args.c nothing_open)
 
 pub returns-clause-opens : goal.returns-clause-opens
-returns-clause-opens g c = takes_dead_start c.args.c c.args.machine.now c.opened.result c.of.result c.opened.ensures (search rules) c.of.ensures.tally
+returns-clause-opens g c = λ w. takes_dead_start w c.args.c c.args.machine.now c.opened.result c.of.result c.opened.ensures (search rules) c.of.ensures.tally

@@ -5,5 +5,5 @@ use Rattle.pp_sim.specs.ThreadsText.{IsThreadsText}
 
 pub returns : goal.returns
 returns g c =
-    answered_deck c.args.profile _ _ _ _ Never (IsThreadsText _ c.args.limits) c.in_ok-front.front.items c.write_threads.result (rw c.as_slice-bytes.ensures.value at c.write_threads.ensures.answer)
-    c.in_ok-front.ensures.read c.in_ok-front.ensures.bounded c.in_ok-front.ensures.end (rw c.as_slice-bytes.ensures.value at c.write_threads.ensures.bounded)
+    answered_deck c.args.profile _ _ _ _ Never (IsThreadsText _ c.args.limits) c.in_ok-front.front.items c.write_threads.result (rw c.as_slice-bytes.ensures.value at c.write_threads.ensures)
+    c.in_ok-front.ensures.read c.in_ok-front.ensures.bounded c.in_ok-front.ensures.end

@@ -19,8 +19,8 @@ run_threads-requires-after_bounds g c κs within = (c.requires, c.in_ok-loaded.e
 pub run_threads-requires-sync-G : goal.run_threads-requires-sync-G
 run_threads-requires-sync-G g c κs within = c.type_bounds.sync-G
 
-pub returns-in-Ok-write_report-clause-answer : goal.returns-in-Ok-write_report-clause-answer
-returns-in-Ok-write_report-clause-answer g c = (
+pub returns-in-Ok-write_report : goal.returns-in-Ok-write_report
+returns-in-Ok-write_report g c = (
   _,
   record {
     deck = _;
@@ -37,8 +37,8 @@ returns-in-Ok-write_report-clause-answer g c = (
   c.in-Ok-write_report.ensures.written,
 )
 
-pub returns-clause-answer : goal.returns-clause-answer
-returns-clause-answer g c = (
+pub returns : goal.returns
+returns g c = (
   _,
   record {
     deck = _;

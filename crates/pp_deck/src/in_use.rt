@@ -1,0 +1,41 @@
+//! Which processors of a loaded deck are in use.
+
+ghost use Rattle.std.specs.Prelude.{◌≡◌};
+ghost use Rattle.pp_machine.specs.MachineState.{is_opened};
+ghost use Rattle.pp_deck.specs.InUse.{in_use, is_in_use};
+
+use crate::deck::Deck;
+use pp_channel::ChannelNo;
+use pp_machine::{Machine, PROCESSORS, PpNo};
+use std::alloc::Allocator;
+
+impl<A: Allocator> Deck<A> {
+    /// Which processors are in use, in the barrel's order: those that the deck names, and those
+    /// that waited at dead start.
+    pub fn in_use(&self) -> [bool; PROCESSORS]
+        ensures { result ≡ in_use (record { machine = self.now.machine; named = self.now.named }) }
+    {
+        let mut used = [false; PROCESSORS];
+        for place in 0..PROCESSORS {
+            used[place] = is_in_use(self, PpNo::at(place));
+        }
+        used
+    }
+}
+
+fn is_in_use<A: Allocator>(deck: &Deck<A>, n: PpNo) -> bool
+    ensures { result ≡ is_in_use (record { machine = deck.now.machine; named = deck.now.named }) n }
+{
+    deck.named[n.index()] || has_waited(&deck.machine, n)
+}
+
+/// Whether dead start had the processor wait for its program, on the channel of its own number.
+#[tactic(auto, using(pp_machine::specs::ProcessorPlaces::channel_of_processor))]
+fn has_waited<A: Allocator>(machine: &Machine<A>, n: PpNo) -> bool
+    ensures { result ≡ is_opened n machine.now }
+{
+    match ChannelNo::new(n.get()) {
+        Some(c) => machine.opened(c),
+        None => unreachable!(),
+    }
+}

@@ -1,0 +1,10 @@
+pub mod MoveLemmas
+pub mod StillLemmas
+pub mod RepeatLemmas
+pub mod StandLemmas
+pub mod QuietLemmas
+pub mod AlikeLemmas
+pub mod FoundLemmas
+pub mod OneEnding
+pub mod LoopLemmas
+mod EndsTextLemmas

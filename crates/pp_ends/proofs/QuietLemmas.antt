@@ -1,0 +1,96 @@
+-- Whether steps move, by where their processors stand before and after them.
+use Rattle.std.proofs.Common.{◌≡◌, ℕ, ◌<◌, ◌≤◌, Bool, true, false, not, IsTrue, length, refl, sym, ap, ◌∙◌, subst, inl, inr, arith}
+use Rattle.std.specs.Prelude.{◌↔◌}
+use Rattle.std.proofs.lemmas.Bool.{cases_lt}
+use Rattle.std.proofs.lemmas.List.{get_or_past}
+use Rattle.pp_machine.specs.MachineState.{MachineState, processor_of}
+use Rattle.pp_machine.specs.MachineStep.{answer_to, stepped}
+use Rattle.pp_machine.specs.NeedAndEffect.{need, processor_after}
+use Rattle.pp_machine.specs.PpMemory.{IsMemory}
+use Rattle.pp_machine.specs.PpNo.{processor_count, processor_index, processor_number}
+use Rattle.pp_machine.specs.Processor.{IsAtRest, Processor, no_processor}
+use Rattle.pp_machine.specs.ProcessorPlaces.{named_below, number_of_place}
+use Rattle.pp_machine.proofs.StepLemmas.{rest_changes_nothing}
+use Rattle.pp_every_order.specs.Determinacy.{Waits}
+use Rattle.pp_every_order.proofs.StepFacts.{own_step}
+use Rattle.pp_ends.specs.declared.stand.Stand.{Stand}
+use Rattle.pp_ends.specs.Endings.{TellsMove, TellsQuiet, TellsRunning}
+use Rattle.pp_ends.specs.Stand.{stand_of}
+use Rattle.pp_ends.proofs.MoveLemmas.{kept_waits}
+use Rattle.pp_ends.proofs.StandLemmas.{stands_still}
+
+by_same : (n : ℕ) (m : MachineState) (before after : Stand) (same : Bool)
+    → IsMemory (processor_of n m).memory → before ≡ stand_of (processor_of n m)
+    → after ≡ stand_of (processor_after (processor_of n m) (answer_to (need (processor_of n m)) m))
+    → IsTrue same ↔ (after ≡ before) → TellsMove (not same) n m
+by_same n m before after true memory was is same =
+    let pp = processor_of n m in
+    let x = answer_to (need pp) m in
+    let stands : stand_of (processor_after pp x) ≡ stand_of pp = sym is ∙ same.0 refl ∙ was in
+    let waits : Waits n m = kept_waits n m (own_step n m ∙ stands_still pp x memory stands) in
+    record { moves = λ bad. absurd (cc); waits = waits }
+by_same n m before after false memory was is same = record {
+  moves = λ _ waits.
+      let pp = processor_of n m in
+      let x = answer_to (need pp) m in
+      let stays : processor_after pp x ≡ pp = sym (own_step n m) ∙ waits.processor in
+      let bad : false ≡ true = same.1 (is ∙ ap stand_of stays ∙ sym was) in absurd (cc);
+  waits = tt;
+}
+
+-- by the processor after the step
+pub told_by_step : (n : ℕ) (m : MachineState) (before after : Stand) (same : Bool)
+    → IsMemory (processor_of n m).memory → before ≡ stand_of (processor_of n m)
+    → after ≡ stand_of (processor_of n (stepped n m)) → IsTrue same ↔ (after ≡ before)
+    → TellsMove (not same) n m
+told_by_step n m before after same memory was is told =
+    by_same n m before after same memory was (is ∙ ap stand_of (own_step n m)) told
+
+-- by a copy to which the answer was given
+pub told_by_copy : (n : ℕ) (m : MachineState) (after : Processor) (one other : Stand) (same : Bool)
+    → IsMemory (processor_of n m).memory
+    → after ≡ processor_after (processor_of n m) (answer_to (need (processor_of n m)) m)
+    → one ≡ stand_of after → other ≡ stand_of (processor_of n m) → IsTrue same ↔ (one ≡ other)
+    → TellsMove (not same) n m
+told_by_copy n m after one other same memory is stood was told =
+    by_same n m other one same memory was (stood ∙ ap stand_of is) told
+
+-- a processor that no machine has waits
+pub waits_unnamed : (n : ℕ) (m : MachineState) → length m.processors ≤ processor_index n → Waits n m
+waits_unnamed n m past =
+    let absent : processor_of n m ≡ no_processor = get_or_past m.processors (processor_index n) no_processor past in
+    let rests : IsAtRest (processor_of n m) = subst (λ (pp : Processor). IsAtRest pp) (sym absent) (λ bad. cc) in
+    kept_waits n m (own_step n m ∙ rest_changes_nothing (processor_of n m) _ rests)
+
+-- each processor by its place
+pub quiet_by_places : (m : MachineState) → length m.processors ≡ processor_count
+    → ((k : ℕ) → k < processor_count → Waits (processor_number k) m) → TellsQuiet true m
+quiet_by_places m all waits = record {
+  quiet = λ _. record {
+    waits = λ n. elim (cases_lt (processor_index n) processor_count) [
+      | inl below ↦ subst (λ (k : ℕ). Waits k m) (number_of_place n (named_below n below)) (waits (processor_index n) below)
+      | inr past ↦ waits_unnamed n m (omega (arith, all, past))
+    ];
+  };
+  moves = tt;
+}
+
+pub moves_at : (n : ℕ) (m : MachineState) → TellsMove true n m → TellsQuiet false m
+moves_at n m told = record {
+  quiet = λ bad. absurd (cc);
+  moves = λ quiet. told.moves refl (quiet.waits n);
+}
+
+-- no processor is running
+pub at_rest_by_places : (m : MachineState) → length m.processors ≡ processor_count
+    → ((k : ℕ) → k < processor_count → IsAtRest (processor_of (processor_number k) m))
+    → TellsRunning false m
+at_rest_by_places m all rest = record {
+  running = λ bad. absurd (cc);
+  at_rest = λ n. elim (cases_lt (processor_index n) processor_count) [
+    | inl below ↦ subst (λ (k : ℕ). IsAtRest (processor_of k m)) (number_of_place n (named_below n below)) (rest (processor_index n) below)
+    | inr past ↦
+        let absent : processor_of n m ≡ no_processor = get_or_past m.processors (processor_index n) no_processor (omega (arith, all, past)) in
+        subst (λ (pp : Processor). IsAtRest pp) (sym absent) (λ bad. cc)
+  ];
+}

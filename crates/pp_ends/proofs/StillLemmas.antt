@@ -1,0 +1,159 @@
+-- Steps that wait, and lists of steps of a machine that is quiet.
+use Rattle.std.proofs.Common.{◌≡◌, ℕ, zero, suc, ◌+◌, ◌-◌, ◌<◌, ◌≤◌, List, [], ◌∷◌, append-nil, slice_set, None, refl, sym, ap, ◌∙◌, subst, inl, inr, arith}
+use Rattle.std.proofs.lemmas.Bool.{cases_eq}
+use Rattle.std.proofs.lemmas.List.{set-get_or}
+use Rattle.pp_channel.specs.declared.event.Event.{Event}
+use Rattle.pp_machine.specs.MachineState.{MachineState, processor_of}
+use Rattle.pp_machine.specs.MachineStep.{answer_to, central_after, counted, event_for, stepped}
+use Rattle.pp_machine.specs.NeedAndEffect.{need, processor_after}
+use Rattle.pp_machine.specs.Processor.{Processor, no_processor}
+use Rattle.pp_machine.specs.Profile.{processor_in_turn}
+use Rattle.pp_machine.specs.PpNo.{processor_index}
+use Rattle.pp_machine.specs.Run.{run}
+use Rattle.pp_machine.specs.RunLaws.{barrel_more}
+use Rattle.pp_machine.specs.declared.need.Need.{Need}
+use Rattle.pp_machine.specs.declared.need.Need.TheVariants.{Nothing, Local, Channel, Read, Write}
+use Rattle.pp_machine.specs.declared.trace.Trace.{Trace}
+use Rattle.pp_every_order.specs.Determinacy.{IsQuiet, Waits}
+use Rattle.pp_every_order.proofs.StepFacts.{central_by, event_by, event_by_need, histories_by, histories_none, own_step, processors_by, trace_by, trace_with}
+use Rattle.pp_ends.specs.Endings.{AreSameButTurns, EndsQuietFrom, IsStillFrom, MovesAt, WaitsAt, after_turns}
+
+-- a step that waits keeps histories and trace
+histories_kept : (n : ℕ) (m : MachineState) → Waits n m → (x : Need) → need (processor_of n m) ≡ x
+    → (stepped n m).histories ≡ m.histories
+histories_kept n m w Nothing e = histories_by n m Nothing e
+histories_kept n m w Local e = histories_by n m Local e
+histories_kept n m w (Read a) e = histories_by n m (Read a) e
+histories_kept n m w (Write a v) e = histories_by n m (Write a v) e
+histories_kept n m w (Channel c op) e =
+    histories_none n c op m e (sym (event_by_need n c op m e) ∙ w.event)
+
+trace_kept : (n : ℕ) (m : MachineState) → Waits n m → (x : Need) → need (processor_of n m) ≡ x
+    → (stepped n m).trace ≡ m.trace
+trace_kept n m w Nothing e = trace_by n m Nothing e
+trace_kept n m w Local e = trace_by n m Local e
+trace_kept n m w (Read a) e = trace_by n m (Read a) e
+trace_kept n m w (Write a v) e = trace_by n m (Write a v) e
+trace_kept n m w (Channel c op) e =
+    trace_with n c op m None e (sym (event_by_need n c op m e) ∙ w.event) ∙ append-nil m.trace
+
+-- and so it counts a turn, and changes nothing else
+with_fields : (n : ℕ) (m : MachineState) (ps : List Processor) (hs : List (List Event))
+    (ws : List ℕ) (t : List Trace) → (stepped n m).processors ≡ ps → (stepped n m).histories ≡ hs
+    → (stepped n m).central ≡ ws → (stepped n m).trace ≡ t
+    → stepped n m ≡ record m { processors = ps; histories = hs; central = ws; trace = t; turns = counted m.turns }
+unfolding stepped
+with_fields n m ps hs ws t p h c e = rw (sym p, sym h, sym c, sym e) refl
+
+pub waited : (n : ℕ) (m : MachineState) → Waits n m
+    → stepped n m ≡ record m { turns = counted m.turns }
+waited n m w =
+    with_fields n m m.processors m.histories m.central m.trace
+    (processors_by n m
+    ∙ ap (λ (pp : Processor). slice_set m.processors (processor_index n) pp) (sym (own_step n m) ∙ w.processor)
+    ∙ set-get_or m.processors (processor_index n) no_processor)
+    (histories_kept n m w (need (processor_of n m)) refl)
+    w.central
+    (trace_kept n m w (need (processor_of n m)) refl)
+
+-- the turns counted make no difference
+answer_later : (turns : ℕ) (m : MachineState) (x : Need)
+    → answer_to x (record m { turns = turns }) ≡ answer_to x m
+answer_later turns m Nothing = refl
+answer_later turns m Local = refl
+answer_later turns m (Channel c op) = refl
+answer_later turns m (Read a) = refl
+answer_later turns m (Write a w) = refl
+
+event_later : (turns : ℕ) (m : MachineState) (x : Need)
+    → event_for x (record m { turns = turns }) ≡ event_for x m
+event_later turns m Nothing = refl
+event_later turns m Local = refl
+event_later turns m (Channel c op) = refl
+event_later turns m (Read a) = refl
+event_later turns m (Write a w) = refl
+
+central_later : (turns : ℕ) (m : MachineState) (x : Need)
+    → central_after x (record m { turns = turns }) ≡ central_after x m
+central_later turns m Nothing = refl
+central_later turns m Local = refl
+central_later turns m (Channel c op) = refl
+central_later turns m (Read a) = refl
+central_later turns m (Write a w) = refl
+
+waits_later : (n turns : ℕ) (m : MachineState) → Waits n m → Waits n (record m { turns = turns })
+waits_later n turns m w =
+    let pp = processor_of n m in
+    let x = need pp in
+    let later : MachineState = record m { turns = turns } in
+    record {
+      processor = own_step n later ∙ ap (processor_after pp) (answer_later turns m x)
+          ∙ sym (own_step n m) ∙ w.processor;
+      event = event_by n later x refl ∙ event_later turns m x ∙ sym (event_by n m x refl) ∙ w.event;
+      central = central_by n later x refl ∙ central_later turns m x ∙ sym (central_by n m x refl)
+          ∙ w.central;
+    }
+
+quiet_later : (turns : ℕ) (m : MachineState) → IsQuiet m → IsQuiet (record m { turns = turns })
+quiet_later turns m q = record { waits = λ n. waits_later n turns m (q.waits n) }
+
+-- no list of steps changes a quiet machine
+pub quiet_run : (ns : List ℕ) (m : MachineState) → IsQuiet m → AreSameButTurns m (run ns m)
+quiet_run [] m q = refl
+quiet_run (n ∷ ns) m q =
+    let step = waited n m (q.waits n) in
+    let later : MachineState = record m { turns = counted m.turns } in
+    subst (λ (k : MachineState). AreSameButTurns m (run ns k)) (sym step)
+    (quiet_run ns later (quiet_later (counted m.turns) m q))
+
+-- over turns that wait the machine stays
+still_on : (k t : ℕ) (m : MachineState)
+    → ((u : ℕ) → t ≤ u → u < t + k → WaitsAt u m)
+    → AreSameButTurns (after_turns t m) (after_turns (t + k) m)
+still_on zero t m waits =
+    let same : t ≡ t + zero = omega arith in
+    subst (λ (u : ℕ). AreSameButTurns (after_turns t m) (after_turns u m)) same refl
+still_on (suc k) t m waits =
+    let before = still_on k t m (λ u low high. waits u low (omega (arith, high))) in
+    let next : t + suc k ≡ (t + k) + 1 = omega arith in
+    let step : after_turns ((t + k) + 1) m ≡ record (after_turns (t + k) m) { turns = counted (after_turns (t + k) m).turns } =
+    barrel_more m.profile (t + k) m
+    ∙ waited (processor_in_turn m.profile (t + k)) (after_turns (t + k) m) (waits (t + k) (omega arith) (omega arith)) in
+    let both : after_turns ((t + k) + 1) m ≡ record (after_turns t m) { turns = counted (after_turns (t + k) m).turns } =
+    step ∙ ap (λ (j : MachineState). record j { turns = counted (after_turns (t + k) m).turns }) before in
+    subst (λ (u : ℕ). AreSameButTurns (after_turns t m) (after_turns u m)) (sym next)
+    (both ∙ ap (λ (u : ℕ). record (after_turns t m) { turns = u }) (sym (ap (λ (j : MachineState). j.turns) both)))
+
+pub same_from : (t turns : ℕ) (m : MachineState) → EndsQuietFrom t turns m
+    → AreSameButTurns (after_turns t m) (after_turns turns m)
+same_from t turns m e =
+    let all : t + (turns - t) ≡ turns = omega (arith, e.still.within) in
+    subst (λ (u : ℕ). AreSameButTurns (after_turns t m) (after_turns u m)) all
+    (still_on (turns - t) t m (λ u low high. e.still.waits u low (omega (arith, high, e.still.within))))
+
+-- ---- one turn more
+
+pub still_at_start : (m : MachineState) → IsStillFrom 0 0 m
+still_at_start m = record {
+  within = omega arith;
+  waits = λ turn low high. absurd (omega (arith, high));
+  first = λ turn e. absurd (omega (arith, e));
+}
+
+pub still_more : (t turn : ℕ) (m : MachineState) → IsStillFrom t turn m → WaitsAt turn m
+    → IsStillFrom t (turn + 1) m
+still_more t turn m s waits = record {
+  within = omega (arith, s.within);
+  waits = λ u low high. elim (cases_eq u turn) [
+    | inl same ↦ subst (λ (k : ℕ). WaitsAt k m) (sym same) waits
+    | inr other ↦ s.waits u low (omega (arith, high, other))
+  ];
+  first = s.first;
+}
+
+pub still_after : (turn : ℕ) (m : MachineState) → MovesAt turn m → IsStillFrom (turn + 1) (turn + 1) m
+still_after turn m moves = record {
+  within = omega arith;
+  waits = λ u low high. absurd (omega (arith, low, high));
+  first = λ u e. let same : turn ≡ u = omega (arith, e) in subst (λ (k : ℕ). MovesAt k m) same moves;
+}

@@ -1,0 +1,36 @@
+use Rattle.std.proofs.Common.{◌≡◌, ℕ, ◌+◌, ◌%◌, List, length, sym, ap, ◌∙◌, subst, arith}
+use Rattle.std.specs.Prelude.{IsTrue, Option}
+use Rattle.pp_bare.specs.BareMachine.{StandsFor}
+use Rattle.pp_machine.specs.MachineState.{MachineState}
+use Rattle.pp_machine.specs.MachineStep.{stepped}
+use Rattle.pp_machine.specs.Processor.{Processor}
+use Rattle.pp_machine.specs.PpNo.{names_processor, processor_number}
+use Rattle.pp_machine.specs.ProcessorPlaces.{named_below}
+use Rattle.pp_machine.specs.Profile.{processor_in_turn}
+use Rattle.pp_machine.specs.RunLaws.{barrel_more}
+use Rattle.pp_ends.specs.Endings.{after_turns}
+use Rattle.pp_ends.specs.Loops.{TellLoops}
+use Rattle.pp_ends.specs.declared.loops.Loop.{Loop}
+use Rattle.pp_ends.proofs.LoopLemmas.{loops_more, noted_places}
+use Rattle.pp_ends.proofs.loops.loops_in.Goals as goal
+
+pub loop-turn-preserved : goal.loop-turn-preserved
+loop-turn-preserved g c =
+    let m = c.args.machine.now in
+    let turn = c.loop-turn.turn in
+    let n = c.at-n.result in
+    let is : n ≡ processor_in_turn m.profile turn =
+    c.at-n.ensures.number ∙ ap (λ (r : ℕ). processor_number (turn % r)) (c.from-in-loop-turn.ensures ∙ c.round_of-round.ensures.turns) in
+    let p = c.p-p.ensures ∙ ap (λ (pp : Processor). pp.p) (c.pp.ensures.value (after_turns turn m) c.loop-turn.invariant.ran) in
+    let names : IsTrue (names_processor n) = named_below n c.pp.ensures.within in
+    let on = c.loop-turn.invariant.on in
+    record {
+      ran = subst (λ (k : MachineState). StandsFor c.step_telling-moved.new.bare k)
+          (ap (λ (k : ℕ). stepped k (after_turns turn m)) is ∙ sym (barrel_more m.profile turn m))
+          (c.step_telling-moved.ensures.stepped (after_turns turn m) c.loop-turn.invariant.ran);
+      on = omega (arith, on);
+      places = ap length c.note.ensures ∙ noted_places c.loop-turn.loops n c.p-p.result c.step_telling-moved.result ∙ c.loop-turn.invariant.places;
+      loops = subst (λ (loops : List (Option Loop)). TellLoops loops c.args.from (turn + 1) m) (sym c.note.ensures)
+          (loops_more c.loop-turn.loops c.args.from turn n c.p-p.result m c.step_telling-moved.result c.loop-turn.invariant.places on is names p
+          (c.step_telling-moved.ensures.moved (after_turns turn m) c.loop-turn.invariant.ran) c.loop-turn.invariant.loops);
+    }

@@ -1,0 +1,26 @@
+use Rattle.std.proofs.Common.{ℕ, sym, ap, ◌∙◌, subst, inl, inr, arith}
+use Rattle.std.specs.Prelude.{Bool}
+use Rattle.std.proofs.lemmas.Bool.{cases_eq}
+use Rattle.pp_machine.specs.PpNo.{processor_number}
+use Rattle.pp_every_order.specs.Determinacy.{Waits}
+use Rattle.pp_ends.specs.Endings.{TellsMove}
+use Rattle.pp_ends.proofs.QuietLemmas.{moves_at, quiet_by_places}
+use Rattle.pp_ends.proofs.quiet.is_quiet.Goals as goal
+
+pub returns-then-would_move : goal.returns-then-would_move
+returns-then-would_move g c = λ m stands.
+    moves_at c.at.result m (subst (λ (b : Bool). TellsMove b c.at.result m) c.if-would_move.true (c.would_move.ensures m stands))
+
+pub loop-place-preserved : goal.loop-place-preserved
+loop-place-preserved g c = λ m stands k low. elim (cases_eq k c.loop-place.place) [
+  | inl same ↦
+      let told : TellsMove _ c.at.result m = subst (λ (b : Bool). TellsMove b c.at.result m) c.if-would_move.false (c.would_move.ensures m stands) in
+      subst (λ (n : ℕ). Waits n m)
+      (c.at.ensures.number ∙ ap processor_number (sym same)) told.waits
+  | inr other ↦ c.loop-place.invariant m stands k (omega (arith, low, other))
+]
+
+pub returns : goal.returns
+returns g c = λ m stands.
+    quiet_by_places m stands.as_many
+    (λ k low. c.loop-place.invariant m stands k (omega (arith, low, c.loop-place-test.false)))

@@ -1,0 +1,24 @@
+use Rattle.std.proofs.Common.{◌≡◌, ap, ◌∙◌, subst}
+use Rattle.pp_machine.specs.MachineState.{processor_of}
+use Rattle.pp_machine.specs.MachineStep.{answer_to}
+use Rattle.pp_machine.specs.NeedAndEffect.{need, processor_after}
+use Rattle.pp_machine.specs.PpMemory.{IsMemory}
+use Rattle.pp_machine.specs.Processor.{Processor}
+use Rattle.pp_ends.specs.Stand.{stand_of}
+use Rattle.pp_ends.proofs.QuietLemmas.{told_by_copy}
+use Rattle.pp_ends.proofs.quiet.would_move.Goals as goal
+
+pub returns : goal.returns
+returns g c = λ m stands.
+    let n = c.args.n in
+    let is : c.pp-pp.result.now ≡ processor_of n m = c.pp-pp.ensures.value m stands in
+    let answer : c.answer_shown-answer.result ≡ answer_to (need (processor_of n m)) m =
+    c.answer_shown-answer.ensures.answer m stands
+    ∙ ap (λ x. answer_to x m) (c.wants.ensures.need ∙ ap need is) in
+    told_by_copy n m c.give-outcome.new.self c.of.result c.of-2.result c.is_same.result
+    (subst (λ (pp : Processor). IsMemory pp.memory) is c.of-2.ensures.widths.memory)
+    (c.give-outcome.ensures.after ∙ ap (λ pp. processor_after pp c.answer_shown-answer.result) (c.copy-after.ensures ∙ is)
+    ∙ ap (processor_after (processor_of n m)) answer)
+    c.of.ensures.stand
+    (c.of-2.ensures.stand ∙ ap stand_of is)
+    c.is_same.ensures

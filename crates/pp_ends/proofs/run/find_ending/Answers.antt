@@ -1,0 +1,36 @@
+use Rattle.std.proofs.Common.{ℕ, ◌/◌, ap, refl, sym, subst}
+use Rattle.std.specs.Prelude.{IsNone}
+use Rattle.pp_ends.proofs.FoundLemmas.{goes_on_without_period, goes_on_without_start, repeats_first}
+use Rattle.pp_ends.proofs.run.find_ending.Goals as goal
+
+pub returns-in_default-2 : goal.returns-in_default-2
+returns-in_default-2 g c =
+    let sound = c.turns-sound.ensures.sound in
+    record {
+      moves = c.in_ok-ending.ensures.moves (subst (λ o. IsNone o) (sym c.in_default.is) refl);
+      goes_on = goes_on_without_period c.args.machine.now (record { channels = sound.channels; headline = sound.headline })
+          c.args.turns (c.args.turns / c.round_of-round.result) c.in_ok-period.field-0 c.in_default-2.is
+          (ap (λ (r : ℕ). c.args.turns / r) c.round_of-round.ensures.turns) c.in_ok-period.ensures;
+    }
+
+pub returns-in_default-3 : goal.returns-in_default-3
+returns-in_default-3 g c =
+    let sound = c.turns-sound.ensures.sound in
+    record {
+      moves = c.in_ok-ending.ensures.moves (subst (λ o. IsNone o) (sym c.in_default.is) refl);
+      goes_on = goes_on_without_start c.args.machine.now (record { channels = sound.channels; headline = sound.headline })
+          c.args.turns (c.args.turns / c.round_of-round.result) c.in-Some-2.period c.in_ok-period.field-0 c.in_ok-start.field-0
+          c.in-Some-2.is c.in_default-3.is
+          (ap (λ (r : ℕ). c.args.turns / r) c.round_of-round.ensures.turns) c.in_ok-period.ensures c.in_ok-start.ensures;
+    }
+
+pub returns : goal.returns
+returns g c =
+    let sound = c.turns-sound.ensures.sound in (
+      c.in_ok-ending.ensures.moves (subst (λ o. IsNone o) (sym c.in_default.is) refl),
+      repeats_first c.args.machine.now (record { channels = sound.channels; headline = sound.headline })
+          c.args.turns (c.args.turns / c.round_of-round.result) c.in-Some-2.period c.in-Some-3.start c.round_of-round.result
+          c.in_ok-period.field-0 c.in_ok-start.field-0 c.in-Some-2.is c.in-Some-3.is
+          (ap (λ (r : ℕ). c.args.turns / r) c.round_of-round.ensures.turns) c.round_of-round.ensures.turns
+          c.in_ok-period.ensures c.in_ok-start.ensures,
+    )

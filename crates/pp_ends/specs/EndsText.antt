@@ -1,0 +1,51 @@
+-- How a run ends, in text: the ending; for each processor that is shown how it stands, and between
+-- which places it loops; and the channels.
+use Rattle.std.specs.Prelude.{ℕ, Bool, List, [], ◌++◌, Option, None, Some, codes, if◌then◌else◌}
+use Rattle.pp_machine.specs.MachineState.{MachineState, processor_of}
+use Rattle.pp_machine.specs.PpNo.{is_named}
+use Rattle.pp_text.specs.Numeral.{decimal, octal, short_decimal}
+use Rattle.pp_text.specs.PrintedText.{each_below, line_end, processor_line, used_channel_line}
+use Rattle.pp_state.specs.StateText.{standing}
+use Rattle.pp_ends.specs.Endings.{after_turns}
+use Rattle.pp_ends.specs.Loops.{loop_of}
+use Rattle.pp_ends.specs.declared.ending.Ending.{Ending}
+use Rattle.pp_ends.specs.declared.ending.Ending.TheVariants.{AtRest, GoingOn, Repeats, Stuck}
+use Rattle.pp_ends.specs.declared.loops.Loop.{Loop}
+
+-- the turn that the text names, of a run of this many turns
+abbrev pub ends_turn : Ending → ℕ → ℕ
+ends_turn (AtRest from) turns = from
+ends_turn (Stuck from) turns = from
+ends_turn (Repeats from every) turns = from
+ends_turn GoingOn turns = turns
+
+-- `REPEATS FROM 000010 EVERY 20`
+abbrev pub ending_text : Ending → ℕ → List ℕ
+ending_text (AtRest from) turns = codes "AT REST FROM " ++ decimal from
+ending_text (Stuck from) turns = codes "STUCK FROM " ++ decimal from
+ending_text (Repeats from every) turns =
+    codes "REPEATS FROM " ++ decimal from ++ codes " EVERY " ++ short_decimal every
+ending_text GoingOn turns = codes "GOING ON AT " ++ decimal turns
+
+-- ` LOOPS 0100 TO 0101`, where there is a loop
+abbrev pub loop_text : Option Loop → List ℕ
+loop_text None = []
+loop_text (Some loop) = codes " LOOPS " ++ octal 4 loop.first ++ codes " TO " ++ octal 4 loop.last
+
+-- the line of the processor with this number, where it is shown
+abbrev pub looping_line : List Bool → MachineState → List (Option Loop) → ℕ → List ℕ
+looping_line shown m loops n =
+    if is_named shown n
+    then processor_line n (processor_of n m) (standing n m 0 ++ loop_text (loop_of loops n)) else []
+
+-- the text, by the machine after the turns that it names. Numbers have two octal digits
+unfoldable pub ends_text : List Bool → Ending → ℕ → MachineState → List (Option Loop) → List ℕ
+ends_text shown ending turns m loops =
+    ending_text ending turns ++ line_end
+    ++ each_below 0o100 (looping_line shown m loops)
+    ++ each_below 0o100 (used_channel_line m.histories)
+
+-- and of a machine as it was loaded
+abbrev pub ends_text_of : List Bool → Ending → ℕ → MachineState → List (Option Loop) → List ℕ
+ends_text_of shown ending turns load loops =
+    ends_text shown ending turns (after_turns (ends_turn ending turns) load) loops

@@ -1,0 +1,6 @@
+pub mod Endings
+pub mod Loops
+pub mod EndsText
+-- cited by private contracts alone
+pub mod Stand
+pub mod Rounds

@@ -1,0 +1,30 @@
+//! The law of endings. The function does nothing: its contract says what is proved of the
+//! definitions.
+
+ghost use Rattle.std.specs.Prelude.{◌≡◌, ℕ, ◌+◌, ◌*◌, List, length};
+ghost use Rattle.pp_channel.specs.ChannelNo.{channel_count};
+ghost use Rattle.pp_machine.specs.Headline.{HoldsOnEachChannel};
+ghost use Rattle.pp_machine.specs.MachineState.{MachineState, processor_of};
+ghost use Rattle.pp_machine.specs.MachineStep.{stepped};
+ghost use Rattle.pp_machine.specs.Run.{run};
+ghost use Rattle.pp_every_order.specs.Determinacy.{IsQuiet, Waits};
+ghost use Rattle.pp_ends.specs.declared.ending.Ending.{Ending};
+ghost use Rattle.pp_ends.specs.Endings.{AreSameButTurns, EndsQuietFrom, IsEnding, Repeats, StandAlike, after_turns};
+
+/// A step that leaves its processor as it was waits: it makes no event and writes no central word.
+/// No list of steps whatever changes anything but the turns counted of a machine that is quiet; and
+/// a run that ends quiet has left it the same from the turn on that the ending names. A run that
+/// repeats stands the same after any number of its periods. No run has two endings.
+#[tactic(auto, using(crate::proofs::MoveLemmas::kept_waits, crate::proofs::StillLemmas::quiet_run, crate::proofs::StillLemmas::same_from))]
+pub fn ends_law()
+    ensures moves { (n : ℕ) (m : MachineState)
+        → processor_of n (stepped n m) ≡ processor_of n m → Waits n m }
+    ensures no_more { (ns : List ℕ) (m : MachineState) → IsQuiet m → AreSameButTurns m (run ns m) }
+    ensures same { (t turns : ℕ) (m : MachineState) → EndsQuietFrom t turns m
+        → AreSameButTurns (after_turns t m) (after_turns turns m) }
+    ensures repeats { (t n k : ℕ) (m : MachineState) → length m.histories ≡ channel_count
+        → HoldsOnEachChannel m → Repeats t n m
+        → StandAlike (after_turns t m) (after_turns (t + k * n) m) }
+    ensures one { (one other : Ending) (turns : ℕ) (m : MachineState) → IsEnding one turns m
+        → IsEnding other turns m → one ≡ other }
+{}

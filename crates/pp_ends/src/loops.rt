@@ -1,0 +1,93 @@
+//! Between which places processors loop.
+
+ghost use Rattle.std.specs.Prelude.{◌≡◌, ◌+◌, IfOk};
+ghost use Rattle.pp_ends.specs.Loops.{AreLoops, TellLoops, noted, widened};
+
+use crate::ending::Ending;
+use crate::quiet::step_telling;
+use crate::rounds::round_of;
+use crate::run::run_telling;
+use pp_bare::BareMachine;
+use pp_channel::Memory;
+use pp_machine::{Machine, PROCESSORS, PpNo};
+use pp_word::Word12;
+use std::alloc::Allocator;
+
+/// The lowest and the highest P of the steps of a processor that move.
+#[derive(Clone, Copy, Debug, PartialEq, Eq)]
+pub struct Loop {
+    pub first: Word12,
+    pub last: Word12,
+}
+
+/// The loops of the processors, in the order of the barrel, where a run of this machine, as it was
+/// loaded, repeats: of each the steps of one period count. A processor that doesn't move has none;
+/// nor has any where the ending is another. The machine is only read: a copy makes the run.
+pub fn find_loops<A: Allocator + Copy, B: Allocator>(
+    alloc: A,
+    machine: &Machine<B>,
+    ending: Ending,
+) -> Result<[Option<Loop>; PROCESSORS], Memory>
+    ensures { IfOk result (λ loops. AreLoops loops ending machine.now) }
+{
+    match ending {
+        Ending::Repeats { from, every } => loops_in(alloc, machine, from, every),
+        Ending::AtRest { from: _ } | Ending::Stuck { from: _ } | Ending::GoingOn => {
+            Ok([None; PROCESSORS])
+        }
+    }
+}
+
+/// The loops in `every` turns from turn `from` on.
+fn loops_in<A: Allocator + Copy, B: Allocator>(
+    alloc: A,
+    machine: &Machine<B>,
+    from: u32,
+    every: u32,
+) -> Result<[Option<Loop>; PROCESSORS], Memory>
+    ensures { IfOk result (λ loops. TellLoops loops from (from + every) machine.now) }
+{
+    let round = round_of(machine);
+    let mut bare = BareMachine::of(alloc, machine)?;
+    let _still = run_telling(&mut bare, round, from);
+    let mut loops = [None; PROCESSORS];
+    let start = u64::from(from);
+    for turn in start..start + u64::from(every) {
+        let n = PpNo::at((turn % u64::from(round)) as usize);
+        let p = bare.pp(n).p();
+        let moved = step_telling(&mut bare, n);
+        note(&mut loops, n, p, moved);
+    }
+    Ok(loops)
+}
+
+/// Notes a step of a processor, by its P before and by whether it moved.
+fn note(loops: &mut [Option<Loop>; PROCESSORS], n: PpNo, p: Word12, moved: bool)
+    ensures { loops.new ≡ noted loops.old n p moved }
+{
+    if moved {
+        let place = n.index();
+        loops[place] = Some(widened(loops[place], p));
+    }
+}
+
+/// A loop with one more place.
+fn widened(found: Option<Loop>, p: Word12) -> Loop
+    ensures { result ≡ widened found p }
+{
+    match found {
+        None => Loop { first: p, last: p },
+        Some(found) => Loop {
+            first: if p.get() < found.first.get() {
+                p
+            } else {
+                found.first
+            },
+            last: if found.last.get() < p.get() {
+                p
+            } else {
+                found.last
+            },
+        },
+    }
+}

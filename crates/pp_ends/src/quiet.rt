@@ -1,0 +1,76 @@
+//! Whether steps move.
+
+ghost use Rattle.std.specs.Prelude.{◌≡◌, IsTrue};
+ghost use Rattle.pp_bare.specs.BareMachine.{StandsFor};
+ghost use Rattle.pp_machine.specs.MachineState.{MachineState};
+ghost use Rattle.pp_machine.specs.MachineStep.{answer_to, stepped};
+ghost use Rattle.pp_machine.specs.Replay.{fits};
+ghost use Rattle.pp_ends.specs.Endings.{TellsMove, TellsQuiet, TellsRunning};
+
+use crate::stand::Stand;
+use pp_bare::BareMachine;
+use pp_machine::{Answer, Need, PROCESSORS, PpNo, PpState};
+use std::alloc::Allocator;
+
+/// One step of a processor. Says whether it moved.
+pub(crate) fn step_telling<A: Allocator>(bare: &mut BareMachine<A>, n: PpNo) -> bool
+    ensures stepped { (m : MachineState) → StandsFor bare.old m → StandsFor bare.new (stepped n m) }
+    ensures moved { (m : MachineState) → StandsFor bare.old m → TellsMove result n m }
+{
+    let before = Stand::of(bare.pp(n));
+    let _progress = bare.step(n);
+    let after = Stand::of(bare.pp(n));
+    !after.is_same(&before)
+}
+
+/// What a step that needs this would be answered.
+fn answer_shown<A: Allocator>(bare: &BareMachine<A>, need: &Need) -> Answer
+    ensures fits { IsTrue (fits need.now result) }
+    ensures answer { (m : MachineState) → StandsFor bare.now m → result ≡ answer_to need.now m }
+{
+    match need {
+        Need::Nothing | Need::Local => Answer::Local,
+        Need::Channel(c, op) => {
+            let mut state = bare.channel(*c);
+            Answer::Channel(state.act(*op))
+        }
+        Need::Read(address) => Answer::Read(bare.central().read(*address)),
+        Need::Write(address, _) => Answer::Wrote(address.get() < bare.central().size()),
+    }
+}
+
+/// Whether the next step of a processor would move. The step is tried on a copy.
+fn would_move<A: Allocator>(bare: &BareMachine<A>, n: PpNo) -> bool
+    ensures { (m : MachineState) → StandsFor bare.now m → TellsMove result n m }
+{
+    let pp = bare.pp(n);
+    let answer = answer_shown(bare, &pp.wants());
+    let mut after = pp.copy();
+    let _outcome = after.give(answer);
+    !Stand::of(&after).is_same(&Stand::of(pp))
+}
+
+/// Whether a machine is quiet: no step of any processor would move.
+pub(crate) fn is_quiet<A: Allocator>(bare: &BareMachine<A>) -> bool
+    ensures { (m : MachineState) → StandsFor bare.now m → TellsQuiet result m }
+{
+    for place in 0..PROCESSORS {
+        if would_move(bare, PpNo::at(place)) {
+            return false;
+        }
+    }
+    true
+}
+
+/// Whether some processor is running.
+pub(crate) fn is_running<A: Allocator>(bare: &BareMachine<A>) -> bool
+    ensures { (m : MachineState) → StandsFor bare.now m → TellsRunning result m }
+{
+    for place in 0..PROCESSORS {
+        match bare.pp(PpNo::at(place)).state() {
+            PpState::Running => return true,
+            PpState::Stopped | PpState::Fault(_) => {}
+        }
+    }
+    false
+}

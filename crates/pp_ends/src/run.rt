@@ -1,0 +1,85 @@
+//! How runs end.
+
+ghost use Rattle.std.specs.Prelude.{◌≡◌, ◌≤◌, ℕ, IfOk, IfSome, IsNone};
+ghost use Rattle.pp_bare.specs.BareMachine.{StandsFor};
+ghost use Rattle.pp_machine.specs.MachineState.{MachineState};
+ghost use Rattle.pp_machine.specs.PpNo.{processor_count};
+ghost use Rattle.pp_machine.specs.Profile.{processors_in};
+ghost use Rattle.pp_every_order.specs.Determinacy.{IsQuiet};
+ghost use Rattle.pp_ends.specs.Endings.{IsEnding, IsStillFrom, after_turns};
+
+use crate::ending::Ending;
+use crate::quiet::{is_quiet, is_running, step_telling};
+use crate::rounds::{find_period, find_start, round_of};
+use pp_bare::BareMachine;
+use pp_channel::Memory;
+use pp_machine::{Machine, PpNo};
+use std::alloc::Allocator;
+
+/// How a run of this many turns of the barrel (decimal) ends. The machine is only read: at most two
+/// copies make the run, of processors, central memory and the states of the channels.
+pub fn find_ending<A: Allocator + Copy, B: Allocator>(
+    alloc: A,
+    machine: &Machine<B>,
+    turns: u32,
+) -> Result<Ending, Memory>
+    ensures { IfOk result (λ ending. IsEnding ending turns machine.now) }
+{
+    // The call says to the proof that the machine is sound.
+    let _sound = machine.turns();
+    if let Some(ending) = quiet_ending(alloc, machine, turns)? {
+        return Ok(ending);
+    }
+    let round = round_of(machine);
+    let rounds = turns / round;
+    let Some(period) = find_period(alloc, machine, rounds)? else {
+        return Ok(Ending::GoingOn);
+    };
+    let Some(start) = find_start(alloc, machine, period, rounds - period)? else {
+        return Ok(Ending::GoingOn);
+    };
+    Ok(Ending::Repeats {
+        from: start * round,
+        every: period * round,
+    })
+}
+
+/// How it ends, if it ends quiet.
+fn quiet_ending<A: Allocator + Copy, B: Allocator>(
+    alloc: A,
+    machine: &Machine<B>,
+    turns: u32,
+) -> Result<Option<Ending>, Memory>
+    ensures ending { IfOk result (λ found. IfSome found (λ ending.
+        IsEnding ending turns machine.now)) }
+    ensures moves { IfOk result (λ found. IsNone found → ¬ IsQuiet (after_turns turns machine.now)) }
+{
+    let mut bare = BareMachine::of(alloc, machine)?;
+    let from = run_telling(&mut bare, round_of(machine), turns);
+    if !is_quiet(&bare) {
+        return Ok(None);
+    }
+    if is_running(&bare) {
+        Ok(Some(Ending::Stuck { from }))
+    } else {
+        Ok(Some(Ending::AtRest { from }))
+    }
+}
+
+/// Runs these turns of the barrel, and says from which turn on no step moved.
+pub(crate) fn run_telling<A: Allocator>(bare: &mut BareMachine<A>, round: u32, turns: u32) -> u32
+    requires some { 1 ≤ round }
+    requires most { round ≤ processor_count }
+    ensures ran { (m : MachineState) → round ≡ processors_in m.profile → StandsFor bare.old m
+        → StandsFor bare.new (after_turns turns m) }
+    ensures still { (m : MachineState) → round ≡ processors_in m.profile → StandsFor bare.old m
+        → IsStillFrom result turns m }
+{
+    let mut from = 0;
+    for turn in 0..turns {
+        if step_telling(bare, PpNo::at((turn % round) as usize)) {
+            from = turn + 1;
+        }
+    }
+    from
+}

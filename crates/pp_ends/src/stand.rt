@@ -1,0 +1,63 @@
+//! What a step that moves changes of its processor.
+
+ghost use Rattle.std.specs.Prelude.{◌≡◌, ◌↔◌, IsTrue};
+ghost use Rattle.pp_machine.specs.Processor.{IsProcessor};
+ghost use Rattle.pp_ends.specs.Stand.{is_running, next_in, stand_of};
+
+use pp_machine::{Block, Pp, PpState};
+use pp_word::Word12;
+
+/// Where a processor stands: a step that moves changes some of this. So a step need not be compared
+/// by the whole memory before and after it.
+#[derive(Clone, Copy, Debug, PartialEq, Eq)]
+pub(crate) struct Stand {
+    pub(crate) p: Word12,
+    pub(crate) running: bool,
+    /// The next place of a block in progress.
+    pub(crate) block: Option<Word12>,
+    /// The word before P, which a return jump to itself stores.
+    pub(crate) before: Word12,
+}
+
+impl Stand {
+    /// Where a processor stands now.
+    pub(crate) fn of(pp: &Pp) -> Stand
+        ensures stand { result ≡ stand_of pp.now }
+        ensures widths { IsProcessor pp.now }
+    {
+        let p = pp.p();
+        let place = Word12::truncated(u32::from(p.get()) + 0o7777);
+        Stand {
+            p,
+            running: is_running(pp.state()),
+            block: next_in(&pp.block()),
+            before: pp.get(place),
+        }
+    }
+
+    /// Whether it is the same as another.
+    pub(crate) fn is_same(&self, other: &Stand) -> bool
+        ensures { IsTrue result ↔ (self.now ≡ other.now) }
+    {
+        *self == *other
+    }
+}
+
+fn is_running(state: PpState) -> bool
+    ensures { result ≡ is_running state }
+{
+    match state {
+        PpState::Running => true,
+        PpState::Stopped | PpState::Fault(_) => false,
+    }
+}
+
+/// The next place of a block in progress.
+fn next_in(block: &Option<Block>) -> Option<Word12>
+    ensures { result ≡ next_in block.now }
+{
+    match block {
+        None => None,
+        Some(block) => Some(block.place),
+    }
+}

@@ -1,0 +1,4 @@
+mod TextLemmas
+mod LineLemmas
+mod ReadingLemmas
+mod LawLemmas

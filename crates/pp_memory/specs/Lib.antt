@@ -1,0 +1,4 @@
+pub mod DisplayCode
+pub mod MemoryText
+pub mod CentralText
+pub mod Reading

@@ -1,6 +1,0 @@
-mod CircleLemmas
-mod MachineLemmas
-mod AnswerLemmas
-mod WorkingLemmas
-mod ServeLemmas
-mod ReportLemmas

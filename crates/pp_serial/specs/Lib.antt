@@ -1,2 +1,0 @@
-pub mod Circle
-pub mod Serial

@@ -1,0 +1,30 @@
+//! Reading a deck and writing a text of it.
+
+ghost use Rattle.pp_sim.specs.TextAnswer.{AnswersDeckUnless};
+ghost use Rattle.pp_sim.specs.TextOf.{IsTextOf, hindrance};
+
+use crate::deck_bytes::DeckBytes;
+use crate::streams::read_front;
+use crate::text_fault::TextFault;
+use crate::text_of::TextOf;
+use pp_machine::Profile;
+use std::alloc::Allocator;
+use std::io::{Read, Write};
+
+/// Reads a deck for a machine of this profile, and writes this text of it. Where a dump is asked
+/// for and there is none, nothing is written, and the answer is `NotBetweenPrograms`.
+pub fn deck_text<A: Allocator + Copy, R: Read, W: Write>(
+    alloc: A,
+    profile: Profile,
+    reader: &mut R,
+    writer: &mut W,
+    text: &TextOf,
+) -> Result<(), TextFault>
+    ensures { AnswersDeckUnless profile (hindrance text.now) (IsTextOf text.now) result
+        (R.remaining reader.old) (R.remaining reader.new)
+        (W.contents writer.old) (W.contents writer.new) }
+{
+    let front = read_front(alloc, reader)?;
+    let bytes = front.as_slice();
+    text.write(alloc, &DeckBytes { profile, bytes }, writer)
+}
