@@ -7,7 +7,7 @@ use Rattle.pp_machine.specs.MachineState.{MachineState}
 use Rattle.pp_machine.specs.PpNo.{names_processor, processor_count, processor_index}
 use Rattle.pp_machine.specs.ProcessorPlaces.{one_place, place_below}
 use Rattle.pp_machine.specs.Profile.{processor_in_turn}
-use Rattle.pp_every_order.specs.Determinacy.{Waits}
+use Rattle.pp_run.specs.Determinacy.{Waits}
 use Rattle.pp_ends.specs.Endings.{TellsMove, after_turns}
 use Rattle.pp_ends.specs.Loops.{IsLoop, MovesIn, TellLoops, TellsLoop, loop_of, noted, place_at, widened}
 use Rattle.pp_ends.specs.declared.loops.Loop.{Loop}

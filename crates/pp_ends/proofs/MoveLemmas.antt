@@ -29,8 +29,8 @@ use Rattle.pp_word.specs.Address.{next_place, place_after}
 use Rattle.pp_word.specs.OnesComplement.{difference}
 use Rattle.pp_word.specs.declared.opcode.Opcode.{Opcode}
 use Rattle.pp_word.specs.declared.opcode.Opcode.TheVariants.{CWD, IAN, OAN, ACN, DCN, FAN, FNC}
-use Rattle.pp_every_order.specs.Determinacy.{Waits}
-use Rattle.pp_every_order.proofs.StepFacts.{central_by, event_by, event_by_need, own_step}
+use Rattle.pp_run.specs.Determinacy.{Waits}
+use Rattle.pp_run.proofs.StepFacts.{central_by, event_by, event_by_need, own_step}
 
 -- P goes on to another place
 pub goes_by : (p n : ℕ) → n ≡ 1 → place_after p n ≢ p

@@ -11,8 +11,8 @@ use Rattle.pp_machine.specs.PpNo.{processor_count, processor_index, processor_nu
 use Rattle.pp_machine.specs.Processor.{IsAtRest, Processor, no_processor}
 use Rattle.pp_machine.specs.ProcessorPlaces.{named_below, number_of_place}
 use Rattle.pp_machine.proofs.StepLemmas.{rest_changes_nothing}
-use Rattle.pp_every_order.specs.Determinacy.{Waits}
-use Rattle.pp_every_order.proofs.StepFacts.{own_step}
+use Rattle.pp_run.specs.Determinacy.{Waits}
+use Rattle.pp_run.proofs.StepFacts.{own_step}
 use Rattle.pp_ends.specs.declared.stand.Stand.{Stand}
 use Rattle.pp_ends.specs.Endings.{TellsMove, TellsQuiet, TellsRunning}
 use Rattle.pp_ends.specs.Stand.{stand_of}

@@ -14,8 +14,8 @@ use Rattle.pp_machine.specs.RunLaws.{barrel_more}
 use Rattle.pp_machine.specs.declared.need.Need.{Need}
 use Rattle.pp_machine.specs.declared.need.Need.TheVariants.{Nothing, Local, Channel, Read, Write}
 use Rattle.pp_machine.specs.declared.trace.Trace.{Trace}
-use Rattle.pp_every_order.specs.Determinacy.{IsQuiet, Waits}
-use Rattle.pp_every_order.proofs.StepFacts.{central_by, event_by, event_by_need, histories_by, histories_none, own_step, processors_by, trace_by, trace_with}
+use Rattle.pp_run.specs.Determinacy.{IsQuiet, Waits}
+use Rattle.pp_run.proofs.StepFacts.{central_by, event_by, event_by_need, histories_by, histories_none, own_step, processors_by, trace_by, trace_with}
 use Rattle.pp_ends.specs.Endings.{AreSameButTurns, EndsQuietFrom, IsStillFrom, MovesAt, WaitsAt, after_turns}
 
 -- a step that waits keeps histories and trace

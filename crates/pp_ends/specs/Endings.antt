@@ -9,7 +9,7 @@ use Rattle.pp_machine.specs.Processor.{IsAtRest}
 use Rattle.pp_machine.specs.Profile.{processor_in_turn, processors_in}
 use Rattle.pp_machine.specs.Run.{barrel, run}
 use Rattle.pp_machine.specs.declared.pp_state.PpState.TheVariants.{Running}
-use Rattle.pp_every_order.specs.Determinacy.{IsQuiet, Waits}
+use Rattle.pp_run.specs.Determinacy.{IsQuiet, Waits}
 use Rattle.pp_ends.specs.declared.ending.Ending.{Ending}
 use Rattle.pp_ends.specs.declared.ending.Ending.TheVariants as endings
 use Rattle.pp_ends.specs.declared.ending.Ending.TheVariants.{AtRest, GoingOn, Stuck}
@@ -84,12 +84,14 @@ IsEnding (endings.Repeats from every) turns m =
     (¬ IsQuiet (after_turns turns m)) × FirstRepeats from every turns m
 IsEnding GoingOn turns m = GoesOn turns m
 
+-- ---- cited by private contracts alone
+
 -- a flag that is true where a step of processor n moves, false where it waits
 pub record TellsMove (flag : Bool) (n : ℕ) (m : MachineState) : Type 0 where
   pub moves : IsTrue flag → ¬ Waits n m
   pub waits : OnFalse flag (Waits n m)
 
--- and one that is true where a machine is quiet
+-- a flag that is true where a machine is quiet
 pub record TellsQuiet (flag : Bool) (m : MachineState) : Type 0 where
   pub quiet : IsTrue flag → IsQuiet m
   pub moves : OnFalse flag (¬ IsQuiet m)
@@ -98,8 +100,3 @@ pub record TellsQuiet (flag : Bool) (m : MachineState) : Type 0 where
 pub record TellsRunning (flag : Bool) (m : MachineState) : Type 0 where
   pub running : IsTrue flag → (n : ℕ) × ((processor_of n m).state ≡ Running)
   pub at_rest : OnFalse flag ((n : ℕ) → IsAtRest (processor_of n m))
-
--- a flag that is true where two machines stand alike
-pub record TellsAlike (flag : Bool) (one other : MachineState) : Type 0 where
-  pub alike : IsTrue flag → StandAlike one other
-  pub differ : OnFalse flag (¬ StandAlike one other)

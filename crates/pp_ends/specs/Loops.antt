@@ -55,4 +55,5 @@ widened (Some loop) p = record { first = min loop.first p; last = max loop.last 
 -- the loops after a step of processor n, which stood at P before, by whether the step moved
 abbrev pub noted : List (Option Loop) → ℕ → ℕ → Bool → List (Option Loop)
 noted loops n p moved =
-    if moved then slice_set loops (processor_index n) (Some (widened (loop_of loops n) p)) else loops
+    if moved then slice_set loops (processor_index n) (Some (widened (loop_of loops n) p))
+    else loops

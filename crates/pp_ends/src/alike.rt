@@ -1,14 +1,14 @@
 //! Whether machines stand alike.
 
 ghost use Rattle.std.specs.Prelude.{◌≡◌, ◌≢◌, ◌<◌, ◌↔◌, IsNone, IsSome, IsTrue, false};
-ghost use Rattle.pp_bare.specs.BareMachine.{StandsFor};
+ghost use Rattle.pp_run.specs.BareMachine.{StandsFor};
 ghost use Rattle.pp_machine.specs.MachineState.{MachineState};
 ghost use Rattle.pp_ends.specs.Endings.{StandAlike};
 
 use crate::spots::{Spot, Spots};
-use pp_bare::BareMachine;
 use pp_channel::{CHANNELS, ChannelNo, ChannelState};
 use pp_machine::{Block, BlockKind, Central, PROCESSORS, Pp, PpNo, PpState, Profile};
+use pp_run::BareMachine;
 use pp_word::{Word12, Word18};
 use std::alloc::Allocator;
 

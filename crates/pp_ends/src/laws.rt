@@ -7,7 +7,7 @@ ghost use Rattle.pp_machine.specs.Headline.{HoldsOnEachChannel};
 ghost use Rattle.pp_machine.specs.MachineState.{MachineState, processor_of};
 ghost use Rattle.pp_machine.specs.MachineStep.{stepped};
 ghost use Rattle.pp_machine.specs.Run.{run};
-ghost use Rattle.pp_every_order.specs.Determinacy.{IsQuiet, Waits};
+ghost use Rattle.pp_run.specs.Determinacy.{IsQuiet, Waits};
 ghost use Rattle.pp_ends.specs.declared.ending.Ending.{Ending};
 ghost use Rattle.pp_ends.specs.Endings.{AreSameButTurns, EndsQuietFrom, IsEnding, Repeats, StandAlike, after_turns};
 

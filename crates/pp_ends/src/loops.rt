@@ -7,9 +7,9 @@ use crate::ending::Ending;
 use crate::quiet::step_telling;
 use crate::rounds::round_of;
 use crate::run::run_telling;
-use pp_bare::BareMachine;
 use pp_channel::Memory;
 use pp_machine::{Machine, PROCESSORS, PpNo};
+use pp_run::BareMachine;
 use pp_word::Word12;
 use std::alloc::Allocator;
 

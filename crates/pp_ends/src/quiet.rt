@@ -1,15 +1,15 @@
 //! Whether steps move.
 
 ghost use Rattle.std.specs.Prelude.{◌≡◌, IsTrue};
-ghost use Rattle.pp_bare.specs.BareMachine.{StandsFor};
+ghost use Rattle.pp_run.specs.BareMachine.{StandsFor};
 ghost use Rattle.pp_machine.specs.MachineState.{MachineState};
 ghost use Rattle.pp_machine.specs.MachineStep.{answer_to, stepped};
 ghost use Rattle.pp_machine.specs.Replay.{fits};
 ghost use Rattle.pp_ends.specs.Endings.{TellsMove, TellsQuiet, TellsRunning};
 
 use crate::stand::Stand;
-use pp_bare::BareMachine;
 use pp_machine::{Answer, Need, PROCESSORS, PpNo, PpState};
+use pp_run::BareMachine;
 use std::alloc::Allocator;
 
 /// One step of a processor. Says whether it moved.

@@ -1,7 +1,7 @@
 //! Repetitions, found round by round.
 
 ghost use Rattle.std.specs.Prelude.{◌≡◌, ◌+◌, ◌<◌, ◌^◌, ◌≤◌, ℕ, IfOk};
-ghost use Rattle.pp_bare.specs.BareMachine.{StandsFor};
+ghost use Rattle.pp_run.specs.BareMachine.{StandsFor};
 ghost use Rattle.pp_machine.specs.MachineState.{MachineState};
 ghost use Rattle.pp_machine.specs.PpNo.{processor_count};
 ghost use Rattle.pp_machine.specs.Profile.{processors_in};
@@ -9,9 +9,9 @@ ghost use Rattle.pp_ends.specs.Rounds.{PeriodWithin, StartWithin, after_rounds};
 
 use crate::alike::stand_alike;
 use crate::spots::Spots;
-use pp_bare::BareMachine;
 use pp_channel::Memory;
 use pp_machine::{Machine, PpNo};
+use pp_run::BareMachine;
 use std::alloc::Allocator;
 
 /// How many turns a round of the barrel of a machine has.

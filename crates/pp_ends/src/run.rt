@@ -1,19 +1,19 @@
 //! How runs end.
 
 ghost use Rattle.std.specs.Prelude.{◌≡◌, ◌≤◌, ℕ, IfOk, IfSome, IsNone};
-ghost use Rattle.pp_bare.specs.BareMachine.{StandsFor};
+ghost use Rattle.pp_run.specs.BareMachine.{StandsFor};
 ghost use Rattle.pp_machine.specs.MachineState.{MachineState};
 ghost use Rattle.pp_machine.specs.PpNo.{processor_count};
 ghost use Rattle.pp_machine.specs.Profile.{processors_in};
-ghost use Rattle.pp_every_order.specs.Determinacy.{IsQuiet};
+ghost use Rattle.pp_run.specs.Determinacy.{IsQuiet};
 ghost use Rattle.pp_ends.specs.Endings.{IsEnding, IsStillFrom, after_turns};
 
 use crate::ending::Ending;
 use crate::quiet::{is_quiet, is_running, step_telling};
 use crate::rounds::{find_period, find_start, round_of};
-use pp_bare::BareMachine;
 use pp_channel::Memory;
 use pp_machine::{Machine, PpNo};
+use pp_run::BareMachine;
 use std::alloc::Allocator;
 
 /// How a run of this many turns of the barrel (decimal) ends. The machine is only read: at most two
@@ -52,7 +52,8 @@ fn quiet_ending<A: Allocator + Copy, B: Allocator>(
 ) -> Result<Option<Ending>, Memory>
     ensures ending { IfOk result (λ found. IfSome found (λ ending.
         IsEnding ending turns machine.now)) }
-    ensures moves { IfOk result (λ found. IsNone found → ¬ IsQuiet (after_turns turns machine.now)) }
+    ensures moves { IfOk result (λ found. IsNone found
+        → ¬ IsQuiet (after_turns turns machine.now)) }
 {
     let mut bare = BareMachine::of(alloc, machine)?;
     let from = run_telling(&mut bare, round_of(machine), turns);

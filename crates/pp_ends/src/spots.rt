@@ -1,12 +1,12 @@
 //! Where two machines have differed.
 
 ghost use Rattle.std.specs.Prelude.{IsTrue};
-ghost use Rattle.pp_bare.specs.BareMachine.{StandsFor};
+ghost use Rattle.pp_run.specs.BareMachine.{StandsFor};
 ghost use Rattle.pp_machine.specs.MachineState.{MachineState};
 ghost use Rattle.pp_ends.specs.Endings.{StandAlike};
 
-use pp_bare::BareMachine;
 use pp_machine::PpNo;
+use pp_run::BareMachine;
 use pp_word::{Word12, Word18};
 use std::alloc::Allocator;
 

@@ -19,7 +19,7 @@ use Rattle.pp_machine.specs.Processor.{Processor}
 use Rattle.pp_machine.specs.ProcessorPlaces as processor_places
 use Rattle.pp_machine.specs.declared.need.Need.TheVariants.{Channel}
 use Rattle.pp_machine.specs.declared.trace.Trace.{Trace}
-use Rattle.pp_every_order.proofs.StepFacts.{history_elsewhere, history_here, trace_with}
+use Rattle.pp_run.proofs.StepFacts.{history_elsewhere, history_here, trace_with}
 use Rattle.pp_races.specs.FlagSets.{has, look_at, no_looks}
 use Rattle.pp_races.specs.OtherFlags.{waits_at}
 use Rattle.pp_races.specs.Spans.{IsIndex}

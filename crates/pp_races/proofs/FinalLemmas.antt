@@ -21,8 +21,8 @@ use Rattle.pp_machine.specs.declared.need.Need.TheVariants.{Channel}
 use Rattle.pp_machine.specs.declared.pp_state.PpState.TheVariants.{Running, Stopped}
 use Rattle.pp_machine.specs.declared.trace.Trace.{Trace}
 use Rattle.pp_machine.proofs.StepLemmas.{nothing_at_rest}
-use Rattle.pp_every_order.specs.Determinacy.{IsDeterminate, IsSettled, UsesAt, WritesAt, at_moment, history_at, need_at, processor_at}
-use Rattle.pp_every_order.proofs.Moments.{moment_past, run_central}
+use Rattle.pp_run.specs.Determinacy.{IsDeterminate, IsSettled, UsesAt, WritesAt, at_moment, history_at, need_at, processor_at}
+use Rattle.pp_run.proofs.Moments.{moment_past, run_central}
 use Rattle.pp_races.specs.Findings.{end_by_need, end_of, held_before, is_shared, sharing_of, turns_in_place}
 use Rattle.pp_races.specs.OtherFlags.{is_same, makes_none, position_at, position_of, waits_at}
 use Rattle.pp_races.specs.OnePass.{WaitsAt, flags_at}

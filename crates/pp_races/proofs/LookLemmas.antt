@@ -16,7 +16,7 @@ use Rattle.pp_machine.specs.Processor.{Processor}
 use Rattle.pp_machine.specs.declared.need.Need.{Need}
 use Rattle.pp_machine.specs.declared.need.Need.TheVariants.{Channel}
 use Rattle.pp_machine.specs.declared.trace.Trace.{Trace}
-use Rattle.pp_every_order.proofs.StepFacts.{histories_by, histories_none, trace_by, trace_with}
+use Rattle.pp_run.proofs.StepFacts.{histories_by, histories_none, trace_by, trace_with}
 use Rattle.pp_races.specs.FlagSets.{has, look_at, no_looks}
 use Rattle.pp_races.specs.OtherFlags.{found_at, is_alike, is_race, waits_at}
 use Rattle.pp_races.specs.Spans.{IsIndex}

@@ -17,8 +17,8 @@ use Rattle.pp_machine.specs.Run.{run, barrel}
 use Rattle.pp_machine.specs.RunLaws.{length-barrel, run-append}
 use Rattle.pp_machine.specs.declared.need.Need.{Need}
 use Rattle.pp_machine.specs.declared.profile.Profile.{Profile}
-use Rattle.pp_every_order.specs.Determinacy.{IsDeterminate, UsesAt, WritesAt, at_moment, need_at}
-use Rattle.pp_every_order.proofs.Moments.{moment_next, moment_each, mono, run_central, run_processors}
+use Rattle.pp_run.specs.Determinacy.{IsDeterminate, UsesAt, WritesAt, at_moment, need_at}
+use Rattle.pp_run.proofs.Moments.{moment_next, moment_each, mono, run_central, run_processors}
 use Rattle.pp_races.specs.Findings.{end_of, findings, findings_at_end, sharing_of}
 use Rattle.pp_races.specs.OtherFlags.{waits_at}
 use Rattle.pp_races.specs.OnePass.{Watched}

@@ -20,8 +20,8 @@ use Rattle.pp_machine.specs.ProcessorPlaces as processor_places
 use Rattle.pp_machine.specs.declared.need.Need.{Need}
 use Rattle.pp_machine.specs.declared.need.Need.TheVariants.{Channel}
 use Rattle.pp_machine.specs.declared.trace.Trace.{Trace}
-use Rattle.pp_every_order.specs.Determinacy.{Stays}
-use Rattle.pp_every_order.proofs.StepFacts.{central_by, event_by_need, history_elsewhere, history_here, history_unless, own_step}
+use Rattle.pp_run.specs.Determinacy.{Stays}
+use Rattle.pp_run.proofs.StepFacts.{central_by, event_by_need, history_elsewhere, history_here, history_unless, own_step}
 use Rattle.pp_races.specs.OtherFlags.{found_at, is_alike, is_race, is_same, makes_none, position_at, position_of, shown_to, waits_at}
 use Rattle.pp_races.specs.OnePass.{DoesAsAt, IsChecked, WaitsAt, flags_at}
 use Rattle.pp_races.specs.OnePass.IsChecked.{step_waits, step_elsewhere, step_looks, step_makes}

@@ -18,13 +18,13 @@ use Rattle.pp_machine.specs.Run.{run}
 use Rattle.pp_machine.specs.declared.answer.Answer.{Answer}
 use Rattle.pp_machine.specs.declared.need.Need.{Need}
 use Rattle.pp_machine.specs.declared.need.Need.TheVariants.{Channel}
-use Rattle.pp_every_order.specs.Determinacy.{Waits, IsTimely, IsTimelyOn, IsInTime, Stays, DoesTheSame, GoesOnAlone, WaitsForGood, MayFind, at_moment, processor_at, history_at, need_at}
+use Rattle.pp_run.specs.Determinacy.{Waits, IsTimely, IsTimelyOn, IsInTime, Stays, DoesTheSame, GoesOnAlone, WaitsForGood, MayFind, at_moment, processor_at, history_at, need_at}
 use Rattle.pp_races.specs.OnePass.IsChecked.{step_waits, step_elsewhere, step_looks, step_makes}
-use Rattle.pp_every_order.specs.Determinacy.MayFind.{start, channel_goes_on, processor_goes_on, both_go_on}
+use Rattle.pp_run.specs.Determinacy.MayFind.{start, channel_goes_on, processor_goes_on, both_go_on}
 use Rattle.pp_races.specs.OtherFlags.{makes_none, shown_to}
 use Rattle.pp_races.specs.OnePass.{WaitsAt, DoesAsAt, NoneBetween, IsOpen, Passed, Watched, IsLook, IsEvent, IsChecked}
-use Rattle.pp_every_order.proofs.StepFacts.{event_by_need, history_here, history_elsewhere, history_unless}
-use Rattle.pp_every_order.proofs.Moments.{moment_next, moment_past, moment_each, history_step, mono, sides}
+use Rattle.pp_run.proofs.StepFacts.{event_by_need, history_here, history_elsewhere, history_unless}
+use Rattle.pp_run.proofs.Moments.{moment_next, moment_past, moment_each, history_step, mono, sides}
 
 -- what an operation that makes no event is shown
 if_not : {X : Type 0} (b : Bool) (x y : X) → not b ≡ true → (if b then x else y) ≡ y

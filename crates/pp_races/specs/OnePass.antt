@@ -11,7 +11,7 @@ use Rattle.pp_machine.specs.NeedAndEffect.{need, processor_after}
 use Rattle.pp_machine.specs.Processor.{Processor, IsAtRest}
 use Rattle.pp_machine.specs.declared.answer.Answer.{Answer}
 use Rattle.pp_machine.specs.declared.need.Need.{Need}
-use Rattle.pp_every_order.specs.Determinacy.{Waits, Stays, DoesTheSame, MayFind, at_moment, processor_at, history_at, need_at}
+use Rattle.pp_run.specs.Determinacy.{Waits, Stays, DoesTheSame, MayFind, at_moment, processor_at, history_at, need_at}
 use Rattle.pp_races.specs.OtherFlags.{makes_none, shown_to}
 
 -- where the channel has these flags, the processor waits

@@ -10,7 +10,7 @@ use Rattle.pp_machine.specs.NeedAndEffect.{need, processor_after}
 use Rattle.pp_machine.specs.PpNo.{names_processor}
 use Rattle.pp_machine.specs.declared.answer.Answer.{Answer}
 use Rattle.pp_machine.specs.declared.need.Need.{Need}
-use Rattle.pp_every_order.specs.Determinacy.{UsesAt, WritesAt, at_moment, history_at, need_at}
+use Rattle.pp_run.specs.Determinacy.{UsesAt, WritesAt, at_moment, history_at, need_at}
 use Rattle.pp_races.specs.Findings.{turns_in_place}
 use Rattle.pp_races.specs.OnePass.{Watched}
 use Rattle.pp_races.specs.Watch.{Missed, Watch}

@@ -94,9 +94,10 @@ looked n c op m w =
     let step = asking_step n c m in
     record w {
       missed = put n c (from_alike (λ f. is_alike (found f)) (w.missed n c)) w.missed;
-      looks = put n c (λ f. option_or (w.looks n c f) (if is_alike (found f) then None else Some step))
-          w.looks;
-      findings = w.findings ++ race_before step (first_race (λ f. is_race (found f)) (w.missed n c));
+      looks = put n c (λ f. option_or (w.looks n c f)
+          (if is_alike (found f) then None else Some step)) w.looks;
+      findings = w.findings
+          ++ race_before step (first_race (λ f. is_race (found f)) (w.missed n c));
     }
 
 -- what there is of 0, of 1, .. and of count - 1, one after another

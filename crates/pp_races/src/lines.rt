@@ -70,8 +70,9 @@ fn push_shared_line(
     users: &[bool; PROCESSORS],
 )
     requires { HasRoom 320 line.old }
-    ensures { line.new ≡ line.old ++ (codes "CM " ++ octal 6 address ++ codes " WRITTEN BY "
-        ++ processors_text writers.now ++ codes " USED BY " ++ processors_text users.now ++ line_end) }
+    ensures { line.new ≡ line.old ++ (codes "CM " ++ octal 6 address
+        ++ codes " WRITTEN BY " ++ processors_text writers.now
+        ++ codes " USED BY " ++ processors_text users.now ++ line_end) }
 {
     line.push(b"CM ");
     line.push(&octal6(address));

@@ -2,7 +2,7 @@
 
 ghost use Rattle.std.specs.Prelude.{◌≡◌, ◌≢◌, ◌≤◌, ℕ, [], Err, OnErr, OnOk};
 ghost use Rattle.pp_machine.specs.Run.{barrel, run};
-ghost use Rattle.pp_every_order.specs.Determinacy.{IsDeterminate};
+ghost use Rattle.pp_run.specs.Determinacy.{IsDeterminate};
 ghost use Rattle.pp_text.specs.TextWriter.{Prints};
 ghost use Rattle.pp_text.specs.Written.{IsReportWritten};
 ghost use Rattle.pp_races.specs.Findings.{findings};
@@ -36,8 +36,8 @@ pub fn write_races<A: Allocator + Copy, W: Write>(
     turns: u32,
     events: &[usize; CHANNELS],
 ) -> Result<(), ReportFault>
-    ensures written { IsReportWritten (races_text (barrel machine.old.profile turns) machine.old) result
-        (W.contents writer.old) (W.contents writer.new) }
+    ensures written { IsReportWritten (races_text (barrel machine.old.profile turns) machine.old)
+        result (W.contents writer.old) (W.contents writer.new) }
     ensures same { result ≢ Err ReportFault.Memory
         → findings (barrel machine.old.profile turns) machine.old ≡ []
         → IsDeterminate (barrel machine.old.profile turns) machine.old }

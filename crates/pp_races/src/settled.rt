@@ -102,7 +102,8 @@ fn find_asking<A: Allocator>(
     findings: &mut Vec<Finding, A>,
 ) -> Result<(), Memory>
     requires needs { need (processor_of n machine.now) ≡ Need.Channel c op.now }
-    requires index { IsIndex machine.now.trace index.now.latest index.now.short.items index.now.long.items }
+    requires index { IsIndex machine.now.trace index.now.latest index.now.short.items
+        index.now.long.items }
     requires low { length low.now ≡ entry_count }
     ensures { OnOk result ((w : Watch) → AreLow machine.now w low.now → findings.new.items
         ≡ findings.old.items ++ end_by_need (Need.Channel c op.now) n machine.now w) }
@@ -127,7 +128,8 @@ fn find_end<A: Allocator>(
     low: &[Low],
     findings: &mut Vec<Finding, A>,
 ) -> Result<(), Memory>
-    requires index { IsIndex machine.now.trace index.now.latest index.now.short.items index.now.long.items }
+    requires index { IsIndex machine.now.trace index.now.latest index.now.short.items
+        index.now.long.items }
     requires low { length low.now ≡ entry_count }
     ensures found { OnOk result ((w : Watch) → AreLow machine.now w low.now
         → findings.new.items ≡ findings.old.items ++ end_of machine.now w n) }
@@ -152,7 +154,8 @@ pub(crate) fn find_unsettled<A: Allocator>(
     low: &[Low],
     findings: &mut Vec<Finding, A>,
 ) -> Result<(), Memory>
-    requires index { IsIndex machine.now.trace index.now.latest index.now.short.items index.now.long.items }
+    requires index { IsIndex machine.now.trace index.now.latest index.now.short.items
+        index.now.long.items }
     requires low { length low.now ≡ entry_count }
     ensures found { OnOk result ((w : Watch) → AreLow machine.now w low.now
         → findings.new.items ≡ findings.old.items ++ each_number (end_of machine.now w)) }

@@ -32,7 +32,8 @@ impl<A: Allocator> TraceIndex<A> {
     pub(crate) fn of(alloc: A, trace: &[Trace], events: usize) -> Result<TraceIndex<A>, Memory>
     where
         A: Copy,
-        ensures { IfOk result (λ index. IsIndex trace.now index.latest index.short.items index.long.items) }
+        ensures { IfOk result (λ index. IsIndex trace.now
+            index.latest index.short.items index.long.items) }
     {
         let all = trace.len().saturating_add(events);
         let mut index = TraceIndex {
@@ -49,8 +50,8 @@ impl<A: Allocator> TraceIndex<A> {
     /// Takes in an event that follows this trace.
     pub(crate) fn push(&mut self, trace: &[Trace], made: &Trace) -> Result<(), Memory>
         requires { IsIndex trace.now self.old.latest self.old.short.items self.old.long.items }
-        ensures { OnOk result (IsIndex (trace.now ++ made.now ∷ []) self.new.latest self.new.short.items
-            self.new.long.items) }
+        ensures { OnOk result (IsIndex (trace.now ++ made.now ∷ [])
+            self.new.latest self.new.short.items self.new.long.items) }
     {
         let after = flags_after(&made.event);
         let place = made.channel.index();
@@ -81,7 +82,8 @@ impl<A: Allocator> TraceIndex<A> {
         c: ChannelNo,
         set: &FlagSet,
     ) -> Option<Low>
-        requires index { IsIndex trace.now self.now.latest self.now.short.items self.now.long.items }
+        requires index { IsIndex trace.now
+            self.now.latest self.now.short.items self.now.long.items }
         requires within { low.now.from < length trace.now }
         ensures { IfSome result (λ next. GoesOnFrom c set.now trace.now low.now next) }
     {

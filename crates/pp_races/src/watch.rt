@@ -45,7 +45,8 @@ fn push_before<A: Allocator>(
     step: &AskingStep,
     entry: &Option<Trace>,
 ) -> Result<(), Memory>
-    ensures { OnOk result (findings.new.items ≡ findings.old.items ++ race_before step.now entry.now) }
+    ensures { OnOk result (findings.new.items
+        ≡ findings.old.items ++ race_before step.now entry.now) }
 {
     if let Some(entry) = entry {
         findings.push(Finding::Before(*step, *entry))?;
@@ -66,14 +67,16 @@ fn take_look<A: Allocator>(
 ) -> Result<(), Memory>
     requires needs { need (processor_of n machine.now) ≡ Need.Channel c op.now }
     requires none { event_of op.now (history_of c machine.now) ≡ None }
-    requires index { IsIndex machine.now.trace index.now.latest index.now.short.items index.now.long.items }
+    requires index { IsIndex machine.now.trace index.now.latest index.now.short.items
+        index.now.long.items }
     requires low { length low.old ≡ entry_count }
     requires looks { length looks.old ≡ entry_count }
-    ensures index { OnOk result (IsIndex (stepped n machine.now).trace index.now.latest index.now.short.items
-        index.now.long.items) }
-    ensures watched { OnOk result ((w : Watch) → AreWatched machine.now w low.old looks.old findings.old.items
-        → AreWatched (stepped n machine.now) (looked n c op.now machine.now w) low.new looks.new
-        findings.new.items) }
+    ensures index { OnOk result (IsIndex (stepped n machine.now).trace
+        index.now.latest index.now.short.items index.now.long.items) }
+    ensures watched { OnOk result ((w : Watch)
+        → AreWatched machine.now w low.old looks.old findings.old.items
+        → AreWatched (stepped n machine.now) (looked n c op.now machine.now w)
+        low.new looks.new findings.new.items) }
 {
     let sets = look_sets(machine.pp(n), c, op, machine.channel(c).flags());
     let step = AskingStep::of(machine, n, c);
@@ -150,14 +153,16 @@ fn take_event<A: Allocator>(
 ) -> Result<(), Memory>
     requires needs { need (processor_of n machine.now) ≡ Need.Channel c op.now }
     requires event { event_of op.now (history_of c machine.now) ≡ Some event.now }
-    requires index { IsIndex machine.now.trace index.old.latest index.old.short.items index.old.long.items }
+    requires index { IsIndex machine.now.trace index.old.latest index.old.short.items
+        index.old.long.items }
     requires low { length low.old ≡ entry_count }
     requires looks { length looks.old ≡ entry_count }
-    ensures index { OnOk result (IsIndex (stepped n machine.now).trace index.new.latest index.new.short.items
-        index.new.long.items) }
-    ensures watched { OnOk result ((w : Watch) → AreWatched machine.now w low.old looks.old findings.old.items
-        → AreWatched (stepped n machine.now) (made n c op.now event.now machine.now w) low.new
-        looks.new findings.new.items) }
+    ensures index { OnOk result (IsIndex (stepped n machine.now).trace
+        index.new.latest index.new.short.items index.new.long.items) }
+    ensures watched { OnOk result ((w : Watch)
+        → AreWatched machine.now w low.old looks.old findings.old.items
+        → AreWatched (stepped n machine.now) (made n c op.now event.now machine.now w)
+        low.new looks.new findings.new.items) }
 {
     let trace = machine.events();
     let entry = entry_place(n, c);
@@ -192,12 +197,13 @@ fn take_asked<A: Allocator>(
     findings: &mut Vec<Finding, A>,
 ) -> Result<(), Memory>
     requires needs { need (processor_of n machine.now) ≡ Need.Channel c op.now }
-    requires index { IsIndex machine.now.trace index.old.latest index.old.short.items index.old.long.items }
+    requires index { IsIndex machine.now.trace index.old.latest index.old.short.items
+        index.old.long.items }
     requires low { length low.old ≡ entry_count }
     requires looks { length looks.old ≡ entry_count }
     ensures sound { IsAskedWell (Need.Channel c op.now) machine.now }
-    ensures index { OnOk result (IsIndex (stepped n machine.now).trace index.new.latest index.new.short.items
-        index.new.long.items) }
+    ensures index { OnOk result (IsIndex (stepped n machine.now).trace
+        index.new.latest index.new.short.items index.new.long.items) }
     ensures watched { OnOk result ((w : Watch)
         → AreWatched machine.now w low.old looks.old findings.old.items
         → AreWatched (stepped n machine.now)
@@ -228,16 +234,17 @@ pub(crate) fn take_step<A: Allocator>(
     findings: &mut Vec<Finding, A>,
 ) -> Result<(), Memory>
     requires needs { asked.now ≡ need (processor_of n machine.now) }
-    requires index { IsIndex machine.now.trace index.old.latest index.old.short.items index.old.long.items }
+    requires index { IsIndex machine.now.trace index.old.latest index.old.short.items
+        index.old.long.items }
     requires low { length low.old ≡ entry_count }
     requires looks { length looks.old ≡ entry_count }
     ensures sound { IsAskedWell asked.now machine.now }
-    ensures index { OnOk result (IsIndex (stepped n machine.now).trace index.new.latest index.new.short.items
-        index.new.long.items) }
+    ensures index { OnOk result (IsIndex (stepped n machine.now).trace
+        index.new.latest index.new.short.items index.new.long.items) }
     ensures watched { OnOk result ((w : Watch)
         → AreWatched machine.now w low.old looks.old findings.old.items
-        → AreWatched (stepped n machine.now) (watched_need asked.now n machine.now w) low.new looks.new
-        findings.new.items) }
+        → AreWatched (stepped n machine.now) (watched_need asked.now n machine.now w)
+        low.new looks.new findings.new.items) }
 {
     match asked {
         Need::Channel(c, op) => take_asked(machine, n, *c, op, index, low, looks, findings),

@@ -2,7 +2,7 @@
 
 ghost use Rattle.std.specs.Prelude.{◌≡◌, ◌≤◌, ℕ, [], List, IfErr, IfOk, OnErr, OnOk};
 ghost use Rattle.pp_machine.specs.Run.{barrel, run};
-ghost use Rattle.pp_every_order.specs.Determinacy.{IsDeterminate};
+ghost use Rattle.pp_run.specs.Determinacy.{IsDeterminate};
 ghost use Rattle.pp_races.specs.Findings.{findings};
 ghost use Rattle.pp_races.specs.Printing.{PrintsFindings, PrintsFirst};
 ghost use Rattle.pp_races.specs.Watch.{unwatched};
@@ -30,8 +30,8 @@ pub(crate) fn print_run<A: Allocator, W: Write>(
 ) -> Result<Verdict, Verdict>
     requires { AreTables tables.old machine.old unwatched }
     ensures ran { OnOk result (machine.new ≡ run (barrel machine.old.profile turns) machine.old) }
-    ensures printed { IfOk result (λ verdict. PrintsFindings W.contents text.old text.new Same verdict
-        (findings (barrel machine.old.profile turns) machine.old)) }
+    ensures printed { IfOk result (λ verdict. PrintsFindings W.contents text.old text.new Same
+        verdict (findings (barrel machine.old.profile turns) machine.old)) }
     ensures same { OnOk result (findings (barrel machine.old.profile turns) machine.old ≡ []
         → IsDeterminate (barrel machine.old.profile turns) machine.old) }
     ensures cut { OnErr result ((t : ℕ) × (t ≤ turns)

@@ -1,3 +1,12 @@
+mod CircleLemmas
+mod MachineLemmas
+mod AnswerLemmas
+mod WorkingLemmas
+mod ServeLemmas
+mod ReportLemmas
+mod LoadedLemmas
+mod ThreadsLemmas
+mod OneRunLemmas
 mod AuthorLemmas
 mod EventLineLemmas
 mod LineLemmas

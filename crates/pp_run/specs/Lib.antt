@@ -1,2 +1,4 @@
 pub mod RunSteps
 pub mod RunStepLaws
+pub mod BareMachine
+pub mod Determinacy

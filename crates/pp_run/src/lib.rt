@@ -1,8 +1,16 @@
-//! Runs of a machine in the barrel that something observes, step by step.
+//! Runs of a machine: observed, step by step; over a machine without its record; and the law of
+//! runs whose result is that of every order of steps.
 #![tactic(auto)]
 
+mod bare_machine;
+mod bare_step;
+mod laws;
 mod observed_run;
 mod observer;
+mod progress;
 
+pub use bare_machine::BareMachine;
+pub use laws::determinacy_law;
 pub use observed_run::run_observed;
 pub use observer::Observer;
+pub use progress::Progress;

@@ -1,6 +1,5 @@
 mod AnswerLemmas
 mod ByteLemmas
-mod CommandLemmas
 mod DumpTextLemmas
 mod NumeralLemmas
 mod ReportLemmas

@@ -2,7 +2,7 @@
 use Rattle.std.proofs.Common.{◌≡◌, ℕ, List, ◌++◌, sym, ◌∙◌}
 use Rattle.pp_machine.specs.Run.{barrel}
 use Rattle.pp_deck.specs.DeckMeaning.{LoadedDeck}
-use Rattle.pp_every_order.specs.Determinacy.{IsDeterminate}
+use Rattle.pp_run.specs.Determinacy.{IsDeterminate}
 use Rattle.pp_races.specs.Findings.{findings}
 use Rattle.pp_races.specs.RacesText.{verdict_line}
 use Rattle.pp_races.specs.declared.verdict.Verdict.TheVariants.{Same}

@@ -8,5 +8,4 @@ pub mod RacesText
 pub mod StepsText
 pub mod EndsText
 pub mod TextOf
-pub mod CommandLine
 pub mod Program

@@ -5,14 +5,14 @@ use Rattle.clap.specs.Words.{Text, kind_of}
 use Rattle.clap.specs.declared.error.Error.{Error}
 use Rattle.clap.specs.declared.error.kind.ErrorKind.TheVariants.{DisplayHelp, DisplayVersion}
 use Rattle.pp_sim.specs.CheckText.{AnswersTrace}
-use Rattle.pp_sim.specs.CommandLine.{AskFor, IsRefused, refusals}
+use Rattle.pp_command.specs.CommandLine.{AskFor, IsRefused, refusals}
 use Rattle.pp_sim.specs.TextAnswer.{AnswersDeck, AnswersDeckUnless}
 use Rattle.pp_sim.specs.TextOf.{IsTextOf, hindrance}
 use Rattle.pp_sim.specs.ThreadsText.{IsThreadsText}
 use Rattle.pp_text.specs.Written.{AppendsFront}
-use Rattle.pp_sim.specs.declared.line_fault.LineFault.{LineFault}
+use Rattle.pp_command.specs.declared.line_fault.LineFault.{LineFault}
 use Rattle.pp_sim.specs.declared.text_fault.TextFault.{TextFault}
-use Rattle.pp_sim.specs.declared.work.Work.{Work}
+use Rattle.pp_command.specs.declared.work.Work.{Work}
 
 -- ---- words that ask for work
 

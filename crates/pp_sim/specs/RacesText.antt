@@ -3,7 +3,7 @@ use Rattle.std.specs.Prelude.{◌≡◌, ℕ, List, []}
 use Rattle.pp_machine.specs.Headline.{IsMachine}
 use Rattle.pp_machine.specs.Run.{barrel}
 use Rattle.pp_deck.specs.DeckMeaning.{LoadedDeck}
-use Rattle.pp_every_order.specs.Determinacy.{IsDeterminate}
+use Rattle.pp_run.specs.Determinacy.{IsDeterminate}
 use Rattle.pp_races.specs.Findings.{findings}
 use Rattle.pp_races.specs.RacesText.{races_text}
 

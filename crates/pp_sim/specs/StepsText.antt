@@ -3,7 +3,7 @@ use Rattle.std.specs.Prelude.{◌≡◌, ℕ, List, unwrap_or}
 use Rattle.pp_machine.specs.Run.{barrel}
 use Rattle.pp_deck.specs.DeckMeaning.{LoadedDeck}
 use Rattle.pp_deck.specs.InUse.{in_use}
-use Rattle.pp_sim.specs.declared.text_of.ChosenSteps.{ChosenSteps}
+use Rattle.pp_command.specs.declared.text_of.ChosenSteps.{ChosenSteps}
 use Rattle.pp_steps.specs.StepsText.{steps_text}
 use Rattle.pp_steps.specs.declared.choice.Choice.{Choice}
 

@@ -7,9 +7,9 @@ use Rattle.pp_deck.specs.DeckMeaning.{LoadedDeck}
 use Rattle.pp_draw.specs.DrawingText.{drawing_of_run}
 use Rattle.pp_draw.specs.declared.window.Window.{Window}
 use Rattle.pp_listing.specs.declared.going_on.GoingOn.{GoingOn}
-use Rattle.pp_memory.specs.CentralText.{central_text}
-use Rattle.pp_memory.specs.MemoryText.{memory_text}
-use Rattle.pp_memory.specs.declared.bounds.Bounds.{Bounds}
+use Rattle.pp_state.specs.CentralText.{central_text}
+use Rattle.pp_state.specs.MemoryText.{memory_text}
+use Rattle.pp_state.specs.declared.bounds.Bounds.{Bounds}
 use Rattle.pp_sessions.specs.SessionsText.{sessions_after}
 use Rattle.pp_sim.specs.BarrelText.{IsBarrelText}
 use Rattle.pp_sim.specs.DumpText.{HindersDump, IsDumpText}
@@ -18,7 +18,7 @@ use Rattle.pp_sim.specs.ListText.{IsListText}
 use Rattle.pp_sim.specs.RacesText.{IsRacesText}
 use Rattle.pp_sim.specs.StepsText.{IsStepsText}
 use Rattle.pp_sim.specs.TextAnswer.{Never}
-use Rattle.pp_sim.specs.declared.text_of.TextOf.{TextOf}
+use Rattle.pp_command.specs.declared.text_of.TextOf.{TextOf}
 use Rattle.pp_state.specs.StateText.{state_after}
 
 -- the text of a loaded deck after N turns of the barrel, by these turns and the deck; of that run

@@ -2,7 +2,7 @@
 use Rattle.std.specs.Prelude.{◌≡◌, ℕ, List}
 use Rattle.pp_deck.specs.DeckLaw.{NamesWithin}
 use Rattle.pp_deck.specs.DeckMeaning.{LoadedDeck}
-use Rattle.pp_promises.specs.EveryRun.{HoldsOfThreads}
+use Rattle.pp_report.specs.EveryRun.{HoldsOfThreads}
 use Rattle.pp_runner.specs.Report.{IsReportOf}
 use Rattle.pp_runner.specs.Limits.{RunLimits}
 use Rattle.pp_runner.specs.declared.report.Report.{Report}

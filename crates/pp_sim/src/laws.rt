@@ -9,9 +9,9 @@ ghost use Rattle.pp_deck.specs.DeckMeaning.{LoadedDeck, deck_meaning};
 ghost use Rattle.pp_deck.specs.DeckText.{lines_of};
 ghost use Rattle.pp_machine.specs.Run.{barrel, run};
 ghost use Rattle.pp_machine.specs.declared.profile.Profile.{Profile};
-ghost use Rattle.pp_every_order.specs.Determinacy.{AreAlike, IsQuiet, ShowsParts, StandsIn};
-ghost use Rattle.pp_promises.specs.OneRun.{IsOver, ShowsPartsOf};
-ghost use Rattle.pp_promises.specs.Serial.{LeadsTo};
+ghost use Rattle.pp_run.specs.Determinacy.{AreAlike, IsQuiet, ShowsParts, StandsIn};
+ghost use Rattle.pp_report.specs.OneRun.{IsOver, ShowsPartsOf};
+ghost use Rattle.pp_report.specs.Serial.{LeadsTo};
 ghost use Rattle.pp_races.specs.RacesText.{verdict_line};
 ghost use Rattle.pp_races.specs.declared.verdict.Verdict.TheVariants.{Same};
 ghost use Rattle.pp_runner.specs.Limits.{RunLimits};
@@ -24,9 +24,8 @@ ghost use Rattle.pp_report.specs.ReportLaw.{AgreeOnReport};
 ghost use Rattle.pp_text.specs.TextLaw.{AgreeOnText, AreSameHistories, NameAlike};
 
 use pp_check::{barrel_law, printed_report_law};
-use pp_every_order::determinacy_law;
-use pp_promises::one_run_law;
-use pp_report::report_law;
+use pp_report::{one_run_law, report_law};
+use pp_run::determinacy_law;
 use pp_text::text_law;
 use std::alloc::Allocator;
 

@@ -1,41 +1,34 @@
 //! Runs of decks, the texts of these runs, listings and dumps, and the program that writes them.
 #![tactic(auto)]
 
-mod command;
-mod command_words;
 mod deck_bytes;
 mod entry;
-mod help;
 mod laws;
-mod line_fault;
-mod number_range;
 mod numeral;
 mod program;
 mod streams;
 mod text_fault;
 mod text_of;
 mod texts;
-mod work;
 
-pub use command_words::read_words;
 pub use entry::run_main;
 pub use laws::{
     barrel_text_law, checked_text_law, races_report_law, races_text_law, threads_text_law,
 };
-pub use line_fault::LineFault;
 pub use numeral::numeral_law;
 pub use pp_check::{
     ChannelState, TraceFault, TraceFlaw, Verdict, barrel_law, check_trace, fault_law,
     listed_channels, printed_law, printed_report_law, push_verdict, trace_law,
 };
+pub use pp_command::{ChosenSteps, LineFault, TextOf, Work, read_words};
 pub use pp_deck::{Deck, DeckCode, DeckFault, deck_law, read_deck, reading_law};
 pub use pp_draw::{
     Condition, MOST_TURNS, SeenStep, Window, drawing_law, run_seeing_steps, write_drawing,
 };
-pub use pp_every_order::determinacy_law;
 pub use pp_listing::{DumpFault, GoingOn, dump, dump_law, listing, listing_law};
-pub use pp_promises::{headline_law, one_run_law};
 pub use pp_races::write_races;
+pub use pp_report::{headline_law, one_run_law};
+pub use pp_run::determinacy_law;
 pub use pp_sessions::{
     StepCounts, counts_law, course_law, run_counting_steps, sessions_law, write_sessions,
 };
@@ -43,9 +36,7 @@ pub use pp_state::{printed_state, run_counting_held, state_law};
 pub use pp_steps::{steps_law, write_steps};
 pub use program::run_program;
 pub use text_fault::TextFault;
-pub use text_of::{ChosenSteps, TextOf};
 pub use texts::barrel_text::barrel_text;
 pub use texts::check_text::check_text;
 pub use texts::deck_text::deck_text;
 pub use texts::threads_text::threads_text;
-pub use work::Work;

@@ -4,15 +4,13 @@ ghost use Rattle.std.specs.Prelude.{◌≡◌, map};
 ghost use Rattle.pp_runner.specs.Report.{ReportFitsInMemory};
 ghost use Rattle.pp_sim.specs.Program.{IsDone, IsPrinted, IsRun, IsTold, status_of};
 
-use crate::command_words::read_words;
-use crate::line_fault::LineFault;
 use crate::streams::write_whole;
 use crate::text_fault::TextFault;
 use crate::texts::check_text::check_text;
 use crate::texts::deck_text::deck_text;
 use crate::texts::threads_text::threads_text;
-use crate::work::Work;
 use clap::Error;
+use pp_command::{LineFault, Work, read_words};
 use std::alloc::{Allocator, Global};
 use std::io::{Read, Write};
 use std::sync::Wait;

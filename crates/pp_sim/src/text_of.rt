@@ -1,4 +1,4 @@
-//! The texts that a deck may be asked for. Each has its writer in src/texts.
+//! The text of a deck that is asked for.
 
 ghost use Rattle.pp_sim.specs.TextAnswer.{IsAnswerUnless};
 ghost use Rattle.pp_sim.specs.TextOf.{IsTextOf, hindrance};
@@ -15,113 +15,41 @@ use crate::texts::races_text::write_raced;
 use crate::texts::sessions_text::write_sessions_after;
 use crate::texts::state_text::write_state;
 use crate::texts::steps_text::write_chosen_steps;
-use pp_channel::CHANNELS;
-use pp_draw::Window;
-use pp_machine::{PROCESSORS, PpNo};
-use pp_memory::Bounds;
+use pp_command::TextOf;
 use std::alloc::Allocator;
 use std::io::Write;
 
-/// Which steps of a run are chosen: those that all four fields choose.
-#[derive(Clone, Copy, Debug, PartialEq, Eq)]
-pub struct ChosenSteps {
-    /// The processors, in the barrel's order; those in use if none are given.
-    pub processors: Option<[bool; PROCESSORS]>,
-    /// The channels, in the order of their places: steps that ask one of these alone. All steps if
-    /// none are given.
-    pub channels: Option<[bool; CHANNELS]>,
-    /// The first turn (decimal).
-    pub from: u32,
-    /// The turn after the last (decimal).
-    pub to: u32,
-}
-
-/// A text of a deck. Each run is one in the barrel. How many turns and which turn are decimal
-/// numbers: a command line gives 0 to 999,999, and every `u32` is taken.
-#[derive(Clone, Copy, Debug, PartialEq, Eq)]
-pub enum TextOf {
-    /// The text of a run of this many turns.
-    Barrel(u32),
-    /// The listing. Nothing is run.
-    List,
-    /// The dump after a run of this many turns: a deck to go on from. Where a processor is within a
-    /// block or at fault, or a channel is active, there is none.
-    Dump(u32),
-    /// How things stand after a run of this many turns: the processors in use, what differs from
-    /// the load, and the channels.
-    State(u32),
-    /// How a run ends, as far as this many turns tell: at rest, stuck, in a repetition or going on;
-    /// and how the processors in use and the channels stand then.
-    Ends(u32),
-    /// The words of a processor's memory after a run of this many turns, at the places within the
-    /// bounds (below 10000 octal), eight a line, in octal and in display code.
-    Memory {
-        turns: u32,
-        processor: PpNo,
-        bounds: Bounds,
-    },
-    /// The central words that are not 0 after a run of this many turns, at the addresses within the
-    /// bounds (below 400000 octal), in octal and in display code.
-    Central {
-        turns: u32,
-        bounds: Bounds,
-    },
-    /// The sessions of a run of this many turns, channel by channel, and how many turns of each
-    /// processor in use moved it, were held, and found it at rest; with `words` also the words put
-    /// in each session, and the function codes of each idle stretch.
-    Sessions {
-        turns: u32,
-        words: bool,
-    },
-    /// Which steps of a run of this many turns race with others, which processors are not settled
-    /// at its end, and which central words are shared; or that it tells the result of every order
-    /// of steps.
-    Races(u32),
-    /// The steps chosen of a run of this many turns. Memory grows with the lines of held steps, and
-    /// not with the others.
-    Steps {
-        turns: u32,
-        chosen: ChosenSteps,
-    },
-    /// An SVG of the turns in this window of a run that ends with it: a lane for each channel that
-    /// was used, and one for each processor in use. From a command line the window has
-    /// at most 2,000 turns (decimal).
-    Draw(Window),
-}
-
-impl TextOf {
-    /// Loads a deck, and writes this text of it.
-    pub(crate) fn write<A: Allocator + Copy, W: Write>(
-        &self,
-        alloc: A,
-        deck: &DeckBytes,
-        writer: &mut W,
-    ) -> Result<(), TextFault>
-        ensures { IsAnswerUnless deck.now.profile (hindrance self.now) (IsTextOf self.now) result
-            deck.now.bytes.now (W.contents writer.old) (W.contents writer.new) }
-    {
-        match self {
-            TextOf::Barrel(turns) => write_barrel(alloc, deck, writer, *turns),
-            TextOf::List => write_list(alloc, deck, writer),
-            TextOf::Dump(turns) => write_dump(alloc, deck, writer, *turns),
-            TextOf::State(turns) => write_state(alloc, deck, writer, *turns),
-            TextOf::Sessions { turns, words } => {
-                write_sessions_after(alloc, deck, writer, *turns, *words)
-            }
-            TextOf::Races(turns) => write_raced(alloc, deck, writer, *turns),
-            TextOf::Ends(turns) => write_ends(alloc, deck, writer, *turns),
-            TextOf::Memory {
-                turns,
-                processor,
-                bounds,
-            } => write_memory_after(alloc, deck, writer, *turns, *processor, *bounds),
-            TextOf::Central { turns, bounds } => {
-                write_central_after(alloc, deck, writer, *turns, *bounds)
-            }
-            TextOf::Steps { turns, chosen } => {
-                write_chosen_steps(alloc, deck, writer, *turns, chosen)
-            }
-            TextOf::Draw(window) => write_drawn(alloc, deck, writer, *window),
+/// Loads a deck, and writes this text of it.
+pub(crate) fn write_text_of<A: Allocator + Copy, W: Write>(
+    alloc: A,
+    deck: &DeckBytes,
+    writer: &mut W,
+    text: &TextOf,
+) -> Result<(), TextFault>
+    ensures { IsAnswerUnless deck.now.profile (hindrance text.now) (IsTextOf text.now) result
+        deck.now.bytes.now (W.contents writer.old) (W.contents writer.new) }
+{
+    match text {
+        TextOf::Barrel(turns) => write_barrel(alloc, deck, writer, *turns),
+        TextOf::List => write_list(alloc, deck, writer),
+        TextOf::Dump(turns) => write_dump(alloc, deck, writer, *turns),
+        TextOf::State(turns) => write_state(alloc, deck, writer, *turns),
+        TextOf::Sessions { turns, words } => {
+            write_sessions_after(alloc, deck, writer, *turns, *words)
         }
+        TextOf::Races(turns) => write_raced(alloc, deck, writer, *turns),
+        TextOf::Ends(turns) => write_ends(alloc, deck, writer, *turns),
+        TextOf::Memory {
+            turns,
+            processor,
+            bounds,
+        } => write_memory_after(alloc, deck, writer, *turns, *processor, *bounds),
+        TextOf::Central { turns, bounds } => {
+            write_central_after(alloc, deck, writer, *turns, *bounds)
+        }
+        TextOf::Steps { turns, chosen } => {
+            write_chosen_steps(alloc, deck, writer, *turns, chosen)
+        }
+        TextOf::Draw(window) => write_drawn(alloc, deck, writer, *window),
     }
 }

@@ -2,3 +2,7 @@ pub mod HeldSteps
 pub mod Changes
 pub mod StateText
 pub mod StateLaw
+pub mod DisplayCode
+pub mod MemoryText
+pub mod CentralText
+pub mod MemoryReading

@@ -8,8 +8,8 @@ use Rattle.pp_machine.specs.ProcessorPlaces.{one_place, place_below}
 use Rattle.pp_run.specs.RunSteps.{RunStep, seen_of}
 use Rattle.pp_run.specs.RunStepLaws.{seen_more, seen_other}
 use Rattle.pp_steps.specs.HeldRuns.{AreCounted, HeldTimes, all_times, held_counts, no_times, open_time, progress_of}
-use Rattle.pp_bare.specs.declared.progress.Progress.{Progress}
-use Rattle.pp_bare.specs.declared.progress.Progress.TheVariants.{AtRest}
+use Rattle.pp_run.specs.declared.progress.Progress.{Progress}
+use Rattle.pp_run.specs.declared.progress.Progress.TheVariants.{AtRest}
 
 -- ---- step by step
 

@@ -20,7 +20,7 @@ use Rattle.pp_machine.specs.declared.outcome.Outcome.TheVariants as outcomes
 use Rattle.pp_machine.specs.declared.trace.Trace.{Trace}
 use Rattle.pp_run.specs.RunSteps.{RunStep, run_steps, seen_of}
 use Rattle.pp_state.proofs.HeldLemmas.{moves_where_made}
-use Rattle.pp_bare.specs.BareMachine.{progress, progress_by}
+use Rattle.pp_run.specs.BareMachine.{progress, progress_by}
 use Rattle.pp_steps.specs.Choice.{chooses_channel, chooses_need, chooses_turn, chosen_steps, is_chosen}
 use Rattle.pp_steps.specs.HeldRuns.{last_of, progress_of}
 use Rattle.pp_steps.specs.StepsLaw.{entry_of, event_on, is_chosen_event, line_event}
@@ -28,8 +28,8 @@ use Rattle.pp_steps.specs.StepsText.{line_kind, lines_from, with_line, with_line
 use Rattle.pp_steps.specs.declared.choice.Choice.{Choice}
 use Rattle.pp_steps.specs.declared.line_kind.LineKind.{LineKind}
 use Rattle.pp_steps.specs.declared.line_kind.LineKind.TheVariants.{NoLine, OneStep, HeldSteps}
-use Rattle.pp_bare.specs.declared.progress.Progress.{Progress}
-use Rattle.pp_bare.specs.declared.progress.Progress.TheVariants.{Moved}
+use Rattle.pp_run.specs.declared.progress.Progress.{Progress}
+use Rattle.pp_run.specs.declared.progress.Progress.TheVariants.{Moved}
 
 -- ---- the trace
 

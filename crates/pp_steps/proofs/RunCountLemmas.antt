@@ -3,8 +3,8 @@ use Rattle.std.proofs.Common.{◌≡◌, ℕ, ◌+◌, Bool, true, false, ◌&&�
 use Rattle.std.specs.List.{prefix_len}
 use Rattle.pp_channel.specs.declared.flags.Flags.{Flags}
 use Rattle.pp_steps.specs.HeldRuns.{goes_on, held_counts, is_held_with, open_time, same_flag}
-use Rattle.pp_bare.specs.declared.progress.Progress.{Progress}
-use Rattle.pp_bare.specs.declared.progress.Progress.TheVariants.{AtRest, Moved, Held}
+use Rattle.pp_run.specs.declared.progress.Progress.{Progress}
+use Rattle.pp_run.specs.declared.progress.Progress.TheVariants.{AtRest, Moved, Held}
 
 -- ---- flags
 

@@ -14,8 +14,8 @@ use Rattle.pp_steps.specs.StepsText.{kind_text, line_kind, line_text, lines_from
 use Rattle.pp_steps.specs.declared.cursor.Cursor.{Cursor}
 use Rattle.pp_steps.specs.declared.line_kind.LineKind.{LineKind}
 use Rattle.pp_steps.specs.declared.line_kind.LineKind.TheVariants.{NoLine}
-use Rattle.pp_bare.specs.declared.progress.Progress.{Progress}
-use Rattle.pp_bare.specs.declared.progress.Progress.TheVariants.{AtRest}
+use Rattle.pp_run.specs.declared.progress.Progress.{Progress}
+use Rattle.pp_run.specs.declared.progress.Progress.TheVariants.{AtRest}
 
 -- ---- the steps of one processor
 

@@ -5,8 +5,8 @@ use Rattle.pp_steps.specs.HeldRuns.{held_counts}
 use Rattle.pp_steps.specs.StepsText.{line_kind}
 use Rattle.pp_steps.specs.declared.cursor.Cursor.{Cursor}
 use Rattle.pp_steps.specs.declared.line_kind.LineKind.{LineKind}
-use Rattle.pp_bare.specs.declared.progress.Progress.{Progress}
-use Rattle.pp_bare.specs.declared.progress.Progress.TheVariants.{AtRest}
+use Rattle.pp_run.specs.declared.progress.Progress.{Progress}
+use Rattle.pp_run.specs.declared.progress.Progress.TheVariants.{AtRest}
 
 -- before the first step
 abbrev pub no_cursor : Cursor

@@ -4,9 +4,9 @@ use Rattle.std.specs.List.{fold, prefix_len}
 use Rattle.pp_channel.specs.declared.flags.Flags.{Flags}
 use Rattle.pp_machine.specs.PpNo.{names_processor, processor_count, processor_index}
 use Rattle.pp_run.specs.RunSteps.{RunStep, seen_of}
-use Rattle.pp_bare.specs.BareMachine.{progress}
-use Rattle.pp_bare.specs.declared.progress.Progress.{Progress}
-use Rattle.pp_bare.specs.declared.progress.Progress.TheVariants.{AtRest, Held}
+use Rattle.pp_run.specs.BareMachine.{progress}
+use Rattle.pp_run.specs.declared.progress.Progress.{Progress}
+use Rattle.pp_run.specs.declared.progress.Progress.TheVariants.{AtRest, Held}
 
 -- what a step did
 abbrev pub progress_of : RunStep → Progress

@@ -10,8 +10,8 @@ use Rattle.pp_steps.specs.StepLine.{held_line, step_line}
 use Rattle.pp_steps.specs.declared.choice.Choice.{Choice}
 use Rattle.pp_steps.specs.declared.line_kind.LineKind.{LineKind}
 use Rattle.pp_steps.specs.declared.line_kind.LineKind.TheVariants.{NoLine, OneStep, HeldSteps}
-use Rattle.pp_bare.specs.declared.progress.Progress.{Progress}
-use Rattle.pp_bare.specs.declared.progress.Progress.TheVariants.{AtRest, Moved, Held}
+use Rattle.pp_run.specs.declared.progress.Progress.{Progress}
+use Rattle.pp_run.specs.declared.progress.Progress.TheVariants.{AtRest, Moved, Held}
 
 -- which line a step has, by the last step of its processor before it and by those after it: none
 -- where it is at rest, or held like the last

@@ -3,12 +3,12 @@
 ghost use Rattle.std.specs.Prelude.{◌≡◌};
 ghost use Rattle.pp_machine.specs.MachineState.{MachineState};
 ghost use Rattle.pp_machine.specs.NeedAndEffect.{need};
-ghost use Rattle.pp_bare.specs.BareMachine.{StandsFor};
+ghost use Rattle.pp_run.specs.BareMachine.{StandsFor};
 ghost use Rattle.pp_steps.specs.Choice.{chooses_need, chooses_turn, is_chosen};
 
-use pp_bare::BareMachine;
 use pp_channel::CHANNELS;
 use pp_machine::{Need, PROCESSORS, Pp, PpNo};
+use pp_run::BareMachine;
 use std::alloc::Allocator;
 
 /// Which steps of a run are chosen: those that all four fields choose.

@@ -8,8 +8,8 @@ ghost use Rattle.pp_steps.specs.declared.line_kind.LineKind.TheVariants.{NoLine}
 
 use crate::held_runs::{HeldRuns, goes_on};
 use crate::line_kind::LineKind;
-use pp_bare::Progress;
 use pp_machine::{PROCESSORS, PpNo};
+use pp_run::Progress;
 use std::alloc::Allocator;
 
 /// How many times a processor has been held, and its last step.

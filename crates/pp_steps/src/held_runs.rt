@@ -2,11 +2,11 @@
 
 ghost use Rattle.std.specs.Prelude.{◌≡◌, ◌+◌, ◌<◌, ◌≤◌, ◌^◌, ◌∷◌, ◌++◌, [], slice_index, List, OnOk};
 ghost use Rattle.pp_steps.specs.HeldRuns.{all_times, goes_on, is_held_with, open_time};
-ghost use Rattle.pp_bare.specs.declared.progress.Progress.{Progress};
-ghost use Rattle.pp_bare.specs.declared.progress.Progress.TheVariants.{AtRest};
+ghost use Rattle.pp_run.specs.declared.progress.Progress.{Progress};
+ghost use Rattle.pp_run.specs.declared.progress.Progress.TheVariants.{AtRest};
 
-use pp_bare::Progress;
 use pp_channel::{Flags, Memory};
+use pp_run::Progress;
 use std::alloc::Allocator;
 use std::marker::Model;
 

@@ -5,13 +5,13 @@ ghost use Rattle.pp_machine.specs.PpNo.{processor_count, processor_index};
 ghost use Rattle.pp_machine.specs.Run.{barrel};
 ghost use Rattle.pp_steps.specs.Choice.{chosen_steps};
 ghost use Rattle.pp_steps.specs.HeldRuns.{AreCounted, all_times, no_times};
-ghost use Rattle.pp_bare.specs.declared.progress.Progress.{Progress};
+ghost use Rattle.pp_run.specs.declared.progress.Progress.{Progress};
 
 use crate::choice::Choice;
 use crate::held_runs::HeldRuns;
-use pp_bare::{BareMachine, Progress};
 use pp_channel::Memory;
 use pp_machine::{Machine, PROCESSORS, PpNo};
+use pp_run::{BareMachine, Progress};
 use std::alloc::Allocator;
 
 /// How long each processor is held each time, in the steps chosen of a run of this many turns of

@@ -2,15 +2,21 @@
 //! Each call works in memory that its host lends, and gives it back or says that it keeps it.
 #![tactic(auto)]
 
+mod answer;
+mod numbers;
+mod over_bytes;
+
 ghost use Rattle.std.specs.Prelude.{◌≡◌, MatchOption, None, false, max};
 ghost use Rattle.fixed_arena.specs.Lending.{IsGivenBack};
-ghost use Rattle.pp_calls.specs.Answered.{NeedsNoThreads, RefusesNumber, Tells, TellsOfTrace};
-ghost use Rattle.pp_calls.specs.Numbers.{only_of, profile_of, window_of};
-ghost use Rattle.pp_sim.specs.declared.text_of.TextOf.{TextOf};
-ghost use Rattle.pp_sim.specs.declared.work.Work.{Work};
+ghost use Rattle.ppsim_library.specs.Answered.{NeedsNoThreads, RefusesNumber, Tells, TellsOfTrace};
+ghost use Rattle.ppsim_library.specs.Numbers.{only_of, profile_of, window_of};
+ghost use Rattle.pp_command.specs.declared.text_of.TextOf.{TextOf};
+ghost use Rattle.pp_command.specs.declared.work.Work.{Work};
 
+use crate::answer::{Answer, refused_number};
+use crate::numbers::{channels_of, only_of, profile_of, window_of};
+use crate::over_bytes::tell;
 use fixed_arena::{Memory, Slot, arena_in};
-use pp_calls::{Answer, channels_of, only_of, profile_of, refused_number, tell, window_of};
 use pp_sim::{ChosenSteps, TextOf, Work};
 
 /// Does this work in the memory, and gives it back, or leaves its place empty.

@@ -9,8 +9,6 @@ mod channel_numbers;
 #[cfg(test)]
 mod channel_words;
 #[cfg(test)]
-mod dead_start;
-#[cfg(test)]
 mod fault_texts;
 #[cfg(test)]
 mod large;

@@ -1,6 +1,5 @@
 //! The machine by calls: worked programs, and every word as an instruction.
 
-use crate::processor::shown;
 use pp_channel::{ChannelNo, Event};
 use pp_machine::{Machine, Outcome, PpNo, PpState, Profile, Trace};
 use pp_word::Word18;
@@ -8,7 +7,7 @@ use std::alloc::Global;
 use std::test::Fail;
 use test_bench::{HANDOFF_PAIR, channel, first, put_words, word};
 
-pub(crate) fn entry(turn: u64, pp: PpNo, channel: ChannelNo, event: Event) -> Trace {
+fn entry(turn: u64, pp: PpNo, channel: ChannelNo, event: Event) -> Trace {
     Trace {
         turn,
         pp,
@@ -55,28 +54,6 @@ fn turn_list(rt: HostRuntime) -> Result<(), Fail> {
     let (four, five) = (channel(4)?, channel(5)?);
     assert!(rt; goes_by_turns(rt.alloc(), Profile::Ten, four, five));
     assert!(rt; goes_by_turns(rt.alloc(), Profile::Twenty, four, five));
-    Ok(())
-}
-
-/// Whether `HANDOFF_PAIR` makes these events in so many turns of the barrel, and ends as it should.
-fn goes_in_barrel(alloc: Global, profile: Profile, turns: u32, entries: &[Trace]) -> bool {
-    let Ok(mut machine) = HANDOFF_PAIR.machine(alloc, profile) else {
-        return false;
-    };
-    machine.run_barrel(turns).is_ok()
-        && machine.turns() == u64::from(turns)
-        && machine.events() == entries
-        && shown(machine.pp(first())) == (0o103, 7, PpState::Stopped)
-        && shown(machine.pp(first().next())) == (0o201, 7, PpState::Stopped)
-}
-
-#[test]
-fn barrel(rt: HostRuntime) -> Result<(), Fail> {
-    let five = channel(5)?;
-    let ten = entries(five, [0, 20, 21]);
-    assert!(rt; goes_in_barrel(rt.alloc(), Profile::Ten, 40, &ten));
-    let twenty = entries(five, [0, 40, 41]);
-    assert!(rt; goes_in_barrel(rt.alloc(), Profile::Twenty, 80, &twenty));
     Ok(())
 }
 

@@ -1,81 +1,11 @@
-//! What the machine of twenty processors has besides, and what the machine of ten lacks.
+//! Turns of the barrel on both machines, and steps of processors behind it.
 
-use crate::machine::entry;
-use crate::processor::{Shown, shown};
-use pp_channel::{ChannelNo, Event};
-use pp_machine::{Machine, Outcome, PROCESSORS, Pp, PpNo, PpState, Profile, Trace};
+use crate::processor::shown;
+use pp_machine::{Machine, Outcome, PROCESSORS, Pp, PpNo, PpState, Profile};
 use pp_word::Word18;
 use std::alloc::Global;
 use std::test::Fail;
-use test_bench::{EMPTY, channel, first, processor, put_program, word};
-
-/// The sender puts a word on channel 33, and the receiver takes it.
-fn far_run(alloc: Global, sender: PpNo, receiver: PpNo) -> Result<Machine<Global>, Fail> {
-    let mut machine = Machine::new(alloc, Profile::Twenty, 0o10000)?;
-    let program = [0o7433, 0o1407, 0o7233, 0o0300];
-    put_program(machine.pp_mut(sender), 0o100, &program);
-    put_program(machine.pp_mut(receiver), 0o200, &[0o7033, 0o0300]);
-    machine.run_barrel(80)?;
-    Ok(machine)
-}
-
-/// Whether that run makes these entries, ten and nineteen turns after the beginning of a round, and
-/// both processors have stopped after it.
-fn is_sent(alloc: Global, sender: PpNo, receiver: PpNo, channel: ChannelNo) -> Result<bool, Fail> {
-    let entries = [
-        entry(10, sender, channel, Event::Activate),
-        entry(50, sender, channel, Event::Put(word(7))),
-        entry(59, receiver, channel, Event::Take(word(7))),
-    ];
-    let machine = far_run(alloc, sender, receiver)?;
-    let is_right = machine.events() == entries.as_slice()
-        && shown(machine.pp(sender)) == (0o103, 7, PpState::Stopped)
-        && shown(machine.pp(receiver)) == (0o201, 7, PpState::Stopped)
-        && machine.channel(channel).flags() == EMPTY;
-    Ok(is_right)
-}
-
-/// PP 20 sends to PP 31.
-#[test]
-fn far_processors(rt: HostRuntime) -> Result<(), Fail> {
-    let (sender, receiver) = (processor(0o20)?, processor(0o31)?);
-    assert!(rt; is_sent(rt.alloc(), sender, receiver, channel(0o33)?)?);
-    Ok(())
-}
-
-/// Where processors 0 and 1 are after 20 turns, each with one instruction at 0100, and how many
-/// events they made.
-fn ends_of_pair(
-    alloc: Global,
-    profile: Profile,
-    words: [u16; 2],
-) -> Result<([Shown; 2], usize), Fail> {
-    let (zero, one) = (first(), first().next());
-    let mut machine = Machine::new(alloc, profile, 1)?;
-    put_program(machine.pp_mut(zero), 0o100, &[words[0]]);
-    put_program(machine.pp_mut(one), 0o100, &[words[1]]);
-    machine.run_barrel(20)?;
-    let ends = [shown(machine.pp(zero)), shown(machine.pp(one))];
-    Ok((ends, machine.events().len()))
-}
-
-/// The first and the last number past each stretch of channels, and the first and the last of the
-/// far ones.
-#[test]
-fn far_faults(rt: HostRuntime) -> Result<(), Fail> {
-    let faults = ([(0o100, 0, PpState::Fault(3)); 2], 0);
-    let held = ([(0o100, 0, PpState::Running); 2], 0);
-    for (words, ten, twenty) in [
-        ([0o7017, 0o7034], faults, faults),
-        ([0o7014, 0o7077], faults, faults),
-        ([0o7020, 0o7033], faults, held),
-        ([0o7000, 0o7013], held, held),
-    ] {
-        assert!(rt; ends_of_pair(rt.alloc(), Profile::Ten, words)? == ten);
-        assert!(rt; ends_of_pair(rt.alloc(), Profile::Twenty, words)? == twenty);
-    }
-    Ok(())
-}
+use test_bench::{processor, word};
 
 /// A processor each of whose steps adds 1 to A, whatever P is.
 fn count_steps(pp: &mut Pp) {

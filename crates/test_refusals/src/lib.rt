@@ -7,6 +7,8 @@ mod allocator;
 #[cfg(test)]
 mod ample_machines;
 #[cfg(test)]
+mod barrel;
+#[cfg(test)]
 mod channel;
 #[cfg(test)]
 mod deck;

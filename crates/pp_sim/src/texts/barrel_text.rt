@@ -5,8 +5,8 @@ ghost use Rattle.pp_sim.specs.TextAnswer.{AnswersDeck, IsAnswer};
 
 use crate::deck_bytes::DeckBytes;
 use crate::text_fault::TextFault;
-use crate::text_of::TextOf;
 use crate::texts::deck_text::deck_text;
+use pp_command::TextOf;
 use pp_machine::Profile;
 use pp_text::write_text;
 use std::alloc::Allocator;

@@ -6,7 +6,8 @@ ghost use Rattle.pp_sim.specs.TextOf.{IsTextOf, hindrance};
 use crate::deck_bytes::DeckBytes;
 use crate::streams::read_front;
 use crate::text_fault::TextFault;
-use crate::text_of::TextOf;
+use crate::text_of::write_text_of;
+use pp_command::TextOf;
 use pp_machine::Profile;
 use std::alloc::Allocator;
 use std::io::{Read, Write};
@@ -26,5 +27,5 @@ pub fn deck_text<A: Allocator + Copy, R: Read, W: Write>(
 {
     let front = read_front(alloc, reader)?;
     let bytes = front.as_slice();
-    text.write(alloc, &DeckBytes { profile, bytes }, writer)
+    write_text_of(alloc, &DeckBytes { profile, bytes }, writer, text)
 }

@@ -1,7 +1,7 @@
 //! What is in memory after a run in the barrel.
 
 ghost use Rattle.pp_machine.specs.MachineState.{processor_of};
-ghost use Rattle.pp_memory.specs.MemoryText.{memory_text};
+ghost use Rattle.pp_state.specs.MemoryText.{memory_text};
 ghost use Rattle.pp_sim.specs.TextAnswer.{IsAnswer};
 ghost use Rattle.pp_sim.specs.TextOf.{IsTextAfter, central_after, memory_after};
 ghost use Rattle.pp_text.specs.Written.{IsWritten};
@@ -9,7 +9,7 @@ ghost use Rattle.pp_text.specs.Written.{IsWritten};
 use crate::deck_bytes::DeckBytes;
 use crate::text_fault::TextFault;
 use pp_machine::{Machine, PpNo};
-use pp_memory::{Bounds, write_central, write_memory};
+use pp_state::{Bounds, write_central, write_memory};
 use pp_text::WriteFault;
 use std::alloc::Allocator;
 use std::io::Write;

@@ -5,7 +5,7 @@ ghost use Rattle.pp_sim.specs.TextAnswer.{IsAnswer};
 
 use crate::deck_bytes::DeckBytes;
 use crate::text_fault::TextFault;
-use crate::text_of::ChosenSteps;
+use pp_command::ChosenSteps;
 use pp_steps::{Choice, write_steps};
 use pp_text::ReportFault;
 use std::alloc::Allocator;

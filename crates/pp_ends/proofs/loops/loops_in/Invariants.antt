@@ -1,5 +1,5 @@
 use Rattle.std.proofs.Common.{◌≡◌, ◌≤◌, length}
-use Rattle.pp_bare.specs.BareMachine.{StandsFor}
+use Rattle.pp_run.specs.BareMachine.{StandsFor}
 use Rattle.pp_machine.specs.PpNo.{processor_count}
 use Rattle.pp_ends.specs.Endings.{after_turns}
 use Rattle.pp_ends.specs.Loops.{TellLoops}

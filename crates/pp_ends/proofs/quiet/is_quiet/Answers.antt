@@ -2,7 +2,7 @@ use Rattle.std.proofs.Common.{ℕ, sym, ap, ◌∙◌, subst, inl, inr, arith}
 use Rattle.std.specs.Prelude.{Bool}
 use Rattle.std.proofs.lemmas.Bool.{cases_eq}
 use Rattle.pp_machine.specs.PpNo.{processor_number}
-use Rattle.pp_every_order.specs.Determinacy.{Waits}
+use Rattle.pp_run.specs.Determinacy.{Waits}
 use Rattle.pp_ends.specs.Endings.{TellsMove}
 use Rattle.pp_ends.proofs.QuietLemmas.{moves_at, quiet_by_places}
 use Rattle.pp_ends.proofs.quiet.is_quiet.Goals as goal

@@ -1,5 +1,5 @@
 use Rattle.std.proofs.Common.{◌≡◌, ℕ, sym, subst, arith}
-use Rattle.pp_bare.specs.BareMachine.{StandsFor}
+use Rattle.pp_run.specs.BareMachine.{StandsFor}
 use Rattle.pp_machine.specs.MachineState.{MachineState}
 use Rattle.pp_ends.specs.Rounds.{after_rounds}
 use Rattle.pp_ends.proofs.FoundLemmas.{after_none}

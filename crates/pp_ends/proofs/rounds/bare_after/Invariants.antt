@@ -1,4 +1,4 @@
-use Rattle.pp_bare.specs.BareMachine.{StandsFor}
+use Rattle.pp_run.specs.BareMachine.{StandsFor}
 use Rattle.pp_ends.specs.Rounds.{after_rounds}
 use Rattle.pp_ends.proofs.rounds.bare_after.Given as goal
 

@@ -1,5 +1,5 @@
 use Rattle.std.proofs.Common.{ℕ, ◌+◌, ◌<◌}
-use Rattle.pp_bare.specs.BareMachine.{StandsFor}
+use Rattle.pp_run.specs.BareMachine.{StandsFor}
 use Rattle.pp_ends.specs.Rounds.{AreAlikeAfter, after_rounds}
 use Rattle.pp_ends.proofs.rounds.find_start.Given as goal
 

@@ -1,5 +1,5 @@
 use Rattle.std.proofs.Common.{◌≡◌, ℕ, sym, ap, ◌∙◌, subst, arith}
-use Rattle.pp_bare.specs.BareMachine.{StandsFor}
+use Rattle.pp_run.specs.BareMachine.{StandsFor}
 use Rattle.pp_machine.specs.MachineState.{MachineState}
 use Rattle.pp_machine.specs.MachineStep.{stepped}
 use Rattle.pp_machine.specs.PpNo.{processor_number}

@@ -9,7 +9,7 @@ use Rattle.pp_machine.specs.MachineState.{MachineState}
 use Rattle.pp_machine.specs.MachineStep.{stepped}
 use Rattle.pp_machine.specs.NeedAndEffect.{need}
 use Rattle.pp_machine.specs.Run.{barrel}
-use Rattle.pp_every_order.proofs.Moments.{run_central}
+use Rattle.pp_run.proofs.Moments.{run_central}
 use Rattle.pp_races.specs.Printing.{PrintsFindings}
 use Rattle.pp_races.specs.Tables.{AreUses, AreWatched}
 use Rattle.pp_races.specs.Watch.{Watch, unwatched, watched, watched_need}

@@ -9,7 +9,7 @@ use Rattle.pp_machine.specs.ProcessorPlaces.{number_named}
 use Rattle.pp_machine.specs.ProfilePlaces.{most_processors, rest_within}
 use Rattle.pp_machine.specs.RunLaws.{barrel_more}
 use Rattle.pp_run.specs.RunSteps.{RunStep}
-use Rattle.pp_bare.specs.BareMachine.{StandsFor}
+use Rattle.pp_run.specs.BareMachine.{StandsFor}
 use Rattle.pp_steps.specs.Choice.{chosen_steps, is_chosen}
 use Rattle.pp_steps.specs.HeldRuns.{AreCounted}
 use Rattle.pp_steps.proofs.ChosenSteps.{chosen_more, none_chosen, step_in}

@@ -1,5 +1,5 @@
 use Rattle.pp_machine.specs.Run.{barrel, run}
-use Rattle.pp_bare.specs.BareMachine.{StandsFor}
+use Rattle.pp_run.specs.BareMachine.{StandsFor}
 use Rattle.pp_steps.specs.Choice.{chosen_steps}
 use Rattle.pp_steps.proofs.CountedRuns.{AreCountedSoFar}
 use Rattle.pp_steps.proofs.run_counts.counted_runs.Given as goal

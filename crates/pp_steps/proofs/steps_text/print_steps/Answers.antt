@@ -11,7 +11,7 @@ use Rattle.pp_machine.specs.RunLaws.{barrel_more}
 use Rattle.pp_run.specs.RunSteps.{RunStep}
 use Rattle.pp_text.specs.TextWriter.{Prints}
 use Rattle.pp_text.specs.PrintingLaws.{prints_nothing, prints_then}
-use Rattle.pp_bare.specs.BareMachine.{StandsFor, progress}
+use Rattle.pp_run.specs.BareMachine.{StandsFor, progress}
 use Rattle.pp_steps.specs.Choice.{chosen_steps, is_chosen}
 use Rattle.pp_steps.specs.declared.cursor.Cursor.{Cursor}
 use Rattle.pp_steps.specs.StepsText.{kind_text, steps_text}

@@ -1,7 +1,7 @@
 use Rattle.std.proofs.Common.{ℕ, List}
 use Rattle.pp_machine.specs.Run.{barrel, run}
 use Rattle.pp_text.specs.TextWriter.{Prints}
-use Rattle.pp_bare.specs.BareMachine.{StandsFor}
+use Rattle.pp_run.specs.BareMachine.{StandsFor}
 use Rattle.pp_steps.specs.Choice.{chosen_steps}
 use Rattle.pp_steps.proofs.ChosenSteps.{chosen_from}
 use Rattle.pp_steps.proofs.TextOfSteps.{AreFollowed, IsSoFar}

@@ -1,6 +1,6 @@
 use Rattle.std.proofs.Common.{◌≡◌, ◌++◌, ◌∷◌, [], false, List, ℕ, ap, ◌∙◌, sym, append_assoc}
 use Rattle.pp_steps.specs.HeldRuns.{HeldTimes, all_times, goes_on, held_counts, open_time}
-use Rattle.pp_bare.specs.declared.progress.Progress.{Progress}
+use Rattle.pp_run.specs.declared.progress.Progress.{Progress}
 use Rattle.pp_steps.proofs.RunCountLemmas.{longer, over}
 use Rattle.pp_steps.proofs.held_runs.HeldRuns.note.Goals as goal
 

@@ -1,0 +1,131 @@
+-- From what clap ensures of a parse to what the words ask for.
+use Rattle.std.proofs.Common.{◌≡◌, ◌∙◌, ℕ, ◌-◌, ◌<◌, ◌≤◌, ap, ap₂, arith, slice_index, Bool, true, false, not, IsTrue, List, [], Option, Some, None, option_map, sym, subst, refl, inl, inr, codes}
+use Rattle.std.specs.Prelude.{Box, ◌≢◌, is_some}
+use Rattle.std.specs.Box.{box_value}
+use Rattle.clap.specs.Words.{App, HasKind, IsAmong, Kinds, Text, Row, HasMatchesOf, fault_of, is_simple, is_simple_and_free, first_value, first_of, found_of, kind_of, rows_of, subcommand_of, subcommand_rows, subcommand_rows_of, subcommand_name_of}
+use Rattle.clap.specs.declared.error.Error.{Error}
+use Rattle.clap.specs.declared.error.kind.ErrorKind.TheVariants.{OutOfMemory}
+use Rattle.clap.specs.declared.parser.matches.Found.{Found}
+use Rattle.clap.specs.declared.parser.matches.SubCommand.{SubCommand}
+use Rattle.clap.specs.declared.parser.matches.ArgMatches.{ArgMatches}
+use Rattle.clap.specs.declared.parser.matches.ArgMatches.TheViews.{out-ArgMatches, out-SubCommand}
+use Rattle.clap.proofs.OnLiterals.{clap_on_literals}
+use Rattle.pp_draw.specs.declared.window.Window.{Window}
+use Rattle.pp_machine.specs.Profile.{processors_in}
+use Rattle.pp_machine.specs.declared.profile.Profile.{Profile}
+use Rattle.pp_command.specs.CommandLine.{IsFaultBy, IsRefused, AsksForMore, AsksForText, ReadsEnd, ReadsNumber, ReadsProfile, ReadsTurn, ReadsWindow, ppsim, refusals}
+use Rattle.pp_command.specs.declared.line_fault.LineFault.{LineFault}
+use Rattle.pp_command.specs.declared.line_fault.LineFault.TheVariants.{Memory, Refused, Number, Picture}
+use Rattle.pp_command.specs.declared.text_of.TextOf.{TextOf}
+use Rattle.pp_command.specs.declared.text_of.TextOf.TheVariants as texts
+
+simple : is_simple ppsim ≡ true
+unfolding clap_on_literals ppsim
+simple = refl
+
+simple_and_free : is_simple_and_free ppsim ≡ true
+unfolding clap_on_literals ppsim
+simple_and_free = refl
+
+-- a parse that succeeds has no refusal
+pub taken_words : (words : List Text) (app : App) → app ≡ ppsim → (is_simple_and_free app ≡ true → fault_of app words ≡ []) → refusals words ≡ []
+unfolding refusals
+taken_words words app e h = subst (λ a. is_simple_and_free a ≡ true → fault_of a words ≡ []) e h simple_and_free
+
+among : (kinds : Kinds) (error : Error) → HasKind kinds error → kind_of error ≢ OutOfMemory → IsAmong (kind_of error) kinds
+among kinds error (inl memory) other = absurd (other memory)
+among kinds error (inr kind) other = kind
+
+-- one that fails for another cause than memory fails by one of the refusals
+pub refused_words : (words : List Text) (app : App) (error : Error) (fault : LineFault) → app ≡ ppsim → (is_simple_and_free app ≡ true → HasKind (fault_of app words) error)
+    → IsFaultBy error fault → IsRefused words fault
+unfolding refusals
+refused_words words app error Memory e h by = tt
+refused_words words app error (Refused told) e h by =
+    let kinds = subst (λ a. is_simple_and_free a ≡ true → HasKind (fault_of a words) error) e h simple_and_free in
+    rw (by.0) (among (fault_of ppsim words) error kinds by.1, by.1)
+refused_words words app error Number e h by = absurd by
+refused_words words app error Picture e h by = absurd by
+
+pair_of : {Z : Type 0} (o : Option (Box SubCommand Z)) (name : Text) (rows : List Row) → Some name ≡ option_map (λ b. (out-SubCommand (box_value b)).name.now) o → Some rows ≡ option_map (λ p. p.1) (subcommand_rows o) → subcommand_rows o ≡ Some (name, rows)
+pair_of None name rows e h = cc
+pair_of (Some x) name rows e h =
+    let a : name ≡ (out-SubCommand (box_value x)).name.now = cc in
+    let b : rows ≡ rows_of (found_of (out-SubCommand (box_value x)).matches) = cc in
+    rw (a, b) refl
+
+-- the command that a parse met, by the words
+pub met_command : (words : List Text) (app : App) (m : ArgMatches) (name : Text) (f : Found) → app ≡ ppsim → HasMatchesOf app words m
+    → Some name ≡ subcommand_name_of m → Some (rows_of f) ≡ option_map (λ p. p.1) (subcommand_rows_of m)
+    → subcommand_of ppsim words ≡ Some (name, rows_of f)
+met_command words app m name f is h e k =
+    let met = subst (λ a. HasMatchesOf a words m) is h in
+    sym (met simple).1 ∙ pair_of (out-ArgMatches m).subcommand name (rows_of f) e k
+
+none_of : {Z : Type 0} (o : Option (Box SubCommand Z)) → None ≡ option_map (λ b. (out-SubCommand (box_value b)).name.now) o → subcommand_rows o ≡ None
+none_of None e = refl
+none_of (Some x) e = cc
+
+-- or none
+pub met_none : (words : List Text) (app : App) (m : ArgMatches) → app ≡ ppsim → HasMatchesOf app words m → None ≡ subcommand_name_of m → subcommand_of ppsim words ≡ None
+met_none words app m is h e =
+    let met = subst (λ a. HasMatchesOf a words m) is h in
+    sym (met simple).1 ∙ none_of (out-ArgMatches m).subcommand e
+
+-- ---- options that say one window alone
+
+one_number : (text : Option Text) (n m : ℕ) → ReadsNumber text n → ReadsNumber text m → n ≡ m
+one_number None n m one also = absurd one
+one_number (Some text) n m one also = one.1 ∙ sym also.1
+
+one_turn : (default : ℕ) (text : Option Text) (n m : ℕ) → ReadsTurn default text n → ReadsTurn default text m → n ≡ m
+one_turn default None n m one also = one ∙ sym also
+one_turn default (Some text) n m one also = one_number (Some text) n m one.0 also.0
+
+one_end : (text : Option Text) (turns others n m : ℕ) → turns ≡ others → ReadsEnd turns text n → ReadsEnd others text m → n ≡ m
+one_end None turns others n m same one also = one ∙ same ∙ sym also
+one_end (Some text) turns others n m same one also = one_number (Some text) n m one.0 also.0
+
+one_length : (value_of : Text → Option Text) (v w : Window) → ReadsWindow value_of v → ReadsWindow value_of w → v.to - v.from ≡ w.to - w.from
+unfolding ReadsWindow
+one_length value_of v w one also =
+    let turns = one_number (value_of (codes "turns")) one.0 also.0 one.1.0 also.1.0 in
+    let to = one_end (value_of (codes "to")) one.0 also.0 v.to w.to turns one.2 also.2 in
+    let from = one_turn 0 (value_of (codes "from")) v.from w.from one.3 also.3 in
+    ap₂ (λ (t f : ℕ). t - f) to from
+
+-- where the options say a window and more turns than a picture has, the window does not fit one
+pub no_fit : (fits : Bool) (name : Text) (value_of : Text → Option Text) (w : Window) → ReadsWindow value_of w → (IsTrue fits → w.to - w.from ≤ 2000) → AsksForMore name value_of → IsTrue (not fits)
+no_fit true name value_of w reads short k = absurd (omega (arith, short refl, k.1.2, one_length value_of w k.1.0 reads k.1.1))
+no_fit false name value_of w reads short k = refl
+
+-- a drawing of more turns than a picture has is no text
+pub no_picture : (name : Text) (value_of : Text → Option Text) (profile : Profile) (w : Window) → name ≡ codes "draw" → ReadsWindow value_of w → 2000 < w.to - w.from → (text : TextOf) → AsksForText name value_of profile text → ⊥
+no_picture name value_of profile w draw reads long (texts.Barrel turns) k =
+    let bad : 98 ≡ 100 = ap (λ (t : Text). slice_index t 0) (sym k.0 ∙ draw) in absurd (omega (arith, bad))
+no_picture name value_of profile w draw reads long texts.List k =
+    let bad : 108 ≡ 100 = ap (λ (t : Text). slice_index t 0) (sym k ∙ draw) in absurd (omega (arith, bad))
+no_picture name value_of profile w draw reads long (texts.Dump turns) k =
+    let bad : 117 ≡ 114 = ap (λ (t : Text). slice_index t 1) (sym k.0 ∙ draw) in absurd (omega (arith, bad))
+no_picture name value_of profile w draw reads long (texts.State turns) k =
+    let bad : 115 ≡ 100 = ap (λ (t : Text). slice_index t 0) (sym k.0 ∙ draw) in absurd (omega (arith, bad))
+no_picture name value_of profile w draw reads long (texts.Sessions turns words) k =
+    let bad : 115 ≡ 100 = ap (λ (t : Text). slice_index t 0) (sym k.0 ∙ draw) in absurd (omega (arith, bad))
+no_picture name value_of profile w draw reads long (texts.Races turns) k =
+    let bad : 114 ≡ 100 = ap (λ (t : Text). slice_index t 0) (sym k.0 ∙ draw) in absurd (omega (arith, bad))
+no_picture name value_of profile w draw reads long (texts.Ends turns) k =
+    let bad : 101 ≡ 100 = ap (λ (t : Text). slice_index t 0) (sym k.0 ∙ draw) in absurd (omega (arith, bad))
+no_picture name value_of profile w draw reads long (texts.Memory turns n bounds) k =
+    let bad : 109 ≡ 100 = ap (λ (t : Text). slice_index t 0) (sym k.0 ∙ draw) in absurd (omega (arith, bad))
+no_picture name value_of profile w draw reads long (texts.Central turns bounds) k =
+    let bad : 99 ≡ 100 = ap (λ (t : Text). slice_index t 0) (sym k.0 ∙ draw) in absurd (omega (arith, bad))
+no_picture name value_of profile w draw reads long (texts.Steps turns chosen) k =
+    let bad : 115 ≡ 100 = ap (λ (t : Text). slice_index t 0) (sym k.0 ∙ draw) in absurd (omega (arith, bad))
+no_picture name value_of profile w draw reads long (texts.Draw window) k =
+    omega (arith, long, k.2, one_length value_of w window reads k.1)
+
+-- where the text of an option is there, and is no number, it says no profile
+pub no_profile : {B : Type 0} (of : B → Text) (o : Option B) (text : Option Text) → is_some o ≡ true → option_map of o ≡ text → ((n : ℕ) → ReadsNumber text n → ⊥) → (profile : Profile) → ReadsProfile text profile → ⊥
+no_profile of None text some is none profile reads = absurd (cc)
+no_profile of (Some x) None some is none profile reads = absurd (cc)
+no_profile of (Some x) (Some text) some is none profile reads = none (processors_in profile) reads

@@ -1,0 +1,277 @@
+-- What a command line asks for, by the words that stand in it.
+use Rattle.std.specs.Prelude.{◌≡◌, ◌≢◌, ℕ, ◌-◌, ◌<◌, ◌≤◌, Bool, true, false, IsTrue, List, [], ◌∷◌, fold, map, replicate, Option, Some, None, Ok, codes}
+use Rattle.std.specs.Str.Parse.{ParsesUnsigned}
+use Rattle.clap.specs.Words.{App, IsAmong, Kinds, Row, Rule, Text, fault_of, first_of, found_of, kind_of, new_app, new_rule, rows_of, subcommand_of, with_rule, with_subcommand}
+use Rattle.clap.specs.declared.builder.action.ArgAction.TheVariants.{Set, SetTrue}
+use Rattle.clap.specs.declared.error.Error.{Error}
+use Rattle.clap.specs.declared.error.kind.ErrorKind.TheVariants.{OutOfMemory}
+use Rattle.clap.specs.declared.parser.matches.ArgMatches.{ArgMatches}
+use Rattle.pp_channel.specs.ChannelNo.{channel_count}
+use Rattle.pp_check.specs.ChannelList.{AreListed}
+use Rattle.pp_check.specs.ProcessorList.{AreProcessorsListed}
+use Rattle.pp_draw.specs.declared.window.Window.{Window}
+use Rattle.pp_machine.specs.Profile.{has_processor, processors_in}
+use Rattle.pp_state.specs.declared.bounds.Bounds.{Bounds}
+use Rattle.pp_machine.specs.declared.profile.Profile.{Profile}
+use Rattle.pp_runner.specs.Limits.{AreLimits}
+use Rattle.pp_command.specs.declared.command.CommandForm.{CommandForm}
+use Rattle.pp_command.specs.declared.command.OptionForm.{OptionForm}
+use Rattle.pp_command.specs.declared.command.ValueForm.{ValueForm}
+use Rattle.pp_command.specs.declared.line_fault.LineFault.{LineFault}
+use Rattle.pp_command.specs.declared.text_of.TextOf.{TextOf}
+use Rattle.pp_command.specs.declared.work.Work.{Work}
+
+-- THE COMMAND LINE, as clap sees it: `ppsim`, one of the commands of `ppsim` below, and its
+-- options, of which some may be left out; or `ppsim --version`
+
+-- an option that may be left out, with one value
+abbrev pub optional_value : Text → Rule
+optional_value id = record (new_rule id) { long = Some id; action = Some Set; value_names = 1 }
+
+-- a required option whose value is a number
+abbrev pub number_option : Text → Rule
+number_option id = record (optional_value id) { required = true }
+
+-- an option without a value
+abbrev pub flag_option : Text → Rule
+flag_option id = record (new_rule id) { long = Some id; action = Some SetTrue }
+
+-- the option that says how many processors the machine has
+abbrev pub processors_option : Rule
+processors_option = optional_value (codes "processors")
+
+-- a command with these options
+abbrev pub command : Text → List Rule → App
+command name options = fold with_rule (new_app name) options
+
+-- a command that makes a run of so many turns
+abbrev pub turns_command : Text → App
+turns_command name = command name (number_option (codes "turns") ∷ processors_option ∷ [])
+
+abbrev pub threads : App
+threads = command (codes "threads")
+    (number_option (codes "steps") ∷ number_option (codes "patience") ∷ processors_option ∷ [])
+
+abbrev pub list : App
+list = command (codes "list") (processors_option ∷ [])
+
+abbrev pub steps : App
+steps = command (codes "steps") (number_option (codes "turns") ∷ optional_value (codes "pp")
+    ∷ optional_value (codes "ch") ∷ optional_value (codes "from") ∷ optional_value (codes "to")
+    ∷ processors_option ∷ [])
+
+abbrev pub memory : App
+memory = command (codes "memory") (number_option (codes "turns") ∷ number_option (codes "pp")
+    ∷ optional_value (codes "first") ∷ optional_value (codes "last") ∷ processors_option ∷ [])
+
+abbrev pub central : App
+central = command (codes "central") (number_option (codes "turns") ∷ optional_value (codes "first")
+    ∷ optional_value (codes "last") ∷ processors_option ∷ [])
+
+abbrev pub sessions : App
+sessions = command (codes "sessions")
+    (number_option (codes "turns") ∷ flag_option (codes "words") ∷ processors_option ∷ [])
+
+abbrev pub draw : App
+draw = command (codes "draw") (number_option (codes "turns") ∷ optional_value (codes "from")
+    ∷ optional_value (codes "to") ∷ processors_option ∷ [])
+
+abbrev pub check : App
+check = command (codes "check") (optional_value (codes "opened") ∷ [])
+
+abbrev pub bare : App
+bare = record (new_app (codes "ppsim")) {
+  top = record (new_app (codes "ppsim")).top { has_version = true; subcommand_required = true };
+}
+
+-- an app with these commands as well
+abbrev pub with_commands : App → List App → App
+with_commands app commands = fold (λ app command. with_subcommand app command.top) app commands
+
+-- the commands, in the order in which help lists them
+unfoldable pub ppsim : App
+ppsim = with_commands bare (turns_command (codes "barrel") ∷ threads ∷ list
+    ∷ turns_command (codes "dump") ∷ steps ∷ turns_command (codes "state")
+    ∷ turns_command (codes "ends") ∷ memory ∷ central ∷ sessions
+    ∷ turns_command (codes "races") ∷ draw ∷ check ∷ [])
+
+-- the kinds of refusal that clap's parse may give to the words: none where they are a command line
+unfoldable pub refusals : List Text → Kinds
+refusals words = fault_of ppsim words
+
+-- ITS NUMBERS
+
+-- std's parse reads this number in an option's text
+abbrev pub ReadsNumber : Option Text → ℕ → Type 0
+ReadsNumber None n = ⊥
+ReadsNumber (Some text) n = ParsesUnsigned {E = ℕ} 32 10 text (Ok n)
+
+-- the profile with this many processors; the 6600's own where none is said
+abbrev pub ReadsProfile : Option Text → Profile → Type 0
+ReadsProfile None profile = profile ≡ Profile.Ten
+ReadsProfile (Some text) profile = ReadsNumber (Some text) (processors_in profile)
+
+-- a processor of a machine of this profile, by its number in octal
+abbrev pub ReadsProcessor : Profile → Option Text → ℕ → Type 0
+ReadsProcessor profile None n = ⊥
+ReadsProcessor profile (Some text) n =
+    ParsesUnsigned {E = ℕ} 8 8 text (Ok n) × IsTrue (has_processor profile n)
+
+-- processors of such a machine, of a list as `0,1,11`, by flags in the barrel's order; or none is
+-- given
+abbrev pub ReadsProcessors : Profile → Option Text → Option (List Bool) → Type 0
+ReadsProcessors profile None flags = flags ≡ None
+ReadsProcessors profile (Some text) None = ⊥
+ReadsProcessors profile (Some text) (Some flags) = AreProcessorsListed profile text flags
+
+-- a turn, or else this one if none is given
+abbrev pub ReadsTurn : ℕ → Option Text → ℕ → Type 0
+ReadsTurn default None turn = turn ≡ default
+ReadsTurn default (Some text) turn = ReadsNumber (Some text) turn × (turn ≤ 999999)
+
+-- an address, in octal, or else this one if none is given
+abbrev pub ReadsAddress : ℕ → Option Text → ℕ → Type 0
+ReadsAddress default None address = address ≡ default
+ReadsAddress default (Some text) address = ParsesUnsigned {E = ℕ} 32 8 text (Ok address)
+
+-- the bounds of the words to print, of a memory of this size
+abbrev pub ReadsBounds : ℕ → (Text → Option Text) → Bounds → Type 0
+ReadsBounds size value_of bounds =
+    ReadsAddress 0 (value_of (codes "first")) bounds.first
+    × ReadsAddress (size - 1) (value_of (codes "last")) bounds.last
+    × ((bounds.first ≤ bounds.last) × (bounds.last < size))
+
+-- the end of the turns to draw, that of the run where none is said
+abbrev pub ReadsEnd : ℕ → Option Text → ℕ → Type 0
+ReadsEnd turns None to = to ≡ turns
+ReadsEnd turns (Some text) to = ReadsNumber (Some text) to × (to ≤ turns)
+
+-- how many turns are run
+abbrev pub ReadsTurns : (Text → Option Text) → ℕ → Type 0
+ReadsTurns value_of turns = ReadsNumber (value_of (codes "turns")) turns × (turns ≤ 999999)
+
+-- the turns to draw, of those that are run: from one on, and before another
+unfoldable pub ReadsWindow : (Text → Option Text) → Window → Type 0
+ReadsWindow value_of w = (turns : ℕ) × ReadsTurns value_of turns
+    × ReadsEnd turns (value_of (codes "to")) w.to × ReadsTurn 0 (value_of (codes "from")) w.from
+    × (w.from ≤ w.to)
+
+-- the channels of a list as `1,5,13`, by flags in the order of their places; none if none is said
+abbrev pub ReadsChannels : Option Text → List Bool → Type 0
+ReadsChannels None flags = flags ≡ replicate channel_count false
+ReadsChannels (Some text) flags = AreListed text flags
+
+-- the same, or none is given
+abbrev pub ReadsChosen : Option Text → Option (List Bool) → Type 0
+ReadsChosen None flags = flags ≡ None
+ReadsChosen (Some text) None = ⊥
+ReadsChosen (Some text) (Some flags) = AreListed text flags
+
+-- whether an option without a value is given
+abbrev pub ReadsFlag : Option Text → Bool → Type 0
+ReadsFlag value true = value ≡ Some (codes "true")
+ReadsFlag value false = value ≢ Some (codes "true")
+
+-- WHAT IT ASKS FOR
+
+-- the command of this name, with these values of its options, asks for this text of a deck, for a
+-- machine of this profile
+abbrev pub AsksForText : Text → (Text → Option Text) → Profile → TextOf → Type 0
+AsksForText name value_of profile (TextOf.Barrel turns) =
+    (name ≡ codes "barrel") × ReadsTurns value_of turns
+AsksForText name value_of profile TextOf.List = name ≡ codes "list"
+AsksForText name value_of profile (TextOf.Dump turns) =
+    (name ≡ codes "dump") × ReadsTurns value_of turns
+AsksForText name value_of profile (TextOf.State turns) =
+    (name ≡ codes "state") × ReadsTurns value_of turns
+AsksForText name value_of profile (TextOf.Sessions turns words) =
+    (name ≡ codes "sessions") × ReadsTurns value_of turns
+    × ReadsFlag (value_of (codes "words")) words
+AsksForText name value_of profile (TextOf.Races turns) =
+    (name ≡ codes "races") × ReadsTurns value_of turns
+AsksForText name value_of profile (TextOf.Ends turns) =
+    (name ≡ codes "ends") × ReadsTurns value_of turns
+AsksForText name value_of profile (TextOf.Memory turns n bounds) =
+    (name ≡ codes "memory") × ReadsTurns value_of turns
+    × ReadsProcessor profile (value_of (codes "pp")) n × ReadsBounds 0o10000 value_of bounds
+AsksForText name value_of profile (TextOf.Central turns bounds) =
+    (name ≡ codes "central") × ReadsTurns value_of turns × ReadsBounds 0o400000 value_of bounds
+AsksForText name value_of profile (TextOf.Steps turns chosen) =
+    (name ≡ codes "steps") × ReadsTurns value_of turns
+    × ReadsProcessors profile (value_of (codes "pp")) chosen.processors
+    × ReadsChosen (value_of (codes "ch")) chosen.channels
+    × ReadsTurn 0 (value_of (codes "from")) chosen.from
+    × ReadsTurn turns (value_of (codes "to")) chosen.to
+AsksForText name value_of profile (TextOf.Draw window) =
+    (name ≡ codes "draw") × ReadsWindow value_of window × (window.to - window.from ≤ 2000)
+
+-- it asks for this work
+abbrev pub IsWorkOf : Text → (Text → Option Text) → Work → Type 0
+IsWorkOf name value_of (Work.Deck profile text) =
+    ReadsProfile (value_of (codes "processors")) profile × AsksForText name value_of profile text
+IsWorkOf name value_of (Work.Threads profile limits) =
+    (name ≡ codes "threads") × ReadsProfile (value_of (codes "processors")) profile
+    × ReadsNumber (value_of (codes "steps")) limits.steps
+    × ReadsNumber (value_of (codes "patience")) limits.patience × AreLimits limits
+IsWorkOf name value_of (Work.Check opened) =
+    (name ≡ codes "check") × ReadsChannels (value_of (codes "opened")) opened
+
+abbrev pub IsWorkAmong : Option (Text × List Row) → Work → Type 0
+IsWorkAmong None work = ⊥
+IsWorkAmong (Some (name, rows)) work = IsWorkOf name (λ id. first_of id rows) work
+
+-- the command of this name, with these values of its options, asks for more turns than a picture
+-- has
+abbrev pub AsksForMore : Text → (Text → Option Text) → Type 0
+AsksForMore name value_of =
+    (name ≡ codes "draw") × ((w : Window) × ReadsWindow value_of w × (2000 < w.to - w.from))
+
+abbrev pub AsksForMoreAmong : Option (Text × List Row) → Type 0
+AsksForMoreAmong None = ⊥
+AsksForMoreAmong (Some (name, rows)) = AsksForMore name (λ id. first_of id rows)
+
+-- the words ask for this work
+abbrev pub AskFor : List Text → Work → Type 0
+AskFor words work = IsWorkAmong (subcommand_of ppsim words) work
+
+-- what each refusal says of the words: it is one of clap's, and not for want of memory; or the
+-- words are a command line, and no work is asked for within the ranges: `Picture` where they ask
+-- for a picture of more turns than one has, `Number` in all other cases
+abbrev pub IsRefused : List Text → LineFault → Type 0
+IsRefused words LineFault.Memory = Unit {0}
+IsRefused words (LineFault.Refused error) =
+    IsAmong (kind_of error) (refusals words) × (kind_of error ≢ OutOfMemory)
+IsRefused words LineFault.Number = (refusals words ≡ []) × ((work : Work) → ¬ AskFor words work)
+    × ¬ AsksForMoreAmong (subcommand_of ppsim words)
+IsRefused words LineFault.Picture = (refusals words ≡ []) × ((work : Work) → ¬ AskFor words work)
+    × AsksForMoreAmong (subcommand_of ppsim words)
+
+-- the fault that clap's error makes: want of memory is told as such
+abbrev pub IsFaultBy : Error → LineFault → Type 0
+IsFaultBy error LineFault.Memory = kind_of error ≡ OutOfMemory
+IsFaultBy error (LineFault.Refused told) = (told ≡ error) × (kind_of error ≢ OutOfMemory)
+IsFaultBy error other = ⊥
+
+-- ---- parts of a reading
+
+-- the value of an option, by what clap's parse met
+abbrev pub value_in : ArgMatches → Text → Option Text
+value_in matches = λ id. first_of id (rows_of (found_of matches))
+
+-- what this holds of was found, or it holds of nothing
+abbrev pub Finds : {X : Type 0} → (X → Type 0) → Option X → Type 0
+Finds {X} Holds None = (x : X) → ¬ Holds x
+Finds {X} Holds (Some x) = Holds x
+
+-- the rule of an option with such a value, or none
+abbrev pub rule_by : ValueForm → Text → Rule
+rule_by (ValueForm.Flag help) id = flag_option id
+rule_by value id = optional_value id
+
+-- the rule of an option of this form
+abbrev pub rule_of_form : OptionForm → Rule
+rule_of_form form = record (rule_by form.value form.name.now) { required = form.required }
+
+-- the app of a command of this form
+abbrev pub app_of_form : CommandForm → App
+app_of_form form = command form.name.now (map rule_of_form form.options.now)

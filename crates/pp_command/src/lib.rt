@@ -1,0 +1,15 @@
+//! The command line: what its words ask for, or why they are refused, and its help.
+#![tactic(auto)]
+
+mod command;
+mod command_words;
+mod help;
+mod line_fault;
+mod number_range;
+mod text_of;
+mod work;
+
+pub use command_words::read_words;
+pub use line_fault::LineFault;
+pub use text_of::{ChosenSteps, TextOf};
+pub use work::Work;

@@ -1,0 +1,18 @@
+//! What a command line asks for.
+
+use crate::text_of::TextOf;
+use pp_channel::CHANNELS;
+use pp_machine::Profile;
+use pp_runner::Limits;
+
+/// The work that a command line asks for.
+#[derive(Clone, Copy, Debug, PartialEq, Eq)]
+pub enum Work {
+    /// This text of a deck, for a machine of this profile.
+    Deck { profile: Profile, text: TextOf },
+    /// The run of a deck with one thread per processor of this profile, within these limits.
+    Threads { profile: Profile, limits: Limits },
+    /// The check of a channel trace, where the channels that are flagged, in the order of their
+    /// places, were open before it.
+    Check { opened: [bool; CHANNELS] },
+}

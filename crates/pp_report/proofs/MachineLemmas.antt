@@ -1,0 +1,258 @@
+-- Steps of a machine, by its processors and its histories.
+use Rattle.std.proofs.Common.{append_assoc, cond, eqb, false, true, ◌≤◌, ◌≡◌, ◌≢◌, ℕ, ◌+◌, ◌<◌, List, [], ◌∷◌, ◌++◌, length, get_or, set, Option, Some, None, refl, sym, ap, ◌∙◌, subst, inl, inr, arith}
+use Rattle.std.specs.Prelude.{IsTrue, All, slice_get, slice_index, slice_set}
+use Rattle.std.specs.Option.{option_to_list}
+use Rattle.std.proofs.lemmas.Bool.{le-ltb, cases_eq, lt-ltb}
+use Rattle.std.proofs.lemmas.Option.{slice_get_past, slice_get-get_or}
+use Rattle.std.proofs.lemmas.List.{append-nil, length-append, length-set, set-get_or, set_past, get_or-set_same, get_or-set_other}
+use Rattle.std.proofs.lemmas.List.Elements.{All-append, All-cons, All-nil}
+use Rattle.std.proofs.lemmas.List.Sums.{fold-append}
+use Rattle.pp_channel.specs.Answer.{event_of, reply_to}
+use Rattle.pp_channel.specs.ChannelNo.{channel_count, channel_index, names_channel}
+use Rattle.pp_channel.specs.ChannelPlaces.{place_below, one_place}
+use Rattle.pp_channel.specs.History.{history_on}
+use Rattle.pp_channel.specs.declared.chan_op.ChanOp.{ChanOp}
+use Rattle.pp_channel.specs.declared.event.Event.{Event}
+use Rattle.pp_channel.specs.declared.reply.Reply.{Reply}
+use Rattle.pp_machine.specs.MachineState.{MachineState, processor_of, history_of}
+use Rattle.pp_machine.specs.MachineStep.{stepped, step_outcome, answer_to, histories_after, central_after}
+use Rattle.pp_machine.specs.NeedAndEffect.{need, outcome, processor_after}
+use Rattle.pp_machine.specs.declared.outcome.Outcome.TheVariants.{Moved}
+use Rattle.pp_machine.specs.PpNo.{processor_index, processor_number}
+use Rattle.pp_machine.specs.Processor.{Processor, no_processor}
+use Rattle.pp_machine.specs.ProcessorPlaces.{number_at, place_of_number}
+use Rattle.pp_machine.specs.Profile.{has_processor, processors_in}
+use Rattle.pp_machine.specs.ProfilePlaces.{has_at, most_processors}
+use Rattle.pp_machine.specs.Run.{run}
+use Rattle.pp_machine.specs.declared.answer.Answer.{Answer}
+use Rattle.pp_machine.specs.declared.answer.Answer.TheVariants as answers
+use Rattle.pp_machine.specs.declared.need.Need.{Need}
+use Rattle.pp_machine.specs.declared.need.Need.TheVariants as needs
+use Rattle.pp_machine.specs.declared.profile.Profile.{Profile}
+use Rattle.pp_report.specs.Serial.{answers_along}
+
+-- what has come to pass: the history of each channel, and the words of central memory
+pub record Past : Type 0 where
+  pub happened : ℕ → List Event
+  pub words : List ℕ
+
+-- a machine has these processors; its channels and its central memory, of this size, are as this left them
+pub record Stands (size : ℕ) (m : MachineState) (pps : List Processor) (past : Past) : Type 0 where
+  pub processors : m.processors ≡ pps
+  pub channels : length m.histories ≡ channel_count
+  pub histories : (c : ℕ) → history_of c m ≡ past.happened c
+  pub central : m.central ≡ past.words
+  pub sized : length past.words ≡ size
+
+-- each of these steps moves its processor
+abbrev pub AllMove : MachineState → List ℕ → Type 0
+AllMove m [] = Unit {0}
+AllMove m (n ∷ ns) = (step_outcome n m ≡ Moved) × AllMove (stepped n m) ns
+
+all_move : (m : MachineState) (ns ks : List ℕ) → AllMove m ns → AllMove (run ns m) ks → AllMove m (ns ++ ks)
+all_move m [] ks a b = b
+all_move m (n ∷ ns) ks a b = (a.0, all_move (stepped n m) ns ks a.1 b)
+
+-- processors, and by place the answers that each is still to get
+pub record Group : Type 0 where
+  pub pps : List Processor
+  pub left : List (List Answer)
+
+along_more : (n : ℕ) (m : MachineState) (ks ns : List ℕ) → answers_along n (ks ++ ns) m ≡ answers_along n ks m ++ answers_along n ns (run ks m)
+along_more n m [] ns = refl
+along_more n m (k ∷ ks) ns =
+    let first : List Answer = cond (eqb n k) (answer_to (need (processor_of k m)) m ∷ []) [] in
+    ap (λ l. first ++ l) (along_more n (stepped k m) ks ns) ∙ sym (append_assoc first (answers_along n ks (stepped k m)) (answers_along n ns (run ks (stepped k m))))
+
+-- steps of processors of the profile, each of which moves its processor, lead a machine to one that stands so,
+-- and the processors get these answers
+pub record IsLed (size : ℕ) (p : Profile) (m : MachineState) (before after : Group) (later : Past) (ns : List ℕ) (steps : ℕ) : Type 0 where
+  pub count : length ns ≡ steps
+  pub named : All (λ n. IsTrue (has_processor p n)) ns
+  pub moved : AllMove m ns
+  pub stands : Stands size (run ns m) after.pps later
+  pub answers : (place : ℕ) → place < processors_in p → answers_along (processor_number place) ns m ++ get_or after.left place [] ≡ get_or before.left place []
+
+-- so many steps lead each machine that stands so to one that stands so
+abbrev pub Leads : ℕ → Profile → ℕ → Group → Past → Group → Past → Type 0
+Leads size p steps before past after later = (m : MachineState) → Stands size m before.pps past → (ns : List ℕ) × IsLed size p m before after later ns steps
+
+pub leads_by : (size : ℕ) (p : Profile) (one two : Group) (first second : Past) (k n : ℕ) → k ≡ n → Leads size p k one first two second → Leads size p n one first two second
+leads_by size p one two first second k n is leads = subst (λ (j : ℕ). Leads size p j one first two second) is leads
+
+pub leads_none : (size : ℕ) (p : Profile) (one : Group) (past later : Past) → ((c : ℕ) → past.happened c ≡ later.happened c) → past.words ≡ later.words → Leads size p 0 one past one later
+leads_none size p one past later same words m stands = (
+  [],
+  record {
+    count = refl;
+    named = All-nil (λ n. IsTrue (has_processor p n));
+    moved = tt;
+    answers = λ place _. refl;
+    stands = record {
+      processors = stands.processors;
+      channels = stands.channels;
+      histories = λ c. stands.histories c ∙ same c;
+      central = stands.central ∙ words;
+      sized = ap length (sym words) ∙ stands.sized;
+    };
+  },
+)
+
+pub leads_on : (size : ℕ) (p : Profile) (k n : ℕ) (one two three : Group) (first second third : Past) → Leads size p k one first two second → Leads size p n two second three third → Leads size p (k + n) one first three third
+leads_on size p k n one two three first second third a b m stands =
+    let s = a m stands in
+    let t = b (run s.0 m) s.1.stands in
+    let both : run t.0 (run s.0 m) ≡ run (s.0 ++ t.0) m = sym (fold-append (λ k n. stepped n k) m s.0 t.0) in (
+      s.0 ++ t.0,
+      record {
+        count = length-append s.0 t.0 ∙ (λ j. s.1.count j + t.1.count j);
+        named = All-append (λ n. IsTrue (has_processor p n)) s.0 t.0 s.1.named t.1.named;
+        moved = all_move m s.0 t.0 s.1.moved t.1.moved;
+        stands = subst (λ (k : MachineState). Stands size k three.pps third) both t.1.stands;
+        answers = λ place inside.
+            let i = processor_number place in
+            let got = answers_along i s.0 m in
+            ap (λ l. l ++ get_or three.left place []) (along_more i m s.0 t.0)
+            ∙ (append_assoc got (answers_along i t.0 (run s.0 m)) (get_or three.left place []) ∙ (ap (λ l. got ++ l) (t.1.answers place inside) ∙ s.1.answers place inside));
+      },
+    )
+
+stepped_processors : (n : ℕ) (m : MachineState) → (stepped n m).processors ≡ set m.processors (processor_index n) (processor_after (processor_of n m) (answer_to (need (processor_of n m)) m))
+unfolding stepped
+stepped_processors n m = refl
+
+stepped_histories : (n : ℕ) (m : MachineState) → (stepped n m).histories ≡ histories_after (need (processor_of n m)) m
+unfolding stepped
+stepped_histories n m = refl
+
+stepped_central : (n : ℕ) (m : MachineState) → (stepped n m).central ≡ central_after (need (processor_of n m)) m
+unfolding stepped
+stepped_central n m = refl
+
+moves : (n : ℕ) (m : MachineState) (pp : Processor) (x : Answer) → processor_of n m ≡ pp → answer_to (need (processor_of n m)) m ≡ x → outcome pp x ≡ Moved → step_outcome n m ≡ Moved
+unfolding step_outcome
+moves n m pp x is answer moved = (λ j. outcome (is j) (answer j)) ∙ moved
+
+-- what a need does to channels and central memory
+pub record Serves (size : ℕ) (needed : Need) (x : Answer) (past later : Past) : Type 0 where
+  pub answers_so : (m : MachineState) (pps : List Processor) → Stands size m pps past → answer_to needed m ≡ x
+  pub channels : (m : MachineState) (pps : List Processor) → Stands size m pps past → length (histories_after needed m) ≡ channel_count
+  pub histories : (m : MachineState) (pps : List Processor) → Stands size m pps past → (c : ℕ) → history_on c (histories_after needed m) ≡ later.happened c
+  pub central : (m : MachineState) (pps : List Processor) → Stands size m pps past → central_after needed m ≡ later.words
+  pub sized : length past.words ≡ size → length later.words ≡ size
+
+pub serves_by : (size : ℕ) (n k : Need) (x y : Answer) (past later : Past) → n ≡ k → x ≡ y → Serves size k y past later → Serves size n x past later
+serves_by size n k x y past later needed answered serves = rw (needed, answered) serves
+
+-- one step of the processor at a place
+pub leads_step : (size : ℕ) (p : Profile) (one two : Group) (place : ℕ) (x : Answer) (past later : Past) → place < processors_in p → outcome (get_or one.pps place no_processor) x ≡ Moved
+    → Serves size (need (get_or one.pps place no_processor)) x past later → two.pps ≡ set one.pps place (processor_after (get_or one.pps place no_processor) x)
+    → ((other : ℕ) → cond (eqb other place) (x ∷ []) [] ++ get_or two.left other [] ≡ get_or one.left other []) → Leads size p 1 one past two later
+leads_step size p one two place x past later inside moved serves next given m stands =
+    let pps = one.pps in
+    let most = most_processors p in
+    let n = processor_number place in
+    let at : processor_index n ≡ place = place_of_number place (omega (arith, inside, most)) in
+    let pp : processor_of n m ≡ get_or pps place no_processor = λ j. get_or (stands.processors j) (at j) no_processor in
+    let answer : answer_to (need (processor_of n m)) m ≡ x = ap (λ q. answer_to (need q) m) pp ∙ serves.answers_so m pps stands in (
+      n ∷ [],
+      record {
+        count = refl;
+        named = All-cons (λ k. IsTrue (has_processor p k)) n [] (has_at p place (omega (arith, inside, most)) ∙ lt-ltb place (processors_in p) inside) (All-nil (λ k. IsTrue (has_processor p k)));
+        moved = (moves n m (get_or pps place no_processor) x pp answer moved, tt);
+        answers = λ other within.
+            let same : eqb (processor_number other) n ≡ eqb other place = number_at other n (omega (arith, within, most)) ∙ ap (eqb other) at in
+            ap (λ l. l ++ get_or two.left other []) ((λ j. cond (same j) (answer j ∷ []) [] ++ []) ∙ append-nil (cond (eqb other place) (x ∷ []) [])) ∙ given other;
+        stands = record {
+          processors = stepped_processors n m ∙ ((λ j. set (stands.processors j) (at j) (processor_after (pp j) (answer j))) ∙ sym next);
+          channels = ap length (stepped_histories n m) ∙ (ap (λ q. length (histories_after (need q) m)) pp ∙ serves.channels m pps stands);
+          histories = λ c. ap (history_on c) (stepped_histories n m) ∙ (ap (λ q. history_on c (histories_after (need q) m)) pp ∙ serves.histories m pps stands c);
+          central = stepped_central n m ∙ (ap (λ q. central_after (need q) m) pp ∙ serves.central m pps stands);
+          sized = serves.sized stands.sized;
+        };
+      },
+    )
+
+-- nothing from outside
+pub serves_local : (size : ℕ) (past : Past) → Serves size needs.Local answers.Local past past
+serves_local size past = record {
+  answers_so = λ m pps stands. refl;
+  channels = λ m pps stands. stands.channels;
+  histories = λ m pps stands. stands.histories;
+  central = λ m pps stands. stands.central;
+  sized = λ is. is;
+}
+
+-- an operation that makes no event
+pub serves_look : (size c : ℕ) (op : ChanOp) (reply : Reply) (past : Past) → reply_to op (past.happened c) ≡ reply → event_of op (past.happened c) ≡ None → Serves size (needs.Channel c op) (answers.Channel reply) past past
+serves_look size c op reply past replied none =
+    let same : (m : MachineState) (pps : List Processor) → Stands size m pps past → histories_after (needs.Channel c op) m ≡ m.histories = λ m pps stands.
+    ap (λ (o : Option Event). set m.histories (channel_index c) (history_of c m ++ option_to_list o)) (ap (event_of op) (stands.histories c) ∙ none)
+    ∙ (ap (λ h. set m.histories (channel_index c) h) (append-nil (history_of c m)) ∙ set-get_or m.histories (channel_index c) []) in record {
+      answers_so = λ m pps stands. ap (λ h. answers.Channel (reply_to op h)) (stands.histories c) ∙ ap (λ r. answers.Channel r) replied;
+      channels = λ m pps stands. ap length (same m pps stands) ∙ stands.channels;
+      histories = λ m pps stands d. ap (history_on d) (same m pps stands) ∙ stands.histories d;
+      central = λ m pps stands. stands.central;
+      sized = λ is. is;
+    }
+
+-- one that makes an event
+pub serves_event : (size c : ℕ) (op : ChanOp) (reply : Reply) (e : Event) (past later : Past) → IsTrue (names_channel c) → reply_to op (past.happened c) ≡ reply → event_of op (past.happened c) ≡ Some e
+    → (later.happened c ≡ past.happened c ++ e ∷ []) → ((d : ℕ) → c ≢ d → later.happened d ≡ past.happened d) → past.words ≡ later.words → Serves size (needs.Channel c op) (answers.Channel reply) past later
+serves_event size c op reply e past later names replied made here elsewhere words =
+    let after : (m : MachineState) (pps : List Processor) → Stands size m pps past → histories_after (needs.Channel c op) m ≡ set m.histories (channel_index c) (past.happened c ++ e ∷ []) = λ m pps stands.
+    (λ j. set m.histories (channel_index c) (stands.histories c j ++ option_to_list (event_of op (stands.histories c j))))
+    ∙ ap (λ (o : Option Event). set m.histories (channel_index c) (past.happened c ++ option_to_list o)) made in record {
+      answers_so = λ m pps stands. ap (λ h. answers.Channel (reply_to op h)) (stands.histories c) ∙ ap (λ r. answers.Channel r) replied;
+      channels = λ m pps stands. ap length (after m pps stands) ∙ (length-set m.histories (channel_index c) (past.happened c ++ e ∷ []) ∙ stands.channels);
+      histories = λ m pps stands d. ap (history_on d) (after m pps stands) ∙ elim (cases_eq c d) [
+        | inl same ↦
+            let below = place_below c names in
+            let written : history_on c (set m.histories (channel_index c) (past.happened c ++ e ∷ [])) ≡ past.happened c ++ e ∷ [] = get_or-set_same m.histories (channel_index c) (past.happened c ++ e ∷ []) [] (omega (arith, below, stands.channels)) in
+            subst (λ (k : ℕ). history_on k (set m.histories (channel_index c) (past.happened c ++ e ∷ [])) ≡ later.happened k) same (written ∙ sym here)
+        | inr other ↦
+            get_or-set_other m.histories (channel_index c) (channel_index d) (past.happened c ++ e ∷ []) [] (λ is. other (sym (one_place c d names is)))
+            ∙ (stands.histories d ∙ sym (elsewhere d other))
+      ];
+      central = λ m pps stands. stands.central ∙ words;
+      sized = λ is. ap length (sym words) ∙ is;
+    }
+
+-- central memory: a word is found, and one is written
+pub serves_read : (size a w : ℕ) (past : Past) → slice_index past.words a ≡ w → a < size → Serves size (needs.Read a) (answers.Read (Some w)) past past
+serves_read size a w past found inside = record {
+  answers_so = λ m pps stands.
+      ap (λ (words : List ℕ). answers.Read (slice_get words a)) stands.central ∙ (ap (λ o. answers.Read o) (slice_get-get_or past.words a 0 (omega (arith, inside, stands.sized))) ∙ ap (λ k. answers.Read (Some k)) found);
+  channels = λ m pps stands. stands.channels;
+  histories = λ m pps stands. stands.histories;
+  central = λ m pps stands. stands.central;
+  sized = λ is. is;
+}
+
+pub serves_write : (size a w : ℕ) (past later : Past) → a < size → ((c : ℕ) → past.happened c ≡ later.happened c) → slice_set past.words a w ≡ later.words → Serves size (needs.Write a w) (answers.Wrote true) past later
+serves_write size a w past later inside same words = record {
+  answers_so = λ m pps stands. ap (λ b. answers.Wrote b) (lt-ltb a (length m.central) (omega (arith, inside, ap length stands.central, stands.sized)));
+  channels = λ m pps stands. stands.channels;
+  histories = λ m pps stands c. stands.histories c ∙ same c;
+  central = λ m pps stands. ap (λ (ws : List ℕ). slice_set ws a w) stands.central ∙ words;
+  sized = λ is. ap length (sym words) ∙ (length-set past.words a w ∙ is);
+}
+
+-- past its size none is found, and none is written
+pub serves_no_word : (size a : ℕ) (past : Past) → size ≤ a → Serves size (needs.Read a) (answers.Read None) past past
+serves_no_word size a past behind = record {
+  answers_so = λ m pps stands. ap (λ o. answers.Read o) (slice_get_past m.central a (omega (arith, behind, ap length stands.central, stands.sized)));
+  channels = λ m pps stands. stands.channels;
+  histories = λ m pps stands. stands.histories;
+  central = λ m pps stands. stands.central;
+  sized = λ is. is;
+}
+
+pub serves_no_write : (size a w : ℕ) (past : Past) → size ≤ a → Serves size (needs.Write a w) (answers.Wrote false) past past
+serves_no_write size a w past behind = record {
+  answers_so = λ m pps stands. ap (λ b. answers.Wrote b) (le-ltb a (length m.central) (omega (arith, behind, ap length stands.central, stands.sized)));
+  channels = λ m pps stands. stands.channels;
+  histories = λ m pps stands. stands.histories;
+  central = λ m pps stands. set_past m.central a w (omega (arith, behind, ap length stands.central, stands.sized)) ∙ stands.central;
+  sized = λ is. is;
+}

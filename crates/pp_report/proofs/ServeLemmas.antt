@@ -1,0 +1,487 @@
+-- Workers whose accesses stand in one order are led along it, an access at a time, by steps of a machine.
+use Rattle.std.proofs.Common.{◌≡◌, ◌≢◌, ℕ, ◌+◌, ◌<◌, ◌≤◌, cond, true, List, [], ◌∷◌, ◌++◌, length, map, Some, refl, sym, ap, ◌∙◌, subst, inl, inr, arith, append_assoc}
+use Rattle.std.specs.Prelude.{◌⊎◌, ◌==◌, IsTrue, All, slice_get, slice_index, slice_set}
+use Rattle.std.specs.List.{cons_option, sum_by}
+use Rattle.std.proofs.lemmas.Bool.{cases_eq, cases_lt, eq-eqb, ne_eqb}
+use Rattle.std.proofs.lemmas.List.{append-nil, length-append, length-map, map-append}
+use Rattle.std.proofs.lemmas.List.Elements.{All-append, All-cons, All-head, All-nil, All-push, All-tail}
+use Rattle.std.proofs.lemmas.List.Sums.{sum_by-append, sum_by-cons}
+use Rattle.std.proofs.Math.Seq.{set-append_seam}
+use Rattle.list_facts.specs.Subsequence.{IsSubsequence}
+use Rattle.pp_channel.specs.Answer.{flags_of}
+use Rattle.pp_channel.specs.ChannelNo.{names_channel}
+use Rattle.pp_channel.specs.History.{IsLawful}
+use Rattle.pp_line.specs.Merge.{times_logged}
+use Rattle.pp_line.specs.Order.{IsLegal, ComesAfter, FindsWords, entries_among, left_by, made_at, made_on}
+use Rattle.pp_line.specs.declared.access.Access.{Access}
+use Rattle.pp_line.specs.declared.access.Access.TheVariants.{OnChannel, Read, Write}
+use Rattle.pp_line.specs.declared.entry.Entry.{Entry}
+use Rattle.pp_channel.specs.declared.seen.Seen.{Seen}
+use Rattle.pp_channel.specs.declared.seen.Seen.TheVariants.{Did, Saw}
+use Rattle.pp_channel.specs.declared.event.Event.{Event}
+use Rattle.pp_channel.specs.declared.flags.Flags.{Flags}
+use Rattle.pp_channel.proofs.FrontLemmas.{lawful_front}
+use Rattle.pp_line.proofs.MergeLemmas.{told_by, told_here, told_not}
+use Rattle.pp_line.proofs.OrderLemmas.{made_more}
+use Rattle.pp_machine.specs.NeedAndEffect.{need}
+use Rattle.pp_machine.specs.Processor.{Processor}
+use Rattle.pp_machine.specs.Profile.{processors_in}
+use Rattle.pp_machine.specs.declared.answer.Answer.{Answer}
+use Rattle.pp_machine.specs.declared.answer.Answer.TheVariants as answers
+use Rattle.pp_machine.specs.declared.need.Need.{Need}
+use Rattle.pp_machine.specs.declared.need.Need.TheVariants as needs
+use Rattle.pp_machine.specs.declared.profile.Profile.{Profile}
+use Rattle.pp_runner.specs.WorkerReport.{IsBySize}
+use Rattle.pp_report.proofs.AnswerLemmas.{channel_of, event_answer, look_answer, read_of, write_of}
+use Rattle.pp_report.proofs.MachineLemmas.{Past, Leads, leads_none, leads_by, leads_on, serves_by, serves_look, serves_event, serves_read, serves_write}
+use Rattle.pp_report.proofs.WorkingLemmas.{Working, IsWorking, all_of, ServesAccess, next, rest_done}
+
+-- what an entry tells
+told_look : (c number : ℕ) (entry : Entry) (f : Flags) → entry.what ≡ Saw f → told_by c number entry ≡ 0
+told_look c number entry f is = rw is refl
+
+told_event : (c number : ℕ) (entry : Entry) (e : Event) → entry.what ≡ Did e → (entry.channel ≢ c) ⊎ (entry.number ≢ number) → told_by c number entry ≡ 0
+told_event c number entry e is other = rw is (told_not c number entry.channel entry.number e other)
+
+told_itself : (entry : Entry) (e : Event) → entry.what ≡ Did e → told_by entry.channel entry.number entry ≡ 1
+told_itself entry e is = rw is (told_here entry.channel entry.number entry.channel entry.number e refl refl)
+
+pub times_cons : (c number : ℕ) (entry : Entry) (entries : List Entry) → times_logged c number (entry ∷ entries) ≡ told_by c number entry + times_logged c number entries
+times_cons c number entry entries = sum_by-cons (told_by c number) entry entries
+
+-- how often an access tells an event, and a write
+abbrev pub tells_event : ℕ → ℕ → Access → ℕ
+tells_event c number (OnChannel entry) = told_by c number entry
+tells_event c number (Read a w) = 0
+tells_event c number (Write a w n) = 0
+
+abbrev pub tells_write : ℕ → Access → ℕ
+tells_write k (OnChannel entry) = 0
+tells_write k (Read a w) = 0
+tells_write k (Write a w n) = cond (n == k) 1 0
+
+pub event_times : (c number : ℕ) (xs : List Access) → sum_by (tells_event c number) xs ≡ times_logged c number (entries_among xs)
+event_times c number [] = refl
+event_times c number (OnChannel entry ∷ xs) = omega (arith, sum_by-cons (tells_event c number) (OnChannel entry) xs, event_times c number xs, times_cons c number entry (entries_among xs))
+event_times c number (Read a w ∷ xs) = omega (arith, sum_by-cons (tells_event c number) (Read a w) xs, event_times c number xs)
+event_times c number (Write a w n ∷ xs) = omega (arith, sum_by-cons (tells_event c number) (Write a w n) xs, event_times c number xs)
+
+-- how often the accesses that a worker has left do
+abbrev pub times_left : (Access → ℕ) → Working → ℕ
+times_left tells w = sum_by tells w.accesses
+
+-- what stands among accesses tells no more
+sum_stands : (tells : Access → ℕ) (xs ys : List Access) → IsSubsequence xs ys → sum_by tells xs ≤ sum_by tells ys
+sum_stands tells [] ys h = omega arith
+sum_stands tells (x ∷ xs) [] h = absurd h
+sum_stands tells (x ∷ xs) (y ∷ ys) h =
+    let left = sum_by-cons tells x xs in
+    let right = sum_by-cons tells y ys in
+    elim h [
+      | inl p ↦ let same : tells x ≡ tells y = ap tells p.0 in let rest = sum_stands tells xs ys p.1 in omega (arith, left, right, same, rest)
+      | inr q ↦ let rest = sum_stands tells (x ∷ xs) ys q in omega (arith, right, rest)
+    ]
+
+-- the writes of an order are numbered, from this number on
+abbrev pub NumberedFrom : ℕ → List Access → Type 0
+NumberedFrom k [] = Unit {0}
+NumberedFrom k (OnChannel entry ∷ os) = NumberedFrom k os
+NumberedFrom k (Read a w ∷ os) = NumberedFrom k os
+NumberedFrom k (Write a w n ∷ os) = (n ≡ k) × NumberedFrom (k + 1) os
+
+another_write : (k a w n : ℕ) → n ≢ k → tells_write k (Write a w n) ≡ 0
+another_write k a w n other = ap (λ b. cond b 1 0) (ne_eqb n k other)
+
+not_written : (m k : ℕ) (os : List Access) → NumberedFrom m os → k < m → sum_by (tells_write k) os ≡ 0
+not_written m k [] numbered early = refl
+not_written m k (OnChannel entry ∷ os) numbered early = omega (arith, sum_by-cons (tells_write k) (OnChannel entry) os, not_written m k os numbered early)
+not_written m k (Read a w ∷ os) numbered early = omega (arith, sum_by-cons (tells_write k) (Read a w) os, not_written m k os numbered early)
+not_written m k (Write a w n ∷ os) numbered early =
+    let none = another_write k a w n (λ same. omega (arith, same, numbered.0, early)) in
+    omega (arith, sum_by-cons (tells_write k) (Write a w n) os, none, not_written (m + 1) k os numbered.1 (omega (arith, early)))
+
+-- entries in their places tell no event that has come before
+told_in_place : (c number : ℕ) (happened : ℕ → List Event) (entry : Entry) (what : Seen) → entry.what ≡ what → ComesAfter (happened entry.channel) entry.number what → number < length (happened c) → told_by c number entry ≡ 0
+told_in_place c number happened entry (Saw f) is comes early = told_look c number entry f is
+told_in_place c number happened entry (Did e) is comes early =
+    told_event c number entry e is (elim (cases_eq entry.channel c) [
+      | inl same ↦ let there : length (happened entry.channel) ≡ length (happened c) = ap (λ k. length (happened k)) same in inr (λ at. omega (arith, at, there, comes, early))
+      | inr other ↦ inl other
+    ])
+
+not_early : (c number : ℕ) (happened : ℕ → List Event) (os : List Entry) → IsLegal happened os → number < length (happened c) → times_logged c number os ≡ 0
+not_early c number happened [] all early = refl
+not_early c number happened (entry ∷ os) all early =
+    let here = told_in_place c number happened entry entry.what refl all.0 early in
+    let more = length-append (happened c) (made_on c (entry ∷ [])) in
+    let rest = not_early c number (λ d. happened d ++ made_on d (entry ∷ [])) os all.1 (omega (arith, more, early)) in
+    omega (arith, times_cons c number entry os, here, rest)
+
+-- the head of what stands among accesses is the first of them, or comes later
+head_here : (xs : List Access) (access : Access) (os : List Access) → IsSubsequence xs (access ∷ os) → IsSubsequence xs os ⊎ ((rest : List Access) × (xs ≡ access ∷ rest) × IsSubsequence rest os)
+head_here [] access os h = inl tt
+head_here (x ∷ xs) access os h = elim h [ inl p ↦ inr (xs, ap (λ y. y ∷ xs) p.0, p.1) | inr q ↦ inl q ]
+
+-- a worker between others
+get_at : (front ws : List Working) (w : Working) → slice_get (front ++ w ∷ ws) (length front) ≡ Some w
+get_at [] ws w = refl
+get_at (v ∷ front) ws w = get_at front ws w
+
+sum_at : (f : Working → ℕ) (front ws : List Working) (w : Working) → sum_by f (front ++ w ∷ ws) ≡ sum_by f front + (f w + sum_by f ws)
+sum_at f front ws w = sum_by-append f front (w ∷ ws) ∙ ap (λ n. sum_by f front + n) (sum_by-cons f w ws)
+
+push_front : (front ws : List Working) (w : Working) → (front ++ w ∷ []) ++ ws ≡ front ++ w ∷ ws
+push_front front ws w = append_assoc front (w ∷ []) ws
+
+-- how many answers a worker has left
+abbrev pub answers_left : Working → ℕ
+answers_left w = length w.answers
+
+-- a worker with no answers left
+abbrev pub HasNoneLeft : Working → Type 0
+HasNoneLeft w = w.answers ≡ []
+
+abbrev after_of : Working → Processor
+after_of w = w.after
+
+module _ (size : ℕ) (p : Profile) (others : List Processor) where
+  -- a worker whose accesses stand in the order that is left
+  pub record Ready (os : List Access) (w : Working) : Type 0 where
+    pub working : IsWorking size w
+    pub stands : IsSubsequence w.accesses os
+
+  -- all workers are led past an access of the order
+  pub record Served (ws : List Working) (past later : Past) (access : Access) (os : List Access) : Type 0 where
+    pub now : List Working
+    pub ready : All (Ready os) now
+    pub afters : map (λ w. w.after) now ≡ map (λ w. w.after) ws
+    pub counts : (tells : Access → ℕ) → tells access ≡ 0 → sum_by (times_left tells) now ≡ sum_by (times_left tells) ws
+    pub steps : ℕ
+    pub left : steps + sum_by answers_left now ≡ sum_by answers_left ws
+    pub leads : Leads size p steps (all_of others ws) past (all_of others now) later
+
+  -- a worker between others has made the step of the access
+  pub record HasMoved (front ws : List Working) (w : Working) (rest : List Access) (past later : Past) : Type 0 where
+    pub now : Working
+    pub working : IsWorking size now
+    pub accesses : now.accesses ≡ rest
+    pub after_is : now.after ≡ w.after
+    pub steps : ℕ
+    pub left : steps + length now.answers ≡ length w.answers
+    pub leads : Leads size p steps (all_of others (front ++ w ∷ ws)) past (all_of others (front ++ now ∷ ws)) later
+
+  move : (front ws : List Working) (w : Working) (access : Access) (rest : List Access) (past later : Past) → length front < processors_in p → IsWorking size w → w.accesses ≡ access ∷ rest
+      → ServesAccess size access past later → HasMoved front ws w rest past later
+  move front ws w access rest past later inside working is serves =
+      let more = next size p others (length front) inside w.answers w.pp w.accesses w.after (front ++ w ∷ ws) access rest past later (get_at front ws w) working is serves in record {
+        now = more.now;
+        working = more.working;
+        accesses = more.accesses;
+        after_is = more.after_is;
+        steps = more.steps;
+        left = more.left;
+        leads = subst (λ (us : List Working). Leads size p more.steps (all_of others (front ++ w ∷ ws)) past (all_of others us) later) (set-append_seam front w ws more.now) more.leads;
+      }
+
+  module _ (front ws : List Working) (w : Working) (access : Access) (rest : List Access) (past later : Past) (is : w.accesses ≡ access ∷ rest) (moved : HasMoved front ws w rest past later) where
+    moved_counts : (tells : Access → ℕ) → tells access ≡ 0 → sum_by (times_left tells) (front ++ moved.now ∷ ws) ≡ sum_by (times_left tells) (front ++ w ∷ ws)
+    moved_counts tells none =
+        let f : Working → ℕ = times_left tells in
+        let now : sum_by tells moved.now.accesses ≡ sum_by tells rest = ap (sum_by tells) moved.accesses in
+        let was : sum_by tells w.accesses ≡ tells access + sum_by tells rest = ap (sum_by tells) is ∙ sum_by-cons tells access rest in
+        let one : f moved.now ≡ f w = omega (arith, now, was, none) in
+        sum_at f front ws moved.now ∙ (ap (λ n. sum_by f front + (n + sum_by f ws)) one ∙ sym (sum_at f front ws w))
+
+    moved_left : moved.steps + sum_by answers_left (front ++ moved.now ∷ ws) ≡ sum_by answers_left (front ++ w ∷ ws)
+    moved_left = omega (arith, moved.left, sum_at answers_left front ws moved.now, sum_at answers_left front ws w)
+
+    moved_afters : map after_of (front ++ moved.now ∷ ws) ≡ map after_of (front ++ w ∷ ws)
+    moved_afters = map-append after_of front (moved.now ∷ ws) ∙ (ap (λ q. map after_of front ++ q ∷ map after_of ws) moved.after_is ∙ sym (map-append after_of front (w ∷ ws)))
+
+  few_pushed : (front ws : List Working) (w v : Working) → length (front ++ w ∷ ws) ≤ processors_in p → length ((front ++ v ∷ []) ++ ws) ≤ processors_in p
+  few_pushed front ws w v few = omega (arith, few, length-append front (w ∷ ws), length-append (front ++ v ∷ []) ws, length-append front (v ∷ []))
+
+  front_inside : (front ws : List Working) (w : Working) → length (front ++ w ∷ ws) ≤ processors_in p → length front < processors_in p
+  front_inside front ws w few = omega (arith, few, length-append front (w ∷ ws))
+
+  -- a look: each worker that has it next makes its step
+  look_each : (access : Access) (os : List Access) (past : Past) → ServesAccess size access past past → (front ws : List Working) → length (front ++ ws) ≤ processors_in p
+      → All (Ready os) front → All (Ready (access ∷ os)) ws → Served (front ++ ws) past past access os
+  look_each access os past serves front [] few done left = record {
+    now = front;
+    ready = done;
+    afters = ap (map after_of) (sym (append-nil front));
+    counts = λ tells _. ap (sum_by (times_left tells)) (sym (append-nil front));
+    steps = 0;
+    left = omega (arith, ap (sum_by answers_left) (append-nil front));
+    leads = subst (λ (us : List Working). Leads size p 0 (all_of others us) past (all_of others front) past) (sym (append-nil front)) (leads_none size p (all_of others front) past past (λ c. refl) refl);
+  }
+  look_each access os past serves front (w ∷ ws) few done left =
+      let here = All-head (Ready (access ∷ os)) w ws left in
+      let more = All-tail (Ready (access ∷ os)) w ws left in
+      elim (head_here w.accesses access os here.stands) [
+        | inl behind ↦
+            subst (λ (us : List Working). Served us past past access os) (push_front front ws w)
+            (look_each access os past serves (front ++ w ∷ []) ws (few_pushed front ws w w few) (All-push (Ready os) front w done (record { working = here.working; stands = behind })) more)
+        | inr first ↦
+            let moved = move front ws w access first.0 past past (front_inside front ws w few) here.working first.1 serves in
+            let ready : Ready os moved.now = record { working = moved.working; stands = subst (λ (es : List Access). IsSubsequence es os) (sym moved.accesses) first.2 } in
+            let served = subst (λ (us : List Working). Served us past past access os) (push_front front ws moved.now)
+            (look_each access os past serves (front ++ moved.now ∷ []) ws (few_pushed front ws w moved.now few) (All-push (Ready os) front moved.now done ready) more) in record {
+              now = served.now;
+              ready = served.ready;
+              afters = served.afters ∙ moved_afters front ws w access first.0 past past first.1 moved;
+              counts = λ tells none. served.counts tells none ∙ moved_counts front ws w access first.0 past past first.1 moved tells none;
+              steps = moved.steps + served.steps;
+              left = omega (arith, served.left, moved_left front ws w access first.0 past past first.1 moved);
+              leads = leads_on size p moved.steps served.steps (all_of others (front ++ w ∷ ws)) (all_of others (front ++ moved.now ∷ ws)) (all_of others served.now) past past past moved.leads served.leads;
+            }
+      ]
+
+  -- where none tells it, no worker has it next
+  none_moves : (access : Access) (os : List Access) (tells : Access → ℕ) → tells access ≡ 1 → (ws : List Working) → All (Ready (access ∷ os)) ws → sum_by (times_left tells) ws ≡ 0 → All (Ready os) ws
+  none_moves access os tells one [] left none = All-nil (Ready os)
+  none_moves access os tells one (w ∷ ws) left none =
+      let f : Working → ℕ = times_left tells in
+      let here = All-head (Ready (access ∷ os)) w ws left in
+      let sum = sum_by-cons f w ws in
+      All-cons (Ready os) w ws
+      (elim (head_here w.accesses access os here.stands) [
+        | inl behind ↦ record { working = here.working; stands = behind }
+        | inr first ↦ let was = ap (sum_by tells) first.1 ∙ sum_by-cons tells access first.0 in absurd (omega (arith, sum, none, was, one))
+      ])
+      (none_moves access os tells one ws (All-tail (Ready (access ∷ os)) w ws left) (omega (arith, sum, none)))
+
+  -- an event or a write: one worker has it next, and makes its step
+  one_each : (access : Access) (os : List Access) (past later : Past) → ServesAccess size access past later → (tells : Access → ℕ) → tells access ≡ 1
+      → ((xs : List Access) → IsSubsequence xs os → sum_by tells xs ≡ 0) → (front ws : List Working) → length (front ++ ws) ≤ processors_in p
+      → All (Ready os) front → All (Ready (access ∷ os)) ws → sum_by (times_left tells) ws ≡ 1 → Served (front ++ ws) past later access os
+  one_each access os past later serves tells one never front [] few done left sum = absurd (omega (arith, sum))
+  one_each access os past later serves tells one never front (w ∷ ws) few done left sum =
+      let f : Working → ℕ = times_left tells in
+      let here = All-head (Ready (access ∷ os)) w ws left in
+      let more = All-tail (Ready (access ∷ os)) w ws left in
+      let parts = sum_by-cons f w ws in
+      elim (head_here w.accesses access os here.stands) [
+        | inl behind ↦
+            let none = never w.accesses behind in
+            subst (λ (us : List Working). Served us past later access os) (push_front front ws w)
+            (one_each access os past later serves tells one never (front ++ w ∷ []) ws (few_pushed front ws w w few) (All-push (Ready os) front w done (record { working = here.working; stands = behind })) more (omega (arith, sum, parts, none)))
+        | inr first ↦
+            let moved = move front ws w access first.0 past later (front_inside front ws w few) here.working first.1 serves in
+            let was = ap (sum_by tells) first.1 ∙ sum_by-cons tells access first.0 in
+            let ready : Ready os moved.now = record { working = moved.working; stands = subst (λ (es : List Access). IsSubsequence es os) (sym moved.accesses) first.2 } in record {
+              now = front ++ moved.now ∷ ws;
+              ready = All-append (Ready os) front (moved.now ∷ ws) done (All-cons (Ready os) moved.now ws ready (none_moves access os tells one ws more (omega (arith, sum, parts, was, one))));
+              afters = moved_afters front ws w access first.0 past later first.1 moved;
+              counts = moved_counts front ws w access first.0 past later first.1 moved;
+              steps = moved.steps;
+              left = moved_left front ws w access first.0 past later first.1 moved;
+              leads = moved.leads;
+            }
+      ]
+
+  -- all make the steps that are left, once no accesses are
+  pub record Ended (was : List Working) (before : List Working) (steps : ℕ) (past : Past) : Type 0 where
+    pub now : List Working
+    pub processors : map (λ w. w.pp) now ≡ map (λ w. w.after) was
+    pub none : All HasNoneLeft now
+    pub leads : Leads size p steps (all_of others before) past (all_of others now) past
+
+  none_stand : (xs : List Access) → IsSubsequence xs [] → xs ≡ []
+  none_stand [] h = refl
+  none_stand (x ∷ xs) h = absurd h
+
+  abbrev pp_of : Working → Processor
+  pp_of w = w.pp
+
+  end_each : (was front ws : List Working) (past : Past) → map pp_of front ≡ map after_of was → All HasNoneLeft front → length (front ++ ws) ≤ processors_in p → All (Ready []) ws → Ended (was ++ ws) (front ++ ws) (sum_by answers_left ws) past
+  end_each was front [] past same none few left = record {
+    now = front;
+    none = none;
+    processors = same ∙ ap (map after_of) (sym (append-nil was));
+    leads = subst (λ (us : List Working). Leads size p 0 (all_of others us) past (all_of others front) past) (sym (append-nil front)) (leads_none size p (all_of others front) past past (λ c. refl) refl);
+  }
+  end_each was front (w ∷ ws) past same none few left =
+      let here = All-head (Ready []) w ws left in
+      let done = rest_done size p others (length front) (front_inside front ws w few) w.answers w.pp w.accesses w.after (front ++ w ∷ ws) past (get_at front ws w) here.working (none_stand w.accesses here.stands) in
+      let leads = subst (λ (us : List Working). Leads size p (length w.answers) (all_of others (front ++ w ∷ ws)) past (all_of others us) past) (set-append_seam front w ws done.now) done.leads in
+      let pushed : map pp_of (front ++ done.now ∷ []) ≡ map after_of (was ++ w ∷ []) = map-append pp_of front (done.now ∷ []) ∙ ((λ j. same j ++ done.done j ∷ []) ∙ sym (map-append after_of was (w ∷ []))) in
+      let more = end_each (was ++ w ∷ []) (front ++ done.now ∷ []) ws past pushed (All-push HasNoneLeft front done.now none done.none) (few_pushed front ws w done.now few) (All-tail (Ready []) w ws left) in record {
+        now = more.now;
+        processors = more.processors ∙ ap (map after_of) (push_front was ws w);
+        none = more.none;
+        leads = leads_by size p (all_of others (front ++ w ∷ ws)) (all_of others more.now) past past (length w.answers + sum_by answers_left ws) (sum_by answers_left (w ∷ ws)) (sym (sum_by-cons answers_left w ws))
+            (leads_on size p (length w.answers) (sum_by answers_left ws) (all_of others (front ++ w ∷ ws)) (all_of others (front ++ done.now ∷ ws)) (all_of others more.now) past past past leads
+            (subst (λ (us : List Working). Leads size p (sum_by answers_left ws) (all_of others us) past (all_of others more.now) past) (push_front front ws done.now) more.leads));
+      }
+
+  -- Along a whole order, to the histories and the words that it ends in.
+  pub record Finished (ws : List Working) (past end : Past) : Type 0 where
+    pub now : List Working
+    pub processors : map (λ w. w.pp) now ≡ map (λ w. w.after) ws
+    pub none : All HasNoneLeft now
+    pub leads : Leads size p (sum_by answers_left ws) (all_of others ws) past (all_of others now) end
+
+  go_on : (access : Access) (os : List Access) (ws : List Working) (past later end : Past) → (served : Served ws past later access os) → Finished served.now later end → Finished ws past end
+  go_on access os ws past later end served rest = record {
+    now = rest.now;
+    processors = rest.processors ∙ served.afters;
+    none = rest.none;
+    leads = leads_by size p (all_of others ws) (all_of others rest.now) past end (served.steps + sum_by answers_left served.now) (sum_by answers_left ws) served.left
+        (leads_on size p served.steps (sum_by answers_left served.now) (all_of others ws) (all_of others served.now) (all_of others rest.now) past later end served.leads rest.leads);
+  }
+
+  still_few : (access : Access) (os : List Access) (ws : List Working) (past later : Past) → (served : Served ws past later access os) → length ws ≤ processors_in p → length served.now ≤ processors_in p
+  still_few access os ws past later served few =
+      let many : length served.now ≡ length ws = sym (length-map served.now after_of) ∙ (ap length served.afters ∙ length-map ws after_of) in omega (arith, many, few)
+
+  -- what is left by an access
+  abbrev pub With : Past → Access → Past
+  With past (OnChannel entry) = record past { happened = λ c. past.happened c ++ made_on c (entry ∷ []) }
+  With past (Read a w) = past
+  With past (Write a w n) = record past { words = slice_set past.words a w }
+
+  -- a read and a write of central memory
+  reads : (a w : ℕ) (past : Past) → slice_index past.words a ≡ w → ServesAccess size (Read a w) past past
+  reads a w past found pp x number goes given =
+      let is = read_of (need pp) x number a w goes.fit given in
+      let by_size : IsBySize size (needs.Read a) (answers.Read (Some w)) = subst (λ (n : Need). IsBySize size n (answers.Read (Some w))) is.0 (subst (λ (y : Answer). IsBySize size (need pp) y) is.1 goes.by_size) in
+      let inside : a < size = elim (cases_lt a size) [ inl less ↦ less | inr behind ↦ let no = by_size.1 behind in absurd cc ] in
+      serves_by size (need pp) (needs.Read a) x (answers.Read (Some w)) past past is.0 is.1 (serves_read size a w past found inside)
+
+  writes : (a w n : ℕ) (past : Past) → ServesAccess size (Write a w n) past (With past (Write a w n))
+  writes a w n past pp x number goes given =
+      let is = write_of (need pp) x number a w n goes.fit given in
+      let by_size : IsBySize size (needs.Write a w) (answers.Wrote true) = subst (λ (m : Need). IsBySize size m (answers.Wrote true)) is.0 (subst (λ (y : Answer). IsBySize size (need pp) y) is.1 goes.by_size) in
+      serves_by size (need pp) (needs.Write a w) x (answers.Wrote true) past (With past (Write a w n)) is.0 is.1 (serves_write size a w past (With past (Write a w n)) (by_size.0 refl) (λ c. refl) refl)
+
+  module _ (history : ℕ → List Event) (lawful : (c : ℕ) → IsLawful (history c)) (named : (c : ℕ) → 0 < length (history c) → IsTrue (names_channel c)) where
+    looks : (entry : Entry) (f : Flags) (past : Past) → entry.what ≡ Saw f → f ≡ flags_of (past.happened entry.channel) → ServesAccess size (OnChannel entry) past past
+    looks entry f past is now pp x number goes given =
+        let on = channel_of (need pp) x number entry goes.fit given in
+        let of = on.of in
+        let answer = look_answer size pp x (past.happened of.c) f goes of (on.sight.seen ∙ is) (now ∙ ap (λ c. flags_of (past.happened c)) (sym on.sight.channel)) in
+        serves_by size (need pp) (needs.Channel of.c of.op) x (answers.Channel of.reply) past past of.needs_it of.is (serves_look size of.c of.op of.reply past answer.is answer.none)
+
+    made_none : (c : ℕ) (entry : Entry) (f : Flags) → entry.what ≡ Saw f → made_on c (entry ∷ []) ≡ []
+    made_none c entry f is = ap (λ what. cons_option (made_at c entry.channel what) []) is
+
+    made_here : (c : ℕ) (entry : Entry) (e : Event) → entry.what ≡ Did e → c ≡ entry.channel → made_on c (entry ∷ []) ≡ e ∷ []
+    made_here c entry e is at = ap (λ what. cons_option (made_at c entry.channel what) []) is ∙ rw (eq-eqb entry.channel c (sym at)) refl
+
+    made_elsewhere : (c : ℕ) (entry : Entry) (e : Event) → entry.what ≡ Did e → entry.channel ≢ c → made_on c (entry ∷ []) ≡ []
+    made_elsewhere c entry e is other = ap (λ what. cons_option (made_at c entry.channel what) []) is ∙ rw (ne_eqb entry.channel c other) refl
+
+    makes : (entry : Entry) (e : Event) (es : List Entry) (past : Past) → entry.what ≡ Did e → ((c : ℕ) → past.happened c ++ made_on c (entry ∷ es) ≡ history c) → ServesAccess size (OnChannel entry) past (With past (OnChannel entry))
+    makes entry e es past is ends pp x number goes given =
+        let on = channel_of (need pp) x number entry goes.fit given in
+        let of = on.of in
+        let c = of.c in
+        let happened = past.happened in
+        let later : ℕ → List Event = (With past (OnChannel entry)).happened in
+        let here : later c ≡ happened c ++ e ∷ [] = ap (λ l. happened c ++ l) (made_here c entry e is on.sight.channel) in
+        let whole : (happened c ++ e ∷ []) ++ made_on c es ≡ history c = ap (λ l. l ++ made_on c es) (sym here) ∙ (append_assoc (happened c) (made_on c (entry ∷ [])) (made_on c es) ∙ (ap (λ l. happened c ++ l) (sym (made_more c (entry ∷ []) es)) ∙ ends c)) in
+        let next : IsLawful (happened c ++ e ∷ []) = lawful_front (happened c ++ e ∷ []) (made_on c es) (subst IsLawful (sym whole) (lawful c)) in
+        let some : 0 < length (history c) = omega (arith, ap length whole, length-append (happened c ++ e ∷ []) (made_on c es), length-append (happened c) (e ∷ [])) in
+        let answer = event_answer pp x (happened c) e of (on.sight.seen ∙ is) (lawful_front (happened c) (e ∷ []) next) next in
+        serves_by size (need pp) (needs.Channel of.c of.op) x (answers.Channel of.reply) past (With past (OnChannel entry)) of.needs_it of.is (serves_event size c of.op of.reply e past (With past (OnChannel entry)) (named c some) answer.is answer.made here
+        (λ d other. ap (λ l. happened d ++ l) (made_elsewhere d entry e is (λ same. other (on.sight.channel ∙ same))) ∙ append-nil (happened d)) refl)
+
+    -- each event that is still to come is left to one worker, and so is each write
+    abbrev pub Once : List Working → (ℕ → List Event) → Type 0
+    Once ws happened = (c number : ℕ) → length (happened c) ≤ number → number < length (history c) → sum_by (times_left (tells_event c number)) ws ≡ 1
+
+    abbrev pub Written : List Working → ℕ → List Access → Type 0
+    Written ws k os = (n : ℕ) → k ≤ n → sum_by (times_left (tells_write n)) ws ≡ sum_by (tells_write n) os
+
+    by_what : (entry : Entry) (os : List Access) (ws : List Working) (past : Past) (what : Seen) → entry.what ≡ what → length ws ≤ processors_in p → All (Ready (OnChannel entry ∷ os)) ws
+        → ComesAfter (past.happened entry.channel) entry.number what → IsLegal (With past (OnChannel entry)).happened (entries_among os) → ((c : ℕ) → past.happened c ++ made_on c (entry ∷ entries_among os) ≡ history c) → Once ws past.happened
+        → Served ws past (With past (OnChannel entry)) (OnChannel entry) os
+    by_what entry os ws past (Saw f) is few ready comes places ends once =
+        let later = With past (OnChannel entry) in
+        let served = look_each (OnChannel entry) os past (looks entry f past is comes.1) [] ws few (All-nil (Ready os)) ready in record {
+          now = served.now;
+          ready = served.ready;
+          afters = served.afters;
+          counts = served.counts;
+          steps = served.steps;
+          left = served.left;
+          leads = leads_by size p (all_of others ws) (all_of others served.now) past later (served.steps + 0) served.steps (omega arith)
+              (leads_on size p served.steps 0 (all_of others ws) (all_of others served.now) (all_of others served.now) past past later served.leads
+              (leads_none size p (all_of others served.now) past later (λ c. sym (ap (λ es. past.happened c ++ es) (made_none c entry f is) ∙ append-nil (past.happened c))) refl));
+        }
+    by_what entry os ws past (Did e) is few ready comes places ends once =
+        let c = entry.channel in
+        let es = entries_among os in
+        let happened = past.happened in
+        let later = With past (OnChannel entry) in
+        let here : later.happened c ≡ happened c ++ e ∷ [] = ap (λ l. happened c ++ l) (made_here c entry e is refl) in
+        let longer = ap length here ∙ length-append (happened c) (e ∷ []) in
+        let all = ap length (sym (ap (λ l. happened c ++ l) (made_more c (entry ∷ []) es) ∙ sym (append_assoc (happened c) (made_on c (entry ∷ [])) (made_on c es))) ∙ ends c) in
+        one_each (OnChannel entry) os past later (makes entry e es past is ends) (tells_event c entry.number) (told_itself entry e is)
+        (λ xs stands.
+        let most = sum_stands (tells_event c entry.number) xs os stands in
+        let none = not_early c entry.number later.happened es places (omega (arith, longer, comes)) in
+        omega (arith, most, event_times c entry.number os, none))
+        [] ws few (All-nil (Ready os)) ready (once c entry.number (omega (arith, comes)) (omega (arith, comes, longer, all, length-append (later.happened c) (made_on c es))))
+
+    still_once : (entry : Entry) (ws now : List Working) (past : Past) (what : Seen) → entry.what ≡ what → ComesAfter (past.happened entry.channel) entry.number what
+        → ((tells : Access → ℕ) → tells (OnChannel entry) ≡ 0 → sum_by (times_left tells) now ≡ sum_by (times_left tells) ws) → Once ws past.happened → Once now (With past (OnChannel entry)).happened
+    still_once entry ws now past (Saw f) is comes counts once c number later inside =
+        counts (tells_event c number) (told_look c number entry f is) ∙ once c number (omega (arith, later, length-append (past.happened c) (made_on c (entry ∷ [])))) inside
+    still_once entry ws now past (Did e) is comes counts once c number later inside =
+        let more = length-append (past.happened c) (made_on c (entry ∷ [])) in
+        let none : told_by c number entry ≡ 0 = told_event c number entry e is (elim (cases_eq entry.channel c) [
+          | inl same ↦ inr (λ at.
+              let one : length (made_on c (entry ∷ [])) ≡ 1 = ap length (made_here c entry e is (sym same)) in
+              let there : length (past.happened entry.channel) ≡ length (past.happened c) = ap (λ k. length (past.happened k)) same in
+              omega (arith, at, there, one, more, later, comes))
+          | inr other ↦ inl other
+        ]) in
+        counts (tells_event c number) none ∙ once c number (omega (arith, later, more)) inside
+
+    -- the histories in the end, and the words that the accesses leave
+    abbrev pub at_end : List ℕ → List Access → Past
+    at_end words os = record { happened = history; words = left_by words os }
+
+    pub serve : (os : List Access) (ws : List Working) (past : Past) (k : ℕ) → length ws ≤ processors_in p → All (Ready os) ws → IsLegal past.happened (entries_among os)
+        → ((c : ℕ) → past.happened c ++ made_on c (entries_among os) ≡ history c) → Once ws past.happened → FindsWords past.words os → NumberedFrom k os → Written ws k os → Finished ws past (at_end past.words os)
+    serve [] ws past k few ready places ends once finds numbered written =
+        let end = at_end past.words [] in
+        let ended = end_each [] [] ws past refl (All-nil HasNoneLeft) few ready in record {
+          now = ended.now;
+          processors = ended.processors;
+          none = ended.none;
+          leads = leads_by size p (all_of others ws) (all_of others ended.now) past end (sum_by answers_left ws + 0) (sum_by answers_left ws) (omega arith)
+              (leads_on size p (sum_by answers_left ws) 0 (all_of others ws) (all_of others ended.now) (all_of others ended.now) past past end ended.leads
+              (leads_none size p (all_of others ended.now) past end (λ c. sym (append-nil (past.happened c)) ∙ ends c) refl));
+        }
+    serve (OnChannel entry ∷ os) ws past k few ready places ends once finds numbered written =
+        let later = With past (OnChannel entry) in
+        let es = entries_among os in
+        let served = by_what entry os ws past entry.what refl few ready places.0 places.1 ends once in
+        go_on (OnChannel entry) os ws past later (at_end past.words (OnChannel entry ∷ os)) served
+        (serve os served.now later k (still_few (OnChannel entry) os ws past later served few) served.ready places.1
+        (λ c. append_assoc (past.happened c) (made_on c (entry ∷ [])) (made_on c es) ∙ (ap (λ l. past.happened c ++ l) (sym (made_more c (entry ∷ []) es)) ∙ ends c))
+        (still_once entry ws served.now past entry.what refl places.0 served.counts once) finds.1 numbered
+        (λ n least. omega (arith, served.counts (tells_write n) refl, written n least, sum_by-cons (tells_write n) (OnChannel entry) os)))
+    serve (Read a w ∷ os) ws past k few ready places ends once finds numbered written =
+        let served = look_each (Read a w) os past (reads a w past finds.0) [] ws few (All-nil (Ready os)) ready in
+        go_on (Read a w) os ws past past (at_end past.words (Read a w ∷ os)) served
+        (serve os served.now past k (still_few (Read a w) os ws past past served few) served.ready places ends
+        (λ c number least inside. served.counts (tells_event c number) refl ∙ once c number least inside) finds.1 numbered
+        (λ n least. omega (arith, served.counts (tells_write n) refl, written n least, sum_by-cons (tells_write n) (Read a w) os)))
+    serve (Write a w n ∷ os) ws past k few ready places ends once finds numbered written =
+        let later = With past (Write a w n) in
+        let one : tells_write k (Write a w n) ≡ 1 = ap (λ b. cond b 1 0) (eq-eqb n k numbered.0) in
+        let none = not_written (k + 1) k os numbered.1 (omega arith) in
+        let served = one_each (Write a w n) os past later (writes a w n past) (tells_write k) one
+        (λ xs stands. let most = sum_stands (tells_write k) xs os stands in omega (arith, most, none))
+        [] ws few (All-nil (Ready os)) ready (let sum = written k (omega arith) in omega (arith, sum, one, none, sum_by-cons (tells_write k) (Write a w n) os)) in
+        go_on (Write a w n) os ws past later (at_end past.words (Write a w n ∷ os)) served
+        (serve os served.now later (k + 1) (still_few (Write a w n) os ws past later served few) served.ready places ends
+        (λ c number least inside. served.counts (tells_event c number) refl ∙ once c number least inside) finds.1 numbered.1
+        (λ m least.
+        let other = another_write m a w n (λ same. omega (arith, same, numbered.0, least)) in
+        omega (arith, served.counts (tells_write m) other, written m (omega (arith, least)), other, sum_by-cons (tells_write m) (Write a w n) os)))

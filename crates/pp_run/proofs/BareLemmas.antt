@@ -1,0 +1,75 @@
+-- Steps of a machine without its record.
+use Rattle.std.proofs.Common.{get_or-set_same, get_or-set_other, ◌≡◌, ◌≢◌, ℕ, ◌+◌, ◌<◌, ◌⊎◌, inl, inr, List, [], ◌∷◌, ◌++◌, length, take, slice_set, get_or, sym, ap, ◌∙◌, arith}
+use Rattle.std.specs.Prelude.{IsTrue}
+use Rattle.std.proofs.lemmas.Bool.{cases_eq}
+use Rattle.std.proofs.lemmas.List.{get_or_read, length-set, take_more, take_more_set}
+use Rattle.pp_channel.specs.Answer.{channel_state, history_after}
+use Rattle.pp_channel.specs.ChannelNo.{channel_count, channel_index, names_channel}
+use Rattle.pp_channel.specs.declared.channel_state.ChannelState.{ChannelState}
+use Rattle.pp_channel.specs.declared.event.Event.{Event}
+use Rattle.pp_channel.specs.ChannelPlaces.{one_place, place_below}
+use Rattle.pp_machine.specs.MachineState.{MachineState, history_of, processor_of}
+use Rattle.pp_machine.specs.MachineStep.{histories_after}
+use Rattle.pp_machine.specs.Processor.{Processor, no_processor}
+use Rattle.pp_machine.specs.PpNo.{processor_count, processor_index}
+use Rattle.pp_machine.specs.declared.need.Need.{Need}
+use Rattle.pp_machine.specs.declared.need.Need.TheVariants.{Nothing, Local, Channel, Read, Write}
+use Rattle.pp_run.specs.BareMachine.{AreStates}
+
+-- a channel's state and history, both put at its place
+pub states_set : (states : List ChannelState) (histories : List (List Event)) (c : ℕ) (h : List Event) → AreStates states histories → IsTrue (names_channel c) → length states ≡ channel_count → length histories ≡ channel_count
+    → AreStates (slice_set states (channel_index c) (channel_state h)) (slice_set histories (channel_index c) h)
+states_set states histories c h are names as_many all = λ d named. by_number d named (cases_eq d c)
+  where
+    within : channel_index c < length states
+    within = omega (arith, as_many, place_below c names)
+
+    inside : channel_index c < length histories
+    inside = omega (arith, all, place_below c names)
+
+    by_number : (d : ℕ) → IsTrue (names_channel d) → (d ≡ c) ⊎ (d ≢ c)
+        → get_or (slice_set states (channel_index c) (channel_state h)) (channel_index d) (channel_state []) ≡ channel_state (get_or (slice_set histories (channel_index c) h) (channel_index d) [])
+    by_number d named (inl same) =
+        ap (λ (k : ℕ). get_or (slice_set states (channel_index c) (channel_state h)) (channel_index k) (channel_state [])) same
+        ∙ get_or-set_same states (channel_index c) (channel_state h) (channel_state []) within
+        ∙ ap channel_state (sym (get_or-set_same histories (channel_index c) h [] inside) ∙ ap (λ (k : ℕ). get_or (slice_set histories (channel_index c) h) (channel_index k) []) (sym same))
+    by_number d named (inr other) =
+        get_or-set_other states (channel_index c) (channel_index d) (channel_state h) (channel_state []) (λ e. other (one_place c d names e))
+        ∙ are d named
+        ∙ ap channel_state (sym (get_or-set_other histories (channel_index c) (channel_index d) h [] (λ e. other (one_place c d names e))))
+
+-- a processor that was read at its place
+pub own_processor : {items : List Processor} {i : ℕ} {pp : Processor} (n : ℕ) (m : MachineState) → items ≡ m.processors → i ≡ processor_index n → i < processor_count → length m.processors ≡ processor_count → pp ≡ get_or items i pp → pp ≡ processor_of n m
+own_processor {items} {i} {pp} n m same place below as_many read =
+    let within : i < length items = omega (arith, below, as_many, ap length same) in
+    get_or_read items i pp within read no_processor
+    ∙ ap (λ (ps : List Processor). get_or ps i no_processor) same
+    ∙ ap (λ (k : ℕ). get_or m.processors k no_processor) place
+
+-- a machine keeps all its channels
+pub all_channels : (x : Need) (m : MachineState) → length m.histories ≡ channel_count → length (histories_after x m) ≡ channel_count
+all_channels Nothing m all = all
+all_channels Local m all = all
+all_channels (Read a) m all = all
+all_channels (Write a w) m all = all
+all_channels (Channel c op) m all = length-set m.histories (channel_index c) (history_after op (history_of c m)) ∙ all
+
+-- the states of the channels at the first places
+abbrev pub AreStatesBelow : ℕ → List ChannelState → List (List Event) → Type 0
+AreStatesBelow count states histories = (k : ℕ) → k < count → get_or states k (channel_state []) ≡ channel_state (get_or histories k [])
+
+-- and of the next one
+pub states_more : (states new : List ChannelState) (histories : List (List Event)) (k : ℕ) (x : ChannelState) → AreStatesBelow k states histories → k < length states → new ≡ slice_set states k x → x ≡ channel_state (get_or histories k [])
+    → AreStatesBelow (k + 1) new histories
+states_more states new histories k x so_far within put is = λ j below. ap (λ (s : List ChannelState). get_or s j (channel_state [])) put ∙ by_place j below (cases_eq j k)
+  where
+    by_place : (j : ℕ) → j < k + 1 → (j ≡ k) ⊎ (j ≢ k) → get_or (slice_set states k x) j (channel_state []) ≡ channel_state (get_or histories j [])
+    by_place j below (inl same) =
+        ap (λ (i : ℕ). get_or (slice_set states k x) i (channel_state [])) same ∙ get_or-set_same states k x (channel_state []) within
+        ∙ is ∙ ap (λ (i : ℕ). channel_state (get_or histories i [])) (sym same)
+    by_place j below (inr other) = get_or-set_other states k j x (channel_state []) other ∙ so_far j (omega (arith, below, other))
+
+-- a memory of which one word more was copied
+pub copied_more : (copy new from : List ℕ) (k : ℕ) → take k copy ≡ take k from → k < length copy → k < length from → new ≡ slice_set copy k (get_or from k 0) → take (k + 1) new ≡ take (k + 1) from
+copied_more copy new from k same within inside put =
+    ap (take (k + 1)) put ∙ take_more_set copy k (get_or from k 0) within ∙ ap (λ (ws : List ℕ). ws ++ get_or from k 0 ∷ []) same ∙ sym (take_more from k 0 inside)

@@ -1,0 +1,15 @@
+use Rattle.std.proofs.Common.{ℕ, ◌∙◌, [], get_or, ap, arith, refl, rules}
+use Rattle.pp_channel.specs.ChannelPlaces.{place_below}
+use Rattle.pp_channel.specs.Answer.{channel_state}
+use Rattle.pp_run.proofs.BareLemmas.{states_more}
+use Rattle.pp_run.proofs.bare_step.channel_states.Goals as goal
+
+pub loop-place-init : goal.loop-place-init
+loop-place-init g c = λ k below. absurd (omega (arith, below))
+
+pub loop-place-preserved : goal.loop-place-preserved
+loop-place-preserved g c = states_more c.loop-place.states _ c.args.machine.now.histories c.loop-place.place c.of.result c.loop-place.invariant (search rules) refl
+    (c.of.ensures ∙ ap channel_state (c.channel.ensures.value ∙ ap (λ (i : ℕ). get_or c.args.machine.now.histories i []) c.at.ensures.place))
+
+pub returns : goal.returns
+returns g c = λ n names. c.loop-place.invariant _ (omega (arith, place_below n names))

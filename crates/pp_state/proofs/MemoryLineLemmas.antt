@@ -1,0 +1,98 @@
+-- The lines of a text, and those of them that pass a test.
+use Rattle.std.proofs.Common.{All, ◌≡◌, ◌≢◌, ◌∙◌, ℕ, zero, suc, ◌-◌, ◌<◌, ◌≤◌, Bool, true, false, List, [], ◌∷◌, ◌++◌, length, get_or, refl, sym, ap, arith, inl, inr, ◌⊎◌, append_assoc}
+use Rattle.std.specs.Prelude.{◌==◌, if◌then◌else◌}
+use Rattle.std.specs.List.{filter, slice_split}
+use Rattle.std.specs.Str.Lines.{lines, lines_of_parts, strip_carriage_return}
+use Rattle.std.proofs.lemmas.Bool.{cases_lt, ne_eqb}
+use Rattle.std.proofs.lemmas.List.{append-nil}
+use Rattle.std.proofs.lemmas.List.Elements.{All-append, All-cons, All-get_or, All-head, All-nil, All-tail, All-weaker, filter-append}
+use Rattle.std.proofs.lemmas.List.Splits.{slice_split_at}
+use Rattle.pp_text.specs.PrintedText.{each_below, line_end}
+use Rattle.pp_text.proofs.TextLawLemmas.{kept, left_out, lines_below, none_below, one_line, said_in_lines, unlines}
+
+-- a character that does not end a line
+abbrev pub IsPlain : ℕ → Type 0
+IsPlain character = 31 < character
+
+abbrev is_feed : ℕ → Bool
+is_feed character = character == 10
+
+no_feeds : (l : List ℕ) → All IsPlain l → All (λ character. is_feed character ≡ false) l
+no_feeds l plain =
+    All-weaker IsPlain (λ character. is_feed character ≡ false) (λ character past. ne_eqb character 10 (λ same. absurd (omega (arith, past, same)))) l plain
+
+parts_of_lines : (ls : List (List ℕ)) → All (All IsPlain) ls → slice_split is_feed (unlines ls) ≡ ls ++ [] ∷ []
+parts_of_lines [] plain = refl
+parts_of_lines (l ∷ ls) plain =
+    ap (slice_split is_feed) (append_assoc l line_end (unlines ls))
+    ∙ slice_split_at is_feed l 10 (unlines ls) (no_feeds l (All-head (All IsPlain) l ls plain)) refl
+    ∙ ap (λ (parts : List (List ℕ)). l ∷ parts) (parts_of_lines ls (All-tail (All IsPlain) l ls plain))
+
+no_return : (l : List ℕ) → All IsPlain l → strip_carriage_return l ≡ l
+no_return [] plain = refl
+no_return (c ∷ l) plain =
+    let last : IsPlain (get_or (c ∷ l) (length (c ∷ l) - 1) 0) = All-get_or IsPlain (c ∷ l) (length (c ∷ l) - 1) 0 (omega arith) plain in
+    let other : (get_or (c ∷ l) (length (c ∷ l) - 1) 0 == 13) ≡ false = ne_eqb _ 13 (λ same. absurd (omega (arith, last, same))) in
+    rw other refl
+
+lines_again : (ls : List (List ℕ)) → All (All IsPlain) ls → lines_of_parts (ls ++ [] ∷ []) ≡ ls
+lines_again [] plain = refl
+lines_again (l ∷ []) plain = ap (λ (x : List ℕ). x ∷ []) (no_return l (All-head (All IsPlain) l [] plain))
+lines_again (l ∷ k ∷ ls) plain =
+    ap (λ (x : List ℕ). x ∷ lines_of_parts ((k ∷ ls) ++ [] ∷ [])) (no_return l (All-head (All IsPlain) l (k ∷ ls) plain))
+    ∙ ap (λ (xs : List (List ℕ)). l ∷ xs) (lines_again (k ∷ ls) (All-tail (All IsPlain) l (k ∷ ls) plain))
+
+-- a text has the lines that it is put together from
+lines_unlines : (ls : List (List ℕ)) → All (All IsPlain) ls → lines (unlines ls) ≡ ls
+lines_unlines ls plain = ap lines_of_parts (parts_of_lines ls plain) ∙ lines_again ls plain
+
+-- ---- a line for some numbers
+
+-- the line of a number, if it has one
+abbrev pub line_if : (ℕ → Bool) → (ℕ → List ℕ) → ℕ → List (List ℕ)
+line_if has line n = if has n then line n ∷ [] else []
+
+-- what is said of it in a text
+abbrev pub said_if : (ℕ → Bool) → (ℕ → List ℕ) → ℕ → List ℕ
+said_if has line n = if has n then line n ++ line_end else []
+
+plain_if : (has : Bool) (l : List ℕ) → All IsPlain l → All (All IsPlain) (if has then l ∷ [] else [])
+plain_if true l plain = All-cons (All IsPlain) l [] plain (All-nil (All IsPlain))
+plain_if false l plain = All-nil (All IsPlain)
+
+plain_below : (k : ℕ) (has : ℕ → Bool) (line : ℕ → List ℕ) → ((n : ℕ) → All IsPlain (line n)) → All (All IsPlain) (lines_below k (line_if has line))
+plain_below zero has line plain = All-nil (All IsPlain)
+plain_below (suc k) has line plain =
+    All-append (All IsPlain) (lines_below k (line_if has line)) (line_if has line k) (plain_below k has line plain) (plain_if (has k) (line k) (plain k))
+
+lines_said : (count : ℕ) (has : ℕ → Bool) (line : ℕ → List ℕ) → ((n : ℕ) → All IsPlain (line n))
+    → lines (each_below count (said_if has line)) ≡ lines_below count (line_if has line)
+lines_said count has line plain =
+    ap lines (said_in_lines count (said_if has line) (line_if has line) (λ n. one_line (has n) (line n) (line n ++ line_end) refl))
+    ∙ lines_unlines (lines_below count (line_if has line)) (plain_below count has line plain)
+
+by_order : (k n : ℕ) (p : List ℕ → Bool) (f : ℕ → List (List ℕ)) → n < suc k → filter p (f n) ≡ f n
+    → ((m : ℕ) → m < suc k → m ≢ n → filter p (f m) ≡ []) → (n < k → filter p (lines_below k f) ≡ f n)
+    → (n < k) ⊎ (k ≤ n) → filter p (lines_below k f ++ f k) ≡ f n
+by_order k n p f within own others before (inl early) =
+    filter-append p (lines_below k f) (f k)
+    ∙ (ap (λ (first : List (List ℕ)). first ++ filter p (f k)) (before early)
+    ∙ (ap (λ (last : List (List ℕ)). f n ++ last) (others k (omega arith) (λ same. absurd (omega (arith, same, early)))) ∙ append-nil (f n)))
+by_order k n p f within own others before (inr late) =
+    let at : n ≡ k = omega (arith, late, within) in
+    filter-append p (lines_below k f) (f k)
+    ∙ (ap (λ (first : List (List ℕ)). first ++ filter p (f k)) (none_below k p f (λ m low. others m (omega (arith, low)) (λ same. absurd (omega (arith, same, late, low)))))
+    ∙ (ap (λ (m : ℕ). filter p (f m)) (sym at) ∙ own))
+
+one_passes : (count n : ℕ) (p : List ℕ → Bool) (f : ℕ → List (List ℕ)) → n < count → filter p (f n) ≡ f n
+    → ((m : ℕ) → m < count → m ≢ n → filter p (f m) ≡ []) → filter p (lines_below count f) ≡ f n
+one_passes zero n p f within own others = absurd (omega (arith, within))
+one_passes (suc k) n p f within own others =
+    by_order k n p f within own others (λ early. one_passes k n p f early own (λ m low. others m (omega (arith, low)))) (cases_lt n k)
+
+-- of the lines of a text, those that pass a test that the line of one number alone passes
+pub lines_passing : (count n : ℕ) (has : ℕ → Bool) (line : ℕ → List ℕ) (p : List ℕ → Bool) → n < count → ((m : ℕ) → All IsPlain (line m)) → p (line n) ≡ true
+    → ((m : ℕ) → m < count → m ≢ n → p (line m) ≡ false) → filter p (lines (each_below count (said_if has line))) ≡ line_if has line n
+lines_passing count n has line p within plain own others =
+    ap (filter p) (lines_said count has line plain)
+    ∙ one_passes count n p (line_if has line) within (kept p (has n) (line n) own) (λ m low other. left_out p (has m) (line m) (others m low other))

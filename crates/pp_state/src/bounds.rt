@@ -1,0 +1,33 @@
+//! Which words are shown.
+
+ghost use Rattle.std.specs.Prelude.{◌≡◌, ◌<◌, ◌≤◌, ◌↔◌, IsSome, IfSome};
+ghost use Rattle.pp_state.specs.MemoryText.{meets};
+
+/// The first and the last of the places or addresses that are shown.
+#[derive(Clone, Copy, Debug, PartialEq, Eq)]
+pub struct Bounds {
+    first: u32,
+    last: u32,
+}
+
+impl Bounds {
+    /// From first to last, or nothing where last comes before first, or is at or past the size.
+    pub fn new(first: u32, last: u32, size: u32) -> Option<Bounds>
+        ensures fits { IsSome result ↔ ((first ≤ last) × (last < size)) }
+        ensures value { IfSome result (λ bounds.
+            bounds ≡ record { first = first; last = last }) }
+    {
+        if first <= last && last < size {
+            Some(Bounds { first, last })
+        } else {
+            None
+        }
+    }
+
+    /// Whether some number from `from` to `to` is within.
+    pub(crate) fn meets(&self, from: u32, to: u32) -> bool
+        ensures { result ≡ meets self.now from to }
+    {
+        self.first <= to && from <= self.last
+    }
+}

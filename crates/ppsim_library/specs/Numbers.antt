@@ -1,0 +1,36 @@
+-- The numbers that a host passes.
+use Rattle.std.specs.Prelude.{◌≡◌, ℕ, ◌-◌, ◌==◌, ◌&&◌, Bool, true, false, nat_le, List, [], ◌∷◌, replicate, slice_set, Option, None, Some, if◌then◌else◌}
+use Rattle.pp_channel.specs.ChannelNo.{channel_count}
+use Rattle.pp_check.specs.ChannelList.{AreListed}
+use Rattle.pp_draw.specs.declared.window.Window.{Window}
+use Rattle.pp_machine.specs.PpNo.{processor_count, processor_index}
+use Rattle.pp_machine.specs.Profile.{has_processor}
+use Rattle.pp_machine.specs.declared.profile.Profile.{Profile}
+use Rattle.pp_machine.specs.declared.profile.Profile.TheVariants.{Ten, Twenty}
+
+-- the profile of a machine of n processors
+abbrev pub profile_with : ℕ → Option Profile
+profile_with n = if n == 10 then Some Ten else (if n == 20 then Some Twenty else None)
+
+-- the same, if a run may have `turns` turns
+abbrev pub profile_of : ℕ → ℕ → Option Profile
+profile_of processors turns = if nat_le turns 999999 then profile_with processors else None
+
+-- processor n and no other
+abbrev pub alone : ℕ → List Bool
+alone n = slice_set (replicate processor_count false) (processor_index n) true
+
+-- the processor of this number alone, if the machine has it; 255 stands for no choice
+abbrev pub only_of : Profile → ℕ → Option (Option (List Bool))
+only_of profile n = if n == 255 then Some None
+    else (if has_processor profile n then Some (Some (alone n)) else None)
+
+-- the window from turn `from` up to but not including turn `to`, if a picture can show it
+abbrev pub window_of : ℕ → ℕ → Option Window
+window_of from to = if nat_le from to && nat_le (to - from) 2000
+    then Some (record { from = from; to = to }) else None
+
+-- these flags are those of the channels in this list, or of none if it is empty
+abbrev pub AreChannels : List ℕ → List Bool → Type 0
+AreChannels [] flags = flags ≡ replicate channel_count false
+AreChannels (b ∷ bs) flags = AreListed (b ∷ bs) flags

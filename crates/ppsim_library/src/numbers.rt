@@ -1,0 +1,68 @@
+//! The numbers that a host passes.
+
+ghost use Rattle.std.specs.Prelude.{◌≡◌, Bool, List, MatchOption};
+ghost use Rattle.ppsim_library.specs.Numbers.{AreChannels, only_of, profile_of, window_of};
+
+use pp_channel::CHANNELS;
+use pp_check::listed_channels;
+use pp_draw::{MOST_TURNS, Window};
+use pp_machine::{PROCESSORS, Profile};
+
+/// The last turn of a run (decimal).
+const LAST_TURN: u32 = 999_999;
+
+/// In place of a processor's number: those in use.
+const IN_USE: u8 = 255;
+
+/// The profile of a machine of `processors` processors, 10 or 20 (decimal), for a run of `turns`
+/// turns, 0 to 999,999 (decimal); nothing for other numbers.
+pub fn profile_of(processors: u32, turns: u32) -> Option<Profile>
+    ensures { result ≡ profile_of processors turns }
+{
+    if turns > LAST_TURN {
+        return None;
+    }
+    match processors {
+        10 => Some(Profile::Ten),
+        20 => Some(Profile::Twenty),
+        _ => None,
+    }
+}
+
+/// The processor of this number alone, by flags in the barrel's order, or at 255 (decimal) no
+/// choice of processors; nothing if the machine has no such processor.
+pub fn only_of(profile: Profile, number: u8) -> Option<Option<[bool; PROCESSORS]>>
+    ensures { result ≡ only_of profile number }
+{
+    if number == IN_USE {
+        return Some(None);
+    }
+    let n = profile.processor(number)?;
+    let mut alone = [false; PROCESSORS];
+    alone[n.index()] = true;
+    Some(Some(alone))
+}
+
+/// The window from turn `from` up to but not including turn `to`; nothing if it ends before it
+/// begins, or is longer than a picture, 2,000 turns (decimal).
+pub fn window_of(from: u32, to: u32) -> Option<Window>
+    ensures { result ≡ window_of from to }
+{
+    if from <= to && to - from <= MOST_TURNS {
+        Some(Window { from, to })
+    } else {
+        None
+    }
+}
+
+/// The channels of a list like `1,5,13` (octal), by flags in the order of their places; no channel
+/// if the list is empty; nothing if it is no list of channels.
+pub fn channels_of(listed: &[u8]) -> Option<[bool; CHANNELS]>
+    ensures { MatchOption result ((flags : List Bool) → ¬ AreChannels listed.now flags)
+        (AreChannels listed.now) }
+{
+    if listed.is_empty() {
+        return Some([false; CHANNELS]);
+    }
+    listed_channels(listed)
+}
