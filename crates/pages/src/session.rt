@@ -127,7 +127,7 @@ fn words_of(alloc: Global, line: &str) -> anyhow::Result<Vec<String>> {
 }
 
 /// How the program ends on these words and this input.
-fn ending_of<R: Alloc<A = Global> + Threads + Wait + Sync>(
+fn ending_of<R: Files + Alloc<A = Global> + Threads + Wait + Sync>(
     rt: &R,
     words: &Vec<String>,
     mut input: &[u8],

@@ -21,8 +21,8 @@ use Rattle.pp_command.specs.declared.line_fault.LineFault.{LineFault}
 use Rattle.pp_command.specs.declared.text_of.TextOf.{TextOf}
 use Rattle.pp_command.specs.declared.work.Work.{Work}
 
--- THE COMMAND LINE, as clap sees it: `ppsim`, one of the commands of `ppsim` below, and its
--- options, of which some may be left out; or `ppsim --version`
+-- THE COMMAND LINE, as clap sees it: `ppsim`, one of the commands of `ppsim` below, its options, of
+-- which some may be left out, and a file, which may be left out; or `ppsim --version`
 
 -- an option that may be left out, with one value
 abbrev pub optional_value : Text → Rule
@@ -40,9 +40,13 @@ flag_option id = record (new_rule id) { long = Some id; action = Some SetTrue }
 abbrev pub processors_option : Rule
 processors_option = optional_value (codes "processors")
 
--- a command with these options
+-- the word that names a file
+abbrev pub file_argument : Rule
+file_argument = record (new_rule (codes "file")) { action = Some Set; value_names = 1 }
+
+-- a command with these options, and a file
 abbrev pub command : Text → List Rule → App
-command name options = fold with_rule (new_app name) options
+command name options = with_rule (fold with_rule (new_app name) options) file_argument
 
 -- a command that makes a run of so many turns
 abbrev pub turns_command : Text → App
@@ -172,6 +176,12 @@ abbrev pub ReadsFlag : Option Text → Bool → Type 0
 ReadsFlag value true = value ≡ Some (codes "true")
 ReadsFlag value false = value ≢ Some (codes "true")
 
+-- the file to read; or none, and standard input is read, if no file or `-` is named
+abbrev pub ReadsFile : Option Text → Option Text → Type 0
+ReadsFile None file = file ≡ None
+ReadsFile (Some text) None = text ≡ codes "-"
+ReadsFile (Some text) (Some path) = (path ≡ text) × (text ≢ codes "-")
+
 -- WHAT IT ASKS FOR
 
 -- the command of this name, with these values of its options, asks for this text of a deck, for a
@@ -233,6 +243,14 @@ AsksForMoreAmong (Some (name, rows)) = AsksForMore name (λ id. first_of id rows
 -- the words ask for this work
 abbrev pub AskFor : List Text → Work → Type 0
 AskFor words work = IsWorkAmong (subcommand_of ppsim words) work
+
+abbrev pub NamesAmong : Option (Text × List Row) → Option Text → Type 0
+NamesAmong None file = ⊥
+NamesAmong (Some (name, rows)) file = ReadsFile (first_of (codes "file") rows) file
+
+-- the words name this file, or none
+abbrev pub Name : List Text → Option Text → Type 0
+Name words file = NamesAmong (subcommand_of ppsim words) file
 
 -- what each refusal says of the words: it is one of clap's, and not for want of memory; or the
 -- words are a command line, and no work is asked for within the ranges: `Picture` where they ask

@@ -4,11 +4,11 @@ ghost use Rattle.std.specs.Prelude.{◌≡◌, false, fold, map, IfOk};
 ghost use Rattle.clap.specs.Words.{app_of, new_app, rule_of, with_rule};
 ghost use Rattle.clap.specs.declared.builder.command.Command.TheViews.{out-Command as fields_of};
 ghost use Rattle.pp_command.specs.CommandLine.{bare, ppsim, with_commands};
-ghost use Rattle.pp_command.specs.CommandLine.{app_of_form, rule_of_form};
+ghost use Rattle.pp_command.specs.CommandLine.{app_of_form, file_argument, rule_of_form};
 
 use crate::help::{
     ABOUT, BARREL_HELP, CENTRAL_HELP, CENTRAL_LAST_HELP, CHANNELS_HELP, CHECK_HELP, DRAW_HELP,
-    DUMP_HELP, ENDS_HELP, EXAMPLE, FIRST_HELP, Help, LIST_HELP, MANUAL, MEMORY_HELP,
+    DUMP_HELP, ENDS_HELP, EXAMPLE, FILE_HELP, FIRST_HELP, Help, LIST_HELP, MANUAL, MEMORY_HELP,
     MEMORY_LAST_HELP, MEMORY_PP_HELP, OPENED_HELP, PP_HELP, PROCESSORS_HELP, RACES_HELP,
     SESSIONS_HELP, STATE_HELP, STEPS_HELP, THREADS_HELP, WORDS_HELP,
 };
@@ -243,6 +243,17 @@ fn option_of<'a>(alloc: Global, form: &OptionForm) -> Arg<'a>
     }
 }
 
+/// The word that names the file to read.
+fn file_argument<'a>(alloc: Global) -> Arg<'a>
+    ensures rule { rule_of result ≡ file_argument }
+    ensures local { result.global ≡ false }
+{
+    Arg::new(alloc, "file")
+        .action(ArgAction::Set)
+        .value_name("FILE")
+        .help(FILE_HELP)
+}
+
 /// A command with these options as well.
 fn with_options<'a>(
     alloc: Global,
@@ -270,7 +281,8 @@ fn command_of<'a>(alloc: Global, form: &CommandForm) -> Result<Command<'a>, Allo
         .about(form.help.about)
         .long_about(form.help.long_about)
         .after_help(form.help.example);
-    with_options(alloc, command, form.options)
+    let command = with_options(alloc, command, form.options)?;
+    command.arg(file_argument(alloc))
 }
 
 /// An app with these commands as well.

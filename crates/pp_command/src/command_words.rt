@@ -2,13 +2,13 @@
 
 ghost use Rattle.std.specs.Prelude.{◌≡◌, ◌≢◌, ◌-◌, ◌≤◌, ◌↔◌, [], IsTrue, codes, map, option_map, IfOk, IfErr, IfSome, IsSome, OnOk};
 ghost use Rattle.pp_runner.specs.Limits.{AreLimits};
-ghost use Rattle.pp_command.specs.CommandLine.{AskFor, AsksForMore, AsksForText, Finds, IsFaultBy, IsRefused, IsWorkOf, ReadsAddress, ReadsBounds, ReadsChannels, ReadsChosen, ReadsEnd, ReadsNumber, ReadsProcessor, ReadsProcessors, ReadsProfile, ReadsTurn, ReadsFlag, ReadsTurns, ReadsWindow, refusals, value_in};
+ghost use Rattle.pp_command.specs.CommandLine.{AskFor, AsksForMore, AsksForText, Finds, IsFaultBy, IsRefused, IsWorkOf, Name, ReadsAddress, ReadsBounds, ReadsChannels, ReadsChosen, ReadsEnd, ReadsFile, ReadsNumber, ReadsProcessor, ReadsProcessors, ReadsProfile, ReadsTurn, ReadsFlag, ReadsTurns, ReadsWindow, refusals, value_in};
 
 use crate::command::command;
 use crate::line_fault::LineFault;
 use crate::number_range::{FROM, PATIENCE, STEPS, TURNS};
 use crate::text_of::{ChosenSteps, TextOf};
-use crate::work::Work;
+use crate::work::{Asked, Work};
 use clap::error::ErrorKind;
 use clap::{ArgMatches, Error};
 use pp_channel::CHANNELS;
@@ -336,6 +336,16 @@ fn work_of(name: &str, matches: &ArgMatches<'_>) -> Option<Work>
     }
 }
 
+/// The file to read in place of standard input, if one is named.
+fn file_of<'a>(matches: &ArgMatches<'a>) -> Option<&'a str>
+    ensures { ReadsFile (value_in matches.now (codes "file")) (option_map (λ s. s.now) result) }
+{
+    match value_of(matches, "file") {
+        Some("-") | None => None,
+        Some(path) => Some(path),
+    }
+}
+
 /// The fault of a parse that failed.
 fn refusal(error: Error) -> LineFault
     ensures { IsFaultBy error result }
@@ -347,8 +357,10 @@ fn refusal(error: Error) -> LineFault
 }
 
 /// What the words of a command line ask for. The first word is the program's name.
-pub fn read_words<'a>(alloc: Global, words: &'a [&'a str]) -> Result<Work, LineFault>
-    ensures work { IfOk result (AskFor (map (λ s. s.now) words.entry.now)) }
+pub fn read_words<'a>(alloc: Global, words: &'a [&'a str]) -> Result<Asked<'a>, LineFault>
+    ensures work { IfOk result (λ asked. AskFor (map (λ s. s.now) words.entry.now) asked.work) }
+    ensures file { IfOk result (λ asked. Name (map (λ s. s.now) words.entry.now)
+        (option_map (λ s. s.now) asked.file)) }
     ensures taken { OnOk result (refusals (map (λ s. s.now) words.entry.now) ≡ []) }
     // One of clap's refusals of these words, and not for want of memory; or the words are a command
     // line, and no work is asked for within the ranges, where a picture of more turns than it has
@@ -364,7 +376,10 @@ pub fn read_words<'a>(alloc: Global, words: &'a [&'a str]) -> Result<Work, LineF
     };
     match matches.subcommand() {
         Some((name, inner)) => match work_of(name, inner) {
-            Some(work) => Ok(work),
+            Some(work) => Ok(Asked {
+                work,
+                file: file_of(inner),
+            }),
             None if asks_for_more(name, inner) => Err(LineFault::Picture),
             None => Err(LineFault::Number),
         },

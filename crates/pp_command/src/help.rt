@@ -95,8 +95,8 @@ pub(crate) const BARREL_HELP: Help = Help {
 Runs a deck in the barrel: processors 0, 1, .. and 11 (octal) take one step a turn, again and again;
 of twenty processors, 20, 21, .. and 31 follow them in each round.
 
-Reads the deck from standard input. Prints to standard output a line for each channel event, in
-order; the P, the A and the state of each processor that the deck names; and the state of each
+Reads the deck from FILE or standard input. Prints to standard output a line for each channel event,
+in order; the P, the A and the state of each processor that the deck names; and the state of each
 channel that has a history. What goes wrong is one line on standard error.
 
 FAULT 1 is an exchange jump, FAULT 2 a request to the central processor, FAULT 3 a channel that the
@@ -123,9 +123,9 @@ It also ends where it is refused memory for one more answer (MEMORY), and where 
 FAULT 1 is an exchange jump, FAULT 2 a request to the central processor, FAULT 3 a channel that the
 machine does not have, and FAULT 4 an address past the end of central memory.
 
-Reads the deck from standard input. Prints to standard output, channel by channel, a line for each
-event in order; the P, the A and the end of each processor that the deck names; and the state of
-each channel that has a history. What goes wrong is one line on standard error.
+Reads the deck from FILE or standard input. Prints to standard output, channel by channel, a line
+for each event in order; the P, the A and the end of each processor that the deck names; and the
+state of each channel that has a history. What goes wrong is one line on standard error.
 
 Where the deck has a line DEAD, the processors without a section wait for their programs, each on
 the channel of its own number, as at a dead start.",
@@ -138,9 +138,9 @@ pub(crate) const LIST_HELP: Help = Help {
 Prints the listing of a deck: the words of each processor that are not 0, one instruction a line,
 with its mnemonic and operands behind it as a comment. Nothing is run.
 
-Reads the deck from standard input. Prints to standard output the size of central memory and its
-words; DEAD, where processors wait for their programs; and the section of each processor that the
-deck names. What goes wrong is one line on standard error.
+Reads the deck from FILE or standard input. Prints to standard output the size of central memory and
+its words; DEAD, where processors wait for their programs; and the section of each processor that
+the deck names. What goes wrong is one line on standard error.
 
 The listing is itself a deck, and loads the same machine, where it is no longer than a deck may be,
 1048576 bytes (decimal).",
@@ -154,10 +154,10 @@ Runs a deck in the barrel, and prints what is in the machine then, in the form o
 memory, and the words of each processor that the deck names or that was loaded at dead start. Those
 that are running start where they are; the others keep their memory alone.
 
-Reads the deck from standard input. What is printed to standard output is a deck to go on from,
-where it is no longer than a deck may be, 1048576 bytes (decimal): histories and turns are gone.
-Where a processor is within a block or at fault, or a channel is active, nothing is printed, and the
-first of these is told on standard error. Any other fault is one line there too.",
+Reads the deck from FILE or standard input. What is printed to standard output is a deck to go on
+from, where it is no longer than a deck may be, 1048576 bytes (decimal): histories and turns are
+gone. Where a processor is within a block or at fault, or a channel is active, nothing is printed,
+and the first of these is told on standard error. Any other fault is one line there too.",
     example: four_example!("dump --turns 40"),
 };
 
@@ -167,12 +167,12 @@ pub(crate) const STATE_HELP: Help = Help {
 Runs a deck in the barrel, and prints how things stand then: where each processor is and what holds
 it, what the run has changed in the memories, and the state of the channels.
 
-Reads the deck from standard input. Prints to standard output, for each processor that the deck
-names or that waited at dead start, its P, its A and its state, the instruction that runs, the next
-place of a block in progress, and, if its next step is held, by which channel and how many of its
-last steps in a row were; then the words of processors and of central memory that differ from those
-loaded, as lines of a deck; and the state of each channel that has a history. What goes wrong is one
-line on standard error.
+Reads the deck from FILE or standard input. Prints to standard output, for each processor that the
+deck names or that waited at dead start, its P, its A and its state, the instruction that runs, the
+next place of a block in progress, and, if its next step is held, by which channel and how many of
+its last steps in a row were; then the words of processors and of central memory that differ from
+those loaded, as lines of a deck; and the state of each channel that has a history. What goes wrong
+is one line on standard error.
 
 FAULT 1 is an exchange jump, FAULT 2 a request to the central processor, FAULT 3 a channel that the
 machine does not have, and FAULT 4 an address past the end of central memory.",
@@ -184,10 +184,10 @@ pub(crate) const ENDS_HELP: Help = Help {
     long_about: "\
 Runs a deck in the barrel, and says how the run ends, as far as these turns tell.
 
-Reads the deck from standard input. Prints to standard output AT REST FROM t, if from turn t on
-every processor is stopped or at fault; STUCK FROM t, if from then on nothing can move, though some
-processor is running; REPEATS FROM t EVERY n, if after each n turns the machine stands as it stood
-at turn t; or GOING ON AT t, after all t turns. Then, as they stand at turn t, a line for each
+Reads the deck from FILE or standard input. Prints to standard output AT REST FROM t, if from turn t
+on every processor is stopped or at fault; STUCK FROM t, if from then on nothing can move, though
+some processor is running; REPEATS FROM t EVERY n, if after each n turns the machine stands as it
+stood at turn t; or GOING ON AT t, after all t turns. Then, as they stand at turn t, a line for each
 processor that the deck names or that waited at dead start, with the places between which it LOOPS
 in a repetition; and the state of each channel that has a history. What goes wrong is one line on
 standard error.",
@@ -200,10 +200,10 @@ pub(crate) const MEMORY_HELP: Help = Help {
 Runs a deck in the barrel, and prints the words of a processor's memory, in octal and in display
 code.
 
-Reads the deck from standard input. Prints to standard output a line for each eight places, from a
-multiple of 10 on (octal), of which one lies within the bounds and one has a word that is not 0: the
-first place, the eight words, and the same in display code, two characters a word (00 and 55 are
-spaces). What goes wrong is one line on standard error.",
+Reads the deck from FILE or standard input. Prints to standard output a line for each eight places,
+from a multiple of 10 on (octal), of which one lies within the bounds and one has a word that is not
+0: the first place, the eight words, and the same in display code, two characters a word (00 and 55
+are spaces). What goes wrong is one line on standard error.",
     example: four_example!("memory --turns 40 --pp 0"),
 };
 
@@ -212,9 +212,9 @@ pub(crate) const CENTRAL_HELP: Help = Help {
     long_about: "\
 Runs a deck in the barrel, and prints the words of central memory, in octal and in display code.
 
-Reads the deck from standard input. Prints to standard output a line for each word within the bounds
-that is not 0: the address, the word, and the same in display code, ten characters (00 and 55 are
-spaces). What goes wrong is one line on standard error.",
+Reads the deck from FILE or standard input. Prints to standard output a line for each word within
+the bounds that is not 0: the address, the word, and the same in display code, ten characters (00
+and 55 are spaces). What goes wrong is one line on standard error.",
     example: "\
 Example:
   ppsim central --turns 40 < word.deck
@@ -229,14 +229,14 @@ pub(crate) const SESSIONS_HELP: Help = Help {
 Runs a deck in the barrel, and prints the sessions of its channels, each from an activate to the
 disconnect after it.
 
-Reads the deck from standard input. Prints to standard output, channel by channel, a line for each
-session: the turns of its activate and its disconnect (DEAD START, where it was open before the
-first turn; GOING ON, where it still is), how many words were put and taken, and the word that was
-put and not taken, which was LOST by the disconnect or is WAITING; and a line for each idle stretch
-with function codes. Then, for each processor that the deck names or that waited at dead start, how
-many of its turns MOVED it, were HELD, and found it at REST. With --words the line of a session is
-followed by the words put, and that of an idle stretch by its function codes, eight a line. Turns
-and counts are decimal, words octal. What goes wrong is one line on standard error.",
+Reads the deck from FILE or standard input. Prints to standard output, channel by channel, a line
+for each session: the turns of its activate and its disconnect (DEAD START, where it was open before
+the first turn; GOING ON, where it still is), how many words were put and taken, and the word that
+was put and not taken, which was LOST by the disconnect or is WAITING; and a line for each idle
+stretch with function codes. Then, for each processor that the deck names or that waited at dead
+start, how many of its turns MOVED it, were HELD, and found it at REST. With --words the line of a
+session is followed by the words put, and that of an idle stretch by its function codes, eight a
+line. Turns and counts are decimal, words octal. What goes wrong is one line on standard error.",
     example: handoff_example!("sessions --turns 40"),
 };
 
@@ -246,14 +246,14 @@ pub(crate) const RACES_HELP: Help = Help {
 Runs a deck in the barrel, and says whether this one run tells the result of every order of steps:
 whether the processors, in whatever order they take their steps, end the same.
 
-Reads the deck from standard input. Prints to standard output a line for each step that races with
-an event of its channel, since it would have done something else BEFORE that event, which it came
-after, or AFTER it, which it came before: the turn, the processor, P and the instruction, the
-channel, and the event with its turn and its processor. Then a line for each processor that is still
-GOING ON, or that is HELD and would not have been BEFORE an event; and one for each central word
-(CM) that was WRITTEN BY one processor and USED BY another. The last line is SAME IN EVERY ORDER if
-it is the only one, NO RACE SO FAR if all others are of processors going on, and else MAY DIFFER.
-What goes wrong is one line on standard error.
+Reads the deck from FILE or standard input. Prints to standard output a line for each step that
+races with an event of its channel, since it would have done something else BEFORE that event, which
+it came after, or AFTER it, which it came before: the turn, the processor, P and the instruction,
+the channel, and the event with its turn and its processor. Then a line for each processor that is
+still GOING ON, or that is HELD and would not have been BEFORE an event; and one for each central
+word (CM) that was WRITTEN BY one processor and USED BY another. The last line is SAME IN EVERY
+ORDER if it is the only one, NO RACE SO FAR if all others are of processors going on, and else MAY
+DIFFER. What goes wrong is one line on standard error.
 
 MAY DIFFER may stand where nothing differs: each processor is looked at with one channel at a time,
 so an order that another channel or a word of memory brings about is not seen, and each look counts
@@ -266,14 +266,14 @@ pub(crate) const STEPS_HELP: Help = Help {
     long_about: "\
 Runs a deck in the barrel, and prints each step: what the instruction is, and what it did.
 
-Reads the deck from standard input. Prints to standard output a line for each step of the processors
-that the deck names or that waited at dead start: the turn, the processor, P, the word or two at P
-(none within a block), the instruction that runs, and A after it; then each place and each central
-word that the step changed; the channel event, or the flags that were seen; and STOPPED or FAULT
-with its number. Steps of a processor that are held in a row, with the same flags, are one line, at
-the first of them: HELD, the channel with its flags, and how many there are. With --pp, --ch, --from
-or --to only the steps chosen are printed, and counted. What goes wrong is one line on standard
-error.
+Reads the deck from FILE or standard input. Prints to standard output a line for each step of the
+processors that the deck names or that waited at dead start: the turn, the processor, P, the word or
+two at P (none within a block), the instruction that runs, and A after it; then each place and each
+central word that the step changed; the channel event, or the flags that were seen; and STOPPED or
+FAULT with its number. Steps of a processor that are held in a row, with the same flags, are one
+line, at the first of them: HELD, the channel with its flags, and how many there are. With --pp,
+--ch, --from or --to only the steps chosen are printed, and counted. What goes wrong is one line on
+standard error.
 
 FAULT 1 is an exchange jump, FAULT 2 a request to the central processor, FAULT 3 a channel that the
 machine does not have, and FAULT 4 an address past the end of central memory.",
@@ -285,11 +285,11 @@ pub(crate) const DRAW_HELP: Help = Help {
     long_about: "\
 Runs a deck in the barrel, and draws what happened, as an SVG for a browser.
 
-Reads the deck from standard input. Prints to standard output a picture with a lane for each channel
-that was used, where it was active and full, with its words and function codes, and with the words
-that were lost; and a lane for each processor that the deck names or that waited at dead start,
-where it was running, held and by which channel, in a block, stopped or at fault. Turns go from left
-to right. What goes wrong is one line on standard error.
+Reads the deck from FILE or standard input. Prints to standard output a picture with a lane for each
+channel that was used, where it was active and full, with its words and function codes, and with the
+words that were lost; and a lane for each processor that the deck names or that waited at dead
+start, where it was running, held and by which channel, in a block, stopped or at fault. Turns go
+from left to right. What goes wrong is one line on standard error.
 
 A picture has at most 2000 turns. Of a longer run, give the first turn to draw and the one before
 which the picture ends: --turns 999999 --from 5000 --to 6000.",
@@ -303,11 +303,11 @@ Reads a channel trace, and says whether it is lawful: whether on each channel it
 may be those of one channel, on which in every session the words taken are the first of the words
 put. No deck is read, and nothing is run.
 
-Reads from standard input, to its end, a text in the lines that barrel or threads print, whoever
-made it. Events with turns are in order of turns; events with numbers count the events of their
-channel from 0, or from 1 where it was open before. Lines of processors, blank lines and comments,
-from a * on, are passed over; a line that says how a channel stands has to agree with the events
-before it.
+Reads from FILE or standard input, to its end, a text in the lines that barrel or threads print,
+whoever made it. Events with turns are in order of turns; events with numbers count the events of
+their channel from 0, or from 1 where it was open before. Lines of processors, blank lines and
+comments, from a * on, are passed over; a line that says how a channel stands has to agree with the
+events before it.
 
 Prints to standard output how many events, channels and sessions there are. Where the trace is not
 lawful, nothing is printed there, and the first line at which it is not is told on standard error,
@@ -320,6 +320,8 @@ where handoff.trace has the lines
   000020 PP00 CH05 PUT 0007
   000021 PP01 CH05 TAK 0007",
 };
+
+pub(crate) const FILE_HELP: &str = "The file to read; standard input if not given, or -";
 
 pub(crate) const PROCESSORS_HELP: &str =
     "How many processors the machine has, 10 or 20 (decimal); 10 if not given";

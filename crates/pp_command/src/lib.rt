@@ -12,4 +12,4 @@ mod work;
 pub use command_words::read_words;
 pub use line_fault::LineFault;
 pub use text_of::{ChosenSteps, TextOf};
-pub use work::Work;
+pub use work::{Asked, Work};

@@ -16,3 +16,10 @@ pub enum Work {
     /// places, were open before it.
     Check { opened: [bool; CHANNELS] },
 }
+
+/// A work, and the file whose bytes it is done over; none for those of standard input.
+#[derive(Clone, Copy)]
+pub struct Asked<'a> {
+    pub work: Work,
+    pub file: Option<&'a str>,
+}

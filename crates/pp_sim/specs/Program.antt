@@ -1,11 +1,11 @@
 -- What a run of the program comes to, by its words, what was read and written, and its status.
-use Rattle.std.specs.Prelude.{◌≡◌, ℕ, List, [], Option, Result, Ok, Err, ◌⊎◌}
+use Rattle.std.specs.Prelude.{◌≡◌, ℕ, List, [], Option, Some, None, Result, Ok, Err, ◌⊎◌}
 use Rattle.std.specs.Io.KnownBytes.{Appends, Keeps}
 use Rattle.clap.specs.Words.{Text, kind_of}
 use Rattle.clap.specs.declared.error.Error.{Error}
 use Rattle.clap.specs.declared.error.kind.ErrorKind.TheVariants.{DisplayHelp, DisplayVersion}
 use Rattle.pp_sim.specs.CheckText.{AnswersTrace}
-use Rattle.pp_command.specs.CommandLine.{AskFor, IsRefused, refusals}
+use Rattle.pp_command.specs.CommandLine.{AskFor, IsRefused, Name, refusals}
 use Rattle.pp_sim.specs.TextAnswer.{AnswersDeck, AnswersDeckUnless}
 use Rattle.pp_sim.specs.TextOf.{IsTextOf, hindrance}
 use Rattle.pp_sim.specs.ThreadsText.{IsThreadsText}
@@ -34,15 +34,36 @@ status_of (Err TextFault.Read) = 3
 status_of (Err TextFault.Write) = 3
 status_of (Err TextFault.Memory) = 4
 
--- the words are a command line that asks for a work, and the status is that of its answer
+-- the work was done or failed, and the status is that of its answer
+pub record IsDoneWith (Z : Type 0) (work : Work) (status : ℕ)
+    (before after old new : Option (List ℕ)) : Type 0 where
+  pub answer : Result (Unit {0}) TextFault
+  pub done : IsDone Z work answer before after old new
+  pub told : status ≡ status_of answer
+
+-- so it was over the bytes of a file; or there is no such file to read, and nothing is written
+abbrev pub IsDoneOnFile : Type 0 → Work → ℕ → Option (List ℕ) → Option (List ℕ) → Type 0
+IsDoneOnFile Z work status old new =
+    ((before : Option (List ℕ)) × ((after : Option (List ℕ))
+    × IsDoneWith Z work status before after old new))
+    ⊎ ((status ≡ 3) × Keeps old new)
+
+-- over the bytes of standard input; or over those of this file, and standard input is not read
+abbrev pub IsDoneOver : Type 0 → Option Text → Work → ℕ → Option (List ℕ) → Option (List ℕ)
+    → Option (List ℕ) → Option (List ℕ) → Type 0
+IsDoneOver Z None work status before after old new = IsDoneWith Z work status before after old new
+IsDoneOver Z (Some path) work status before after old new =
+    Keeps before after × IsDoneOnFile Z work status old new
+
+-- the words are a command line that asks for a work, which is done over the file that they name
 pub record HasWorked (Z : Type 0) (words : List Text) (status : ℕ)
     (before after old new : Option (List ℕ)) : Type 0 where
   pub taken : refusals words ≡ []
   pub work : Work
   pub asked : AskFor words work
-  pub answer : Result (Unit {0}) TextFault
-  pub done : IsDone Z work answer before after old new
-  pub told : status ≡ status_of answer
+  pub file : Option Text
+  pub named : Name words file
+  pub done : IsDoneOver Z file work status before after old new
 
 -- ---- words that are refused
 

@@ -4,6 +4,7 @@
 use crate::program::{LINE_REFUSED, NO_MEMORY, run_program};
 use std::alloc::{AllocError, Global};
 use std::env::Env;
+use std::fs::Files;
 use std::io::{ErrorKind, Read, Write};
 use std::process::ExitCode;
 use std::sync::Wait;
@@ -13,12 +14,12 @@ use std::{env, io};
 /// Does what the words of the command line ask for, over these three streams, and answers the
 /// status to exit with: 0 done, 1 deck or trace refused, 2 command line refused, 3 a device failed,
 /// 4 out of memory.
-pub fn run_main<R: Env + Alloc<A = Global> + Threads + Wait + Sync, I: Read, O: Write, E: Write>(
-    rt: &R,
-    input: &mut I,
-    output: &mut O,
-    error: &mut E,
-) -> ExitCode {
+pub fn run_main<
+    R: Alloc<A = Global> + Env + Files + Threads + Wait + Sync,
+    I: Read,
+    O: Write,
+    E: Write,
+>(rt: &R, input: &mut I, output: &mut O, error: &mut E) -> ExitCode {
     let alloc = rt.alloc();
     let arguments = match read_arguments(rt, alloc) {
         Ok(arguments) => arguments,

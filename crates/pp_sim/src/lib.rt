@@ -20,7 +20,7 @@ pub use pp_check::{
     ChannelState, TraceFault, TraceFlaw, Verdict, barrel_law, check_trace, fault_law,
     listed_channels, printed_law, printed_report_law, push_verdict, trace_law,
 };
-pub use pp_command::{ChosenSteps, LineFault, TextOf, Work, read_words};
+pub use pp_command::{Asked, ChosenSteps, LineFault, TextOf, Work, read_words};
 pub use pp_deck::{Deck, DeckCode, DeckFault, deck_law, read_deck, reading_law};
 pub use pp_draw::{
     Condition, MOST_TURNS, SeenStep, Window, drawing_law, run_seeing_steps, write_drawing,

@@ -2,7 +2,7 @@
 
 ghost use Rattle.std.specs.Prelude.{◌≡◌, map};
 ghost use Rattle.pp_runner.specs.Report.{ReportFitsInMemory};
-ghost use Rattle.pp_sim.specs.Program.{IsDone, IsPrinted, IsRun, IsTold, status_of};
+ghost use Rattle.pp_sim.specs.Program.{IsDone, IsDoneOnFile, IsPrinted, IsRun, IsTold, status_of};
 
 use crate::streams::write_whole;
 use crate::text_fault::TextFault;
@@ -12,6 +12,7 @@ use crate::texts::threads_text::threads_text;
 use clap::Error;
 use pp_command::{LineFault, Work, read_words};
 use std::alloc::{Allocator, Global};
+use std::fs::{self, Files};
 use std::io::{Read, Write};
 use std::sync::Wait;
 use std::thread::Threads;
@@ -27,12 +28,12 @@ const DEVICE_FAILED: u8 = 3;
 /// Memory was refused.
 pub(crate) const NO_MEMORY: u8 = 4;
 
-/// Does what the words ask for, the program's name first, and answers the status to exit with.
-/// The words are read first: where they are refused, nothing is read from `input`. A fault in
-/// writing to `error` is not told.
+/// Does what the words ask for, the program's name first, and answers the status to exit with. The
+/// words are read first: if they are refused, or name a file to read, nothing is read from `input`.
+/// A fault in writing to `error` is not reported.
 pub fn run_program<
     'a,
-    T: Alloc<A = Global> + Threads + Wait + Sync,
+    T: Alloc<A = Global> + Files + Threads + Wait + Sync,
     I: Read,
     A: Allocator + Copy + Send + Sync,
     O: Write,
@@ -43,11 +44,41 @@ pub fn run_program<
         (I.remaining input.new)
         (O.contents output.old) (O.contents output.new) }
 {
-    let work = match read_words(rt.alloc(), words) {
-        Ok(work) => work,
+    let asked = match read_words(rt.alloc(), words) {
+        Ok(asked) => asked,
         Err(fault) => return tell_line_fault(rt.alloc(), &fault, output, error),
     };
-    tell_answer(do_work(rt, work, alloc, input, output), error)
+    match asked.file {
+        None => tell_answer(do_work(rt, asked.work, alloc, input, output), error),
+        Some(path) => work_on_file(rt, asked.work, alloc, path, output, error),
+    }
+}
+
+/// Does what the words ask for over the bytes of a file.
+fn work_on_file<
+    T: Files + Threads + Wait + Sync,
+    A: Allocator + Copy + Send + Sync,
+    O: Write,
+    E: Write,
+>(rt: &T, work: Work, alloc: A, path: &str, output: &mut O, error: &mut E) -> u8
+    requires { ReportFitsInMemory A.row A.Allocator }
+    ensures { IsDoneOnFile A work result (O.contents output.old) (O.contents output.new) }
+{
+    let Ok(mut file) = fs::open(rt, path) else {
+        return tell_unread(path, error);
+    };
+    match do_work(rt, work, alloc, &mut file, output) {
+        Err(TextFault::Read) => tell_unread(path, error),
+        answer => tell_answer(answer, error),
+    }
+}
+
+/// The status where a file can't be opened or read, which is reported.
+fn tell_unread<E: Write>(path: &str, error: &mut E) -> u8
+    ensures { result ≡ 3 }
+{
+    let _ = writeln!(error, "ppsim: {path}: cannot be read");
+    DEVICE_FAILED
 }
 
 /// Does what the words ask for.

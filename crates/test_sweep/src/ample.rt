@@ -5,13 +5,14 @@ use pp_machine::Profile;
 use pp_runner::Limits;
 use pp_sim::{DeckFault, barrel_text, read_deck, threads_text};
 use std::alloc::Global;
+use std::fs::Files;
 use std::sync::Wait;
 use std::test::Fail;
 use std::thread::Threads;
 use test_bench::{BLOCK, HANDOFF, HANDOFF_ON_TWENTY, HANDOFF_TEXT, LONG_PATIENCE, Rationed};
 
 /// The text of a run with one thread per processor, as long as allowed.
-pub fn text_by_threads<R: AllocGlobal + Threads + Wait + Sync>(
+pub fn text_by_threads<R: AllocGlobal + Files + Threads + Wait + Sync>(
     rt: &R,
     heap: &Rationed<Global>,
     profile: Profile,

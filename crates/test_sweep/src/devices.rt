@@ -2,6 +2,7 @@
 
 use crate::runs::{Run, ends, is_read_fault, is_write_fault};
 use pp_sim::run_program;
+use std::fs::Files;
 use std::io::{self, ErrorKind, Read};
 use std::sync::Wait;
 use std::test::Fail;
@@ -64,7 +65,11 @@ fn writers_that_give_up(rt: HostRuntime) {
 }
 
 /// Whether a writer that is full after the text is not noticed.
-fn fits<R: AllocGlobal + Threads + Wait + Sync>(rt: &R, (words, input): Run, text: &[u8]) -> bool {
+fn fits<R: AllocGlobal + Files + Threads + Wait + Sync>(
+    rt: &R,
+    (words, input): Run,
+    text: &[u8],
+) -> bool {
     let mut output = Sink::new(rt.alloc(), text.len(), 1, Failure::TakesNothing);
     ends(rt, words, &mut input.as_bytes(), &mut output, 0, b"")
         && output.taken() == text
@@ -92,7 +97,7 @@ const UNTOLD: [(&str, &str, usize, u8); 5] = [
 ];
 
 /// Whether a run whose standard error fails has this status, and its output took what it should.
-fn is_untold<R: AllocGlobal + Threads + Wait + Sync>(
+fn is_untold<R: AllocGlobal + Files + Threads + Wait + Sync>(
     rt: &R,
     turns: &str,
     deck: &str,
@@ -120,7 +125,7 @@ fn errors_that_are_not_told(rt: HostRuntime) {
 
 /// Whether a run on this many spaces, after which the reader gives up, ends so, and how often it
 /// did.
-fn ends_on_spaces<R: AllocGlobal + Threads + Wait + Sync>(
+fn ends_on_spaces<R: AllocGlobal + Files + Threads + Wait + Sync>(
     rt: &R,
     count: usize,
     status: u8,

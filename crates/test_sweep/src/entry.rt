@@ -1,8 +1,10 @@
 //! The program from the words that its runtime hands it, which need not be UTF-8.
 
 use pp_sim::run_main;
-use std::alloc::Global;
+use std::alloc::{Allocator, Global};
 use std::env::{Env, FillError};
+use std::fs::{Files, Metadata, OpenOptions};
+use std::io;
 use std::process::ExitCode;
 use std::sync::Wait;
 use std::thread::Threads;
@@ -36,13 +38,59 @@ impl<R> Env for Words<'_, R> {
     }
 }
 
+impl<R: Files> Files for Words<'_, R> {
+    type File = R::File;
+
+    type Dir = R::Dir;
+
+    fn open_file(&self, how: &OpenOptions, path: &str) -> io::Result<R::File> {
+        self.rt.open_file(how, path)
+    }
+
+    fn open_dir(&self, path: &str) -> io::Result<R::Dir> {
+        self.rt.open_dir(path)
+    }
+
+    fn metadata(&self, path: &str) -> io::Result<Metadata> {
+        self.rt.metadata(path)
+    }
+
+    fn symlink_metadata(&self, path: &str) -> io::Result<Metadata> {
+        self.rt.symlink_metadata(path)
+    }
+
+    fn copy(&self, from: &str, to: &str) -> io::Result<u64> {
+        self.rt.copy(from, to)
+    }
+
+    fn rename(&self, from: &str, to: &str) -> io::Result<()> {
+        self.rt.rename(from, to)
+    }
+
+    fn remove_file(&self, path: &str) -> io::Result<()> {
+        self.rt.remove_file(path)
+    }
+
+    fn create_dir(&self, path: &str) -> io::Result<()> {
+        self.rt.create_dir(path)
+    }
+
+    fn remove_dir(&self, path: &str) -> io::Result<()> {
+        self.rt.remove_dir(path)
+    }
+
+    fn remove_dir_all<B: Allocator>(&self, alloc: B, path: &str) -> io::Result<()> {
+        self.rt.remove_dir_all(alloc, path)
+    }
+}
+
 impl<R: Threads> Threads for Words<'_, R> {}
 
 impl<R: Wait> Wait for Words<'_, R> {}
 
 /// Whether a run with these words has this status, this output and this standard error, and asks
 /// the reader so often.
-fn ends<R: AllocGlobal + Threads + Wait + Sync>(
+fn ends<R: AllocGlobal + Files + Threads + Wait + Sync>(
     rt: &R,
     words: &[&[u8]],
     (status, output, error): (u8, &str, &str),

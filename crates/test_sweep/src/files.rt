@@ -2,15 +2,15 @@
 
 use crate::runs::ends;
 use pp_sim::run_program;
-use std::fs::{File, OpenOptions};
+use std::fs::{File, Files, OpenOptions};
 use std::io::{Read, Write};
 use std::sync::Wait;
 use std::test::Fail;
 use std::thread::Threads;
-use test_bench::{HANDOFF, WORDS_OF_A_RUN};
+use test_bench::{HANDOFF, Source, WORDS_OF_A_RUN};
 
 /// Whether a run onto a file ends so.
-fn ends_onto<R: AllocGlobal + Threads + Wait + Sync>(
+fn ends_onto<R: AllocGlobal + Files + Threads + Wait + Sync>(
     rt: &R,
     file: &mut impl Write,
     status: u8,
@@ -39,7 +39,7 @@ fn outputs(rt: HostRuntime) -> Result<(), Fail> {
 }
 
 /// Whether a run on a file ends so, without an output.
-fn ends_on<R: AllocGlobal + Threads + Wait + Sync>(
+fn ends_on<R: AllocGlobal + Files + Threads + Wait + Sync>(
     rt: &R,
     file: &mut impl Read,
     status: u8,
@@ -61,6 +61,33 @@ fn inputs(rt: HostRuntime) -> Result<(), Fail> {
     let mut nothing = File::open(&rt, "/dev/null")?;
     assert!(rt; ends_on(&rt, &mut nothing, 0, b""));
     Ok(())
+}
+
+/// Whether a run with these words ends so, without an output, and reads nothing of the input.
+fn ends_on_path<R: AllocGlobal + Files + Threads + Wait + Sync>(
+    rt: &R,
+    words: &[&str],
+    status: u8,
+    error: &[u8],
+) -> bool {
+    let mut input = Source::new(HANDOFF.as_bytes(), 1, None);
+    let mut output = Vec::new(rt.alloc());
+    ends(rt, words, &mut input, &mut output, status, error)
+        && output.is_empty()
+        && input.calls() == 0
+}
+
+/// Folders, files that are not there, zeros without end, and nothing at all, by their paths.
+#[test]
+fn paths(rt: HostRuntime) {
+    let folder = ["ppsim", "list", "/"];
+    assert!(rt; ends_on_path(&rt, &folder, 3, b"ppsim: /: cannot be read\n"));
+    let none = ["ppsim", "list", "/none/at all"];
+    assert!(rt; ends_on_path(&rt, &none, 3, b"ppsim: /none/at all: cannot be read\n"));
+    let zeros = ["ppsim", "list", "/dev/zero"];
+    assert!(rt; ends_on_path(&rt, &zeros, 1, b"ppsim: deck fault 1 at line 0\n"));
+    let nothing = ["ppsim", "barrel", "--turns", "40", "/dev/null"];
+    assert!(rt; ends_on_path(&rt, &nothing, 0, b""));
 }
 
 /// The error may fail too.

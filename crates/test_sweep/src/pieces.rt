@@ -2,6 +2,7 @@
 
 use crate::runs::{Run, ends, is_write_fault};
 use std::alloc::Global;
+use std::fs::Files;
 use std::io::{self, ErrorKind, Write};
 use std::sync::Wait;
 use std::test::Fail;
@@ -43,7 +44,7 @@ impl Write for Tray {
 }
 
 /// Whether the whole text comes, in few pieces of bounded size.
-fn comes_in_pieces<R: AllocGlobal + Threads + Wait + Sync>(
+fn comes_in_pieces<R: AllocGlobal + Files + Threads + Wait + Sync>(
     rt: &R,
     (words, input): Run,
     text: &str,
@@ -74,7 +75,7 @@ const ROOMS: [usize; 11] = [
 ];
 
 /// Whether a writer that fails in this way, after what it took, is a fault and not called again.
-fn tells_failure<R: AllocGlobal + Threads + Wait + Sync>(
+fn tells_failure<R: AllocGlobal + Files + Threads + Wait + Sync>(
     rt: &R,
     run: Run,
     text: &[u8],

@@ -2,6 +2,7 @@
 //! run.
 
 use crate::runs::{ending, requests_refused, whole};
+use std::fs::Files;
 use std::sync::Wait;
 use std::test::Fail;
 use std::thread::Threads;
@@ -28,7 +29,7 @@ START 0100
 ";
 
 /// The status of so many turns of a loop, whose steps are printed, and how many requests are made.
-fn requests_in<R: AllocGlobal + Threads + Wait + Sync>(rt: &R, turns: &str) -> (u8, u64) {
+fn requests_in<R: AllocGlobal + Files + Threads + Wait + Sync>(rt: &R, turns: &str) -> (u8, u64) {
     let heap = Rationed::new(rt.alloc());
     let words = ["ppsim", "steps", "--turns", turns];
     let (status, _, _) = ending(rt, &heap, &words, LOOP);

@@ -2,6 +2,7 @@
 
 use pp_sim::run_program;
 use std::alloc::Global;
+use std::fs::Files;
 use std::io::{ErrorKind, Read, Write};
 use std::sync::Wait;
 use std::thread::Threads;
@@ -14,7 +15,7 @@ pub(crate) type Run = (&'static [&'static str], &'static str);
 pub(crate) type Ending = (u8, Vec<u8>, Vec<u8>);
 
 /// How a run over this memory ends.
-pub(crate) fn ending<R: AllocGlobal + Threads + Wait + Sync>(
+pub(crate) fn ending<R: AllocGlobal + Files + Threads + Wait + Sync>(
     rt: &R,
     heap: &Rationed<Global>,
     words: &[&str],
@@ -28,12 +29,15 @@ pub(crate) fn ending<R: AllocGlobal + Threads + Wait + Sync>(
 }
 
 /// How a run with ample memory ends.
-pub(crate) fn whole<R: AllocGlobal + Threads + Wait + Sync>(rt: &R, (words, input): Run) -> Ending {
+pub(crate) fn whole<R: AllocGlobal + Files + Threads + Wait + Sync>(
+    rt: &R,
+    (words, input): Run,
+) -> Ending {
     ending(rt, &Rationed::new(rt.alloc()), words, input)
 }
 
 /// Nothing where a run ends for want of memory as it should; else whether it ends in this way.
-fn with_little<R: AllocGlobal + Threads + Wait + Sync>(
+fn with_little<R: AllocGlobal + Files + Threads + Wait + Sync>(
     rt: &R,
     heap: &Rationed<Global>,
     (words, input): Run,
@@ -49,7 +53,7 @@ fn with_little<R: AllocGlobal + Threads + Wait + Sync>(
 
 /// The number of the first request that a run does not make, if with any earlier one refused it
 /// ends for want of memory, and writes nothing, and with this one ends as with ample memory.
-pub(crate) fn requests_refused<R: AllocGlobal + Threads + Wait + Sync>(
+pub(crate) fn requests_refused<R: AllocGlobal + Files + Threads + Wait + Sync>(
     rt: &R,
     run: Run,
 ) -> Option<u64> {
@@ -69,7 +73,7 @@ pub(crate) fn requests_refused<R: AllocGlobal + Threads + Wait + Sync>(
 }
 
 /// Whether a run over these devices ends with this status and this standard error.
-pub(crate) fn ends<R: AllocGlobal + Threads + Wait + Sync, I: Read, O: Write>(
+pub(crate) fn ends<R: AllocGlobal + Files + Threads + Wait + Sync, I: Read, O: Write>(
     rt: &R,
     words: &[&str],
     input: &mut I,
@@ -84,7 +88,7 @@ pub(crate) fn ends<R: AllocGlobal + Threads + Wait + Sync, I: Read, O: Write>(
 
 /// Whether a run ends with status 3 and writes nothing where the reader gives these bytes, so many
 /// a call, and then an error, which is the last call.
-pub(crate) fn is_read_fault<R: AllocGlobal + Threads + Wait + Sync>(
+pub(crate) fn is_read_fault<R: AllocGlobal + Files + Threads + Wait + Sync>(
     rt: &R,
     words: &[&str],
     front: &[u8],
@@ -107,7 +111,7 @@ pub(crate) fn is_read_fault<R: AllocGlobal + Threads + Wait + Sync>(
 
 /// Whether a run ends with status 3 where the writer takes these bytes of its text, so many a call,
 /// and then fails, which is the last call.
-pub(crate) fn is_write_fault<R: AllocGlobal + Threads + Wait + Sync>(
+pub(crate) fn is_write_fault<R: AllocGlobal + Files + Threads + Wait + Sync>(
     rt: &R,
     (words, input): Run,
     front: &[u8],

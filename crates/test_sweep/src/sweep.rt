@@ -2,6 +2,7 @@
 
 use crate::cases::{AT_ONCE, CASES};
 use crate::runs::{Run, ends, is_read_fault, is_write_fault, requests_refused, whole};
+use std::fs::Files;
 use std::io::ErrorKind;
 use std::sync::Wait;
 use std::thread::Threads;
@@ -21,7 +22,10 @@ fn each_request_refused(rt: HostRuntime) {
 
 /// Whether a reader that fails after each byte ends a run: with an interruption, after which
 /// nothing is read again, but for a check, which goes on reading then.
-fn tells_reader<R: AllocGlobal + Threads + Wait + Sync>(rt: &R, (words, input): Run) -> bool {
+fn tells_reader<R: AllocGlobal + Files + Threads + Wait + Sync>(
+    rt: &R,
+    (words, input): Run,
+) -> bool {
     let error = if words.contains(&"check") {
         ErrorKind::BrokenPipe
     } else {
@@ -46,7 +50,7 @@ fn readers_that_fail(rt: HostRuntime) {
 /// Whether a writer that fails in this way after each byte of the output, and one that can't be
 /// flushed after the last, end a run. Of an output of more than 500 bytes (decimal) about so many
 /// lengths are tried.
-fn tells_writer<R: AllocGlobal + Threads + Wait + Sync>(
+fn tells_writer<R: AllocGlobal + Files + Threads + Wait + Sync>(
     rt: &R,
     run: Run,
     output: &[u8],
@@ -63,7 +67,7 @@ fn tells_writer<R: AllocGlobal + Threads + Wait + Sync>(
 }
 
 /// Whether writers that give an error, and that take nothing, end a run, if it has an output.
-fn tells_writers<R: AllocGlobal + Threads + Wait + Sync>(rt: &R, run: Run) -> bool {
+fn tells_writers<R: AllocGlobal + Files + Threads + Wait + Sync>(rt: &R, run: Run) -> bool {
     let (status, output, _) = whole(rt, run);
     status != 0
         || tells_writer(rt, run, &output, Failure::Error(ErrorKind::Interrupted))
@@ -79,7 +83,10 @@ fn writers_that_fail(rt: HostRuntime) {
 
 /// Whether a run ends as ever over a reader that gives one byte a call and a writer that takes one,
 /// and asks once for each byte and once for the end.
-fn byte_by_byte<R: AllocGlobal + Threads + Wait + Sync>(rt: &R, (words, input): Run) -> bool {
+fn byte_by_byte<R: AllocGlobal + Files + Threads + Wait + Sync>(
+    rt: &R,
+    (words, input): Run,
+) -> bool {
     let (status, output, error) = whole(rt, (words, input));
     let mut reader = Source::new(input.as_bytes(), 1, None);
     let mut writer = Sink::new(rt.alloc(), usize::MAX, 1, Failure::TakesNothing);
@@ -107,7 +114,10 @@ fn answers_ask_for_nothing(rt: HostRuntime) {
 }
 
 /// Whether nothing is read, and a writer that takes nothing is met exactly where there is a text.
-fn is_at_once<R: AllocGlobal + Threads + Wait + Sync>(rt: &R, words: &'static [&str]) -> bool {
+fn is_at_once<R: AllocGlobal + Files + Threads + Wait + Sync>(
+    rt: &R,
+    words: &'static [&str],
+) -> bool {
     let (status, output, error) = whole(rt, (words, "PP 0\n"));
     let mut reader = Source::new(b"PP 0\n", 1, None);
     let mut writer = Sink::new(rt.alloc(), 0, 1, Failure::TakesNothing);

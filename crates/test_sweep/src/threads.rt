@@ -4,6 +4,7 @@ use pp_machine::Profile;
 use pp_runner::Limits;
 use pp_sim::{TextFault, threads_text};
 use std::alloc::Global;
+use std::fs::Files;
 use std::sync::Wait;
 use std::test::Fail;
 use std::thread::Threads;
@@ -11,7 +12,7 @@ use test_bench::{BLOCK, Rationed};
 
 /// Nothing where a run ends for want of memory as it should, in a worker, which the text says, or
 /// as a whole, and then without a text; else whether all of the text comes.
-fn with_little<R: AllocGlobal + Threads + Wait + Sync>(
+fn with_little<R: AllocGlobal + Files + Threads + Wait + Sync>(
     rt: &R,
     heap: &Rationed<Global>,
     profile: Profile,
@@ -35,7 +36,7 @@ fn with_little<R: AllocGlobal + Threads + Wait + Sync>(
 
 /// The number of the first request that a run does not make, if each before it is refused as it
 /// should be.
-fn requests_refused<R: AllocGlobal + Threads + Wait + Sync>(
+fn requests_refused<R: AllocGlobal + Files + Threads + Wait + Sync>(
     rt: &R,
     heap: &Rationed<Global>,
     profile: Profile,

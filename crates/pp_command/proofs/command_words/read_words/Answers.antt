@@ -16,6 +16,12 @@ returns-in-Some-work_of-clause-work c =
     c.in-Ok.ensures c.in-Ok-try_get_matches_from.ensures.matches c.in-Some.ensures.name c.in-Some.ensures.rows in
     rw e c.in-Some-work_of.ensures
 
+pub returns-in-Some-work_of-clause-file : goal.returns-in-Some-work_of-clause-file
+returns-in-Some-work_of-clause-file c =
+    let e = met_command _ _ c.in-Ok-try_get_matches_from.matches c.in-Some.name.now (found_of c.in-Some.inner.now)
+    c.in-Ok.ensures c.in-Ok-try_get_matches_from.ensures.matches c.in-Some.ensures.name c.in-Some.ensures.rows in
+    rw e c.file_of.ensures
+
 pub returns-in-Some-clause-refused : goal.returns-in-Some-clause-refused
 returns-in-Some-clause-refused c =
     let e = met_command _ _ c.in-Ok-try_get_matches_from.matches c.in-Some.name.now (found_of c.in-Some.inner.now)

@@ -1,5 +1,0 @@
-use Rattle.pp_bare.proofs.BareLemmas.{AreStatesBelow}
-use Rattle.pp_bare.proofs.bare_step.channel_states.Given as goal
-
-abbrev pub invariant-loop-place : goal.invariant-loop-place
-invariant-loop-place g l = AreStatesBelow l.place l.states l.machine.histories

@@ -1,7 +1,0 @@
-use Rattle.pp_calls.proofs.over_bytes.do_work.Goals as goal
-
-pub returns-in-Deck : goal.returns-in-Deck
-returns-in-Deck g c = rw c.in-Deck.is c.deck_text.ensures
-
-pub returns-in-Check : goal.returns-in-Check
-returns-in-Check g c = rw c.in-Check.is c.check_text.ensures

@@ -1,5 +1,0 @@
-pub mod StepFacts
-pub mod Moments
-pub mod Standing
-pub mod Steps
-pub mod DeterminacyLemmas

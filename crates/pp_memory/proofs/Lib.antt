@@ -1,4 +1,0 @@
-mod TextLemmas
-mod LineLemmas
-mod ReadingLemmas
-mod LawLemmas

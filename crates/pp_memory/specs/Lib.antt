@@ -1,4 +1,0 @@
-pub mod DisplayCode
-pub mod MemoryText
-pub mod CentralText
-pub mod Reading

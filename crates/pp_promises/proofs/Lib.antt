@@ -1,9 +1,0 @@
-mod CircleLemmas
-mod MachineLemmas
-mod AnswerLemmas
-mod WorkingLemmas
-mod ServeLemmas
-mod ReportLemmas
-mod LoadedLemmas
-mod ThreadsLemmas
-mod OneRunLemmas

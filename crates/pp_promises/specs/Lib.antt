@@ -1,4 +1,0 @@
-pub mod Circle
-pub mod EveryRun
-pub mod OneRun
-pub mod Serial
