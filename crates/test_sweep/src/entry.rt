@@ -89,31 +89,29 @@ impl<R: Threads> Threads for Words<'_, R> {}
 impl<R: Wait> Wait for Words<'_, R> {}
 
 /// Whether a run with these words has this status, this output and this standard error, and asks
-/// the reader so often.
-fn ends<R: AllocGlobal + Files + Threads + Wait + Sync>(
-    rt: &R,
-    words: &[&[u8]],
-    (status, output, error): (u8, &str, &str),
-    calls: usize,
-) -> bool {
-    let mut input = Source::new(HANDOFF.as_bytes(), 1, None);
-    let mut written = Vec::new(rt.alloc());
-    let mut told = Vec::new(rt.alloc());
-    let given = (Words { rt, words }, rt.alloc());
-    run_main(&given, &mut input, &mut written, &mut told) == ExitCode::from(status)
-        && written.as_slice() == output.as_bytes()
-        && told.as_slice() == error.as_bytes()
-        && input.calls() as usize == calls
+/// the reader so often. In place, since the runtime has threads in a test alone.
+macro_rules! ends {
+    ($rt:ident, $words:expr, $status:expr, $output:expr, $error:expr, $calls:expr) => {{
+        let words: &[&[u8]] = $words;
+        let mut input = Source::new(HANDOFF.as_bytes(), 1, None);
+        let mut written = Vec::new($rt.alloc());
+        let mut told = Vec::new($rt.alloc());
+        let given = (Words { rt: &$rt, words }, $rt.alloc());
+        run_main(&given, &mut input, &mut written, &mut told) == ExitCode::from($status)
+            && written.as_slice() == $output.as_bytes()
+            && told.as_slice() == $error.as_bytes()
+            && input.calls() as usize == $calls
+    }};
 }
 
 #[test]
 fn a_word_that_is_not_utf8(rt: HostRuntime) {
     let words: [&[u8]; 4] = [b"ppsim", b"barrel", b"--turns", b"4\xff"];
-    assert!(rt; ends(&rt, &words, (2, "", "ppsim: a word is not UTF-8\n"), 0));
+    assert!(rt; ends!(rt, &words, 2, "", "ppsim: a word is not UTF-8\n", 0));
 }
 
 #[test]
 fn words_of_a_run(rt: HostRuntime) {
     let words: [&[u8]; 4] = [b"ppsim", b"barrel", b"--turns", b"40"];
-    assert!(rt; ends(&rt, &words, (0, HANDOFF_TEXT, ""), HANDOFF.len() + 1));
+    assert!(rt; ends!(rt, &words, 0, HANDOFF_TEXT, "", HANDOFF.len() + 1));
 }
