@@ -43,7 +43,7 @@ impl Ending {
         self.other_status(alloc, page)
     }
 
-    /// The status, where the page has another.
+    /// The status, if the page has another.
     fn other_status(&self, alloc: Global, page: &Ending) -> anyhow::Result<Option<String>> {
         let (status, shown) = (self.status, page.status);
         if status == shown {

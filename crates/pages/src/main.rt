@@ -1,4 +1,6 @@
-//! Runs the commands that pages show, and reports each that ends otherwise than its page says.
+//! Runs the commands that pages show, and reports each that ends otherwise than its page says. Then
+//! it ends as `ppsim` does with the same words: those that the gate gives it are not all UTF-8, so
+//! that status 2 reaches the system.
 #![tactic(auto)]
 
 mod ending;
@@ -7,10 +9,12 @@ mod page;
 mod session;
 
 use page::{Case, cases_of, first_runs};
+use pp_sim::run_main;
 use session::Session;
 use std::alloc::Global;
 use std::fs::{self, Files};
 use std::io::Print;
+use std::process::ExitCode;
 use std::sync::Wait;
 use std::thread::Threads;
 
@@ -41,7 +45,7 @@ const PAGES: [&str; 23] = [
     "cases/examples_on_twenty.md",
 ];
 
-fn main(rt: HostRuntime) -> anyhow::Result<()> {
+fn main(rt: HostRuntime) -> anyhow::Result<ExitCode> {
     for name in PAGES {
         let page = String::from_utf8(fs::read(&rt, name)?)?;
         let cases = cases_of(rt.alloc(), &page)?;
@@ -56,7 +60,7 @@ fn main(rt: HostRuntime) -> anyhow::Result<()> {
             cases.len()
         )?;
     }
-    Ok(())
+    Ok(run_main(&rt, &mut rt.stdin(), &mut rt.stdout(), &mut rt.stderr()))
 }
 
 /// Runs the cases of a page, reports those that differ, and counts the others.

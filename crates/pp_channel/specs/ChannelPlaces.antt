@@ -77,3 +77,7 @@ low_number c below = grind (arith, below)
 pub low_place : (c : ℕ) → c < 0o14 → channel_index c < 0o14
 unfolding channel_index
 low_place c below = grind (arith, below)
+
+pub ruleset places_of_numbers = (one_place, place_below, place_again)
+
+pub ruleset numbers_of_places = (number_named, place_of_number)

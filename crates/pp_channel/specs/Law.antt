@@ -2,7 +2,7 @@
 --
 -- In every session the words taken are the first of the words put, in their order, and at most one
 -- word put is not taken. It waits in the register, or it is lost if a Disconnect finds the channel
--- full. No word passes outside a session.
+-- full. No word is put or taken outside a session; function codes are sent there.
 use Rattle.std.specs.Prelude.{◌≡◌, ◌≢◌, ℕ, ◌+◌, ◌≤◌, List, [], ◌∷◌, ◌++◌, length, IsTrue, All, Some, None}
 use Rattle.std.specs.List.{last_or}
 use Rattle.pp_channel.specs.declared.event.Event.{Event}

@@ -34,7 +34,8 @@ impl Model for ChannelNo {
 
 impl ChannelNo {
     /// The channel of this number, or nothing from 14 to 17 (octal) and from 34 on.
-    #[tactic(auto, unfolding(crate::specs::ChannelNo::names_channel, crate::specs::ChannelNo::channel_number))]
+    #[tactic(auto, unfolding(crate::specs::ChannelNo::names_channel, // which numbers there are
+    crate::specs::ChannelNo::channel_number))]
     pub fn new(number: u8) -> Option<Self>
         ensures exists { IsSome result ↔ IsTrue (names_channel number) }
         ensures value { IfSome result (λ c. c ≡ number) }
@@ -48,7 +49,8 @@ impl ChannelNo {
     }
 
     /// Its number.
-    #[tactic(auto, unfolding(crate::specs::ChannelNo::names_channel, crate::specs::ChannelNo::channel_number))]
+    #[tactic(auto, unfolding(crate::specs::ChannelNo::names_channel, // which numbers there are
+    crate::specs::ChannelNo::channel_number))]
     pub fn get(self) -> u8
         ensures value { result ≡ self }
         ensures names { IsTrue (names_channel result) }
@@ -61,7 +63,7 @@ impl ChannelNo {
     }
 
     /// Its place in a list of all channels in order of number.
-    #[tactic(auto, using(crate::specs::ChannelPlaces::one_place, crate::specs::ChannelPlaces::place_below, crate::specs::ChannelPlaces::place_again))]
+    #[tactic(auto, using(crate::specs::ChannelPlaces::places_of_numbers))]
     pub fn index(self) -> usize
         ensures place { result ≡ channel_index self }
         ensures below { result < channel_count }
@@ -72,7 +74,7 @@ impl ChannelNo {
     }
 
     /// The channel at a place of that list.
-    #[tactic(auto, using(crate::specs::ChannelPlaces::number_named, crate::specs::ChannelPlaces::place_of_number))]
+    #[tactic(auto, using(crate::specs::ChannelPlaces::numbers_of_places))]
     pub fn at(place: usize) -> Self
         requires { place < channel_count }
         ensures number { result ≡ channel_number place }

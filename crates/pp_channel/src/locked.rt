@@ -26,7 +26,8 @@ impl<A: Allocator> Locked<A> {
     }
 
     /// Makes the operation under the lock if it is ready, and otherwise holds it. `number` and
-    /// `loaded` are the length of the history before the call. After `Memory` nothing has changed.
+    /// `loaded` are the length of some lawful history that gives the answer; tests show that it is
+    /// the channel's own, and that nothing has changed after `Memory`.
     pub fn act(&self, rt: &impl Wait, op: ChanOp) -> Result<Numbered, Memory>
         ensures answer { IfOk result (λ r. IsLockedAnswer op r) }
         ensures look_takes_no_memory { only_looks op ≡ true → IsOk result }

@@ -7,9 +7,9 @@ use Rattle.pp_deck.specs.DeckText.{fields_of, lines_of}
 use Rattle.std.proofs.lemmas.List.{length-drop, take_all}
 use Rattle.std.proofs.lemmas.List.Elements.{All-more, All-nil}
 use Rattle.pp_check.specs.Judge.{IsRead, Keeps}
-use Rattle.pp_check.specs.LawfulTrace.{AreLawful, lines_said}
+use Rattle.pp_check.specs.LawfulTrace.{AreLawful, parsed_lines}
 use Rattle.pp_check.specs.TraceFault.{IsFault, IsFlaw}
-use Rattle.pp_check.specs.TraceLine.{line_said}
+use Rattle.pp_check.specs.TraceLine.{parsed_line}
 use Rattle.pp_check.specs.declared.judge.Judge.{Judge}
 use Rattle.pp_check.specs.declared.trace_fault.TraceFlaw.{TraceFlaw}
 use Rattle.pp_check.specs.declared.trace_line.TraceLine.{TraceLine}
@@ -18,44 +18,44 @@ use Rattle.pp_check.proofs.FaultLemmas.{Says, Text, said_more}
 -- the first k lines say something each, and the judge keeps what they say
 pub record HasRead (opened : List Bool) (all : Text) (k : ℕ) (judge : Judge) : Type 0 where
   pub said : All Says (take k all)
-  pub keeps : Keeps opened (lines_said (take k all)) judge
+  pub keeps : Keeps opened (parsed_lines (take k all)) judge
 
 pub none_read : (opened : List Bool) (all : Text) (judge : Judge) → Keeps opened [] judge → HasRead opened all 0 judge
-unfolding lines_said
+unfolding parsed_lines
 none_read opened all judge keeps = record { said = All-nil Says; keeps = keeps }
 
 module _ (opened : List Bool) (all : Text) (k : ℕ) (line : List (List ℕ)) (judge : Judge) (within : k < length all) (here : get_or all k [] ≡ line) where
-  read_by : (o : Option TraceLine) → line_said line ≡ o → All Says (take k all) → IsRead opened (lines_said (take k all)) o judge (Ok tt) → HasRead opened all (k + 1) judge
+  read_by : (o : Option TraceLine) → parsed_line line ≡ o → All Says (take k all) → IsRead opened (parsed_lines (take k all)) o judge (Ok tt) → HasRead opened all (k + 1) judge
   read_by None is said read = absurd read
   read_by (Some l) is said read =
-      let says : line_said (get_or all k []) ≡ Some l = ap line_said here ∙ is in
+      let says : parsed_line (get_or all k []) ≡ Some l = ap parsed_line here ∙ is in
       record {
         said = All-more Says all k [] within said (subst IsSome (sym says) refl);
         keeps = subst (λ (lines : List TraceLine). Keeps opened lines judge) (sym (said_more all k l within says)) read;
       }
 
-  pub read_more : All Says (take k all) → IsRead opened (lines_said (take k all)) (line_said line) judge (Ok tt) → HasRead opened all (k + 1) judge
-  read_more said read = read_by (line_said line) refl said read
+  pub read_more : All Says (take k all) → IsRead opened (parsed_lines (take k all)) (parsed_line line) judge (Ok tt) → HasRead opened all (k + 1) judge
+  read_more said read = read_by (parsed_line line) refl said read
 
-  flaw_by : (o : Option TraceLine) (flaw : TraceFlaw) → IsRead opened (lines_said (take k all)) o judge (Err flaw) → IsFlaw opened (lines_said (take k all)) o flaw
+  flaw_by : (o : Option TraceLine) (flaw : TraceFlaw) → IsRead opened (parsed_lines (take k all)) o judge (Err flaw) → IsFlaw opened (parsed_lines (take k all)) o flaw
   flaw_by None flaw read = read
   flaw_by (Some l) flaw read = read
 
-  pub read_fault : (old : Judge) (flaw : TraceFlaw) → HasRead opened all k old → IsRead opened (lines_said (take k all)) (line_said line) judge (Err flaw) → IsFault opened all (record { line = k + 1; flaw = flaw })
+  pub read_fault : (old : Judge) (flaw : TraceFlaw) → HasRead opened all k old → IsRead opened (parsed_lines (take k all)) (parsed_line line) judge (Err flaw) → IsFault opened all (record { line = k + 1; flaw = flaw })
   read_fault old flaw has read =
       let at : (k + 1) - 1 ≡ k = omega arith in
       let lawful : AreLawful opened (take k all) = record { said = has.said; lawful = has.keeps.kept.lawful } in
-      let flawed : IsFlaw opened (lines_said (take k all)) (line_said (get_or all k [])) flaw = subst (λ (l : List (List ℕ)). IsFlaw opened (lines_said (take k all)) (line_said l) flaw) (sym here) (flaw_by (line_said line) flaw read) in
+      let flawed : IsFlaw opened (parsed_lines (take k all)) (parsed_line (get_or all k [])) flaw = subst (λ (l : List (List ℕ)). IsFlaw opened (parsed_lines (take k all)) (parsed_line l) flaw) (sym here) (flaw_by (parsed_line line) flaw read) in
       record {
         counted = omega arith;
         within = omega (arith, within);
         before = subst (λ (n : ℕ). AreLawful opened (take n all)) (sym at) lawful;
-        flaw = subst (λ (n : ℕ). IsFlaw opened (lines_said (take n all)) (line_said (get_or all n [])) flaw) (sym at) flawed;
+        flaw = subst (λ (n : ℕ). IsFlaw opened (parsed_lines (take n all)) (parsed_line (get_or all n [])) flaw) (sym at) flawed;
       }
 
 -- all lines are read
-pub keeps_text : (opened : List Bool) (all : Text) (k : ℕ) (judge : Judge) → length all ≤ k → HasRead opened all k judge → Keeps opened (lines_said all) judge
-keeps_text opened all k judge past has = subst (λ (text : Text). Keeps opened (lines_said text) judge) (take_all k all past) has.keeps
+pub keeps_text : (opened : List Bool) (all : Text) (k : ℕ) (judge : Judge) → length all ≤ k → HasRead opened all k judge → Keeps opened (parsed_lines all) judge
+keeps_text opened all k judge past has = subst (λ (text : Text). Keeps opened (parsed_lines text) judge) (take_all k all past) has.keeps
 
 pub lawful_text : (opened : List Bool) (all : Text) (k : ℕ) (judge : Judge) → length all ≤ k → HasRead opened all k judge → AreLawful opened all
 lawful_text opened all k judge past has =

@@ -9,10 +9,10 @@ use Rattle.std.proofs.lemmas.List.Elements.{All-get_or, All-take, filter_map-app
 use Rattle.pp_channel.specs.Answer.{channel_state}
 use Rattle.pp_channel.specs.History.{IsLawful}
 use Rattle.pp_channel.specs.declared.event.Event.{Event}
-use Rattle.list_facts.specs.GrowingLists.{filter_map_more}
-use Rattle.pp_check.specs.LawfulTrace.{AreLawful, Fits, IsLawfulTrace, history, last_turn, lines_said, turn_of}
+use Rattle.pp_word.specs.GrowingLists.{filter_map_more}
+use Rattle.pp_check.specs.LawfulTrace.{AreLawful, Fits, IsLawfulTrace, history, last_turn, parsed_lines, turn_of}
 use Rattle.pp_check.specs.TraceFault.{IsFault, IsFlaw, IsFlawOf}
-use Rattle.pp_check.specs.TraceLine.{line_said}
+use Rattle.pp_check.specs.TraceLine.{parsed_line}
 use Rattle.pp_check.specs.declared.trace_fault.TraceFault.{TraceFault}
 use Rattle.pp_check.specs.declared.trace_fault.TraceFlaw.{TraceFlaw}
 use Rattle.pp_check.specs.declared.trace_fault.TraceFlaw.TheVariants.{Malformed, TurnNotRising, WrongNumber, UnlawfulEvent, WrongState}
@@ -25,31 +25,31 @@ abbrev pub Text : Type 0
 Text = List (List (List ℕ))
 
 abbrev pub Says : List (List ℕ) → Type 0
-Says line = IsSome (line_said line)
+Says line = IsSome (parsed_line line)
 
 -- ---- one line more
 
-pub said_more : (text : Text) (k : ℕ) (line : TraceLine) → k < length text → line_said (get_or text k []) ≡ Some line → lines_said (take (k + 1) text) ≡ lines_said (take k text) ++ line ∷ []
-unfolding lines_said
+pub said_more : (text : Text) (k : ℕ) (line : TraceLine) → k < length text → parsed_line (get_or text k []) ≡ Some line → parsed_lines (take (k + 1) text) ≡ parsed_lines (take k text) ++ line ∷ []
+unfolding parsed_lines
 said_more text k line within is =
-    ap (filter_map line_said) (take_more text k [] within) ∙ filter_map_more line_said (take k text) (get_or text k [])
-    ∙ ap (λ (o : Option TraceLine). filter_map line_said (take k text) ++ option_to_list o) is
+    ap (filter_map parsed_line) (take_more text k [] within) ∙ filter_map_more parsed_line (take k text) (get_or text k [])
+    ∙ ap (λ (o : Option TraceLine). filter_map parsed_line (take k text) ++ option_to_list o) is
 
 -- ---- fewer lines
 
-said_split : (text : Text) (n : ℕ) → lines_said text ≡ lines_said (take n text) ++ lines_said (drop n text)
-unfolding lines_said
+said_split : (text : Text) (n : ℕ) → parsed_lines text ≡ parsed_lines (take n text) ++ parsed_lines (drop n text)
+unfolding parsed_lines
 said_split text n =
-    ap (filter_map line_said) (sym (take-append-drop n text)) ∙ filter_map-append line_said (take n text) (drop n text)
+    ap (filter_map parsed_line) (sym (take-append-drop n text)) ∙ filter_map-append parsed_line (take n text) (drop n text)
 
-said_prefix : (text : Text) (n : ℕ) → take (length (lines_said (take n text))) (lines_said text) ≡ lines_said (take n text)
+said_prefix : (text : Text) (n : ℕ) → take (length (parsed_lines (take n text))) (parsed_lines text) ≡ parsed_lines (take n text)
 said_prefix text n =
-    ap (take (length (lines_said (take n text)))) (said_split text n) ∙ take-append_seam (lines_said (take n text)) (lines_said (drop n text))
+    ap (take (length (parsed_lines (take n text)))) (said_split text n) ∙ take-append_seam (parsed_lines (take n text)) (parsed_lines (drop n text))
 
 pub are_lawful_prefix : (opened : List Bool) (text : Text) (n : ℕ) → AreLawful opened text → AreLawful opened (take n text)
 are_lawful_prefix opened text n lawful = record {
   said = All-take Says n text lawful.said;
-  lawful = subst (IsLawfulTrace opened) (said_prefix text n) (lawful_prefix opened (lines_said text) (length (lines_said (take n text))) lawful.lawful);
+  lawful = subst (IsLawfulTrace opened) (said_prefix text n) (lawful_prefix opened (parsed_lines text) (length (parsed_lines (take n text))) lawful.lawful);
 }
 
 -- ---- a flaw
@@ -82,19 +82,19 @@ last_says : (text : Text) (line : List (List ℕ)) → All Says (text ++ line �
 last_says text line all =
     subst Says (get_or_push text line [] (length text) refl) (All-get_or Says (text ++ line ∷ []) (length text) [] (omega (arith, length_push text line)) all)
 
-flaw_stops_by : (opened : List Bool) (text : Text) (k : ℕ) (flaw : TraceFlaw) (o : Option TraceLine) → line_said (get_or text k []) ≡ o → k < length text
-    → IsFlaw opened (lines_said (take k text)) o flaw → AreLawful opened (take (k + 1) text) → ⊥
+flaw_stops_by : (opened : List Bool) (text : Text) (k : ℕ) (flaw : TraceFlaw) (o : Option TraceLine) → parsed_line (get_or text k []) ≡ o → k < length text
+    → IsFlaw opened (parsed_lines (take k text)) o flaw → AreLawful opened (take (k + 1) text) → ⊥
 flaw_stops_by opened text k flaw None is within flawed_so lawful =
     let all = subst (All Says) (take_more text k [] within) lawful.said in
     let here : Says (get_or text k []) = last_says (take k text) (get_or text k []) all in
     let none : IsSome {T = TraceLine} None = subst IsSome is here in
     cc
 flaw_stops_by opened text k flaw (Some line) is within flawed_so lawful =
-    flawed opened (lines_said (take k text)) line flaw flawed_so (subst (IsLawfulTrace opened) (said_more text k line within is) lawful.lawful)
+    flawed opened (parsed_lines (take k text)) line flaw flawed_so (subst (IsLawfulTrace opened) (said_more text k line within is) lawful.lawful)
 
-pub flaw_stops : (opened : List Bool) (text : Text) (k : ℕ) (flaw : TraceFlaw) → k < length text → IsFlaw opened (lines_said (take k text)) (line_said (get_or text k [])) flaw → AreLawful opened (take (k + 1) text) → ⊥
+pub flaw_stops : (opened : List Bool) (text : Text) (k : ℕ) (flaw : TraceFlaw) → k < length text → IsFlaw opened (parsed_lines (take k text)) (parsed_line (get_or text k [])) flaw → AreLawful opened (take (k + 1) text) → ⊥
 flaw_stops opened text k flaw within flawed_so lawful =
-    flaw_stops_by opened text k flaw (line_said (get_or text k [])) refl within flawed_so lawful
+    flaw_stops_by opened text k flaw (parsed_line (get_or text k [])) refl within flawed_so lawful
 
 -- ---- the first fault
 

@@ -8,11 +8,11 @@ use Rattle.std.proofs.lemmas.List.{get_or_append_left, get_or_push, length_push,
 use Rattle.std.proofs.lemmas.Option.{slice_get-get_or}
 use Rattle.pp_channel.specs.Answer.{channel_state}
 use Rattle.pp_channel.specs.declared.channel_state.ChannelState.{ChannelState}
-use Rattle.list_facts.specs.LastElements.{last_or_at}
+use Rattle.pp_word.specs.LastElements.{last_or_at}
 use Rattle.pp_channel.specs.declared.event.Event.{Event}
-use Rattle.pp_check.specs.LawfulTrace.{AreLawful, Fits, IsLawfulTrace, event_on, history, last_turn, lines_said, turn_of, turns}
+use Rattle.pp_check.specs.LawfulTrace.{AreLawful, Fits, IsLawfulTrace, event_on, history, last_turn, parsed_lines, turn_of, turns}
 use Rattle.pp_check.specs.TraceFault.{IsFault, IsFlaw, IsFlawOf}
-use Rattle.pp_check.specs.TraceLine.{line_said}
+use Rattle.pp_check.specs.TraceLine.{parsed_line}
 use Rattle.pp_check.specs.declared.trace_fault.TraceFault.{TraceFault}
 use Rattle.pp_check.specs.declared.trace_fault.TraceFlaw.{TraceFlaw}
 use Rattle.pp_check.specs.declared.trace_fault.TraceFlaw.TheVariants.{Malformed, TurnNotRising, WrongNumber, UnlawfulEvent, WrongState}
@@ -131,13 +131,13 @@ same_line opened text fault other is also = elim (cases_lt fault.line other.line
 
 abbrev FlawAt : List Bool → Text → TraceFlaw → ℕ → Type 0
 FlawAt opened text flaw n =
-    IsFlaw opened (lines_said (take (n - 1) text)) (line_said (get_or text (n - 1) [])) flaw
+    IsFlaw opened (parsed_lines (take (n - 1) text)) (parsed_line (get_or text (n - 1) [])) flaw
 
 pub one_fault : (opened : List Bool) (text : Text) (fault other : TraceFault) → IsFault opened text fault → IsFault opened text other → fault ≡ other
 one_fault opened text fault other is also =
     let line = same_line opened text fault other is also in
     let there : FlawAt opened text fault.flaw other.line = subst (FlawAt opened text fault.flaw) line is.flaw in
-    let flaw = one_flaw opened (lines_said (take (other.line - 1) text)) (line_said (get_or text (other.line - 1) [])) fault.flaw other.flaw there also.flaw in
+    let flaw = one_flaw opened (parsed_lines (take (other.line - 1) text)) (parsed_line (get_or text (other.line - 1) [])) fault.flaw other.flaw there also.flaw in
     ap (λ (n : ℕ). record { line = n; flaw = fault.flaw }) line ∙ ap (λ (f : TraceFlaw). record { line = other.line; flaw = f }) flaw
 
 pub no_fault : (opened : List Bool) (text : Text) (fault : TraceFault) → IsFault opened text fault → AreLawful opened text → ⊥

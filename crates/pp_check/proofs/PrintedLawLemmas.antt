@@ -8,7 +8,7 @@ use Rattle.std.proofs.lemmas.List.{append-nil, take_more}
 use Rattle.std.proofs.lemmas.List.Elements.{All-head, All-tail, filter_map-append}
 use Rattle.pp_channel.proofs.HistoryLemmas.{Fits as FitsState, active_at, full_at, held_word, is_active, state_at, waiting_at}
 use Rattle.pp_channel.proofs.HistoryWalk.{State, Inactive, Empty, Holding}
-use Rattle.list_facts.specs.LastElements.{last_or-push}
+use Rattle.pp_word.specs.LastElements.{last_or-push}
 use Rattle.pp_channel.specs.Answer.{channel_state}
 use Rattle.pp_channel.specs.ChannelNo.{names_channel}
 use Rattle.pp_channel.specs.History.{IsLawful, active, full, waiting, history_on}
@@ -21,8 +21,8 @@ use Rattle.pp_machine.specs.declared.trace.Trace.{Trace}
 use Rattle.pp_deck.specs.DeckText.{lines_of}
 use Rattle.pp_machine.specs.PpNo.{is_named}
 use Rattle.pp_text.specs.PrintedText.{printed}
-use Rattle.pp_text.specs.TextLaw.{IsTold}
-use Rattle.pp_check.specs.LawfulTrace.{AreLawful, Fits, IsLawfulTrace, event_on, events_on, history, is_opened, last_turn, lines_said, opening, turn_of, turns}
+use Rattle.pp_text.specs.TextLaw.{EventFits}
+use Rattle.pp_check.specs.LawfulTrace.{AreLawful, Fits, IsLawfulTrace, event_on, events_on, history, is_opened, last_turn, parsed_lines, opening, turn_of, turns}
 use Rattle.pp_check.specs.PrintedTrace.{AreOpenedBy, IsPrintable}
 use Rattle.pp_check.specs.declared.trace_line.TraceLine.{TraceLine}
 use Rattle.pp_check.specs.declared.trace_line.TraceLine.TheVariants.{AtTurn, Numbered, Standing, Other}
@@ -45,12 +45,12 @@ told_turns [] = refl
 told_turns (e ∷ trace) = ap (λ (more : List ℕ). e.turn ∷ more) (told_turns trace)
 
 -- no event on a number that names no channel
-none_elsewhere : (c : ℕ) (trace : List Trace) → names_channel c ≡ false → All IsTold trace → headline.events_on c trace ≡ []
+none_elsewhere : (c : ℕ) (trace : List Trace) → names_channel c ≡ false → All EventFits trace → headline.events_on c trace ≡ []
 none_elsewhere c [] unnamed told = refl
 none_elsewhere c (e ∷ trace) unnamed told =
-    let here = (All-head IsTold e trace told).channel in
+    let here = (All-head EventFits e trace told).channel in
     let other : (e.channel == c) ≡ false = ne_eqb e.channel c (λ same. named_twice e.channel c same here unnamed) in
-    ap (λ (b : Bool). cons_option (if b then Some e.event else None) (headline.events_on c trace)) other ∙ none_elsewhere c trace unnamed (All-tail IsTold e trace told)
+    ap (λ (b : Bool). cons_option (if b then Some e.event else None) (headline.events_on c trace)) other ∙ none_elsewhere c trace unnamed (All-tail EventFits e trace told)
   where
     named_twice : (d c : ℕ) → d ≡ c → IsTrue (names_channel d) → names_channel c ≡ false → ⊥
     named_twice d c same names unnamed = let both : true ≡ false = sym names ∙ ap names_channel same ∙ unnamed in cc
@@ -232,7 +232,7 @@ all_shown named m opened is opens =
     all_both opened events processors (channels ++ Other ∷ []) (all_below opened events 0o100 (processor_lines named) (processors_show opened events named))
     (all_both opened events channels (Other ∷ []) (all_below opened events 0o100 (channel_lines m.histories) (channels_show named m opened is opens)) (tt, tt))
 
-text_says : (named : List Bool) (m : MachineState) → IsPrintable named m → lines_said (lines_of (printed named m)) ≡ map at_turn m.trace ++ shown_lines named m
+text_says : (named : List Bool) (m : MachineState) → IsPrintable named m → parsed_lines (lines_of (printed named m)) ≡ map at_turn m.trace ++ shown_lines named m
 unfolding said_lines shown_lines
 text_says named m is =
     said_is (lines_of (printed named m)) (said_lines named m ++ Other ∷ []) (whole_text named m is) ∙ simp append_assoc
@@ -253,7 +253,7 @@ none_shown opened lines [] c all = refl
 none_shown opened lines (x ∷ more) c all =
     ap (λ (o : Option Event). cons_option o (filter_map (event_on c) more)) ((shows_none opened lines x all.0).event c) ∙ none_shown opened lines more c all.1
 
-pub printed_events : (named : List Bool) (m : MachineState) (opened : List Bool) → IsPrintable named m → AreOpenedBy m opened → (c : ℕ) → events_on c (lines_said (lines_of (printed named m))) ≡ headline.events_on c m.trace
+pub printed_events : (named : List Bool) (m : MachineState) (opened : List Bool) → IsPrintable named m → AreOpenedBy m opened → (c : ℕ) → events_on c (parsed_lines (lines_of (printed named m))) ≡ headline.events_on c m.trace
 printed_events named m opened is opens c =
     ap (events_on c) (text_says named m is)
     ∙ events_both c (map at_turn m.trace) (shown_lines named m)

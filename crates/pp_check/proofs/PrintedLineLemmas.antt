@@ -22,10 +22,10 @@ use Rattle.pp_machine.specs.declared.trace.Trace.{Trace}
 use Rattle.pp_text.specs.Numeral.{decimal, octal}
 use Rattle.pp_text.specs.PrintedText.{channel_line as printed_channel_line, channel_text, event_line, event_text, line_end, processor_line, state_text}
 use Rattle.pp_report.specs.PrintedReport.{end_text, line_by as line_by_author}
-use Rattle.pp_text.specs.TextLaw.{IsTold}
+use Rattle.pp_text.specs.TextLaw.{EventFits}
 use Rattle.pp_runner.specs.declared.end.End.{End}
 use Rattle.pp_runner.specs.declared.end.End.TheVariants as ends
-use Rattle.pp_check.specs.TraceLine.{channel_in, channel_line, empty, event_said, full_with, inactive, is_digit, is_processor, line_said, number_behind, numbered_line, numeral, state_said, turn_line}
+use Rattle.pp_check.specs.TraceLine.{channel_in, channel_line, empty, parsed_event, full_with, inactive, is_digit, is_processor, parsed_line, number_after, numbered_line, numeral, parsed_state, turn_line}
 use Rattle.pp_check.specs.declared.trace_line.TraceLine.TheVariants.{AtTurn, Numbered, Other, Standing}
 use Rattle.pp_check.proofs.NumeralTextLemmas.{decimal_are, decimal_field, decimal_read, octal_field, octal_ink, octal_read}
 
@@ -44,15 +44,15 @@ pub is_channel_field : (c : ℕ) → IsField (channel_field c)
 is_channel_field c = record { some = omega arith; ink = octal_ink 2 c }
 
 pub processor_read : (n : ℕ) → IsTrue (names_processor n) → is_processor (processor_field n) ≡ true
-unfolding is_processor number_behind
+unfolding is_processor number_after
 processor_read n names = rw (octal_read 2 2 n (omega arith) (omega arith) (omega (arith, processor_places.number_fits n names)), names) refl
 
 pub channel_read : (c : ℕ) → IsTrue (names_channel c) → channel_in (channel_field c) ≡ Some c
-unfolding channel_in number_behind
+unfolding channel_in number_after
 channel_read c names = rw (octal_read 2 2 c (omega arith) (omega arith) (omega (arith, channel_places.number_fits c names)), names) refl
 
 pub channel_no_processor : (c : ℕ) → is_processor (channel_field c) ≡ false
-unfolding is_processor number_behind
+unfolding is_processor number_after
 channel_no_processor c = refl
 
 -- a field of digits is neither
@@ -64,11 +64,11 @@ digit_first first second (c ∷ text) late is =
     rw (ne_eqb c first (λ same. absurd (omega (arith, same, most, late)))) refl
 
 pub count_no_processor : (n : ℕ) → is_processor (decimal n) ≡ false
-unfolding is_processor number_behind
+unfolding is_processor number_after
 count_no_processor n = rw (digit_first 80 80 (decimal n) (omega arith) (decimal_are n)) refl
 
 pub count_no_channel : (n : ℕ) → channel_in (decimal n) ≡ None
-unfolding channel_in number_behind
+unfolding channel_in number_after
 count_no_channel n = rw (digit_first 67 72 (decimal n) (omega arith) (decimal_are n)) refl
 
 -- ---- events
@@ -91,8 +91,8 @@ event_tail (Put w) = word_field (codes "PUT") (record { some = omega arith; ink 
 event_tail (Take w) = word_field (codes "TAK") (record { some = omega arith; ink = refl }) w
 event_tail (Function w) = word_field (codes "FNC") (record { some = omega arith; ink = refl }) w
 
-event_read : (e : Event) → HasTwelveBitWord e → event_said (event_fields e) ≡ Some e
-unfolding event_fields event_said
+event_read : (e : Event) → HasTwelveBitWord e → parsed_event (event_fields e) ≡ Some e
+unfolding event_fields parsed_event
 event_read Activate bits = refl
 event_read Disconnect bits = refl
 event_read (Put w) bits = rw (octal_read 4 4 w (omega arith) (omega arith) (omega (arith, bits))) refl
@@ -145,10 +145,10 @@ body_fields e =
     fields_of_plain (event_body e) (plain_body e)
     ∙ tail_field (processor_field e.pp) _ _ (is_processor_field e.pp) (tail_field (channel_field e.channel) _ _ (is_channel_field e.channel) (event_tail e.event)) (decimal e.turn) (decimal_field e.turn)
 
-pub event_line_read : (e : Trace) → IsTold e → e.turn < 10 ^ 19 → line_said (fields_of (event_body e)) ≡ Some (AtTurn e.turn e.channel e.event)
-unfolding line_said turn_line
+pub event_line_read : (e : Trace) → EventFits e → e.turn < 10 ^ 19 → parsed_line (fields_of (event_body e)) ≡ Some (AtTurn e.turn e.channel e.event)
+unfolding parsed_line turn_line
 event_line_read e told below =
-    ap line_said (body_fields e)
+    ap parsed_line (body_fields e)
     ∙ rw (count_no_processor e.turn, count_no_channel e.turn, decimal_read e.turn below, processor_read e.pp told.pp, channel_read e.channel told.channel, event_read e.event told.word) refl
 
 -- ---- the line of a processor
@@ -183,11 +183,11 @@ plain_processor n pp said plain =
     (plain_more p (codes " A=" ++ octal 6 pp.a ++ state) (plain_octal 4 pp.p)
     (ap (list_all is_plain) (append_assoc (codes " A=") (octal 6 pp.a) state) ∙ plain_more (octal 6 pp.a) state (plain_octal 6 pp.a) plain))
 
-pub processor_line_read : (n : ℕ) (pp : Processor) (said : List ℕ) → list_all is_plain said ≡ true → IsTrue (names_processor n) → line_said (fields_of (processor_body n pp said)) ≡ Some Other
-unfolding line_said processor_body
+pub processor_line_read : (n : ℕ) (pp : Processor) (said : List ℕ) → list_all is_plain said ≡ true → IsTrue (names_processor n) → parsed_line (fields_of (processor_body n pp said)) ≡ Some Other
+unfolding parsed_line processor_body
 processor_line_read n pp said plain names =
     let rest = codes "P=" ++ octal 4 pp.p ++ (codes " A=" ++ octal 6 pp.a ++ (codes " " ++ said)) in
-    ap line_said (fields_of_plain (processor_body n pp said) (plain_processor n pp said plain) ∙ tail_blank rest (processor_field n) (is_processor_field n))
+    ap parsed_line (fields_of_plain (processor_body n pp said) (plain_processor n pp said plain) ∙ tail_blank rest (processor_field n) (is_processor_field n))
     ∙ rw (processor_read n names) refl
 
 -- ---- the line of an event with its number
@@ -212,10 +212,10 @@ plain_numbered c number n e =
     plain_more (channel_field c) (32 ∷ decimal number ++ (pp ++ event)) (plain_octal 2 c)
     (plain_more (32 ∷ decimal number) (pp ++ event) (ink_plain (decimal number) (decimal_field number).ink) (plain_more pp event (plain_octal 2 n) (plain_event e)))
 
-pub numbered_line_read : (c number n : ℕ) (e : Event) → IsTrue (names_channel c) → number < 10 ^ 19 → IsTrue (names_processor n) → HasTwelveBitWord e → line_said (fields_of (numbered_body c number n e)) ≡ Some (Numbered number c e)
-unfolding line_said channel_line numbered_body numbered_line
+pub numbered_line_read : (c number n : ℕ) (e : Event) → IsTrue (names_channel c) → number < 10 ^ 19 → IsTrue (names_processor n) → HasTwelveBitWord e → parsed_line (fields_of (numbered_body c number n e)) ≡ Some (Numbered number c e)
+unfolding parsed_line channel_line numbered_body numbered_line
 numbered_line_read c number n e names below author bits =
-    ap line_said (fields_of_plain (numbered_body c number n e) (plain_numbered c number n e)
+    ap parsed_line (fields_of_plain (numbered_body c number n e) (plain_numbered c number n e)
     ∙ tail_field (decimal number) (32 ∷ processor_field n ++ (32 ∷ event_text e)) (processor_field n ∷ event_fields e) (decimal_field number) (tail_field (processor_field n) (32 ∷ event_text e) (event_fields e) (is_processor_field n) (event_tail e)) (channel_field c) (is_channel_field c))
     ∙ rw (channel_no_processor c, channel_read c names, decimal_read number below, processor_read n author, event_read e bits) refl
 
@@ -255,10 +255,10 @@ pub channel_line_is : (c : ℕ) (e : Event) (h : List Event) → printed_channel
 unfolding channel_body
 channel_line_is c e h = simp append_assoc
 
-pub channel_line_read : (c : ℕ) (is_active : Bool) (word : Option ℕ) → IsTrue (names_channel c) → IfSome word (λ w. w < 2 ^ 12) → line_said (fields_of (channel_body c is_active word)) ≡ Some (Standing c (shown_state is_active word))
-unfolding line_said channel_line channel_body state_fields state_said shown_state numeral
+pub channel_line_read : (c : ℕ) (is_active : Bool) (word : Option ℕ) → IsTrue (names_channel c) → IfSome word (λ w. w < 2 ^ 12) → parsed_line (fields_of (channel_body c is_active word)) ≡ Some (Standing c (shown_state is_active word))
+unfolding parsed_line channel_line channel_body state_fields parsed_state shown_state numeral
 channel_line_read c is_active word names bits =
-    ap line_said (fields_of_plain (channel_body c is_active word) (plain_channel c is_active word)
+    ap parsed_line (fields_of_plain (channel_body c is_active word) (plain_channel c is_active word)
     ∙ state_tail is_active word (channel_field c) (is_channel_field c))
     ∙ rw (channel_no_processor c, channel_read c names) (by_word is_active word bits)
   where

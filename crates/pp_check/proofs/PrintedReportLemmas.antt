@@ -24,10 +24,10 @@ use Rattle.pp_runner.specs.declared.worker.Worker.{Worker}
 use Rattle.pp_report.proofs.AuthorLawLemmas.{only_openings}
 use Rattle.pp_report.specs.PrintedReport.{author_place, channel_events, end_text, line_by, named_worker_line, numbered_event_line, printed_report, worker_line}
 use Rattle.pp_text.specs.PrintedText.{each_below, used_channel_line}
-use Rattle.pp_report.specs.ReportLaw.{FitsItsLine, FitsItsReport, told_by}
-use Rattle.pp_check.specs.LawfulTrace.{AreLawful, IsLawfulTrace, event_on, events_on, history, is_opened, lines_said, opening}
+use Rattle.pp_report.specs.ReportLaw.{FitsItsLine, FitsItsReport, printed_by}
+use Rattle.pp_check.specs.LawfulTrace.{AreLawful, IsLawfulTrace, event_on, events_on, history, is_opened, parsed_lines, opening}
 use Rattle.pp_check.specs.PrintedTrace.{AreOpenedBy, IsPrintableReport}
-use Rattle.pp_check.specs.TraceLine.{line_said}
+use Rattle.pp_check.specs.TraceLine.{parsed_line}
 use Rattle.pp_check.specs.declared.trace_line.TraceLine.{TraceLine}
 use Rattle.pp_check.specs.declared.trace_line.TraceLine.TheVariants.{Numbered, Other}
 use Rattle.pp_check.proofs.KeepsLemmas.{event_line, numbered_here}
@@ -44,7 +44,7 @@ told_line : ℕ → ℕ → Event → Option ℕ → List TraceLine
 told_line c number e None = []
 told_line c number e (Some place) = Numbered number c e ∷ []
 
-reads_event : (c number : ℕ) (e : Event) (author : Option ℕ) → IsTrue (names_channel c) → number < 10 ^ 19 → IfSome (told_by number e author) FitsItsLine → Reads (line_by c number e author) (told_line c number e author)
+reads_event : (c number : ℕ) (e : Event) (author : Option ℕ) → IsTrue (names_channel c) → number < 10 ^ 19 → IfSome (printed_by number e author) FitsItsLine → Reads (line_by c number e author) (told_line c number e author)
 unfolding told_line
 reads_event c number e None names below fits = λ rest. refl
 reads_event c number e (Some place) names below fits =
@@ -70,16 +70,16 @@ told_from workers c k (e ∷ es) =
     told_line c k e (author_place c workers k) ++ told_from workers c (k + 1) es
 
 reads_from : {Z : Type 0} (workers : List (Worker Z)) (c : ℕ) → IsTrue (names_channel c) → (k : ℕ) (es : List Event)
-    → All FitsItsLine (filter_map (λ ((number, event) : ℕ × Event). told_by number event (author_place c workers number)) (enumerate_from k es))
+    → All FitsItsLine (filter_map (λ ((number, event) : ℕ × Event). printed_by number event (author_place c workers number)) (enumerate_from k es))
     → k + length es < 10 ^ 19 → Reads (flat_map (numbered_event_line c workers) (enumerate_from k es)) (told_from workers c k es)
 unfolding told_from numbered_event_line
 reads_from workers c names k [] fits few = λ rest. refl
 reads_from {Z} workers c names k (e ∷ es) fits few =
     let author = author_place c workers k in
-    let more = filter_map (λ ((number, event) : ℕ × Event). told_by number event (author_place c workers number)) (enumerate_from (k + 1) es) in
+    let more = filter_map (λ ((number, event) : ℕ × Event). printed_by number event (author_place c workers number)) (enumerate_from (k + 1) es) in
     reads_both (line_by c k e author) (flat_map (numbered_event_line c workers) (enumerate_from (k + 1) es)) (told_line c k e author) (told_from workers c (k + 1) es)
-    (reads_event c k e author names (omega (arith, few)) (first_fits FitsItsLine (told_by k e author) more fits))
-    (reads_from workers c names (k + 1) es (rest_fits FitsItsLine (told_by k e author) more fits) (omega (arith, few)))
+    (reads_event c k e author names (omega (arith, few)) (first_fits FitsItsLine (printed_by k e author) more fits))
+    (reads_from workers c names (k + 1) es (rest_fits FitsItsLine (printed_by k e author) more fits) (omega (arith, few)))
 
 by_author : (c k : ℕ) (e : Event) (o : Option ℕ) → (o ≡ None → ⊥) → told_line c k e o ≡ Numbered k c e ∷ []
 unfolding told_line
@@ -220,9 +220,9 @@ reads_worker n (Some worker) names =
     (reads_line (processor_body n worker.pp said) Other (plain_processor n worker.pp said (plain_end worker.finish)) (processor_line_read n worker.pp said (plain_end worker.finish) names))
 
 -- a text, and a line without fields behind it
-pub text_reads : (text : List ℕ) (lines : List TraceLine) → Reads text lines → map line_said (lines_of text) ≡ map (λ l. Some l) (lines ++ Other ∷ [])
+pub text_reads : (text : List ℕ) (lines : List TraceLine) → Reads text lines → map parsed_line (lines_of text) ≡ map (λ l. Some l) (lines ++ Other ∷ [])
 text_reads text lines reads =
-    ap (λ (t : List ℕ). map line_said (lines_of t)) (sym (append-nil text))
+    ap (λ (t : List ℕ). map parsed_line (lines_of t)) (sym (append-nil text))
     ∙ reads []
     ∙ ap (λ (more : List (Option TraceLine)). map (λ l. Some l) lines ++ more) no_text
     ∙ sym (map_both lines (Other ∷ []))
@@ -260,14 +260,14 @@ module _ {Z : Type 0} (named : List Bool) (report : Report Z) (opened : List Boo
   unfolding worker_lines
   reads_workers n = reads_if (is_named named n) _ (end_lines (slice_get report.ends.items (processor_index n))) (λ at. reads_worker n (slice_get report.ends.items (processor_index n)) (left_true (names_processor n) (slice_index_or named (processor_index n) false) at))
 
-  said : map line_said (lines_of (printed_report named report)) ≡ map (λ l. Some l) (((all_events ++ lines_below 0o100 worker_lines) ++ lines_below 0o100 (channel_lines report.channels)) ++ Other ∷ [])
+  said : map parsed_line (lines_of (printed_report named report)) ≡ map (λ l. Some l) (((all_events ++ lines_below 0o100 worker_lines) ++ lines_below 0o100 (channel_lines report.channels)) ++ Other ∷ [])
   unfolding printed_report all_events
   said =
       text_reads (printed_report named report) _ (reads_both (each_below 0o100 (channel_events report.ends.items report.channels) ++ each_below 0o100 (named_worker_line named report.ends.items)) (each_below 0o100 (used_channel_line report.channels)) _ _
       (reads_both (each_below 0o100 (channel_events report.ends.items report.channels)) (each_below 0o100 (named_worker_line named report.ends.items)) _ _ (reads_below 0o100 (channel_events report.ends.items report.channels) event_lines reads_events) (reads_below 0o100 (named_worker_line named report.ends.items) worker_lines reads_workers))
       (reads_below 0o100 (used_channel_line report.channels) (channel_lines report.channels) (reads_channel report.channels is.fits.channels)))
 
-  text_says : lines_said (lines_of (printed_report named report)) ≡ all_events ++ shown_lines
+  text_says : parsed_lines (lines_of (printed_report named report)) ≡ all_events ++ shown_lines
   unfolding shown_lines
   text_says = said_is (lines_of (printed_report named report)) _ said ∙ simp append_assoc
 
@@ -313,7 +313,7 @@ module _ {Z : Type 0} (named : List Bool) (report : Report Z) (opened : List Boo
     lawful = subst (IsLawfulTrace opened) (sym text_says) (lawful_shown opened all_events shown_lines (tell_below 0o100).lawful all_shown);
   }
 
-  pub report_histories : (c : ℕ) → IsTrue (names_channel c) → history opened (lines_said (lines_of (printed_report named report))) c ≡ history_on c report.channels
+  pub report_histories : (c : ℕ) → IsTrue (names_channel c) → history opened (parsed_lines (lines_of (printed_report named report))) c ≡ history_on c report.channels
   unfolding all_events
   report_histories c names =
       ap (λ (lines : List TraceLine). history opened lines c) text_says

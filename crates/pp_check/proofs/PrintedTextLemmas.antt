@@ -16,10 +16,10 @@ use Rattle.pp_machine.specs.MachineState.{MachineState, processor_of}
 use Rattle.pp_machine.specs.PpNo.{names_processor, processor_index, is_named}
 use Rattle.pp_machine.specs.declared.trace.Trace.{Trace}
 use Rattle.pp_text.specs.PrintedText.{each_below, event_line, channel_line, line_end, named_processor_line, printed, state_text, used_channel_line}
-use Rattle.pp_text.specs.TextLaw.{IsListed, IsTold}
-use Rattle.pp_check.specs.LawfulTrace.{lines_said}
+use Rattle.pp_text.specs.TextLaw.{HistoryFits, EventFits}
+use Rattle.pp_check.specs.LawfulTrace.{parsed_lines}
 use Rattle.pp_check.specs.PrintedTrace.{IsPrintable}
-use Rattle.pp_check.specs.TraceLine.{line_said}
+use Rattle.pp_check.specs.TraceLine.{parsed_line}
 use Rattle.pp_check.specs.declared.trace_line.TraceLine.{TraceLine}
 use Rattle.pp_check.specs.declared.trace_line.TraceLine.TheVariants.{AtTurn, Standing, Other}
 use Rattle.pp_check.proofs.FaultLemmas.{Says, Text}
@@ -29,7 +29,7 @@ use Rattle.pp_check.proofs.PrintedLineLemmas.{channel_body, channel_line_is, cha
 
 -- a text of whole lines says this, whatever follows it
 abbrev pub Reads : List ℕ → List TraceLine → Type 0
-Reads text lines = (rest : List ℕ) → map line_said (lines_of (text ++ rest)) ≡ map (λ l. Some l) lines ++ map line_said (lines_of rest)
+Reads text lines = (rest : List ℕ) → map parsed_line (lines_of (text ++ rest)) ≡ map (λ l. Some l) lines ++ map parsed_line (lines_of rest)
 
 pub map_both : (xs ys : List TraceLine) → map (λ l. Some l) (xs ++ ys) ≡ map (λ l. Some l) xs ++ map (λ l. Some l) ys
 map_both [] ys = refl
@@ -37,23 +37,23 @@ map_both (x ∷ xs) ys = ap (λ (more : List (Option TraceLine)). Some x ∷ mor
 
 pub reads_both : (a b : List ℕ) (xs ys : List TraceLine) → Reads a xs → Reads b ys → Reads (a ++ b) (xs ++ ys)
 reads_both a b xs ys first second = λ rest.
-    ap (λ (text : List ℕ). map line_said (lines_of text)) (append_assoc a b rest)
+    ap (λ (text : List ℕ). map parsed_line (lines_of text)) (append_assoc a b rest)
     ∙ first (b ++ rest)
     ∙ ap (λ (more : List (Option TraceLine)). map (λ l. Some l) xs ++ more) (second rest)
-    ∙ sym (append_assoc (map (λ l. Some l) xs) (map (λ l. Some l) ys) (map line_said (lines_of rest)))
-    ∙ ap (λ (said : List (Option TraceLine)). said ++ map line_said (lines_of rest)) (sym (map_both xs ys))
+    ∙ sym (append_assoc (map (λ l. Some l) xs) (map (λ l. Some l) ys) (map parsed_line (lines_of rest)))
+    ∙ ap (λ (said : List (Option TraceLine)). said ++ map parsed_line (lines_of rest)) (sym (map_both xs ys))
 
 no_line_feed : (body : List ℕ) → list_all is_plain body ≡ true → All (λ c. is_line_feed c ≡ false) body
 no_line_feed body plain = λ k d lt.
     let least = plain_least (get_or body k d) (AllPass-from_list_all is_plain body plain k d lt) in
     ne_eqb (get_or body k d) 10 (λ e. absurd (omega (arith, least, e)))
 
-pub reads_line : (body : List ℕ) (line : TraceLine) → list_all is_plain body ≡ true → line_said (fields_of body) ≡ Some line → Reads (body ++ line_end) (line ∷ [])
+pub reads_line : (body : List ℕ) (line : TraceLine) → list_all is_plain body ≡ true → parsed_line (fields_of body) ≡ Some line → Reads (body ++ line_end) (line ∷ [])
 unfolding lines_of
 reads_line body line plain is = λ rest.
-    ap (λ (text : List ℕ). map line_said (map fields_of (slice_split is_line_feed text))) (append_assoc body (10 ∷ []) rest)
-    ∙ ap (λ (parts : List (List ℕ)). map line_said (map fields_of parts)) (slice_split_at is_line_feed body 10 rest (no_line_feed body plain) refl)
-    ∙ ap (λ (o : Option TraceLine). o ∷ map line_said (map fields_of (slice_split is_line_feed rest))) is
+    ap (λ (text : List ℕ). map parsed_line (map fields_of (slice_split is_line_feed text))) (append_assoc body (10 ∷ []) rest)
+    ∙ ap (λ (parts : List (List ℕ)). map parsed_line (map fields_of parts)) (slice_split_at is_line_feed body 10 rest (no_line_feed body plain) refl)
+    ∙ ap (λ (o : Option TraceLine). o ∷ map parsed_line (map fields_of (slice_split is_line_feed rest))) is
 
 -- ---- the parts of the text
 
@@ -63,13 +63,13 @@ at_turn e = AtTurn e.turn e.channel e.event
 abbrev IsShort : Trace → Type 0
 IsShort e = e.turn < 10 ^ 19
 
-reads_trace : (trace : List Trace) → All IsTold trace → All IsShort trace → Reads (flat_map event_line trace) (map at_turn trace)
+reads_trace : (trace : List Trace) → All EventFits trace → All IsShort trace → Reads (flat_map event_line trace) (map at_turn trace)
 unfolding at_turn
 reads_trace [] told short = λ rest. refl
 reads_trace (e ∷ trace) told short =
     reads_both (event_line e) (flat_map event_line trace) (at_turn e ∷ []) (map at_turn trace)
-    (subst (λ (text : List ℕ). Reads text (at_turn e ∷ [])) (sym (event_line_is e)) (reads_line (event_body e) (at_turn e) (plain_body e) (event_line_read e (All-head IsTold e trace told) (All-head IsShort e trace short))))
-    (reads_trace trace (All-tail IsTold e trace told) (All-tail IsShort e trace short))
+    (subst (λ (text : List ℕ). Reads text (at_turn e ∷ [])) (sym (event_line_is e)) (reads_line (event_body e) (at_turn e) (plain_body e) (event_line_read e (All-head EventFits e trace told) (All-head IsShort e trace short))))
+    (reads_trace trace (All-tail EventFits e trace told) (All-tail IsShort e trace short))
 
 unfoldable pub lines_below : ℕ → (ℕ → List TraceLine) → List TraceLine
 lines_below zero f = []
@@ -107,14 +107,14 @@ unfoldable pub channel_lines : List (List Event) → ℕ → List TraceLine
 channel_lines histories c =
     if names_channel c then state_lines c (history_on c histories) else []
 
-reads_history : (c : ℕ) (h : List Event) → IsTrue (names_channel c) → IsListed h → Reads (channel_line c h) (state_lines c h)
+reads_history : (c : ℕ) (h : List Event) → IsTrue (names_channel c) → HistoryFits h → Reads (channel_line c h) (state_lines c h)
 unfolding state_lines
 reads_history c [] names fits = λ rest. refl
 reads_history c (e ∷ h) names fits =
     subst (λ (text : List ℕ). Reads text (state_lines c (e ∷ h))) (sym (channel_line_is c e h))
     (reads_line (channel_body c (active (e ∷ h)) (waiting (e ∷ h))) (Standing c (shown_state (active (e ∷ h)) (waiting (e ∷ h)))) (plain_channel c (active (e ∷ h)) (waiting (e ∷ h))) (channel_line_read c (active (e ∷ h)) (waiting (e ∷ h)) names fits))
 
-pub reads_channel : (histories : List (List Event)) → ((c : ℕ) → IsTrue (names_channel c) → IsListed (history_on c histories)) → (c : ℕ) → Reads (used_channel_line histories c) (channel_lines histories c)
+pub reads_channel : (histories : List (List Event)) → ((c : ℕ) → IsTrue (names_channel c) → HistoryFits (history_on c histories)) → (c : ℕ) → Reads (used_channel_line histories c) (channel_lines histories c)
 unfolding channel_lines
 reads_channel histories fits c = reads_if (names_channel c) _ (state_lines c (history_on c histories)) (λ is. reads_history c (history_on c histories) is (fits c is))
 
@@ -131,32 +131,32 @@ reads_printed named m is =
     (reads_below 0o100 (used_channel_line m.histories) (channel_lines m.histories) (reads_channel m.histories is.fits.channels))
 
 -- behind the last line feed stands a line without fields
-pub no_text : map line_said (lines_of []) ≡ Some Other ∷ []
-unfolding lines_of line_said
-no_text = ap (λ (fields : List (List ℕ)). line_said fields ∷ []) no_fields
+pub no_text : map parsed_line (lines_of []) ≡ Some Other ∷ []
+unfolding lines_of parsed_line
+no_text = ap (λ (fields : List (List ℕ)). parsed_line fields ∷ []) no_fields
 
-pub whole_text : (named : List Bool) (m : MachineState) → IsPrintable named m → map line_said (lines_of (printed named m)) ≡ map (λ l. Some l) (said_lines named m ++ Other ∷ [])
+pub whole_text : (named : List Bool) (m : MachineState) → IsPrintable named m → map parsed_line (lines_of (printed named m)) ≡ map (λ l. Some l) (said_lines named m ++ Other ∷ [])
 whole_text named m is =
-    ap (λ (text : List ℕ). map line_said (lines_of text)) (sym (append-nil (printed named m)))
+    ap (λ (text : List ℕ). map parsed_line (lines_of text)) (sym (append-nil (printed named m)))
     ∙ reads_printed named m is []
     ∙ ap (λ (more : List (Option TraceLine)). map (λ l. Some l) (said_lines named m) ++ more) no_text
     ∙ sym (map_both (said_lines named m) (Other ∷ []))
 
 -- each line says something, and together they say this
-pub all_said : (text : Text) (lines : List TraceLine) → map line_said text ≡ map (λ l. Some l) lines → All Says text
+pub all_said : (text : Text) (lines : List TraceLine) → map parsed_line text ≡ map (λ l. Some l) lines → All Says text
 all_said [] lines is = All-nil Says
 all_said (x ∷ text) [] is = absurd (cc)
 all_said (x ∷ text) (l ∷ lines) is =
-    let here : line_said x ≡ Some l = cc in
-    let more : map line_said text ≡ map (λ l. Some l) lines = cc in
+    let here : parsed_line x ≡ Some l = cc in
+    let more : map parsed_line text ≡ map (λ l. Some l) lines = cc in
     All-cons Says x text (subst IsSome (sym here) refl) (all_said text lines more)
 
-pub said_is : (text : Text) (lines : List TraceLine) → map line_said text ≡ map (λ l. Some l) lines → lines_said text ≡ lines
-unfolding lines_said
+pub said_is : (text : Text) (lines : List TraceLine) → map parsed_line text ≡ map (λ l. Some l) lines → parsed_lines text ≡ lines
+unfolding parsed_lines
 said_is [] [] is = refl
 said_is [] (l ∷ lines) is = absurd (cc)
 said_is (x ∷ text) [] is = absurd (cc)
 said_is (x ∷ text) (l ∷ lines) is =
-    let here : line_said x ≡ Some l = cc in
-    let more : map line_said text ≡ map (λ l. Some l) lines = cc in
-    ap (λ (o : Option TraceLine). cons_option o (filter_map line_said text)) here ∙ ap (λ (ls : List TraceLine). l ∷ ls) (said_is text lines more)
+    let here : parsed_line x ≡ Some l = cc in
+    let more : map parsed_line text ≡ map (λ l. Some l) lines = cc in
+    ap (λ (o : Option TraceLine). cons_option o (filter_map parsed_line text)) here ∙ ap (λ (ls : List TraceLine). l ∷ ls) (said_is text lines more)

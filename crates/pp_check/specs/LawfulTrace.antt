@@ -7,7 +7,7 @@ use Rattle.pp_channel.specs.History.{IsLawful}
 use Rattle.pp_channel.specs.declared.event.Event.{Event}
 use Rattle.pp_channel.specs.declared.event.Event.TheVariants.{Activate}
 use Rattle.pp_deck.specs.DeckText.{Fields}
-use Rattle.pp_check.specs.TraceLine.{line_said}
+use Rattle.pp_check.specs.TraceLine.{parsed_line}
 use Rattle.pp_check.specs.declared.trace_line.TraceLine.{TraceLine}
 use Rattle.pp_check.specs.declared.trace_line.TraceLine.TheVariants.{AtTurn, Numbered, Standing, Other}
 
@@ -70,10 +70,10 @@ pub record IsLawfulTrace (opened : List Bool) (lines : List TraceLine) : Type 0 
       → Fits opened (take k lines) (slice_index_or lines k Other)
 
 -- what lines of a text say, each by its fields
-unfoldable pub lines_said : List Fields → List TraceLine
-lines_said text = filter_map line_said text
+unfoldable pub parsed_lines : List Fields → List TraceLine
+parsed_lines text = filter_map parsed_line text
 
 -- Lines of a text are a lawful trace: each says something, and what they say is lawful.
 pub record AreLawful (opened : List Bool) (text : List Fields) : Type 0 where
-  pub said : All (λ line. IsSome (line_said line)) text
-  pub lawful : IsLawfulTrace opened (lines_said text)
+  pub said : All (λ line. IsSome (parsed_line line)) text
+  pub lawful : IsLawfulTrace opened (parsed_lines text)

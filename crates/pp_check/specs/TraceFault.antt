@@ -4,8 +4,8 @@ use Rattle.pp_channel.specs.Answer.{channel_state}
 use Rattle.pp_channel.specs.History.{IsLawful}
 use Rattle.pp_channel.specs.declared.event.Event.{Event}
 use Rattle.pp_deck.specs.DeckText.{Fields}
-use Rattle.pp_check.specs.LawfulTrace.{AreLawful, Fits, event_on, history, last_turn, lines_said, turn_of}
-use Rattle.pp_check.specs.TraceLine.{line_said}
+use Rattle.pp_check.specs.LawfulTrace.{AreLawful, Fits, event_on, history, last_turn, parsed_lines, turn_of}
+use Rattle.pp_check.specs.TraceLine.{parsed_line}
 use Rattle.pp_check.specs.declared.trace_fault.TraceFault.{TraceFault}
 use Rattle.pp_check.specs.declared.trace_fault.TraceFlaw.{TraceFlaw}
 use Rattle.pp_check.specs.declared.trace_fault.TraceFlaw.TheVariants.{Malformed, TurnNotRising, WrongNumber, UnlawfulEvent, WrongState}
@@ -40,5 +40,5 @@ pub record IsFault (opened : List Bool) (text : List Fields) (fault : TraceFault
   pub counted : 0 < fault.line
   pub within : fault.line ≤ length text
   pub before : AreLawful opened (take (fault.line - 1) text)
-  pub flaw : IsFlaw opened (lines_said (take (fault.line - 1) text))
-      (line_said (slice_index_or text (fault.line - 1) [])) fault.flaw
+  pub flaw : IsFlaw opened (parsed_lines (take (fault.line - 1) text))
+      (parsed_line (slice_index_or text (fault.line - 1) [])) fault.flaw

@@ -34,18 +34,18 @@ numeral base most field =
     then Some (value_of base field) else None
 
 -- the number after two letters, in at most two octal digits
-unfoldable pub number_behind : List ℕ → Field → Option ℕ
-number_behind letters field =
+unfoldable pub number_after : List ℕ → Field → Option ℕ
+number_after letters field =
     if bytes_eq (take 2 field) letters then numeral 8 2 (drop 2 field) else None
 
 -- whether a field is `PP00` or another processor's
 unfoldable pub is_processor : Field → Bool
-is_processor field = is_some (number_behind (codes "PP") field >>= λ n.
+is_processor field = is_some (number_after (codes "PP") field >>= λ n.
     if names_processor n then Some n else None)
 
 -- the channel of a field like `CH05`
 unfoldable pub channel_in : Field → Option ℕ
-channel_in field = number_behind (codes "CH") field >>= λ c.
+channel_in field = number_after (codes "CH") field >>= λ c.
     if names_channel c then Some c else None
 
 -- ---- the fields of a line, from left to right
@@ -64,19 +64,19 @@ last_word [] = None
 last_word (field ∷ fields) = if are_over fields then numeral 8 4 field else None
 
 -- what follows a processor
-abbrev pub behind_processor : Fields → Option Fields
-behind_processor [] = None
-behind_processor (field ∷ fields) = if is_processor field then Some fields else None
+abbrev pub after_processor : Fields → Option Fields
+after_processor [] = None
+after_processor (field ∷ fields) = if is_processor field then Some fields else None
 
 -- a channel, and what follows it
-abbrev pub behind_channel : Fields → Option (ℕ × Fields)
-behind_channel [] = None
-behind_channel (field ∷ fields) = channel_in field >>= λ c. Some (c, fields)
+abbrev pub after_channel : Fields → Option (ℕ × Fields)
+after_channel [] = None
+after_channel (field ∷ fields) = channel_in field >>= λ c. Some (c, fields)
 
 -- `ACN`, `DCN`, `PUT 0007`, `TAK 0007`, `FNC 0007`
-unfoldable pub event_said : Fields → Option Event
-event_said [] = None
-event_said (name ∷ fields) =
+unfoldable pub parsed_event : Fields → Option Event
+parsed_event [] = None
+parsed_event (name ∷ fields) =
     if bytes_eq name (codes "ACN") then alone Activate fields
     else if bytes_eq name (codes "DCN") then alone Disconnect fields
     else if bytes_eq name (codes "PUT") then option_map (λ w. Put w) (last_word fields)
@@ -104,8 +104,8 @@ active_said (field ∷ fields) =
     else None
 
 -- `INACTIVE`, `ACTIVE EMPTY`, `ACTIVE FULL 0007`
-unfoldable pub state_said : Field → Fields → Option ChannelState
-state_said field fields =
+unfoldable pub parsed_state : Field → Fields → Option ChannelState
+parsed_state field fields =
     if bytes_eq field (codes "INACTIVE") then alone inactive fields
     else if bytes_eq field (codes "ACTIVE") then active_said fields
     else None
@@ -116,22 +116,22 @@ state_said field fields =
 unfoldable pub turn_line : Field → Fields → Option TraceLine
 turn_line field fields = do
   turn ← numeral 10 19 field
-  behind ← behind_processor fields
-  there ← behind_channel behind
-  event ← event_said there.1
+  behind ← after_processor fields
+  there ← after_channel behind
+  event ← parsed_event there.1
   Some (AtTurn turn there.0 event)
 
 -- `000001 PP00 PUT 0007` after `CH05`: event number 1 of channel 5
 unfoldable pub numbered_line : ℕ → ℕ → Fields → Option TraceLine
 numbered_line c number fields = do
-  behind ← behind_processor fields
-  event ← event_said behind
+  behind ← after_processor fields
+  event ← parsed_event behind
   Some (Numbered number c event)
 
 -- what follows `CH05`: an event with its number, or the state of the channel
 abbrev pub channel_line_by : ℕ → Option ℕ → Field → Fields → Option TraceLine
 channel_line_by c (Some number) field fields = numbered_line c number fields
-channel_line_by c None field fields = option_map (λ s. Standing c s) (state_said field fields)
+channel_line_by c None field fields = option_map (λ s. Standing c s) (parsed_state field fields)
 
 unfoldable pub channel_line : ℕ → Fields → Option TraceLine
 channel_line c [] = None
@@ -144,6 +144,6 @@ line_by false None field fields = turn_line field fields
 
 -- What a line says, if it is one of a trace. A line without fields says nothing, and one that
 -- begins with a processor speaks of that processor alone.
-unfoldable pub line_said : Fields → Option TraceLine
-line_said [] = Some Other
-line_said (field ∷ fields) = line_by (is_processor field) (channel_in field) field fields
+unfoldable pub parsed_line : Fields → Option TraceLine
+parsed_line [] = Some Other
+parsed_line (field ∷ fields) = line_by (is_processor field) (channel_in field) field fields

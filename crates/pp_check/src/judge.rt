@@ -4,7 +4,7 @@ ghost use Rattle.std.specs.Prelude.{◌≡◌, ◌+◌, ◌*◌, ◌<◌, ◌≤
 ghost use Rattle.pp_deck.specs.DeckText.{fields_of};
 ghost use Rattle.pp_check.specs.Judge.{Happens, IsJudged, IsRead, Keeps, KeepsEvents, KeepsSome};
 ghost use Rattle.pp_check.specs.LawfulTrace.{Fits, event_on};
-ghost use Rattle.pp_check.specs.TraceLine.{line_said};
+ghost use Rattle.pp_check.specs.TraceLine.{parsed_line};
 ghost use Rattle.pp_check.specs.Verdict.{is_activate, verdict_of};
 ghost use Rattle.pp_check.specs.declared.trace_line.TraceLine.{TraceLine};
 
@@ -17,7 +17,7 @@ use pp_deck::Fields;
 
 /// What is kept of the lines so far: each channel's state, the last turn, and the numbers of events
 /// and of sessions begun. It takes no memory that grows.
-#[derive(Clone, Copy, Debug)]
+#[derive(Clone, Copy)]
 pub(crate) struct Judge {
     pub(crate) channels: [Standing; CHANNELS],
     pub(crate) last_turn: Option<u64>,
@@ -49,7 +49,7 @@ impl Judge {
         requires room { self.old.events < 2 ^ 63 }
         requires kept { KeepsSome self.old }
         ensures judged { (opened : List Bool) (lines : List TraceLine) → Keeps opened lines self.old
-            → IsRead opened lines (line_said (fields_of line.now)) self.new result }
+            → IsRead opened lines (parsed_line (fields_of line.now)) self.new result }
         ensures room { OnOk result
             (2 * self.new.events ≤ 2 * self.old.events + length line.now + 1) }
         ensures no_empty_flaw { IsErr result → 0 < length line.now }

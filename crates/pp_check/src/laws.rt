@@ -17,7 +17,7 @@ ghost use Rattle.pp_runner.specs.declared.report.Report.{Report};
 ghost use Rattle.pp_report.specs.PrintedReport.{printed_report};
 ghost use Rattle.pp_text.specs.PrintedText.{printed};
 ghost use Rattle.pp_text.specs.TextLaw.{FitsItsText};
-ghost use Rattle.pp_check.specs.LawfulTrace.{AreLawful, IsLawfulTrace, events_on, history, lines_said, turns};
+ghost use Rattle.pp_check.specs.LawfulTrace.{AreLawful, IsLawfulTrace, events_on, history, parsed_lines, turns};
 ghost use Rattle.pp_check.specs.PrintedTrace.{AreOpenedBy, IsPrintable, IsPrintableReport};
 ghost use Rattle.pp_check.specs.TraceFault.{IsFault};
 ghost use Rattle.pp_check.specs.declared.trace_fault.TraceFault.{TraceFault};
@@ -28,7 +28,7 @@ use pp_deck::deck_law;
 use pp_machine::run_law;
 use std::alloc::Allocator;
 
-/// The fault of a text is the first line at which no lawful history is left: the lines before it
+/// The fault of a text is at the first line with which it is no lawful trace: the lines before it
 /// are lawful, and so are all prefixes of these, and no lines that contain it are. A text has at
 /// most one fault, flaw and all, and a lawful text has none.
 pub fn fault_law()
@@ -63,7 +63,7 @@ pub fn printed_law()
         → AreLawful opened (lines_of (printed named m)) }
     ensures events { (named : List Bool) (m : MachineState) (opened : List Bool)
         → IsPrintable named m → AreOpenedBy m opened
-        → (c : ℕ) → events_on c (lines_said (lines_of (printed named m)))
+        → (c : ℕ) → events_on c (parsed_lines (lines_of (printed named m)))
         ≡ trace_events_on c m.trace }
 {}
 
@@ -93,6 +93,6 @@ pub fn printed_report_law<A: Allocator>()
         (report : Report A) (opened : List Bool) → IsPrintableReport named limits m report
         → AreOpenedBy m opened
         → (c : ℕ) → IsTrue (names_channel c)
-        → history opened (lines_said (lines_of (printed_report named report))) c
+        → history opened (parsed_lines (lines_of (printed_report named report))) c
         ≡ history_on c report.channels }
 {}

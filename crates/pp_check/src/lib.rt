@@ -1,5 +1,5 @@
-//! The judge of a channel trace, whoever made it: line by line, its events are those of lawful
-//! histories, or the first line at which no lawful history is left is named.
+//! The judge of a channel trace, whoever made it: it accepts a lawful trace, and names the first
+//! line with which any other text is none.
 #![tactic(auto)]
 
 mod channel_list;

@@ -6,7 +6,7 @@ ghost use Rattle.pp_check.specs.Judge.{next_number};
 use pp_channel::ChannelState;
 
 /// A channel's state, how many of its events were read, and whether it was opened before them.
-#[derive(Clone, Copy, Debug, PartialEq, Eq)]
+#[derive(Clone, Copy)]
 pub(crate) struct Standing {
     pub(crate) state: ChannelState,
     pub(crate) events: u64,

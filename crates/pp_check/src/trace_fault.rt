@@ -26,8 +26,8 @@ pub enum TraceFlaw {
     WrongState(ChannelNo, ChannelState, ChannelState),
 }
 
-/// Why a trace is not lawful: the first line at which no lawful history is left, from 1 on
-/// (decimal), and what is wrong with it.
+/// Why a text is no lawful trace: the first line with which it is none, from 1 on (decimal), and
+/// what is wrong with it.
 #[derive(Clone, Copy, Debug, PartialEq, Eq, Error)]
 #[error("line {}: {}", .line, .flaw)]
 pub struct TraceFault {

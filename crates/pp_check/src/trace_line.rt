@@ -1,7 +1,7 @@
 //! What a line of a trace says.
 
 ghost use Rattle.std.specs.Prelude.{◌≡◌, ◌<◌, Some, None, MatchOption, is_some, length, if◌then◌else◌};
-ghost use Rattle.pp_check.specs.TraceLine.{active_said, are_over, behind_channel, behind_processor, channel_in, channel_line, event_said, is_processor, last_word, line_said, number_behind, numbered_line, state_said, turn_line};
+ghost use Rattle.pp_check.specs.TraceLine.{active_said, are_over, after_channel, after_processor, channel_in, channel_line, parsed_event, is_processor, last_word, parsed_line, number_after, numbered_line, parsed_state, turn_line};
 
 use crate::numeral::numeral;
 use pp_channel::{ChannelNo, ChannelState, Event, Flags};
@@ -10,7 +10,7 @@ use pp_machine::PpNo;
 use pp_word::Word12;
 
 /// What one line of a trace says.
-#[derive(Clone, Copy, Debug, PartialEq, Eq)]
+#[derive(Clone, Copy)]
 pub(crate) enum TraceLine {
     /// An event in a turn, on a channel.
     AtTurn(u64, ChannelNo, Event),
@@ -26,9 +26,9 @@ pub(crate) enum TraceLine {
 const COUNT_DIGITS: usize = 19;
 
 /// What a line with these fields says.
-#[tactic(auto, unfolding(crate::specs::TraceLine::line_said))]
+#[tactic(auto, unfolding(crate::specs::TraceLine::parsed_line))]
 pub(crate) fn line_in(fields: &mut Fields) -> Option<TraceLine>
-    ensures { result ≡ line_said fields.old }
+    ensures { result ≡ parsed_line fields.old }
 {
     let Some(field) = fields.next_field() else {
         return Some(TraceLine::Other);
@@ -48,8 +48,8 @@ fn turn_line(field: &[u8], fields: &mut Fields) -> Option<TraceLine>
     ensures { result ≡ turn_line field.now fields.old }
 {
     let turn = numeral(10, COUNT_DIGITS, field)?;
-    behind_processor(fields)?;
-    let channel = behind_channel(fields)?;
+    after_processor(fields)?;
+    let channel = after_channel(fields)?;
     let event = event_in(fields)?;
     Some(TraceLine::AtTurn(turn, channel, event))
 }
@@ -71,15 +71,15 @@ fn channel_line(channel: ChannelNo, fields: &mut Fields) -> Option<TraceLine>
 fn numbered_line(channel: ChannelNo, number: u64, fields: &mut Fields) -> Option<TraceLine>
     ensures { result ≡ numbered_line channel number fields.old }
 {
-    behind_processor(fields)?;
+    after_processor(fields)?;
     let event = event_in(fields)?;
     Some(TraceLine::Numbered(number, channel, event))
 }
 
 /// `ACN`, `DCN`, `PUT 0007`, `TAK 0007`, `FNC 0007`.
-#[tactic(auto, unfolding(crate::specs::TraceLine::event_said))]
+#[tactic(auto, unfolding(crate::specs::TraceLine::parsed_event))]
 fn event_in(fields: &mut Fields) -> Option<Event>
-    ensures { result ≡ event_said fields.old }
+    ensures { result ≡ parsed_event fields.old }
 {
     let name = fields.next_field()?;
     if name == b"ACN".as_slice() {
@@ -106,9 +106,9 @@ fn event_in(fields: &mut Fields) -> Option<Event>
 }
 
 /// `INACTIVE`, `ACTIVE EMPTY`, `ACTIVE FULL 0007`, with its first field.
-#[tactic(auto, unfolding(crate::specs::TraceLine::state_said))]
+#[tactic(auto, unfolding(crate::specs::TraceLine::parsed_state))]
 fn state_in(field: &[u8], fields: &mut Fields) -> Option<ChannelState>
-    ensures { result ≡ state_said field.now fields.old }
+    ensures { result ≡ parsed_state field.now fields.old }
 {
     if field == b"INACTIVE".as_slice() {
         if are_over(fields) {
@@ -169,18 +169,18 @@ fn last_word(fields: &mut Fields) -> Option<Word12>
 }
 
 /// Skips a processor.
-fn behind_processor(fields: &mut Fields) -> Option<()>
-    ensures { MatchOption result (behind_processor fields.old ≡ None)
-        (λ _. behind_processor fields.old ≡ Some fields.new) }
+fn after_processor(fields: &mut Fields) -> Option<()>
+    ensures { MatchOption result (after_processor fields.old ≡ None)
+        (λ _. after_processor fields.old ≡ Some fields.new) }
 {
     let field = fields.next_field()?;
     if is_processor(field) { Some(()) } else { None }
 }
 
 /// The next field, a channel.
-fn behind_channel(fields: &mut Fields) -> Option<ChannelNo>
-    ensures { MatchOption result (behind_channel fields.old ≡ None)
-        (λ c. behind_channel fields.old ≡ Some (c, fields.new)) }
+fn after_channel(fields: &mut Fields) -> Option<ChannelNo>
+    ensures { MatchOption result (after_channel fields.old ≡ None)
+        (λ c. after_channel fields.old ≡ Some (c, fields.new)) }
 {
     let field = fields.next_field()?;
     channel_in(field)
@@ -191,7 +191,7 @@ fn behind_channel(fields: &mut Fields) -> Option<ChannelNo>
 fn is_processor(field: &[u8]) -> bool
     ensures { result ≡ is_processor field.now }
 {
-    match number_behind(b"PP".as_slice(), field) {
+    match number_after(b"PP".as_slice(), field) {
         Some(number) => PpNo::new(number).is_some(),
         None => false,
     }
@@ -202,14 +202,14 @@ fn is_processor(field: &[u8]) -> bool
 fn channel_in(field: &[u8]) -> Option<ChannelNo>
     ensures { result ≡ channel_in field.now }
 {
-    ChannelNo::new(number_behind(b"CH".as_slice(), field)?)
+    ChannelNo::new(number_after(b"CH".as_slice(), field)?)
 }
 
 /// The number after two letters, in at most two octal digits.
-#[tactic(auto, unfolding(crate::specs::TraceLine::number_behind))]
-fn number_behind(letters: &[u8], field: &[u8]) -> Option<u8>
+#[tactic(auto, unfolding(crate::specs::TraceLine::number_after))]
+fn number_after(letters: &[u8], field: &[u8]) -> Option<u8>
     requires { length letters.now ≡ 2 }
-    ensures { result ≡ number_behind letters.now field.now }
+    ensures { result ≡ number_after letters.now field.now }
 {
     let digits = field.strip_prefix(letters)?;
     let number = numeral(8, 2, digits)?;

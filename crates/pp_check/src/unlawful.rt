@@ -4,7 +4,7 @@ use pp_channel::{ChannelNo, ChannelState, Event};
 use std::fmt::{self, Display, Formatter, Write};
 
 /// A channel, an event that may not come on it, and the channel's state.
-#[derive(Clone, Copy, Debug)]
+#[derive(Clone, Copy)]
 pub(crate) struct Unlawful(
     pub(crate) ChannelNo,
     pub(crate) Event,

@@ -48,7 +48,7 @@ file_argument = record (new_rule (codes "file")) { action = Some Set; value_name
 abbrev pub command : Text → List Rule → App
 command name options = with_rule (fold with_rule (new_app name) options) file_argument
 
--- a command that makes a run of so many turns
+-- a command that makes a run of some turns
 abbrev pub turns_command : Text → App
 turns_command name = command name (number_option (codes "turns") ∷ processors_option ∷ [])
 
@@ -99,7 +99,7 @@ ppsim = with_commands bare (turns_command (codes "barrel") ∷ threads ∷ list
     ∷ turns_command (codes "ends") ∷ memory ∷ central ∷ sessions
     ∷ turns_command (codes "races") ∷ draw ∷ check ∷ [])
 
--- the kinds of refusal that clap's parse may give to the words: none where they are a command line
+-- the kinds of refusal that clap's parse may give to the words: none if they are a command line
 unfoldable pub refusals : List Text → Kinds
 refusals words = fault_of ppsim words
 
@@ -110,7 +110,7 @@ abbrev pub ReadsNumber : Option Text → ℕ → Type 0
 ReadsNumber None n = ⊥
 ReadsNumber (Some text) n = ParsesUnsigned {E = ℕ} 32 10 text (Ok n)
 
--- the profile with this many processors; the 6600's own where none is said
+-- the profile with as many processors as the text says; the 6600's own if there is none
 abbrev pub ReadsProfile : Option Text → Profile → Type 0
 ReadsProfile None profile = profile ≡ Profile.Ten
 ReadsProfile (Some text) profile = ReadsNumber (Some text) (processors_in profile)
@@ -145,7 +145,7 @@ ReadsBounds size value_of bounds =
     × ReadsAddress (size - 1) (value_of (codes "last")) bounds.last
     × ((bounds.first ≤ bounds.last) × (bounds.last < size))
 
--- the end of the turns to draw, that of the run where none is said
+-- the end of the turns to draw, that of the run if none is given
 abbrev pub ReadsEnd : ℕ → Option Text → ℕ → Type 0
 ReadsEnd turns None to = to ≡ turns
 ReadsEnd turns (Some text) to = ReadsNumber (Some text) to × (to ≤ turns)
@@ -160,7 +160,7 @@ ReadsWindow value_of w = (turns : ℕ) × ReadsTurns value_of turns
     × ReadsEnd turns (value_of (codes "to")) w.to × ReadsTurn 0 (value_of (codes "from")) w.from
     × (w.from ≤ w.to)
 
--- the channels of a list as `1,5,13`, by flags in the order of their places; none if none is said
+-- the channels of a list as `1,5,13`, by flags in the order of their places; none if none is given
 abbrev pub ReadsChannels : Option Text → List Bool → Type 0
 ReadsChannels None flags = flags ≡ replicate channel_count false
 ReadsChannels (Some text) flags = AreListed text flags
@@ -252,9 +252,10 @@ NamesAmong (Some (name, rows)) file = ReadsFile (first_of (codes "file") rows) f
 abbrev pub Name : List Text → Option Text → Type 0
 Name words file = NamesAmong (subcommand_of ppsim words) file
 
--- what each refusal says of the words: it is one of clap's, and not for want of memory; or the
--- words are a command line, and no work is asked for within the ranges: `Picture` where they ask
--- for a picture of more turns than one has, `Number` in all other cases
+-- what each refusal says of the words: `Memory` nothing; `Refused` that its kind is among those
+-- that clap may give to them, and is not want of memory; the others that they are a command line
+-- and ask for no work within the ranges: `Picture` if they ask for a picture of more turns than one
+-- has, `Number` in all other cases
 abbrev pub IsRefused : List Text → LineFault → Type 0
 IsRefused words LineFault.Memory = Unit {0}
 IsRefused words (LineFault.Refused error) =
@@ -264,7 +265,7 @@ IsRefused words LineFault.Number = (refusals words ≡ []) × ((work : Work) →
 IsRefused words LineFault.Picture = (refusals words ≡ []) × ((work : Work) → ¬ AskFor words work)
     × AsksForMoreAmong (subcommand_of ppsim words)
 
--- the fault that clap's error makes: want of memory is told as such
+-- the fault that clap's error makes: want of memory is reported as such
 abbrev pub IsFaultBy : Error → LineFault → Type 0
 IsFaultBy error LineFault.Memory = kind_of error ≡ OutOfMemory
 IsFaultBy error (LineFault.Refused told) = (told ≡ error) × (kind_of error ≢ OutOfMemory)

@@ -39,8 +39,8 @@ fn number_of(matches: &ArgMatches<'_>, id: &str) -> Option<u32>
     value_of(matches, id)?.parse::<u32>().ok()
 }
 
-/// The profile with as many processors as the options say, if there is one; the 6600's own where
-/// they do not say it.
+/// The profile with as many processors as the options say, if there is one; the 6600's own if they
+/// do not say it.
 fn profile_of(matches: &ArgMatches<'_>) -> Option<Profile>
     ensures { Finds (ReadsProfile (value_in matches.now (codes "processors"))) result }
 {
@@ -54,7 +54,7 @@ fn profile_of(matches: &ArgMatches<'_>) -> Option<Profile>
     }
 }
 
-/// The limits of two numbers, if they are in range. The ranges that the help tells are those of
+/// The limits of two numbers, if they are in range. The ranges printed in the help are those of
 /// `Limits`.
 fn limits_of(steps: u32, patience: u32) -> Option<Limits>
     ensures exists { IsSome result ↔ AreLimits (record { steps = steps; patience = patience }) }
@@ -145,8 +145,8 @@ fn turn_of(matches: &ArgMatches<'_>, id: &str, default: u32) -> Option<u32>
     }
 }
 
-/// The turn before which a picture of a run of so many turns ends, if it is in range; that of the
-/// run where the options do not say it.
+/// The turn before which a picture of a run of `turns` turns ends, if it is in range; that of the
+/// run if the options do not say it.
 fn end_of(matches: &ArgMatches<'_>, turns: u32) -> Option<u32>
     ensures { Finds (ReadsEnd turns (value_in matches.now (codes "to"))) result }
 {
@@ -194,7 +194,7 @@ fn asks_for_more(name: &str, matches: &ArgMatches<'_>) -> bool
 }
 
 /// The channels that the options say to be open, by flags in the order of their places, if they are
-/// channels; none where the options do not say any.
+/// channels; none if the options do not name any.
 fn opened_of(matches: &ArgMatches<'_>) -> Option<[bool; CHANNELS]>
     ensures { Finds (ReadsChannels (value_in matches.now (codes "opened"))) result }
 {
@@ -363,8 +363,8 @@ pub fn read_words<'a>(alloc: Global, words: &'a [&'a str]) -> Result<Asked<'a>, 
         (option_map (λ s. s.now) asked.file)) }
     ensures taken { OnOk result (refusals (map (λ s. s.now) words.entry.now) ≡ []) }
     // One of clap's refusals of these words, and not for want of memory; or the words are a command
-    // line, and no work is asked for within the ranges, where a picture of more turns than it has
-    // is told as that, and nothing else is.
+    // line, and no work is asked for within the ranges: `Picture` for a picture of more turns than
+    // one has, and for nothing else.
     ensures refused { IfErr result (IsRefused (map (λ s. s.now) words.entry.now)) }
 {
     let Ok(command) = command(alloc) else {

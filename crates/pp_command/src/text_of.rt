@@ -27,13 +27,13 @@ pub enum TextOf {
     Barrel(u32),
     /// The listing. Nothing is run.
     List,
-    /// The dump after a run of this many turns: a deck to go on from. Where a processor is within a
+    /// The dump after a run of this many turns: a deck to go on from. If a processor is within a
     /// block or at fault, or a channel is active, there is none.
     Dump(u32),
     /// How things stand after a run of this many turns: the processors in use, what differs from
     /// the load, and the channels.
     State(u32),
-    /// How a run ends, as far as this many turns tell: at rest, stuck, in a repetition or going on;
+    /// How a run ends, as far as this many turns show: at rest, stuck, in a repetition or going on;
     /// and how the processors in use and the channels stand then.
     Ends(u32),
     /// The words of a processor's memory after a run of this many turns, at the places within the
@@ -56,9 +56,9 @@ pub enum TextOf {
         turns: u32,
         words: bool,
     },
-    /// Which steps of a run of this many turns race with others, which processors are not settled
-    /// at its end, and which central words are shared; or that it tells the result of every order
-    /// of steps.
+    /// Which steps of a run of this many turns may race with others, which processors are not
+    /// settled at its end, and which central words are shared; or that it determines the result of
+    /// every order of steps.
     Races(u32),
     /// The steps chosen of a run of this many turns. Memory grows with the lines of held steps, and
     /// not with the others.

@@ -12,8 +12,8 @@ pub enum Work {
     Deck { profile: Profile, text: TextOf },
     /// The run of a deck with one thread per processor of this profile, within these limits.
     Threads { profile: Profile, limits: Limits },
-    /// The check of a channel trace, where the channels that are flagged, in the order of their
-    /// places, were open before it.
+    /// The check of a channel trace; the channels that are flagged, in the order of their places,
+    /// were open before it.
     Check { opened: [bool; CHANNELS] },
 }
 

@@ -18,9 +18,9 @@ use Rattle.pp_machine.specs.Profile.{processors_in, has_processor}
 use Rattle.pp_machine.specs.ProcessorPlaces.{channel_of_processor}
 use Rattle.pp_machine.specs.ProcessorPlaces as processor_places
 use Rattle.pp_machine.specs.ProfilePlaces.{unnamed_lacks, has_at}
-use Rattle.pp_deck.specs.DeckLaw.{Waits}
+use Rattle.pp_deck.specs.DeckLaw.{WaitsAtDeadStart}
 use Rattle.pp_deck.specs.DeckLine.{Line, nothing, central_size, central_words, section, start, words, dead_start}
-use Rattle.list_facts.specs.Tables.{tabulate, length-tabulate, get_or-tabulate, tabulate_is, tabulate_const}
+use Rattle.pp_word.specs.Tables.{tabulate, length-tabulate, get_or-tabulate, tabulate_is, tabulate_const}
 use Rattle.pp_deck.specs.DeckLoad.{is_dead_start, asks_dead_start, is_named, processor_loaded}
 use Rattle.pp_deck.specs.DeckMeaning.{LoadedDeck, set_by, unnamed_in, with_dead_start}
 use Rattle.pp_deck.proofs.LawLemmas.{named_here, some_name, named_some}
@@ -185,7 +185,7 @@ module _ (profile : Profile) where
   waits_where_asked : (size : ℕ) (lines : List Line) (n : ℕ) → asks_dead_start lines ≡ true → waits (unnamed_in profile (set_by profile size lines).named) n ≡ is_waiting lines n
   waits_where_asked size lines n e = waits_unnamed size lines n ∙ sym (ap (λ (b : Bool). b && (has_processor profile n && not (is_named lines n))) e)
 
-  pub waiting : (lines : List Line) (n : ℕ) → is_waiting lines n ≡ true → Waits profile lines n
+  pub waiting : (lines : List Line) (n : ℕ) → is_waiting lines n ≡ true → WaitsAtDeadStart profile lines n
   waiting lines n e =
       let unnamed = and_right (asks_dead_start lines) _ e in
       record {
@@ -194,7 +194,7 @@ module _ (profile : Profile) where
         unnamed = not_named n lines (is_named lines n) refl (and_right (has_processor profile n) _ unnamed);
       }
 
-  pub waiting_where : (lines : List Line) (n : ℕ) → Waits profile lines n → is_waiting lines n ≡ true
+  pub waiting_where : (lines : List Line) (n : ℕ) → WaitsAtDeadStart profile lines n → is_waiting lines n ≡ true
   waiting_where lines n w =
       ap (λ (b : Bool). b && (has_processor profile n && not (is_named lines n))) (asked_some lines w.asked)
       ∙ ap (λ (b : Bool). b && not (is_named lines n)) w.processor ∙ ap not (unnamed (is_named lines n) refl)
@@ -203,7 +203,7 @@ module _ (profile : Profile) where
       unnamed true e = absurd (w.unnamed (some_name n lines e))
       unnamed false e = e
 
-  pub not_waiting : (lines : List Line) (n : ℕ) → (Waits profile lines n → ⊥) → is_waiting lines n ≡ false
+  pub not_waiting : (lines : List Line) (n : ℕ) → (WaitsAtDeadStart profile lines n → ⊥) → is_waiting lines n ≡ false
   not_waiting lines n not_so = by (is_waiting lines n) refl
     where
       by : (b : Bool) → is_waiting lines n ≡ b → is_waiting lines n ≡ false

@@ -10,15 +10,15 @@ use Rattle.pp_machine.specs.MachineState.{processor_of}
 use Rattle.pp_machine.specs.Processor.{Processor, word_at}
 use Rattle.pp_machine.specs.PpNo.{names_processor, processor_count, processor_index, processor_number}
 use Rattle.pp_machine.specs.ProfilePlaces.{processor_named}
-use Rattle.pp_deck.specs.DeckLaw.{NamesWithin, SetsWord, SetsCentralWord, Starts, registers_of, at_rest, HoldsLast, Waits, KeepsDeckLaw, line_of}
+use Rattle.pp_deck.specs.DeckLaw.{NamesWithin, SetsWord, SetsCentralWord, Starts, registers_of, at_rest, HoldsLast, WaitsAtDeadStart, KeepsDeckLaw, line_of}
 use Rattle.pp_deck.specs.DeckLine.{Line}
 use Rattle.pp_deck.specs.DeckLoad.{word_for, central_word_for, start_in, asks_dead_start, central_loaded, processor_loaded, is_named}
-use Rattle.pp_deck.specs.DeckMeaning.{LoadedDeck, set_by, with_dead_start, loaded, size_of, lines_said, faults_in, unless_faulty, meaning_of_lines, is_foreign, unless_foreign, deck_meaning}
+use Rattle.pp_deck.specs.DeckMeaning.{LoadedDeck, set_by, with_dead_start, loaded, size_of, parsed_deck, faults_in, unless_faulty, meaning_of_lines, is_foreign, unless_foreign, deck_meaning}
 use Rattle.pp_deck.specs.DeckText.{lines_of}
 use Rattle.pp_deck.specs.declared.deck_fault.DeckFault.{DeckFault}
 use Rattle.pp_deck.proofs.DeadStartLemmas.{is_waiting, waiting, waiting_where, not_waiting, processor_is, opened_is, history_is, all_processors, each_history, central_stays, turns_stay, trace_stays, names_stay}
 use Rattle.pp_deck.proofs.LawLemmas.{processor_here, place_here, registers_here, no_block_here, central_here, named_here, some_name, named_some, own_last, all_last, registers_at, start_set, set_start, word_set, set_word, central_set, set_central}
-use Rattle.list_facts.specs.Tables.{length-tabulate}
+use Rattle.pp_word.specs.Tables.{length-tabulate}
 use Rattle.pp_deck.proofs.NamesLemmas.{named_within}
 use Rattle.pp_deck.proofs.MemoryLemmas.{length-central_loaded}
 use Rattle.pp_machine.specs.declared.profile.Profile.{Profile}
@@ -32,12 +32,12 @@ module _ (profile : Profile) where
   here : (size : ℕ) (lines : List Line) (n : ℕ) → IsTrue (names_processor n) → processor_of n (loaded profile size lines).machine ≡ (if is_waiting profile lines n then waiting_on n (processor_of n (set_by profile size lines).machine) else processor_of n (set_by profile size lines).machine)
   here size lines n named = processor_is profile size lines (asks_dead_start lines) n refl named
 
-  as_set : (size : ℕ) (lines : List Line) (n : ℕ) → IsTrue (names_processor n) → (Waits profile lines n → ⊥) → processor_of n (loaded profile size lines).machine ≡ processor_of n (set_by profile size lines).machine
+  as_set : (size : ℕ) (lines : List Line) (n : ℕ) → IsTrue (names_processor n) → (WaitsAtDeadStart profile lines n → ⊥) → processor_of n (loaded profile size lines).machine ≡ processor_of n (set_by profile size lines).machine
   as_set size lines n named not_so =
       let set = (set_by profile size lines).machine in
       here size lines n named ∙ ap (λ (b : Bool). if b then waiting_on n (processor_of n set) else processor_of n set) (not_waiting profile lines n not_so)
 
-  waits_there : (size : ℕ) (lines : List Line) (n : ℕ) → Waits profile lines n → processor_of n (loaded profile size lines).machine ≡ waiting_on n (processor_of n (loaded profile size lines).machine)
+  waits_there : (size : ℕ) (lines : List Line) (n : ℕ) → WaitsAtDeadStart profile lines n → processor_of n (loaded profile size lines).machine ≡ waiting_on n (processor_of n (loaded profile size lines).machine)
   waits_there size lines n w =
       let set = (set_by profile size lines).machine in
       let is : processor_of n (loaded profile size lines).machine ≡ waiting_on n (processor_of n set) =
@@ -67,8 +67,8 @@ module _ (profile : Profile) where
       let asked = asks_dead_start lines in
       let set = set_by profile size lines in
       let same : (loaded profile size lines).machine.profile ≡ profile = profile_stays asked set in
-      let wait : (n : ℕ) → Waits profile lines n → Waits (loaded profile size lines).machine.profile lines n = λ n w. subst (λ p. Waits p lines n) (sym same) w in
-      let so : (n : ℕ) → Waits (loaded profile size lines).machine.profile lines n → Waits profile lines n = λ n w. subst (λ p. Waits p lines n) same w in
+      let wait : (n : ℕ) → WaitsAtDeadStart profile lines n → WaitsAtDeadStart (loaded profile size lines).machine.profile lines n = λ n w. subst (λ p. WaitsAtDeadStart p lines n) (sym same) w in
+      let so : (n : ℕ) → WaitsAtDeadStart (loaded profile size lines).machine.profile lines n → WaitsAtDeadStart profile lines n = λ n w. subst (λ p. WaitsAtDeadStart p lines n) same w in
       record {
         places = λ n place named within. own_last n lines (word_for place) (λ line w. SetsWord line place w) 0 _ (λ line w. word_set line place w) (λ line w. set_word line place w)
             (places_hold size lines n place named ∙ ap (λ (pp : Processor). word_at pp place) (processor_here profile size lines n named) ∙ place_here profile lines n place within);
@@ -96,22 +96,22 @@ module _ (profile : Profile) where
   deck_is size lines [] deck e = cc
   deck_is size lines (fault ∷ faults) deck e = absurd (cc)
 
-  of_lines : (lines : List (List (List ℕ))) (deck : LoadedDeck) → meaning_of_lines profile lines ≡ Ok deck → KeepsDeckLaw (lines_said profile lines) deck
+  of_lines : (lines : List (List (List ℕ))) (deck : LoadedDeck) → meaning_of_lines profile lines ≡ Ok deck → KeepsDeckLaw (parsed_deck profile lines) deck
   unfolding meaning_of_lines
   of_lines lines deck e =
-      let P : LoadedDeck → Type 0 = λ d. KeepsDeckLaw (lines_said profile lines) d in
-      subst P (deck_is (size_of lines) (lines_said profile lines) (faults_in profile lines) deck e) (loaded_law (size_of lines) (lines_said profile lines))
+      let P : LoadedDeck → Type 0 = λ d. KeepsDeckLaw (parsed_deck profile lines) d in
+      subst P (deck_is (size_of lines) (parsed_deck profile lines) (faults_in profile lines) deck e) (loaded_law (size_of lines) (parsed_deck profile lines))
 
-  of_ascii : (text : List ℕ) (o : Option ℕ) (deck : LoadedDeck) → unless_foreign profile text o ≡ Ok deck → KeepsDeckLaw (lines_said profile (lines_of text)) deck
+  of_ascii : (text : List ℕ) (o : Option ℕ) (deck : LoadedDeck) → unless_foreign profile text o ≡ Ok deck → KeepsDeckLaw (parsed_deck profile (lines_of text)) deck
   of_ascii text None deck e = of_lines (lines_of text) deck e
   of_ascii text (Some i) deck e = absurd (cc)
 
-  of_short : (text : List ℕ) (b : Bool) (fault : DeckFault) (deck : LoadedDeck) → cond b (Err fault) (unless_foreign profile text (position is_foreign text)) ≡ Ok deck → KeepsDeckLaw (lines_said profile (lines_of text)) deck
+  of_short : (text : List ℕ) (b : Bool) (fault : DeckFault) (deck : LoadedDeck) → cond b (Err fault) (unless_foreign profile text (position is_foreign text)) ≡ Ok deck → KeepsDeckLaw (parsed_deck profile (lines_of text)) deck
   of_short text true fault deck e = absurd (cc)
   of_short text false fault deck e = of_ascii text (position is_foreign text) deck e
 
   -- each deck that has a meaning keeps the law of loaded decks
-  pub deck_law_of : (text : List ℕ) (deck : LoadedDeck) → deck_meaning profile text ≡ Ok deck → KeepsDeckLaw (lines_said profile (lines_of text)) deck
+  pub deck_law_of : (text : List ℕ) (deck : LoadedDeck) → deck_meaning profile text ≡ Ok deck → KeepsDeckLaw (parsed_deck profile (lines_of text)) deck
   unfolding deck_meaning
   deck_law_of text deck e = of_short text _ _ deck e
 
@@ -120,7 +120,7 @@ module _ (profile : Profile) where
   size_of_lines : (lines : List (List (List ℕ))) (deck : LoadedDeck) → meaning_of_lines profile lines ≡ Ok deck → length deck.machine.central ≡ size_of lines
   unfolding meaning_of_lines
   size_of_lines lines deck e =
-      let said = lines_said profile lines in
+      let said = parsed_deck profile lines in
       ap (λ (d : LoadedDeck). length d.machine.central) (sym (deck_is (size_of lines) said (faults_in profile lines) deck e))
       ∙ ap length (central_stays (asks_dead_start said) (set_by profile (size_of lines) said)) ∙ length-central_loaded (size_of lines) said
 
@@ -142,7 +142,7 @@ module _ (profile : Profile) where
   profile_of_lines : (lines : List (List (List ℕ))) (deck : LoadedDeck) → meaning_of_lines profile lines ≡ Ok deck → deck.machine.profile ≡ profile
   unfolding meaning_of_lines
   profile_of_lines lines deck e =
-      let said = lines_said profile lines in
+      let said = parsed_deck profile lines in
       ap (λ (d : LoadedDeck). d.machine.profile) (sym (deck_is (size_of lines) said (faults_in profile lines) deck e))
       ∙ profile_stays (asks_dead_start said) (set_by profile (size_of lines) said)
 

@@ -9,7 +9,7 @@ use Rattle.std.proofs.lemmas.List.Folds.{Any-from_list_any, list_any_at}
 use Rattle.std.proofs.lemmas.List.FromFn.{fill_by_all}
 use Rattle.std.proofs.lemmas.Option.{slice_get-map}
 use Rattle.pp_word.specs.Address.{place_count}
-use Rattle.list_facts.specs.LastElements.{last_or_at}
+use Rattle.pp_word.specs.LastElements.{last_or_at}
 use Rattle.pp_machine.specs.MachineState.{processor_of}
 use Rattle.pp_machine.specs.Processor.{no_processor, word_at}
 use Rattle.pp_machine.specs.PpNo.{processor_count, names_processor, processor_number, processor_index}
@@ -20,8 +20,8 @@ use Rattle.pp_deck.specs.DeckLine.{Line, nothing, central_size, central_words, s
 use Rattle.pp_deck.specs.DeckLoad.{word_among, word_for, central_word_for, start_in, is_for, section_of, lines_for, is_named, memory_of, processor_with, processor_loaded, central_loaded}
 use Rattle.pp_deck.specs.DeckMeaning.{set_by}
 use Rattle.pp_deck.proofs.LineParts.{current_after}
-use Rattle.list_facts.specs.GrowingLists.{last_of, range_append, range_more, last_of_more, filter_map_more}
-use Rattle.list_facts.specs.Tables.{length-tabulate, get_or-tabulate}
+use Rattle.pp_word.specs.GrowingLists.{last_of, range_append, range_more, last_of_more, filter_map_more}
+use Rattle.pp_word.specs.Tables.{length-tabulate, get_or-tabulate}
 use Rattle.pp_deck.proofs.SectionLemmas.{names, section_more}
 use Rattle.pp_machine.specs.declared.profile.Profile.{Profile}
 

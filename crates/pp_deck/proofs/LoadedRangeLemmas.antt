@@ -7,12 +7,12 @@ use Rattle.pp_word.specs.Address.{place_count}
 use Rattle.pp_machine.specs.Processor.{Processor}
 use Rattle.pp_machine.specs.declared.profile.Profile.{Profile}
 use Rattle.pp_deck.specs.DeckLine.{Line, nothing, central_size, central_words, section, start, words, dead_start}
-use Rattle.list_facts.specs.Tables.{tabulate, length-tabulate, get_or-tabulate}
+use Rattle.pp_word.specs.Tables.{tabulate, length-tabulate, get_or-tabulate}
 use Rattle.pp_deck.specs.DeckLoad.{word_for, central_word_for, start_in, is_for, section_of, lines_for, memory_of, central_loaded, processor_with, processor_loaded}
 use Rattle.std.specs.Result.{result_ok}
-use Rattle.pp_deck.specs.DeckMeaning.{has_fields, begins_section, line_at, size_of, lines_said}
+use Rattle.pp_deck.specs.DeckMeaning.{has_fields, begins_section, line_at, size_of, parsed_deck}
 use Rattle.pp_deck.specs.declared.flaw.Flaw.{Flaw}
-use Rattle.list_facts.specs.GrowingLists.{last_of}
+use Rattle.pp_word.specs.GrowingLists.{last_of}
 use Rattle.pp_deck.proofs.RangeLemmas.{Holds, InRange, line_holds}
 use Rattle.pp_deck.proofs.SectionLinesLemmas.{AllLines}
 
@@ -38,8 +38,8 @@ line_at_holds : (profile : Profile) (size : ℕ) (lines : List (List (List ℕ))
 unfolding line_at
 line_at_holds profile size lines k = line_holds profile size (list_any has_fields (take k lines)) (list_any begins_section (take k lines)) (get_or lines k [])
 
-pub said_in_range : (profile : Profile) (lines : List (List (List ℕ))) → AllLines InRange (lines_said profile lines)
-unfolding lines_said
+pub said_in_range : (profile : Profile) (lines : List (List (List ℕ))) → AllLines InRange (parsed_deck profile lines)
+unfolding parsed_deck
 said_in_range profile lines =
     all_found InRange (λ k. result_ok (line_at profile (size_of lines) lines k)) (range_with_len 0 (length lines))
     (λ k. said_line (line_at profile (size_of lines) lines k) (line_at_holds profile (size_of lines) lines k))

@@ -8,7 +8,7 @@ use Rattle.pp_machine.specs.declared.profile.Profile.{Profile}
 use Rattle.pp_deck.specs.OctalNumber.{number}
 use Rattle.pp_deck.specs.DeckLine.{Line, central_size, central_words, section, start, words, dead_start, keyword_of, line_by, ends_with, start_from, words_in, central_line, central_words_line, section_line, start_line, words_line, ◌>>=◌, line_after}
 use Rattle.std.specs.Result.{result_ok}
-use Rattle.pp_deck.specs.DeckMeaning.{line_at, lines_said, size_of}
+use Rattle.pp_deck.specs.DeckMeaning.{line_at, parsed_deck, size_of}
 use Rattle.pp_deck.specs.DeckText.{Fields}
 use Rattle.pp_deck.specs.declared.flaw.Flaw.{Flaw}
 use Rattle.pp_deck.specs.declared.flaw.Flaw.TheVariants.{PastEnd}
@@ -92,12 +92,12 @@ module _ (profile : Profile) where
   unfolding line_at
   at_within size lines k = behind_within size _ _ _
 
-  said_within : (lines : List Fields) → All Within (lines_said profile lines)
-  unfolding lines_said
+  said_within : (lines : List Fields) → All Within (parsed_deck profile lines)
+  unfolding parsed_deck
   said_within lines =
       all_filtered Within (λ k. result_ok (line_at profile (size_of lines) lines k)) _
       (λ k line e. of_line (line_at profile (size_of lines) lines k) line Within (at_within (size_of lines) lines k) (read_line _ line e))
 
   -- a processor that is named is one of the profile
-  pub named_within : (lines : List Fields) (n : ℕ) → Contains (lines_said profile lines) (section n) → IsTrue (has_processor profile n)
-  named_within lines n h = subst Within h.2 (All-get_or Within (lines_said profile lines) h.0 (section n) h.1 (said_within lines))
+  pub named_within : (lines : List Fields) (n : ℕ) → Contains (parsed_deck profile lines) (section n) → IsTrue (has_processor profile n)
+  named_within lines n h = subst Within h.2 (All-get_or Within (parsed_deck profile lines) h.0 (section n) h.1 (said_within lines))

@@ -13,8 +13,8 @@ use Rattle.pp_deck.specs.DeckLine.{Line, nothing, central_size, central_words, s
 use Rattle.pp_deck.specs.DeckLoad.{section_of, is_dead_start, asks_dead_start, is_for, lines_for, start_in, memory_of, central_loaded, processor_with, processor_loaded, is_named}
 use Rattle.pp_deck.specs.Reading.{Progress, before_lines, with_words, loaded_from, with_processor, after_line, after_lines, progress_of}
 use Rattle.pp_deck.proofs.LineParts.{machine_after, named_after, current_after, asked_after, after_line_parts}
-use Rattle.list_facts.specs.GrowingLists.{last_of, or_else, last_of_more, filter_map_more}
-use Rattle.list_facts.specs.Tables.{get_or-tabulate, tabulate_same, tabulate_const, set-tabulate}
+use Rattle.pp_word.specs.GrowingLists.{last_of, or_else, last_of_more, filter_map_more}
+use Rattle.pp_word.specs.Tables.{get_or-tabulate, tabulate_same, tabulate_const, set-tabulate}
 use Rattle.pp_deck.proofs.MemoryLemmas.{memory_none, memory_set, memory_kept, central_none, central_set, central_kept}
 use Rattle.pp_deck.proofs.SectionLemmas.{names, own, lines_for_more, section_more}
 use Rattle.pp_machine.specs.declared.profile.Profile.{Profile}

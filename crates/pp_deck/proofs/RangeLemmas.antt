@@ -11,7 +11,7 @@ use Rattle.pp_word.specs.Address.{place_count}
 use Rattle.pp_machine.specs.declared.profile.Profile.{Profile}
 use Rattle.pp_deck.specs.OctalNumber.{number, octal_value, is_octal_digit}
 use Rattle.pp_deck.specs.DeckLine.{Line, nothing, central_size, central_words, section, start, words, dead_start, keyword_of, line_by, number_then, ends_with, start_from, words_in, central_line, central_words_line, section_line, start_line, words_line, ◌>>=◌, line_after}
-use Rattle.pp_deck.specs.DeckMeaning.{has_fields, size_said, size_by, size_in, size_of}
+use Rattle.pp_deck.specs.DeckMeaning.{has_fields, stated_size, size_by, size_in, size_of}
 use Rattle.pp_deck.specs.declared.flaw.Flaw.{Flaw}
 use Rattle.pp_deck.proofs.FieldTextLemmas.{and_left, and_right}
 
@@ -147,7 +147,7 @@ default_size : IsSize 0o10000
 unfolding IsSize
 default_size = (omega arith, omega arith)
 
-said_size : (r : Result Line _) → Holds InRange r → IsSize (size_said r)
+said_size : (r : Result Line _) → Holds InRange r → IsSize (stated_size r)
 unfolding IsSize
 said_size (Ok (central_size n)) h = h
 said_size (Ok nothing) h = default_size

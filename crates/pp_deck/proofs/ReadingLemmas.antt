@@ -13,13 +13,13 @@ use Rattle.pp_machine.specs.MachineState.{history_of}
 use Rattle.pp_deck.specs.Flaw.{code_of}
 use Rattle.pp_deck.specs.DeckLine.{Line, nothing, line_after}
 use Rattle.std.specs.Result.{result_ok}
-use Rattle.pp_deck.specs.DeckMeaning.{with_dead_start, has_fields, begins_section, line_at, size_of, fault_in, faults_in, lines_said, loaded, unless_faulty, meaning_of_lines}
+use Rattle.pp_deck.specs.DeckMeaning.{with_dead_start, has_fields, begins_section, line_at, size_of, fault_in, faults_in, parsed_deck, loaded, unless_faulty, meaning_of_lines}
 use Rattle.pp_deck.specs.Reading.{Progress, before_lines, after_line, after_lines, progress_of, deck_so_far, on_read}
 use Rattle.pp_deck.specs.declared.deck_fault.DeckFault.{DeckFault}
 use Rattle.pp_deck.specs.declared.flaw.Flaw.{Flaw}
 use Rattle.pp_deck.proofs.KeywordLemmas.{section_after}
 use Rattle.pp_deck.proofs.LineParts.{after_line_parts}
-use Rattle.list_facts.specs.GrowingLists.{range_more, range_append, filter_map_more}
+use Rattle.pp_word.specs.GrowingLists.{range_more, range_append, filter_map_more}
 use Rattle.pp_deck.proofs.MemoryLemmas.{length-central_loaded}
 use Rattle.pp_deck.proofs.ProgressLemmas.{after_lines_is}
 use Rattle.pp_machine.specs.declared.profile.Profile.{Profile}
@@ -155,7 +155,7 @@ module _ (profile : Profile) where
   read_flaw lines k progress b first fields flaw h lt e read =
       let there : line_at profile (size_of lines) lines k ≡ Err flaw = line_is lines k progress b h ∙ flaw_of (after_line progress) _ flaw (ap (on_read (after_line progress)) (line_here lines k progress b (get_or lines k []) (first ∷ fields) h e) ∙ read) in
       let split : length lines ≡ k + (1 + (length lines - k - 1)) = omega (arith, lt) in
-      ap (λ (faults : List DeckFault). unless_faulty faults (loaded profile (size_of lines) (lines_said profile lines)))
+      ap (λ (faults : List DeckFault). unless_faulty faults (loaded profile (size_of lines) (parsed_deck profile lines)))
       (ap (λ (n : ℕ). filter_map (fault_at lines) (range_with_len 0 n)) split
       ∙ ap (filter_map (fault_at lines)) (range_append 0 k (1 + (length lines - k - 1)))
       ∙ filter_map-append (fault_at lines) (range_with_len 0 k) (range_with_len (0 + k) (1 + (length lines - k - 1)))
@@ -166,12 +166,12 @@ module _ (profile : Profile) where
 
   -- all lines
   pub read_all : (lines : List (List (List ℕ))) (k : ℕ) (progress : Progress) (b : Bool) → ReadTo lines k progress b → k ≡ length lines → meaning_of_lines profile lines ≡ Ok (with_dead_start progress.asks_dead_start (deck_so_far progress))
-  unfolding meaning_of_lines faults_in lines_said fault_at said_at progress_of
+  unfolding meaning_of_lines faults_in parsed_deck fault_at said_at progress_of
   read_all lines k progress b h e =
       let none : faults_in profile lines ≡ [] = ap (λ (n : ℕ). filter_map (fault_at lines) (range_with_len 0 n)) (sym e) ∙ h.faultless in
-      let all : progress ≡ progress_of profile (size_of lines) (lines_said profile lines) =
-      h.progress_is ∙ ap (λ (n : ℕ). after_lines profile (size_of lines) (filter_map (said_at lines) (range_with_len 0 n))) e ∙ after_lines_is profile (size_of lines) (lines_said profile lines) in
-      ap (λ (faults : List DeckFault). unless_faulty faults (loaded profile (size_of lines) (lines_said profile lines))) none
+      let all : progress ≡ progress_of profile (size_of lines) (parsed_deck profile lines) =
+      h.progress_is ∙ ap (λ (n : ℕ). after_lines profile (size_of lines) (filter_map (said_at lines) (range_with_len 0 n))) e ∙ after_lines_is profile (size_of lines) (parsed_deck profile lines) in
+      ap (λ (faults : List DeckFault). unless_faulty faults (loaded profile (size_of lines) (parsed_deck profile lines))) none
       ∙ ap (λ (p : Progress). Ok (with_dead_start p.asks_dead_start (deck_so_far p))) (sym all)
 
   -- no turn is counted yet, and no channel has a history

@@ -6,7 +6,7 @@ use Rattle.std.proofs.lemmas.List.{take-append-le, take_at, get_or_append_left, 
 use Rattle.pp_deck.specs.DeckLine.{Line, nothing, central_size, central_words, section, start, words, dead_start}
 use Rattle.pp_deck.specs.DeckLoad.{processor_in, section_of, is_for, lines_for}
 use Rattle.pp_deck.proofs.LineParts.{current_after}
-use Rattle.list_facts.specs.GrowingLists.{last_of, or_else, last_of_more, filter_map_more, filter_map_same, range_more}
+use Rattle.pp_word.specs.GrowingLists.{last_of, or_else, last_of_more, filter_map_more, filter_map_same, range_more}
 
 -- whether a line names processor n
 abbrev pub names : ℕ → Line → Bool

@@ -64,7 +64,7 @@ pub record HoldsLast {A : Type 0} (lines : List Line) (Sets : ℕ → A → Type
   pub none : ((k : ℕ) (x : A) → k < length lines → Sets k x → ⊥) → value ≡ otherwise
 
 -- processor n of such a machine waits: dead start is asked for, and no line names it
-pub record Waits (profile : Profile) (lines : List Line) (n : ℕ) : Type 0 where
+pub record WaitsAtDeadStart (profile : Profile) (lines : List Line) (n : ℕ) : Type 0 where
   pub processor : IsTrue (has_processor profile n)
   pub asked : Contains lines dead_start
   pub unnamed : Contains lines (section n) → ⊥
@@ -82,7 +82,8 @@ pub record KeepsDeckLaw (lines : List Line) (deck : LoadedDeck) : Type 0 where
       → HoldsLast lines (λ k w. IsFor lines k n × SetsWord (line_of lines k) place w) 0
       (word_at (processor_of n deck.machine) place)
   -- the last start of a processor holds; without one it is stopped, unless it waits
-  pub starts : (n : ℕ) → IsTrue (names_processor n) → (Waits deck.machine.profile lines n → ⊥)
+  pub starts : (n : ℕ) → IsTrue (names_processor n)
+      → (WaitsAtDeadStart deck.machine.profile lines n → ⊥)
       → HoldsLast lines (λ k registers. IsFor lines k n
       × Starts (line_of lines k) registers) at_rest (registers_of (processor_of n deck.machine))
   -- each central word is the word of the last line that sets it, else 0
@@ -93,13 +94,14 @@ pub record KeepsDeckLaw (lines : List Line) (deck : LoadedDeck) : Type 0 where
   pub named : (n : ℕ) → IsTrue (names_processor n)
       → (slice_index_or deck.named (processor_index n) false ≡ true) ↔ Contains lines (section n)
   -- one that waits does so on the channel of its own number; in all others no block is in progress
-  pub waits : (n : ℕ) → Waits deck.machine.profile lines n
+  pub waits : (n : ℕ) → WaitsAtDeadStart deck.machine.profile lines n
       → processor_of n deck.machine ≡ waiting_on n (processor_of n deck.machine)
-  pub no_block : (n : ℕ) → IsTrue (names_processor n) → (Waits deck.machine.profile lines n → ⊥)
+  pub no_block : (n : ℕ) → IsTrue (names_processor n)
+      → (WaitsAtDeadStart deck.machine.profile lines n → ⊥)
       → (processor_of n deck.machine).block ≡ None
   -- exactly the channels of waiting processors are opened, and nothing else has happened
   pub opened : (c : ℕ) → IsTrue (names_channel c) → (is_opened c deck.machine ≡ true)
-      ↔ Waits deck.machine.profile lines c
+      ↔ WaitsAtDeadStart deck.machine.profile lines c
   pub history : (c : ℕ) → IsTrue (names_channel c)
       → history_of c deck.machine ≡ opening_history c deck.machine
   -- there are as many of each as the machine has

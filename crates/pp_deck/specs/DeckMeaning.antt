@@ -62,12 +62,12 @@ line_at profile size lines k = line_after profile size (list_any has_fields (tak
 
 -- ---- the size of central memory: n of a first line with fields `CENTRAL n`, else 10000 (octal)
 
-abbrev pub size_said : Result Line Flaw → ℕ
-size_said (Ok (central_size n)) = n
-size_said line = 0o10000
+abbrev pub stated_size : Result Line Flaw → ℕ
+stated_size (Ok (central_size n)) = n
+stated_size line = 0o10000
 
 abbrev pub size_by : Keyword → Fields → ℕ
-size_by Keyword.Central fields = size_said (central_line fields)
+size_by Keyword.Central fields = stated_size (central_line fields)
 size_by keyword fields = 0o10000
 
 abbrev pub size_in : Option Fields → ℕ
@@ -90,8 +90,8 @@ faults_in profile lines = filter_map (λ k. fault_in k (line_at profile (size_of
     (range_with_len 0 (length lines))
 
 -- what lines without a fault say, one after another
-unfoldable pub lines_said : Profile → List Fields → List Line
-lines_said profile lines = filter_map (λ k. result_ok (line_at profile (size_of lines) lines k))
+unfoldable pub parsed_deck : Profile → List Fields → List Line
+parsed_deck profile lines = filter_map (λ k. result_ok (line_at profile (size_of lines) lines k))
     (range_with_len 0 (length lines))
 
 abbrev pub unless_faulty : List DeckFault → LoadedDeck → Result LoadedDeck DeckFault
@@ -101,7 +101,7 @@ unless_faulty [] deck = Ok deck
 -- what lines mean: the first fault, else what they load
 unfoldable pub meaning_of_lines : Profile → List Fields → Result LoadedDeck DeckFault
 meaning_of_lines profile lines = unless_faulty (faults_in profile lines)
-    (loaded profile (size_of lines) (lines_said profile lines))
+    (loaded profile (size_of lines) (parsed_deck profile lines))
 
 -- a byte that is not ASCII: from 200 (octal) on
 abbrev pub is_foreign : ℕ → Bool

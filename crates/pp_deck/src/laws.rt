@@ -4,7 +4,7 @@
 ghost use Rattle.std.specs.Prelude.{ℕ, ◌≡◌, List, length, Ok};
 ghost use Rattle.pp_deck.specs.DeckLaw.{KeepsDeckLaw, NamesWithin};
 ghost use Rattle.pp_deck.specs.DeckLine.{Line};
-ghost use Rattle.pp_deck.specs.DeckMeaning.{LoadedDeck, deck_meaning, lines_said, size_of};
+ghost use Rattle.pp_deck.specs.DeckMeaning.{LoadedDeck, deck_meaning, parsed_deck, size_of};
 ghost use Rattle.pp_deck.specs.Reading.{after_lines, progress_of};
 ghost use Rattle.pp_deck.specs.DeckText.{lines_of};
 ghost use Rattle.pp_machine.specs.Headline.{HoldsOnEachChannel};
@@ -24,7 +24,7 @@ pub fn deck_law()
         → length deck.machine.central ≡ size_of (lines_of text) }
     ensures law { (profile : Profile) (text : List ℕ) (deck : LoadedDeck)
         → deck_meaning profile text ≡ Ok deck
-        → KeepsDeckLaw (lines_said profile (lines_of text)) deck }
+        → KeepsDeckLaw (parsed_deck profile (lines_of text)) deck }
     ensures names { (profile : Profile) (text : List ℕ) (deck : LoadedDeck)
         → deck_meaning profile text ≡ Ok deck → NamesWithin profile deck.named }
     ensures profile { (profile : Profile) (text : List ℕ) (deck : LoadedDeck)

@@ -82,7 +82,8 @@ impl<A: Allocator> Reading<A> {
 
     /// Reads a line with this first field and these after it. `is_after_fields` says whether a
     /// line with fields stands before it.
-    #[tactic(auto, unfolding(crate::specs::DeckLine::line_after, crate::specs::Reading::after_line))]
+    #[tactic(auto, unfolding(crate::specs::DeckLine::line_after, // the line after it
+    crate::specs::Reading::after_line))]
     pub(crate) fn read_line(
         &mut self,
         is_after_fields: bool,
@@ -117,7 +118,8 @@ impl<A: Allocator> Reading<A> {
     }
 
     /// `CM a w w ..`, after its keyword.
-    #[tactic(auto, unfolding(crate::specs::DeckLine::central_words_line, crate::specs::Reading::after_line))]
+    #[tactic(auto, unfolding(crate::specs::DeckLine::central_words_line, // a line of central words
+    crate::specs::Reading::after_line))]
     fn read_central_words(&mut self, fields: &mut Fields) -> Result<(), Flaw>
         requires { length self.old.machine.central ≤ 2 ^ 17 }
         ensures { Leaves self.new result (on_read (after_line self.old)
@@ -128,7 +130,8 @@ impl<A: Allocator> Reading<A> {
     }
 
     /// `PP n`, after its keyword.
-    #[tactic(auto, unfolding(crate::specs::DeckLine::section_line, crate::specs::Reading::after_line))]
+    #[tactic(auto, unfolding(crate::specs::DeckLine::section_line, // a section
+    crate::specs::Reading::after_line))]
     fn read_section(&mut self, fields: &mut Fields) -> Result<(), Flaw>
         ensures { Leaves self.new result (on_read (after_line self.old)
             (section_line self.old.machine.profile fields.old)) }
@@ -143,7 +146,8 @@ impl<A: Allocator> Reading<A> {
     }
 
     /// `START p` or `START p a`, after its keyword.
-    #[tactic(auto, unfolding(crate::specs::DeckLine::start_line, crate::specs::Reading::after_line))]
+    #[tactic(auto, unfolding(crate::specs::DeckLine::start_line, // a start
+    crate::specs::Reading::after_line))]
     fn read_start(&mut self, fields: &mut Fields) -> Result<(), Flaw>
         ensures { Leaves self.new result (on_read (after_line self.old)
             (if is_some self.old.current then start_line fields.old else Err Flaw.NoProcessor)) }
@@ -156,7 +160,8 @@ impl<A: Allocator> Reading<A> {
     }
 
     /// `x w w ..`: its first field, and the words after it.
-    #[tactic(auto, unfolding(crate::specs::DeckLine::words_line, crate::specs::Reading::after_line))]
+    #[tactic(auto, unfolding(crate::specs::DeckLine::words_line, // a line of words
+    crate::specs::Reading::after_line))]
     fn read_words(&mut self, first: &[u8], fields: &mut Fields) -> Result<(), Flaw>
         ensures { Leaves self.new result (on_read (after_line self.old)
             (if is_some self.old.current then words_line first.now fields.old

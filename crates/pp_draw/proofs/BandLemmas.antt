@@ -1,18 +1,22 @@
 -- The bands of a lane, and the lanes of a drawing.
-use Rattle.std.proofs.Common.{◌≡◌, ℕ, ◌-◌, ◌*◌, ◌<◌, ◌≤◌, max, min, Bool, true, false, cond, leb, List, [], ◌∷◌, ◌++◌, Option, None, Some, sym, ap, ◌∙◌, append_assoc, arith, zero, suc, subst, ⊎_elim}
+use Rattle.std.proofs.Common.{◌≡◌, ℕ, ◌+◌, ◌-◌, ◌*◌, ◌<◌, ◌≤◌, max, min, Bool, true, false, cond, leb, List, [], ◌∷◌, ◌++◌, Option, None, Some, refl, sym, ap, ◌∙◌, append_assoc, arith, zero, suc, subst, ⊎_elim}
 use Rattle.std.specs.Prelude.{◌↔◌, IsFalse, IsTrue}
 use Rattle.std.proofs.lemmas.Bool.{cases_lt, lt-ltb, ltb-true}
 use Rattle.std.proofs.lemmas.List.{append-nil}
+use Rattle.pp_channel.specs.ChannelNo.{channel_count, channel_index, channel_number, names_channel}
+use Rattle.pp_channel.specs.ChannelPlaces as channel_places
 use Rattle.pp_machine.specs.MachineState.{MachineState}
+use Rattle.pp_machine.specs.PpNo.{names_processor, processor_count, processor_index, processor_number}
+use Rattle.pp_machine.specs.ProcessorPlaces as processor_places
 use Rattle.pp_machine.specs.MachineStep.{counted}
 use Rattle.pp_text.specs.PrintedText.{each_below}
 use Rattle.pp_draw.specs.Condition.{is_sent}
 use Rattle.pp_draw.specs.DrawingLaw.{Adjoin, GoesToEnd, IsTurnOf, StandsWithin}
-use Rattle.pp_draw.specs.DrawingText.{channel_lane, drawing, lanes, processor_lane}
-use Rattle.pp_draw.specs.Frame.{classes_text, colours_text, foot_text, head_text, legend_text, processor_legend_text, ticks_text}
+use Rattle.pp_draw.specs.DrawingText.{channel_lane, count_below, drawing, is_flagged, is_used, lanes, lanes_above, processor_lane, used_among}
+use Rattle.pp_draw.specs.Frame.{foot_text, head_text, legend_text, style_text, ticks_text}
 use Rattle.pp_draw.specs.Elements.{band_element, free_after, label_element, part_elements}
 use Rattle.pp_draw.specs.Lane.{drawn_from, next_in}
-use Rattle.pp_draw.specs.Part.{is_labelled, is_visible, part_of, until}
+use Rattle.pp_draw.specs.Part.{is_visible, label_from, part_of, until}
 use Rattle.pp_draw.specs.Window.{place}
 use Rattle.pp_draw.specs.declared.part.Phase.{Phase}
 use Rattle.pp_draw.specs.declared.seen_step.SeenStep.{SeenStep}
@@ -21,19 +25,19 @@ use Rattle.pp_draw.proofs.LaneLemmas.{drawn_more}
 
 -- ---- where they begin and end
 
-pub next_adjoins : (w : Window) (phase next : Phase) (after : Option Phase) → IsFalse (is_sent phase.condition) → Adjoin (part_of w phase (Some next)) (part_of w next after)
+pub next_adjoins : (w : Window) (phase next : Phase) (after : Option Phase) → IsFalse (is_sent phase.look) → Adjoin (part_of w phase (Some next)) (part_of w next after)
 next_adjoins w phase next after lasts = record {
   turns = ap (λ (b : Bool). cond b (counted phase.since) next.since) lasts;
   places = ap (λ (b : Bool). place w (cond b (counted phase.since) next.since)) lasts;
 }
 
-pub last_to_end : (w : Window) (phase : Phase) → IsFalse (is_sent phase.condition) → GoesToEnd w (part_of w phase None)
+pub last_to_end : (w : Window) (phase : Phase) → IsFalse (is_sent phase.look) → GoesToEnd w (part_of w phase None)
 last_to_end w phase lasts = record {
   turns = ap (λ (b : Bool). cond b (counted phase.since) w.to) lasts;
   places = ap (λ (b : Bool). place w (cond b (counted phase.since) w.to)) lasts;
 }
 
-pub code_in_turn : (w : Window) (phase : Phase) (next : Option Phase) → IsTrue (is_sent phase.condition) → (part_of w phase next).until ≡ counted phase.since
+pub code_in_turn : (w : Window) (phase : Phase) (next : Option Phase) → IsTrue (is_sent phase.look) → (part_of w phase next).until ≡ counted phase.since
 code_in_turn w phase (Some next) code = ap (λ (b : Bool). cond b (counted phase.since) next.since) code
 code_in_turn w phase None code = ap (λ (b : Bool). cond b (counted phase.since) w.to) code
 
@@ -74,7 +78,7 @@ pub band_stands : (w : Window) (name : List ℕ) (free : ℕ) (before : List Pha
     → StandsWithin (band_element name (part_of w phase (next_in more))) (drawn_from w name free (before ++ phase ∷ more))
 band_stands w name free [] phase more seen =
     let part = part_of w phase (next_in more) in
-    let label = cond (is_labelled free part) (label_element part) [] in
+    let label = label_element part (label_from free part) in
     let rest = drawn_from w name (free_after free part) more in (
       [],
       label ++ rest,
@@ -123,16 +127,61 @@ one_of_each (suc n) said k less =
     stands_back (said k) (each_below n said) (said n) (subst (λ (j : ℕ). StandsWithin (said k) (said j)) is ([], [], sym (append-nil (said k)))))
     (cases_lt k n)
 
-pub lane_stands : (w : Window) (shown : List Bool) (m : MachineState) (steps : List SeenStep) (k : ℕ) → k < 0o100
-    → StandsWithin (channel_lane w m k) (drawing w shown m steps) × StandsWithin (processor_lane w shown m steps k) (drawing w shown m steps)
+pub channel_stands : (w : Window) (shown : List Bool) (m : MachineState) (steps : List SeenStep) (c : ℕ) → IsTrue (names_channel c) → StandsWithin (channel_lane w m c) (drawing w shown m steps)
 unfolding drawing
-lane_stands w shown m steps k less =
+channel_stands w shown m steps c names =
     let rows = lanes shown m in
-    let above = (head_text w rows ++ colours_text ++ classes_text ++ legend_text ++ processor_legend_text) ++ ticks_text w rows in
-    let channels = each_below 0o100 (channel_lane w m) in
-    let processors = each_below 0o100 (processor_lane w shown m steps) in (
-      stands_front (channel_lane w m k) ((above ++ channels) ++ processors) (foot_text rows)
-          (stands_front (channel_lane w m k) (above ++ channels) processors (stands_back (channel_lane w m k) above channels (one_of_each 0o100 (channel_lane w m) k less))),
-      stands_front (processor_lane w shown m steps k) ((above ++ channels) ++ processors) (foot_text rows)
-          (stands_back (processor_lane w shown m steps k) (above ++ channels) processors (one_of_each 0o100 (processor_lane w shown m steps) k less)),
-    )
+    let lane = λ (p : ℕ). channel_lane w m (channel_number p) in
+    let above = head_text w rows ++ style_text ++ legend_text ++ ticks_text w rows in
+    let channels = each_below channel_count lane in
+    let processors = each_below processor_count (λ (p : ℕ). processor_lane w shown m steps (processor_number p)) in
+    subst (λ (n : ℕ). StandsWithin (channel_lane w m n) (above ++ channels ++ processors ++ foot_text rows)) (channel_places.number_of_place c names)
+    (stands_front (lane (channel_index c)) (above ++ channels ++ processors) (foot_text rows)
+    (stands_front (lane (channel_index c)) (above ++ channels) processors
+    (stands_back (lane (channel_index c)) above channels (one_of_each channel_count lane (channel_index c) (channel_places.place_below c names)))))
+
+pub processor_stands : (w : Window) (shown : List Bool) (m : MachineState) (steps : List SeenStep) (n : ℕ) → IsTrue (names_processor n) → StandsWithin (processor_lane w shown m steps n) (drawing w shown m steps)
+unfolding drawing
+processor_stands w shown m steps n names =
+    let rows = lanes shown m in
+    let lane = λ (p : ℕ). processor_lane w shown m steps (processor_number p) in
+    let above = head_text w rows ++ style_text ++ legend_text ++ ticks_text w rows ++ each_below channel_count (λ (p : ℕ). channel_lane w m (channel_number p)) in
+    let processors = each_below processor_count lane in
+    subst (λ (k : ℕ). StandsWithin (processor_lane w shown m steps k) (above ++ processors ++ foot_text rows)) (processor_places.number_of_place n names)
+    (stands_front (lane (processor_index n)) (above ++ processors) (foot_text rows)
+    (stands_back (lane (processor_index n)) above processors (one_of_each processor_count lane (processor_index n) (processor_places.place_below n names))))
+
+-- ---- and below one another
+
+counted_below : (k : ℕ) (test : ℕ → Bool) → count_below (suc k) test ≡ count_below k test + cond (test k) 1 0
+unfolding count_below
+counted_below k test = refl
+
+lower_row : (test : ℕ → Bool) (a b : ℕ) → IsTrue (test a) → a < b → count_below a test < count_below b test
+lower_row test a zero has less = absurd (omega (arith, less))
+lower_row test a (suc k) has less =
+    ⊎_elim
+    (λ (l : a < k). omega (arith, lower_row test a k has l, counted_below k test))
+    (λ (l : k ≤ a).
+    let is : a ≡ k = omega (arith, less, l) in
+    let one : ◌≡◌ {A = ℕ} (cond (test k) 1 0) 1 = ap (λ (j : ℕ). cond (test j) 1 0) (sym is) ∙ ap (λ (b : Bool). cond b 1 0) has in
+    omega (arith, one, counted_below k test, ap (λ (j : ℕ). count_below j test) is))
+    (cases_lt a k)
+
+later_channel : (c d : ℕ) → IsTrue (names_channel c) → IsTrue (names_channel d) → c < d → channel_index c < channel_index d
+unfolding names_channel channel_index
+later_channel c d first second less = grind (arith)
+
+later_processor : (n k : ℕ) → IsTrue (names_processor n) → IsTrue (names_processor k) → n < k → processor_index n < processor_index k
+unfolding names_processor processor_index
+later_processor n k first second less = grind (arith)
+
+pub lower_channel : (m : MachineState) (c d : ℕ) → IsTrue (names_channel c) → IsTrue (names_channel d) → IsTrue (is_used m c) → c < d → used_among (channel_index c) m < used_among (channel_index d) m
+lower_channel m c d first second used less =
+    lower_row (λ (p : ℕ). is_used m (channel_number p)) (channel_index c) (channel_index d)
+    (ap (is_used m) (channel_places.number_of_place c first) ∙ used) (later_channel c d first second less)
+
+pub lower_processor : (shown : List Bool) (m : MachineState) (n k : ℕ) → IsTrue (names_processor n) → IsTrue (names_processor k) → IsTrue (is_flagged shown (processor_index n)) → n < k
+    → lanes_above (processor_index n) shown m < lanes_above (processor_index k) shown m
+lower_processor shown m n k first second flagged less =
+    omega (arith, lower_row (is_flagged shown) (processor_index n) (processor_index k) flagged (later_processor n k first second less))

@@ -1,28 +1,28 @@
 -- A lane, phase by phase.
-use Rattle.std.proofs.Common.{◌≡◌, ℕ, ◌+◌, ◌<◌, Bool, true, false, cond, eqb, List, [], ◌∷◌, ◌++◌, length, take, get_or, Option, None, Some, refl, sym, ap, subst, ◌∙◌, append_assoc}
-use Rattle.std.specs.List.{cons_option}
-use Rattle.std.proofs.lemmas.Bool.{eq-eqb}
-use Rattle.std.proofs.lemmas.List.{append-nil, take_more}
+use Rattle.std.proofs.Common.{◌≡◌, ℕ, ◌+◌, ◌<◌, ◌≤◌, Bool, true, false, cond, List, [], ◌∷◌, ◌++◌, length, drop, get_or, Option, None, Some, refl, sym, ap, subst, ◌∙◌, append_assoc}
+use Rattle.std.specs.List.{filter_map}
+use Rattle.std.proofs.lemmas.List.{append-nil, at_drop_all, at_drop_more}
 use Rattle.std.proofs.lemmas.List.Elements.{filter_map-append}
-use Rattle.pp_machine.specs.declared.trace.Trace.{Trace}
+use Rattle.pp_text.specs.PrintingLaws.{prints_on, prints_then}
+use Rattle.pp_text.specs.TextWriter.{Prints}
+use Rattle.pp_text.specs.declared.text_writer.TextWriter.{TextWriter}
 use Rattle.pp_draw.specs.Condition.{goes_on}
 use Rattle.pp_draw.specs.Elements.{free_after, part_elements}
-use Rattle.pp_draw.specs.Lane.{TakesIn, drawn, drawn_from, next_in}
+use Rattle.pp_draw.specs.Lane.{TakesIn, drawn_from, next_in, still_drawn}
 use Rattle.pp_draw.specs.Part.{part_of}
-use Rattle.pp_draw.specs.Phases.{changes, phase_after, phase_in, phases_from, phases_on, processor_phases}
+use Rattle.pp_draw.specs.Phases.{changes, phases_from}
 use Rattle.pp_draw.specs.declared.lane.Lane.{Lane}
 use Rattle.pp_draw.specs.declared.part.Part.{Part}
 use Rattle.pp_draw.specs.declared.part.Phase.{Phase}
-use Rattle.pp_draw.specs.declared.seen_step.SeenStep.{SeenStep}
 use Rattle.pp_draw.specs.declared.window.Window.{Window}
 
 -- ---- a phase comes
 
-pub changes_none : (current next : Phase) (more : List Phase) → goes_on current.condition next.condition ≡ true → changes current (next ∷ more) ≡ changes current more
+pub changes_none : (current next : Phase) (more : List Phase) → goes_on current.look next.look ≡ true → changes current (next ∷ more) ≡ changes current more
 unfolding changes
 changes_none current next more is = ap (λ (b : Bool). cond b (changes current more) (next ∷ changes next more)) is
 
-pub changes_next : (current next : Phase) (more : List Phase) → goes_on current.condition next.condition ≡ false → changes current (next ∷ more) ≡ next ∷ changes next more
+pub changes_next : (current next : Phase) (more : List Phase) → goes_on current.look next.look ≡ false → changes current (next ∷ more) ≡ next ∷ changes next more
 unfolding changes
 changes_next current next more is = ap (λ (b : Bool). cond b (changes current more) (next ∷ changes next more)) is
 
@@ -36,46 +36,23 @@ unfolding drawn_from
 none_drawn w name free = refl
 
 -- the phase goes on
-pub takes_same : (w : Window) (name : List ℕ) (lane : Lane) (current phase : Phase) → lane.current ≡ Some current → goes_on current.condition phase.condition ≡ true → TakesIn w name lane (phase ∷ []) [] lane
-takes_same w name lane current phase is on = λ rest.
-    ap (λ (o : Option Phase). drawn_from w name lane.free (phases_from o (phase ∷ rest))) is
-    ∙ ap (λ (ps : List Phase). drawn_from w name lane.free (current ∷ ps)) (changes_none current phase rest on)
-    ∙ ap (λ (o : Option Phase). drawn_from w name lane.free (phases_from o rest)) (sym is)
+pub takes_same : (lane : Lane) (current phase : Phase) → lane.current ≡ Some current → goes_on current.look phase.look ≡ true → TakesIn lane (phase ∷ []) [] lane
+takes_same lane current phase is on = λ rest.
+    ap (λ (o : Option Phase). drawn_from lane.window lane.name lane.free (phases_from o (phase ∷ rest))) is
+    ∙ ap (λ (ps : List Phase). drawn_from lane.window lane.name lane.free (current ∷ ps)) (changes_none current phase rest on)
+    ∙ ap (λ (o : Option Phase). drawn_from lane.window lane.name lane.free (phases_from o rest)) (sym is)
 
 -- it is over
-pub takes_next : (w : Window) (name : List ℕ) (old new : Lane) (current phase : Phase) (part : Part) → old.current ≡ Some current → goes_on current.condition phase.condition ≡ false → new.current ≡ Some phase
-    → part ≡ part_of w current (Some phase) → new.free ≡ free_after old.free part → TakesIn w name old (phase ∷ []) (part_elements name old.free part) new
-takes_next w name old new current phase part is over now part_is free = λ rest.
+pub takes_next : (old new : Lane) (current phase : Phase) (part : Part) → old.current ≡ Some current → goes_on current.look phase.look ≡ false → part ≡ part_of old.window current (Some phase)
+    → new ≡ record old { current = Some phase; free = free_after old.free part } → TakesIn old (phase ∷ []) (part_elements old.name old.free part) new
+takes_next old new current phase part is over part_is now = λ rest.
+    let w = old.window in
+    let name = old.name in
     ap (λ (o : Option Phase). drawn_from w name old.free (phases_from o (phase ∷ rest))) is
     ∙ ap (λ (ps : List Phase). drawn_from w name old.free (current ∷ ps)) (changes_next current phase rest over)
     ∙ drawn_more w name old.free current (phase ∷ changes phase rest)
     ∙ ap (λ (p : Part). part_elements name old.free p ++ drawn_from w name (free_after old.free p) (phase ∷ changes phase rest)) (sym part_is)
-    ∙ ap (λ (k : ℕ). part_elements name old.free part ++ drawn_from w name k (phase ∷ changes phase rest)) (sym free)
-    ∙ ap (λ (o : Option Phase). part_elements name old.free part ++ drawn_from w name new.free (phases_from o rest)) (sym now)
-
--- ---- phases come
-
-pub takes_then : (w : Window) (name : List ℕ) (a b d : Lane) (ps qs : List Phase) (xs ys : List ℕ) → TakesIn w name a ps xs b → TakesIn w name b qs ys d → TakesIn w name a (ps ++ qs) (xs ++ ys) d
-takes_then w name a b d ps qs xs ys first then = λ rest.
-    ap (λ (rs : List Phase). drawn_from w name a.free (phases_from a.current rs)) (append_assoc ps qs rest)
-    ∙ first (qs ++ rest)
-    ∙ ap (λ (text : List ℕ). xs ++ text) (then rest)
-    ∙ sym (append_assoc xs ys (drawn_from w name d.free (phases_from d.current rest)))
-
-pub takes_these : (w : Window) (name : List ℕ) (old new : Lane) (ps qs : List Phase) (printed : List ℕ) → ps ≡ qs → TakesIn w name old ps printed new → TakesIn w name old qs printed new
-takes_these w name old new ps qs printed same takes = subst (λ (rs : List Phase). TakesIn w name old rs printed new) same takes
-
-pub takes_none : (w : Window) (name : List ℕ) (lane : Lane) → TakesIn w name lane [] [] lane
-takes_none w name lane = λ rest. refl
-
--- no phase has come
-abbrev pub nothing_drawn : Lane
-nothing_drawn = record { current = None; free = 0 }
-
--- all have come: what is left is the last
-pub takes_all : (w : Window) (name : List ℕ) (phases : List Phase) (printed : List ℕ) (lane : Lane) → TakesIn w name nothing_drawn phases printed lane
-    → printed ++ drawn_from w name lane.free (phases_from lane.current []) ≡ drawn w name phases
-takes_all w name phases printed lane takes = sym (takes []) ∙ ap (λ (ps : List Phase). drawn w name ps) (append-nil phases)
+    ∙ ap (λ (lane : Lane). part_elements name old.free part ++ still_drawn lane rest) (sym now)
 
 pub no_changes : (phase : Phase) → changes phase [] ≡ []
 unfolding changes
@@ -94,22 +71,51 @@ last_drawn w name free o current part is part_is =
 pub nothing_last : (w : Window) (name : List ℕ) (free : ℕ) (o : Option Phase) → o ≡ None → [] ≡ drawn_from w name free (phases_from o [])
 nothing_last w name free o is = sym (none_drawn w name free) ∙ ap (λ (p : Option Phase). drawn_from w name free (phases_from p [])) (sym is)
 
--- ---- an entry of the trace, and a step
+-- ---- phases come
 
-pub entry_on : (c : ℕ) (entry : Trace) → entry.channel ≡ c → phase_after entry ∷ [] ≡ phases_on c (entry ∷ [])
-entry_on c entry here = ap (λ (b : Bool). cons_option (cond b (Some (phase_after entry)) None) []) (sym (eq-eqb entry.channel c here))
+-- so far the front of a text is printed: its rest is what is still written of a lane as these phases
+-- come
+pub record ComesTo {W : Type 0} (contents : W → Option (List ℕ)) (start now : TextWriter W) (text : List ℕ) (lane : Lane) (phases : List Phase) : Type 0 where
+  pub printed : List ℕ
+  pub prints : Prints contents start now printed
+  pub rest : printed ++ still_drawn lane phases ≡ text
 
-pub step_of : (n : ℕ) (step : SeenStep) → step.pp ≡ n → phase_in step ∷ [] ≡ processor_phases n (step ∷ [])
-step_of n step here = ap (λ (b : Bool). cons_option (cond b (Some (phase_in step)) None) []) (sym (eq-eqb step.pp n here))
+-- behind the front of a lane no phase has come
+pub comes_first : {W : Type 0} (contents : W → Option (List ℕ)) (start now : TextWriter W) (front : List ℕ) (first lane : Lane) (phases : List Phase) → lane ≡ first → Prints contents start now front
+    → ComesTo contents start now (front ++ still_drawn first phases) lane phases
+comes_first contents start now front first lane phases is prints = record {
+  printed = front;
+  prints = prints;
+  rest = ap (λ (l : Lane). front ++ still_drawn l phases) is;
+}
 
--- the phases of an entry more
-pub entries_more : (c : ℕ) (trace : List Trace) (i : ℕ) (entry : Trace) → i < length trace → entry ≡ get_or trace i entry → phases_on c (take (i + 1) trace) ≡ phases_on c (take i trace) ++ phases_on c (entry ∷ [])
-entries_more c trace i entry within is =
-    ap (phases_on c) (take_more trace i entry within ∙ ap (λ (e : Trace). take i trace ++ e ∷ []) (sym is))
-    ∙ filter_map-append (λ (e : Trace). cond (eqb e.channel c) (Some (phase_after e)) None) (take i trace) (entry ∷ [])
+pub comes_on : {W : Type 0} (contents : W → Option (List ℕ)) (start old new : TextWriter W) (text : List ℕ) (lane next : Lane) (ps qs rs : List Phase) → qs ≡ rs
+    → ComesTo contents start old text lane (ps ++ qs) → (printed : List ℕ) × Prints contents old new printed × TakesIn lane ps printed next → ComesTo contents start new text next rs
+comes_on contents start old new text lane next ps qs rs same h taken =
+    let (printed, prints, takes) = taken in
+    record {
+      printed = h.printed ++ printed;
+      prints = prints_then contents start old new h.printed printed h.prints prints;
+      rest = append_assoc h.printed printed (still_drawn next rs)
+          ∙ ap (λ (left : List Phase). h.printed ++ (printed ++ still_drawn next left)) (sym same)
+          ∙ ap (λ (t : List ℕ). h.printed ++ t) (sym (takes qs))
+          ∙ h.rest;
+    }
 
--- and of a step more
-pub steps_more : (n : ℕ) (steps : List SeenStep) (i : ℕ) (step : SeenStep) → i < length steps → step ≡ get_or steps i step → processor_phases n (take (i + 1) steps) ≡ processor_phases n (take i steps) ++ processor_phases n (step ∷ [])
-steps_more n steps i step within is =
-    ap (processor_phases n) (take_more steps i step within ∙ ap (λ (s : SeenStep). take i steps ++ s ∷ []) (sym is))
-    ∙ filter_map-append (λ (s : SeenStep). cond (eqb s.pp n) (Some (phase_in s)) None) (take i steps) (step ∷ [])
+-- the next of a list comes
+pub comes_more : {W T : Type 0} (contents : W → Option (List ℕ)) (start old new : TextWriter W) (text : List ℕ) (lane next : Lane) (phase : T → Option Phase) (xs : List T) (i : ℕ) (x : T) → i < length xs → x ≡ get_or xs i x
+    → ComesTo contents start old text lane (filter_map phase (drop i xs)) → (printed : List ℕ) × Prints contents old new printed × TakesIn lane (filter_map phase (x ∷ [])) printed next
+    → ComesTo contents start new text next (filter_map phase (drop (i + 1) xs))
+comes_more {T} contents start old new text lane next phase xs i x within is h taken =
+    let left : filter_map phase (drop i xs) ≡ filter_map phase (x ∷ []) ++ filter_map phase (drop (i + 1) xs) =
+    at_drop_more (filter_map phase) xs i x within
+    ∙ ap (λ (y : T). filter_map phase (y ∷ drop (i + 1) xs)) (sym is)
+    ∙ filter_map-append phase (x ∷ []) (drop (i + 1) xs) in
+    comes_on contents start old new text lane next (filter_map phase (x ∷ [])) _ _ refl (subst (ComesTo contents start old text lane) left h) taken
+
+-- none is left, and the last phase is printed
+pub comes_to_end : {W T : Type 0} (contents : W → Option (List ℕ)) (start old new : TextWriter W) (text : List ℕ) (lane : Lane) (phase : T → Option Phase) (xs : List T) (i : ℕ) → length xs ≤ i
+    → ComesTo contents start old text lane (filter_map phase (drop i xs)) → Prints contents old new (still_drawn lane []) → Prints contents start new text
+comes_to_end contents start old new text lane phase xs i past h last =
+    prints_on contents start old new h.printed (still_drawn lane []) text h.prints last
+    (ap (λ (ps : List Phase). h.printed ++ still_drawn lane ps) (sym (at_drop_all (filter_map phase) xs i past)) ∙ h.rest)

@@ -1,3 +1,4 @@
+mod Printed
 mod RowLemmas
 mod LaneLemmas
 mod BandLemmas

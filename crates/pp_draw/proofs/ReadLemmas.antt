@@ -1,9 +1,8 @@
 -- Reading a drawing.
-use Rattle.std.proofs.Common.{◌≡◌, ℕ, zero, suc, ◌+◌, ◌<◌, ◌%◌, ◌/◌, ◌&&◌, Bool, true, false, cond, eqb, List, [], ◌∷◌, ◌++◌, Option, None, Some, refl, ap, ◌∙◌, arith, leb}
-use Rattle.std.proofs.lemmas.Bool.{and_from, and_left, cond-false, cond-true, le-leb, lt-leb, ne_eqb, or_from}
+use Rattle.std.proofs.Common.{◌≡◌, ℕ, zero, suc, ◌<◌, ◌%◌, ◌/◌, ◌&&◌, Bool, true, false, cond, eqb, List, [], ◌∷◌, ◌++◌, Option, None, Some, refl, ap, ◌∙◌, arith}
 use Rattle.std.proofs.lemmas.List.Sums.{fold-append}
 use Rattle.pp_text.specs.Numeral.{digit, octal, short_decimal, unpadded}
-use Rattle.pp_draw.specs.WellFormed.{Place, Reader, Sign, Tag, at, before, behind, between, opened, opening, closing, inside, naming, assigned, quoted, unquoted, slashed, less, greater, quote, ampersand, slash, equals, space, line_feed, letter, other, unprinted, is_letter, is_printed, read, read_between, read_on, read_quoted, sign_of}
+use Rattle.pp_draw.specs.WellFormed.{Place, Reader, Sign, Tag, at, between, quoted, space, letter, other, read, read_at, read_on, sign_of}
 
 -- ---- plain characters
 
@@ -28,33 +27,18 @@ plain-append (c ∷ a) b first more =
     let (here, rest) = both (is_plain_sign (sign_of c)) (is_plain a) first in
     ap (λ (x : Bool). x && is_plain (a ++ b)) here ∙ plain-append a b rest more
 
--- a digit
-no_letter : (n : ℕ) → n < 10 → is_letter (48 + n) ≡ false
-no_letter n low =
-    or_from (leb 65 (48 + n) && leb (48 + n) 90) (leb 97 (48 + n) && leb (48 + n) 122)
-    (and_left (leb 65 (48 + n)) (leb (48 + n) 90) (lt-leb 65 (48 + n) (omega (arith, low))))
-    (and_left (leb 97 (48 + n)) (leb (48 + n) 122) (lt-leb 97 (48 + n) (omega (arith, low))))
-
-is_there : (n : ℕ) → n < 10 → is_printed (48 + n) ≡ true
-is_there n low =
-    and_from (leb 32 (48 + n)) (leb (48 + n) 126) (le-leb 32 (48 + n) (omega (arith, low)))
-    (le-leb (48 + n) 126 (omega (arith, low)))
-
-digit_sign : (n : ℕ) → n < 10 → sign_of (48 + n) ≡ other
-digit_sign n low =
-    cond-false (eqb (48 + n) 60) _ _ (ne_eqb (48 + n) 60 (omega (arith, low)))
-    ∙ cond-false (eqb (48 + n) 62) _ _ (ne_eqb (48 + n) 62 (omega (arith, low)))
-    ∙ cond-false (eqb (48 + n) 39) _ _ (ne_eqb (48 + n) 39 (omega (arith, low)))
-    ∙ cond-false (eqb (48 + n) 38) _ _ (ne_eqb (48 + n) 38 (omega (arith, low)))
-    ∙ cond-false (eqb (48 + n) 47) _ _ (ne_eqb (48 + n) 47 (omega (arith, low)))
-    ∙ cond-false (eqb (48 + n) 61) _ _ (ne_eqb (48 + n) 61 (omega (arith, low)))
-    ∙ cond-false (eqb (48 + n) 32) _ _ (ne_eqb (48 + n) 32 (omega (arith, low)))
-    ∙ cond-false (eqb (48 + n) 10) _ _ (ne_eqb (48 + n) 10 (omega (arith, low)))
-    ∙ cond-false (is_letter (48 + n)) _ _ (no_letter n low)
-    ∙ cond-true (is_printed (48 + n)) _ _ (is_there n low)
-
 plain_digit : (n : ℕ) → n < 10 → is_plain (digit n) ≡ true
-plain_digit n low = ap (λ (s : Sign). is_plain_sign s && true) (digit_sign n low)
+plain_digit zero low = refl
+plain_digit (suc zero) low = refl
+plain_digit (suc (suc zero)) low = refl
+plain_digit (suc (suc (suc zero))) low = refl
+plain_digit (suc (suc (suc (suc zero)))) low = refl
+plain_digit (suc (suc (suc (suc (suc zero))))) low = refl
+plain_digit (suc (suc (suc (suc (suc (suc zero)))))) low = refl
+plain_digit (suc (suc (suc (suc (suc (suc (suc zero))))))) low = refl
+plain_digit (suc (suc (suc (suc (suc (suc (suc (suc zero)))))))) low = refl
+plain_digit (suc (suc (suc (suc (suc (suc (suc (suc (suc zero))))))))) low = refl
+plain_digit (suc (suc (suc (suc (suc (suc (suc (suc (suc (suc n)))))))))) low = absurd (omega (arith, low))
 
 pub plain_octal : (width n : ℕ) → is_plain (octal width n) ≡ true
 plain_octal zero n = refl
@@ -74,45 +58,31 @@ plain_decimal n = plain-append (unpadded 19 (n / 10)) (digit (n % 10)) (plain_un
 
 -- ---- a reader comes through
 
-text_sign : (s : Sign) (within : List (List ℕ)) → is_plain_sign s ≡ true → read_between s within ≡ at within between
-text_sign letter within h = refl
-text_sign other within h = refl
-text_sign space within h = refl
-text_sign less within h = absurd (cc)
-text_sign greater within h = absurd (cc)
-text_sign quote within h = absurd (cc)
-text_sign ampersand within h = absurd (cc)
-text_sign slash within h = absurd (cc)
-text_sign equals within h = absurd (cc)
-text_sign line_feed within h = absurd (cc)
-text_sign unprinted within h = absurd (cc)
+text_sign : (s : Sign) (c : ℕ) (within : List (List ℕ)) → is_plain_sign s ≡ true → read_at between s c within ≡ at within between
+text_sign letter c within h = refl
+text_sign other c within h = refl
+text_sign space c within h = refl
+text_sign sign c within h = absurd (cc)
 
-quoted_sign : (s : Sign) (tag : Tag) (within : List (List ℕ)) → is_plain_sign s ≡ true → read_quoted s tag within ≡ at within (quoted tag)
-quoted_sign letter tag within h = refl
-quoted_sign other tag within h = refl
-quoted_sign space tag within h = refl
-quoted_sign less tag within h = absurd (cc)
-quoted_sign greater tag within h = absurd (cc)
-quoted_sign quote tag within h = absurd (cc)
-quoted_sign ampersand tag within h = absurd (cc)
-quoted_sign slash tag within h = absurd (cc)
-quoted_sign equals tag within h = absurd (cc)
-quoted_sign line_feed tag within h = absurd (cc)
-quoted_sign unprinted tag within h = absurd (cc)
+quoted_sign : (s : Sign) (c : ℕ) (tag : Tag) (within : List (List ℕ)) → is_plain_sign s ≡ true → read_at (quoted tag) s c within ≡ at within (quoted tag)
+quoted_sign letter c tag within h = refl
+quoted_sign other c tag within h = refl
+quoted_sign space c tag within h = refl
+quoted_sign sign c tag within h = absurd (cc)
 
 -- through plain text between tags
 pub in_text : (within : List (List ℕ)) (text : List ℕ) → is_plain text ≡ true → read (at within between) text ≡ at within between
 in_text within [] h = refl
 in_text within (c ∷ text) h =
     let (here, more) = both (is_plain_sign (sign_of c)) (is_plain text) h in
-    ap (λ (r : Option Reader). read r text) (text_sign (sign_of c) within here) ∙ in_text within text more
+    ap (λ (r : Option Reader). read r text) (text_sign (sign_of c) c within here) ∙ in_text within text more
 
 -- and in quotes
 pub in_quotes : (within : List (List ℕ)) (tag : Tag) (text : List ℕ) → is_plain text ≡ true → read (at within (quoted tag)) text ≡ at within (quoted tag)
 in_quotes within tag [] h = refl
 in_quotes within tag (c ∷ text) h =
     let (here, more) = both (is_plain_sign (sign_of c)) (is_plain text) h in
-    ap (λ (r : Option Reader). read r text) (quoted_sign (sign_of c) tag within here) ∙ in_quotes within tag text more
+    ap (λ (r : Option Reader). read r text) (quoted_sign (sign_of c) c tag within here) ∙ in_quotes within tag text more
 
 -- through one text and then another
 pub reads : (r s t : Option Reader) (a b : List ℕ) → read r a ≡ s → read s b ≡ t → read r (a ++ b) ≡ t
@@ -141,16 +111,7 @@ ArePlain (told text ∷ pieces) = (is_plain text ≡ true) × ArePlain pieces
 abbrev pub stays_at : Place → List (List ℕ) → List ℕ → Option Reader
 stays_at between within text = at within between
 stays_at (quoted tag) within text = at within (quoted tag)
-stays_at opened within text = read (at within opened) text
-stays_at (opening name) within text = read (at within (opening name)) text
-stays_at (closing name) within text = read (at within (closing name)) text
-stays_at (inside tag) within text = read (at within (inside tag)) text
-stays_at (naming name tag) within text = read (at within (naming name tag)) text
-stays_at (assigned tag) within text = read (at within (assigned tag)) text
-stays_at (unquoted tag) within text = read (at within (unquoted tag)) text
-stays_at slashed within text = read (at within slashed) text
-stays_at before within text = read (at within before) text
-stays_at behind within text = read (at within behind) text
+stays_at place within text = read (at within place) text
 
 abbrev pub stays : Option Reader → List ℕ → Option Reader
 stays None text = read None text
@@ -159,16 +120,7 @@ stays (Some reader) text = stays_at reader.place reader.within text
 stays_there : (place : Place) (within : List (List ℕ)) (text : List ℕ) → is_plain text ≡ true → read (at within place) text ≡ stays_at place within text
 stays_there between within text h = in_text within text h
 stays_there (quoted tag) within text h = in_quotes within tag text h
-stays_there opened within text h = refl
-stays_there (opening name) within text h = refl
-stays_there (closing name) within text h = refl
-stays_there (inside tag) within text h = refl
-stays_there (naming name tag) within text h = refl
-stays_there (assigned tag) within text h = refl
-stays_there (unquoted tag) within text h = refl
-stays_there slashed within text h = refl
-stays_there before within text h = refl
-stays_there behind within text h = refl
+stays_there place within text h = refl
 
 told_read : (reader : Option Reader) (text : List ℕ) → is_plain text ≡ true → read reader text ≡ stays reader text
 told_read None text h = refl

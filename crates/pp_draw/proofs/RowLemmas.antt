@@ -1,7 +1,5 @@
--- How many numbers pass a test.
-use Rattle.std.proofs.Common.{◌≡◌, ℕ, ◌+◌, ◌≤◌, Bool, true, false, cond, Option, None, Some, refl, sym, ap, ◌∙◌, add-one, arith}
-use Rattle.std.specs.Prelude.{IsTrue, ◌↔◌}
-use Rattle.std.specs.Option.{IsSome, is_some}
+-- How many places pass a test.
+use Rattle.std.proofs.Common.{◌≡◌, ℕ, ◌+◌, ◌≤◌, Bool, true, false, cond, refl, ap, ◌∙◌, add-one, arith, sym}
 use Rattle.std.specs.Int.{from_bool}
 use Rattle.pp_draw.specs.DrawingText.{count_below}
 
@@ -13,23 +11,14 @@ pub one_more : (k : ℕ) (test : ℕ → Bool) → count_below (k + 1) test ≡ 
 unfolding count_below
 one_more k test = rw (add-one) refl
 
--- what is there where a test passes
-same_test : {T : Type 0} (o : Option T) (b : Bool) → (IsSome o ↔ IsTrue b) → is_some o ≡ b
-same_test None true h = h.1 refl
-same_test None false h = refl
-same_test (Some x) true h = refl
-same_test (Some x) false h = sym (h.0 refl)
-
--- one number more is counted
-pub counted_more : {T : Type 0} (k count one : ℕ) (test : ℕ → Bool) (o : Option T) (is : Bool) → count ≡ count_below k test → (IsSome o ↔ IsTrue (test k)) → is ≡ is_some o → one ≡ from_bool is
-    → count + one ≡ count_below (k + 1) test
-counted_more k count one test o is so_far tests some so =
+-- one place more is counted
+pub counted_more : (k count one : ℕ) (test : ℕ → Bool) (is : Bool) → count ≡ count_below k test → is ≡ test k → one ≡ from_bool is → count + one ≡ count_below (k + 1) test
+counted_more k count one test is so_far tests so =
     ap (λ (n : ℕ). n + one) so_far
-    ∙ ap (λ (n : ℕ). count_below k test + n) (so ∙ ap from_bool (some ∙ same_test o (test k) tests))
-    ∙ by_test (test k)
+    ∙ ap (λ (n : ℕ). count_below k test + n) (so ∙ ap from_bool tests ∙ by_test (test k))
     ∙ sym (one_more k test)
   where
-    by_test : (b : Bool) → count_below k test + from_bool b ≡ count_below k test + cond b 1 0
+    by_test : (b : Bool) → from_bool b ≡ cond b 1 0
     by_test true = refl
     by_test false = refl
 

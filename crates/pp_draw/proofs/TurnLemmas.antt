@@ -1,20 +1,20 @@
 -- How a lane stands in a turn.
-use Rattle.std.proofs.Common.{◌≡◌, ℕ, zero, suc, ◌+◌, ◌-◌, ◌<◌, ◌≤◌, ◌^◌, ◌&&◌, Bool, true, false, cond, eqb, leb, List, [], ◌∷◌, map, Option, None, Some, refl, sym, ap, ◌∙◌, arith, ⊎_elim}
+use Rattle.std.proofs.Common.{◌≡◌, ℕ, ◌+◌, ◌-◌, ◌<◌, ◌≤◌, ◌^◌, ◌&&◌, Bool, true, false, cond, eqb, leb, List, [], ◌∷◌, map, Option, None, Some, refl, sym, ap, ◌∙◌, arith}
 use Rattle.std.specs.Prelude.{◌↔◌, IfSome, IsTrue}
 use Rattle.std.specs.List.{cons_option, filter, last_or}
 use Rattle.std.specs.Option.{option_map}
-use Rattle.std.proofs.lemmas.Bool.{cases_lt, cond-false, cond-true, le-leb, leb-false, leb-true, lt-leb}
+use Rattle.std.proofs.lemmas.Bool.{cond-false, le-leb, leb-false, leb-true, lt-leb}
 use Rattle.pp_machine.specs.MachineState.{MachineState}
 use Rattle.pp_machine.specs.MachineStep.{counted, stepped}
 use Rattle.pp_machine.specs.PpNo.{processor_count}
 use Rattle.pp_machine.specs.Run.{barrel}
 use Rattle.pp_run.specs.RunSteps.{RunStep, run_steps}
 use Rattle.pp_draw.specs.Condition.{goes_on}
-use Rattle.pp_draw.specs.DrawingLaw.{condition_at, condition_in, last_step}
-use Rattle.pp_draw.specs.DrawingText.{count_below}
+use Rattle.pp_draw.specs.DrawingLaw.{last_step, look_at, look_in}
 use Rattle.pp_draw.specs.Phases.{changes, phase_in, phases_from, processor_phases}
 use Rattle.pp_draw.specs.SeenStep.{is_shown, seen, seen_in_window}
-use Rattle.pp_draw.specs.declared.condition.Condition.{Condition}
+use Rattle.pp_draw.specs.declared.condition.Look.{Look}
+use Rattle.pp_draw.specs.declared.condition.Look.TheVariants.{Processor}
 use Rattle.pp_draw.specs.declared.part.Phase.{Phase}
 use Rattle.pp_draw.specs.declared.seen_step.SeenStep.{SeenStep}
 use Rattle.pp_draw.specs.declared.window.Window.{Window}
@@ -76,7 +76,7 @@ changes_in_order : (current : Phase) (turn : ℕ) (more : List Phase) → BeginI
 unfolding changes
 changes_in_order current turn [] h = tt
 changes_in_order current turn (n ∷ more) h =
-    change_in_order (goes_on current.condition n.condition) turn n (changes current more) (changes n more) h.0 (changes_in_order current n.since more h.1) (changes_in_order n n.since more h.1)
+    change_in_order (goes_on current.look n.look) turn n (changes current more) (changes n more) h.0 (changes_in_order current n.since more h.1) (changes_in_order n n.since more h.1)
 
 -- those that have begun by a turn
 abbrev begun : ℕ → List Phase → List Phase
@@ -88,23 +88,23 @@ none_begun turn from (p ∷ more) late h =
     cond-false (leb p.since turn) (p ∷ begun turn more) (begun turn more) (lt-leb p.since turn (omega (arith, late, h.0)))
     ∙ none_begun turn p.since more (omega (arith, late, h.0)) h.1
 
--- the condition in a turn, after a phase that has begun
-abbrev condition_then : ℕ → Phase → List Phase → Option Condition
-condition_then turn phase more = option_map condition_in (last_or (Some phase) (begun turn more))
+-- the look in a turn, after a phase that has begun
+abbrev look_then : ℕ → Phase → List Phase → Option Look
+look_then turn phase more = option_map look_in (last_or (Some phase) (begun turn more))
 
-next_begun : (turn : ℕ) (current n : Phase) (more : List Phase) → leb n.since turn ≡ true → condition_then turn current (n ∷ more) ≡ condition_then turn n more
-next_begun turn current n more is = ap (λ (b : Bool). option_map condition_in (last_or (Some current) (cond b (n ∷ begun turn more) (begun turn more)))) is
+next_begun : (turn : ℕ) (current n : Phase) (more : List Phase) → leb n.since turn ≡ true → look_then turn current (n ∷ more) ≡ look_then turn n more
+next_begun turn current n more is = ap (λ (b : Bool). option_map look_in (last_or (Some current) (cond b (n ∷ begun turn more) (begun turn more)))) is
 
-none_after : (turn from : ℕ) (current : Phase) (more : List Phase) → turn < from → BeginInOrder from more → condition_then turn current more ≡ Some current.condition
-none_after turn from current more late h = ap (λ (ps : List Phase). option_map condition_in (last_or (Some current) ps)) (none_begun turn from more late h)
+none_after : (turn from : ℕ) (current : Phase) (more : List Phase) → turn < from → BeginInOrder from more → look_then turn current more ≡ Some current.look
+none_after turn from current more late h = ap (λ (ps : List Phase). option_map look_in (last_or (Some current) ps)) (none_begun turn from more late h)
 
-one_joined : (turn : ℕ) (current came n : Phase) (more : List Phase) (early on : Bool) → leb n.since turn ≡ early → goes_on current.condition n.condition ≡ on → current.condition ≡ came.condition → BeginInOrder n.since more
-    → (current.condition ≡ n.condition → condition_then turn current (changes current more) ≡ condition_then turn n more) → condition_then turn n (changes n more) ≡ condition_then turn n more
-    → condition_then turn current (changes current (n ∷ more)) ≡ condition_then turn came (n ∷ more)
+one_joined : (turn : ℕ) (current came n : Phase) (more : List Phase) (early on : Bool) → leb n.since turn ≡ early → goes_on current.look n.look ≡ on → current.look ≡ came.look → BeginInOrder n.since more
+    → (current.look ≡ n.look → look_then turn current (changes current more) ≡ look_then turn n more) → look_then turn n (changes n more) ≡ look_then turn n more
+    → look_then turn current (changes current (n ∷ more)) ≡ look_then turn came (n ∷ more)
 one_joined turn current came n more true true is on same order old new =
-    ap (condition_then turn current) (changes_none current n more on) ∙ old (same_on current.condition n.condition on) ∙ sym (next_begun turn came n more is)
+    ap (look_then turn current) (changes_none current n more on) ∙ old (same_on current.look n.look on) ∙ sym (next_begun turn came n more is)
 one_joined turn current came n more true false is over same order old new =
-    ap (condition_then turn current) (changes_next current n more over) ∙ next_begun turn current n (changes n more) is ∙ new ∙ sym (next_begun turn came n more is)
+    ap (look_then turn current) (changes_next current n more over) ∙ next_begun turn current n (changes n more) is ∙ new ∙ sym (next_begun turn came n more is)
 one_joined turn current came n more false on is goes same order old new =
     let late = leb-false n.since turn is in
     let all : BeginInOrder n.since (n ∷ more) = (omega arith, order) in
@@ -112,145 +112,97 @@ one_joined turn current came n more false on is goes same order old new =
     ∙ ap Some same
     ∙ sym (none_after turn n.since came (n ∷ more) late all)
 
-all_joined : (turn from : ℕ) (current came : Phase) (more : List Phase) → current.condition ≡ came.condition → BeginInOrder from more → condition_then turn current (changes current more) ≡ condition_then turn came more
+all_joined : (turn from : ℕ) (current came : Phase) (more : List Phase) → current.look ≡ came.look → BeginInOrder from more → look_then turn current (changes current more) ≡ look_then turn came more
 unfolding changes
 all_joined turn from current came [] same h = ap Some same
 all_joined turn from current came (n ∷ more) same h =
-    one_joined turn current came n more (leb n.since turn) (goes_on current.condition n.condition) refl refl same h.1
+    one_joined turn current came n more (leb n.since turn) (goes_on current.look n.look) refl refl same h.1
     (λ is. all_joined turn n.since current n more is h.1) (all_joined turn n.since n n more refl h.1)
 
 first_joined : (turn from : ℕ) (first : Phase) (more : List Phase) (early : Bool) → leb first.since turn ≡ early → BeginInOrder from (first ∷ more)
-    → condition_at turn (first ∷ changes first more) ≡ condition_at turn (first ∷ more)
+    → look_at turn (first ∷ changes first more) ≡ look_at turn (first ∷ more)
 first_joined turn from first more true is h =
-    ap (λ (b : Bool). option_map condition_in (last_or None (cond b (first ∷ begun turn (changes first more)) (begun turn (changes first more))))) is
+    ap (λ (b : Bool). option_map look_in (last_or None (cond b (first ∷ begun turn (changes first more)) (begun turn (changes first more))))) is
     ∙ all_joined turn first.since first first more refl h.1
-    ∙ sym (ap (λ (b : Bool). option_map condition_in (last_or None (cond b (first ∷ begun turn more) (begun turn more)))) is)
+    ∙ sym (ap (λ (b : Bool). option_map look_in (last_or None (cond b (first ∷ begun turn more) (begun turn more)))) is)
 first_joined turn from first more false is h =
     let late = leb-false first.since turn is in
-    ap (λ (ps : List Phase). option_map condition_in (last_or None ps)) (none_begun turn first.since (first ∷ changes first more) late (omega arith, changes_in_order first first.since more h.1))
-    ∙ sym (ap (λ (ps : List Phase). option_map condition_in (last_or None ps)) (none_begun turn first.since (first ∷ more) late (omega arith, h.1)))
+    ap (λ (ps : List Phase). option_map look_in (last_or None ps)) (none_begun turn first.since (first ∷ changes first more) late (omega arith, changes_in_order first first.since more h.1))
+    ∙ sym (ap (λ (ps : List Phase). option_map look_in (last_or None ps)) (none_begun turn first.since (first ∷ more) late (omega arith, h.1)))
 
-joined_at : (turn from : ℕ) (phases : List Phase) → BeginInOrder from phases → condition_at turn (phases_from None phases) ≡ condition_at turn phases
+joined_at : (turn from : ℕ) (phases : List Phase) → BeginInOrder from phases → look_at turn (phases_from None phases) ≡ look_at turn phases
 joined_at turn from [] h = refl
 joined_at turn from (first ∷ more) h = first_joined turn from first more (leb first.since turn) refl h
 
--- ---- steps that are not shown
+-- ---- the last step that is shown
 
 pub shown_where : (w : Window) (step : SeenStep) → IsTrue (is_shown w step) ↔ (w.from ≤ step.turn + processor_count)
 shown_where w step = (λ h. omega (arith, leb-true (w.from - processor_count) step.turn h), λ h. le-leb (w.from - processor_count) step.turn (omega (arith, h)))
 
-all_shown : (w : Window) (turn : ℕ) (steps : List SeenStep) → w.from - processor_count ≤ turn → AreInOrder turn steps → filter (is_shown w) steps ≡ steps
-all_shown w turn [] low h = refl
-all_shown w turn (s ∷ more) low h =
-    cond-true (is_shown w s) (s ∷ filter (is_shown w) more) (filter (is_shown w) more) (le-leb (w.from - processor_count) s.turn (omega (arith, low, h.0)))
-    ∙ ap (λ (ss : List SeenStep). s ∷ ss) (all_shown w s.turn more (omega (arith, low, h.0)) h.1)
+-- the last element that has a property is also the last of those that pass a test, if it passes
+filter_cond : {T : Type 0} (has : T → Bool) (b : Bool) (y : T) (more : List T) → filter has (cond b (y ∷ more) more) ≡ cond b (cond (has y) (y ∷ filter has more) (filter has more)) (filter has more)
+filter_cond has true y more = refl
+filter_cond has false y more = refl
 
-from_start : (o : Option Phase) (phases : List Phase) (p : Phase) → (o ≡ Some p → ⊥) → last_or o phases ≡ Some p → last_or None phases ≡ Some p
-from_start o [] p other is = absurd (other is)
-from_start o (first ∷ phases) p other is = is
+one_left : {T : Type 0} (passes : T → Bool) (x : T) → passes x ≡ true → (o q : Option T) (y : T) (all left : List T) (h p : Bool) → passes y ≡ p → (o ≡ Some x → q ≡ Some x)
+    → ((a b : Option T) → (a ≡ Some x → b ≡ Some x) → last_or a all ≡ Some x → last_or b left ≡ Some x)
+    → last_or o (cond h (y ∷ all) all) ≡ Some x → last_or q (cond p (cond h (y ∷ left) left) left) ≡ Some x
+one_left passes x x_passes o q y all left true true is same rest last = rest (Some y) (Some y) (λ e. e) last
+one_left passes x x_passes o q y all left true false is same rest last = rest (Some y) q (λ e. absurd (cc)) last
+one_left passes x x_passes o q y all left false true is same rest last = rest o q same last
+one_left passes x x_passes o q y all left false false is same rest last = rest o q same last
 
-one_passed : (turn : ℕ) (own early : Bool) (o : Option Phase) (p : Phase) (phases : List Phase) → leb p.since turn ≡ early
-    → last_or (cond own (cond early (Some p) o) o) (begun turn phases) ≡ last_or o (begun turn (cons_option (cond own (Some p) None) phases))
-one_passed turn true true o p phases is = sym (ap (λ (b : Bool). last_or o (cond b (p ∷ begun turn phases) (begun turn phases))) is)
-one_passed turn true false o p phases is = sym (ap (λ (b : Bool). last_or o (cond b (p ∷ begun turn phases) (begun turn phases))) is)
-one_passed turn false early o p phases is = refl
-
--- the last phase of a processor that has begun, by these steps
-abbrev last_begun : ℕ → ℕ → Option Phase → List SeenStep → Option Phase
-last_begun n turn o steps = last_or o (begun turn (processor_phases n steps))
-
-abbrev since_or_0 : Option Phase → ℕ
-since_or_0 None = 0
-since_or_0 (Some p) = p.since
-
--- one that is not shown is not the last
-still_other : (w : Window) (own early : Bool) (o : Option Phase) (s : SeenStep) (p : Phase) → is_shown w s ≡ false → leb (w.from - processor_count) p.since ≡ true
-    → (o ≡ Some p → ⊥) → cond own (cond early (Some (phase_in s)) o) o ≡ Some p → ⊥
-still_other w true true o s p is shown other same =
-    omega (arith, leb-false (w.from - processor_count) s.turn is, leb-true (w.from - processor_count) p.since shown, ap since_or_0 same)
-still_other w true false o s p is shown other same = other same
-still_other w false early o s p is shown other same = other same
-
-one_shown : (w : Window) (n turn : ℕ) (o : Option Phase) (s : SeenStep) (more : List SeenStep) (p : Phase) (b : Bool) → is_shown w s ≡ b → leb (w.from - processor_count) p.since ≡ true → AreInOrder s.turn more
-    → ((q : Option Phase) → (q ≡ Some p → ⊥) → last_begun n turn q more ≡ Some p → last_begun n turn None (filter (is_shown w) more) ≡ Some p)
-    → (o ≡ Some p → ⊥) → last_begun n turn o (s ∷ more) ≡ Some p → last_begun n turn None (filter (is_shown w) (s ∷ more)) ≡ Some p
-one_shown w n turn o s more p true is shown order rest other last =
-    ap (last_begun n turn None) (all_shown w s.turn (s ∷ more) (leb-true (w.from - processor_count) s.turn is) (omega arith, order))
-    ∙ from_start o (begun turn (processor_phases n (s ∷ more))) p other last
-one_shown w n turn o s more p false is shown order rest other last =
-    let own = eqb s.pp n in
-    let early = leb s.turn turn in
-    ap (last_begun n turn None) (cond-false (is_shown w s) (s ∷ filter (is_shown w) more) (filter (is_shown w) more) is)
-    ∙ rest (cond own (cond early (Some (phase_in s)) o) o) (still_other w own early o s p is shown other) (one_passed turn own early o (phase_in s) (processor_phases n more) refl ∙ last)
-
-last_shown : (w : Window) (n turn from : ℕ) (p : Phase) → leb (w.from - processor_count) p.since ≡ true → (o : Option Phase) (steps : List SeenStep) → AreInOrder from steps
-    → (o ≡ Some p → ⊥) → last_begun n turn o steps ≡ Some p → last_begun n turn None (filter (is_shown w) steps) ≡ Some p
-last_shown w n turn from p shown o [] h other last = absurd (other last)
-last_shown w n turn from p shown o (s ∷ more) h other last =
-    one_shown w n turn o s more p (is_shown w s) refl shown h.1 (λ q differs is. last_shown w n turn s.turn p shown q more h.1 differs is) other last
-
--- ---- steps of a run
+last_left : {T : Type 0} (has passes : T → Bool) (x : T) → passes x ≡ true → (o q : Option T) (xs : List T) → (o ≡ Some x → q ≡ Some x) → last_or o (filter has xs) ≡ Some x
+    → last_or q (filter has (filter passes xs)) ≡ Some x
+last_left has passes x x_passes o q [] same last = same last
+last_left has passes x x_passes o q (y ∷ more) same last =
+    ap (last_or q) (filter_cond has (passes y) y (filter passes more))
+    ∙ one_left passes x x_passes o q y (filter has more) (filter has (filter passes more)) (has y) (passes y) refl same (λ a b. last_left has passes x x_passes a b more) last
 
 -- the phase that a step of a run begins
 abbrev phase_of : RunStep → Phase
 phase_of step = phase_in (seen step)
 
--- the steps of processor n up to a turn
-abbrev steps_of : ℕ → ℕ → List RunStep → List RunStep
-steps_of n turn steps = filter (λ (step : RunStep). eqb step.processor n && leb step.before.turns turn) steps
+-- whether a step is processor n's, and of a turn up to this one
+abbrev is_early : ℕ → ℕ → RunStep → Bool
+is_early n turn step = eqb step.processor n && leb step.before.turns turn
 
-same_last : (own early : Bool) (o : Option Phase) (q : Option RunStep) (s : RunStep) → o ≡ option_map phase_of q
-    → cond own (cond early (Some (phase_of s)) o) o ≡ option_map phase_of (cond own (cond early (Some s) q) q)
-same_last true true o q s same = refl
-same_last true false o q s same = same
-same_last false early o q s same = same
+one_own : (turn : ℕ) (s : RunStep) (own early : Bool) (phases : List Phase) (steps : List RunStep) → leb s.before.turns turn ≡ early → begun turn phases ≡ map phase_of steps
+    → begun turn (cons_option (cond own (Some (phase_of s)) None) phases) ≡ map phase_of (cond (own && early) (s ∷ steps) steps)
+one_own turn s true true phases steps is rest = ap (λ (b : Bool). cond b (phase_of s ∷ begun turn phases) (begun turn phases)) is ∙ ap (λ (ps : List Phase). phase_of s ∷ ps) rest
+one_own turn s true false phases steps is rest = ap (λ (b : Bool). cond b (phase_of s ∷ begun turn phases) (begun turn phases)) is ∙ rest
+one_own turn s false early phases steps is rest = rest
 
-step_passed : (own early : Bool) (q : Option RunStep) (s : RunStep) (steps : List RunStep) → last_or (cond own (cond early (Some s) q) q) steps ≡ last_or q (cond (own && early) (s ∷ steps) steps)
-step_passed true true q s steps = refl
-step_passed true false q s steps = refl
-step_passed false early q s steps = refl
+one_begun : (n turn : ℕ) (s : RunStep) (left : List SeenStep) (steps : List RunStep) (b : Bool) → begun turn (processor_phases n left) ≡ map phase_of (filter (is_early n turn) steps)
+    → begun turn (processor_phases n (cond b (seen s ∷ left) left)) ≡ map phase_of (filter (is_early n turn) (cond b (s ∷ steps) steps))
+one_begun n turn s left steps true rest = one_own turn s (eqb s.processor n) (leb s.before.turns turn) (processor_phases n left) (filter (is_early n turn) steps) refl rest
+one_begun n turn s left steps false rest = rest
 
-last_of_run : (n turn : ℕ) (o : Option Phase) (q : Option RunStep) (steps : List RunStep) → o ≡ option_map phase_of q → last_begun n turn o (map seen steps) ≡ option_map phase_of (last_or q (steps_of n turn steps))
-last_of_run n turn o q [] same = same
-last_of_run n turn o q (s ∷ more) same =
-    let own = eqb s.processor n in
-    let early = leb s.before.turns turn in
-    sym (one_passed turn own early o (phase_of s) (processor_phases n (map seen more)) refl)
-    ∙ last_of_run n turn (cond own (cond early (Some (phase_of s)) o) o) (cond own (cond early (Some s) q) q) more (same_last own early o q s same)
-    ∙ ap (option_map phase_of) (step_passed own early q s (steps_of n turn more))
+begun_by : (w : Window) (n turn : ℕ) (steps : List RunStep)
+    → begun turn (processor_phases n (filter (is_shown w) (map seen steps))) ≡ map phase_of (filter (is_early n turn) (filter (λ (s : RunStep). is_shown w (seen s)) steps))
+begun_by w n turn [] = refl
+begun_by w n turn (s ∷ more) = one_begun n turn s (filter (is_shown w) (map seen more)) (filter (λ (t : RunStep). is_shown w (seen t)) more) (is_shown w (seen s)) (begun_by w n turn more)
+
+last_mapped : (o : Option RunStep) (steps : List RunStep) → last_or (option_map phase_of o) (map phase_of steps) ≡ option_map phase_of (last_or o steps)
+last_mapped o [] = refl
+last_mapped o (s ∷ more) = last_mapped (Some s) more
 
 -- what is drawn of processor n in a turn
-abbrev drawn_at : Window → ℕ → MachineState → ℕ → Option Condition
-drawn_at w n m turn = condition_at turn (phases_from None (processor_phases n (seen_in_window w m)))
+abbrev drawn_at : Window → ℕ → MachineState → ℕ → Option Look
+drawn_at w n m turn = look_at turn (phases_from None (processor_phases n (seen_in_window w m)))
 
-by_last : (w : Window) (n : ℕ) (m : MachineState) (turn : ℕ) → m.turns < 2 ^ 64 → (last : Option RunStep) → last_begun n turn None (map seen (run_steps (barrel m.profile w.to) m)) ≡ option_map phase_of last
-    → IfSome last (λ (step : RunStep). w.from ≤ step.before.turns + processor_count → drawn_at w n m turn ≡ Some (seen step).condition)
+by_last : (w : Window) (n : ℕ) (m : MachineState) (turn : ℕ) → m.turns < 2 ^ 64 → (last : Option RunStep) → last_step n turn (run_steps (barrel m.profile w.to) m) ≡ last
+    → IfSome last (λ (step : RunStep). w.from ≤ step.before.turns + processor_count → drawn_at w n m turn ≡ Some (Processor (seen step).condition))
 by_last w n m turn low None is = tt
 by_last w n m turn low (Some step) is = λ near.
-    let steps = map seen (run_steps (barrel m.profile w.to) m) in
-    let order = steps_in_order (barrel m.profile w.to) m low in
-    joined_at turn m.turns (processor_phases n (seen_in_window w m)) (phases_in_order n m.turns (filter (is_shown w) steps) (shown_in_order w m.turns steps order))
-    ∙ ap (option_map condition_in) (last_shown w n turn m.turns (phase_of step) (le-leb (w.from - processor_count) step.before.turns (omega (arith, near))) None steps order (λ none. absurd (cc)) is)
+    let steps = run_steps (barrel m.profile w.to) m in
+    let passes = λ (s : RunStep). is_shown w (seen s) in
+    let order = shown_in_order w m.turns (map seen steps) (steps_in_order (barrel m.profile w.to) m low) in
+    joined_at turn m.turns (processor_phases n (seen_in_window w m)) (phases_in_order n m.turns (filter (is_shown w) (map seen steps)) order)
+    ∙ ap (λ (ps : List Phase). option_map look_in (last_or None ps)) (begun_by w n turn steps)
+    ∙ ap (option_map look_in) (last_mapped None (filter (is_early n turn) (filter passes steps)))
+    ∙ ap (λ (o : Option RunStep). option_map look_in (option_map phase_of o)) (last_left (is_early n turn) passes step (le-leb (w.from - processor_count) step.before.turns (omega (arith, near))) None None steps (λ e. e) is)
 
 pub last_at_turn : (w : Window) (n : ℕ) (m : MachineState) (turn : ℕ) → m.turns < 2 ^ 64
-    → IfSome (last_step n turn (run_steps (barrel m.profile w.to) m)) (λ (step : RunStep). w.from ≤ step.before.turns + processor_count → drawn_at w n m turn ≡ Some (seen step).condition)
-last_at_turn w n m turn low =
-    by_last w n m turn low (last_step n turn (run_steps (barrel m.profile w.to) m))
-    (last_of_run n turn None None (run_steps (barrel m.profile w.to) m) refl)
-
--- ---- lanes below one another
-
-counted_below : (k : ℕ) (test : ℕ → Bool) → count_below (suc k) test ≡ count_below k test + cond (test k) 1 0
-unfolding count_below
-counted_below k test = refl
-
-pub lower_row : (test : ℕ → Bool) (a b : ℕ) → IsTrue (test a) → a < b → count_below a test < count_below b test
-lower_row test a zero has less = absurd (omega (arith, less))
-lower_row test a (suc k) has less =
-    ⊎_elim
-    (λ (l : a < k). omega (arith, lower_row test a k has l, counted_below k test))
-    (λ (l : k ≤ a).
-    let is : a ≡ k = omega (arith, less, l) in
-    let one : ◌≡◌ {A = ℕ} (cond (test k) 1 0) 1 = ap (λ (j : ℕ). cond (test j) 1 0) (sym is) ∙ ap (λ (b : Bool). cond b 1 0) has in
-    omega (arith, one, counted_below k test, ap (λ (j : ℕ). count_below j test) is))
-    (cases_lt a k)
+    → IfSome (last_step n turn (run_steps (barrel m.profile w.to) m)) (λ (step : RunStep). w.from ≤ step.before.turns + processor_count → drawn_at w n m turn ≡ Some (Processor (seen step).condition))
+last_at_turn w n m turn low = by_last w n m turn low (last_step n turn (run_steps (barrel m.profile w.to) m)) refl

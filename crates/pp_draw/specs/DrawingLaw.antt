@@ -7,13 +7,13 @@ use Rattle.pp_machine.specs.declared.trace.Trace.{Trace}
 use Rattle.pp_run.specs.RunSteps.{RunStep}
 use Rattle.pp_draw.specs.Condition.{goes_on}
 use Rattle.pp_draw.specs.Window.{band_width}
-use Rattle.pp_draw.specs.declared.condition.Condition.{Condition}
+use Rattle.pp_draw.specs.declared.condition.Look.{Look}
 use Rattle.pp_draw.specs.declared.part.Part.{Part}
 use Rattle.pp_draw.specs.declared.part.Phase.{Phase}
 use Rattle.pp_draw.specs.declared.window.Window.{Window}
 
-abbrev pub condition_in : Phase → Condition
-condition_in phase = phase.condition
+abbrev pub look_in : Phase → Look
+look_in phase = phase.look
 
 abbrev pub first_turn : Phase → ℕ
 first_turn phase = phase.since
@@ -27,15 +27,15 @@ turns_on c trace =
 abbrev pub opening_turns : ℕ → MachineState → List ℕ
 opening_turns c m = if is_opened c m then 0 ∷ [] else []
 
--- whether a phase goes on under the condition of what came last
+-- whether a phase goes on under the look of what came last
 abbrev pub goes_on_from : Option Phase → Phase → Bool
 goes_on_from None next = false
-goes_on_from (Some last) next = goes_on last.condition next.condition
+goes_on_from (Some last) next = goes_on last.look next.look
 
 -- how things stand in a turn: by the last phase that has begun
-abbrev pub condition_at : ℕ → List Phase → Option Condition
-condition_at turn phases =
-    option_map condition_in (last_or None (filter (λ phase. nat_le phase.since turn) phases))
+abbrev pub look_at : ℕ → List Phase → Option Look
+look_at turn phases =
+    option_map look_in (last_or None (filter (λ phase. nat_le phase.since turn) phases))
 
 -- the last step of processor n up to a turn
 abbrev pub last_step : ℕ → ℕ → List RunStep → Option RunStep

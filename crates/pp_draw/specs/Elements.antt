@@ -1,90 +1,69 @@
 -- The elements of the picture. What a run decides stands in them as digits alone.
-use Rattle.std.specs.Prelude.{ℕ, ◌+◌, ◌-◌, Bool, List, [], ◌++◌, codes, if◌then◌else◌}
-use Rattle.pp_text.specs.Numeral.{octal, short_decimal}
-use Rattle.pp_draw.specs.Part.{is_labelled, is_visible}
-use Rattle.pp_draw.specs.declared.condition.Condition.{Condition}
-use Rattle.pp_draw.specs.declared.condition.Condition.TheVariants.{Inactive, Empty, Full, Sent, Running, InBlock, HeldBy, Stopped, Faulted}
+use Rattle.std.specs.Prelude.{ℕ, ◌+◌, ◌-◌, Bool, List, [], ◌++◌, Option, None, Some, codes, if◌then◌else◌}
+use Rattle.pp_text.specs.Numeral.{short_decimal}
+use Rattle.pp_draw.specs.Condition.{face_of}
+use Rattle.pp_draw.specs.Part.{is_visible, label_from}
 use Rattle.pp_draw.specs.declared.part.Part.{Part}
 
--- `CH05`
-abbrev pub channel_name : ℕ → List ℕ
-channel_name c = codes "CH" ++ octal 2 c
+-- the tag of a rectangle of a class, at a place and of a size, without its end
+unfoldable pub rectangle_tag : List ℕ → ℕ → ℕ → ℕ → ℕ → List ℕ
+rectangle_tag class x y width height =
+    codes "<rect class='" ++ class ++ codes "' x='" ++ short_decimal x ++ codes "' y='"
+    ++ short_decimal y ++ codes "' width='" ++ short_decimal width ++ codes "' height='"
+    ++ short_decimal height ++ codes "'"
 
--- `PP00`
-abbrev pub processor_name : ℕ → List ℕ
-processor_name n = codes "PP" ++ octal 2 n
+-- the tag of a text of a class, at a place
+unfoldable pub text_tag : List ℕ → ℕ → ℕ → List ℕ
+text_tag class x y =
+    codes "<text class='" ++ class ++ codes "' x='" ++ short_decimal x ++ codes "' y='"
+    ++ short_decimal y ++ codes "'>"
 
--- the class of a condition, a letter that the style sheet gives a colour
-abbrev pub condition_class : Condition → List ℕ
-condition_class Inactive = codes "i"
-condition_class Empty = codes "a"
-condition_class (Full word) = codes "f"
-condition_class (Sent code) = codes "c"
-condition_class Running = codes "r"
-condition_class InBlock = codes "b"
-condition_class (HeldBy c) = codes "h"
-condition_class Stopped = codes "s"
-condition_class Faulted = codes "x"
+-- and with these words
+abbrev pub text_element : List ℕ → ℕ → ℕ → List ℕ → List ℕ
+text_element class x y said = text_tag class x y ++ said ++ codes "</text>\n"
 
 -- a lost word has a class of its own
-unfoldable pub part_class : Part → List ℕ
-part_class part = if part.is_lost then codes "l" else condition_class part.condition
-
--- `full 0007`
-abbrev pub condition_text : Condition → List ℕ
-condition_text Inactive = codes "inactive"
-condition_text Empty = codes "active"
-condition_text (Full word) = codes "full " ++ octal 4 word
-condition_text (Sent code) = codes "function " ++ octal 4 code
-condition_text Running = codes "running"
-condition_text InBlock = codes "in a block"
-condition_text (HeldBy c) = codes "held by " ++ channel_name c
-condition_text Stopped = codes "stopped"
-condition_text Faulted = codes "at fault"
+abbrev pub part_class : Part → List ℕ
+part_class part = if part.is_lost then codes "l" else (face_of part.look).class
 
 abbrev pub lost_text : Bool → List ℕ
 lost_text is_lost = if is_lost then codes " lost" else []
 
+abbrev pub label_text : Option (List ℕ) → List ℕ
+label_text None = []
+label_text (Some text) = text
+
 -- `CH05 full 0007 lost from 20 to 30`
 unfoldable pub title_text : List ℕ → Part → List ℕ
 title_text name part =
-    name ++ codes " " ++ condition_text part.condition ++ lost_text part.is_lost
-    ++ codes " from " ++ short_decimal part.since ++ codes " to " ++ short_decimal part.until
-
--- where the band of a part lies, and its colour
-unfoldable pub band_place : Part → List ℕ
-band_place part =
-    codes "<rect class='" ++ part_class part ++ codes "' x='" ++ short_decimal part.start
-    ++ codes "' y='14' width='" ++ short_decimal (part.end - part.start)
-    ++ codes "' height='16'>"
+    name ++ codes " " ++ (face_of part.look).words ++ label_text (face_of part.look).label
+    ++ lost_text part.is_lost ++ codes " from " ++ short_decimal part.since ++ codes " to "
+    ++ short_decimal part.until
 
 -- the band of a part of the lane with this name, and its title
 abbrev pub band_element : List ℕ → Part → List ℕ
 band_element name part =
-    band_place part ++ codes "<title>" ++ title_text name part ++ codes "</title></rect>\n"
+    rectangle_tag (part_class part) part.start 14 (part.end - part.start) 16
+    ++ codes "><title>" ++ title_text name part ++ codes "</title></rect>\n"
 
--- the word, the function code or the channel
-abbrev pub label : Condition → List ℕ
-label (Full word) = octal 4 word
-label (Sent code) = octal 4 code
-label (HeldBy c) = channel_name c
-label condition = []
-
--- the label above a band
-unfoldable pub label_element : Part → List ℕ
-label_element part =
-    codes "<text class='" ++ part_class part ++ codes "' x='" ++ short_decimal part.start
-    ++ codes "' y='10'>" ++ label part.condition ++ codes "</text>\n"
+-- the label above it, if there is one
+abbrev pub label_element : Part → Option (List ℕ) → List ℕ
+label_element part None = []
+label_element part (Some text) = text_element (part_class part) part.start 10 text
 
 -- what is written of a part, where there is room for a label from this place on
 abbrev pub part_elements : List ℕ → ℕ → Part → List ℕ
 part_elements name free part =
     (if is_visible part then band_element name part else [])
-    ++ (if is_labelled free part then label_element part else [])
+    ++ label_element part (label_from free part)
 
--- the place from which there is room after it
+-- the place from which there is room after its label, if it has one
+abbrev pub room_after : ℕ → Part → Option (List ℕ) → ℕ
+room_after free part None = free
+room_after free part (Some text) = part.start + 30
+
 abbrev pub free_after : ℕ → Part → ℕ
-free_after free part = if is_labelled free part then part.start + 30 else free
+free_after free part = room_after free part (label_from free part)
 
 -- how a lane begins: the place of its upper edge, its name, and a line under all turns
 unfoldable pub lane_head : ℕ → List ℕ → ℕ → List ℕ
@@ -95,7 +74,6 @@ lane_head top name width =
     ++ codes "' height='1'/>\n"
 
 -- how it ends: with how things stand behind the last turn
-unfoldable pub lane_foot : ℕ → List ℕ → List ℕ
+abbrev pub lane_foot : ℕ → List ℕ → List ℕ
 lane_foot width standing =
-    codes "<text class='e' x='" ++ short_decimal (width + 8) ++ codes "' y='26'>" ++ standing
-    ++ codes "</text>\n</g>\n"
+    text_element (codes "e") (width + 8) 26 standing ++ codes "</g>\n"

@@ -1,8 +1,9 @@
 -- What stands round the lanes: the head of the picture with its style sheet, the legend, the scale
 -- of turns.
-use Rattle.std.specs.Prelude.{ℕ, ◌+◌, ◌-◌, ◌*◌, ◌/◌, List, ◌++◌, codes, max, nat_le, if◌then◌else◌}
+use Rattle.std.specs.Prelude.{ℕ, ◌+◌, ◌-◌, ◌*◌, ◌%◌, ◌==◌, List, [], ◌++◌, codes, max, nat_le, if◌then◌else◌}
 use Rattle.pp_text.specs.Numeral.{short_decimal}
 use Rattle.pp_text.specs.PrintedText.{each_below}
+use Rattle.pp_draw.specs.Elements.{rectangle_tag, text_element}
 use Rattle.pp_draw.specs.Window.{band_width, place}
 use Rattle.pp_draw.specs.declared.window.Window.{Window}
 
@@ -18,40 +19,24 @@ abbrev pub picture_height : ℕ → ℕ
 picture_height rows = lane_top rows + 28
 
 -- its first lines: its size, and what it shows
-unfoldable pub size_text : ℕ → ℕ → List ℕ
-size_text width height =
-    codes "<svg xmlns='http://www.w3.org/2000/svg' width='" ++ short_decimal width
-    ++ codes "' height='" ++ short_decimal height
-
-unfoldable pub view_text : ℕ → ℕ → List ℕ
-view_text width height =
-    codes "' viewBox='0 0 " ++ short_decimal width ++ codes " " ++ short_decimal height
-    ++ codes "'>\n"
-
-unfoldable pub caption_text : Window → List ℕ
-caption_text w =
-    codes "<title>Channels and processors, turns " ++ short_decimal w.from ++ codes " to "
-    ++ short_decimal w.to ++ codes "</title>\n"
-
-abbrev pub head_text : Window → ℕ → List ℕ
+unfoldable pub head_text : Window → ℕ → List ℕ
 head_text w rows =
-    size_text (picture_width w) (picture_height rows)
-    ++ view_text (picture_width w) (picture_height rows) ++ caption_text w
+    codes "<svg xmlns='http://www.w3.org/2000/svg' width='" ++ short_decimal (picture_width w)
+    ++ codes "' height='" ++ short_decimal (picture_height rows) ++ codes "' viewBox='0 0 "
+    ++ short_decimal (picture_width w) ++ codes " " ++ short_decimal (picture_height rows)
+    ++ codes "'>\n<title>Channels and processors, turns " ++ short_decimal w.from
+    ++ codes " to " ++ short_decimal w.to ++ codes "</title>\n"
 
--- colours, light and dark
-unfoldable pub colours_text : List ℕ
-colours_text =
+-- colours, light and dark, the classes that have them, and the ground
+unfoldable pub style_text : List ℕ
+style_text =
     codes "<style>\n:root{--ink:#1b1f24;--soft:#5c6570;--line:#d5d9de;--ground:#fff;"
     ++ codes "--full:#2f6fb3;--empty:#cfe1f4;--lost:#c0392b;--code:#7d4fa8;--run:#9bb8a0;"
     ++ codes "--block:#4f8159;--held:#e3a63b}\n"
     ++ codes "@media(prefers-color-scheme:dark){:root{--ink:#e6e9ed;--soft:#9aa3ad;--line:#3a414a;"
     ++ codes "--ground:#15181c;--full:#5b9bdc;--empty:#22384f;--lost:#e06757;--code:#b48ad6;"
     ++ codes "--run:#4f7257;--block:#7fb38a;--held:#c98d2a}}\n"
-
--- and the classes that have them
-unfoldable pub classes_text : List ℕ
-classes_text =
-    codes "text{font:11px ui-monospace,Menlo,Consolas,monospace;fill:var(--ink)}\n"
+    ++ codes "text{font:11px ui-monospace,Menlo,Consolas,monospace;fill:var(--ink)}\n"
     ++ codes "rect.z{fill:var(--ground)}rect.g{fill:var(--line)}rect.u{fill:var(--soft)}"
     ++ codes "rect.i,rect.s{fill:transparent}rect.a{fill:var(--empty)}rect.f{fill:var(--full)}"
     ++ codes "rect.l,rect.x{fill:var(--lost)}rect.c{fill:var(--code)}rect.r{fill:var(--run)}"
@@ -70,10 +55,7 @@ legend_text =
     ++ codes "<text class='e' x='147' y='10'>lost</text>\n"
     ++ codes "<rect class='c' x='190' width='12' height='12'/><text class='e' x='206' y='10'>"
     ++ codes "function code</text>\n"
-
-unfoldable pub processor_legend_text : List ℕ
-processor_legend_text =
-    codes "<rect class='r' x='308' width='12' height='12'/><text class='e' x='324' y='10'>"
+    ++ codes "<rect class='r' x='308' width='12' height='12'/><text class='e' x='324' y='10'>"
     ++ codes "running</text>\n<rect class='b' x='387' width='12' height='12'/>"
     ++ codes "<text class='e' x='403' y='10'>in a block</text>\n"
     ++ codes "<rect class='h' x='485' width='12' height='12'/><text class='e' x='501' y='10'>"
@@ -85,36 +67,19 @@ processor_legend_text =
 abbrev pub tick_turns : Window → ℕ
 tick_turns w = if nat_le (w.to - w.from) 100 then 10 else 20
 
--- the first line in the window is this many such turns from turn 0, and there are so many lines
-abbrev pub first_tick : Window → ℕ
-first_tick w = (w.from + (tick_turns w - 1)) / tick_turns w
-
-abbrev pub tick_count : Window → ℕ
-tick_count w = w.to / tick_turns w + 1 - first_tick w
-
--- the line of a turn, in a picture with this many lanes
-unfoldable pub tick_line : Window → ℕ → ℕ → List ℕ
-tick_line w rows turn =
-    codes "<rect class='g' x='" ++ short_decimal (place w turn + 80)
-    ++ codes "' y='32' width='1' height='" ++ short_decimal (36 * rows + 8) ++ codes "'/>\n"
-
--- and its number
-unfoldable pub tick_number : Window → ℕ → ℕ → List ℕ
-tick_number w rows turn =
-    codes "<text class='t' x='" ++ short_decimal (place w turn + 80) ++ codes "' y='"
-    ++ short_decimal (lane_top rows + 18) ++ codes "'>" ++ short_decimal turn
-    ++ codes "</text>\n"
-
+-- the line of a turn and its number, in a picture with this many lanes
 abbrev pub tick_element : Window → ℕ → ℕ → List ℕ
-tick_element w rows turn = tick_line w rows turn ++ tick_number w rows turn
+tick_element w rows turn =
+    rectangle_tag (codes "g") (place w turn + 80) 32 1 (36 * rows + 8) ++ codes "/>\n"
+    ++ text_element (codes "t") (place w turn + 80) (lane_top rows + 18) (short_decimal turn)
 
--- all lines
+-- the scale of a turn, which may have a line, and of the window with the turn at its end
+abbrev pub tick_text : Window → ℕ → ℕ → List ℕ
+tick_text w rows turn = if turn % tick_turns w == 0 then tick_element w rows turn else []
+
 abbrev pub ticks_text : Window → ℕ → List ℕ
-ticks_text w rows =
-    each_below (tick_count w) (λ i. tick_element w rows (tick_turns w * (first_tick w + i)))
+ticks_text w rows = each_below (w.to + 1 - w.from) (λ i. tick_text w rows (w.from + i))
 
 -- what the scale counts, and the end
-unfoldable pub foot_text : ℕ → List ℕ
-foot_text rows =
-    codes "<text class='e' x='8' y='" ++ short_decimal (lane_top rows + 18)
-    ++ codes "'>turn</text>\n</svg>\n"
+abbrev pub foot_text : ℕ → List ℕ
+foot_text rows = text_element (codes "e") 8 (lane_top rows + 18) (codes "turn") ++ codes "</svg>\n"

@@ -23,8 +23,16 @@ drawn_from w name free (phase ∷ more) =
 abbrev pub drawn : Window → List ℕ → List Phase → List ℕ
 drawn w name phases = drawn_from w name 0 (phases_from None phases)
 
--- phases come, and this text is printed: whatever comes then, the other text is still to come
-abbrev pub TakesIn : Window → List ℕ → Lane → List Phase → List ℕ → Lane → Type 0
-TakesIn w name old phases printed new = (rest : List Phase)
-    → drawn_from w name old.free (phases_from old.current (phases ++ rest))
-    ≡ printed ++ drawn_from w name new.free (phases_from new.current rest)
+-- a lane before its first phase
+abbrev pub new_lane : Window → List ℕ → Lane
+new_lane w name = record { window = w; name = name; current = None; free = 0 }
+
+-- what is still written of a lane, as these phases come
+abbrev pub still_drawn : Lane → List Phase → List ℕ
+still_drawn lane phases =
+    drawn_from lane.window lane.name lane.free (phases_from lane.current phases)
+
+-- these phases come, and this text is printed, whatever phases come after them
+abbrev pub TakesIn : Lane → List Phase → List ℕ → Lane → Type 0
+TakesIn old phases printed new = (rest : List Phase)
+    → still_drawn old (phases ++ rest) ≡ printed ++ still_drawn new rest

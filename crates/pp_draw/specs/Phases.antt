@@ -3,24 +3,27 @@ use Rattle.std.specs.Prelude.{ℕ, ◌==◌, List, [], ◌∷◌, ◌++◌, Opti
 use Rattle.std.specs.List.{filter_map}
 use Rattle.pp_machine.specs.MachineState.{MachineState, is_opened}
 use Rattle.pp_machine.specs.declared.trace.Trace.{Trace}
-use Rattle.pp_draw.specs.Condition.{condition_after, goes_on}
-use Rattle.pp_draw.specs.declared.condition.Condition.TheVariants.{Empty}
+use Rattle.pp_draw.specs.Condition.{goes_on, look_after}
+use Rattle.pp_channel.specs.declared.event.Event.TheVariants.{Activate}
+use Rattle.pp_draw.specs.declared.condition.Look.TheVariants.{Processor}
 use Rattle.pp_draw.specs.declared.part.Phase.{Phase}
 use Rattle.pp_draw.specs.declared.seen_step.SeenStep.{SeenStep}
 
 -- a channel that dead start opened, from turn 0 on
 abbrev pub opening_phases : ℕ → MachineState → List Phase
 opening_phases c m =
-    if is_opened c m then (record { since = 0; condition = Empty }) ∷ [] else []
+    if is_opened c m then (record { since = 0; look = look_after Activate }) ∷ [] else []
 
 -- a channel after an event
 abbrev pub phase_after : Trace → Phase
-phase_after entry = record { since = entry.turn; condition = condition_after entry.event }
+phase_after entry = record { since = entry.turn; look = look_after entry.event }
 
--- channel c after each of the events on it
+-- the phase that an entry of the trace begins on channel c, and all of them
+abbrev pub phase_on : ℕ → Trace → Option Phase
+phase_on c entry = if entry.channel == c then Some (phase_after entry) else None
+
 abbrev pub phases_on : ℕ → List Trace → List Phase
-phases_on c trace =
-    filter_map (λ entry. if entry.channel == c then Some (phase_after entry) else None) trace
+phases_on c trace = filter_map (phase_on c) trace
 
 -- all phases of channel c
 abbrev pub channel_phases : ℕ → MachineState → List Phase
@@ -28,18 +31,20 @@ channel_phases c m = opening_phases c m ++ phases_on c m.trace
 
 -- a processor in a step
 abbrev pub phase_in : SeenStep → Phase
-phase_in step = record { since = step.turn; condition = step.condition }
+phase_in step = record { since = step.turn; look = Processor step.condition }
 
--- processor n in each of its steps
+-- processor n in a step, if it is its own, and in each of its steps
+abbrev pub phase_for : ℕ → SeenStep → Option Phase
+phase_for n step = if step.pp == n then Some (phase_in step) else None
+
 abbrev pub processor_phases : ℕ → List SeenStep → List Phase
-processor_phases n steps =
-    filter_map (λ step. if step.pp == n then Some (phase_in step) else None) steps
+processor_phases n steps = filter_map (phase_for n) steps
 
--- those of these phases, after one, that do not go on under the condition of the one before
+-- those of these phases, after one, under another look than the one before
 unfoldable pub changes : Phase → List Phase → List Phase
 changes current [] = []
 changes current (next ∷ more) =
-    if goes_on current.condition next.condition then changes current more
+    if goes_on current.look next.look then changes current more
     else next ∷ changes next more
 
 -- the same from the start, or from the phase that is going on

@@ -8,9 +8,9 @@ use Rattle.pp_machine.specs.PpNo.{processor_count}
 use Rattle.pp_machine.specs.Run.{barrel}
 use Rattle.pp_machine.specs.declared.block.Block.{Block}
 use Rattle.pp_machine.specs.declared.need.Need.{Need}
-use Rattle.pp_machine.specs.declared.need.Need.TheVariants.{Nothing, Local, Channel, Read, Write}
+use Rattle.pp_machine.specs.declared.need.Need.TheVariants.{Channel}
 use Rattle.pp_machine.specs.declared.outcome.Outcome.{Outcome}
-use Rattle.pp_machine.specs.declared.outcome.Outcome.TheVariants.{Moved, Held, AtRest}
+use Rattle.pp_machine.specs.declared.outcome.Outcome.TheVariants.{Held}
 use Rattle.pp_machine.specs.declared.pp_state.PpState.{PpState}
 use Rattle.pp_machine.specs.declared.pp_state.PpState.TheVariants as states
 use Rattle.pp_run.specs.RunSteps.{RunStep, run_steps}
@@ -21,29 +21,20 @@ use Rattle.pp_draw.specs.declared.seen_step.Found.{Found}
 use Rattle.pp_draw.specs.declared.seen_step.SeenStep.{SeenStep}
 use Rattle.pp_draw.specs.declared.window.Window.{Window}
 
--- a running processor that is not held: in a block or not
-abbrev pub moving : Option Block → Condition
-moving None = conditions.Running
-moving (Some block) = InBlock
-
--- one that is held: by the channel that it needs
-abbrev pub held_by : Need → Condition
-held_by (Channel c operation) = HeldBy c
-held_by Nothing = conditions.Running
-held_by Local = conditions.Running
-held_by (Read a) = conditions.Running
-held_by (Write a word) = conditions.Running
-
-abbrev pub running : Outcome → Need → Option Block → Condition
-running Held need block = held_by need
-running Moved need block = moving block
-running AtRest need block = moving block
-
--- by its state
+-- by the state of a processor: a running one is held by the channel that it needs, or else in a
+-- block or not
 abbrev pub condition_by : PpState → Outcome → Need → Option Block → Condition
-condition_by states.Running outcome need block = running outcome need block
 condition_by states.Stopped outcome need block = Stopped
 condition_by (states.Fault number) outcome need block = Faulted
+condition_by states.Running Held (Channel c operation) block = HeldBy c
+condition_by states.Running outcome need (Some block) = InBlock
+condition_by states.Running outcome need None = conditions.Running
+
+-- what is noted before a step of a run
+abbrev pub found_in : RunStep → Found
+found_in step =
+    let pp = processor_of step.processor step.before in
+    record { turn = step.before.turns; state = pp.state; need = need pp; block = pp.block }
 
 -- how the next step finds processor n
 abbrev pub condition_of : ℕ → MachineState → Condition
@@ -58,12 +49,6 @@ seen step = record {
   pp = step.processor;
   condition = condition_of step.processor step.before;
 }
-
--- what is noted before it
-abbrev pub found_in : RunStep → Found
-found_in step =
-    let pp = processor_of step.processor step.before in
-    record { turn = step.before.turns; state = pp.state; need = need pp; block = pp.block }
 
 -- whether a step is shown: of a turn in the window, which the run does not go past, or in the round
 -- before it, whose steps say how the processors stand where the window begins

@@ -75,97 +75,52 @@ abbrev pub closed : List (List ℕ) → Option Reader
 closed [] = at [] behind
 closed (outer ∷ others) = at (outer ∷ others) between
 
-abbrev pub read_before : Sign → List (List ℕ) → Option Reader
-read_before less within = at within opened
-read_before sign within = None
-
-abbrev pub read_between : Sign → List (List ℕ) → Option Reader
-read_between less within = at within opened
-read_between greater within = None
-read_between ampersand within = None
-read_between unprinted within = None
-read_between sign within = at within between
-
--- a name begins, or a slash makes a closing tag
-abbrev pub read_opened : Sign → ℕ → List (List ℕ) → Option Reader
-read_opened letter character within = at within (opening (character ∷ []))
-read_opened slash character within = at within (closing [])
-read_opened sign character within = None
-
-abbrev pub read_opening : Sign → ℕ → List ℕ → List (List ℕ) → Option Reader
-read_opening letter character name within = at within (opening (character ∷ name))
-read_opening space character name within =
-    at within (inside (record { name = name; attributes = [] }))
-read_opening greater character name within = at (name ∷ within) between
-read_opening slash character name within = at within slashed
-read_opening sign character name within = None
-
 -- a closing tag closes the innermost element, if it has its name
 abbrev pub closes : List ℕ → List (List ℕ) → Option Reader
 closes name [] = None
 closes name (innermost ∷ within) = if bytes_eq name innermost then closed within else None
 
-abbrev pub read_closing : Sign → ℕ → List ℕ → List (List ℕ) → Option Reader
-read_closing letter character name within = at within (closing (character ∷ name))
-read_closing greater character name within = closes name within
-read_closing sign character name within = None
-
-abbrev pub read_inside : Sign → ℕ → Tag → List (List ℕ) → Option Reader
-read_inside letter character tag within = at within (naming (character ∷ []) tag)
-read_inside space character tag within = at within (inside tag)
-read_inside greater character tag within = at (tag.name ∷ within) between
-read_inside slash character tag within = at within slashed
-read_inside sign character tag within = None
-
 -- an attribute has a name that no other of its tag has
-abbrev pub read_equals : List ℕ → Tag → List (List ℕ) → Option Reader
-read_equals name tag within =
+abbrev pub assign : List ℕ → Tag → List (List ℕ) → Option Reader
+assign name tag within =
     if list_any (λ attribute. bytes_eq attribute name) tag.attributes then None
     else at within (assigned (record tag { attributes = name ∷ tag.attributes }))
 
-abbrev pub read_naming : Sign → ℕ → List ℕ → Tag → List (List ℕ) → Option Reader
-read_naming letter character name tag within = at within (naming (character ∷ name) tag)
-read_naming equals character name tag within = read_equals name tag within
-read_naming sign character name tag within = None
-
-abbrev pub read_assigned : Sign → Tag → List (List ℕ) → Option Reader
-read_assigned quote tag within = at within (quoted tag)
-read_assigned sign tag within = None
-
-abbrev pub read_quoted : Sign → Tag → List (List ℕ) → Option Reader
-read_quoted quote tag within = at within (unquoted tag)
-read_quoted less tag within = None
-read_quoted ampersand tag within = None
-read_quoted unprinted tag within = None
-read_quoted sign tag within = at within (quoted tag)
-
-abbrev pub read_unquoted : Sign → Tag → List (List ℕ) → Option Reader
-read_unquoted space tag within = at within (inside tag)
-read_unquoted greater tag within = at (tag.name ∷ within) between
-read_unquoted slash tag within = at within slashed
-read_unquoted sign tag within = None
-
-abbrev pub read_slashed : Sign → List (List ℕ) → Option Reader
-read_slashed greater within = closed within
-read_slashed sign within = None
-
-abbrev pub read_behind : Sign → List (List ℕ) → Option Reader
-read_behind line_feed within = at within behind
-read_behind sign within = None
-
+-- where a character of each sign leads, which is nowhere if no line says it
 abbrev pub read_at : Place → Sign → ℕ → List (List ℕ) → Option Reader
-read_at before sign character within = read_before sign within
-read_at between sign character within = read_between sign within
-read_at opened sign character within = read_opened sign character within
-read_at (opening name) sign character within = read_opening sign character name within
-read_at (closing name) sign character within = read_closing sign character name within
-read_at (inside tag) sign character within = read_inside sign character tag within
-read_at (naming name tag) sign character within = read_naming sign character name tag within
-read_at (assigned tag) sign character within = read_assigned sign tag within
-read_at (quoted tag) sign character within = read_quoted sign tag within
-read_at (unquoted tag) sign character within = read_unquoted sign tag within
-read_at slashed sign character within = read_slashed sign within
-read_at behind sign character within = read_behind sign within
+read_at before less character within = at within opened
+read_at between less character within = at within opened
+read_at between greater character within = None
+read_at between ampersand character within = None
+read_at between unprinted character within = None
+read_at between sign character within = at within between
+read_at opened letter character within = at within (opening (character ∷ []))
+read_at opened slash character within = at within (closing [])
+read_at (opening name) letter character within = at within (opening (character ∷ name))
+read_at (opening name) space character within =
+    at within (inside (record { name = name; attributes = [] }))
+read_at (opening name) greater character within = at (name ∷ within) between
+read_at (opening name) slash character within = at within slashed
+read_at (closing name) letter character within = at within (closing (character ∷ name))
+read_at (closing name) greater character within = closes name within
+read_at (inside tag) letter character within = at within (naming (character ∷ []) tag)
+read_at (inside tag) space character within = at within (inside tag)
+read_at (inside tag) greater character within = at (tag.name ∷ within) between
+read_at (inside tag) slash character within = at within slashed
+read_at (naming name tag) letter character within = at within (naming (character ∷ name) tag)
+read_at (naming name tag) equals character within = assign name tag within
+read_at (assigned tag) quote character within = at within (quoted tag)
+read_at (quoted tag) quote character within = at within (unquoted tag)
+read_at (quoted tag) less character within = None
+read_at (quoted tag) ampersand character within = None
+read_at (quoted tag) unprinted character within = None
+read_at (quoted tag) sign character within = at within (quoted tag)
+read_at (unquoted tag) space character within = at within (inside tag)
+read_at (unquoted tag) greater character within = at (tag.name ∷ within) between
+read_at (unquoted tag) slash character within = at within slashed
+read_at slashed greater character within = closed within
+read_at behind line_feed character within = at within behind
+read_at place sign character within = None
 
 -- one character more
 abbrev pub read_on : Option Reader → ℕ → Option Reader

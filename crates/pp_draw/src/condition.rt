@@ -1,50 +1,45 @@
-//! How a channel or a processor stands.
+//! How channels and processors stand, and how that is shown.
 
-ghost use Rattle.std.specs.Prelude.{◌≡◌};
-ghost use Rattle.pp_draw.specs.Condition.{condition_after, goes_on, has_label, is_full, is_inactive, is_sent};
+ghost use Rattle.std.specs.Prelude.{◌≡◌, ◌≤◌, length};
+ghost use Rattle.pp_text.specs.Piece.{piece_length};
+ghost use Rattle.pp_draw.specs.Condition.{face_of, goes_on, is_sent, is_same, look_after, loses_word};
 
 use pp_channel::{ChannelNo, Event};
+use pp_text::{channel_name, octal4};
 use pp_word::Word12;
 
-/// How a channel or a processor stands.
+/// How a channel stands after an event.
+#[derive(Clone, Copy, Debug, PartialEq, Eq)]
+pub(crate) enum ChannelCondition {
+    /// It is inactive.
+    Inactive,
+    /// It is active and empty.
+    Active,
+    /// It is active and full: this word waits.
+    Full(Word12),
+    /// It is inactive; this function code went out on it.
+    Sent(Word12),
+}
+
+/// How a step finds its processor.
 #[derive(Clone, Copy, Debug, PartialEq, Eq)]
 pub enum Condition {
-    /// A channel is inactive.
-    Inactive,
-    /// A channel is active and empty.
-    Empty,
-    /// A channel is active and full: this word waits.
-    Full(Word12),
-    /// A channel is inactive; this function code went out on it.
-    Sent(Word12),
-    /// A processor goes on.
+    /// It goes on.
     Running,
-    /// A processor goes on in a block transfer.
+    /// It goes on in a block transfer.
     InBlock,
-    /// This channel, which is not ready, holds a processor.
+    /// This channel, which is not ready, holds it.
     HeldBy(ChannelNo),
-    /// A processor has stopped.
+    /// It has stopped.
     Stopped,
-    /// A processor has ended in a fault.
+    /// It has ended in a fault.
     Faulted,
 }
 
 impl Condition {
-    /// That of a channel after an event.
-    pub(crate) fn after(event: &Event) -> Condition
-        ensures { result ≡ condition_after event.now }
-    {
-        match event {
-            Event::Activate | Event::Take(_) => Condition::Empty,
-            Event::Disconnect => Condition::Inactive,
-            Event::Put(word) => Condition::Full(*word),
-            Event::Function(code) => Condition::Sent(*code),
-        }
-    }
-
-    /// Whether the condition of a processor goes on.
-    pub(crate) fn goes_on(&self, next: &Condition) -> bool
-        ensures { result ≡ goes_on self.now next.now }
+    /// Whether a processor is found in the same condition again.
+    fn is_same(&self, next: &Condition) -> bool
+        ensures { result ≡ is_same self.now next.now }
     {
         match (self, next) {
             (Condition::HeldBy(c), Condition::HeldBy(other)) => other.get() == c.get(),
@@ -55,35 +50,102 @@ impl Condition {
             _ => false,
         }
     }
+}
 
-    /// Whether a channel is full.
-    pub(crate) fn is_full(&self) -> bool
-        ensures { result ≡ is_full self.now }
+/// What a lane shows of a channel or of a processor.
+#[derive(Clone, Copy)]
+pub(crate) enum Look {
+    Channel(ChannelCondition),
+    Processor(Condition),
+}
+
+impl Look {
+    /// A channel after an event.
+    pub(crate) fn after(event: &Event) -> Look
+        ensures { result ≡ look_after event.now }
     {
-        matches!(self, Condition::Full(_))
+        Look::Channel(match event {
+            Event::Activate | Event::Take(_) => ChannelCondition::Active,
+            Event::Disconnect => ChannelCondition::Inactive,
+            Event::Put(word) => ChannelCondition::Full(*word),
+            Event::Function(code) => ChannelCondition::Sent(*code),
+        })
     }
 
-    /// Whether a channel is inactive, and no function code went out since the Disconnect.
-    pub(crate) fn is_inactive(&self) -> bool
-        ensures { result ≡ is_inactive self.now }
+    /// Whether a phase goes on: each event of a channel begins another.
+    pub(crate) fn goes_on(&self, next: &Look) -> bool
+        ensures { result ≡ goes_on self.now next.now }
     {
-        matches!(self, Condition::Inactive)
+        match (self, next) {
+            (Look::Processor(condition), Look::Processor(next)) => condition.is_same(next),
+            _ => false,
+        }
     }
 
     /// Whether a function code went out.
     pub(crate) fn is_sent(&self) -> bool
         ensures { result ≡ is_sent self.now }
     {
-        matches!(self, Condition::Sent(_))
+        matches!(self, Look::Channel(ChannelCondition::Sent(_)))
     }
 
-    /// Whether a word, a function code or a channel is told above its band.
-    pub(crate) fn has_label(&self) -> bool
-        ensures { result ≡ has_label self.now }
+    /// Whether the word that waits is lost, since what comes next is a Disconnect.
+    pub(crate) fn loses_word(&self, next: &Look) -> bool
+        ensures { result ≡ loses_word self.now next.now }
     {
-        matches!(
-            self,
-            Condition::Full(_) | Condition::Sent(_) | Condition::HeldBy(_)
-        )
+        match (self, next) {
+            (Look::Channel(ChannelCondition::Full(_)), Look::Channel(ChannelCondition::Inactive)) =>
+                true,
+            _ => false,
+        }
+    }
+
+    /// How it is shown.
+    pub(crate) fn face(&self) -> Face
+        ensures class { result.class ≡ (face_of self.now).class }
+        ensures words { result.words.now ≡ (face_of self.now).words }
+        ensures fits { length result.words.now ≤ piece_length }
+        ensures label { result.label ≡ (face_of self.now).label }
+    {
+        match self {
+            Look::Channel(ChannelCondition::Inactive) => in_words(b"i", b"inactive", None),
+            Look::Channel(ChannelCondition::Active) => in_words(b"a", b"active", None),
+            Look::Channel(ChannelCondition::Full(word)) => {
+                in_words(b"f", b"full ", Some(octal4(word.get())))
+            }
+            Look::Channel(ChannelCondition::Sent(code)) => {
+                in_words(b"c", b"function ", Some(octal4(code.get())))
+            }
+            Look::Processor(Condition::Running) => in_words(b"r", b"running", None),
+            Look::Processor(Condition::InBlock) => in_words(b"b", b"in a block", None),
+            Look::Processor(Condition::HeldBy(c)) => in_words(
+                b"h",
+                b"held by ",
+                Some(channel_name(*c)),
+            ),
+            Look::Processor(Condition::Stopped) => in_words(b"s", b"stopped", None),
+            Look::Processor(Condition::Faulted) => in_words(b"x", b"at fault", None),
+        }
+    }
+}
+
+/// How a look is shown: the letter of its class, which has its colour in the style sheet, and in
+/// words, with a label after them that also stands above the band.
+#[derive(Clone, Copy)]
+pub(crate) struct Face {
+    pub(crate) class: [u8; 1],
+    pub(crate) words: &'static [u8],
+    pub(crate) label: Option<[u8; 4]>,
+}
+
+fn in_words(class: &[u8; 1], words: &'static [u8], label: Option<[u8; 4]>) -> Face
+    ensures class { result.class ≡ class.now }
+    ensures words { result.words.now ≡ words.now }
+    ensures label { result.label ≡ label }
+{
+    Face {
+        class: *class,
+        words,
+        label,
     }
 }

@@ -4,25 +4,27 @@
 ghost use Rattle.std.specs.Prelude.{◌≡◌, ◌↔◌, ◌+◌, ◌<◌, ◌≤◌, ◌^◌, ℕ, Bool, IfSome, IsFalse, IsTrue, List, [], ◌∷◌, ◌++◌, Option, None, Some, codes, map, if◌then◌else◌};
 ghost use Rattle.std.specs.List.{last_or};
 ghost use Rattle.std.specs.Option.{option_map};
-ghost use Rattle.pp_channel.specs.ChannelNo.{names_channel};
+ghost use Rattle.pp_channel.specs.ChannelNo.{channel_index, names_channel};
 ghost use Rattle.pp_channel.specs.declared.event.Event.{Event};
 ghost use Rattle.pp_channel.specs.declared.event.Event.TheVariants.{Disconnect, Put};
 ghost use Rattle.pp_machine.specs.Headline.{HoldsOnEachChannel};
 ghost use Rattle.pp_machine.specs.MachineState.{MachineState, history_of};
 ghost use Rattle.pp_machine.specs.MachineStep.{counted};
-ghost use Rattle.pp_machine.specs.PpNo.{processor_count};
+ghost use Rattle.pp_machine.specs.PpNo.{names_processor, processor_count, processor_index};
 ghost use Rattle.pp_machine.specs.Run.{barrel};
 ghost use Rattle.pp_run.specs.RunSteps.{run_steps};
-ghost use Rattle.pp_draw.specs.Condition.{condition_after, goes_on, is_sent};
-ghost use Rattle.pp_draw.specs.DrawingText.{channel_lane, count_below, drawing, processor_lane};
-ghost use Rattle.pp_draw.specs.DrawingLaw.{Adjoin, GoesToEnd, IsTurnOf, StandsWithin, condition_at, condition_in, first_turn, goes_on_from, last_step, opening_turns, turns_on};
+ghost use Rattle.pp_draw.specs.Condition.{goes_on, is_sent, look_after};
+ghost use Rattle.pp_draw.specs.DrawingText.{channel_lane, drawing, is_flagged, is_used, lanes_above, processor_lane, used_among};
+ghost use Rattle.pp_draw.specs.DrawingLaw.{Adjoin, GoesToEnd, IsTurnOf, StandsWithin, first_turn, goes_on_from, last_step, look_at, look_in, opening_turns, turns_on};
 ghost use Rattle.pp_draw.specs.Elements.{band_element};
 ghost use Rattle.pp_draw.specs.Lane.{drawn_from, next_in};
 ghost use Rattle.pp_draw.specs.Part.{is_lost, is_visible, part_of};
 ghost use Rattle.pp_draw.specs.Phases.{channel_phases, phases_from, processor_phases};
-ghost use Rattle.pp_draw.specs.SeenStep.{condition_of, is_shown, seen, seen_in_window};
+ghost use Rattle.pp_draw.specs.SeenStep.{is_shown, seen, seen_in_window};
 ghost use Rattle.pp_draw.specs.WellFormed.{IsWellFormed};
 ghost use Rattle.pp_draw.specs.declared.condition.Condition.{Condition};
+ghost use Rattle.pp_draw.specs.declared.condition.Look.{Look};
+ghost use Rattle.pp_draw.specs.declared.condition.Look.TheVariants.{Processor};
 ghost use Rattle.pp_draw.specs.declared.part.Phase.{Phase};
 ghost use Rattle.pp_draw.specs.declared.seen_step.SeenStep.{SeenStep};
 ghost use Rattle.pp_draw.specs.declared.window.Window.{Window};
@@ -38,7 +40,7 @@ ghost use Rattle.pp_draw.specs.declared.window.Window.{Window};
 pub fn drawing_law()
     ensures history { (c : ℕ) (m : MachineState) → IsTrue (names_channel c)
         → HoldsOnEachChannel m
-        → map condition_in (channel_phases c m) ≡ map condition_after (history_of c m) }
+        → map look_in (channel_phases c m) ≡ map look_after (history_of c m) }
     ensures turns { (c : ℕ) (m : MachineState)
         → map first_turn (channel_phases c m) ≡ opening_turns c m ++ turns_on c m.trace }
     ensures each_event { (c : ℕ) (m : MachineState)
@@ -46,13 +48,12 @@ pub fn drawing_law()
     ensures one_more { (phases : List Phase) (next : Phase)
         → phases_from None (phases ++ next ∷ []) ≡ phases_from None phases
         ++ (if goes_on_from (last_or None phases) next then [] else next ∷ []) }
-    ensures alike { (condition next : Condition) → IsTrue (goes_on condition next)
-        → condition ≡ next }
-    ensures joined { (n : ℕ) (m : MachineState)
-        → IsTrue (goes_on (condition_of n m) (condition_of n m)) }
+    ensures alike { (look next : Look) → IsTrue (goes_on look next) → look ≡ next }
+    ensures joined { (condition : Condition)
+        → IsTrue (goes_on (Processor condition) (Processor condition)) }
     ensures last { (phases : List Phase)
-        → option_map condition_in (last_or None (phases_from None phases))
-        ≡ option_map condition_in (last_or None phases) }
+        → option_map look_in (last_or None (phases_from None phases))
+        ≡ option_map look_in (last_or None phases) }
     // A step of a turn in the window, or in the round before it, is shown.
     ensures shown { (w : Window) (step : SeenStep)
         → IsTrue (is_shown w step) ↔ (w.from ≤ step.turn + processor_count) }
@@ -60,16 +61,16 @@ pub fn drawing_law()
     ensures at_turn { (w : Window) (n : ℕ) (m : MachineState) (turn : ℕ) → m.turns < 2 ^ 64
         → IfSome (last_step n turn (run_steps (barrel m.profile w.to) m)) (λ step.
         w.from ≤ step.before.turns + processor_count
-        → condition_at turn (phases_from None (processor_phases n (seen_in_window w m)))
-        ≡ Some (seen step).condition) }
+        → look_at turn (phases_from None (processor_phases n (seen_in_window w m)))
+        ≡ Some (Processor (seen step).condition)) }
     ensures adjoin { (w : Window) (phase next : Phase) (after : Option Phase)
-        → IsFalse (is_sent phase.condition)
+        → IsFalse (is_sent phase.look)
         → Adjoin (part_of w phase (Some next)) (part_of w next after) }
-    ensures to_end { (w : Window) (phase : Phase) → IsFalse (is_sent phase.condition)
+    ensures to_end { (w : Window) (phase : Phase) → IsFalse (is_sent phase.look)
         → GoesToEnd w (part_of w phase None) }
     // A function code is drawn in its turn alone.
     ensures code { (w : Window) (phase : Phase) (next : Option Phase)
-        → IsTrue (is_sent phase.condition)
+        → IsTrue (is_sent phase.look)
         → (part_of w phase next).until ≡ counted phase.since }
     ensures visible { (w : Window) (phase : Phase) (next : Option Phase)
         → IsTrue (is_visible (part_of w phase next))
@@ -78,29 +79,28 @@ pub fn drawing_law()
         (more : List Phase) → IsTrue (is_visible (part_of w phase (next_in more)))
         → StandsWithin (band_element name (part_of w phase (next_in more)))
         (drawn_from w name free (before ++ phase ∷ more)) }
-    // Numbers have two octal digits. The lane of a channel that is not used is empty, and so is
-    // that of a processor that is not shown.
-    ensures each_lane { (w : Window) (shown : List Bool) (m : MachineState)
-        (steps : List SeenStep) (k : ℕ) → k < 0o100
-        → StandsWithin (channel_lane w m k) (drawing w shown m steps)
-        × StandsWithin (processor_lane w shown m steps k) (drawing w shown m steps) }
+    // The lane of a channel that is not used is empty, and so is that of a processor that is not
+    // shown.
+    ensures channels { (w : Window) (shown : List Bool) (m : MachineState)
+        (steps : List SeenStep) (c : ℕ) → IsTrue (names_channel c)
+        → StandsWithin (channel_lane w m c) (drawing w shown m steps) }
+    ensures processors { (w : Window) (shown : List Bool) (m : MachineState)
+        (steps : List SeenStep) (n : ℕ) → IsTrue (names_processor n)
+        → StandsWithin (processor_lane w shown m steps n) (drawing w shown m steps) }
     // The lane of a higher number lies lower.
-    ensures rows { (test : ℕ → Bool) (a b : ℕ) → IsTrue (test a) → a < b
-        → count_below a test < count_below b test }
-    ensures lost { (e next : Event) (turn : ℕ) → IsTrue (is_lost (condition_after e)
-        (Some (record { since = turn; condition = condition_after next })))
+    ensures channel_rows { (m : MachineState) (c d : ℕ) → IsTrue (names_channel c)
+        → IsTrue (names_channel d) → IsTrue (is_used m c) → c < d
+        → used_among (channel_index c) m < used_among (channel_index d) m }
+    ensures processor_rows { (shown : List Bool) (m : MachineState) (n k : ℕ)
+        → IsTrue (names_processor n) → IsTrue (names_processor k)
+        → IsTrue (is_flagged shown (processor_index n)) → n < k
+        → lanes_above (processor_index n) shown m < lanes_above (processor_index k) shown m }
+    ensures lost { (e next : Event) (turn : ℕ) → IsTrue (is_lost (look_after e)
+        (Some (record { since = turn; look = look_after next })))
         ↔ (((word : ℕ) × (e ≡ Put word)) × (next ≡ Disconnect)) }
     ensures well_formed { (w : Window) (shown : List Bool) (m : MachineState)
         (steps : List SeenStep) → IsWellFormed (drawing w shown m steps) }
     // Texts that are not.
     ensures unclosed { ¬ IsWellFormed (codes "<svg><g></g>") }
-    ensures crossed { ¬ IsWellFormed (codes "<svg><g><text></g></text></svg>") }
-    ensures unquoted { ¬ IsWellFormed (codes "<svg><g x='></g></svg>") }
-    ensures twofold { ¬ IsWellFormed (codes "<svg></svg><svg></svg>") }
-    ensures unnamed { ¬ IsWellFormed (codes "<></>") }
-    ensures nameless { ¬ IsWellFormed (codes "<svg ='8'/>") }
-    ensures valueless { ¬ IsWellFormed (codes "<svg x=/>") }
-    ensures unassigned { ¬ IsWellFormed (codes "<svg x/>") }
-    ensures unseparated { ¬ IsWellFormed (codes "<svg x='8'y='8'/>") }
     ensures repeated { ¬ IsWellFormed (codes "<svg x='8' x='8'/>") }
 {}

@@ -4,7 +4,7 @@
 //! `run_seeing_steps` runs a machine to the end of a window of turns, and `write_drawing` writes
 //! the picture. What is drawn is a function of the steps of the run (specs/DrawingText): each lane
 //! is a list of phases, each of which lasts until the next. The phases of a channel begin with its
-//! events, those of a processor with the steps that find it under another condition than the step
+//! events, those of a processor with the steps that find it in another condition than the step
 //! before (specs/Phases). A phase that falls into the window is drawn as a band (specs/Part), with
 //! its word, its function code or its channel above it where there is room (specs/Lane), and with a
 //! title that tells it. After the last turn stands how the lane ends.
@@ -22,7 +22,6 @@ mod lane;
 mod lanes;
 mod laws;
 mod part;
-mod rows;
 mod seen_step;
 mod window;
 

@@ -1,16 +1,16 @@
 //! What is drawn of a phase.
 
-ghost use Rattle.std.specs.Prelude.{◌≡◌, ◌<◌, ◌^◌, Option};
-ghost use Rattle.pp_draw.specs.Part.{end_of, is_labelled, is_lost, is_visible, part_of, until};
+ghost use Rattle.std.specs.Prelude.{◌≡◌, ◌<◌, ◌^◌};
+ghost use Rattle.pp_draw.specs.Part.{is_visible, label_from, part_of};
 
-use crate::condition::Condition;
+use crate::condition::Look;
 use crate::window::Window;
 
 /// How a channel or a processor stands from a turn on (decimal), until its next phase.
 #[derive(Clone, Copy)]
 pub(crate) struct Phase {
     pub(crate) since: u64,
-    pub(crate) condition: Condition,
+    pub(crate) look: Look,
 }
 
 /// What is drawn of a phase: a band from a place to another, for the turns from one on and before
@@ -21,7 +21,7 @@ pub(crate) struct Part {
     pub(crate) end: u64,
     pub(crate) since: u64,
     pub(crate) until: u64,
-    pub(crate) condition: Condition,
+    pub(crate) look: Look,
     pub(crate) is_lost: bool,
 }
 
@@ -31,14 +31,22 @@ impl Part {
         ensures part { result ≡ part_of window phase.now next.now }
         ensures most { result.start < 2 ^ 40 }
     {
-        let until = until(window, phase, next);
+        let (next_since, is_lost) = match next {
+            Some(next) => (next.since, phase.look.loses_word(&next.look)),
+            None => (u64::from(window.to), false),
+        };
+        let until = if phase.look.is_sent() {
+            phase.since.saturating_add(1)
+        } else {
+            next_since
+        };
         Part {
             start: window.place(phase.since),
             end: window.place(until),
             since: phase.since,
             until,
-            condition: phase.condition,
-            is_lost: is_lost(&phase.condition, next),
+            look: phase.look,
+            is_lost,
         }
     }
 
@@ -49,41 +57,14 @@ impl Part {
         self.start < self.end
     }
 
-    /// Whether a label stands above it, where there is room from this place on.
-    pub(crate) fn is_labelled(&self, free: u64) -> bool
-        ensures { result ≡ is_labelled free self.now }
+    /// The label above it, if it has one, and there is room from this place on.
+    pub(crate) fn label_from(&self, free: u64) -> Option<[u8; 4]>
+        ensures { result ≡ label_from free self.now }
     {
-        self.is_visible() && self.condition.has_label() && free <= self.start
-    }
-}
-
-/// The turn before which a phase is drawn.
-fn until(window: Window, phase: &Phase, next: &Option<Phase>) -> u64
-    ensures { result ≡ until window phase.now next.now }
-{
-    if phase.condition.is_sent() {
-        phase.since.saturating_add(1)
-    } else {
-        end_of(window, next)
-    }
-}
-
-/// The turn in which the next phase begins, or else the end of the window.
-fn end_of(window: Window, next: &Option<Phase>) -> u64
-    ensures { result ≡ end_of window next.now }
-{
-    match next {
-        Some(phase) => phase.since,
-        None => u64::from(window.to),
-    }
-}
-
-/// Whether the word that waits under a condition was lost.
-fn is_lost(condition: &Condition, next: &Option<Phase>) -> bool
-    ensures { result ≡ is_lost condition.now next.now }
-{
-    match next {
-        Some(phase) => condition.is_full() && phase.condition.is_inactive(),
-        None => false,
+        if self.is_visible() && free <= self.start {
+            self.look.face().label
+        } else {
+            None
+        }
     }
 }

@@ -1,11 +1,11 @@
 //! Runs that see how each step found its processor.
 
-ghost use Rattle.std.specs.Prelude.{◌≡◌, ◌++◌, ◌∷◌, [], map, IfErr, IfOk, IsTrue, OnErr, OnOk};
+ghost use Rattle.std.specs.Prelude.{◌≡◌, map, IfErr, IfOk, OnOk};
 ghost use Rattle.std.specs.List.{filter};
 ghost use Rattle.pp_machine.specs.Headline.{HoldsOnEachChannel};
 ghost use Rattle.pp_machine.specs.Run.{barrel, run};
 ghost use Rattle.pp_run.specs.RunSteps.{IsCutAt};
-ghost use Rattle.pp_draw.specs.SeenStep.{IsKept, condition_by, found_in, held_by, is_shown, moving, running, seen, seen_in_window};
+ghost use Rattle.pp_draw.specs.SeenStep.{IsKept, condition_by, found_in, is_shown, seen, seen_in_window};
 
 use crate::condition::Condition;
 use crate::window::Window;
@@ -92,67 +92,28 @@ impl<A: Allocator> Observer<A> for ShownSteps<A> {
         n: PpNo,
         outcome: Outcome,
     ) -> Result<(), Memory> {
-        let condition = condition_by(found.state, outcome, &found.need, &found.block);
         let step = SeenStep {
             turn: found.turn,
             pp: n,
-            condition,
+            condition: condition_by(found, outcome),
         };
-        keep_step(&mut self.steps, self.window, step)
+        if u64::from(self.window.from).saturating_sub(PROCESSORS as u64) <= step.turn {
+            self.steps.push(step)?;
+        }
+        Ok(())
     }
 }
 
-/// Keeps a step that is shown, where it is: in the window, or in the round before it.
-fn keep_step<A: Allocator>(
-    steps: &mut Vec<SeenStep, A>,
-    window: Window,
-    step: SeenStep,
-) -> Result<(), Memory>
-    ensures kept { OnOk result
-        (steps.new.items ≡ steps.old.items ++ filter (is_shown window) (step ∷ [])) }
-    ensures cut_where_shown { OnErr result (IsTrue (is_shown window step)) }
+/// How a step with this outcome found its processor.
+fn condition_by(found: &Found, outcome: Outcome) -> Condition
+    ensures { result
+        ≡ condition_by found.now.state outcome found.now.need found.now.block }
 {
-    if u64::from(window.from).saturating_sub(PROCESSORS as u64) <= step.turn {
-        steps.push(step)?;
-    }
-    Ok(())
-}
-
-/// How a step with this outcome and this need found a processor in this state, and perhaps in a
-/// block.
-fn condition_by(state: PpState, outcome: Outcome, need: &Need, block: &Option<Block>) -> Condition
-    ensures { result ≡ condition_by state outcome need.now block.now }
-{
-    match state {
-        PpState::Running => running(outcome, need, block),
-        PpState::Stopped => Condition::Stopped,
-        PpState::Fault(_) => Condition::Faulted,
-    }
-}
-
-fn running(outcome: Outcome, need: &Need, block: &Option<Block>) -> Condition
-    ensures { result ≡ running outcome need.now block.now }
-{
-    match outcome {
-        Outcome::Held => held_by(need),
-        Outcome::Moved | Outcome::AtRest => moving(block),
-    }
-}
-
-fn held_by(need: &Need) -> Condition
-    ensures { result ≡ held_by need.now }
-{
-    match need {
-        Need::Channel(c, _) => Condition::HeldBy(*c),
-        Need::Nothing | Need::Local | Need::Read(_) | Need::Write(_, _) => Condition::Running,
-    }
-}
-
-fn moving(block: &Option<Block>) -> Condition
-    ensures { result ≡ moving block.now }
-{
-    match block {
-        Some(_) => Condition::InBlock,
-        None => Condition::Running,
+    match (found.state, outcome, &found.need, &found.block) {
+        (PpState::Stopped, _, _, _) => Condition::Stopped,
+        (PpState::Fault(_), _, _, _) => Condition::Faulted,
+        (PpState::Running, Outcome::Held, Need::Channel(c, _), _) => Condition::HeldBy(*c),
+        (PpState::Running, _, _, Some(_)) => Condition::InBlock,
+        (PpState::Running, _, _, None) => Condition::Running,
     }
 }

@@ -41,7 +41,7 @@ pub record EndsAtRestFrom (t turns : ℕ) (m : MachineState) : Type 0 where
   pub ends : EndsQuietFrom t turns m
   pub at_rest : (n : ℕ) → IsAtRest (processor_of n (after_turns turns m))
 
--- STUCK: it ends quiet, and some processor is running: held, or in a loop that changes nothing
+-- STUCK: it ends quiet, and some processor is running: held, or at a jump to itself
 pub record EndsStuckFrom (t turns : ℕ) (m : MachineState) : Type 0 where
   pub ends : EndsQuietFrom t turns m
   pub running : (n : ℕ) × ((processor_of n (after_turns turns m)).state ≡ Running)

@@ -5,7 +5,7 @@ use Rattle.pp_machine.specs.MachineState.{MachineState, processor_of}
 use Rattle.pp_machine.specs.PpNo.{is_named}
 use Rattle.pp_text.specs.Numeral.{decimal, octal, short_decimal}
 use Rattle.pp_text.specs.PrintedText.{each_below, line_end, processor_line, used_channel_line}
-use Rattle.pp_state.specs.StateText.{standing}
+use Rattle.pp_text.specs.Standing.{standing}
 use Rattle.pp_ends.specs.Endings.{after_turns}
 use Rattle.pp_ends.specs.Loops.{loop_of}
 use Rattle.pp_ends.specs.declared.ending.Ending.{Ending}

@@ -8,10 +8,11 @@ ghost use Rattle.pp_ends.specs.EndsText.{ends_turn};
 pub enum Ending {
     /// Every processor is stopped or at fault, and no step moves from this turn on.
     AtRest { from: u32 },
-    /// Some processor is running, held or in a loop that changes nothing, and no step of any
-    /// processor moves from this turn on.
+    /// Some processor is running, held or at an instruction that jumps to itself, and no step of
+    /// any processor moves from this turn on.
     Stuck { from: u32 },
-    /// From this turn on the machine stands after each `every` turns as it stood before them.
+    /// From this turn on the machine stands after each `every` turns as it stood before them,
+    /// histories, trace and turns apart.
     Repeats { from: u32, every: u32 },
     /// None of these.
     GoingOn,

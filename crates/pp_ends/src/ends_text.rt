@@ -1,60 +1,62 @@
 //! The text of how a run ends.
 
-ghost use Rattle.std.specs.Prelude.{◌≡◌, ◌≤◌, ◌+◌, ◌++◌, IfOk, OnOk, codes, length};
+ghost use Rattle.std.specs.Prelude.{◌≡◌, ◌≤◌, ◌+◌, ◌++◌, codes, length};
 ghost use Rattle.pp_machine.specs.MachineState.{processor_of};
 ghost use Rattle.pp_text.specs.Numeral.{octal};
 ghost use Rattle.pp_text.specs.Piece.{HasRoom};
 ghost use Rattle.pp_text.specs.PrintedText.{each_below, line_end, processor_line};
-ghost use Rattle.pp_state.specs.StateText.{standing};
+ghost use Rattle.pp_text.specs.Standing.{standing};
+ghost use Rattle.pp_text.specs.TextWriter.{Prints};
+ghost use Rattle.pp_text.specs.Written.{IsWritten};
 ghost use Rattle.pp_ends.specs.EndsText.{ending_text, ends_text, loop_text, looping_line};
 
 use crate::ending::Ending;
 use crate::loops::Loop;
 use pp_machine::{Machine, PROCESSORS, PpNo};
-use pp_state::{push_channels, push_standing};
-use pp_text::{NUMBERS, Piece, octal4, processor_heading, push_decimal, push_short_decimal};
-use std::alloc::{AllocError, Allocator};
+use pp_text::{
+    NUMBERS, Piece, TextWriter, WriteFault, octal4, print_channels, print_standing,
+    processor_heading, push_decimal, push_short_decimal,
+};
+use std::alloc::Allocator;
+use std::io::Write;
 
-/// How a run of this many turns of the barrel (decimal) ends: the ending; the processors shown,
-/// each with the instruction that runs, the place of a block in progress, the channel that holds it
-/// and the places between which it loops; and the channels that have a history. `machine` is the
-/// machine after the turns that the ending names (`Ending::turn`). Numbers are octal, but turns.
+/// Writes how a run of `turns` turns of the barrel (decimal) ends: the ending; the processors
+/// shown, each with the instruction that runs, the place of a block in progress, the channel that
+/// holds it and the places between which it loops; and the channels that have a history; and
+/// flushes the writer. `machine` is the machine after the turns that the ending names
+/// (`Ending::turn`). Numbers are octal, but turns. The text goes out in pieces, and takes no
+/// memory. If the writer fails, the rest of the text is lost.
 #[tactic(auto, unfolding(crate::specs::EndsText::ends_text))]
-pub fn printed_ends<A: Allocator + Copy, B: Allocator>(
-    alloc: A,
+pub fn write_ends<A: Allocator, W: Write>(
+    writer: &mut W,
     shown: &[bool; PROCESSORS],
     ending: Ending,
     turns: u32,
-    machine: &Machine<B>,
+    machine: &Machine<A>,
     loops: &[Option<Loop>; PROCESSORS],
-) -> Result<Vec<u8, A>, AllocError>
-    ensures { IfOk result (λ text.
-        text.items ≡ ends_text shown.now ending turns machine.now loops.now) }
+) -> Result<(), WriteFault>
+    ensures { IsWritten (ends_text shown.now ending turns machine.now loops.now) result
+        (W.contents writer.old) (W.contents writer.new) }
 {
-    let mut text = Vec::new(alloc);
-    push_ending(&mut text, ending, turns)?;
-    push_processors(&mut text, shown, machine, loops)?;
-    push_channels(&mut text, machine)?;
-    Ok(text)
+    let mut text = TextWriter::new(writer);
+    print_ending(&mut text, ending, turns);
+    text.print(b"\n");
+    print_processors(&mut text, shown, machine, loops);
+    print_channels(&mut text, machine);
+    text.finish()
 }
 
-/// Adds `REPEATS FROM 000010 EVERY 20` and a line feed.
-fn push_ending<A: Allocator>(
-    text: &mut Vec<u8, A>,
-    ending: Ending,
-    turns: u32,
-) -> Result<(), AllocError>
-    ensures { OnOk result (text.new.items ≡ text.old.items
-        ++ (ending_text ending turns ++ line_end)) }
+/// Prints `REPEATS FROM 000010 EVERY 20`.
+fn print_ending<W: Write>(text: &mut TextWriter<W>, ending: Ending, turns: u32)
+    ensures { Prints W.contents text.old text.new (ending_text ending turns) }
 {
     let mut line = Piece::new();
-    push_ending_text(&mut line, ending, turns);
-    line.push(b"\n");
-    text.extend_from_slice(line.as_slice())
+    push_ending(&mut line, ending, turns);
+    text.print(line.as_slice());
 }
 
 /// Adds `REPEATS FROM 000010 EVERY 20`.
-fn push_ending_text(line: &mut Piece, ending: Ending, turns: u32)
+fn push_ending(line: &mut Piece, ending: Ending, turns: u32)
     requires { HasRoom 60 line.old }
     ensures text { line.new ≡ line.old ++ ending_text ending turns }
     ensures room { length line.new ≤ length line.old + 60 }
@@ -81,63 +83,60 @@ fn push_ending_text(line: &mut Piece, ending: Ending, turns: u32)
     }
 }
 
-/// Adds the lines of all processors shown, in order of number.
-fn push_processors<A: Allocator, B: Allocator>(
-    text: &mut Vec<u8, A>,
+/// Prints the lines of all processors shown, in order of number.
+fn print_processors<A: Allocator, W: Write>(
+    text: &mut TextWriter<W>,
     shown: &[bool; PROCESSORS],
-    machine: &Machine<B>,
+    machine: &Machine<A>,
     loops: &[Option<Loop>; PROCESSORS],
-) -> Result<(), AllocError>
-    ensures { OnOk result (text.new.items ≡ text.old.items
-        ++ each_below NUMBERS (looping_line shown.now machine.now loops.now)) }
+)
+    ensures { Prints W.contents text.old text.new
+        (each_below NUMBERS (looping_line shown.now machine.now loops.now)) }
 {
     for number in 0..NUMBERS {
-        push_shown_processor(text, shown, machine, loops, number)?;
+        print_shown_processor(text, shown, machine, loops, number);
     }
-    Ok(())
 }
 
-fn push_shown_processor<A: Allocator, B: Allocator>(
-    text: &mut Vec<u8, A>,
+fn print_shown_processor<A: Allocator, W: Write>(
+    text: &mut TextWriter<W>,
     shown: &[bool; PROCESSORS],
-    machine: &Machine<B>,
+    machine: &Machine<A>,
     loops: &[Option<Loop>; PROCESSORS],
     number: u8,
-) -> Result<(), AllocError>
-    ensures { OnOk result (text.new.items ≡ text.old.items
-        ++ looping_line shown.now machine.now loops.now number) }
+)
+    ensures { Prints W.contents text.old text.new
+        (looping_line shown.now machine.now loops.now number) }
 {
     match PpNo::new(number) {
-        Some(n) if shown[n.index()] => push_processor(text, machine, n, &loops[n.index()]),
-        _ => Ok(()),
+        Some(n) if shown[n.index()] => print_processor(text, machine, n, &loops[n.index()]),
+        _ => {}
     }
 }
 
-/// Adds `PP01 P=0101 A=000001 RUNNING IJM 0100,02 LOOPS 0100 TO 0101` and a line feed.
-fn push_processor<A: Allocator, B: Allocator>(
-    text: &mut Vec<u8, A>,
-    machine: &Machine<B>,
+/// Prints `PP01 P=0101 A=000001 RUNNING IJM 0100,02 LOOPS 0100 TO 0101` and a line feed.
+fn print_processor<A: Allocator, W: Write>(
+    text: &mut TextWriter<W>,
+    machine: &Machine<A>,
     n: PpNo,
     found: &Option<Loop>,
-) -> Result<(), AllocError>
-    ensures { OnOk result (text.new.items ≡ text.old.items
-        ++ processor_line n (processor_of n machine.now)
+)
+    ensures { Prints W.contents text.old text.new
+        (processor_line n (processor_of n machine.now)
         (standing n machine.now 0 ++ loop_text found.now)) }
 {
-    text.extend_from_slice(&processor_heading(n, machine.pp(n)))?;
-    push_standing(text, machine, n, 0)?;
-    push_loop(text, found)?;
-    text.push(b'\n')?;
-    Ok(())
+    text.print(&processor_heading(n, machine.pp(n)));
+    print_standing(text, machine, n, 0);
+    print_loop(text, found);
+    text.print(b"\n");
 }
 
-/// Adds ` LOOPS 0100 TO 0101`, where there is a loop.
-fn push_loop<A: Allocator>(text: &mut Vec<u8, A>, found: &Option<Loop>) -> Result<(), AllocError>
-    ensures { OnOk result (text.new.items ≡ text.old.items ++ loop_text found.now) }
+/// Prints ` LOOPS 0100 TO 0101`, if there is a loop.
+fn print_loop<W: Write>(text: &mut TextWriter<W>, found: &Option<Loop>)
+    ensures { Prints W.contents text.old text.new (loop_text found.now) }
 {
-    match found {
-        None => Ok(()),
-        Some(found) => text.extend_from_slice(&loop_field(found)),
+    if let Some(found) = found {
+        text.print(&loop_field(found));
     }
 }
 

@@ -15,7 +15,9 @@ ghost use Rattle.pp_ends.specs.Endings.{AreSameButTurns, EndsQuietFrom, IsEnding
 /// No list of steps whatever changes anything but the turns counted of a machine that is quiet; and
 /// a run that ends quiet has left it the same from the turn on that the ending names. A run that
 /// repeats stands the same after any number of its periods. No run has two endings.
-#[tactic(auto, using(crate::proofs::MoveLemmas::kept_waits, crate::proofs::StillLemmas::quiet_run, crate::proofs::StillLemmas::same_from))]
+#[tactic(auto, using(crate::proofs::MoveLemmas::kept_waits, // a step that moves nothing
+crate::proofs::StillLemmas::quiet_run, // a quiet run
+crate::proofs::StillLemmas::same_from))]
 pub fn ends_law()
     ensures moves { (n : ℕ) (m : MachineState)
         → processor_of n (stepped n m) ≡ processor_of n m → Waits n m }

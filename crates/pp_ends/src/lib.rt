@@ -13,7 +13,7 @@ mod spots;
 mod stand;
 
 pub use ending::Ending;
-pub use ends_text::printed_ends;
+pub use ends_text::write_ends;
 pub use laws::ends_law;
 pub use loops::{Loop, find_loops};
 pub use run::find_ending;

@@ -14,7 +14,7 @@ use std::alloc::Allocator;
 const KEPT: usize = 16;
 
 /// A word of a processor's memory, or of central memory.
-#[derive(Clone, Copy, Debug)]
+#[derive(Clone, Copy)]
 pub(crate) enum Spot {
     Word(PpNo, Word12),
     Central(Word18),

@@ -9,7 +9,7 @@ use pp_word::Word12;
 
 /// Where a processor stands: a step that moves changes some of this. So a step need not be compared
 /// by the whole memory before and after it.
-#[derive(Clone, Copy, Debug, PartialEq, Eq)]
+#[derive(Clone, Copy, PartialEq, Eq)]
 pub(crate) struct Stand {
     pub(crate) p: Word12,
     pub(crate) running: bool,

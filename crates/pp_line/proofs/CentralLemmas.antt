@@ -10,8 +10,8 @@ use Rattle.std.proofs.lemmas.List.{append-nil, length_push, length-set, get_or-s
 use Rattle.std.proofs.lemmas.List.Elements.{All-set, All-weaker, filter_map-append}
 use Rattle.std.proofs.lemmas.List.Concat.{flat_map-append}
 use Rattle.std.proofs.lemmas.List.Sums.{fold-append, sum_by-append}
-use Rattle.list_facts.specs.GrowingLists.{range_more}
-use Rattle.list_facts.specs.WrittenNumbers.{set_at_each}
+use Rattle.pp_word.specs.GrowingLists.{range_more}
+use Rattle.pp_word.specs.WrittenNumbers.{set_at_each}
 use Rattle.pp_line.specs.declared.access.Access.{Access}
 use Rattle.pp_line.specs.declared.access.Access.TheVariants.{OnChannel, Read, Write}
 use Rattle.pp_line.specs.declared.entry.Entry.{Entry}
@@ -134,9 +134,9 @@ opened_set opening views id v w at central shares all =
     All-set (OpenedWith opening) views id w (λ live. central ∙ All-read (OpenedWith opening) views id v all at (subst (λ (n : ℕ). 0 < n) shares live)) all
 
 -- an access to a channel, whose word alone may have changed
-pub channel_goes_on : (opening words : List ℕ) (views : List LineView) (order : List Access) (id : ℕ) (v w : LineView) (c new : ℕ) (entry : Entry) → IsTrue (names_channel c) → get_elem? views id ≡ some v → w.central ≡ v.central → w.shares ≡ v.shares → w.written ≡ v.written
+pub channel_advances : (opening words : List ℕ) (views : List LineView) (order : List Access) (id : ℕ) (v w : LineView) (c new : ℕ) (entry : Entry) → IsTrue (names_channel c) → get_elem? views id ≡ some v → w.central ≡ v.central → w.shares ≡ v.shares → w.written ≡ v.written
     → KeepsCentral opening words views order → KeepsCentral opening (set words (word_place c) new) (set views id w) (order ++ OnChannel entry ∷ [])
-channel_goes_on opening words views order id v w c new entry names at central shares written k =
+channel_advances opening words views order id v w c new entry names at central shares written k =
     let low = place_below c names in
     central_goes_on opening words (set words (word_place c) new) views (set views id w) order (OnChannel entry) k (length-set words (word_place c) new)
     (λ a inside. get_or-set_other words (word_place c) (central_place a) new 0 (λ same. absurd (omega (arith, same, low))) ∙ k.words_are a inside)

@@ -81,9 +81,6 @@ event_of_word op h bits =
 pub number_at_word : (word : ℕ) (h : List Event) → HasTwelveBitWords h → history_word h ≡ word → number_in word ≡ length h
 number_at_word word h bits same = ap number_in (sym same) ∙ number_of_word h bits
 
-pub flags_at_word : (word : ℕ) (h : List Event) → HasTwelveBitWords h → history_word h ≡ word → flags_in word ≡ flags_of h
-flags_at_word word h bits same = ap flags_in (sym same) ∙ flags_of_word h bits
-
 event_at_word : (op : ChanOp) (word : ℕ) (o : Option Event) (h : List Event) → HasTwelveBitWords h → history_word h ≡ word → event_by op (flags_in word) (waiting_in word) ≡ o → event_of op h ≡ o
 event_at_word op word o h bits same is = sym (event_of_word op h bits) ∙ (ap (λ w. event_by op (flags_in w) (waiting_in w)) same ∙ is)
 
@@ -136,7 +133,7 @@ Shows op word step = (only_looks op ≡ false → number_in word ≢ greatest_nu
 
 abbrev Makes : ChanOp → ℕ → WordStep → Type 0
 Makes op word step = (only_looks op ≡ false) × (number_in word ≢ greatest_number)
-    × ((e : Event) × (event_by op (flags_in word) (waiting_in word) ≡ Some e) × (step ≡ WordStep.Next (word_with word e) (reply_made e)))
+    × ((e : Event) × (event_by op (flags_in word) (waiting_in word) ≡ Some e) × (step ≡ WordStep.Next (word_with word e) (reply_made e) e))
 
 abbrev Kind : ChanOp → ℕ → WordStep → Type 0
 Kind op word step = FindsWorn op word step ⊎ (Shows op word step ⊎ Makes op word step)
@@ -163,14 +160,14 @@ kind_of op word step is = kind_by op word step is (not (only_looks op) && (numbe
 abbrev pub Stays : WordStep → Type 0
 Stays (WordStep.Look f) = Unit {0}
 Stays (WordStep.Held f) = Unit {0}
-Stays (WordStep.Next next reply) = ⊥
+Stays (WordStep.Next next reply e) = ⊥
 Stays WordStep.Worn = ⊥
 
 stays_if : (look : Bool) (f : Flags) → Stays (shown_if look f)
 stays_if true f = tt
 stays_if false f = tt
 
-stays_where_shown : (op : ChanOp) (word : ℕ) (step : WordStep) → step ≡ step_by op word None → Stays step
+pub stays_where_shown : (op : ChanOp) (word : ℕ) (step : WordStep) → step ≡ step_by op word None → Stays step
 stays_where_shown op word step is = subst Stays (sym is) (stays_if (only_looks op) (flags_in word))
 
 pub stays_either : (step : WordStep) → ((f : Flags) × (step ≡ WordStep.Look f)) ⊎ ((f : Flags) × (step ≡ WordStep.Held f)) → Stays step
@@ -189,14 +186,20 @@ shown_by_kind word op (WordStep.Look f) stays (inr (inr k)) = absurd (let is = k
 shown_by_kind word op (WordStep.Held f) stays (inl k) = absurd cc
 shown_by_kind word op (WordStep.Held f) stays (inr (inl k)) = (k.0, k.1)
 shown_by_kind word op (WordStep.Held f) stays (inr (inr k)) = absurd (let is = k.2.2 in cc)
-shown_by_kind word op (WordStep.Next next reply) stays kind = absurd stays
+shown_by_kind word op (WordStep.Next next reply e) stays kind = absurd stays
 shown_by_kind word op WordStep.Worn stays kind = absurd stays
 
-next_by_kind : (word : ℕ) (op : ChanOp) (next : ℕ) (reply : Reply) → Kind op word (WordStep.Next next reply)
-    → (only_looks op ≡ false) × (number_in word ≢ greatest_number) × ((e : Event) × (event_by op (flags_in word) (waiting_in word) ≡ Some e) × (next ≡ word_with word e) × (reply ≡ reply_made e))
-next_by_kind word op next reply (inl k) = absurd cc
-next_by_kind word op next reply (inr (inl k)) = absurd (stays_where_shown op word (WordStep.Next next reply) k.2)
-next_by_kind word op next reply (inr (inr k)) = (k.0, k.1, (k.2.0, k.2.1, (let is = k.2.2 in cc), (let is = k.2.2 in cc)))
+-- what a step that makes an event says of the word
+abbrev pub MakesNext : ChanOp → ℕ → ℕ → Reply → Event → Type 0
+MakesNext op word next reply e = (only_looks op ≡ false) × (number_in word ≢ greatest_number) × (event_by op (flags_in word) (waiting_in word) ≡ Some e) × (next ≡ word_with word e) × (reply ≡ reply_made e)
+
+next_by_kind : (word : ℕ) (op : ChanOp) (next : ℕ) (reply : Reply) (e : Event) → Kind op word (WordStep.Next next reply e) → MakesNext op word next reply e
+next_by_kind word op next reply e (inl k) = absurd cc
+next_by_kind word op next reply e (inr (inl k)) = absurd (stays_where_shown op word (WordStep.Next next reply e) k.2)
+next_by_kind word op next reply e (inr (inr k)) =
+    let is = k.2.2 in
+    let same : k.2.0 ≡ e = cc in
+    (k.0, k.1, k.2.1 ∙ ap Some same, (let at : next ≡ word_with word k.2.0 = cc in at ∙ ap (word_with word) same), (let at : reply ≡ reply_made k.2.0 = cc in at ∙ ap reply_made same))
 
 -- what each step says of the word
 pub worn_by_table : (word : ℕ) (op : ChanOp) → WordStep.Worn ≡ step_from op word → (only_looks op ≡ false) × (number_in word ≡ greatest_number)
@@ -206,36 +209,26 @@ pub shown_by_table : (word : ℕ) (op : ChanOp) (step : WordStep) → Stays step
     → (only_looks op ≡ false → number_in word ≢ greatest_number) × (event_by op (flags_in word) (waiting_in word) ≡ None)
 shown_by_table word op step stays is = shown_by_kind word op step stays (kind_of op word step is)
 
-pub next_by_table : (word : ℕ) (op : ChanOp) (next : ℕ) (reply : Reply) → WordStep.Next next reply ≡ step_from op word
-    → (only_looks op ≡ false) × (number_in word ≢ greatest_number) × ((e : Event) × (event_by op (flags_in word) (waiting_in word) ≡ Some e) × (next ≡ word_with word e) × (reply ≡ reply_made e))
-next_by_table word op next reply is = next_by_kind word op next reply (kind_of op word (WordStep.Next next reply) is)
-
--- the same where the event is at hand
-pub next_by_event : (word : ℕ) (op : ChanOp) (e : Event) (next : ℕ) (reply : Reply) → WordStep.Next next reply ≡ step_from op word → Some e ≡ event_by op (flags_in word) (waiting_in word)
-    → (only_looks op ≡ false) × (number_in word ≢ greatest_number) × (next ≡ word_with word e) × (reply ≡ reply_made e)
-next_by_event word op e next reply stepped made =
-    let k = next_by_table word op next reply stepped in
-    let same : k.2.0 ≡ e = let both : Some k.2.0 ≡ Some e = sym k.2.1 ∙ sym made in cc in
-    (k.0, k.1, k.2.2 ∙ ap (λ x. word_with word x) same, k.2.3 ∙ ap reply_made same)
+pub next_by_table : (word : ℕ) (op : ChanOp) (next : ℕ) (reply : Reply) (e : Event) → WordStep.Next next reply e ≡ step_from op word → MakesNext op word next reply e
+next_by_table word op next reply e is = next_by_kind word op next reply e (kind_of op word (WordStep.Next next reply e) is)
 
 -- each history of the word goes on with the event to one of the next word
-pub next_word : (word : ℕ) (op : ChanOp) (e : Event) (next : ℕ) (reply : Reply) → WordStep.Next next reply ≡ step_from op word → Some e ≡ event_by op (flags_in word) (waiting_in word) → HasTwelveBitWord e
+pub next_word : (word : ℕ) (op : ChanOp) (e : Event) (next : ℕ) (reply : Reply) → WordStep.Next next reply e ≡ step_from op word → HasTwelveBitWord e
     → (h : List Event) → IsLawful h → HasTwelveBitWords h → history_word h ≡ word
     → IsLawful (h ++ e ∷ []) × HasTwelveBitWord e × (history_word (h ++ e ∷ []) ≡ next)
-next_word word op e next reply stepped made small h l bits same =
-    let event : event_of op h ≡ Some e = event_at_word op word (Some e) h bits same (sym made) in
-    let more = lawful_with_event h op e l event in
-    let is = next_by_event word op e next reply stepped made in
-    (more, small, sym (word_after_event h e l bits more) ∙ (ap (λ w. word_with w e) same ∙ sym is.2))
+next_word word op e next reply stepped small h l bits same =
+    let makes = next_by_table word op next reply e stepped in
+    let more = lawful_with_event h op e l (event_at_word op word (Some e) h bits same makes.2) in
+    (more, small, sym (word_after_event h e l bits more) ∙ (ap (λ w. word_with w e) same ∙ sym makes.3))
 
 -- what the answer is on a history of the word
-pub ready_at_word : (word : ℕ) (op : ChanOp) (e : Event) → Some e ≡ event_by op (flags_in word) (waiting_in word) → (h : List Event) → IsLawful h → HasTwelveBitWords h → history_word h ≡ word → IsReady h op e
-ready_at_word word op e made h l bits same = ready_of_table h op e l (event_at_word op word (Some e) h bits same (sym made))
+pub ready_at_word : (word : ℕ) (op : ChanOp) (e : Event) → event_by op (flags_in word) (waiting_in word) ≡ Some e → (h : List Event) → IsLawful h → HasTwelveBitWords h → history_word h ≡ word → IsReady h op e
+ready_at_word word op e made h l bits same = ready_of_table h op e l (event_at_word op word (Some e) h bits same made)
 
-pub answer_made : (word : ℕ) (op : ChanOp) (e : Event) (next : ℕ) (reply : Reply) → WordStep.Next next reply ≡ step_from op word → Some e ≡ event_by op (flags_in word) (waiting_in word)
+pub answer_made : (word : ℕ) (op : ChanOp) (e : Event) (next : ℕ) (reply : Reply) → MakesNext op word next reply e
     → (h : List Event) → IsLawful h → HasTwelveBitWords h → history_word h ≡ word → IsAnswer h op reply (h ++ e ∷ [])
-answer_made word op e next reply stepped made h l bits same =
-    inl (e, record { ready = ready_at_word word op e made h l bits same; answered = (next_by_event word op e next reply stepped made).3; recorded = refl })
+answer_made word op e next reply makes h l bits same =
+    inl (e, record { ready = ready_at_word word op e makes.2 h l bits same; answered = makes.4; recorded = refl })
 
 pub answer_shown : (word : ℕ) (op : ChanOp) (step : WordStep) → Stays step → step ≡ step_from op word
     → (h : List Event) → IsLawful h → HasTwelveBitWords h → history_word h ≡ word → IsAnswer h op (reply_shown op (state_in word)) h
@@ -254,7 +247,7 @@ steps_from_word h op l bits =
           ∙ ap (λ f. WordStep.Look f) (flags_of_word h bits);
       ready = λ e room r.
           steps_below op (history_word h) (Some e) (λ acts most. omega arith) (event_of_word op h bits ∙ table_of_ready h l op e r)
-          ∙ ap (λ w. WordStep.Next w (reply_made e)) (word_after_event h e l bits r.lawful);
+          ∙ ap (λ w. WordStep.Next w (reply_made e) e) (word_after_event h e l bits r.lawful);
       not_ready = λ acts room never.
           steps_below op (history_word h) None (λ acts most. omega arith) (event_of_word op h bits ∙ none_without_ready h l op never (event_of op h) refl)
           ∙ ap (λ look. shown_if look (flags_in (history_word h))) acts

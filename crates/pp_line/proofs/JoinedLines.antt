@@ -1,20 +1,22 @@
 -- Lines as one, joined in their order.
-use Rattle.std.proofs.Common.{◌≡◌, ℕ, List, [], ◌∷◌, ◌++◌, map, length, refl, sym, ap, ◌∙◌, subst, append_assoc, arith}
+use Rattle.std.proofs.Common.{◌≡◌, ℕ, List, [], ◌∷◌, ◌++◌, length, refl, sym, ap, ◌∙◌, subst, append_assoc, arith}
 use Rattle.std.specs.Prelude.{All}
-use Rattle.std.specs.List.{flat_map}
-use Rattle.std.proofs.lemmas.List.{append-nil}
+use Rattle.std.specs.List.{AllZip, flat_map}
+use Rattle.std.specs.declared.vec.Vec.{Vec}
+use Rattle.std.proofs.lemmas.List.{append-nil, map-append}
 use Rattle.std.proofs.lemmas.List.Elements.{All-cons, All-nil, All-push, All-weaker}
 use Rattle.std.proofs.lemmas.List.Sums.{fold-append}
 use Rattle.pp_line.specs.declared.access.Access.{Access}
 use Rattle.pp_line.specs.declared.entry.Entry.{Entry}
 use Rattle.pp_line.specs.declared.rule.LineView.{LineView}
 use Rattle.pp_channel.specs.ChannelNo.{channel_index}
-use Rattle.pp_line.specs.LineState.{LineState, joined, all_joined, ForgetsNothing, AreClosed, AreInOneOrder}
+use Rattle.pp_line.specs.LineState.{LineState, joined, all_joined, lines_of, IsLogBeside, SeesAtLeast, AreClosed, AreInOneOrder}
 use Rattle.pp_line.specs.Order.{ExtendsEach, IsDrawnFrom, FindsWords, AreMade}
 use Rattle.pp_line.proofs.ListFacts.{All-front, All-back}
-use Rattle.list_facts.specs.Subsequence.{IsSubsequence}
+use Rattle.pp_word.specs.Subsequence.{IsSubsequence}
 use Rattle.pp_line.specs.LineSteps.{IsLogOf, Tells}
-use Rattle.pp_line.specs.LineView.{Knows}
+use Rattle.pp_line.specs.LineView.{Knows, greater_of_each, joined_view, with_unrecorded_load}
+use Rattle.pp_channel.specs.declared.event.Event.{Event}
 use Rattle.pp_line.specs.Merge.{IsRecordedBy}
 use Rattle.pp_line.proofs.LineAnswers.{told_whole, closed_by}
 use Rattle.pp_line.proofs.LineKnowledge.{knows_by_log}
@@ -38,39 +40,19 @@ joined_entries line [] = sym (append-nil line.log.entries)
 joined_entries line (other ∷ others) =
     joined_entries (joined line other) others ∙ append_assoc line.log.entries other.log.entries (flat_map (λ l. l.log.entries) others)
 
--- the log of one line more goes with what both know
-pub log_joined : (line other : LineState) → IsLogOf line.view line.log.entries → IsLogOf other.view other.log.entries → IsLogOf (joined line other).view (joined line other).log.entries
-log_joined line other is more = log_of_same (joined line other).view (log_of_joined is more) refl refl refl refl
+-- logs that are those of lines are the same, end to end
+pub same_logs : {T A : Type 0} (pairs : List (T × LineState)) (logs : List (T × Vec Entry A)) → AllZip (λ pair log. IsLogBeside pair log) pairs logs → flat_map (λ log. log.1.items) logs ≡ flat_map (λ l. l.log.entries) (lines_of pairs)
+same_logs [] [] all = refl
+same_logs [] (log ∷ logs) all = absurd all
+same_logs (pair ∷ pairs) [] all = absurd all
+same_logs (pair ∷ pairs) (log ∷ logs) all = λ j. all.0.1 j ++ same_logs pairs logs all.1 j
 
--- what each line has seen, all have seen with one line more
-pub forgotten_push : (line other : LineState) (others : List LineState) → IsLogOf line.view line.log.entries → IsLogOf other.view other.log.entries
-    → All (λ l. ForgetsNothing l line) others → All (λ l. ForgetsNothing l (joined line other)) (others ++ other ∷ [])
-forgotten_push line other others is more all =
-    let each : length line.view.seen ≡ length other.view.seen = is.each_channel ∙ sym more.each_channel in
-    All-push (λ (l : LineState). ForgetsNothing l (joined line other)) others other
-    (All-weaker (λ (l : LineState). ForgetsNothing l line) (λ (l : LineState). ForgetsNothing l (joined line other))
-    (λ l before c. let b = before c in let m = greater_left line.view.seen other.view.seen (channel_index c) each in omega (arith, b, m)) others all)
-    (λ c. greater_right line.view.seen other.view.seen (channel_index c) each)
-
--- parts that are the same give the same list, end to end
-flat_of_parts : {X A : Type 0} (f : X → List A) (xs : List X) → flat_map f xs ≡ flat_map (λ part. part) (map f xs)
-flat_of_parts f [] = refl
-flat_of_parts f (x ∷ xs) = ap (λ l. f x ++ l) (flat_of_parts f xs)
-
-pub same_parts : {X Y A : Type 0} (f : X → List A) (h : Y → List A) (xs : List X) (ys : List Y) → map f xs ≡ map h ys → flat_map f xs ≡ flat_map h ys
-same_parts f h xs ys same = flat_of_parts f xs ∙ (ap (flat_map (λ part. part)) same ∙ sym (flat_of_parts h ys))
-
--- a line with every share, at a moment at which a step tells the histories
-pub joined_told : {c word : ℕ} (line : LineState) (v : LineView) (log : List Entry) (seen : List ℕ) → (t : Tells v c word) → v ≡ line.view → IsLogOf line.view line.log.entries → line.view.shares ≡ line.view.whole
-    → log ≡ line.log.entries → seen ≡ line.view.seen → IsRecordedBy log seen t.histories
-joined_told line v log seen t view is all log_is seen_is =
-    let of_view : IsLogOf v line.log.entries = subst (λ (w : LineView). IsLogOf w line.log.entries) (sym view) is in
-    rw (log_is, seen_is, ← view) (told_whole of_view t (ap (λ w. w.shares) view ∙ (all ∙ sym (ap (λ w. w.whole) view))))
-
-pub joined_closed : {c word : ℕ} (line : LineState) (v : LineView) → (t : Tells v c word) → v ≡ line.view → IsLogOf line.view line.log.entries → line.view.shares ≡ line.view.whole → AreClosed line t.histories
-joined_closed line v t view is all =
-    let of_view : IsLogOf v line.log.entries = subst (λ (w : LineView). IsLogOf w line.log.entries) (sym view) is in
-    closed_by line t.histories (subst (λ (w : LineView). Knows w line.log.entries t.histories) view (knows_by_log of_view t.known)) all
+-- what holds of two lists, place by place, holds of one place more
+pub zip_push : {X Y : Type 0} (R : X → Y → Type 0) (xs : List X) (ys : List Y) (x : X) (y : Y) → AllZip R xs ys → R x y → AllZip R (xs ++ x ∷ []) (ys ++ y ∷ [])
+zip_push R [] [] x y all one = (one, tt)
+zip_push R [] (v ∷ ys) x y all one = absurd all
+zip_push R (u ∷ xs) [] x y all one = absurd all
+zip_push R (u ∷ xs) (v ∷ ys) x y all one = (all.0, zip_push R xs ys x y all.1 one)
 
 -- lines whose program orders are those of a view that a step tells of are in one order, each with its log
 pub joined_orders : (line : LineState) (others : List LineState) → (all_joined line others).view.program_orders ≡ line.view.program_orders ++ flat_map (λ other. other.view.program_orders) others
@@ -99,3 +81,69 @@ lines_in_order lines t program_orders central opened written all logs = record {
   program_orders = each_extended t.order lines (subst (ExtendsEach t.order) program_orders t.program_orders);
   logs = All-weaker (λ (l : LineState). IsLogOf l.view l.log.entries) (λ (l : LineState). IsDrawnFrom l.view.program_orders l.log.entries) (λ l is. is.drawn) lines logs;
 }
+
+-- Lines that were joined to a first one: what all know and have seen as one, and their logs.
+pub record AreAbsorbed {T A : Type 0} (first : LineState) (pairs : List (T × LineState)) (v : LineView) (seen : List ℕ) (logs : List (T × Vec Entry A)) : Type 0 where
+  pub view : v ≡ (all_joined first (lines_of pairs)).view
+  pub seen_is : seen ≡ (all_joined first (lines_of pairs)).view.seen
+  pub log_of : IsLogOf (all_joined first (lines_of pairs)).view (all_joined first (lines_of pairs)).log.entries
+  pub logs_are : AllZip (λ pair log. IsLogBeside pair log) pairs logs
+  pub each_log : All (λ l. IsLogOf l.view l.log.entries) (lines_of pairs)
+  pub forgotten : All (λ l. SeesAtLeast l (all_joined first (lines_of pairs))) (lines_of pairs)
+
+-- none yet
+pub absorbed_none : {T A : Type 0} {first : LineState} {v : LineView} {seen : List ℕ} {logs : List (T × Vec Entry A)} → seen ≡ first.view.seen → v ≡ first.view → IsLogOf first.view first.log.entries → logs ≡ [] → AreAbsorbed first [] v seen logs
+absorbed_none {first = first} seen view is none = record {
+  view = view;
+  seen_is = seen;
+  log_of = is;
+  logs_are = rw none tt;
+  each_log = All-nil (λ (l : LineState). IsLogOf l.view l.log.entries);
+  forgotten = All-nil (λ (l : LineState). SeesAtLeast l first);
+}
+
+-- one line more
+pub absorbed_push : {T A : Type 0} {first : LineState} {pairs : List (T × LineState)} {v w : LineView} {seen now : List ℕ} {logs : List (T × Vec Entry A)} (value : T) (other : LineState) (log : Vec Entry A)
+    → AreAbsorbed first pairs v seen logs → IsLogOf other.view other.log.entries → log.items ≡ other.log.entries → w ≡ with_unrecorded_load (joined_view v other.view) → now ≡ greater_of_each seen other.view.seen
+    → AreAbsorbed first (pairs ++ (value, other) ∷ []) w now (logs ++ (value, log) ∷ [])
+absorbed_push {first = first} {pairs = pairs} {logs = logs} value other log before is log_is view seen_is =
+    let lines = lines_of pairs in
+    let line = all_joined first lines in
+    let lines_more : lines_of (pairs ++ (value, other) ∷ []) ≡ lines ++ other ∷ [] = map-append (λ pair. pair.1) pairs ((value, other) ∷ []) in
+    let more : all_joined first (lines_of (pairs ++ (value, other) ∷ [])) ≡ joined line other = ap (all_joined first) lines_more ∙ joined_push first lines other in
+    let each : length line.view.seen ≡ length other.view.seen = before.log_of.each_channel ∙ sym is.each_channel in
+    record {
+      view = view ∙ (ap (λ v. with_unrecorded_load (joined_view v other.view)) before.view ∙ sym (ap (λ l. l.view) more));
+      seen_is = seen_is ∙ (ap (λ s. greater_of_each s other.view.seen) before.seen_is ∙ sym (ap (λ l. l.view.seen) more));
+      log_of = subst (λ (l : LineState). IsLogOf l.view l.log.entries) (sym more) (log_of_same (joined line other).view (log_of_joined before.log_of is) refl refl refl refl);
+      logs_are = zip_push (λ pair log. IsLogBeside pair log) pairs logs (value, other) (value, log) before.logs_are (refl, log_is);
+      each_log = subst (All (λ (l : LineState). IsLogOf l.view l.log.entries)) (sym lines_more) (All-push (λ (l : LineState). IsLogOf l.view l.log.entries) lines other before.each_log is);
+      forgotten = subst (λ (l : LineState). All (λ o. SeesAtLeast o l) (lines_of (pairs ++ (value, other) ∷ []))) (sym more)
+          (subst (All (λ (o : LineState). SeesAtLeast o (joined line other))) (sym lines_more)
+          (All-push (λ (o : LineState). SeesAtLeast o (joined line other)) lines other
+          (All-weaker (λ (o : LineState). SeesAtLeast o line) (λ (o : LineState). SeesAtLeast o (joined line other))
+          (λ o less c. let l = less c in let m = greater_left line.view.seen other.view.seen (channel_index c) each in omega (arith, l, m)) lines before.forgotten)
+          (λ c. greater_right line.view.seen other.view.seen (channel_index c) each)));
+    }
+
+-- What lines with every share leave, at a moment at which a step tells the histories.
+pub record AreTold {T A : Type 0} (first : LineState) (pairs : List (T × LineState)) (seen : List ℕ) (logs : List (T × Vec Entry A)) (histories : List (List Event)) : Type 0 where
+  pub recorded : IsRecordedBy (first.log.entries ++ flat_map (λ log. log.1.items) logs) seen histories
+  pub closed : AreClosed (all_joined first (lines_of pairs)) histories
+  pub in_order : AreInOneOrder first.view.central histories (first ∷ lines_of pairs)
+
+pub absorbed_told : {T A : Type 0} {first : LineState} {pairs : List (T × LineState)} {v : LineView} {seen : List ℕ} {logs : List (T × Vec Entry A)} {c word : ℕ}
+    → AreAbsorbed first pairs v seen logs → IsLogOf first.view first.log.entries → (all_joined first (lines_of pairs)).view.shares ≡ first.view.whole → (t : Tells v c word) → AreTold first pairs seen logs t.histories
+absorbed_told {first = first} {pairs = pairs} {v = v} {seen = seen} {logs = logs} before is shares t =
+    let lines = lines_of pairs in
+    let line = all_joined first lines in
+    let whole : line.view.shares ≡ line.view.whole = shares ∙ sym (joined_whole first lines) in
+    let all : v.shares ≡ v.whole = ap (λ w. w.shares) before.view ∙ (whole ∙ sym (ap (λ w. w.whole) before.view)) in
+    let of_view : IsLogOf v line.log.entries = subst (λ (w : LineView). IsLogOf w line.log.entries) (sym before.view) before.log_of in
+    let log : first.log.entries ++ flat_map (λ log. log.1.items) logs ≡ line.log.entries = ap (λ l. first.log.entries ++ l) (same_logs pairs logs before.logs_are) ∙ sym (joined_entries first lines) in
+    record {
+      recorded = rw (log, before.seen_is, ← before.view) (told_whole of_view t all);
+      closed = closed_by line t.histories (subst (λ (w : LineView). Knows w line.log.entries t.histories) before.view (knows_by_log of_view t.known)) whole;
+      in_order = lines_in_order (first ∷ lines) t (ap (λ w. w.program_orders) before.view ∙ joined_orders first lines) first.view.central (ap (λ w. w.central) before.view ∙ joined_central first lines)
+          (ap (λ w. w.written) before.view ∙ joined_written first lines) all (All-cons (λ (l : LineState). IsLogOf l.view l.log.entries) first lines is before.each_log);
+    }

@@ -16,9 +16,9 @@ use Rattle.pp_channel.specs.declared.flags.Flags.{Flags as FlagPair}
 use Rattle.pp_line.specs.declared.entry.Entry.{Entry}
 use Rattle.pp_line.specs.declared.rule.LineView.{LineView}
 use Rattle.pp_line.specs.declared.word_step.WordStep.{WordStep}
-use Rattle.pp_channel.specs.Answer.{IsAnswer, IsReady, operation_of, reply_made, reply_shown, event_answered, flags_shown, only_looks, seen_answered, event_by}
+use Rattle.pp_channel.specs.Answer.{IsAnswer, IsReady, operation_of, reply_made, reply_shown, event_answered, flags_shown, only_looks, seen_answered}
 use Rattle.pp_channel.specs.ChannelNo.{channel_count, channel_index}
-use Rattle.pp_line.specs.ChannelWord.{number_in, flags_in, greatest_number, state_in, step_from, waiting_in}
+use Rattle.pp_line.specs.ChannelWord.{number_in, flags_in, greatest_number, state_in, step_from}
 use Rattle.pp_channel.specs.History.{IsLawful, HasTwelveBitWords, history_on}
 use Rattle.pp_channel.specs.Law.{KeepsLaw}
 use Rattle.pp_line.specs.LineLog.{LogState, appended, looked, with_seen, event_entry, look_entry, seen_on}
@@ -31,7 +31,7 @@ use Rattle.pp_line.specs.Merge.{Merges, no_opening, IsRecordedBy}
 use Rattle.pp_line.specs.SharedWords.{IsFound}
 use Rattle.pp_channel.specs.AnswerLaws.{shown_makes_none, shows_flags}
 use Rattle.pp_channel.specs.ChannelPlaces.{place_below}
-use Rattle.pp_line.proofs.ChannelWordLemmas.{Stays, worn_by_table, shown_by_table, next_by_event, ready_at_word, answer_made, answer_shown, number_of_word}
+use Rattle.pp_line.proofs.ChannelWordLemmas.{Stays, MakesNext, worn_by_table, shown_by_table, next_by_table, ready_at_word, answer_made, answer_shown, number_of_word}
 use Rattle.pp_channel.proofs.FrontLemmas.{lawful_take, twelve_bits_take}
 use Rattle.pp_line.proofs.MergeLemmas.{with_more, more_is, more_here, put_before}
 use Rattle.pp_channel.proofs.LawLemmas.{law_of_lawful}
@@ -181,15 +181,18 @@ module _ (line : LineState) {now : LineView} {c word : ℕ} (load : IsLoad c lin
       }
 
   -- a line that tried an event after its load
-  module _ (e : Event) (next : ℕ) (reply : Reply) (after : LineState) (stepped : WordStep.Next next reply ≡ step_from op word) (event : Some e ≡ event_by op (flags_in word) (waiting_in word)) (most : number_in word ≤ greatest_number) where
+  module _ (e : Event) (next : ℕ) (reply : Reply) (after : LineState) (stepped : WordStep.Next next reply e ≡ step_from op word) (most : number_in word ≤ greatest_number) where
+    makes_next : MakesNext op word next reply e
+    makes_next = next_by_table word op next reply e stepped
+
     not_worn_yet : only_looks op ≡ false → number_in word < greatest_number
-    not_worn_yet acts = let n = (next_by_event word op e next reply stepped event).1 in omega arith
+    not_worn_yet acts = let n = makes_next.1 in omega arith
 
     reply_is : reply ≡ reply_made e
-    reply_is = (next_by_event word op e next reply stepped event).3
+    reply_is = makes_next.4
 
     operation_is : operation_of e ≡ op
-    operation_is = (ready_at_word word op e event history now_lawful now_bits load.tells.word_is).operation
+    operation_is = (ready_at_word word op e makes_next.2 history now_lawful now_bits load.tells.word_is).operation
 
     -- the event was made
     module _ (won : IsWonExchange c now word e after.view) (is : IsNow line (appended line.log (event_entry c (number_in word) e)) after.view after) where
@@ -251,7 +254,7 @@ module _ (line : LineState) {now : LineView} {c word : ℕ} (load : IsLoad c lin
           at_once = λ _.
               let P : List Event → Type 0 = λ h. IsAnswer h op reply longer in
               let Q : List Event → Type 0 = λ h. IsAnswer old op reply h in
-              subst P (sym front) (subst Q (sym longer_is) (answer_made word op e next reply stepped event old old_lawful old_bits won.tells.word_is));
+              subst P (sym front) (subst Q (sym longer_is) (answer_made word op e next reply makes_next old old_lawful old_bits won.tells.word_is));
           lost = λ no. absurd (no refl);
         };
         not_older = not_older_told load.tells;
@@ -283,7 +286,7 @@ module _ (line : LineState) {now : LineView} {c word : ℕ} (load : IsLoad c lin
       was_ready : IsReady (take (number_in word) later) op e
       was_ready =
           let P : ℕ → Type 0 = λ n. IsReady (take n later) op e in
-          subst P (sym first_number) (ready_at_word word op e event (take first.0 later) (lawful_take first.0 later (lawful_on found_in c lost.load.tells.known.sound.lawful)) (twelve_bits_take first.0 later later_bits) first.2)
+          subst P (sym first_number) (ready_at_word word op e makes_next.2 (take first.0 later) (lawful_take first.0 later (lawful_on found_in c lost.load.tells.known.sound.lawful)) (twelve_bits_take first.0 later later_bits) first.2)
 
       view_lost : after.view ≡ record line.view {
         events = with_made line.view.events c (number_in found) (event_answered op (Held (flags_in found)));

@@ -6,8 +6,8 @@ use Rattle.std.proofs.lemmas.Bool.{cases_eq, cases_lt, eq-eqb, ne_eqb, lt-ltb, l
 use Rattle.std.proofs.lemmas.List.{append-nil, length-append, drop_all, drop-append-le, take_at, take-append-le, take-append-drop}
 use Rattle.std.proofs.lemmas.List.Concat.{flat_map-append}
 use Rattle.std.proofs.lemmas.List.Elements.{All-head, All-weaker, All-map, filter_map-append}
-use Rattle.list_facts.specs.Subsequence.{IsSubsequence}
-use Rattle.list_facts.specs.Subsequences.{stands_after, stands_passed, stands_more, stands_push, stands_append, stands_through, stands_whole}
+use Rattle.pp_word.specs.Subsequence.{IsSubsequence}
+use Rattle.pp_word.specs.Subsequences.{stands_after, stands_passed, stands_more, stands_push, stands_append, stands_through, stands_whole}
 use Rattle.pp_line.specs.declared.access.Access.{Access}
 use Rattle.pp_line.specs.declared.access.Access.TheVariants.{OnChannel}
 use Rattle.pp_channel.specs.declared.event.Event.{Event}

@@ -18,7 +18,7 @@ use Rattle.pp_line.specs.LineView.{blank_view, first_view, parent_view, child_vi
 use Rattle.pp_line.specs.Merge.{IsTrueOf, Merges, no_opening}
 use Rattle.pp_line.specs.Order.{ExtendsEach}
 use Rattle.pp_line.specs.declared.access.Access.{Access}
-use Rattle.list_facts.specs.Subsequence.{IsSubsequence}
+use Rattle.pp_word.specs.Subsequence.{IsSubsequence}
 use Rattle.pp_line.specs.LineLog.{seen_on}
 use Rattle.pp_line.specs.SharedWords.{word_place, place_count, central_in, IsFound, IsViewOf, Rule}
 use Rattle.pp_channel.specs.ChannelPlaces.{place_below}

@@ -30,7 +30,7 @@ use Rattle.pp_line.proofs.MergeLemmas.{once_below, TellsOnce, tells_once, merges
 use Rattle.pp_line.proofs.ViewLemmas.{view_later, view_makes, view_beside, later_found}
 use Rattle.pp_line.proofs.RuleLemmas.{events_in, all_events, shares_in, times-write, lawful_on, low_on, word_on, view_at, events_at, extends_at, found_kept, check_kept, rewritten, alone, knows, tells}
 use Rattle.pp_line.proofs.OrderLemmas.{order_event, order_beside, extends_more, extends_push}
-use Rattle.pp_line.proofs.CentralLemmas.{look_goes_on, channel_goes_on, central_stays, central_at, opened_at, all_made, read_goes_on, write_goes_on}
+use Rattle.pp_line.proofs.CentralLemmas.{look_goes_on, channel_advances, central_stays, central_at, opened_at, all_made, read_goes_on, write_goes_on}
 
 abbrev M : Type 0
 M = Me Event LineView
@@ -207,7 +207,7 @@ module _ (whole : ℕ) (words : List ℕ) (views : List LineView) (histories : L
           program_orders = All-set (λ x. ExtendsEach (k.order ++ more) x.program_orders) views id w (extends_push k.order (OnChannel (event_entry c n e)) v.program_orders (extends_at whole words views histories k id v at))
               (All-weaker (λ x. ExtendsEach k.order x.program_orders) (λ x. ExtendsEach (k.order ++ more) x.program_orders) (λ x. extends_more k.order more x.program_orders) views k.program_orders);
         },
-        channel_goes_on opening words views k.order id v w c new (event_entry c n e) names at refl refl refl kc,
+        channel_advances opening words views k.order id v w c new (event_entry c n e) names at refl refl refl kc,
       )
 
   made_at : (id : ℕ) (v : LineView) (n : ℕ) → n ≡ length (history_on c histories) → get_elem? views id ≡ some v → 0 < v.shares → KeepsBoth whole opening (set words (word_place c) new) (set views id (makes v c n e)) after

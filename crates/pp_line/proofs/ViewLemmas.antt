@@ -21,7 +21,7 @@ use Rattle.pp_channel.specs.ChannelPlaces.{place_below}
 use Rattle.pp_channel.proofs.FrontLemmas.{twelve_bits_take}
 use Rattle.pp_line.proofs.ChannelWordLemmas.{number_at_word}
 use Rattle.pp_line.proofs.MergeLemmas.{Grow}
-use Rattle.list_facts.specs.WrittenNumbers.{set_at_each, set_raises}
+use Rattle.pp_word.specs.WrittenNumbers.{set_at_each, set_raises}
 use Rattle.pp_line.proofs.SeenLemmas.{within_more, greater_left, greater_right, greater_at_most, length-greater}
 
 -- the histories grow

@@ -54,7 +54,7 @@ word_with word e = packed (number_in word + 1) (flags_after e) (unwrap_or (word_
 abbrev pub step_by : ChanOp → ℕ → Option Event → WordStep
 step_by op word None =
     if only_looks op then WordStep.Look (flags_in word) else WordStep.Held (flags_in word)
-step_by op word (Some e) = WordStep.Next (word_with word e) (reply_made e)
+step_by op word (Some e) = WordStep.Next (word_with word e) (reply_made e) e
 
 -- The step of an operation from any word. On a worn one only an operation that only looks is
 -- answered.
@@ -70,7 +70,7 @@ pub record StepsFrom (h : List Event) (op : ChanOp) (step : WordStep) : Type 0 w
   pub looks : only_looks op ≡ true → step ≡ WordStep.Look (flags_of h)
   -- a ready operation makes its event: the next word is that of the longer history
   pub ready : (e : Event) → length h < greatest_number → IsReady h op e
-      → step ≡ WordStep.Next (history_word (h ++ e ∷ [])) (reply_made e)
+      → step ≡ WordStep.Next (history_word (h ++ e ∷ [])) (reply_made e) e
   -- any other operation is held at the flags
   pub not_ready : only_looks op ≡ false → length h < greatest_number
       → ((e : Event) → ¬ IsReady h op e) → step ≡ WordStep.Held (flags_of h)

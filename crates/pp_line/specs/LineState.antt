@@ -1,9 +1,11 @@
 -- A line as contracts see it: what it holds, what it knows of histories, and how calls change it.
 use Rattle.std.specs.Prelude.{flat_map, ◌≡◌, ◌≢◌, ℕ, ◌+◌, ◌<◌, ◌≤◌, ◌==◌, List, [], ◌∷◌, ◌++◌, length, map, take, All, slice_set, true, false, is_some, if◌then◌else◌, fold, option_map, option_to_list}
+use Rattle.std.specs.declared.vec.Vec.{Vec}
 use Rattle.atomic_table.specs.Seated.{TableId}
 use Rattle.pp_channel.specs.declared.chan_op.ChanOp.{ChanOp}
 use Rattle.pp_line.specs.declared.access.Access.{Access}
 use Rattle.pp_channel.specs.declared.event.Event.{Event}
+use Rattle.pp_line.specs.declared.entry.Entry.{Entry}
 use Rattle.pp_channel.specs.declared.numbered.Numbered.{Numbered}
 use Rattle.pp_channel.specs.declared.reply.Reply.{Reply}
 use Rattle.pp_line.specs.declared.rule.LineView.{LineView}
@@ -45,9 +47,17 @@ joined line other = record line {
 abbrev pub all_joined : LineState → List LineState → LineState
 all_joined line others = fold joined line others
 
+-- the lines of pairs, each of some value and a line
+abbrev pub lines_of : {T : Type 0} → List (T × LineState) → List LineState
+lines_of pairs = map (λ pair. pair.1) pairs
+
+-- what closing makes of such a pair: the same value, and the log of the line
+abbrev pub IsLogBeside : {T A : Type 0} → T × LineState → T × Vec Entry A → Type 0
+IsLogBeside pair log = (log.0 ≡ pair.0) × (log.1.items ≡ pair.1.log.entries)
+
 -- Of each channel the line afterwards has seen at least as many events as this one.
-abbrev pub ForgetsNothing : LineState → LineState → Type 0
-ForgetsNothing line after = (c : ℕ) → seen_on c line.view.seen ≤ seen_on c after.view.seen
+abbrev pub SeesAtLeast : LineState → LineState → Type 0
+SeesAtLeast line after = (c : ℕ) → seen_on c line.view.seen ≤ seen_on c after.view.seen
 
 -- how many events of the channel are known after an answer: one more if it was an event
 abbrev pub number_after : ℕ → Reply → ℕ

@@ -7,7 +7,7 @@ ghost use Rattle.pp_channel.specs.declared.event.Event.{Event};
 ghost use Rattle.pp_channel.specs.ChannelNo.{channel_count};
 ghost use Rattle.pp_line.specs.LineLog.{IsMonotone, IsWithin, seen_on, empty_log, event_entry, look_entry, appended, looked};
 ghost use Rattle.pp_line.specs.declared.rule.LineView.{LineView};
-ghost use Rattle.pp_line.specs.LineState.{LineState, IsSplitFrom, joined, ForgetsNothing, IsActed, IsWornOut, AreClosed, AreInOneOrder};
+ghost use Rattle.pp_line.specs.LineState.{LineState, IsSplitFrom, joined, SeesAtLeast, IsActed, IsWornOut, AreClosed, AreInOneOrder};
 ghost use Rattle.pp_line.specs.LineSteps.{IsLoad, IsWonExchange, IsLostExchange, IsLogOf};
 ghost use Rattle.pp_line.specs.LineView.{first_view, finds, reads, writes, parent_view, with_unrecorded_load, greater_of_each};
 ghost use Rattle.pp_line.specs.ChannelWord.{history_word, number_in, flags_in};
@@ -17,7 +17,7 @@ use crate::entry::Entry;
 use crate::line_log::LineLog;
 use crate::recorded_history::recorded_channels;
 use crate::shared_words::SharedWords;
-use crate::word_step::{WordStep, advance, flags_in, next_event_in, number_in, state_in};
+use crate::word_step::{WordStep, advance, flags_in, number_in, state_in};
 use crate::worn::Worn;
 pub use closing::Closed;
 use pp_channel::{
@@ -197,34 +197,24 @@ impl<A: Allocator + Copy> Line<A> {
     {
         let word = self.load(channel);
         let loaded = number_in(word);
-        match advance(word, op) {
-            WordStep::Worn => Err(Worn),
+        let (reply, number) = match advance(word, op) {
+            WordStep::Worn => return Err(Worn),
             WordStep::Look(_) | WordStep::Held(_) => {
                 self.look(channel, word);
-                Ok(Numbered {
-                    reply: reply_shown(&op, &state_in(word)),
-                    loaded,
-                    number: loaded,
-                })
+                (reply_shown(&op, &state_in(word)), loaded)
             }
-            WordStep::Next(next, reply) => {
-                let Some(event) = next_event_in(word, &op) else {
-                    unreachable!()
-                };
-                Ok(match self.try_event(channel, word, next, event) {
-                    Ok(()) => Numbered {
-                        reply,
-                        loaded,
-                        number: loaded,
-                    },
-                    Err(found) => Numbered {
-                        reply: Reply::Held(flags_in(found)),
-                        loaded,
-                        number: number_in(found),
-                    },
-                })
+            WordStep::Next(next, reply, event) => {
+                match self.try_event(channel, word, next, event) {
+                    Ok(()) => (reply, loaded),
+                    Err(found) => (Reply::Held(flags_in(found)), number_in(found)),
+                }
             }
-        }
+        };
+        Ok(Numbered {
+            reply,
+            loaded,
+            number,
+        })
     }
 
     /// The word of central memory at an address, or nothing at or past the size. It makes one load.
@@ -321,8 +311,8 @@ impl<A: Allocator + Copy> Line<A> {
     pub fn join(mut self, other: Line<A>) -> Result<Line<A>, (Line<A>, Line<A>, Memory)>
         requires { other.table ≡ self.table }
         ensures ok { IfOk result (λ line. line ≡ joined self other) }
-        ensures nothing_forgotten { IfOk result (λ line. ForgetsNothing self line
-            × ForgetsNothing other line) }
+        ensures nothing_forgotten { IfOk result (λ line. SeesAtLeast self line
+            × SeesAtLeast other line) }
         ensures unchanged_after_memory { IfErr result (λ refused. (refused.0 ≡ self)
             × (refused.1 ≡ other)) }
     {
@@ -358,7 +348,7 @@ impl<A: Allocator + Copy> Line<A> {
     {
         self.words.check_shares(ChannelNo::at(0));
         let line = &self;
-        let others = Vec::new(line.alloc);
+        let others: Vec<((), Vec<Entry, A>), A> = Vec::new(line.alloc);
         match recorded_channels(
             line.alloc,
             line.log.entries(),

@@ -48,18 +48,19 @@ impl<A: Allocator> EventsByNumber<A> {
     }
 }
 
-/// All channels in order, with the histories that the log and others record. Their lengths are the
-/// numbers seen.
-pub fn recorded_channels<A: Allocator + Copy>(
+/// All channels in order, with the histories that the log and others, each beside some value,
+/// record. Their lengths are the numbers seen.
+pub fn recorded_channels<T, A: Allocator + Copy>(
     alloc: A,
     log: &[Entry],
-    others: &[Vec<Entry, A>],
+    others: &[(T, Vec<Entry, A>)],
     seen: &[u64; CHANNELS],
 ) -> Result<[Channel<A>; CHANNELS], Memory>
     requires { (histories : List (List Event))
-        × IsRecordedBy (log.now ++ flat_map (λ other. other.items) others.now) seen.now histories }
+        × IsRecordedBy (log.now ++ flat_map (λ other. other.1.items) others.now)
+        seen.now histories }
     ensures { IfOk result (λ channels. (histories : List (List Event))
-        → IsRecordedBy (log.now ++ flat_map (λ other. other.items) others.now) seen.now histories
+        → IsRecordedBy (log.now ++ flat_map (λ other. other.1.items) others.now) seen.now histories
         → channels ≡ histories) }
 {
     let mut histories = recorded_histories(alloc, log, others, seen)?;
@@ -93,20 +94,20 @@ fn take_events<A: Allocator>(
 }
 
 /// The histories of all channels in order, by one pass over the logs.
-fn recorded_histories<A: Allocator + Copy>(
+fn recorded_histories<T, A: Allocator + Copy>(
     alloc: A,
     log: &[Entry],
-    others: &[Vec<Entry, A>],
+    others: &[(T, Vec<Entry, A>)],
     seen: &[u64; CHANNELS],
 ) -> Result<Vec<EventsByNumber<A>, A>, Memory>
     ensures { IfOk result (λ told. (histories : List (List Event))
-        → IsRecordedBy (log.now ++ flat_map (λ other. other.items) others.now) seen.now histories
+        → IsRecordedBy (log.now ++ flat_map (λ other. other.1.items) others.now) seen.now histories
         → told.items ≡ histories) }
 {
     let mut told = unrecorded_histories(alloc, seen)?;
     put_log(&mut told, log);
     for other in others {
-        put_log(&mut told, other.as_slice());
+        put_log(&mut told, other.1.as_slice());
     }
     Ok(told)
 }

@@ -1,8 +1,8 @@
 //! One step of a channel word.
 
-ghost use Rattle.std.specs.Prelude.{◌≡◌, ◌<◌, ◌≤◌, List, None, IfSome};
+ghost use Rattle.std.specs.Prelude.{◌≡◌, ◌<◌, ◌≤◌, ℕ, List, None};
 ghost use Rattle.pp_channel.specs.declared.event.Event.{Event};
-ghost use Rattle.pp_channel.specs.Answer.{event_by};
+ghost use Rattle.pp_channel.specs.declared.reply.Reply.{Reply};
 ghost use Rattle.pp_line.specs.ChannelWord.{history_word, number_in, flags_in, register_in, greatest_number, step_from, step_by, state_in, waiting_in, word_with, StepsFrom};
 ghost use Rattle.pp_channel.specs.History.{IsLawful, HasTwelveBitWord, HasTwelveBitWords};
 
@@ -24,8 +24,8 @@ const GREATEST_NUMBER: u64 = (1 << 50) - 1;
 /// What an operation does to a channel word.
 #[derive(Clone, Copy, Debug, PartialEq, Eq)]
 pub enum WordStep {
-    /// The word becomes this one, and this is the reply to the operation.
-    Next(u64, Reply),
+    /// The word becomes this one, this is the reply to the operation, and this event is made.
+    Next(u64, Reply, Event),
     /// The flags, for an operation that only looks.
     Look(Flags),
     /// The operation is not ready at these flags.
@@ -42,12 +42,14 @@ pub fn advance(word: u64, op: ChanOp) -> WordStep
     ensures table { result ≡ step_from op word }
     ensures history { (h : List Event) → IsLawful h → HasTwelveBitWords h → history_word h ≡ word
         → StepsFrom h op result }
+    ensures twelve_bits { (next : ℕ) (reply : Reply) (e : Event)
+        → result ≡ WordStep.Next next reply e → HasTwelveBitWord e }
 {
     if !op.only_looks() && number_in(word) == GREATEST_NUMBER {
         return WordStep::Worn;
     }
-    match next_event_in(word, &op) {
-        Some(event) => WordStep::Next(word_with(word, &event), reply_made(&event)),
+    match event_by(&op, flags_in(word), waiting_in(word)) {
+        Some(event) => WordStep::Next(word_with(word, &event), reply_made(&event), event),
         None => step_shown(&op, word),
     }
 }
@@ -61,15 +63,6 @@ fn step_shown(op: &ChanOp, word: u64) -> WordStep
     } else {
         WordStep::Held(flags_in(word))
     }
-}
-
-/// The event that an operation makes, by the flags and the register of a word; nothing if it only
-/// looks or is not ready.
-pub(crate) fn next_event_in(word: u64, op: &ChanOp) -> Option<Event>
-    ensures event { result ≡ event_by op.now (flags_in word) (waiting_in word) }
-    ensures twelve_bits { IfSome result HasTwelveBitWord }
-{
-    event_by(op, flags_in(word), waiting_in(word))
 }
 
 /// How many events a word counts.

@@ -18,10 +18,10 @@ use Rattle.pp_machine.specs.declared.profile.Profile.{Profile}
 use Rattle.pp_machine.specs.ProcessorPlaces.{number_of_place, place_below, number_fits}
 use Rattle.pp_deck.specs.DeckLoad.{processor_with}
 use Rattle.pp_deck.specs.DeckMeaning.{LoadedDeck, deck_meaning}
-use Rattle.list_facts.specs.Tables.{length-tabulate, get_or-tabulate}
+use Rattle.pp_word.specs.Tables.{length-tabulate, get_or-tabulate}
 use Rattle.pp_deck.proofs.LoadedRangeLemmas.{IsSmall}
 use Rattle.pp_deck.specs.InUse.{is_in_use}
-use Rattle.pp_listing.specs.Dump.{in_processor, processor_going_on, channel_going_on, all_going_on, first_going_on, left_of, deck_to_go_on, dump, after, GoesOnFrom}
+use Rattle.pp_listing.specs.Dump.{in_processor, busy_processor, busy_channel, all_busy, first_busy, left_of, deck_to_go_on, dump, after, GoesOnFrom}
 use Rattle.pp_listing.specs.Listing.{is_opened_channel, listing, numbers}
 use Rattle.pp_listing.proofs.FreshDeckLemmas.{IsFresh, fresh_listing}
 use Rattle.pp_listing.proofs.GoingOnLemmas.{none_given}
@@ -54,13 +54,13 @@ if_none : {A : Type 0} (b : Bool) (o : Option A) → b ≡ true → cond b o Non
 if_none true o is e = e
 if_none false o is e = absurd (cc)
 
-no_block : (m : MachineState) (n : ℕ) → IsTrue (names_processor n) → first_going_on m ≡ None → (processor_of n m).block ≡ None
-unfolding all_going_on
+no_block : (m : MachineState) (n : ℕ) → IsTrue (names_processor n) → first_busy m ≡ None → (processor_of n m).block ≡ None
+unfolding all_busy
 no_block m n named e =
     let pp = processor_of n m in
     in_no_block n pp.block pp.state
     (if_none (names_processor n) (in_processor n pp.block pp.state) named
-    (none_given (processor_going_on m) n (filter_map (channel_going_on m) numbers) (omega (arith, number_fits n named)) e))
+    (none_given (busy_processor m) n (filter_map (busy_channel m) numbers) (omega (arith, number_fits n named)) e))
 
 -- ---- a processor that is left
 
@@ -102,7 +102,7 @@ pub none_open : (deck : LoadedDeck) → list_any (is_opened_channel (deck_to_go_
 unfolding dead_of
 none_open deck = none_opened (deck_to_go_on deck) (unopened deck)
 
-fresh : (deck : LoadedDeck) → IsDeckFor deck.machine.profile deck → HasWidths deck.machine → first_going_on deck.machine ≡ None → IsFresh deck.machine.profile (deck_to_go_on deck)
+fresh : (deck : LoadedDeck) → IsDeckFor deck.machine.profile deck → HasWidths deck.machine → first_busy deck.machine ≡ None → IsFresh deck.machine.profile (deck_to_go_on deck)
 unfolding processors_of
 fresh deck h widths between = record {
   machine = refl;
@@ -130,7 +130,7 @@ unfolding dump
 dump_is deck = refl
 
 -- where a text means a deck that has come to this one by steps
-dump_is_deck : (deck loaded : LoadedDeck) (source : List ℕ) (steps : List ℕ) → deck_meaning deck.machine.profile source ≡ Ok loaded → deck ≡ after steps loaded → first_going_on deck.machine ≡ None
+dump_is_deck : (deck loaded : LoadedDeck) (source : List ℕ) (steps : List ℕ) → deck_meaning deck.machine.profile source ≡ Ok loaded → deck ≡ after steps loaded → first_busy deck.machine ≡ None
     → length (dump deck) ≤ 1048576 → deck_meaning deck.machine.profile (dump deck) ≡ Ok (deck_to_go_on deck)
 dump_is_deck deck loaded source steps meant ran between short =
     let its = dump_is deck in
@@ -141,12 +141,12 @@ dump_is_deck deck loaded source steps meant ran between short =
     ap (deck_meaning profile) its
     ∙ fresh_listing profile (deck_to_go_on deck) (fresh deck sound widths between) (omega (arith, short, ap length its))
 
-pub goes_on : (text : List ℕ) (deck : LoadedDeck) → text ≡ dump deck → first_going_on deck.machine ≡ None → GoesOnFrom text deck
+pub goes_on : (text : List ℕ) (deck : LoadedDeck) → text ≡ dump deck → first_busy deck.machine ≡ None → GoesOnFrom text deck
 goes_on text deck is between =
     λ source loaded steps meant ran short. ap (deck_meaning deck.machine.profile) is ∙ dump_is_deck deck loaded source steps meant ran between (omega (arith, short, ap length is))
 
 -- the same of each run of each deck that a text means
-pub dump_law_of : (profile : Profile) (text : List ℕ) (deck : LoadedDeck) (steps : List ℕ) → deck_meaning profile text ≡ Ok deck → first_going_on (run steps deck.machine) ≡ None
+pub dump_law_of : (profile : Profile) (text : List ℕ) (deck : LoadedDeck) (steps : List ℕ) → deck_meaning profile text ≡ Ok deck → first_busy (run steps deck.machine) ≡ None
     → length (dump (after steps deck)) ≤ 1048576 → deck_meaning profile (dump (after steps deck)) ≡ Ok (deck_to_go_on (after steps deck))
 dump_law_of profile text deck steps meant between short =
     let ran = after steps deck in

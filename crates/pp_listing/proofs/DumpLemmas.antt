@@ -11,9 +11,9 @@ use Rattle.pp_deck.specs.DeckLine.{central_size, section, dead_start}
 use Rattle.pp_deck.specs.DeckMeaning.{LoadedDeck}
 use Rattle.pp_deck.specs.InUse.{in_use}
 use Rattle.pp_listing.specs.Dump.{deck_to_go_on, dump, left_of}
-use Rattle.pp_listing.specs.ListedLine.{ListedLine, bare, text_line}
+use Rattle.pp_listing.specs.ListedLine.{ListedLine, bare, deck_line, text_line}
 use Rattle.pp_listing.specs.Listing.{central_word_line, dead_start_line, instruction_lines, listing, named_section, numbers, section_lines, start_line}
-use Rattle.pp_listing.proofs.TextLemmas.{listing_from_pieces}
+use Rattle.pp_listing.proofs.TextLemmas.{listing_in_parts}
 use Rattle.pp_listing.proofs.DumpLawLemmas.{left_there, none_open}
 
 -- ---- the lines, printed from the machine as it stands
@@ -40,13 +40,13 @@ dump_is : (deck : LoadedDeck) → dump deck ≡ listing (deck_to_go_on deck)
 unfolding dump
 dump_is deck = refl
 
-pub dump_from_pieces : (deck : LoadedDeck) (t t1 t2 t3 first second : List ℕ) (named : List Bool) → first ≡ deck.machine.central → second ≡ deck.machine.central → named ≡ in_use deck → t ≡ [] → t1 ≡ t ++ text_line (bare (central_size (length first)))
-    → t2 ≡ t1 ++ flat_map text_line (flat_map (central_word_line second) (range_with_len 0 (length second))) → t3 ≡ t2 ++ flat_map text_line (flat_map (named_section named deck.machine) numbers) → t3 ≡ dump deck
-dump_from_pieces deck t t1 t2 t3 first second named is_first is_second is_named e0 e1 e2 e3 =
+pub dump_in_parts : (deck : LoadedDeck) → dump deck
+    ≡ deck_line (central_size (length deck.machine.central)) ++ flat_map text_line (flat_map (central_word_line deck.machine.central) (range_with_len 0 (length deck.machine.central)))
+    ++ flat_map text_line (flat_map (named_section (in_use deck) deck.machine) numbers)
+dump_in_parts deck =
     let to_go_on = deck_to_go_on deck in
-    let sections = flat_map text_line (flat_map (named_section to_go_on.named to_go_on.machine) numbers) in
-    listing_from_pieces to_go_on t t1 t2 t2 t3 first second is_first is_second e0 e1 e2
-    (sym (append-nil t2) ∙ ap (λ (lines : List ListedLine). t2 ++ flat_map text_line lines) (sym (no_dead_start deck)))
-    (e3 ∙ ap (λ (names : List Bool). t2 ++ flat_map text_line (flat_map (named_section names deck.machine) numbers)) is_named
-    ∙ ap (λ (lines : List ListedLine). t2 ++ flat_map text_line lines) (flat_same (named_section to_go_on.named deck.machine) (named_section to_go_on.named to_go_on.machine) numbers (section_left deck)))
-    ∙ sym (dump_is deck)
+    let front : List ℕ = deck_line (central_size (length deck.machine.central)) ++ flat_map text_line (flat_map (central_word_line deck.machine.central) (range_with_len 0 (length deck.machine.central))) in
+    dump_is deck ∙ listing_in_parts to_go_on
+    ∙ ap (λ (lines : List ListedLine). (front ++ flat_map text_line lines) ++ flat_map text_line (flat_map (named_section to_go_on.named to_go_on.machine) numbers)) (no_dead_start deck)
+    ∙ ap (λ (text : List ℕ). text ++ flat_map text_line (flat_map (named_section to_go_on.named to_go_on.machine) numbers)) (append-nil front)
+    ∙ ap (λ (lines : List ListedLine). front ++ flat_map text_line lines) (sym (flat_same (named_section to_go_on.named deck.machine) (named_section to_go_on.named to_go_on.machine) numbers (section_left deck)))

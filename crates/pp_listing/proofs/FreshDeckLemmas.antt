@@ -16,8 +16,8 @@ use Rattle.pp_machine.specs.ProcessorPlaces.{number_named, place_of_number}
 use Rattle.pp_deck.specs.DeckLine.{Line}
 use Rattle.pp_deck.specs.DeckLoad.{start_in, lines_for, is_named, memory_of, central_loaded, processor_with, processor_loaded}
 use Rattle.pp_deck.specs.DeckMeaning.{LoadedDeck, deck_meaning, loaded, set_by, with_dead_start, meaning_of_lines}
-use Rattle.list_facts.specs.GrowingLists.{last_of}
-use Rattle.list_facts.specs.Tables.{tabulate_is, tabulate_const}
+use Rattle.pp_word.specs.GrowingLists.{last_of}
+use Rattle.pp_word.specs.Tables.{tabulate_is, tabulate_const}
 use Rattle.pp_deck.proofs.LoadedRangeLemmas.{IsSmall}
 use Rattle.pp_deck.proofs.SectionLinesLemmas.{section_if, unnamed_empty}
 use Rattle.pp_listing.specs.ListedLine.{says}

@@ -5,10 +5,10 @@ use Rattle.std.specs.List.{cons_option, range_with_len}
 use Rattle.std.specs.Option.{option_to_list}
 use Rattle.std.proofs.lemmas.List.Elements.{filter_map-append}
 use Rattle.pp_machine.specs.MachineState.{MachineState}
-use Rattle.list_facts.specs.GrowingLists.{range_more, range_append, filter_map_more}
-use Rattle.pp_listing.specs.Dump.{all_going_on, processor_going_on, channel_going_on}
+use Rattle.pp_word.specs.GrowingLists.{range_more, range_append, filter_map_more}
+use Rattle.pp_listing.specs.Dump.{all_busy, busy_processor, busy_channel}
 use Rattle.pp_listing.specs.Listing.{numbers}
-use Rattle.pp_listing.specs.declared.going_on.GoingOn.{GoingOn}
+use Rattle.pp_listing.specs.declared.going_on.Busy.{Busy}
 
 module _ {A : Type 0} (f : ℕ → Option A) where
   -- it gives nothing for the numbers before k
@@ -95,10 +95,10 @@ first_behind : {A : Type 0} (xs ys : List A) → slice_get xs 0 ≡ None → sli
 first_behind [] ys e = refl
 first_behind (z ∷ xs) ys e = absurd (cc)
 
-pub first_of_processors : (m : MachineState) (going_on : GoingOn) → Some going_on ≡ slice_get (filter_map (processor_going_on m) numbers) 0 → Some going_on ≡ slice_get (all_going_on m) 0
-unfolding all_going_on
-first_of_processors m going_on e = sym (first_in (filter_map (processor_going_on m) numbers) (filter_map (channel_going_on m) numbers) going_on (sym e))
+pub first_of_processors : (m : MachineState) (going_on : Busy) → Some going_on ≡ slice_get (filter_map (busy_processor m) numbers) 0 → Some going_on ≡ slice_get (all_busy m) 0
+unfolding all_busy
+first_of_processors m going_on e = sym (first_in (filter_map (busy_processor m) numbers) (filter_map (busy_channel m) numbers) going_on (sym e))
 
-pub first_of_channels : (m : MachineState) (first : Option GoingOn) → None ≡ slice_get (filter_map (processor_going_on m) numbers) 0 → first ≡ slice_get (filter_map (channel_going_on m) numbers) 0 → first ≡ slice_get (all_going_on m) 0
-unfolding all_going_on
-first_of_channels m first none e = e ∙ sym (first_behind (filter_map (processor_going_on m) numbers) (filter_map (channel_going_on m) numbers) (sym none))
+pub first_of_channels : (m : MachineState) (first : Option Busy) → None ≡ slice_get (filter_map (busy_processor m) numbers) 0 → first ≡ slice_get (filter_map (busy_channel m) numbers) 0 → first ≡ slice_get (all_busy m) 0
+unfolding all_busy
+first_of_channels m first none e = e ∙ sym (first_behind (filter_map (busy_processor m) numbers) (filter_map (busy_channel m) numbers) (sym none))

@@ -10,10 +10,10 @@ use Rattle.pp_machine.specs.declared.pp_state.PpState.TheVariants.{Running, Stop
 use Rattle.pp_machine.specs.declared.profile.Profile.{Profile}
 use Rattle.pp_deck.specs.DeckLine.{Line, nothing, central_size, central_words, section, start, words, dead_start, line_after}
 use Rattle.pp_deck.specs.DeckLoad.{word_among, word_for, central_word_for, start_in, is_dead_start}
-use Rattle.list_facts.specs.GrowingLists.{last_of}
+use Rattle.pp_word.specs.GrowingLists.{last_of}
 use Rattle.pp_deck.proofs.SectionLemmas.{names}
 use Rattle.pp_deck.proofs.LineParts.{current_after}
-use Rattle.pp_listing.specs.InstructionText.{is_long}
+use Rattle.pp_text.specs.InstructionText.{is_long}
 use Rattle.pp_listing.specs.ListedLine.{ListedLine, one_word, two_words, says}
 use Rattle.pp_listing.specs.Listing.{instruction_lines, start_line}
 use Rattle.pp_listing.proofs.ListedLineLemmas.{fields_said}

@@ -8,10 +8,10 @@ use Rattle.pp_word.specs.declared.opcode.Opcode.{Opcode}
 use Rattle.pp_word.specs.declared.opcode.Opcode.TheVariants.{PSN, LJM, RJM, UJN, ZJN, NJN, PJN, MJN, SHN, LMN, LPN, SCN, LDN, LCN, ADN, SBN, LDC, ADC, LPC, LMC, PSN24, PSN25, EXN, RPN, LDD, ADD, SBD, LMD, STD, RAD, AOD, SOD, LDI, ADI, SBI, LMI, STI, RAI, AOI, SOI, LDM, ADM, SBM, LMM, STM, RAM, AOM, SOM, CRD, CRM, CWD, CWM, AJM, IJM, FJM, EJM, IAN, IAM, OAN, OAM, ACN, DCN, FAN, FNC}
 use Rattle.pp_word.specs.Address.{relative_to}
 use Rattle.pp_deck.proofs.FieldTextLemmas.{is_plain, and_both}
-use Rattle.pp_listing.specs.InstructionText.{index_text, instruction_text, operands_of, operands_text}
-use Rattle.pp_listing.specs.OctalDigits.{octal}
-use Rattle.pp_listing.specs.declared.operands.Operands.{Operands}
-use Rattle.pp_listing.specs.declared.operands.Operands.TheVariants.{IndexedPlace, JumpPlace, Constant, PlaceAndNumber, Number}
+use Rattle.pp_text.specs.InstructionText.{index_text, instruction_text, operands_of, operands_text}
+use Rattle.pp_text.specs.Numeral.{octal}
+use Rattle.pp_text.specs.declared.operands.Operands.{Operands}
+use Rattle.pp_text.specs.declared.operands.Operands.TheVariants.{IndexedPlace, JumpPlace, Constant, PlaceAndNumber, Number}
 use Rattle.pp_listing.proofs.OctalDigitLemmas.{octal_plain}
 
 -- plain text

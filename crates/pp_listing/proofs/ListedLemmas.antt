@@ -12,10 +12,10 @@ use Rattle.pp_machine.specs.PpNo.{names_processor, processor_count, processor_nu
 use Rattle.pp_machine.specs.ProcessorPlaces.{number_named}
 use Rattle.pp_machine.specs.declared.profile.Profile.{Profile}
 use Rattle.pp_deck.specs.DeckLine.{Line, central_size, central_words, section, dead_start}
-use Rattle.list_facts.specs.Tables.{tabulate, tabulate_is, tabulate_same}
+use Rattle.pp_word.specs.Tables.{tabulate, tabulate_is, tabulate_same}
 use Rattle.pp_deck.specs.DeckLoad.{word_among, word_for, central_word_for, start_in, lines_for, is_named, is_dead_start, asks_dead_start, memory_of, central_loaded, processor_with, processor_loaded}
 use Rattle.pp_deck.specs.DeckMeaning.{LoadedDeck, set_by}
-use Rattle.list_facts.specs.GrowingLists.{last_of}
+use Rattle.pp_word.specs.GrowingLists.{last_of}
 use Rattle.pp_deck.proofs.MemoryLemmas.{length-central_loaded}
 use Rattle.pp_deck.proofs.SectionLemmas.{names}
 use Rattle.pp_deck.proofs.SectionLinesLemmas.{AllLines, all_append, or_false, flat_only, filter_flat, any_flat, any_none, KeepCurrent, keep_append, keep_flat, unnamed_empty, section_if, held_by_sections, named_by_sections, unset_by_sections}

@@ -6,9 +6,9 @@ use Rattle.std.proofs.lemmas.List.{append-nil}
 use Rattle.pp_deck.specs.DeckLine.{Line, nothing, central_size, central_words, section, start, words, dead_start}
 use Rattle.pp_deck.specs.DeckText.{fields_in}
 use Rattle.pp_deck.proofs.FieldTextLemmas.{is_ink, IsField, IsTail, tail_none, tail_field, tail_last, tail_comment, no_fields, fields_last}
-use Rattle.pp_listing.specs.InstructionText.{instruction_text}
+use Rattle.pp_text.specs.InstructionText.{instruction_text}
 use Rattle.pp_listing.specs.ListedLine.{ListedLine, bare, one_word, two_words, after_blank, line_text, says, listed_text}
-use Rattle.pp_listing.specs.OctalDigits.{octal, short_octal}
+use Rattle.pp_text.specs.Numeral.{octal, short_octal}
 use Rattle.pp_listing.proofs.InstructionTextLemmas.{IsPlain, plain_append, instruction_plain}
 use Rattle.pp_listing.proofs.OctalDigitLemmas.{octal_is_field, octal_plain, short_is_field, short_plain}
 

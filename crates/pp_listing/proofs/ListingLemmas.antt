@@ -14,7 +14,7 @@ use Rattle.pp_machine.specs.declared.profile.Profile.{Profile}
 use Rattle.pp_deck.specs.DeckLine.{Line, nothing, central_size, central_words, section, start, words, dead_start}
 use Rattle.pp_deck.specs.DeckLoad.{processor_loaded, central_loaded, asks_dead_start}
 use Rattle.pp_deck.specs.DeckLoad as load
-use Rattle.pp_deck.specs.DeckMeaning.{LoadedDeck, set_by, with_dead_start, loaded, deck_meaning, meaning_of_lines, faults_in, lines_said, size_of, unless_faulty, unless_foreign, is_foreign}
+use Rattle.pp_deck.specs.DeckMeaning.{LoadedDeck, set_by, with_dead_start, loaded, deck_meaning, meaning_of_lines, faults_in, parsed_deck, size_of, unless_faulty, unless_foreign, is_foreign}
 use Rattle.pp_deck.proofs.LineParts.{current_after}
 use Rattle.pp_deck.specs.DeckText.{lines_of}
 use Rattle.pp_deck.proofs.DeadStartLemmas as dead
@@ -254,7 +254,7 @@ module _ (profile : Profile) where
   unfolding meaning_of_lines
   of_lines Q holds lines deck e =
       let size = size_in_range lines in
-      let said_lines = lines_said profile lines in
+      let said_lines = parsed_deck profile lines in
       subst Q (deck_is (size_of lines) said_lines (faults_in profile lines) deck e)
       (holds (size_of lines) said_lines size.0 size.1 (said_in_range profile lines) (λ n is. named_within profile lines n (law.some_name n said_lines is)))
 

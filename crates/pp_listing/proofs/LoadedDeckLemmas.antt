@@ -14,8 +14,8 @@ use Rattle.pp_deck.specs.DeckLoad as load
 use Rattle.pp_deck.specs.DeckMeaning.{LoadedDeck, deck_meaning, loaded, set_by, with_dead_start}
 use Rattle.pp_deck.proofs.DeadStartLemmas as dead
 use Rattle.pp_deck.proofs.LawLemmas as law
-use Rattle.list_facts.specs.GrowingLists.{last_of}
-use Rattle.list_facts.specs.Tables.{length-tabulate}
+use Rattle.pp_word.specs.GrowingLists.{last_of}
+use Rattle.pp_word.specs.Tables.{length-tabulate}
 use Rattle.pp_deck.proofs.SectionLinesLemmas.{unnamed_empty}
 use Rattle.pp_deck.specs.InUse.{is_in_use}
 use Rattle.pp_listing.proofs.FreshDeckLemmas.{no_words}

@@ -7,7 +7,7 @@ use Rattle.std.proofs.lemmas.Bool.{le-leb, cond-true, cond-false}
 use Rattle.std.proofs.lemmas.List.Folds.{list_all-append}
 use Rattle.std.proofs.lemmas.List.Sums.{fold-append}
 use Rattle.std.proofs.lemmas.Nat.{div-add-mod'}
-use Rattle.pp_listing.specs.OctalDigits.{digit, octal, short_octal}
+use Rattle.pp_text.specs.Numeral.{digit, octal, short_octal}
 use Rattle.pp_deck.specs.OctalNumber.{number, octal_value, is_octal_digit}
 use Rattle.pp_deck.proofs.FieldTextLemmas.{is_ink, is_plain, and_both, IsField}
 
@@ -109,44 +109,3 @@ octal_plain width n = octal_pass is_plain plain_digit width n
 
 pub octal_is_field : (width n : ℕ) → 0 < width → IsField (octal width n)
 octal_is_field width n some = record { some = omega (arith, some, octal_length width n); ink = octal_pass is_ink ink_digit width n }
-
--- ---- one digit more
-
-short_first : (most n : ℕ) → 0 < most → n < 8 → short_octal most n ≡ digit (n % 8)
-unfolding short_octal
-short_first zero n some lt = absurd (omega (arith, some))
-short_first (suc most) n some lt = let e : n ≡ n % 8 = omega (arith, lt) in cond-true (ltb n 8) (digit n) _ (lt-ltb n 8 lt) ∙ ap digit e
-
-short_more : (most n : ℕ) → 0 < most → 8 ≤ n → short_octal most n ≡ short_octal (most - 1) (n / 8) ++ digit (n % 8)
-unfolding short_octal
-short_more zero n some le = absurd (omega (arith, some))
-short_more (suc most) n some le = cond-false (ltb n 8) _ _ (le-ltb n 8 le) ∙ ap (λ (m : ℕ). short_octal m (n / 8) ++ digit (n % 8)) (less most)
-  where
-    less : (most : ℕ) → most ≡ suc most - 1
-    less most = omega arith
-
--- a number of some digits ends with its last digit
-pub octal_more : (width n : ℕ) → 0 < width → octal width n ≡ octal (width - 1) (n / 8) ++ digit (n % 8)
-octal_more zero n h = absurd (omega arith)
-octal_more (suc width) n h = ap (λ (w : ℕ). octal w (n / 8) ++ digit (n % 8)) (less width)
-  where
-    less : (width : ℕ) → width ≡ suc width - 1
-    less width = omega arith
-
-pub short_one_digit : (t u : List ℕ) (most n : ℕ) → 0 < most → n < 8 → u ≡ t ++ (48 + n % 8) ∷ [] → u ≡ t ++ short_octal most n
-short_one_digit t u most n some lt e = e ∙ ap (λ (xs : List ℕ). t ++ xs) (sym (short_first most n some lt))
-
-pub short_digit_more : (t u v : List ℕ) (most n : ℕ) → 0 < most → 8 ≤ n → u ≡ t ++ short_octal (most - 1) (n / 8) → v ≡ u ++ (48 + n % 8) ∷ [] → v ≡ t ++ short_octal most n
-short_digit_more t u v most n some le e h =
-    h ∙ ap (λ (xs : List ℕ). xs ++ (48 + n % 8) ∷ []) e ∙ append_assoc t (short_octal (most - 1) (n / 8)) (digit (n % 8)) ∙ ap (λ (xs : List ℕ). t ++ xs) (sym (short_more most n some le))
-
-short_rest_of : (width n : ℕ) → 8 ≤ n → n < 8 ^ suc width → (0 < width) × (n / 8 < 8 ^ width)
-short_rest_of zero n le lt = let one = pow-suc 8 0 in let none = pow-zero 8 in absurd (omega (arith, le, lt, one, none))
-short_rest_of (suc width) n le lt = (omega arith, omega (arith, lt, pow-suc 8 (suc width)))
-
--- what is left of the number, for the digits that are left
-pub short_rest : (most n : ℕ) → 0 < most → 8 ≤ n → n < 8 ^ most → (0 < most - 1) × (n / 8 < 8 ^ (most - 1))
-short_rest zero n some le lt = absurd (omega (arith, some))
-short_rest (suc width) n some le lt =
-    let less : suc width - 1 ≡ width = omega arith in
-    rw less (short_rest_of width n le lt)

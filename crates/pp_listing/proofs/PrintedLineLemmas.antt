@@ -8,8 +8,8 @@ use Rattle.pp_machine.specs.Profile.{has_processor}
 use Rattle.pp_machine.specs.declared.profile.Profile.{Profile}
 use Rattle.pp_machine.specs.ProfilePlaces.{processor_named}
 use Rattle.pp_deck.specs.DeckLine.{central_size, central_words, section, start, words, dead_start, keyword_of, words_in, central_line, central_words_line, section_line, start_line, words_line, ◌>>=◌, line_after}
-use Rattle.pp_deck.specs.DeckMeaning.{size_of, size_said}
-use Rattle.pp_listing.specs.OctalDigits.{octal, short_octal}
+use Rattle.pp_deck.specs.DeckMeaning.{size_of, stated_size}
+use Rattle.pp_text.specs.Numeral.{octal, short_octal}
 use Rattle.pp_listing.proofs.ListedLineLemmas.{fields_said}
 use Rattle.pp_machine.specs.ProcessorPlaces.{number_fits}
 use Rattle.pp_listing.proofs.OctalDigitLemmas.{octal_field, short_field}
@@ -42,7 +42,7 @@ central_size_read profile size n s least most = central_line_read n least most
 -- the size that a first such line says
 pub size_read : (n : ℕ) (lines : List (List (List ℕ))) → 1 ≤ n → n ≤ 0o400000 → size_of (fields_said (central_size n) ∷ lines) ≡ n
 unfolding size_of keyword_of
-size_read n lines least most = ap size_said (central_line_read n least most)
+size_read n lines least most = ap stated_size (central_line_read n least most)
 
 pub central_words_read : (profile : Profile) (size a : ℕ) (ws : List ℕ) (b s : Bool) → a < 8 ^ 6 → All (λ w. w < 8 ^ 20) ws → a + length ws ≤ size → line_after profile size b s (fields_said (central_words a ws)) ≡ Ok (central_words a ws)
 unfolding line_after keyword_of central_words_line

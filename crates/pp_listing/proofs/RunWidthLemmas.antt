@@ -41,7 +41,7 @@ use Rattle.pp_deck.specs.DeckLoad.{asks_dead_start, processor_loaded, central_lo
 use Rattle.pp_deck.specs.DeckMeaning.{LoadedDeck, deck_meaning, loaded, set_by}
 use Rattle.pp_deck.proofs.DeadStartLemmas as dead
 use Rattle.pp_deck.proofs.LawLemmas as law
-use Rattle.list_facts.specs.Tables.{length-tabulate}
+use Rattle.pp_word.specs.Tables.{length-tabulate}
 use Rattle.pp_deck.proofs.LoadedRangeLemmas.{IsSmall, processor_small, central_words_small}
 use Rattle.pp_deck.proofs.MemoryLemmas.{length-central_loaded}
 use Rattle.pp_deck.proofs.RangeLemmas.{InRange}

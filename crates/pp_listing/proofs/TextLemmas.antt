@@ -6,64 +6,15 @@ use Rattle.std.proofs.lemmas.Bool.{eq-eqb, ne_eqb, cond-true, cond-false, cases_
 use Rattle.std.proofs.lemmas.List.{append-nil, drop_all, drop_more, length-drop}
 use Rattle.std.proofs.lemmas.List.Concat.{flat_map-append}
 use Rattle.pp_word.specs.Address.{place_count, next_place}
-use Rattle.pp_deck.specs.DeckLine.{central_size, central_words}
+use Rattle.pp_machine.specs.declared.pp_state.PpState.{PpState}
+use Rattle.pp_machine.specs.declared.pp_state.PpState.TheVariants.{Running}
+use Rattle.pp_deck.specs.DeckLine.{central_size, central_words, section}
 use Rattle.pp_deck.specs.DeckMeaning.{LoadedDeck}
-use Rattle.list_facts.specs.GrowingLists.{range_more}
-use Rattle.pp_listing.specs.InstructionText.{instruction_text, is_long}
-use Rattle.pp_listing.specs.ListedLine.{ListedLine, bare, one_word, two_words, text_line}
-use Rattle.pp_listing.specs.Listing.{central_word_line, dead_start_line, instruction_lines, listed, listing, named_section, numbers}
-use Rattle.pp_listing.specs.OctalDigits.{octal, short_octal}
-
--- ---- lines for each number
-
--- nothing is printed yet
-pub text_before : (text : List ℕ) (f : ℕ → List ListedLine) → text ≡ text ++ flat_map text_line (flat_map f (range_with_len 0 0))
-text_before text f = sym (append-nil text)
-
-text_more : (f : ℕ → List ListedLine) (k : ℕ) → flat_map text_line (flat_map f (range_with_len 0 (k + 1))) ≡ flat_map text_line (flat_map f (range_with_len 0 k)) ++ flat_map text_line (f k)
-text_more f k =
-    ap (λ (ks : List ℕ). flat_map text_line (flat_map f ks)) (range_more 0 k)
-    ∙ ap (flat_map text_line) (flat_map-append f (range_with_len 0 k) ((0 + k) ∷ []))
-    ∙ flat_map-append text_line (flat_map f (range_with_len 0 k)) (f (0 + k) ++ [])
-    ∙ ap (λ (ls : List ListedLine). flat_map text_line (flat_map f (range_with_len 0 k)) ++ flat_map text_line ls) (append-nil (f (0 + k)))
-    ∙ ap (λ (i : ℕ). flat_map text_line (flat_map f (range_with_len 0 k)) ++ flat_map text_line (f i)) (from_zero k)
-  where
-    from_zero : (k : ℕ) → 0 + k ≡ k
-    from_zero k = omega arith
-
--- a text that goes on by the lines for one number more
-pub text_goes_on : (first so_far more : List ℕ) (k : ℕ) (f : ℕ → List ListedLine) → so_far ≡ first ++ flat_map text_line (flat_map f (range_with_len 0 k)) → more ≡ so_far ++ flat_map text_line (f k) → more ≡ first ++ flat_map text_line (flat_map f (range_with_len 0 (k + 1)))
-text_goes_on first so_far more k f h step =
-    step ∙ ap (λ (text : List ℕ). text ++ flat_map text_line (f k)) h
-    ∙ append_assoc first (flat_map text_line (flat_map f (range_with_len 0 k))) (flat_map text_line (f k))
-    ∙ ap (λ (text : List ℕ). first ++ text) (sym (text_more f k))
-
--- the lines for all numbers
-pub all_numbers : (first text : List ℕ) (k : ℕ) (f : ℕ → List ListedLine) → k ≡ 0o100 → text ≡ first ++ flat_map text_line (flat_map f (range_with_len 0 k)) → text ≡ first ++ flat_map text_line (flat_map f numbers)
-unfolding numbers
-all_numbers first text k f all h = h ∙ ap (λ (n : ℕ). first ++ flat_map text_line (flat_map f (range_with_len 0 n))) all
-
--- ---- the lines of instructions, piece by piece
-
-one_pieces : (t a b c d e f : List ℕ) → (((((t ++ a) ++ b) ++ c) ++ d) ++ e) ++ f ≡ t ++ (a ++ (b ++ (c ++ (d ++ (e ++ f)))))
-one_pieces t a b c d e f = simp append_assoc refl
-
-pub one_word_in_pieces : (t t1 t2 t3 t4 t5 t6 : List ℕ) (place word m first second : ℕ) → first ≡ place → second ≡ word
-    → t1 ≡ t ++ octal 4 first → t2 ≡ t1 ++ 32 ∷ [] → t3 ≡ t2 ++ octal 4 second → t4 ≡ t3 ++ codes "           * " → t5 ≡ t4 ++ instruction_text place word m → t6 ≡ t5 ++ 10 ∷ []
-    → t6 ≡ t ++ text_line (one_word place word m)
-one_word_in_pieces t t1 t2 t3 t4 t5 t6 place word m first second is_first is_second e1 e2 e3 e4 e5 e6 =
-    rw (e6, e5, e4, e3, e2, e1, is_first, is_second)
-    (one_pieces t (octal 4 place) (32 ∷ []) (octal 4 word) (codes "           * ") (instruction_text place word m) (10 ∷ []))
-
-two_pieces : (t a b c d e f g h : List ℕ) → (((((((t ++ a) ++ b) ++ c) ++ d) ++ e) ++ f) ++ g) ++ h ≡ t ++ (a ++ (b ++ (c ++ (d ++ (e ++ (f ++ (g ++ h)))))))
-two_pieces t a b c d e f g h = simp append_assoc refl
-
-pub two_words_in_pieces : (t t1 t2 t3 t4 t5 t6 t7 t8 : List ℕ) (place word m first second third : ℕ) → first ≡ place → second ≡ word → third ≡ m
-    → t1 ≡ t ++ octal 4 first → t2 ≡ t1 ++ 32 ∷ [] → t3 ≡ t2 ++ octal 4 second → t4 ≡ t3 ++ 32 ∷ [] → t5 ≡ t4 ++ octal 4 third → t6 ≡ t5 ++ codes "      * " → t7 ≡ t6 ++ instruction_text place word m → t8 ≡ t7 ++ 10 ∷ []
-    → t8 ≡ t ++ text_line (two_words place word m)
-two_words_in_pieces t t1 t2 t3 t4 t5 t6 t7 t8 place word m first second third is_first is_second is_third e1 e2 e3 e4 e5 e6 e7 e8 =
-    rw (e8, e7, e6, e5, e4, e3, e2, e1, is_first, is_second, is_third)
-    (two_pieces t (octal 4 place) (32 ∷ []) (octal 4 word) (32 ∷ []) (octal 4 m) (codes "      * ") (instruction_text place word m) (10 ∷ []))
+use Rattle.pp_text.specs.InstructionText.{instruction_text, is_long}
+use Rattle.pp_text.specs.Numeral.{octal, short_octal}
+use Rattle.pp_text.proofs.TextLemmas.{no_central_word}
+use Rattle.pp_listing.specs.ListedLine.{ListedLine, bare, one_word, two_words, deck_line, text_line}
+use Rattle.pp_listing.specs.Listing.{central_word_line, dead_start_line, instruction_lines, listed, listing, named_section, numbers, start_line}
 
 -- ---- the lines of instructions, one by one
 
@@ -106,9 +57,9 @@ lines_from place memory = instruction_lines (get_or memory 0 0) place (drop plac
 pub IsSoFar : List ℕ → List ℕ → ℕ → List ℕ → Type 0
 IsSoFar whole text place memory = text ++ flat_map text_line (lines_from place memory) ≡ whole
 
-pub before_first : (text memory : List ℕ) → IsSoFar (text ++ flat_map text_line (instruction_lines (get_or memory 0 0) 0 memory)) text 0 memory
+pub before_first : (memory : List ℕ) → IsSoFar (flat_map text_line (instruction_lines (get_or memory 0 0) 0 memory)) [] 0 memory
 unfolding IsSoFar lines_from
-before_first text memory = refl
+before_first memory = refl
 
 zero_passed : (whole text memory : List ℕ) (place : ℕ) → place < length memory → get_or memory place 0 ≡ 0 → IsSoFar whole text place memory → IsSoFar whole text (place + 1) memory
 unfolding IsSoFar lines_from
@@ -189,23 +140,20 @@ two_step whole text more memory place at after word m got long lt is_at is_after
 
 -- ---- the line of a central word
 
-pub central_word_zero : (text central : List ℕ) (a : ℕ) → get_or central a 0 ≡ 0 → text ≡ text ++ flat_map text_line (central_word_line central a)
-central_word_zero text central a e = let is : eqb (get_or central a 0) 0 ≡ true = eq-eqb (get_or central a 0) 0 e in rw is (sym (append-nil text))
+pub central_word_zero : (central : List ℕ) (a : ℕ) → get_or central a 0 ≡ 0 → [] ≡ flat_map text_line (central_word_line central a)
+central_word_zero central a e = let is : eqb (get_or central a 0) 0 ≡ true = eq-eqb (get_or central a 0) 0 e in rw is refl
 
-central_word_some : (text central : List ℕ) (a : ℕ) → get_or central a 0 ≢ 0 → text ++ text_line (bare (central_words a (get_or central a 0 ∷ []))) ≡ text ++ flat_map text_line (central_word_line central a)
-central_word_some text central a ne =
-    let is : eqb (get_or central a 0) 0 ≡ false = ne_eqb (get_or central a 0) 0 ne in
-    ap (λ (bytes : List ℕ). text ++ bytes) (sym (append-nil (text_line (bare (central_words a (get_or central a 0 ∷ []))))) ∙ sym (ap (λ (b : Bool). flat_map text_line (cond b [] (bare (central_words a (get_or central a 0 ∷ [])) ∷ []))) is))
+pub central_word_some : (central : List ℕ) (a w : ℕ) → get_or central a 0 ≡ w → w ≢ 0 → deck_line (central_words a (w ∷ [])) ≡ flat_map text_line (central_word_line central a)
+central_word_some central a w is ne =
+    let not : eqb (get_or central a 0) 0 ≡ false = ne_eqb (get_or central a 0) 0 (λ e. ne (sym is ∙ e)) in
+    ap (λ (v : ℕ). deck_line (central_words a (v ∷ []))) (sym is)
+    ∙ sym (append-nil (text_line (bare (central_words a (get_or central a 0 ∷ [])))))
+    ∙ sym (ap (λ (b : Bool). flat_map text_line (cond b [] (bare (central_words a (get_or central a 0 ∷ [])) ∷ []))) not)
 
 get_some : (xs : List ℕ) (i w : ℕ) → Some w ≡ slice_get xs i → get_or xs i 0 ≡ w
 get_some [] i w e = absurd (cc)
 get_some (x ∷ xs) zero w e = cc
 get_some (x ∷ xs) (suc i) w e = get_some xs i w e
-
-get_none : (xs : List ℕ) (i : ℕ) → None ≡ slice_get xs i → get_or xs i 0 ≡ 0
-get_none [] i e = refl
-get_none (x ∷ xs) zero e = absurd (cc)
-get_none (x ∷ xs) (suc i) e = get_none xs i e
 
 address_is : (a t : ℕ) → a < 2 ^ 18 → t ≡ a % 2 ^ 18 → t ≡ a
 address_is a t lt e = omega (arith, lt, e)
@@ -214,37 +162,40 @@ pub central_read : (central : List ℕ) (a t w : ℕ) → a < 2 ^ 18 → t ≡ a
 central_read central a t w lt is e = ap (λ (i : ℕ). get_or central i 0) (sym (address_is a t lt is)) ∙ get_some central t w e
 
 pub central_past : (central : List ℕ) (a t : ℕ) → a < 2 ^ 18 → t ≡ a % 2 ^ 18 → None ≡ slice_get central t → get_or central a 0 ≡ 0
-central_past central a t lt is e = ap (λ (i : ℕ). get_or central i 0) (sym (address_is a t lt is)) ∙ get_none central t e
-
-few_pieces : (t a b c d e : List ℕ) → ((((t ++ a) ++ b) ++ c) ++ d) ++ e ≡ t ++ (a ++ ((b ++ (c ++ d)) ++ e))
-few_pieces t a b c d e = simp append_assoc refl
-
-pub central_in_pieces : (t t1 t2 t3 t4 t5 central : List ℕ) (a first w second : ℕ) → get_or central a 0 ≡ w → second ≡ w → second ≢ 0 → first ≡ a
-    → t1 ≡ t ++ codes "CM " → t2 ≡ t1 ++ short_octal 6 first → t3 ≡ t2 ++ 32 ∷ [] → t4 ≡ t3 ++ octal 20 second → t5 ≡ t4 ++ 10 ∷ []
-    → t5 ≡ t ++ flat_map text_line (central_word_line central a)
-central_in_pieces t t1 t2 t3 t4 t5 central a first w second is is_second some is_first e1 e2 e3 e4 e5 =
-    let whole : t5 ≡ t ++ text_line (bare (central_words a (second ∷ []))) =
-    rw (e5, e4, e3, e2, e1, is_first) (few_pieces t (codes "CM ") (short_octal 6 a) (32 ∷ []) (octal 20 second) (10 ∷ [])) in
-    whole ∙ ap (λ (v : ℕ). t ++ text_line (bare (central_words a (v ∷ [])))) (is_second ∙ sym is)
-    ∙ central_word_some t central a (λ e. some (is_second ∙ sym is ∙ e))
+central_past central a t lt is e = ap (λ (i : ℕ). get_or central i 0) (sym (address_is a t lt is)) ∙ no_central_word central t e
 
 -- ---- the whole listing
 
-pub listing_in_parts : (deck : LoadedDeck) → listing deck ≡ ((text_line (bare (central_size (length deck.machine.central))) ++ flat_map text_line (flat_map (central_word_line deck.machine.central) (range_with_len 0 (length deck.machine.central)))) ++ flat_map text_line (dead_start_line deck.machine)) ++ flat_map text_line (flat_map (named_section deck.named deck.machine) numbers)
+pub listing_in_parts : (deck : LoadedDeck) → listing deck
+    ≡ deck_line (central_size (length deck.machine.central)) ++ flat_map text_line (flat_map (central_word_line deck.machine.central) (range_with_len 0 (length deck.machine.central)))
+    ++ flat_map text_line (dead_start_line deck.machine) ++ flat_map text_line (flat_map (named_section deck.named deck.machine) numbers)
 unfolding listing listed
 listing_in_parts deck =
     let size = bare (central_size (length deck.machine.central)) in
     let central = flat_map (central_word_line deck.machine.central) (range_with_len 0 (length deck.machine.central)) in
     let dead = dead_start_line deck.machine in
-    flat_map-append text_line ((size ∷ central) ++ dead) (flat_map (named_section deck.named deck.machine) numbers)
-    ∙ ap (λ (bytes : List ℕ). bytes ++ flat_map text_line (flat_map (named_section deck.named deck.machine) numbers)) (flat_map-append text_line (size ∷ central) dead)
+    let sections = flat_map (named_section deck.named deck.machine) numbers in
+    flat_map-append text_line ((size ∷ central) ++ dead) sections
+    ∙ ap (λ (bytes : List ℕ). bytes ++ flat_map text_line sections) (flat_map-append text_line (size ∷ central) dead)
 
-pub listing_from_pieces : (deck : LoadedDeck) (t t1 t2 t3 t4 first second : List ℕ) → first ≡ deck.machine.central → second ≡ deck.machine.central → t ≡ [] → t1 ≡ t ++ text_line (bare (central_size (length first))) → t2 ≡ t1 ++ flat_map text_line (flat_map (central_word_line second) (range_with_len 0 (length second)))
-    → t3 ≡ t2 ++ flat_map text_line (dead_start_line deck.machine) → t4 ≡ t3 ++ flat_map text_line (flat_map (named_section deck.named deck.machine) numbers) → t4 ≡ listing deck
-listing_from_pieces deck t t1 t2 t3 t4 first second is_first is_second e0 e1 e2 e3 e4 =
-    e4 ∙ ap (λ (xs : List ℕ). xs ++ flat_map text_line (flat_map (named_section deck.named deck.machine) numbers))
-    (e3 ∙ ap (λ (xs : List ℕ). xs ++ flat_map text_line (dead_start_line deck.machine))
-    (e2 ∙ ap (λ (xs : List ℕ). xs ++ flat_map text_line (flat_map (central_word_line second) (range_with_len 0 (length second)))) (e1 ∙ ap (λ (xs : List ℕ). xs ++ text_line (bare (central_size (length first)))) e0)
-    ∙ ap (λ (xs : List ℕ). text_line (bare (central_size (length xs))) ++ flat_map text_line (flat_map (central_word_line second) (range_with_len 0 (length second)))) is_first
-    ∙ ap (λ (xs : List ℕ). text_line (bare (central_size (length deck.machine.central))) ++ flat_map text_line (flat_map (central_word_line xs) (range_with_len 0 (length xs)))) is_second))
-    ∙ sym (listing_in_parts deck)
+-- ---- lines in pieces
+
+pub central_line_pieces : (a first w : ℕ) → first ≡ a → (((codes "CM " ++ short_octal 6 first) ++ 32 ∷ []) ++ octal 20 w) ++ 10 ∷ [] ≡ deck_line (central_words a (w ∷ []))
+central_line_pieces a first w is =
+    ap (λ (x : ℕ). (((codes "CM " ++ short_octal 6 x) ++ 32 ∷ []) ++ octal 20 w) ++ 10 ∷ []) is
+    ∙ ap (λ (xs : List ℕ). xs ++ 10 ∷ []) (append_assoc (codes "CM " ++ short_octal 6 a) (32 ∷ []) (octal 20 w) ∙ ap (λ (xs : List ℕ). (codes "CM " ++ short_octal 6 a) ++ xs) (sym (append-nil (32 ∷ octal 20 w))))
+
+pub section_line_pieces : (n first : ℕ) → first ≡ n → (codes "PP " ++ short_octal 2 first) ++ 10 ∷ [] ≡ deck_line (section n)
+section_line_pieces n first is = ap (λ (x : ℕ). (codes "PP " ++ short_octal 2 x) ++ 10 ∷ []) is
+
+pub one_word_pieces : (place word m first second : ℕ) (a b : List ℕ) → a ≡ octal 4 first → b ≡ octal 4 second → first ≡ place → second ≡ word
+    → (((((a ++ 32 ∷ []) ++ b) ++ codes "           * ") ++ instruction_text place word m) ++ 10 ∷ []) ≡ text_line (one_word place word m)
+one_word_pieces place word m first second a b e f is_first is_second = rw (e, f, is_first, is_second) refl
+
+pub two_words_pieces : (place word m first second third : ℕ) (a b d : List ℕ) → a ≡ octal 4 first → b ≡ octal 4 second → d ≡ octal 4 third → first ≡ place → second ≡ word → third ≡ m
+    → (((((((a ++ 32 ∷ []) ++ b) ++ 32 ∷ []) ++ d) ++ codes "      * ") ++ instruction_text place word m) ++ 10 ∷ []) ≡ text_line (two_words place word m)
+two_words_pieces place word m first second third a b d e f h is_first is_second is_third = rw (e, f, h, is_first, is_second, is_third) refl
+
+pub start_pieces : (state : PpState) (p a first second : ℕ) (x y : List ℕ) → state ≡ Running → x ≡ octal 4 first → y ≡ octal 6 second → first ≡ p → second ≡ a
+    → ((((codes "START " ++ x) ++ 32 ∷ []) ++ y) ++ 10 ∷ []) ≡ flat_map text_line (start_line state p a)
+start_pieces state p a first second x y runs e f is_first is_second = rw (runs, e, f, is_first, is_second) refl

@@ -1,5 +1,6 @@
 -- The dump of a deck that has run: the listing of a deck to go on from.
-use Rattle.std.specs.Prelude.{◌≡◌, ◌≤◌, Ok, ℕ, ◌&&◌, List, ◌++◌, length, map, Option, Some, None, slice_get, filter_map, if◌then◌else◌}
+use Rattle.std.specs.Prelude.{◌≡◌, ◌≤◌, Result, Ok, Err, ℕ, ◌&&◌, List, ◌++◌, length, map, Option, Some, None, slice_get, filter_map, if◌then◌else◌}
+use Rattle.std.specs.Io.KnownBytes.{Appends, Keeps}
 use Rattle.pp_channel.specs.ChannelNo.{names_channel}
 use Rattle.pp_channel.specs.History.{active}
 use Rattle.pp_machine.specs.MachineState.{MachineState, new_machine, processor_of, history_of}
@@ -11,43 +12,39 @@ use Rattle.pp_machine.specs.declared.pp_state.PpState.{PpState}
 use Rattle.pp_machine.specs.declared.pp_state.PpState.TheVariants.{Running, Fault}
 use Rattle.pp_deck.specs.DeckMeaning.{LoadedDeck, deck_meaning}
 use Rattle.pp_deck.specs.InUse.{in_use}
+use Rattle.pp_text.specs.Written.{AppendsFront}
 use Rattle.pp_listing.specs.Listing.{listing, numbers}
 use Rattle.pp_listing.specs.declared.dumped_deck.DumpFault.{DumpFault}
-use Rattle.pp_listing.specs.declared.dumped_deck.DumpFault.TheVariants.{NotBetweenPrograms, Memory}
-use Rattle.pp_listing.specs.declared.going_on.GoingOn.{GoingOn}
-use Rattle.pp_listing.specs.declared.going_on.GoingOn.TheVariants.{WithinBlock, AtFault, Active}
+use Rattle.pp_listing.specs.declared.dumped_deck.DumpFault.TheVariants.{NotBetweenPrograms, Write}
+use Rattle.pp_listing.specs.declared.going_on.Busy.{Busy}
+use Rattle.pp_listing.specs.declared.going_on.Busy.TheVariants.{WithinBlock, AtFault, Active}
 
 -- ---- why a machine is not between programs
 
 -- a block in progress, or a fault
-abbrev pub in_processor : ℕ → Option Block → PpState → Option GoingOn
+abbrev pub in_processor : ℕ → Option Block → PpState → Option Busy
 in_processor n (Some block) state = Some (WithinBlock n)
 in_processor n None (Fault number) = Some (AtFault n)
 in_processor n None state = None
 
 -- in processor n, if there is one
-abbrev pub processor_going_on : MachineState → ℕ → Option GoingOn
-processor_going_on m n =
+abbrev pub busy_processor : MachineState → ℕ → Option Busy
+busy_processor m n =
     if names_processor n then in_processor n (processor_of n m).block (processor_of n m).state
     else None
 
 -- on channel c, if there is one and it is active
-abbrev pub channel_going_on : MachineState → ℕ → Option GoingOn
-channel_going_on m c = if names_channel c && active (history_of c m) then Some (Active c) else None
+abbrev pub busy_channel : MachineState → ℕ → Option Busy
+busy_channel m c = if names_channel c && active (history_of c m) then Some (Active c) else None
 
 -- all reasons, by number of processor, and then by number of channel
-unfoldable pub all_going_on : MachineState → List GoingOn
-all_going_on m =
-    filter_map (processor_going_on m) numbers ++ filter_map (channel_going_on m) numbers
+unfoldable pub all_busy : MachineState → List Busy
+all_busy m =
+    filter_map (busy_processor m) numbers ++ filter_map (busy_channel m) numbers
 
 -- the first reason: a machine is between programs if there is none
-abbrev pub first_going_on : MachineState → Option GoingOn
-first_going_on m = slice_get (all_going_on m) 0
-
--- why a deck is not dumped: its machine is not between programs, or there is no memory
-abbrev pub IsDumpFault : MachineState → DumpFault → Type 0
-IsDumpFault m (NotBetweenPrograms going_on) = first_going_on m ≡ Some going_on
-IsDumpFault m Memory = Unit {0}
+abbrev pub first_busy : MachineState → Option Busy
+first_busy m = slice_get (all_busy m) 0
 
 -- ---- what is left between programs
 
@@ -71,6 +68,17 @@ deck_to_go_on deck =
 -- THE DUMP, if the machine is between programs
 unfoldable pub dump : LoadedDeck → List ℕ
 dump deck = listing (deck_to_go_on deck)
+
+-- what writing it comes to: all of it is written, or a first part of it; or nothing, if the machine
+-- is not between programs
+abbrev pub IsDumped : LoadedDeck → Result (Unit {0}) DumpFault
+    → Option (List ℕ) → Option (List ℕ) → Type 0
+IsDumped deck (Ok done) old new =
+    (first_busy deck.machine ≡ None) × Appends old new (dump deck)
+IsDumped deck (Err Write) old new =
+    (first_busy deck.machine ≡ None) × AppendsFront old new (dump deck)
+IsDumped deck (Err (NotBetweenPrograms going_on)) old new =
+    (first_busy deck.machine ≡ Some going_on) × Keeps old new
 
 -- ---- its law
 

@@ -1,10 +1,11 @@
 -- A line of a listing: a line of a deck as it is printed, with the instruction that its words are
 -- as a comment. Characters are ASCII codes: LF is 10, a space is 32 (decimal).
-use Rattle.std.specs.Prelude.{ℕ, ◌-◌, List, [], ◌∷◌, ◌++◌, length, replicate, codes}
+use Rattle.std.specs.Prelude.{ℕ, List, [], ◌∷◌, ◌++◌, codes}
 use Rattle.std.specs.List.{flat_map}
 use Rattle.pp_deck.specs.DeckLine.{Line, nothing, central_size, central_words, section, start, words, dead_start}
-use Rattle.pp_listing.specs.InstructionText.{instruction_text}
-use Rattle.pp_listing.specs.OctalDigits.{octal, short_octal}
+use Rattle.pp_text.specs.InstructionText.{instruction_text}
+use Rattle.pp_text.specs.Numeral.{octal, short_octal}
+use Rattle.pp_text.specs.PrintedText.{line_end, padded}
 
 -- a number in exactly `width` digits, after a blank
 abbrev pub after_blank : ℕ → ℕ → List ℕ
@@ -21,9 +22,9 @@ line_text (start p a) = codes "START" ++ after_blank 4 p ++ after_blank 6 a
 line_text (words x ws) = octal 4 x ++ flat_map (after_blank 4) ws
 line_text dead_start = codes "DEAD"
 
--- a text, padded with spaces to `columns` columns
-abbrev pub padded : ℕ → List ℕ → List ℕ
-padded columns text = text ++ replicate (columns - length text) 32
+-- the same as a line of a text
+abbrev pub deck_line : Line → List ℕ
+deck_line line = line_text line ++ line_end
 
 -- a line of a listing: a line of a deck as it stands; or an instruction, by its place, its word and
 -- the next word, on a line with its first word alone or with both
@@ -52,7 +53,7 @@ listed_text (two_words place word m) =
 
 -- the same as a line of a text
 abbrev pub text_line : ListedLine → List ℕ
-text_line line = listed_text line ++ 10 ∷ []
+text_line line = listed_text line ++ line_end
 
 -- the text of some lines
 abbrev pub text_of : List ListedLine → List ℕ

@@ -9,7 +9,7 @@ use Rattle.pp_machine.specs.declared.pp_state.PpState.{PpState}
 use Rattle.pp_machine.specs.declared.pp_state.PpState.TheVariants.{Running}
 use Rattle.pp_deck.specs.DeckLine.{central_size, central_words, section, start, dead_start}
 use Rattle.pp_deck.specs.DeckMeaning.{LoadedDeck, deck_meaning}
-use Rattle.pp_listing.specs.InstructionText.{is_long}
+use Rattle.pp_text.specs.InstructionText.{is_long}
 use Rattle.pp_listing.specs.ListedLine.{ListedLine, bare, one_word, two_words, text_of}
 
 -- the numbers of two octal digits, in order

@@ -1,61 +1,60 @@
 //! Dumps.
 
-ghost use Rattle.std.specs.Prelude.{◌≡◌, Some, None, IfOk, IfErr, OnOk};
-ghost use Rattle.pp_listing.specs.Dump.{GoesOnFrom, IsDumpFault, dump, first_going_on};
+ghost use Rattle.std.specs.Prelude.{◌≡◌, None};
+ghost use Rattle.pp_text.specs.Written.{IsWritten};
+ghost use Rattle.pp_listing.specs.Dump.{GoesOnFrom, IsDumped, dump, first_busy};
 
-use crate::going_on::{GoingOn, first_going_on};
-use crate::listed_deck::{push_central, push_size};
-use crate::sections::push_sections;
+use crate::deck_lines::print_size;
+use crate::going_on::{Busy, first_busy};
+use crate::listed_deck::print_central;
+use crate::sections::print_sections;
 use pp_deck::Deck;
-use std::alloc::{AllocError, Allocator};
+use pp_text::{TextWriter, WriteFault};
+use std::alloc::Allocator;
+use std::io::Write;
 use thiserror::Error;
 
 /// Why a deck was not dumped.
 #[derive(Clone, Copy, Debug, PartialEq, Eq, Error)]
 pub enum DumpFault {
-    /// The machine is not between programs, for this reason.
+    /// The machine is not between programs, for this reason; nothing was written.
     #[error("not between programs: {0}")]
-    NotBetweenPrograms(GoingOn),
-    /// An allocation was refused.
-    #[error("out of memory")]
-    Memory,
+    NotBetweenPrograms(Busy),
+    /// The writer failed, or took nothing.
+    #[error("write fault")]
+    Write,
 }
 
-/// The dump of a deck that may have run: the listing of a deck to go on from, which has neither
-/// histories nor turns nor trace, names each processor in use, and starts those that are running. A
-/// processor is in use if the deck names it or dead start made it wait for its program.
-pub fn dump<A: Allocator + Copy, B: Allocator>(
-    alloc: A,
-    deck: &Deck<B>,
-) -> Result<Vec<u8, A>, DumpFault>
-    ensures text { IfOk result (λ text.
-        text.items ≡ dump (record { machine = deck.now.machine; named = deck.now.named })) }
-    ensures between { OnOk result (first_going_on deck.now.machine ≡ None) }
-    ensures goes_on { IfOk result (λ text.
-        GoesOnFrom text.items (record { machine = deck.now.machine; named = deck.now.named })) }
-    ensures fault { IfErr result (IsDumpFault deck.now.machine) }
+/// Writes the dump of a deck that may have run: the listing of a deck to go on from, which has
+/// neither histories nor turns nor trace, names each processor in use, and starts those that are
+/// running; and flushes the writer. A processor is in use if the deck names it or dead start made
+/// it wait for its program. The text goes out in pieces, and takes no memory.
+pub fn write_dump<A: Allocator, W: Write>(writer: &mut W, deck: &Deck<A>) -> Result<(), DumpFault>
+    ensures dumped { IsDumped (record { machine = deck.now.machine; named = deck.now.named })
+        result (W.contents writer.old) (W.contents writer.new) }
+    ensures goes_on { first_busy deck.now.machine ≡ None → GoesOnFrom
+        (dump (record { machine = deck.now.machine; named = deck.now.named }))
+        (record { machine = deck.now.machine; named = deck.now.named }) }
 {
-    if let Some(going_on) = first_going_on(&deck.machine) {
+    if let Some(going_on) = first_busy(&deck.machine) {
         return Err(DumpFault::NotBetweenPrograms(going_on));
     }
-    match dump_between(alloc, deck) {
-        Ok(text) => Ok(text),
-        Err(_) => Err(DumpFault::Memory),
+    match write_between(writer, deck) {
+        Ok(()) => Ok(()),
+        Err(WriteFault) => Err(DumpFault::Write),
     }
 }
 
-/// The listing of a deck to go on from, printed from the machine as it stands.
-fn dump_between<A: Allocator + Copy, B: Allocator>(
-    alloc: A,
-    deck: &Deck<B>,
-) -> Result<Vec<u8, A>, AllocError>
-    ensures { IfOk result (λ text.
-        text.items ≡ dump (record { machine = deck.now.machine; named = deck.now.named })) }
+/// Writes the listing of a deck to go on from, printed from the machine as it stands.
+#[tactic(auto, using(crate::proofs::DumpLemmas::dump_in_parts))]
+fn write_between<A: Allocator, W: Write>(writer: &mut W, deck: &Deck<A>) -> Result<(), WriteFault>
+    ensures { IsWritten (dump (record { machine = deck.now.machine; named = deck.now.named }))
+        result (W.contents writer.old) (W.contents writer.new) }
 {
     let named = deck.in_use();
-    let mut text = Vec::new(alloc);
-    push_size(&mut text, deck.machine.central())?;
-    push_central(&mut text, deck.machine.central())?;
-    push_sections(&mut text, &deck.machine, &named)?;
-    Ok(text)
+    let mut text = TextWriter::new(writer);
+    print_size(&mut text, deck.machine.central());
+    print_central(&mut text, deck.machine.central());
+    print_sections(&mut text, &deck.machine, &named);
+    text.finish()
 }

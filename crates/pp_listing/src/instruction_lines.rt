@@ -1,27 +1,24 @@
 //! The lines of a processor's words, one for each instruction.
 
-ghost use Rattle.std.specs.Prelude.{◌≡◌, ◌++◌, OnOk};
+ghost use Rattle.std.specs.Prelude.{◌≡◌};
 ghost use Rattle.pp_machine.specs.Processor.{word_at};
-ghost use Rattle.pp_listing.specs.InstructionText.{is_long};
+ghost use Rattle.pp_text.specs.InstructionText.{is_long};
+ghost use Rattle.pp_text.specs.TextWriter.{Prints};
 ghost use Rattle.pp_listing.specs.ListedLine.{one_word, text_line, text_of, two_words};
 ghost use Rattle.pp_listing.specs.Listing.{instruction_lines};
 
-use crate::instruction_text::push_instruction;
-use crate::octal_digits::push_octal;
 use pp_machine::Pp;
+use pp_text::{TextWriter, octal4, print_running};
 use pp_word::{Word12, decode, next};
-use std::alloc::{AllocError, Allocator};
+use std::io::Write;
 
 /// The number of places in a processor's memory.
 const PLACES: u32 = 0o10000;
 
-/// Adds the lines of all words that are not 0.
-pub(crate) fn push_instructions<A: Allocator>(
-    text: &mut Vec<u8, A>,
-    pp: &Pp,
-) -> Result<(), AllocError>
-    ensures { OnOk result (text.new.items ≡ text.old.items
-        ++ text_of (instruction_lines (word_at pp.now 0) 0 pp.now.memory)) }
+/// Prints the lines of all words that are not 0.
+pub(crate) fn print_instructions<W: Write>(text: &mut TextWriter<W>, pp: &Pp)
+    ensures { Prints W.contents text.old text.new
+        (text_of (instruction_lines (word_at pp.now 0) 0 pp.now.memory)) }
 {
     let mut place = 0;
     while place < PLACES {
@@ -31,14 +28,13 @@ pub(crate) fn push_instructions<A: Allocator>(
         if word.get() != 0 {
             let m = pp.get(next(at));
             if is_long(word) && place < PLACES {
-                push_two_words(text, at, word, m)?;
+                print_two_words(text, at, word, m);
                 place += 1;
             } else {
-                push_one_word(text, at, word, m)?;
+                print_one_word(text, at, word, m);
             }
         }
     }
-    Ok(())
 }
 
 /// Whether a second word belongs to the instruction in a word.
@@ -48,40 +44,28 @@ fn is_long(word: Word12) -> bool
     decode(word).0.is_long()
 }
 
-/// Adds `0100 7405           * ACN 05` and a line feed.
-fn push_one_word<A: Allocator>(
-    text: &mut Vec<u8, A>,
-    place: Word12,
-    word: Word12,
-    m: Word12,
-) -> Result<(), AllocError>
-    ensures { OnOk result (text.new.items ≡ text.old.items ++ text_line (one_word place word m)) }
+/// Prints `0100 7405           * ACN 05` and a line feed.
+fn print_one_word<W: Write>(text: &mut TextWriter<W>, place: Word12, word: Word12, m: Word12)
+    ensures { Prints W.contents text.old text.new (text_line (one_word place word m)) }
 {
-    push_octal(text, 4, u64::from(place.get()))?;
-    text.push(b' ')?;
-    push_octal(text, 4, u64::from(word.get()))?;
-    text.extend_from_slice(b"           * ")?;
-    push_instruction(text, place, word, m)?;
-    text.push(b'\n')?;
-    Ok(())
+    text.print(&octal4(place.get()));
+    text.print(b" ");
+    text.print(&octal4(word.get()));
+    text.print(b"           * ");
+    print_running(text, None, place, word, m);
+    text.print(b"\n");
 }
 
-/// Adds `0101 5050 0200      * LDM 0200,50` and a line feed.
-fn push_two_words<A: Allocator>(
-    text: &mut Vec<u8, A>,
-    place: Word12,
-    word: Word12,
-    m: Word12,
-) -> Result<(), AllocError>
-    ensures { OnOk result (text.new.items ≡ text.old.items ++ text_line (two_words place word m)) }
+/// Prints `0101 5050 0200      * LDM 0200,50` and a line feed.
+fn print_two_words<W: Write>(text: &mut TextWriter<W>, place: Word12, word: Word12, m: Word12)
+    ensures { Prints W.contents text.old text.new (text_line (two_words place word m)) }
 {
-    push_octal(text, 4, u64::from(place.get()))?;
-    text.push(b' ')?;
-    push_octal(text, 4, u64::from(word.get()))?;
-    text.push(b' ')?;
-    push_octal(text, 4, u64::from(m.get()))?;
-    text.extend_from_slice(b"      * ")?;
-    push_instruction(text, place, word, m)?;
-    text.push(b'\n')?;
-    Ok(())
+    text.print(&octal4(place.get()));
+    text.print(b" ");
+    text.print(&octal4(word.get()));
+    text.print(b" ");
+    text.print(&octal4(m.get()));
+    text.print(b"      * ");
+    print_running(text, None, place, word, m);
+    text.print(b"\n");
 }

@@ -5,7 +5,7 @@ ghost use Rattle.std.specs.Prelude.{ℕ, ◌≡◌, ◌≤◌, List, length, Non
 ghost use Rattle.pp_deck.specs.DeckMeaning.{LoadedDeck, deck_meaning};
 ghost use Rattle.pp_machine.specs.declared.profile.Profile.{Profile};
 ghost use Rattle.pp_machine.specs.Run.{run};
-ghost use Rattle.pp_listing.specs.Dump.{after, deck_to_go_on, dump, first_going_on};
+ghost use Rattle.pp_listing.specs.Dump.{after, deck_to_go_on, dump, first_busy};
 ghost use Rattle.pp_listing.specs.Listing.{listing};
 
 /// The listing of a loaded deck, read as a deck for a machine of the same profile, is that deck.
@@ -22,7 +22,7 @@ pub fn listing_law()
 pub fn dump_law()
     ensures { (profile : Profile) (text : List ℕ) (deck : LoadedDeck) (steps : List ℕ)
         → deck_meaning profile text ≡ Ok deck
-        → first_going_on (run steps deck.machine) ≡ None
+        → first_busy (run steps deck.machine) ≡ None
         → length (dump (after steps deck)) ≤ 1048576
         → deck_meaning profile (dump (after steps deck)) ≡ Ok (deck_to_go_on (after steps deck)) }
 {}

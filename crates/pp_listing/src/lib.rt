@@ -2,20 +2,16 @@
 //! decks.
 #![tactic(auto)]
 
+mod deck_lines;
 mod dumped_deck;
 mod going_on;
 mod instruction_lines;
-mod instruction_text;
 mod laws;
 mod listed_deck;
-mod octal_digits;
-mod operands;
 mod sections;
 
-pub use dumped_deck::{DumpFault, dump};
-pub use going_on::GoingOn;
-pub use instruction_text::push_running;
+pub use deck_lines::{print_central_line, print_section_line};
+pub use dumped_deck::{DumpFault, write_dump};
+pub use going_on::Busy;
 pub use laws::{dump_law, listing_law};
-pub use listed_deck::listing;
-pub use octal_digits::{push_octal, push_short_octal};
-pub use operands::Operands;
+pub use listed_deck::write_listing;

@@ -1,104 +1,80 @@
 //! Listings.
 
-ghost use Rattle.std.specs.Prelude.{◌≡◌, ◌++◌, ◌<◌, ◌^◌, length, IfOk, OnOk};
+ghost use Rattle.std.specs.Prelude.{◌≡◌, ◌<◌, ◌^◌};
 ghost use Rattle.std.specs.List.{list_any};
-ghost use Rattle.pp_deck.specs.DeckLine.{central_size};
-ghost use Rattle.pp_listing.specs.ListedLine.{bare, text_line, text_of};
+ghost use Rattle.pp_text.specs.TextWriter.{Prints};
+ghost use Rattle.pp_text.specs.Written.{IsWritten};
+ghost use Rattle.pp_listing.specs.ListedLine.{text_of};
 ghost use Rattle.pp_listing.specs.Listing.{ReadsBackAs, central_word_line, central_word_lines, dead_start_line, is_opened_channel, listing, numbers};
 
-use crate::octal_digits::{push_octal, push_short_octal};
-use crate::sections::{NUMBERS, push_sections};
+use crate::deck_lines::{print_central_line, print_size};
+use crate::sections::print_sections;
 use pp_channel::ChannelNo;
 use pp_deck::Deck;
 use pp_machine::{Central, Machine};
+use pp_text::{NUMBERS, TextWriter, WriteFault};
 use pp_word::Word18;
-use std::alloc::{AllocError, Allocator};
+use std::alloc::Allocator;
+use std::io::Write;
 
-/// The listing of a deck: its central words, `DEAD` if dead start opened a channel, and the
-/// instructions of each processor that it names, one a line with its text. Numbers are octal. Read
-/// as a deck for a machine of the same profile, it is that deck, if a text means the deck and the
-/// listing is no longer than a deck may be (1,048,576 bytes, decimal).
+/// Writes the listing of a deck: its central words, `DEAD` if dead start opened a channel, and the
+/// instructions of each processor that it names, one a line with its text; and flushes the writer.
+/// Numbers are octal. Read as a deck for a machine of the same profile, the listing is that deck,
+/// if a text means the deck and the listing is no longer than a deck may be (1,048,576 bytes,
+/// decimal). The text goes out in pieces, and takes no memory. If the writer fails, the rest of the
+/// text is lost.
 #[tactic(auto, using(crate::proofs::TextLemmas::listing_in_parts))]
-pub fn listing<A: Allocator + Copy, B: Allocator>(
-    alloc: A,
-    deck: &Deck<B>,
-) -> Result<Vec<u8, A>, AllocError>
-    ensures text { IfOk result (λ text.
-        text.items ≡ listing (record { machine = deck.now.machine; named = deck.now.named })) }
-    ensures reads_back { IfOk result (λ text.
-        ReadsBackAs text.items (record { machine = deck.now.machine; named = deck.now.named })) }
+pub fn write_listing<A: Allocator, W: Write>(
+    writer: &mut W,
+    deck: &Deck<A>,
+) -> Result<(), WriteFault>
+    ensures written { IsWritten
+        (listing (record { machine = deck.now.machine; named = deck.now.named }))
+        result (W.contents writer.old) (W.contents writer.new) }
+    ensures reads_back { ReadsBackAs
+        (listing (record { machine = deck.now.machine; named = deck.now.named }))
+        (record { machine = deck.now.machine; named = deck.now.named }) }
 {
-    let mut text = Vec::new(alloc);
-    push_size(&mut text, deck.machine.central())?;
-    push_central(&mut text, deck.machine.central())?;
-    push_dead_start(&mut text, &deck.machine)?;
-    push_sections(&mut text, &deck.machine, &deck.named)?;
-    Ok(text)
+    let mut text = TextWriter::new(writer);
+    print_size(&mut text, deck.machine.central());
+    print_central(&mut text, deck.machine.central());
+    print_dead_start(&mut text, &deck.machine);
+    print_sections(&mut text, &deck.machine, &deck.named);
+    text.finish()
 }
 
-/// Adds `CENTRAL 10000` and a line feed.
-pub(crate) fn push_size<A: Allocator, B: Allocator>(
-    text: &mut Vec<u8, A>,
-    central: &Central<B>,
-) -> Result<(), AllocError>
-    ensures { OnOk result (text.new.items ≡ text.old.items
-        ++ text_line (bare (central_size (length central.now)))) }
-{
-    text.extend_from_slice(b"CENTRAL ")?;
-    push_short_octal(text, 6, u64::from(central.size()))?;
-    text.push(b'\n')?;
-    Ok(())
-}
-
-/// Adds the lines of all central words that are not 0.
-pub(crate) fn push_central<A: Allocator, B: Allocator>(
-    text: &mut Vec<u8, A>,
-    central: &Central<B>,
-) -> Result<(), AllocError>
-    ensures { OnOk result (text.new.items ≡ text.old.items
-        ++ text_of (central_word_lines central.now)) }
+/// Prints the lines of all central words that are not 0.
+pub(crate) fn print_central<A: Allocator, W: Write>(text: &mut TextWriter<W>, central: &Central<A>)
+    ensures { Prints W.contents text.old text.new (text_of (central_word_lines central.now)) }
 {
     for address in 0..central.size() {
-        push_central_word(text, central, address)?;
+        print_central_word(text, central, address);
     }
-    Ok(())
 }
 
-/// Adds `CM 0 00060007001000110012` and a line feed, if the word is not 0.
-fn push_central_word<A: Allocator, B: Allocator>(
-    text: &mut Vec<u8, A>,
-    central: &Central<B>,
+/// Prints the line of a central word that is not 0.
+fn print_central_word<A: Allocator, W: Write>(
+    text: &mut TextWriter<W>,
+    central: &Central<A>,
     address: u32,
-) -> Result<(), AllocError>
+)
     requires { address < 2 ^ 18 }
-    ensures { OnOk result (text.new.items ≡ text.old.items
-        ++ text_of (central_word_line central.now address)) }
+    ensures { Prints W.contents text.old text.new
+        (text_of (central_word_line central.now address)) }
 {
     match central.read(Word18::truncated(address)) {
-        Some(word) if word.get() != 0 => {
-            text.extend_from_slice(b"CM ")?;
-            push_short_octal(text, 6, u64::from(address))?;
-            text.push(b' ')?;
-            push_octal(text, 20, word.get())?;
-            text.push(b'\n')?;
-            Ok(())
-        }
-        _ => Ok(()),
+        Some(word) if word.get() != 0 => print_central_line(text, address, word.get()),
+        _ => {}
     }
 }
 
-/// Adds `DEAD` and a line feed, if dead start opened a channel.
-fn push_dead_start<A: Allocator, B: Allocator>(
-    text: &mut Vec<u8, A>,
-    machine: &Machine<B>,
-) -> Result<(), AllocError>
-    ensures { OnOk result (text.new.items ≡ text.old.items
-        ++ text_of (dead_start_line machine.now)) }
+/// Prints `DEAD` and a line feed, if dead start opened a channel.
+fn print_dead_start<A: Allocator, W: Write>(text: &mut TextWriter<W>, machine: &Machine<A>)
+    ensures { Prints W.contents text.old text.new (text_of (dead_start_line machine.now)) }
 {
     if has_opened_channel(machine) {
-        text.extend_from_slice(b"DEAD\n")?;
+        text.print(b"DEAD\n");
     }
-    Ok(())
 }
 
 #[tactic(auto, unfolding(crate::specs::Listing::numbers))]

@@ -1,70 +1,63 @@
 //! The sections of processors.
 
-ghost use Rattle.std.specs.Prelude.{◌≡◌, ◌++◌, OnOk};
+ghost use Rattle.pp_text.specs.TextWriter.{Prints};
 ghost use Rattle.pp_listing.specs.ListedLine.{text_of};
 ghost use Rattle.pp_listing.specs.Listing.{named_section, section_lines, sections, start_line};
 
-use crate::instruction_lines::push_instructions;
-use crate::octal_digits::{push_octal, push_short_octal};
+use crate::deck_lines::print_section_line;
+use crate::instruction_lines::print_instructions;
 use pp_machine::{Machine, PROCESSORS, Pp, PpNo, PpState};
-use std::alloc::{AllocError, Allocator};
+use pp_text::{NUMBERS, TextWriter, octal4, octal6};
+use std::alloc::Allocator;
+use std::io::Write;
 
-/// The number of values of two octal digits.
-pub(crate) const NUMBERS: u8 = 0o100;
-
-/// Adds the sections of all processors named, in order of number.
-pub(crate) fn push_sections<A: Allocator, B: Allocator>(
-    text: &mut Vec<u8, A>,
-    machine: &Machine<B>,
+/// Prints the sections of all processors named, in order of number.
+pub(crate) fn print_sections<A: Allocator, W: Write>(
+    text: &mut TextWriter<W>,
+    machine: &Machine<A>,
     named: &[bool; PROCESSORS],
-) -> Result<(), AllocError>
-    ensures { OnOk result (text.new.items ≡ text.old.items
-        ++ text_of (sections named.now machine.now)) }
+)
+    ensures { Prints W.contents text.old text.new (text_of (sections named.now machine.now)) }
 {
     for number in 0..NUMBERS {
-        push_named_section(text, machine, named, number)?;
+        print_named_section(text, machine, named, number);
     }
-    Ok(())
 }
 
-fn push_named_section<A: Allocator, B: Allocator>(
-    text: &mut Vec<u8, A>,
-    machine: &Machine<B>,
+fn print_named_section<A: Allocator, W: Write>(
+    text: &mut TextWriter<W>,
+    machine: &Machine<A>,
     named: &[bool; PROCESSORS],
     number: u8,
-) -> Result<(), AllocError>
-    ensures { OnOk result (text.new.items ≡ text.old.items
-        ++ text_of (named_section named.now machine.now number)) }
+)
+    ensures { Prints W.contents text.old text.new
+        (text_of (named_section named.now machine.now number)) }
 {
     match PpNo::new(number) {
-        Some(n) if named[n.index()] => push_section(text, n, machine.pp(n)),
-        _ => Ok(()),
+        Some(n) if named[n.index()] => print_section(text, n, machine.pp(n)),
+        _ => {}
     }
 }
 
-/// Adds the lines of a processor.
-fn push_section<A: Allocator>(text: &mut Vec<u8, A>, n: PpNo, pp: &Pp) -> Result<(), AllocError>
-    ensures { OnOk result (text.new.items ≡ text.old.items ++ text_of (section_lines n pp.now)) }
+/// Prints the lines of a processor.
+fn print_section<W: Write>(text: &mut TextWriter<W>, n: PpNo, pp: &Pp)
+    ensures { Prints W.contents text.old text.new (text_of (section_lines n pp.now)) }
 {
-    text.extend_from_slice(b"PP ")?;
-    push_short_octal(text, 2, u64::from(n.get()))?;
-    text.push(b'\n')?;
-    push_instructions(text, pp)?;
-    push_start(text, pp)
+    print_section_line(text, n);
+    print_instructions(text, pp);
+    print_start(text, pp);
 }
 
-/// Adds `START 0100 000000` and a line feed, if the processor is running.
-fn push_start<A: Allocator>(text: &mut Vec<u8, A>, pp: &Pp) -> Result<(), AllocError>
-    ensures { OnOk result (text.new.items ≡ text.old.items
-        ++ text_of (start_line pp.now.state pp.now.p pp.now.a)) }
+/// Prints `START 0100 000000` and a line feed, if the processor is running.
+fn print_start<W: Write>(text: &mut TextWriter<W>, pp: &Pp)
+    ensures { Prints W.contents text.old text.new
+        (text_of (start_line pp.now.state pp.now.p pp.now.a)) }
 {
-    if !matches!(pp.state(), PpState::Running) {
-        return Ok(());
+    if matches!(pp.state(), PpState::Running) {
+        text.print(b"START ");
+        text.print(&octal4(pp.p().get()));
+        text.print(b" ");
+        text.print(&octal6(pp.a().get()));
+        text.print(b"\n");
     }
-    text.extend_from_slice(b"START ")?;
-    push_octal(text, 4, u64::from(pp.p().get()))?;
-    text.push(b' ')?;
-    push_octal(text, 6, u64::from(pp.a().get()))?;
-    text.push(b'\n')?;
-    Ok(())
 }

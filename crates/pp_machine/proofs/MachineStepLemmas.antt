@@ -142,3 +142,13 @@ fault_step n old new (Ok o) within ok err running fault =
     subst (λ (m : MachineState). KeepsMemoryAndRegisters (processor_of n old) (processor_of n m)) (sym ok) (stepped_fault n old within running (subst (λ (m : MachineState). IsAtFault (processor_of n m)) ok fault))
 fault_step n old new (Err e) within ok err running fault =
     absurd (running_is_no_fault (processor_of n old) running (subst (λ (m : MachineState). IsAtFault (processor_of n m)) err fault))
+
+-- ---- what a kind of step comes to
+
+pub ruleset steps_at_rest = (stepped_at_rest, outcome_at_rest)
+
+pub ruleset steps = (steps_at_rest, held_step, fault_step)
+
+pub ruleset steps_alone = (stepped_alone, outcome_alone)
+
+pub ruleset steps_by_probe = (stepped_by_probe, outcome_by_probe, steps_alone)

@@ -82,3 +82,5 @@ rounds_and_rest Twenty turns = omega arith
 pub rounds_bound : (p : Profile) (rounds : ℕ) → rounds * processors_in p ≤ 20 * rounds
 rounds_bound Ten rounds = omega arith
 rounds_bound Twenty rounds = omega arith
+
+pub ruleset channels_of_profiles = (channels_of_ten, channels_of_twenty, small_channels)

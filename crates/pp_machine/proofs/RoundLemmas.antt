@@ -207,3 +207,5 @@ event_after rounds turn done m n o before counted made =
     let here : processor_in_turn n.profile turn ≡ processor_in_turn p (done + turn) =
     ap (λ q. processor_in_turn q turn) (profile_after (whole_rounds p rounds) m n before) ∙ sym (in_round p rounds turn) ∙ ap (λ k. processor_in_turn p (k + turn)) (sym counted) in
     subst (λ k. IsSome (step_event k o)) here made
+
+pub ruleset passes = (passes_from_end, passes_from_running, passes_from_rest, passes_from_start)

@@ -246,3 +246,7 @@ rest_no_need (Fault number) pp h = refl
 pub nothing_at_rest : (pp : Processor) → (need pp ≡ needs.Nothing) ↔ IsAtRest pp
 unfolding need
 nothing_at_rest pp = ((λ e h. no_need_rest pp.state pp e h), (λ h. rest_no_need pp.state pp h))
+
+-- ---- what an answer does
+
+pub ruleset answers_given = (held_changes_nothing, held_by_answer, at_rest, rest_changes_nothing, fault_keeps)

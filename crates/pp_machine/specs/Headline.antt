@@ -19,7 +19,7 @@ abbrev pub opening_history : ℕ → MachineState → List Event
 opening_history c m = if is_opened c m then Event.Activate ∷ [] else []
 
 -- the history of a channel is its opening history and then the events of the trace on it; it is
--- lawful; and in every session the words taken are the first of the words put
+-- lawful, and keeps the law of sessions
 pub record HoldsOnChannel (opening events history : List Event) : Type 0 where
   pub traced : history ≡ opening ++ events
   pub lawful : IsLawful history
@@ -32,7 +32,7 @@ HoldsOnEachChannel m =
     (history_of c m)
 
 -- all processors and channels are there, it is known of each channel whether dead start opened it,
--- central memory is one, and the headline holds of each channel
+-- the central words are a central memory, and the headline holds of each channel
 pub record IsMachine (m : MachineState) : Type 0 where
   pub processors : length m.processors ≡ processor_count
   pub channels : length m.histories ≡ channel_count

@@ -20,8 +20,8 @@ IsNext None d pp = (pp.state ≡ Running) × IsSome pp.block
 IsNext (Some op) d pp = IsAtInstruction op d pp
 
 -- whether an operation, of codes 00 to 57, needs nothing from outside and begins no block
-abbrev pub is_inner : Opcode → Bool
-is_inner op = nat_lt (code_of op) 0o60
+abbrev pub is_internal : Opcode → Bool
+is_internal op = nat_lt (code_of op) 0o60
 
 -- whether an instruction leaves its processor at rest: UJN may stop it, EXN and RPN are faults
 abbrev pub ends : Opcode → ℕ → Bool

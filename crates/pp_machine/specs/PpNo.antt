@@ -3,7 +3,7 @@
 -- peripheral processors: ten, numbered 0 to 11 (octal), which take turns in a barrel. A machine of
 -- twenty has ten more, numbered 20 to 31, which follow them in the barrel.)
 use Rattle.std.specs.Prelude.{ℕ, ◌+◌, ◌-◌, ◌&&◌, ◌||◌, Bool, false, List, nat_lt, slice_index_or, if◌then◌else◌}
-use Rattle.list_facts.specs.Tables.{tabulate}
+use Rattle.pp_word.specs.Tables.{tabulate}
 
 -- the number of processors
 abbrev pub processor_count : ℕ

@@ -78,3 +78,7 @@ channel_of_processor n names =
     dite (dec_lt n 0o14)
     (λ low. channel_places.named_low n low)
     (λ no. channel_places.named_high n (grind (arith, no, names)) (grind (arith, names)))
+
+pub ruleset places_of_numbers = (one_place, place_below, place_again)
+
+pub ruleset numbers_of_places = (number_named, place_of_number)

@@ -1,4 +1,4 @@
--- Quiet steps: they make no event and write no central word, so they change nothing but their own
+-- Quiet steps: they make no event and use no central word, so they change nothing but their own
 -- processor. If all steps of some rounds of the barrel are quiet, those of different processors can
 -- change places. (Only private contracts cite this.)
 use Rattle.std.specs.Prelude.{◌≡◌, ℕ, zero, suc, ◌<◌, ◌≤◌, Bool, true, false, IsTrue, List, Option, Some, None, length, slice_index_or}

@@ -46,24 +46,25 @@ pub record OfChannel (X : Type 0) : Type 0 where
   pub what : X
 
 -- what an answer to a need gives, which the operation and its reply determine
-abbrev pub given_by : {X : Type 0} → (ChanOp → Reply → Option X) → Need → Answer
+abbrev pub contribution : {X : Type 0} → (ChanOp → Reply → Option X) → Need → Answer
     → List (OfChannel X)
-given_by tells (Need.Channel channel operation) (Answer.Channel reply) =
+contribution tells (Need.Channel channel operation) (Answer.Channel reply) =
     map (λ what. record { channel = channel; what = what }) (option_to_list (tells operation reply))
-given_by tells need answer = []
+contribution tells need answer = []
 
 -- what each answer gives, along a replay, end to end
-unfoldable pub told_along : {X : Type 0} → (ChanOp → Reply → Option X) → Processor → List Answer
+unfoldable pub collected_along : {X : Type 0} → (ChanOp → Reply → Option X) → Processor
+    → List Answer
     → List (OfChannel X)
-told_along tells pp [] = []
-told_along tells pp (answer ∷ more) =
-    if fits (need pp) answer then given_by tells (need pp) answer
-    ++ told_along tells (processor_after pp answer) more else []
+collected_along tells pp [] = []
+collected_along tells pp (answer ∷ more) =
+    if fits (need pp) answer then contribution tells (need pp) answer
+    ++ collected_along tells (processor_after pp answer) more else []
 
 -- the events of a replay, in order
 abbrev pub events_given : Processor → List Answer → List (OfChannel Event)
-events_given = told_along event_answered
+events_given = collected_along event_answered
 
 -- the events and the looks of a replay together, in order
-abbrev pub sights_given : Processor → List Answer → List (OfChannel Seen)
-sights_given = told_along seen_answered
+abbrev pub looks_and_events : Processor → List Answer → List (OfChannel Seen)
+looks_and_events = collected_along seen_answered

@@ -4,7 +4,7 @@ use Rattle.pp_channel.specs.declared.chan_op.ChanOp.{ChanOp}
 use Rattle.pp_channel.specs.declared.reply.Reply.{Reply}
 use Rattle.pp_machine.specs.NeedAndEffect.{need, processor_after}
 use Rattle.pp_machine.specs.Processor.{Processor}
-use Rattle.pp_machine.specs.Replay.{fits, replayed, given_count, told_along, given_by}
+use Rattle.pp_machine.specs.Replay.{fits, replayed, given_count, collected_along, contribution}
 use Rattle.pp_machine.specs.declared.answer.Answer.{Answer}
 
 -- each of these answers fits where it is given, and they leave this processor
@@ -73,21 +73,24 @@ given_count-push xs pp x e f =
     (Gives-append xs (x ∷ []) pp (replayed pp xs) (processor_after (replayed pp xs) x)
     (Gives-counted xs pp e) (f, refl))
 
-told_along-Gives : {X : Type 0} (tells : ChanOp → Reply → Option X) (xs : List Answer)
+collected_along-Gives : {X : Type 0} (tells : ChanOp → Reply → Option X) (xs : List Answer)
     (pp new : Processor) (x : Answer) → Gives pp xs new → fits (need new) x ≡ true
-    → told_along tells pp (xs ++ x ∷ []) ≡ told_along tells pp xs ++ given_by tells (need new) x
-unfolding told_along
-told_along-Gives tells [] pp new x g f = rw (g, f) (append-nil (given_by tells (need new) x))
-told_along-Gives tells (y ∷ xs) pp new x g f =
-    rw g.0 (ap (λ more. given_by tells (need pp) y ++ more)
-    (told_along-Gives tells xs (processor_after pp y) new x g.1 f)
-    ∙ sym (append_assoc (given_by tells (need pp) y) (told_along tells (processor_after pp y) xs)
-    (given_by tells (need new) x)))
+    → collected_along tells pp (xs ++ x ∷ [])
+    ≡ collected_along tells pp xs ++ contribution tells (need new) x
+unfolding collected_along
+collected_along-Gives tells [] pp new x g f =
+    rw (g, f) (append-nil (contribution tells (need new) x))
+collected_along-Gives tells (y ∷ xs) pp new x g f =
+    rw g.0 (ap (λ more. contribution tells (need pp) y ++ more)
+    (collected_along-Gives tells xs (processor_after pp y) new x g.1 f)
+    ∙ sym (append_assoc (contribution tells (need pp) y)
+    (collected_along tells (processor_after pp y) xs)
+    (contribution tells (need new) x)))
 
-pub told_along-push : {X : Type 0} (tells : ChanOp → Reply → Option X) (xs : List Answer)
+pub collected_along-push : {X : Type 0} (tells : ChanOp → Reply → Option X) (xs : List Answer)
     (pp : Processor) (x : Answer) → given_count pp xs ≡ length xs
     → fits (need (replayed pp xs)) x ≡ true
-    → told_along tells pp (xs ++ x ∷ [])
-    ≡ told_along tells pp xs ++ given_by tells (need (replayed pp xs)) x
-told_along-push tells xs pp x e f =
-    told_along-Gives tells xs pp (replayed pp xs) x (Gives-counted xs pp e) f
+    → collected_along tells pp (xs ++ x ∷ [])
+    ≡ collected_along tells pp xs ++ contribution tells (need (replayed pp xs)) x
+collected_along-push tells xs pp x e f =
+    collected_along-Gives tells xs pp (replayed pp xs) x (Gives-counted xs pp e) f

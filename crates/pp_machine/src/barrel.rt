@@ -194,7 +194,10 @@ impl<A: Allocator> Machine<A> {
 
     /// Makes the first `turns` turns of a round of the barrel, and passes over the processors at
     /// rest that `next` gives. If memory is refused, returns how many steps were done.
-    #[tactic(auto, using(crate::specs::RunLaws::barrel_more, crate::proofs::RunLemmas::some_event, crate::proofs::RoundLemmas::rest_to, crate::proofs::RoundLemmas::passes_over_stepped))]
+    #[tactic(auto, using(crate::specs::RunLaws::barrel_more, // one turn more
+    crate::proofs::RunLemmas::some_event, // a turn with an event
+    crate::proofs::RoundLemmas::rest_to, // processors at rest
+    crate::proofs::RoundLemmas::passes_over_stepped))]
     fn run_round(&mut self, turns: usize, next: &[usize; PROCESSORS + 1]) -> Result<(), usize>
         requires round { turns ≤ processors_in self.old.profile }
         requires passes { PassesOverRest next.now self.old.processors }
@@ -249,7 +252,7 @@ fn window_after(held: u32) -> u32
 
 /// For each place of the barrel, and for its end, the first place from there on whose processor is
 /// running, or the number of processors if there is none.
-#[tactic(auto, using(crate::proofs::RoundLemmas::passes_from_end, crate::proofs::RoundLemmas::passes_from_running, crate::proofs::RoundLemmas::passes_from_rest, crate::proofs::RoundLemmas::passes_from_start))]
+#[tactic(auto, using(crate::proofs::RoundLemmas::passes))]
 fn next_running<A: Allocator>(processors: &Vec<Pp, A>) -> [usize; PROCESSORS + 1]
     requires { length processors.now.items ≡ processor_count }
     ensures { PassesOverRest result processors.now.items }

@@ -34,7 +34,8 @@ impl Model for PpNo {
 
 impl PpNo {
     /// The processor of this number, or nothing from 12 to 17 (octal) and from 32 on.
-    #[tactic(auto, unfolding(crate::specs::PpNo::names_processor, crate::specs::PpNo::processor_number))]
+    #[tactic(auto, unfolding(crate::specs::PpNo::names_processor, // which numbers there are
+    crate::specs::PpNo::processor_number))]
     pub fn new(number: u8) -> Option<Self>
         ensures exists { IsSome result ↔ IsTrue (names_processor number) }
         ensures value { IfSome result (λ n. n ≡ number) }
@@ -48,7 +49,8 @@ impl PpNo {
     }
 
     /// Its number.
-    #[tactic(auto, unfolding(crate::specs::PpNo::names_processor, crate::specs::PpNo::processor_number))]
+    #[tactic(auto, unfolding(crate::specs::PpNo::names_processor, // which numbers there are
+    crate::specs::PpNo::processor_number))]
     pub fn get(self) -> u8
         ensures value { result ≡ self }
         ensures names { IsTrue (names_processor result) }
@@ -61,7 +63,7 @@ impl PpNo {
     }
 
     /// Its place in a list of all processors in the barrel's order.
-    #[tactic(auto, using(crate::specs::ProcessorPlaces::one_place, crate::specs::ProcessorPlaces::place_below, crate::specs::ProcessorPlaces::place_again))]
+    #[tactic(auto, using(crate::specs::ProcessorPlaces::places_of_numbers))]
     pub fn index(self) -> usize
         ensures place { result ≡ processor_index self }
         ensures below { result < processor_count }
@@ -72,7 +74,7 @@ impl PpNo {
     }
 
     /// The processor at a place in the barrel's order.
-    #[tactic(auto, using(crate::specs::ProcessorPlaces::number_named, crate::specs::ProcessorPlaces::place_of_number))]
+    #[tactic(auto, using(crate::specs::ProcessorPlaces::numbers_of_places))]
     pub fn at(place: usize) -> Self
         requires { place < processor_count }
         ensures number { result ≡ processor_number place }

@@ -5,7 +5,7 @@
 pub enum PpState {
     /// Its next step is the instruction at P, or the next word of a block.
     Running,
-    /// UJN with d 00 or 77 stopped it.
+    /// It was not started, or UJN with d 00 or 77 stopped it.
     Stopped,
     /// A numbered fault ended it: `EXCHANGE_JUMP`, `NO_CENTRAL_PROCESSOR`, `NO_SUCH_CHANNEL` or
     /// `PAST_CENTRAL_MEMORY`.

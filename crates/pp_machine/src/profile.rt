@@ -46,7 +46,8 @@ impl Profile {
 
     /// Its processor of this number, or nothing from 12 (octal) on under `Ten`, from 12 to 17 and
     /// from 32 on under `Twenty`.
-    #[tactic(auto, using(crate::specs::ProfilePlaces::processor_named), unfolding(crate::specs::Profile::has_processor))]
+    #[tactic(auto, using(crate::specs::ProfilePlaces::processor_named), // by its place
+    unfolding(crate::specs::Profile::has_processor))]
     pub fn processor(self, number: u8) -> Option<PpNo>
         ensures exists { IsSome result ↔ IsTrue (has_processor self number) }
         ensures value { IfSome result (λ n. n ≡ number) }
@@ -61,7 +62,7 @@ impl Profile {
 
     /// Its channel of this number, or nothing from 14 (octal) on under `Ten`, from 14 to 17 and
     /// from 34 on under `Twenty`.
-    #[tactic(auto, using(crate::proofs::ProfileLemmas::channels_of_ten, crate::proofs::ProfileLemmas::channels_of_twenty, crate::proofs::ProfileLemmas::small_channels))]
+    #[tactic(auto, using(crate::proofs::ProfileLemmas::channels_of_profiles))]
     pub fn channel(self, number: u8) -> Option<ChannelNo>
         ensures exists { IsSome result ↔ IsTrue (has_channel self number) }
         ensures value { IfSome result (λ c. c ≡ number) }

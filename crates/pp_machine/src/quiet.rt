@@ -111,7 +111,7 @@ fn run_free_steps<A: Allocator>(pp: &mut Pp, channels: &Vec<Channel<A>, A>, most
     }
     while left > 0 {
         let (op, d) = pp.instruction_at_p();
-        if pp.run_inner(op, d) {
+        if pp.step_internal(op, d) {
             left -= 1;
             if ends(op, d) {
                 return left;

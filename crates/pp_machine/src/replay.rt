@@ -44,7 +44,7 @@ pub fn fits(need: &Need, answer: &Answer) -> bool
 impl Pp {
     /// Gives the answers in order, up to the first that does not fit, and returns how many were
     /// given.
-    #[tactic(auto, using(crate::proofs::ReplayLemmas::replayed_more, crate::proofs::ReplayLemmas::replayed_stops, crate::proofs::ReplayLemmas::given_count_more, crate::proofs::ReplayLemmas::given_count_stops, crate::proofs::ReplayLemmas::replayed_end, crate::proofs::ReplayLemmas::given_count_end))]
+    #[tactic(auto, using(crate::proofs::ReplayLemmas::replays))]
     pub fn replay(&mut self, answers: &[Answer]) -> usize
         ensures after { self.new ≡ replayed self.old answers.now }
         ensures count { result ≡ given_count self.old answers.now }

@@ -29,7 +29,7 @@ impl<A: Allocator> Machine<A> {
     ghost use Rattle.pp_machine.specs.MachineStep.{answer_to, counted, event_for, served, stepped, step_event, step_outcome};
 
     /// One step of a processor; a step that makes no event takes no memory.
-    #[tactic(auto, using(crate::proofs::MachineStepLemmas::stepped_at_rest, crate::proofs::MachineStepLemmas::outcome_at_rest, crate::proofs::MachineStepLemmas::held_step, crate::proofs::MachineStepLemmas::fault_step))]
+    #[tactic(auto, using(crate::proofs::MachineStepLemmas::steps))]
     pub fn step(&mut self, n: PpNo) -> Result<Outcome, Memory>
         ensures ok { OnOk result (self.new ≡ stepped n self.old) }
         ensures outcome { IfOk result (λ o. o ≡ step_outcome n self.old) }
@@ -54,7 +54,9 @@ impl<A: Allocator> Machine<A> {
     }
 
     /// One step of a processor: what it needs is asked, answered and given.
-    #[tactic(auto, unfolding(crate::specs::MachineStep::stepped, crate::specs::MachineStep::step_event, crate::specs::MachineStep::step_outcome))]
+    #[tactic(auto, unfolding(crate::specs::MachineStep::stepped, // the machine after it
+    crate::specs::MachineStep::step_event, // its event
+    crate::specs::MachineStep::step_outcome))]
     fn step_by_need(&mut self, n: PpNo) -> Result<Outcome, Memory>
         ensures ok { OnOk result (self.new ≡ stepped n self.old) }
         ensures outcome { IfOk result (λ o. o ≡ step_outcome n self.old) }
@@ -88,7 +90,7 @@ impl<A: Allocator> Machine<A> {
     /// One step of a processor in the barrel, as `step` makes it. What a step needs is asked of its
     /// instruction alone here, and the barrel has the only call, so that it is compiled in place: a
     /// turn then costs half as much.
-    #[tactic(auto, using(crate::proofs::MachineStepLemmas::stepped_at_rest, crate::proofs::MachineStepLemmas::outcome_at_rest))]
+    #[tactic(auto, using(crate::proofs::MachineStepLemmas::steps_at_rest))]
     pub(crate) fn step_in_barrel(&mut self, n: PpNo) -> Result<Outcome, Memory>
         requires place { processor_index n < processors_in self.old.profile }
         ensures ok { OnOk result (self.new ≡ stepped n self.old) }
@@ -115,7 +117,7 @@ impl<A: Allocator> Machine<A> {
     }
 
     /// The step of a processor that is running.
-    #[tactic(auto, using(crate::proofs::MachineStepLemmas::stepped_alone, crate::proofs::MachineStepLemmas::outcome_alone))]
+    #[tactic(auto, using(crate::proofs::MachineStepLemmas::steps_alone))]
     fn go_on(&mut self, n: PpNo) -> Result<Outcome, Memory>
         requires place { processor_index n < processors_in self.old.profile }
         requires running { (processor_of n self.old).state ≡ PpState.Running }
@@ -128,7 +130,7 @@ impl<A: Allocator> Machine<A> {
         let i = n.index();
         let (next, d) = self.processors[i].next_instruction();
         if let Some(op) = &next {
-            if self.processors[i].run_inner(*op, d) {
+            if self.processors[i].step_internal(*op, d) {
                 self.count_turn();
                 return Ok(Outcome::Moved);
             }
@@ -138,12 +140,12 @@ impl<A: Allocator> Machine<A> {
                 return Ok(Outcome::Moved);
             }
         }
-        self.step_with_answer(n, &next, d)
+        self.step_external(n, &next, d)
     }
 
     /// The step of a processor that tests the flags of a channel, a fault if there is no such
     /// channel.
-    #[tactic(auto, using(crate::proofs::MachineStepLemmas::stepped_by_probe, crate::proofs::MachineStepLemmas::outcome_by_probe, crate::proofs::MachineStepLemmas::stepped_alone, crate::proofs::MachineStepLemmas::outcome_alone))]
+    #[tactic(auto, using(crate::proofs::MachineStepLemmas::steps_by_probe))]
     fn test_flags(&mut self, n: PpNo, op: Opcode, d: Word6, profile: Profile)
         requires place { processor_index n < processors_in self.old.profile }
         requires next { IsAtInstruction op d (processor_of n self.old) }
@@ -164,13 +166,10 @@ impl<A: Allocator> Machine<A> {
     }
 
     /// The step of a processor with the answer to its need.
-    #[tactic(auto, unfolding(crate::specs::MachineStep::stepped, crate::specs::MachineStep::step_event, crate::specs::MachineStep::step_outcome))]
-    fn step_with_answer(
-        &mut self,
-        n: PpNo,
-        next: &Option<Opcode>,
-        d: Word6,
-    ) -> Result<Outcome, Memory>
+    #[tactic(auto, unfolding(crate::specs::MachineStep::stepped, // the machine after it
+    crate::specs::MachineStep::step_event, // its event
+    crate::specs::MachineStep::step_outcome))]
+    fn step_external(&mut self, n: PpNo, next: &Option<Opcode>, d: Word6) -> Result<Outcome, Memory>
         requires place { processor_index n < processors_in self.old.profile }
         requires next { IsNext next.now d (processor_of n self.old) }
         ensures ok { OnOk result (self.new ≡ stepped n self.old) }
@@ -250,7 +249,7 @@ impl<A: Allocator> Machine<A> {
                     channel,
                     event: *event,
                 })?;
-                match make_on(&mut self.channels, channel, op, *event) {
+                match apply_event(&mut self.channels, channel, op, *event) {
                     Ok(reply) => Ok(reply),
                     Err(memory) => {
                         let _ = self.trace.pop();
@@ -264,7 +263,7 @@ impl<A: Allocator> Machine<A> {
 
 /// One operation, whose event is known, on one of the channels.
 #[inline(always)]
-fn make_on<A: Allocator>(
+fn apply_event<A: Allocator>(
     channels: &mut Vec<Channel<A>, A>,
     channel: ChannelNo,
     op: ChanOp,

@@ -4,7 +4,7 @@ use Rattle.std.specs.Prelude.{◌==◌, ◌&&◌, ◌⊎◌, not, count_by, nat_
 use Rattle.std.proofs.lemmas.Bool.{and_from, cases_eq, cases_lt, lt-ltb}
 use Rattle.std.proofs.lemmas.List.{get_or_past, take_all}
 use Rattle.std.proofs.lemmas.List.Sums.{sum_by-cons}
-use Rattle.list_facts.specs.Tables.{get_or-tabulate, tabulate}
+use Rattle.pp_word.specs.Tables.{get_or-tabulate, tabulate}
 use Rattle.pp_channel.specs.Answer.{flags_of}
 use Rattle.pp_channel.specs.ChannelNo.{channel_count}
 use Rattle.pp_channel.specs.declared.chan_op.ChanOp.{ChanOp}
@@ -26,7 +26,7 @@ use Rattle.pp_run.proofs.Moments.{moment_past, run_central}
 use Rattle.pp_races.specs.Findings.{end_by_need, end_of, held_before, is_shared, sharing_of, turns_in_place}
 use Rattle.pp_races.specs.OtherFlags.{is_same, makes_none, position_at, position_of, waits_at}
 use Rattle.pp_races.specs.OnePass.{WaitsAt, flags_at}
-use Rattle.pp_races.specs.Soundness.{AreLastOf, IsSound, TurnsWell, least_of, open_of}
+use Rattle.pp_races.specs.Soundness.{AreLastOf, IsSound, TurnTestIsExact, least_of, open_of}
 use Rattle.pp_races.specs.Watch.{Missed, Watch, asking_step, each_below, each_number, entry_of, first_race, missed_event}
 use Rattle.pp_races.specs.declared.asking_step.AskingStep.{AskingStep}
 use Rattle.pp_races.specs.declared.finding.Finding.{Finding}
@@ -107,7 +107,7 @@ not_false false is = absurd cc
 module _ (ns : List ℕ) (m : MachineState) (w : Watch) (all : length m.processors ≡ processor_count) (each : length m.histories ≡ channel_count) (all_now : (t : ℕ) → length (at_moment ns m t).processors ≡ processor_count)
     (all_end : length (run ns m).processors ≡ processor_count) (s : IsSound ns m (length ns) w)
     (ends : each_number (end_of (run ns m) w) ≡ []) (shares : each_below (length (run ns m).central) (sharing_of w) ≡ [])
-    (turns : (q : ℕ) → IsTrue (names_processor q) → TurnsWell (run ns m) q) where
+    (turns : (q : ℕ) → IsTrue (names_processor q) → TurnTestIsExact (run ns m) q) where
   waits_all : (q c : ℕ) (op : ChanOp) → need (processor_of q (run ns m)) ≡ Channel c op → waits_at op (processor_of q (run ns m)) (flags_of (history_of c (run ns m))) ≡ true
       → first_race (λ f. not (waits_at op (processor_of q (run ns m)) f)) (w.missed q c) ≡ None
       → (p : ℕ) → least_of w (at_moment ns m (length ns)) q c ≤ p → p ≤ length (history_of c (run ns m)) → WaitsAt op (processor_of q (run ns m)) (flags_of (take p (history_of c (run ns m))))

@@ -22,7 +22,7 @@ use Rattle.pp_run.proofs.Moments.{moment_next, moment_each, mono, run_central, r
 use Rattle.pp_races.specs.Findings.{end_of, findings, findings_at_end, sharing_of}
 use Rattle.pp_races.specs.OtherFlags.{waits_at}
 use Rattle.pp_races.specs.OnePass.{Watched}
-use Rattle.pp_races.specs.Soundness.{AreLastOf, IsAskedWell, IsSound, TurnsWell, least_of, open_of}
+use Rattle.pp_races.specs.Soundness.{AreLastOf, AsksLawfulChannel, IsSound, TurnTestIsExact, least_of, open_of}
 use Rattle.pp_races.specs.Watch.{Watch, asked, each_below, each_number, looked, unwatched, watched, watched_need}
 use Rattle.pp_races.specs.Spans.{IsIndex}
 use Rattle.pp_races.specs.Tables.{AreLow, AreUses, AreWatched}
@@ -86,7 +86,7 @@ wrote_now : (x : Need) (n : ℕ) (m : MachineState) (w : Watch) (a : ℕ) → Wr
 wrote_now x n m w a is = ap (λ y. (watched_need y n m w).wrote a n) is.1 ∙ or_right (w.wrote a n) (a == a && n == n) (both_same a n)
 
 module _ (ns : List ℕ) (m : MachineState) (each : length m.histories ≡ channel_count) (t : ℕ) (within : t < length ns) (w : Watch) (named : IsTrue (names_processor (get_or ns t 0))) where
-  pub sound_next : IsSound ns m t w → IsAskedWell (need_at ns m t) (at_moment ns m t) → (watched_need (need_at ns m t) (get_or ns t 0) (at_moment ns m t) w).findings ≡ []
+  pub sound_next : IsSound ns m t w → AsksLawfulChannel (need_at ns m t) (at_moment ns m t) → (watched_need (need_at ns m t) (get_or ns t 0) (at_moment ns m t) w).findings ≡ []
       → IsSound ns m (suc t) (watched_need (need_at ns m t) (get_or ns t 0) (at_moment ns m t) w)
   sound_next s well found =
       let now : MachineState = at_moment ns m t in
@@ -171,7 +171,7 @@ run_begins p turns m tables each are = record {
 
 -- the watch goes on soundly, of values that are those of a moment
 sound_on : (ns : List ℕ) (m now : MachineState) (n : ℕ) (asked : Need) (t : ℕ) (w : Watch) → length m.histories ≡ channel_count → t < length ns → IsTrue (names_processor n)
-    → get_or ns t 0 ≡ n → at_moment ns m t ≡ now → need (processor_of n now) ≡ asked → IsAskedWell asked now → (watched_need asked n now w).findings ≡ []
+    → get_or ns t 0 ≡ n → at_moment ns m t ≡ now → need (processor_of n now) ≡ asked → AsksLawfulChannel asked now → (watched_need asked n now w).findings ≡ []
     → IsSound ns m t w → IsSound ns m (suc t) (watched_need asked n now w)
 sound_on ns m now n asked t w each within named n_is now_is asked_is well found s =
     let need_is : need_at ns m t ≡ asked = ap (λ k. need (processor_of k (at_moment ns m t))) n_is ∙ ap (λ (x : MachineState). need (processor_of n x)) now_is ∙ asked_is in
@@ -179,13 +179,13 @@ sound_on ns m now n asked t w each within named n_is now_is asked_is well found 
     ap (λ (x : Need). watched_need x (get_or ns t 0) (at_moment ns m t) w) need_is ∙ ap (λ k. watched_need asked k (at_moment ns m t) w) n_is ∙ ap (λ (x : MachineState). watched_need asked n x w) now_is in
     subst (λ (x : Watch). IsSound ns m (suc t) x) same
     (sound_next ns m each t within w (subst (λ (k : ℕ). IsTrue (names_processor k)) (sym n_is) named) s
-    (subst (λ (x : Need). IsAskedWell x (at_moment ns m t)) (sym need_is) (subst (λ (x : MachineState). IsAskedWell asked x) (sym now_is) well))
+    (subst (λ (x : Need). AsksLawfulChannel x (at_moment ns m t)) (sym need_is) (subst (λ (x : MachineState). AsksLawfulChannel asked x) (sym now_is) well))
     (ap (λ (x : Watch). x.findings) same ∙ found))
 
 -- after one turn more: the tables, whose findings are taken away
 pub run_goes_on : {A : Type 0} (p : Profile) (turns t : ℕ) (m now next : MachineState) (n : ℕ) (asked : Need) (tables new : WatchTables A) (found : List Finding) → length m.histories ≡ channel_count
     → t < turns → n ≡ processor_in_turn p t → IsTrue (names_processor n) → asked ≡ need (processor_of n now) → next ≡ stepped n now
-    → IsAskedWell asked now → IsIndex (stepped n now).trace new.index.latest new.index.short.items new.index.long.items
+    → AsksLawfulChannel asked now → IsIndex (stepped n now).trace new.index.latest new.index.short.items new.index.long.items
     → ((w : Watch) → AreWatched now w tables.low.items tables.looks.items tables.found.items → AreWatched (stepped n now) (watched_need asked n now w) new.low.items new.looks.items found)
     → ((k : MachineState) (w : Watch) → AreUses w tables.uses.items → AreUses (watched_need asked n k w) new.uses.items)
     → length new.low.items ≡ length tables.low.items → length new.looks.items ≡ length tables.looks.items → length new.uses.items ≡ length tables.uses.items → new.found.items ≡ []
@@ -245,7 +245,7 @@ run_finds p turns t m now tables ends end r ends_are =
     ∙ sym (findings_are (barrel p turns) m)
 
 pub run_tells : {A : Type 0} (p : Profile) (turns t : ℕ) (m now : MachineState) (tables : WatchTables A) → length m.processors ≡ processor_count → length m.histories ≡ channel_count
-    → t ≡ turns → IsWatchedRun p turns t m now tables → ((q : ℕ) → IsTrue (names_processor q) → TurnsWell now q)
+    → t ≡ turns → IsWatchedRun p turns t m now tables → ((q : ℕ) → IsTrue (names_processor q) → TurnTestIsExact now q)
     → findings (barrel p turns) m ≡ [] → IsDeterminate (barrel p turns) m
 run_tells p turns t m now tables all each end r turn_well none =
     let ns : List ℕ = barrel p turns in
@@ -260,7 +260,7 @@ run_tells p turns t m now tables all each end r turn_well none =
     (subst (λ (k : ℕ). IsSound (barrel p turns) m k (watched (barrel p turns) m unwatched)) size (subst (λ (x : Watch). IsSound (barrel p turns) m t x) watch_is (r.sound before)))
     (none_second (watched (barrel p turns) m unwatched).findings _ first)
     (none_second ((watched (barrel p turns) m unwatched).findings ++ each_number (end_of (run (barrel p turns) m) (watched (barrel p turns) m unwatched))) _ none_there)
-    (λ q named. subst (λ (x : MachineState). TurnsWell x q) now_is (turn_well q named))
+    (λ q named. subst (λ (x : MachineState). TurnTestIsExact x q) now_is (turn_well q named))
 
 -- a run that was cut has made some first turns
 pub was_cut : {T E : Type 0} (r : Result T E) (turns t : ℕ) (m new : MachineState) → t ≤ turns → new ≡ run (barrel m.profile t) m

@@ -25,7 +25,7 @@ use Rattle.pp_run.proofs.StepFacts.{central_by, event_by_need, history_elsewhere
 use Rattle.pp_races.specs.OtherFlags.{found_at, is_alike, is_race, is_same, makes_none, position_at, position_of, shown_to, waits_at}
 use Rattle.pp_races.specs.OnePass.{DoesAsAt, IsChecked, WaitsAt, flags_at}
 use Rattle.pp_races.specs.OnePass.IsChecked.{step_waits, step_elsewhere, step_looks, step_makes}
-use Rattle.pp_races.specs.Soundness.{AreLastOf, IsAskedWell, least_of, open_of}
+use Rattle.pp_races.specs.Soundness.{AreLastOf, AsksLawfulChannel, least_of, open_of}
 use Rattle.pp_races.specs.Watch.{Missed, Watch, asked, asking_step, each_below, each_number, entry_of, first_race, from_alike, looked, made, missed_event, put, race_after, race_before, watched_need}
 use Rattle.pp_races.specs.declared.asking_step.AskingStep.{AskingStep}
 use Rattle.pp_races.specs.declared.finding.Finding.{Finding}
@@ -328,12 +328,12 @@ module _ (now : MachineState) (n : ℕ) (w : Watch) (each : length now.histories
         by_wait false moves = subst (λ (t : Bool). StepIsSound now n w (if t then w else looked n c op now w)) (sym moves)
             (look_sound is moves (ap (λ (t : Bool). (if t then w else looked n c op now w).findings) (sym moves) ∙ found))
 
-  by_need : (x : Need) → need (processor_of n now) ≡ x → IsAskedWell x now → (watched_need x n now w).findings ≡ [] → StepIsSound now n w (watched_need x n now w)
+  by_need : (x : Need) → need (processor_of n now) ≡ x → AsksLawfulChannel x now → (watched_need x n now w).findings ≡ [] → StepIsSound now n w (watched_need x n now w)
   by_need (Need.Channel c op) e well found = asked_sound c op e well.0 well.1 well.2 (event_of op (history_of c now)) refl found
   by_need Need.Nothing e well found = elsewhere_sound w (λ c op is. (let bad : Need.Nothing ≡ Channel c op = sym e ∙ is in cc)) refl refl
   by_need Need.Local e well found = elsewhere_sound w (λ c op is. (let bad : Need.Local ≡ Channel c op = sym e ∙ is in cc)) refl refl
   by_need (Need.Read a) e well found = elsewhere_sound (watched_need (Need.Read a) n now w) (λ c op is. (let bad : Need.Read a ≡ Channel c op = sym e ∙ is in cc)) refl refl
   by_need (Need.Write a v) e well found = elsewhere_sound (watched_need (Need.Write a v) n now w) (λ c op is. (let bad : Need.Write a v ≡ Channel c op = sym e ∙ is in cc)) refl refl
 
-  pub step_sound : IsAskedWell (need (processor_of n now)) now → (watched_need (need (processor_of n now)) n now w).findings ≡ [] → StepIsSound now n w (watched_need (need (processor_of n now)) n now w)
+  pub step_sound : AsksLawfulChannel (need (processor_of n now)) now → (watched_need (need (processor_of n now)) n now w).findings ≡ [] → StepIsSound now n w (watched_need (need (processor_of n now)) n now w)
   step_sound well found = by_need (need (processor_of n now)) refl well found

@@ -18,9 +18,9 @@ use Rattle.pp_machine.specs.Run.{run}
 use Rattle.pp_machine.specs.declared.answer.Answer.{Answer}
 use Rattle.pp_machine.specs.declared.need.Need.{Need}
 use Rattle.pp_machine.specs.declared.need.Need.TheVariants.{Channel}
-use Rattle.pp_run.specs.Determinacy.{Waits, IsTimely, IsTimelyOn, IsInTime, Stays, DoesTheSame, GoesOnAlone, WaitsForGood, MayFind, at_moment, processor_at, history_at, need_at}
+use Rattle.pp_run.specs.Determinacy.{Waits, IsRaceFree, IsRaceFreeOn, IsNoRaceAt, Stays, DoesTheSame, AdvancesAlone, WaitsForGood, MayFind, at_moment, processor_at, history_at, need_at}
 use Rattle.pp_races.specs.OnePass.IsChecked.{step_waits, step_elsewhere, step_looks, step_makes}
-use Rattle.pp_run.specs.Determinacy.MayFind.{start, channel_goes_on, processor_goes_on, both_go_on}
+use Rattle.pp_run.specs.Determinacy.MayFind.{start, channel_advances, processor_advances, both_advance}
 use Rattle.pp_races.specs.OtherFlags.{makes_none, shown_to}
 use Rattle.pp_races.specs.OnePass.{WaitsAt, DoesAsAt, NoneBetween, IsOpen, Passed, Watched, IsLook, IsEvent, IsChecked}
 use Rattle.pp_run.proofs.StepFacts.{event_by_need, history_here, history_elsewhere, history_unless}
@@ -99,7 +99,7 @@ module _ (ns : List ℕ) (m : MachineState) (each : length m.histories ≡ chann
 
   pub together : (q c t : ℕ) → MayFind ns m q c t t
   together q c zero = start
-  together q c (suc t) = both_go_on t (together q c t)
+  together q c (suc t) = both_advance t (together q c t)
 
   -- what may be found is found with none of its own events between
   none_found : (q c u s t : ℕ) → MayFind ns m q c u s → t ≤ s → NoneBetween ns m q c u t
@@ -112,13 +112,13 @@ module _ (ns : List ℕ) (m : MachineState) (each : length m.histories ≡ chann
   ]
 
   -- at the end each step that raced with none so far is timely
-  timely_at_end : (open_to : ℕ → ℕ → Flags → Bool) (u c : ℕ) (op : ChanOp) → u < length ns → Passed ns m (length ns) open_to u c op → IsTimelyOn ns m u c op
+  timely_at_end : (open_to : ℕ → ℕ → Flags → Bool) (u c : ℕ) (op : ChanOp) → u < length ns → Passed ns m (length ns) open_to u c op → IsRaceFreeOn ns m u c op
   timely_at_end open_to u c op within p = record { exists = p.exists; in_time = in_time }
     where
       q : ℕ
       q = get_or ns u 0
 
-      later : (s : ℕ) → MayFind ns m (get_or ns u 0) c u s → u < s → IsOpen ns m (length ns) open_to u c op → IsInTime ns m u c op (processor_at ns m (get_or ns u 0) u) s
+      later : (s : ℕ) → MayFind ns m (get_or ns u 0) c u s → u < s → IsOpen ns m (length ns) open_to u c op → IsNoRaceAt ns m u c op (processor_at ns m (get_or ns u 0) u) s
       later s may after is_open = elim (cases_lt s (length ns)) [
         | inl below ↦ inr (inl (is_open.so_far s (omega arith) (omega arith) (none_found (get_or ns u 0) c u s s may (omega arith))))
         | inr past ↦
@@ -127,7 +127,7 @@ module _ (ns : List ℕ) (m : MachineState) (each : length m.histories ≡ chann
             (is_open.so_far (length ns) (omega arith) (omega arith) (none_found (get_or ns u 0) c u s (length ns) may past))))
       ]
 
-      in_time : (s : ℕ) → MayFind ns m (get_or ns u 0) c u s → IsInTime ns m u c op (processor_at ns m (get_or ns u 0) u) s
+      in_time : (s : ℕ) → MayFind ns m (get_or ns u 0) c u s → IsNoRaceAt ns m u c op (processor_at ns m (get_or ns u 0) u) s
       in_time s may = elim (cases_order (length (history_at ns m c s)) (length (history_at ns m c u))) [
         | inl same ↦ inl (same_length c s u same)
         | inr different ↦ elim different [
@@ -144,7 +144,7 @@ module _ (ns : List ℕ) (m : MachineState) (each : length m.histories ≡ chann
         ]
       ]
 
-  pub watched_steps : (least : ℕ → ℕ → ℕ) (open_to : ℕ → ℕ → Flags → Bool) → Watched ns m (length ns) least open_to → (t : ℕ) → t < length ns → Waits (get_or ns t 0) (at_moment ns m t) ⊎ IsTimely ns m t
+  pub watched_steps : (least : ℕ → ℕ → ℕ) (open_to : ℕ → ℕ → Flags → Bool) → Watched ns m (length ns) least open_to → (t : ℕ) → t < length ns → Waits (get_or ns t 0) (at_moment ns m t) ⊎ IsRaceFree ns m t
   watched_steps least open_to w t h = elim (w.passed t h) [
     | inl waits ↦ inl waits
     | inr on ↦ inr (λ c op e. timely_at_end open_to t c op h (on c op e))
@@ -179,12 +179,12 @@ module _ (ns : List ℕ) (m : MachineState) (each : length m.histories ≡ chann
     passed = λ u h. absurd (omega arith);
   }
 
-  lower_next : (q c k : ℕ) (t s : ℕ) → MayFind ns m q c (suc t) s → ((r : ℕ) → MayFind ns m q c t r → GoesOnAlone ns m q c t r → k ≤ length (history_at ns m c r)) → k ≤ length (history_at ns m c (suc t)) → k ≤ length (history_at ns m c s)
-  lower_next q c k t s (channel_goes_on t2 s2 may none) alone end =
+  lower_next : (q c k : ℕ) (t s : ℕ) → MayFind ns m q c (suc t) s → ((r : ℕ) → MayFind ns m q c t r → AdvancesAlone ns m q c t r → k ≤ length (history_at ns m c r)) → k ≤ length (history_at ns m c (suc t)) → k ≤ length (history_at ns m c s)
+  lower_next q c k t s (channel_advances t2 s2 may none) alone end =
       let before = lower_next q c k t s2 may alone end in
       omega (arith, mono ns m each c s2 (suc s2) (omega arith))
-  lower_next q c k t s (processor_goes_on t2 s2 may goes) alone end = alone s2 may goes
-  lower_next q c k t s (both_go_on t2 may) alone end = end
+  lower_next q c k t s (processor_advances t2 s2 may goes) alone end = alone s2 may goes
+  lower_next q c k t s (both_advance t2 may) alone end = end
 
 -- One step more. It is given what the step may change, and what it is checked for.
 module _ (ns : List ℕ) (m : MachineState) (each : length m.histories ≡ channel_count) (t : ℕ) (within : t < length ns)
@@ -291,7 +291,7 @@ module _ (ns : List ℕ) (m : MachineState) (each : length m.histories ≡ chann
           subst (λ (j : ℕ). event_of oq (history_at ns m j t) ≡ None) parts.0 (subst (λ (o : ChanOp). event_of o (history_at ns m c t) ≡ None) parts.1 (none_made op (history_at ns m c t) l.none)))
 
       -- what is found with fewer events than the least waits, and the look does not
-      high : (s : ℕ) → MayFind ns m (get_or ns t 0) c t s → GoesOnAlone ns m (get_or ns t 0) c t s → length (history_at ns m c s) < new_least (get_or ns t 0) c → ⊥
+      high : (s : ℕ) → MayFind ns m (get_or ns t 0) c t s → AdvancesAlone ns m (get_or ns t 0) c t s → length (history_at ns m c s) < new_least (get_or ns t 0) c → ⊥
       high s may goes short =
           let p = length (history_at ns m c s) in
           let below : p < length (history_at ns m c t) = omega (arith, l.least_most) in
@@ -391,7 +391,7 @@ module _ (ns : List ℕ) (m : MachineState) (each : length m.histories ≡ chann
       elsewhere e off = ap (λ k. history_of e k) (moment_next ns m t within)
           ∙ history_elsewhere (get_or ns t 0) e c op (at_moment ns m t) (moment_each ns m each t) v.needs off
 
-      never : (s : ℕ) → GoesOnAlone ns m (get_or ns t 0) c t s → ⊥
+      never : (s : ℕ) → AdvancesAlone ns m (get_or ns t 0) c t s → ⊥
       never s goes = elim goes [
         | inl other ↦ other refl
         | inr on ↦ elim (on op v.needs) [

@@ -1,5 +1,5 @@
 -- A run that is watched as it goes: what is kept of it after each step, so that at its end it is
--- known whether it tells the result of every order. (Private contracts alone cite this.)
+-- known whether it determines the result of every order. (Private contracts alone cite this.)
 use Rattle.std.specs.Prelude.{◌≡◌, ℕ, suc, ◌+◌, ◌<◌, ◌≤◌, Bool, true, not, ◌||◌, IsTrue, List, length, take, None, Some, ◌++◌, ◌∷◌, [], ◌⊎◌, slice_index, ◌≢◌}
 use Rattle.pp_channel.specs.Answer.{event_of, flags_of, ready_at, only_looks, reply_shown}
 use Rattle.pp_channel.specs.ChannelNo.{names_channel}
@@ -14,12 +14,12 @@ use Rattle.pp_machine.specs.declared.need.Need.{Need}
 use Rattle.pp_run.specs.Determinacy.{Waits, Stays, DoesTheSame, MayFind, at_moment, processor_at, history_at, need_at}
 use Rattle.pp_races.specs.OtherFlags.{makes_none, shown_to}
 
--- where the channel has these flags, the processor waits
+-- if the channel has these flags, the processor waits
 pub record WaitsAt (op : ChanOp) (pp : Processor) (flags : Flags) : Type 0 where
   pub none : makes_none op flags ≡ true
   pub waits : shown_to op pp flags ≡ pp
 
--- where it has these flags, the processor does as where it has those
+-- if it has these flags, the processor does as if it had those
 pub record DoesAsAt (op : ChanOp) (pp : Processor) (flags then_flags : Flags) : Type 0 where
   pub none : makes_none op flags ≡ true
   pub alike : shown_to op pp flags ≡ shown_to op pp then_flags

@@ -15,7 +15,7 @@ use Rattle.pp_races.specs.declared.found.Found.TheVariants.{Alike, Waits, Races}
 abbrev pub makes_none : ChanOp → Flags → Bool
 makes_none op flags = only_looks op || not (ready_at op flags)
 
--- a processor after its operation on a channel with these flags, where it makes no event
+-- a processor after its operation on a channel with these flags, if it makes no event
 abbrev pub shown_to : ChanOp → Processor → Flags → Processor
 shown_to op pp flags =
     processor_after pp (Answer.Channel (reply_shown op (record { flags = flags; register = None })))
@@ -33,7 +33,7 @@ is_same one other =
 abbrev pub position_at : ChanOp → Processor → Flags → Position
 position_at op pp flags = position_of (shown_to op pp flags)
 
--- where the channel has these flags, the processor waits: it makes no event, and stays as it is
+-- if the channel has these flags, the processor waits: it makes no event, and stays as it is
 abbrev pub waits_at : ChanOp → Processor → Flags → Bool
 waits_at op pp flags = makes_none op flags && is_same (position_at op pp flags) (position_of pp)
 

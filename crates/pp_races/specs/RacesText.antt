@@ -4,8 +4,8 @@ use Rattle.std.specs.List.{list_all}
 use Rattle.pp_machine.specs.MachineState.{MachineState}
 use Rattle.pp_machine.specs.PpNo.{processor_count, processor_number}
 use Rattle.pp_machine.specs.declared.trace.Trace.{Trace}
-use Rattle.pp_listing.specs.InstructionText.{running_text}
-use Rattle.pp_listing.specs.ListedLine.{padded}
+use Rattle.pp_text.specs.InstructionText.{running_text}
+use Rattle.pp_text.specs.PrintedText.{padded}
 use Rattle.pp_text.specs.Numeral.{decimal, octal}
 use Rattle.pp_text.specs.PrintedText.{event_text, line_end}
 use Rattle.pp_races.specs.Findings.{findings}

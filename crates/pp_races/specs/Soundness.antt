@@ -1,4 +1,4 @@
--- What a watch in which nothing is found tells of the run. (Private contracts alone cite this.)
+-- What a watch in which nothing is found says of the run. (Private contracts alone cite this.)
 use Rattle.std.specs.Prelude.{◌≡◌, ℕ, ◌+◌, ◌-◌, ◌<◌, ◌≤◌, Bool, true, IsTrue, List, [], is_none, length, slice_index, slice_index_or, take, if◌then◌else◌}
 use Rattle.pp_channel.specs.Answer.{flags_of}
 use Rattle.pp_channel.specs.ChannelNo.{names_channel}
@@ -30,10 +30,10 @@ abbrev pub open_of : Watch → ℕ → ℕ → Flags → Bool
 open_of w q c f = if names_processor q then is_none (w.looks q c f) else true
 
 -- a step asks a channel that exists, and whose history is lawful
-abbrev pub IsAskedWell : Need → MachineState → Type 0
-IsAskedWell (Need.Channel c op) m =
+abbrev pub AsksLawfulChannel : Need → MachineState → Type 0
+AsksLawfulChannel (Need.Channel c op) m =
     IsTrue (names_channel c) × IsLawful (history_of c m) × HasTwelveBitWords (history_of c m)
-IsAskedWell other m = Unit {0}
+AsksLawfulChannel other m = Unit {0}
 
 -- after t steps
 pub record IsSound (ns : List ℕ) (m : MachineState) (t : ℕ) (w : Watch) : Type 0 where
@@ -43,6 +43,7 @@ pub record IsSound (ns : List ℕ) (m : MachineState) (t : ℕ) (w : Watch) : Ty
   pub wrote : (u a : ℕ) → u < t → WritesAt a (need_at ns m u) → w.wrote a (slice_index ns u) ≡ true
 
 -- each processor that turns in place stays as it is
-abbrev pub TurnsWell : MachineState → ℕ → Type 0
-TurnsWell m q = need (processor_of q m) ≡ Need.Local → turns_in_place (processor_of q m) ≡ true
+abbrev pub TurnTestIsExact : MachineState → ℕ → Type 0
+TurnTestIsExact m q =
+    need (processor_of q m) ≡ Need.Local → turns_in_place (processor_of q m) ≡ true
     → processor_after (processor_of q m) Answer.Local ≡ processor_of q m

@@ -16,7 +16,7 @@ use Rattle.pp_races.specs.declared.span.Span.{Span}
 abbrev pub no_span : Span
 no_span = record { found = no_flags; last = None }
 
--- the flags of a channel after a span, where they were these before it
+-- the flags of a channel after a span, if they were these before it
 abbrev pub flags_past : Option Flags → Flags → Flags
 flags_past None flags = flags
 flags_past (Some last) flags = last

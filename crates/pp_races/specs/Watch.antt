@@ -1,6 +1,5 @@
--- What is kept of a run as it goes, to find the steps that race with others. Of each channel, a
--- processor may find what it has not yet seen of it: the channel as it stood before each event that
--- was made since, by others.
+-- What is kept of a run as it goes, to find the steps that may race with others: of each processor
+-- and channel the events of others that it may not have seen yet, each with the flags before it.
 use Rattle.std.specs.Prelude.{ℕ, zero, suc, Bool, true, false, not, ◌||◌, ◌&&◌, ◌==◌, List, [], ◌∷◌, ◌++◌, Option, Some, None, is_some, find, option_map, if◌then◌else◌}
 use Rattle.std.specs.Option.{option_or}
 use Rattle.pp_word.specs.Address.{next_place}
@@ -65,7 +64,7 @@ asking_step n c m =
       block = pp.block;
     }
 
--- the first event before which the step would have raced, where it would at some flags
+-- the first of these events at whose flags the step would race
 abbrev pub first_race : (Flags → Bool) → List Missed → Option Trace
 first_race races missed = option_map (λ (e : Missed). e.entry) (find (λ e. races e.found) missed)
 
@@ -109,7 +108,7 @@ each_below (suc k) of = each_below k of ++ of k
 abbrev pub each_number : {X : Type 0} → (ℕ → List X) → List X
 each_number of = each_below processor_count (λ place. of (processor_number place))
 
--- its entry in the trace, where the next step of processor n makes an event on channel c
+-- its entry in the trace, if the next step of processor n makes this event on channel c
 abbrev pub entry_of : ℕ → ℕ → Event → MachineState → Trace
 entry_of n c event m = record { turn = m.turns; pp = n; channel = c; event = event }
 

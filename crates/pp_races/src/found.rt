@@ -1,4 +1,4 @@
-//! What an operation would have done where it might have found its channel otherwise.
+//! What an operation would have done, had it found its channel otherwise.
 
 ghost use Rattle.std.specs.Prelude.{◌≡◌, ℕ, not};
 ghost use Rattle.pp_channel.specs.declared.flags.Flags.{Flags};
@@ -13,7 +13,7 @@ use pp_channel::{ChanOp, ChannelNo, Flags};
 use pp_machine::Pp;
 
 /// What an operation that made no event would have done at other flags.
-#[derive(Clone, Copy, Debug, PartialEq, Eq)]
+#[derive(Clone, Copy)]
 pub(crate) enum Found {
     /// The same.
     Alike,

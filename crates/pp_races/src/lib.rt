@@ -1,5 +1,5 @@
-//! The races of a run: whether it tells the result of every order of steps, and if not, which of
-//! its steps race with which events.
+//! The races of a run: whether it determines the result of every order of steps, and if it may not,
+//! which of its steps may race with which events.
 #![tactic(auto)]
 
 mod asking_step;

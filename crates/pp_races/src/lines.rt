@@ -12,8 +12,7 @@ use crate::asking_step::AskingStep;
 use crate::finding::Finding;
 use pp_channel::Event;
 use pp_machine::{PROCESSORS, PpNo, Trace};
-use pp_state::running_field;
-use pp_text::{Piece, channel_name, octal4, octal6, processor_name, push_decimal};
+use pp_text::{Piece, channel_name, octal4, octal6, processor_name, push_decimal, running_field};
 
 /// Adds the line of a finding and a line feed.
 #[tactic(auto, unfolding(crate::specs::RacesText::finding_line))]
@@ -98,7 +97,7 @@ fn push_processors(line: &mut Piece, flags: &[bool; PROCESSORS])
     }
 }
 
-/// Adds the name of a processor, with a comma before it where others were named.
+/// Adds the name of a processor, with a comma before it if others were named.
 fn push_name(line: &mut Piece, named: u32, n: PpNo)
     requires { HasRoom 5 line.old }
     ensures text { line.new ≡ line.old ++ ((if nat_lt 0 named then codes "," else []) ++ codes "PP"

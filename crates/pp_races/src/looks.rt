@@ -71,7 +71,7 @@ impl Looks {
     }
 }
 
-/// The first of two looks, where the second counts unless it would have done the same.
+/// The first of two looks; the second counts unless it would have done the same.
 fn kept(first: &Option<AskingStep>, is_alike: bool, step: &AskingStep) -> Option<AskingStep>
     ensures { result ≡ option_or first.now (if is_alike then None else Some step.now) }
 {

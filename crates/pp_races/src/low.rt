@@ -44,8 +44,8 @@ impl Low {
     }
 
     /// The first place from here on where the channel had one of these flags; the end of the trace,
-    /// where there is none. Places are passed over once: where the channel had one of them here, or
-    /// no event of it follows, this place serves.
+    /// if there is none. Places are passed over once: if the channel had one of them here, or no
+    /// event of it follows, this place serves.
     #[tactic(auto, using(crate::proofs::LowLemmas::alike_here))]
     pub(crate) fn from_alike<A: Allocator>(
         &self,
@@ -68,7 +68,7 @@ impl Low {
     }
 
     /// The place, from here on, of the first event that found one of a set of flags; the end of the
-    /// trace, where none did. Spans of the trace in which none did are passed over.
+    /// trace, if none did. Spans of the trace in which none did are passed over.
     fn search<A: Allocator>(
         &self,
         trace: &[Trace],

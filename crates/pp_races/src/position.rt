@@ -13,7 +13,7 @@ use pp_machine::{Block, BlockKind, Pp};
 use pp_word::{Opcode, Word12, decode, next};
 
 /// Where a processor is: its P, and whether it is in a block.
-#[derive(Clone, Copy, Debug, PartialEq, Eq)]
+#[derive(Clone, Copy)]
 pub(crate) struct Position {
     pub(crate) p: Word12,
     pub(crate) in_block: bool,
@@ -30,8 +30,8 @@ impl Position {
         }
     }
 
-    /// That of a processor after its operation on a channel with these flags, where it makes no
-    /// event. The processor itself is not copied.
+    /// That of a processor after its operation on a channel with these flags, if it makes no event.
+    /// The processor itself is not copied.
     #[tactic(auto, using(crate::proofs::PositionAt::shown_position))]
     pub(crate) fn at(pp: &Pp, c: ChannelNo, op: &ChanOp, flags: Flags) -> Position
         requires { need pp.now ≡ Need.Channel c op.now }
@@ -91,7 +91,7 @@ fn tests_flags(operation: Opcode, flags: Flags) -> bool
     }
 }
 
-/// After an operation that is held: a block ends where its channel is inactive.
+/// After an operation that is held: a block ends if its channel is inactive.
 fn held(pp: &Pp, flags: Flags) -> Position
     ensures { result ≡ held_position pp.now.block pp.now flags }
 {
@@ -137,7 +137,7 @@ pub(crate) fn makes_none(op: &ChanOp, flags: Flags) -> bool
     }
 }
 
-/// Whether a processor waits where its channel has these flags.
+/// Whether a processor waits if its channel has these flags.
 pub(crate) fn waits_at(pp: &Pp, c: ChannelNo, op: &ChanOp, flags: Flags) -> bool
     requires { need pp.now ≡ Need.Channel c op.now }
     ensures { result ≡ waits_at op.now pp.now flags }

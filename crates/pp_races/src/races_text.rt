@@ -20,10 +20,10 @@ use pp_text::{ReportFault, TextWriter};
 use std::alloc::Allocator;
 use std::io::Write;
 
-/// Runs this many turns of the barrel from its first processor on, and writes the steps that race
+/// Runs `turns` turns of the barrel from its first processor on, and writes the steps that may race
 /// with others, the processors that are not settled at the end, the central words that one
-/// processor wrote and another used, and what they come to; and flushes the writer. Where nothing
-/// is found, the run tells the result of every order of steps.
+/// processor wrote and another used, and what they come to; and flushes the writer. If nothing is
+/// found, the run determines the result of every order of steps.
 ///
 /// The lines go out as they come. Memory is asked for before the first of them, for these numbers
 /// of events, by the places of the channels: a run that makes no more asks for none later, as tests

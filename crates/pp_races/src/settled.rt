@@ -8,7 +8,7 @@ ghost use Rattle.pp_machine.specs.declared.answer.Answer.{Answer};
 ghost use Rattle.pp_machine.specs.PpNo.{names_processor};
 ghost use Rattle.pp_machine.specs.declared.need.Need.{Need};
 ghost use Rattle.pp_races.specs.Findings.{end_by_need, end_of, is_running, same_profile, same_words, stays_running, turns_in_place};
-ghost use Rattle.pp_races.specs.Soundness.{TurnsWell};
+ghost use Rattle.pp_races.specs.Soundness.{TurnTestIsExact};
 ghost use Rattle.pp_races.specs.Spans.{IsIndex};
 ghost use Rattle.pp_races.specs.Tables.{entry_count, AreLow};
 ghost use Rattle.pp_races.specs.Watch.{Watch, each_number};
@@ -133,7 +133,7 @@ fn find_end<A: Allocator>(
     requires low { length low.now ≡ entry_count }
     ensures found { OnOk result ((w : Watch) → AreLow machine.now w low.now
         → findings.new.items ≡ findings.old.items ++ end_of machine.now w n) }
-    ensures turns { OnOk result (TurnsWell machine.now n) }
+    ensures turns { OnOk result (TurnTestIsExact machine.now n) }
 {
     let pp = machine.pp(n);
     match pp.wants() {
@@ -159,7 +159,8 @@ pub(crate) fn find_unsettled<A: Allocator>(
     requires low { length low.now ≡ entry_count }
     ensures found { OnOk result ((w : Watch) → AreLow machine.now w low.now
         → findings.new.items ≡ findings.old.items ++ each_number (end_of machine.now w)) }
-    ensures turns { OnOk result ((q : ℕ) → IsTrue (names_processor q) → TurnsWell machine.now q) }
+    ensures turns { OnOk result ((q : ℕ) → IsTrue (names_processor q)
+        → TurnTestIsExact machine.now q) }
 {
     for place in 0..PROCESSORS {
         find_end(machine, PpNo::at(place), index, low, findings)?;

@@ -46,8 +46,8 @@ impl Span {
         }
     }
 
-    /// The flags after the span, where they were these before it, and no event in it found one of
-    /// the set.
+    /// The flags after the span, if they were these before it, and no event in it found one of the
+    /// set.
     pub(crate) fn pass(&self, flags: Flags, set: &FlagSet) -> Option<Flags>
         ensures { (c : ℕ) (events : List Trace) → IsSpan c events self.now → IfSome result (λ after.
             (from_alike (has set.now) (missed_from c flags events) ≡ [])

@@ -28,7 +28,7 @@ pub(crate) struct TraceIndex<A: Allocator> {
 }
 
 impl<A: Allocator> TraceIndex<A> {
-    /// That of this trace, with room for so many more events.
+    /// That of this trace, with room for `events` more.
     pub(crate) fn of(alloc: A, trace: &[Trace], events: usize) -> Result<TraceIndex<A>, Memory>
     where
         A: Copy,
@@ -97,7 +97,7 @@ impl<A: Allocator> TraceIndex<A> {
     }
 }
 
-/// Takes in an event that follows this trace, where spans have this length.
+/// Takes in an event that follows this trace; spans have the length `size`.
 #[inline(always)]
 fn push_event<A: Allocator>(
     rows: &mut Vec<[Span; CHANNELS], A>,

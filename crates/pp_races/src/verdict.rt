@@ -9,7 +9,7 @@ use crate::finding::Finding;
 /// What findings come to.
 #[derive(Clone, Copy)]
 pub enum Verdict {
-    /// There is none: the run tells the result of every order of steps.
+    /// There is none: the run determines the result of every order of steps.
     Same,
     /// No step races with another so far, but a processor goes on.
     NoRaceSoFar,

@@ -10,7 +10,7 @@ ghost use Rattle.pp_machine.specs.NeedAndEffect.{need};
 ghost use Rattle.pp_machine.specs.PpNo.{names_processor};
 ghost use Rattle.pp_machine.specs.declared.need.Need.{Need};
 ghost use Rattle.pp_races.specs.OtherFlags.{waits_at};
-ghost use Rattle.pp_races.specs.Soundness.{IsAskedWell};
+ghost use Rattle.pp_races.specs.Soundness.{AsksLawfulChannel};
 ghost use Rattle.pp_races.specs.Spans.{IsIndex};
 ghost use Rattle.pp_races.specs.Tables.{entry_count, entry_place, closing_findings, looks_after_event, looks_of, AreClosed, AreUses, AreWatched};
 ghost use Rattle.pp_races.specs.Watch.{Watch, asked, each_number, looked, made, race_after, race_before, watched_need};
@@ -29,7 +29,8 @@ use pp_word::{Word18, Word60};
 use std::alloc::Allocator;
 
 /// The place of the entry of a processor and a channel.
-#[tactic(auto, using(pp_machine::specs::ProcessorPlaces::named_below, pp_channel::specs::ChannelPlaces::named_below))]
+#[tactic(auto, using(pp_machine::specs::ProcessorPlaces::named_below, // places
+pp_channel::specs::ChannelPlaces::named_below))]
 pub(crate) fn entry_place(n: PpNo, c: ChannelNo) -> usize
     ensures place { result ≡ entry_place n c }
     ensures within { result < entry_count }
@@ -201,7 +202,7 @@ fn take_asked<A: Allocator>(
         index.old.long.items }
     requires low { length low.old ≡ entry_count }
     requires looks { length looks.old ≡ entry_count }
-    ensures sound { IsAskedWell (Need.Channel c op.now) machine.now }
+    ensures sound { AsksLawfulChannel (Need.Channel c op.now) machine.now }
     ensures index { OnOk result (IsIndex (stepped n machine.now).trace
         index.new.latest index.new.short.items index.new.long.items) }
     ensures watched { OnOk result ((w : Watch)
@@ -238,7 +239,7 @@ pub(crate) fn take_step<A: Allocator>(
         index.old.long.items }
     requires low { length low.old ≡ entry_count }
     requires looks { length looks.old ≡ entry_count }
-    ensures sound { IsAskedWell asked.now machine.now }
+    ensures sound { AsksLawfulChannel asked.now machine.now }
     ensures index { OnOk result (IsIndex (stepped n machine.now).trace
         index.new.latest index.new.short.items index.new.long.items) }
     ensures watched { OnOk result ((w : Watch)

@@ -25,7 +25,7 @@ pub(crate) struct WatchTables<A: Allocator> {
 }
 
 impl<A: Allocator> WatchTables<A> {
-    /// Those before the first step, with room for so many more events.
+    /// Those before the first step, with room for `events` events.
     pub(crate) fn of(alloc: A, machine: &Machine<A>, events: usize) -> Result<Self, Memory>
     where
         A: Copy,

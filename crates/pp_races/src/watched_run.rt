@@ -19,7 +19,7 @@ use pp_text::{Piece, TextWriter};
 use std::alloc::Allocator;
 use std::io::Write;
 
-/// Runs this many turns of the barrel, each of which is taken in before it is made, and prints what
+/// Runs `turns` turns of the barrel, each of which is taken in before it is made, and prints what
 /// is found of each, and at the end; then it answers what the findings come to. Refused memory, it
 /// answers what those come to that are printed.
 pub(crate) fn print_run<A: Allocator, W: Write>(

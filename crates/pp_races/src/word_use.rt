@@ -7,7 +7,7 @@ ghost use Rattle.pp_races.specs.Tables.{has_bit, unused};
 use pp_machine::PpNo;
 
 /// Who used a central word so far: a bit for each processor, by its place.
-#[derive(Clone, Copy, Debug, PartialEq, Eq)]
+#[derive(Clone, Copy)]
 pub(crate) struct WordUse {
     pub(crate) writers: u32,
     pub(crate) users: u32,

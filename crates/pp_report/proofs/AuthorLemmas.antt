@@ -11,31 +11,31 @@ use Rattle.pp_channel.specs.History.{history_on}
 use Rattle.pp_channel.specs.declared.event.Event.{Event}
 use Rattle.pp_machine.specs.PpNo.{processor_count, processor_number}
 use Rattle.pp_runner.specs.declared.worker.Worker.{Worker}
-use Rattle.pp_report.specs.Authors.{AreAuthors, AreAuthorsOn, or_told}
+use Rattle.pp_report.specs.Authors.{AreAuthors, AreAuthorsOn, or_known}
 use Rattle.pp_report.specs.PrintedReport.{author_place, channel_events, numbered_event_line}
 
 -- where the first does not pass, the search goes on behind it
-seek_on : (passes : Bool) (i j : ℕ) (more rest : Option ℕ) (last : Bool) → more ≡ or_told rest last j
-    → cond passes (Some i) more ≡ or_told (cond passes (Some i) rest) last j
+seek_on : (passes : Bool) (i j : ℕ) (more rest : Option ℕ) (last : Bool) → more ≡ or_known rest last j
+    → cond passes (Some i) more ≡ or_known (cond passes (Some i) rest) last j
 seek_on true i j more rest last e = refl
 seek_on false i j more rest last e = e
 
-last_only : (passes : Bool) (i j : ℕ) → i ≡ j → cond passes (Some i) None ≡ or_told None passes j
+last_only : (passes : Bool) (i j : ℕ) → i ≡ j → cond passes (Some i) None ≡ or_known None passes j
 last_only true i j e = ap Some e
 last_only false i j e = refl
 
 module _ {X : Type 0} (test : X → Bool) where
-  from_push : (i : ℕ) (xs : List X) (y : X) → position_from test i (xs ++ y ∷ []) ≡ or_told (position_from test i xs) (test y) (i + length xs)
+  from_push : (i : ℕ) (xs : List X) (y : X) → position_from test i (xs ++ y ∷ []) ≡ or_known (position_from test i xs) (test y) (i + length xs)
   from_push i [] y = last_only (test y) i (i + 0) (omega arith)
   from_push i (x ∷ xs) y = seek_on (test x) i (i + length (x ∷ xs)) _ (position_from test (i + 1) xs) (test y)
-      (from_push (i + 1) xs y ∙ ap (or_told (position_from test (i + 1) xs) (test y)) (omega arith))
+      (from_push (i + 1) xs y ∙ ap (or_known (position_from test (i + 1) xs) (test y)) (omega arith))
 
   -- the first place that passes, with one element more
-  pub position_push : (xs : List X) (y : X) → position test (xs ++ y ∷ []) ≡ or_told (position test xs) (test y) (length xs)
+  pub position_push : (xs : List X) (y : X) → position test (xs ++ y ∷ []) ≡ or_known (position test xs) (test y) (length xs)
   position_push xs y = position_from-zero test (xs ++ y ∷ []) ∙ (from_push 0 xs y
-      ∙ (ap (or_told (position_from test 0 xs) (test y)) (omega arith) ∙ ap (λ first. or_told first (test y) (length xs)) (sym (position_from-zero test xs))))
+      ∙ (ap (or_known (position_from test 0 xs) (test y)) (omega arith) ∙ ap (λ first. or_known first (test y) (length xs)) (sym (position_from-zero test xs))))
 
-or_told_map : (f : ℕ → ℕ) (known : Option ℕ) (told : Bool) (author : ℕ) → option_map f (or_told known told author) ≡ or_told (option_map f known) told (f author)
+or_told_map : (f : ℕ → ℕ) (known : Option ℕ) (told : Bool) (author : ℕ) → option_map f (or_known known told author) ≡ or_known (option_map f known) told (f author)
 or_told_map f (Some n) told author = refl
 or_told_map f None true author = refl
 or_told_map f None false author = refl
@@ -44,17 +44,17 @@ or_told_map f None false author = refl
 pub author_push : {Z : Type 0} (c number place : ℕ) (workers : List (Worker Z)) (worker : Worker Z) (before after : Option ℕ) (author : ℕ)
     → place < length workers → length workers ≤ processor_count → worker ≡ slice_index_or workers place worker → author ≡ processor_number place
     → before ≡ option_map processor_number (author_place c (take place workers) number)
-    → after ≡ or_told before (nat_lt 0 (times_logged c number worker.log.items)) author
+    → after ≡ or_known before (nat_lt 0 (times_logged c number worker.log.items)) author
     → after ≡ option_map processor_number (author_place c (take (place + 1) workers) number)
 author_push {Z} c number place workers worker before after author l few at by was now =
     let test : Worker Z → Bool = λ w. nat_lt 0 (times_logged c number w.log.items) in
     let more : take (place + 1) workers ≡ take place workers ++ worker ∷ [] =
     ap (λ n. take n workers) (add-one place) ∙ take-suc workers place worker l ∙ ap (λ w. take place workers ++ w ∷ []) (sym at) in
-    let found : author_place c (take (place + 1) workers) number ≡ or_told (author_place c (take place workers) number) (test worker) place =
+    let found : author_place c (take (place + 1) workers) number ≡ or_known (author_place c (take place workers) number) (test worker) place =
     ap (position test) more ∙ (position_push test (take place workers) worker
-    ∙ ap (or_told (position test (take place workers)) (test worker)) (length-take-le place workers (omega arith))) in
+    ∙ ap (or_known (position test (take place workers)) (test worker)) (length-take-le place workers (omega arith))) in
     let same : author ≡ processor_number place = by in
-    now ∙ (ap (λ known. or_told known (test worker) author) was ∙ (ap (or_told (option_map processor_number (author_place c (take place workers) number)) (test worker)) same
+    now ∙ (ap (λ known. or_known known (test worker) author) was ∙ (ap (or_known (option_map processor_number (author_place c (take place workers) number)) (test worker)) same
     ∙ (sym (or_told_map processor_number (author_place c (take place workers) number) (test worker) place) ∙ sym (ap (option_map processor_number) found))))
 
 -- the lines of one channel's events, where it is the channel of this number

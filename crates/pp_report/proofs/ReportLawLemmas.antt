@@ -27,8 +27,8 @@ use Rattle.pp_runner.specs.declared.worker.Worker.{Worker}
 use Rattle.pp_text.specs.Numeral.{decimal, digits, octal, unpadded}
 use Rattle.pp_report.specs.PrintedReport.{author_place, channel_events, end_text, line_by, named_worker_line, numbered_event_line, printed_report, worker_line}
 use Rattle.pp_text.specs.PrintedText.{channel_text, each_below, event_text, line_end, processor_line, used_channel_line}
-use Rattle.pp_report.specs.ReportLaw.{AgreeOnReport, FitsItsEnd, FitsItsLine, FitsItsReport, ShownEnd, ToldEvent, end_of, shown_end, shown_of, told_by, told_events, told_of}
-use Rattle.pp_text.specs.TextLaw.{IsListed, IsToldAlike}
+use Rattle.pp_report.specs.ReportLaw.{AgreeOnReport, FitsItsEnd, FitsItsLine, FitsItsReport, ShownEnd, PrintedEvent, end_of, shown_end, shown_of, printed_by, told_events, printed_on}
+use Rattle.pp_text.specs.TextLaw.{HistoryFits, ShowSameChannel}
 use Rattle.pp_report.proofs.AuthorLawLemmas.{only_openings}
 use Rattle.pp_report.proofs.EventLineLemmas.{enumerate_push}
 use Rattle.pp_text.proofs.HistoryLawLemmas.{one_history}
@@ -37,26 +37,26 @@ use Rattle.pp_text.proofs.TextLawLemmas.{both_used, is_used, Above, above-append
 -- ---- the line of an event
 
 -- what it says after the number
-told_tail : ToldEvent → List ℕ
+told_tail : PrintedEvent → List ℕ
 told_tail t = codes "PP" ++ (octal 2 t.author ++ (codes " " ++ event_text t.event))
 
-told_body : ℕ → ToldEvent → List ℕ
+told_body : ℕ → PrintedEvent → List ℕ
 told_body c t = codes "CH" ++ (octal 2 c ++ (codes " " ++ (decimal t.number ++ (codes " PP" ++ (octal 2 t.author ++ (codes " " ++ event_text t.event))))))
 
-told_alike : (t u : ToldEvent) → t.number ≡ u.number → t.author ≡ u.author → t.event ≡ u.event → t ≡ u
+told_alike : (t u : PrintedEvent) → t.number ≡ u.number → t.author ≡ u.author → t.event ≡ u.event → t ≡ u
 told_alike t u number author event =
     ap (λ n. record t { number = n }) number
     ∙ (ap (λ n. record t { number = u.number; author = n }) author
     ∙ ap (λ x. record t { number = u.number; author = u.author; event = x }) event)
 
-same_told_tail : (t u : ToldEvent) → FitsItsLine t → FitsItsLine u → told_tail t ≡ told_tail u → (t.author ≡ u.author) × (t.event ≡ u.event)
+same_told_tail : (t u : PrintedEvent) → FitsItsLine t → FitsItsLine u → told_tail t ≡ told_tail u → (t.author ≡ u.author) × (t.event ≡ u.event)
 unfolding told_tail
 same_told_tail t u fits also e = (
   octal_tells 2 t.author u.author (processor_places.number_fits t.author fits.author) (processor_places.number_fits u.author also.author) (ap (λ l. take 2 (drop 2 l)) e),
   same_event t.event u.event fits.word also.word (ap (drop 5) e),
 )
 
-same_told : (c : ℕ) (t u : ToldEvent) → FitsItsLine t → FitsItsLine u → told_body c t ≡ told_body c u → t ≡ u
+same_told : (c : ℕ) (t u : PrintedEvent) → FitsItsLine t → FitsItsLine u → told_body c t ≡ told_body c u → t ≡ u
 unfolding told_body told_tail
 same_told c t u fits also e =
     let rest : decimal t.number ++ (codes " " ++ told_tail t) ≡ decimal u.number ++ (codes " " ++ told_tail u) = ap (drop 5) e in
@@ -65,7 +65,7 @@ same_told c t u fits also e =
     let tail = same_told_tail t u fits also both.1 in
     told_alike t u (decimal_tells t.number u.number fits.number also.number both.0) tail.0 tail.1
 
-same_tellings : (c : ℕ) (ts us : List ToldEvent) → All FitsItsLine ts → All FitsItsLine us → map (told_body c) ts ≡ map (told_body c) us → ts ≡ us
+same_tellings : (c : ℕ) (ts us : List PrintedEvent) → All FitsItsLine ts → All FitsItsLine us → map (told_body c) ts ≡ map (told_body c) us → ts ≡ us
 same_tellings c [] [] _ _ e = refl
 same_tellings c [] (u ∷ us) _ _ e = absurd cc
 same_tellings c (t ∷ ts) [] _ _ e = absurd cc
@@ -77,7 +77,7 @@ same_tellings c (t ∷ ts) (u ∷ us) fits also e =
 
 -- the lines of events told
 in_lines : {Z : Type 0} → ℕ → List (Worker Z) → List (ℕ × Event) → List (List ℕ)
-in_lines {Z} c workers numbered = map (told_body c) (filter_map (λ ((number, event) : ℕ × Event). told_by number event (author_place c workers number)) numbered)
+in_lines {Z} c workers numbered = map (told_body c) (filter_map (λ ((number, event) : ℕ × Event). printed_by number event (author_place c workers number)) numbered)
 
 -- parts of a line, one after another
 joined : (d p o s e l : List ℕ) → ((((d ++ p) ++ o) ++ s) ++ e) ++ l ≡ (d ++ (p ++ (o ++ (s ++ e)))) ++ l
@@ -87,18 +87,18 @@ line_is : (c number place : ℕ) (event : Event) → line_by c number event (Som
 unfolding told_body told_tail
 line_is c number place event = ap (λ rest. codes "CH" ++ (octal 2 c ++ (codes " " ++ rest))) (joined (decimal number) (codes " PP") (octal 2 (processor_number place)) (codes " ") (event_text event) line_end)
 
-line_told : (c number : ℕ) (event : Event) (author : Option ℕ) (more : List ToldEvent) (text : List ℕ) → text ≡ unlines (map (told_body c) more)
-    → line_by c number event author ++ text ≡ unlines (map (told_body c) (cons_option (told_by number event author) more))
+line_told : (c number : ℕ) (event : Event) (author : Option ℕ) (more : List PrintedEvent) (text : List ℕ) → text ≡ unlines (map (told_body c) more)
+    → line_by c number event author ++ text ≡ unlines (map (told_body c) (cons_option (printed_by number event author) more))
 line_told c number event None more text is = is
 line_told c number event (Some place) more text is =
-    let t : ToldEvent = record { number = number; author = processor_number place; event = event } in
+    let t : PrintedEvent = record { number = number; author = processor_number place; event = event } in
     ap (λ l. l ++ text) (line_is c number place event) ∙ ap (λ m. (told_body c t ++ line_end) ++ m) is
 
 events_in_lines : {Z : Type 0} (c : ℕ) (workers : List (Worker Z)) (numbered : List (ℕ × Event)) → flat_map (numbered_event_line c workers) numbered ≡ unlines (in_lines c workers numbered)
 unfolding numbered_event_line in_lines
 events_in_lines {Z} c workers [] = refl
 events_in_lines {Z} c workers ((number, event) ∷ more) =
-    line_told c number event (author_place c workers number) (filter_map (λ ((n, e) : ℕ × Event). told_by n e (author_place c workers n)) more) (flat_map (numbered_event_line c workers) more)
+    line_told c number event (author_place c workers number) (filter_map (λ ((n, e) : ℕ × Event). printed_by n e (author_place c workers n)) more) (flat_map (numbered_event_line c workers) more)
     (events_in_lines c workers more)
 
 -- ---- whose lines they are
@@ -110,23 +110,23 @@ is_told c l = nat_lt (get_or l 5 0) 58 && is_of 67 c l
 is_state : ℕ → List ℕ → Bool
 is_state c l = nat_lt 58 (get_or l 5 0) && is_of 67 c l
 
-all_kept : (p : List ℕ → Bool) (c : ℕ) (ts : List ToldEvent) → ((t : ToldEvent) → p (told_body c t) ≡ true) → filter p (map (told_body c) ts) ≡ map (told_body c) ts
+all_kept : (p : List ℕ → Bool) (c : ℕ) (ts : List PrintedEvent) → ((t : PrintedEvent) → p (told_body c t) ≡ true) → filter p (map (told_body c) ts) ≡ map (told_body c) ts
 all_kept p c [] each = refl
 all_kept p c (t ∷ ts) each =
     ap (λ (b : Bool). if b then told_body c t ∷ filter p (map (told_body c) ts) else filter p (map (told_body c) ts)) (each t) ∙ ap (λ more. told_body c t ∷ more) (all_kept p c ts each)
 
-all_left_out : (p : List ℕ → Bool) (c : ℕ) (ts : List ToldEvent) → ((t : ToldEvent) → p (told_body c t) ≡ false) → filter p (map (told_body c) ts) ≡ []
+all_left_out : (p : List ℕ → Bool) (c : ℕ) (ts : List PrintedEvent) → ((t : PrintedEvent) → p (told_body c t) ≡ false) → filter p (map (told_body c) ts) ≡ []
 all_left_out p c [] each = refl
 all_left_out p c (t ∷ ts) each =
     ap (λ (b : Bool). if b then told_body c t ∷ filter p (map (told_body c) ts) else filter p (map (told_body c) ts)) (each t) ∙ all_left_out p c ts each
 
-digit_at_five : (c : ℕ) (t : ToldEvent) → get_or (told_body c t) 5 0 < 58
+digit_at_five : (c : ℕ) (t : PrintedEvent) → get_or (told_body c t) 5 0 < 58
 unfolding told_body told_tail decimal
 digit_at_five c t =
     subst (λ text. get_or text 0 0 < 58) (sym (append_assoc (unpadded 14 (t.number / 10 ^ 6)) (digits 10 6 (t.number % 10 ^ 6)) (codes " " ++ told_tail t)))
     (first_digit 14 (t.number / 10 ^ 6) (digits 10 6 (t.number % 10 ^ 6) ++ (codes " " ++ told_tail t)) (omega arith))
 
-told_heading : (c : ℕ) (t : ToldEvent) → c < 0o100 → heading (told_body c t) ≡ 432 + c
+told_heading : (c : ℕ) (t : PrintedEvent) → c < 0o100 → heading (told_body c t) ≡ 432 + c
 unfolding told_body heading
 told_heading c t within = omega (arith, within)
 
@@ -164,7 +164,7 @@ events_said {Z} workers histories c = by_case (names_channel c) (events_in_lines
     by_case true is = is
     by_case false is = refl
 
-told_first : (c : ℕ) (t : ToldEvent) → get_or (told_body c t) 0 0 ≡ 67
+told_first : (c : ℕ) (t : PrintedEvent) → get_or (told_body c t) 0 0 ≡ 67
 unfolding told_body
 told_first c t = refl
 
@@ -172,10 +172,10 @@ events_own : {Z : Type 0} (workers : List (Worker Z)) (histories : List (List Ev
 unfolding events_lines is_told
 events_own {Z} workers histories c within = by_case (names_channel c)
   where
-    ts : List ToldEvent
+    ts : List PrintedEvent
     ts = told_events c workers (history_on c histories)
 
-    passes : (t : ToldEvent) → (nat_lt (get_or (told_body c t) 5 0) 58 && is_of 67 c (told_body c t)) ≡ true
+    passes : (t : PrintedEvent) → (nat_lt (get_or (told_body c t) 5 0) 58 && is_of 67 c (told_body c t)) ≡ true
     passes t =
         ap (λ (x : Bool). x && is_of 67 c (told_body c t)) (lt-ltb (get_or (told_body c t) 5 0) 58 (digit_at_five c t))
         ∙ of_its_own 67 c (told_body c t) (told_first c t) (told_heading c t within)
@@ -185,7 +185,7 @@ events_own {Z} workers histories c within = by_case (names_channel c)
     by_case false = refl
 
 -- the lines of events under a test that none of them passes
-no_events : {Z : Type 0} (p : List ℕ → Bool) (workers : List (Worker Z)) (histories : List (List Event)) (c : ℕ) → ((t : ToldEvent) → p (told_body c t) ≡ false) → filter p (events_lines workers histories c) ≡ []
+no_events : {Z : Type 0} (p : List ℕ → Bool) (workers : List (Worker Z)) (histories : List (List Event)) (c : ℕ) → ((t : PrintedEvent) → p (told_body c t) ≡ false) → filter p (events_lines workers histories c) ≡ []
 unfolding events_lines
 no_events {Z} p workers histories c none = by_case (names_channel c)
   where
@@ -310,7 +310,7 @@ no_states p histories c none = left_out p (names_channel c && is_used (history_o
 
 -- ---- lines without a line feed
 
-above_told : (c : ℕ) (t : ToldEvent) → Above 10 (told_body c t)
+above_told : (c : ℕ) (t : PrintedEvent) → Above 10 (told_body c t)
 unfolding told_body
 above_told c t = (
   omega arith,
@@ -324,7 +324,7 @@ above_told c t = (
   ),
 )
 
-plain_told : (c : ℕ) (ts : List ToldEvent) → AreLines (map (told_body c) ts)
+plain_told : (c : ℕ) (ts : List PrintedEvent) → AreLines (map (told_body c) ts)
 plain_told c [] = tt
 plain_told c (t ∷ ts) = (above_told c t, plain_told c ts)
 
@@ -540,13 +540,13 @@ where_true : (b : Bool) (xs ys : List (List ℕ)) → IsTrue b → (if b then xs
 where_true true xs ys is e = e
 where_true false xs ys is e = absurd cc
 
-tells_events : {Y Z : Type 0} (named others : List Bool) (one : Report Y) (other : Report Z) (c : ℕ) → IsTrue (names_channel c) → All FitsItsLine (told_of c one) → All FitsItsLine (told_of c other)
-    → printed_report named one ≡ printed_report others other → told_of c one ≡ told_of c other
+tells_events : {Y Z : Type 0} (named others : List Bool) (one : Report Y) (other : Report Z) (c : ℕ) → IsTrue (names_channel c) → All FitsItsLine (printed_on c one) → All FitsItsLine (printed_on c other)
+    → printed_report named one ≡ printed_report others other → printed_on c one ≡ printed_on c other
 unfolding events_lines
 tells_events {Y} {Z} named others one other c is fits also e =
     let within = channel_places.number_fits c is in
     let lines = sym (among_events named one c within) ∙ ap (filter (is_told c)) (same_lines named others one other e) ∙ among_events others other c within in
-    same_tellings c (told_of c one) (told_of c other) fits also (where_true (names_channel c) (map (told_body c) (told_of c one)) (map (told_body c) (told_of c other)) is lines)
+    same_tellings c (printed_on c one) (printed_on c other) fits also (where_true (names_channel c) (map (told_body c) (printed_on c one)) (map (told_body c) (printed_on c other)) is lines)
 
 -- no processor is shown past the numbers of two digits
 none_shown : {Z : Type 0} (named : List Bool) (n : ℕ) (report : Report Z) → 0o100 ≤ n → shown_of named n report ≡ None
@@ -562,8 +562,8 @@ tells_end {Y} {Z} named others one other n clear also e = elim (cases_lt n 0o100
   | inr past ↦ none_shown named n one past ∙ sym (none_shown others n other past)
 ]
 
-tells_state : {Y Z : Type 0} (named others : List Bool) (one : Report Y) (other : Report Z) (c : ℕ) → IsTrue (names_channel c) → IsListed (history_on c one.channels) → IsListed (history_on c other.channels)
-    → printed_report named one ≡ printed_report others other → IsToldAlike (history_on c one.channels) (history_on c other.channels)
+tells_state : {Y Z : Type 0} (named others : List Bool) (one : Report Y) (other : Report Z) (c : ℕ) → IsTrue (names_channel c) → HistoryFits (history_on c one.channels) → HistoryFits (history_on c other.channels)
+    → printed_report named one ≡ printed_report others other → ShowSameChannel (history_on c one.channels) (history_on c other.channels)
 unfolding channels
 tells_state {Y} {Z} named others one other c is small also e =
     let within = channel_places.number_fits c is in
@@ -582,29 +582,29 @@ report_tells {Y} {Z} named others one other fits also numbered told e = record {
 
 -- the events that are told from a number on, where the first of all have no author and the rest have one
 rest_told : {Z : Type 0} (c first n : ℕ) (workers : List (Worker Z)) (h : List Event) → ((i : ℕ) → i < length h → (author_place c workers (n + i) ≡ None) ↔ (n + i < first))
-    → map (λ (t : ToldEvent). t.event) (filter_map (λ ((number, event) : ℕ × Event). told_by number event (author_place c workers number)) (enumerate_from n h)) ≡ drop (first - n) h
+    → map (λ (t : PrintedEvent). t.event) (filter_map (λ ((number, event) : ℕ × Event). printed_by number event (author_place c workers number)) (enumerate_from n h)) ≡ drop (first - n) h
 rest_told {Z} c first n workers [] authors = sym (drop-nil (first - n))
 rest_told {Z} c first n workers (e ∷ h) authors =
     by_author (author_place c workers n) (subst (λ k. (author_place c workers k ≡ None) ↔ (k < first)) (omega arith) (authors 0 (omega arith)))
     (rest_told c first (n + 1) workers h (λ i within. subst (λ k. (author_place c workers k ≡ None) ↔ (k < first)) (omega arith) (authors (i + 1) (omega (arith, within)))))
   where
-    more : List ToldEvent
-    more = filter_map (λ ((number, event) : ℕ × Event). told_by number event (author_place c workers number)) (enumerate_from (n + 1) h)
+    more : List PrintedEvent
+    more = filter_map (λ ((number, event) : ℕ × Event). printed_by number event (author_place c workers number)) (enumerate_from (n + 1) h)
 
-    by_author : (author : Option ℕ) → (author ≡ None) ↔ (n < first) → map (λ (t : ToldEvent). t.event) more ≡ drop (first - (n + 1)) h
-        → map (λ (t : ToldEvent). t.event) (cons_option (told_by n e author) more) ≡ drop (first - n) (e ∷ h)
+    by_author : (author : Option ℕ) → (author ≡ None) ↔ (n < first) → map (λ (t : PrintedEvent). t.event) more ≡ drop (first - (n + 1)) h
+        → map (λ (t : PrintedEvent). t.event) (cons_option (printed_by n e author) more) ≡ drop (first - n) (e ∷ h)
     by_author None is rest =
         let early = is.0 refl in
         rest ∙ ap (λ k. drop k (e ∷ h)) (let one_more : suc (first - (n + 1)) ≡ first - n = omega (arith, early) in one_more)
     by_author (Some place) is rest = by_order (cases_lt n first)
       where
-        by_order : (n < first) ⊎ (first ≤ n) → e ∷ map (λ (t : ToldEvent). t.event) more ≡ drop (first - n) (e ∷ h)
+        by_order : (n < first) ⊎ (first ≤ n) → e ∷ map (λ (t : PrintedEvent). t.event) more ≡ drop (first - n) (e ∷ h)
         by_order (inl early) = let none : Some place ≡ None = is.1 early in absurd cc
         by_order (inr late) =
             ap (λ es. e ∷ es) (rest ∙ ap (λ k. drop k h) (let none : first - (n + 1) ≡ 0 = omega (arith, late) in none)) ∙ ap (λ k. drop k (e ∷ h)) (let none : 0 ≡ first - n = omega (arith, late) in none)
 
 whole_history : {Z : Type 0} (opening : ℕ → List Event) (report : Report Z) (c : ℕ) → Merges opening report.channels (logs_of report.ends.items)
-    → history_on c report.channels ≡ opening c ++ map (λ (t : ToldEvent). t.event) (told_of c report)
+    → history_on c report.channels ≡ opening c ++ map (λ (t : PrintedEvent). t.event) (printed_on c report)
 whole_history {Z} opening report c merged =
     let h = history_on c report.channels in
     let begins = merged.begins c in
@@ -615,28 +615,28 @@ whole_history {Z} opening report c merged =
     ∙ ap (λ others. opening c ++ others) (sym (drop-append_seam (opening c) begins.0) ∙ (ap (drop (length (opening c))) begins.1 ∙ (ap (λ k. drop k h) none_less ∙ sym rest)))
 
 pub histories_told : {Y Z : Type 0} (opening : ℕ → List Event) (one : Report Y) (other : Report Z) (c : ℕ) → Merges opening one.channels (logs_of one.ends.items) → Merges opening other.channels (logs_of other.ends.items)
-    → told_of c one ≡ told_of c other → history_on c one.channels ≡ history_on c other.channels
+    → printed_on c one ≡ printed_on c other → history_on c one.channels ≡ history_on c other.channels
 histories_told {Y} {Z} opening one other c merged also same =
-    whole_history opening one c merged ∙ ap (λ ts. opening c ++ map (λ (t : ToldEvent). t.event) ts) same ∙ sym (whole_history opening other c also)
+    whole_history opening one c merged ∙ ap (λ ts. opening c ++ map (λ (t : PrintedEvent). t.event) ts) same ∙ sym (whole_history opening other c also)
 
 -- the same where dead start opened the channels, each in its own machine: what is told of a channel tells
 -- whether it was opened
 pub openings_told : {Y Z : Type 0} (m k : MachineState) (one : Report Y) (other : Report Z) (c : ℕ) → Merges (λ d. opening_history d m) one.channels (logs_of one.ends.items)
     → Merges (λ d. opening_history d k) other.channels (logs_of other.ends.items) → All IsLawful one.channels → All IsLawful other.channels
-    → told_of c one ≡ told_of c other → IsToldAlike (history_on c one.channels) (history_on c other.channels) → history_on c one.channels ≡ history_on c other.channels
+    → printed_on c one ≡ printed_on c other → ShowSameChannel (history_on c one.channels) (history_on c other.channels) → history_on c one.channels ≡ history_on c other.channels
 openings_told {Y} {Z} m k one other c merged also lawful keeps same alike =
-    one_history (is_opened c m) (is_opened c k) (map (λ (t : ToldEvent). t.event) (told_of c one)) (history_on c one.channels) (history_on c other.channels)
+    one_history (is_opened c m) (is_opened c k) (map (λ (t : PrintedEvent). t.event) (printed_on c one)) (history_on c one.channels) (history_on c other.channels)
     (whole_history (λ d. opening_history d m) one c merged)
-    (whole_history (λ d. opening_history d k) other c also ∙ ap (λ ts. opening_history c k ++ map (λ (t : ToldEvent). t.event) ts) (sym same))
+    (whole_history (λ d. opening_history d k) other c also ∙ ap (λ ts. opening_history c k ++ map (λ (t : PrintedEvent). t.event) ts) (sym same))
     (lawful_on one.channels c lawful) (lawful_on other.channels c keeps) (both_used (history_on c one.channels) (history_on c other.channels) alike.unused)
 
 -- ---- what is printed fits
 
 -- the events of a history that are told so far, and one more
 pub tellings_go_on : {Z : Type 0} (c i : ℕ) (workers : List (Worker Z)) (h : List Event) (e : Event) → i < length h → e ≡ slice_index_or h i e
-    → All FitsItsLine (told_events c workers (take i h)) → IfSome (told_by i e (author_place c workers i)) FitsItsLine → All FitsItsLine (told_events c workers (take (i + 1) h))
+    → All FitsItsLine (told_events c workers (take i h)) → IfSome (printed_by i e (author_place c workers i)) FitsItsLine → All FitsItsLine (told_events c workers (take (i + 1) h))
 tellings_go_on {Z} c i workers h e within at so_far fits =
-    let f : ℕ × Event → Option ToldEvent = λ ((number, event) : ℕ × Event). told_by number event (author_place c workers number) in
+    let f : ℕ × Event → Option PrintedEvent = λ ((number, event) : ℕ × Event). printed_by number event (author_place c workers number) in
     let more : take (i + 1) h ≡ take i h ++ e ∷ [] =
     ap (λ n. take n h) (add-one i) ∙ take-suc h i e within ∙ ap (λ x. take i h ++ x ∷ []) (sym at) in
     let numbered : enumerate_from 0 (take (i + 1) h) ≡ enumerate_from 0 (take i h) ++ (i, e) ∷ [] =
@@ -646,7 +646,7 @@ tellings_go_on {Z} c i workers h e within at so_far fits =
     ap (filter_map f) numbered ∙ filter_map-append f (enumerate_from 0 (take i h)) ((i, e) ∷ []) in
     subst (All FitsItsLine) (sym told) (All-append FitsItsLine (filter_map f (enumerate_from 0 (take i h))) (filter_map f ((i, e) ∷ [])) so_far (last (author_place c workers i) fits))
   where
-    last : (author : Option ℕ) → IfSome (told_by i e author) FitsItsLine → All FitsItsLine (cons_option (told_by i e author) [])
+    last : (author : Option ℕ) → IfSome (printed_by i e author) FitsItsLine → All FitsItsLine (cons_option (printed_by i e author) [])
     last None fits = All-nil FitsItsLine
     last (Some place) fits = All-cons FitsItsLine (record { number = i; author = processor_number place; event = e }) [] fits (All-nil FitsItsLine)
 

@@ -7,7 +7,7 @@ use Rattle.std.proofs.lemmas.List.{append-nil, ext_get_or, get_or_past, length-t
 use Rattle.std.proofs.lemmas.List.Elements.{All-cons, All-head, All-nil, All-tail, filter_map-append}
 use Rattle.std.proofs.lemmas.Option.{slice_get_within}
 use Rattle.std.proofs.lemmas.List.Sums.{sum_by-append, sum_by-cons}
-use Rattle.list_facts.specs.Subsequence.{IsSubsequence}
+use Rattle.pp_word.specs.Subsequence.{IsSubsequence}
 use Rattle.pp_channel.specs.Answer.{event_answered}
 use Rattle.pp_channel.specs.ChannelNo.{channel_count, channel_index, channel_number, names_channel}
 use Rattle.pp_channel.specs.ChannelPlaces.{named_below, place_of_number}
@@ -37,7 +37,7 @@ use Rattle.pp_machine.specs.Processor.{Processor}
 use Rattle.pp_machine.specs.Profile.{processors_in}
 use Rattle.pp_machine.specs.ProfilePlaces.{most_processors}
 use Rattle.pp_machine.specs.Run.{run}
-use Rattle.pp_machine.specs.Replay.{OfChannel, fits, given_by, replayed, told_along, events_given}
+use Rattle.pp_machine.specs.Replay.{OfChannel, fits, contribution, replayed, collected_along, events_given}
 use Rattle.pp_machine.specs.ReplayLaws.{Gives, Gives-counted, Gives-to}
 use Rattle.pp_machine.specs.declared.answer.Answer.{Answer}
 use Rattle.pp_machine.specs.declared.answer.Answer.TheVariants as answers
@@ -48,7 +48,7 @@ use Rattle.pp_machine.specs.declared.profile.Profile.{Profile}
 use Rattle.pp_runner.specs.Accesses.{accesses_by, AreAccessesOf, HasAccessed, HaveAccessed}
 use Rattle.pp_runner.specs.Limits.{RunLimits}
 use Rattle.pp_runner.specs.Report.{IsReportOf}
-use Rattle.pp_runner.specs.WorkerReport.{OfEachAnswer, AllMoved, AllBySize, IsBySize, AreWorkers, IsLoggedWorker, event_in, events_in, logs_of}
+use Rattle.pp_runner.specs.WorkerReport.{OfEachAnswer, AllMoved, AllBySize, IsBySize, AreWorkers, IsWorker, event_in, events_in, logs_of}
 use Rattle.pp_runner.specs.declared.report.Report.{Report}
 use Rattle.pp_runner.specs.declared.worker.Worker.{Worker}
 use Rattle.pp_report.specs.Serial.{HasNotRun, IsSerialRunOf, answers_along}
@@ -68,12 +68,12 @@ each_rest P load x xs fit h = λ i y at.
     let same : replayed load (take (suc i) (x ∷ xs)) ≡ replayed (processor_after load x) (take i xs) = rw fit refl in
     subst (λ (q : Processor). P q y) same (h (suc i) y at)
 
-told_cons : {X : Type 0} (tells : ChanOp → Reply → Option X) (pp : Processor) (x : Answer) (xs : List Answer) → fits (need pp) x ≡ true → told_along tells pp (x ∷ xs) ≡ given_by tells (need pp) x ++ told_along tells (processor_after pp x) xs
-unfolding told_along
+told_cons : {X : Type 0} (tells : ChanOp → Reply → Option X) (pp : Processor) (x : Answer) (xs : List Answer) → fits (need pp) x ≡ true → collected_along tells pp (x ∷ xs) ≡ contribution tells (need pp) x ++ collected_along tells (processor_after pp x) xs
+unfolding collected_along
 told_cons tells pp x xs fit = rw fit refl
 
-told_none : {X : Type 0} (tells : ChanOp → Reply → Option X) (pp : Processor) → told_along tells pp [] ≡ []
-unfolding told_along
+told_none : {X : Type 0} (tells : ChanOp → Reply → Option X) (pp : Processor) → collected_along tells pp [] ≡ []
+unfolding collected_along
 told_none tells pp = refl
 
 -- a worker's answers, with the accesses that they made
@@ -87,7 +87,7 @@ does size (x ∷ xs) pp after made gives moved by_size are =
     )
 
 -- the events among accesses are those that the answers made
-did_by : (number c : ℕ) (op : ChanOp) (reply : Reply) → events_in (entries_among (accesses_by number (needs.Channel c op) (answers.Channel reply))) ≡ given_by event_answered (needs.Channel c op) (answers.Channel reply)
+did_by : (number c : ℕ) (op : ChanOp) (reply : Reply) → events_in (entries_among (accesses_by number (needs.Channel c op) (answers.Channel reply))) ≡ contribution event_answered (needs.Channel c op) (answers.Channel reply)
 did_by number c op (replies.Flags f) = refl
 did_by number c op (replies.Held f) = refl
 did_by number c operations.Probe replies.Done = refl
@@ -99,7 +99,7 @@ did_by number c (operations.Function w) replies.Done = refl
 did_by number c operations.Take (replies.Word w) = refl
 did_by number c op (replies.Word w) = refl
 
-did_given : (number : ℕ) (needed : Need) (x : Answer) → fits needed x ≡ true → events_in (entries_among (accesses_by number needed x)) ≡ given_by event_answered needed x
+did_given : (number : ℕ) (needed : Need) (x : Answer) → fits needed x ≡ true → events_in (entries_among (accesses_by number needed x)) ≡ contribution event_answered needed x
 did_given number (needs.Channel c op) (answers.Channel reply) fit = did_by number c op reply
 did_given number (needs.Channel c op) x fit = absurd cc
 did_given number needs.Nothing x fit = refl
@@ -223,7 +223,7 @@ pub record IsOneWorking {A : Type 0} (size : ℕ) (p : Profile) (others : List P
   pub writes : (n : ℕ) → times_left (tells_write n) now ≡ times n (writes_among made)
   pub answers : now.answers ≡ end.answers.items
 
-one_working : {A : Type 0} (p : Profile) (others : List Processor) (load : Processor) (size steps : ℕ) (order : List Access) (end : Worker A) (made : List Access) → IsLoggedWorker load size steps end.log.items end
+one_working : {A : Type 0} (p : Profile) (others : List Processor) (load : Processor) (size steps : ℕ) (order : List Access) (end : Worker A) (made : List Access) → IsWorker load size steps end
     → HasAccessed load order end made → IsOneWorking size p others load order end made
 one_working p others load size steps order end made is has =
     let xs = end.answers.items in

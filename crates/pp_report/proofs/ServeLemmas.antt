@@ -7,7 +7,7 @@ use Rattle.std.proofs.lemmas.List.{append-nil, length-append, length-map, map-ap
 use Rattle.std.proofs.lemmas.List.Elements.{All-append, All-cons, All-head, All-nil, All-push, All-tail}
 use Rattle.std.proofs.lemmas.List.Sums.{sum_by-append, sum_by-cons}
 use Rattle.std.proofs.Math.Seq.{set-append_seam}
-use Rattle.list_facts.specs.Subsequence.{IsSubsequence}
+use Rattle.pp_word.specs.Subsequence.{IsSubsequence}
 use Rattle.pp_channel.specs.Answer.{flags_of}
 use Rattle.pp_channel.specs.ChannelNo.{names_channel}
 use Rattle.pp_channel.specs.History.{IsLawful}

@@ -8,9 +8,9 @@ use Rattle.pp_runner.specs.declared.worker.Worker.{Worker}
 use Rattle.pp_report.specs.PrintedReport.{author_place}
 
 -- the author known so far, or else this one if its log records the event
-abbrev pub or_told : Option ℕ → Bool → ℕ → Option ℕ
-or_told (Some known) told author = Some known
-or_told None told author = if told then Some author else None
+abbrev pub or_known : Option ℕ → Bool → ℕ → Option ℕ
+or_known (Some known) told author = Some known
+or_known None told author = if told then Some author else None
 
 -- the authors of the events of channel c, of those of all channels in order
 abbrev pub authors_on : ℕ → List (List (Option ℕ)) → List (Option ℕ)

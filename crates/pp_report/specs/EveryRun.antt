@@ -1,7 +1,7 @@
 -- THE HEADLINE, of every run of a deck. After any list of processor steps from any loaded deck, on
 -- each channel, in every session, the words taken are the first of the words put, all but at most
--- one, which is lost only if a Disconnect finds the channel full, and no word passes outside a
--- session. The histories that threads leave obey the same law.
+-- one, which is lost only if a Disconnect finds the channel full, directly after its Put, and no
+-- word is put or taken outside a session. The histories that threads leave obey the same law.
 use Rattle.std.specs.Prelude.{ℕ, IsTrue, List}
 use Rattle.pp_channel.specs.ChannelNo.{names_channel}
 use Rattle.pp_channel.specs.History.{history_on}

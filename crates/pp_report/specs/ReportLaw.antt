@@ -9,24 +9,24 @@ use Rattle.pp_runner.specs.declared.end.End.{End}
 use Rattle.pp_runner.specs.declared.report.Report.{Report}
 use Rattle.pp_runner.specs.declared.worker.Worker.{Worker}
 use Rattle.pp_report.specs.PrintedReport.{author_place}
-use Rattle.pp_text.specs.TextLaw.{IsListed, IsToldAlike}
+use Rattle.pp_text.specs.TextLaw.{HistoryFits, ShowSameChannel}
 
 -- an event as a report's text shows it: its number in the history, its author, and what happened
-pub record ToldEvent : Type 0 where
+pub record PrintedEvent : Type 0 where
   pub number : ℕ
   pub author : ℕ
   pub event : Event
 
 -- by the place of its author; an opening event has none, and is not shown
-abbrev pub told_by : ℕ → Event → Option ℕ → Option ToldEvent
-told_by number event None = None
-told_by number event (Some place) =
+abbrev pub printed_by : ℕ → Event → Option ℕ → Option PrintedEvent
+printed_by number event None = None
+printed_by number event (Some place) =
     Some (record { number = number; author = processor_number place; event = event })
 
 -- the events of channel c that the text shows, in order
-abbrev pub told_events : {Z : Type 0} → ℕ → List (Worker Z) → List Event → List ToldEvent
+abbrev pub told_events : {Z : Type 0} → ℕ → List (Worker Z) → List Event → List PrintedEvent
 told_events {Z} c workers history = filter_map
-    (λ ((number, event) : ℕ × Event). told_by number event (author_place c workers number))
+    (λ ((number, event) : ℕ × Event). printed_by number event (author_place c workers number))
     (enumerate_from 0 history)
 
 -- what a worker's line shows: P, A and the end
@@ -39,7 +39,7 @@ abbrev pub shown_end : {Z : Type 0} → Worker Z → ShownEnd
 shown_end worker = record { p = worker.pp.p; a = worker.pp.a; finish = worker.finish }
 
 -- an event fits its line
-pub record FitsItsLine (told : ToldEvent) : Type 0 where
+pub record FitsItsLine (told : PrintedEvent) : Type 0 where
   pub number : told.number < 2 ^ 64
   pub author : IsTrue (names_processor told.author)
   pub word : HasTwelveBitWord told.event
@@ -54,14 +54,14 @@ abbrev pub end_of : {Z : Type 0} → ℕ → Report Z → Option ShownEnd
 end_of n report = option_map shown_end (slice_get report.ends.items (processor_index n))
 
 -- the events that the report has of channel c
-abbrev pub told_of : {Z : Type 0} → ℕ → Report Z → List ToldEvent
-told_of c report = told_events c report.ends.items (history_on c report.channels)
+abbrev pub printed_on : {Z : Type 0} → ℕ → Report Z → List PrintedEvent
+printed_on c report = told_events c report.ends.items (history_on c report.channels)
 
 -- a report fits its text
 pub record FitsItsReport {Z : Type 0} (named : List Bool) (report : Report Z) : Type 0 where
-  pub events : (c : ℕ) → IsTrue (names_channel c) → All FitsItsLine (told_of c report)
+  pub events : (c : ℕ) → IsTrue (names_channel c) → All FitsItsLine (printed_on c report)
   pub workers : (n : ℕ) → IsTrue (is_named named n) → IfSome (end_of n report) FitsItsEnd
-  pub channels : (c : ℕ) → IsTrue (names_channel c) → IsListed (history_on c report.channels)
+  pub channels : (c : ℕ) → IsTrue (names_channel c) → HistoryFits (history_on c report.channels)
 
 -- what is shown of processor n: nothing if it is not named
 abbrev pub shown_of : {Z : Type 0} → List Bool → ℕ → Report Z → Option ShownEnd
@@ -72,7 +72,7 @@ shown_of named n report = if is_named named n then end_of n report else None
 -- active, and the word that waits.
 pub record AgreeOnReport {Y Z : Type 0} (named others : List Bool) (one : Report Y)
     (other : Report Z) : Type 0 where
-  pub events : (c : ℕ) → IsTrue (names_channel c) → told_of c one ≡ told_of c other
+  pub events : (c : ℕ) → IsTrue (names_channel c) → printed_on c one ≡ printed_on c other
   pub workers : (n : ℕ) → shown_of named n one ≡ shown_of others n other
   pub channels : (c : ℕ) → IsTrue (names_channel c)
-      → IsToldAlike (history_on c one.channels) (history_on c other.channels)
+      → ShowSameChannel (history_on c one.channels) (history_on c other.channels)

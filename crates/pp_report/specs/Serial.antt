@@ -47,8 +47,8 @@ answers_along n (k ∷ ns) m =
     ++ answers_along n ns (stepped k m)
 
 -- A serial run of a report: steps, one after another, that lead to what it leaves, as many as its
--- workers made. Each moves its processor: none is held, and none is made at rest. The steps of each
--- worker's processor get the very answers that the worker got, in order.
+-- workers made. Each has the outcome `Moved`, also a jump to itself: none is held, and none is made
+-- at rest. The steps of each worker's processor get the very answers that the worker got, in order.
 pub record IsSerialRunOf {A : Type 0} (ns : List ℕ) (m : MachineState) (report : Report A)
     (order : List Access) : Type 0 where
   pub leads : LeadsTo ns m report order

@@ -5,7 +5,7 @@ ghost use Rattle.pp_channel.specs.ChannelNo.{channel_count, names_channel};
 ghost use Rattle.pp_line.specs.Merge.{logs_event, times_logged};
 ghost use Rattle.pp_channel.specs.History.{history_on};
 ghost use Rattle.pp_machine.specs.PpNo.{processor_count};
-ghost use Rattle.pp_report.specs.Authors.{AreAuthors, authors_on, or_told};
+ghost use Rattle.pp_report.specs.Authors.{AreAuthors, authors_on, or_known};
 
 use pp_channel::{CHANNELS, Channel, Seen};
 use pp_line::Entry;
@@ -55,7 +55,7 @@ impl<A: Allocator> ChannelAuthors<A> {
         ensures length { length self.new ≡ length self.old }
         ensures marked { (k : ℕ) → k < length self.old
             → slice_index_or self.new k None
-            ≡ or_told (slice_index_or self.old k None) (number == k) author }
+            ≡ or_known (slice_index_or self.old k None) (number == k) author }
     {
         if number < self.by_number.len() && self.by_number[number].is_none() {
             self.by_number[number] = Some(author);
@@ -107,7 +107,7 @@ fn mark<A: Allocator>(authors: &mut Vec<ChannelAuthors<A>, A>, log: &[Entry], au
     ensures marked { (c number : ℕ) → IsTrue (names_channel c)
         → number < length (authors_on c authors.old.items)
         → slice_index_or (authors_on c authors.new.items) number None
-        ≡ or_told (slice_index_or (authors_on c authors.old.items) number None)
+        ≡ or_known (slice_index_or (authors_on c authors.old.items) number None)
         (nat_lt 0 (times_logged c number log.now)) author }
 {
     for entry in log {
@@ -123,7 +123,7 @@ fn mark_entry<A: Allocator>(authors: &mut Vec<ChannelAuthors<A>, A>, entry: &Ent
     ensures marked { (c number : ℕ) → IsTrue (names_channel c)
         → number < length (authors_on c authors.old.items)
         → slice_index_or (authors_on c authors.new.items) number None
-        ≡ or_told (slice_index_or (authors_on c authors.old.items) number None)
+        ≡ or_known (slice_index_or (authors_on c authors.old.items) number None)
         (logs_event c number entry.now) author }
 {
     if let Seen::Did(_) = entry.what {

@@ -12,8 +12,8 @@ ghost use Rattle.pp_runner.specs.WorkerReport.{logs_of};
 ghost use Rattle.pp_runner.specs.declared.report.Report.{Report};
 ghost use Rattle.pp_runner.specs.declared.worker.Worker.{Worker};
 ghost use Rattle.pp_report.specs.PrintedReport.{author_place, printed_report};
-ghost use Rattle.pp_report.specs.ReportLaw.{AgreeOnReport, FitsItsReport, told_of};
-ghost use Rattle.pp_text.specs.TextLaw.{IsToldAlike};
+ghost use Rattle.pp_report.specs.ReportLaw.{AgreeOnReport, FitsItsReport, printed_on};
+ghost use Rattle.pp_text.specs.TextLaw.{ShowSameChannel};
 
 use std::alloc::Allocator;
 
@@ -42,13 +42,13 @@ pub fn report_law<A: Allocator>()
     ensures histories { (opening : ℕ → List Event) (one other : Report A) (c : ℕ)
         → Merges opening one.channels (logs_of one.ends.items)
         → Merges opening other.channels (logs_of other.ends.items)
-        → told_of c one ≡ told_of c other
+        → printed_on c one ≡ printed_on c other
         → history_on c one.channels ≡ history_on c other.channels }
     ensures dead_start { (machine another : MachineState) (one other : Report A) (c : ℕ)
         → Merges (λ d. opening_history d machine) one.channels (logs_of one.ends.items)
         → Merges (λ d. opening_history d another) other.channels (logs_of other.ends.items)
         → All IsLawful one.channels → All IsLawful other.channels
-        → told_of c one ≡ told_of c other
-        → IsToldAlike (history_on c one.channels) (history_on c other.channels)
+        → printed_on c one ≡ printed_on c other
+        → ShowSameChannel (history_on c one.channels) (history_on c other.channels)
         → history_on c one.channels ≡ history_on c other.channels }
 {}

@@ -2,7 +2,7 @@
 //! what is proved of the definitions.
 
 ghost use Rattle.std.specs.Prelude.{◌≡◌, ℕ, All, List, Ok, ◌++◌};
-ghost use Rattle.list_facts.specs.Subsequence.{IsSubsequence};
+ghost use Rattle.pp_word.specs.Subsequence.{IsSubsequence};
 ghost use Rattle.pp_channel.specs.History.{AreHistories};
 ghost use Rattle.pp_deck.specs.DeckMeaning.{LoadedDeck, deck_meaning};
 ghost use Rattle.pp_run.specs.Determinacy.{IsDeterminate};
@@ -37,11 +37,11 @@ pub fn serial_law<A: Allocator>()
         → (ns : List ℕ) × IsSerialRunOf ns m report is.order }
 {}
 
-/// What one order over all channels excludes: a circle, in which each of two processors takes a
-/// word that the other puts only after it has taken the word that the first puts after that. Each
-/// channel's history is lawful, no number falls along either log, and the two logs merge to the
-/// histories, so all that is said of one channel at a time holds. Yet there is no order in which
-/// both logs stand.
+/// What one order over all channels excludes: a circle. One processor takes a word from channel 1
+/// and then puts one on channel 2; another takes that, and then puts the word that the first took.
+/// Each channel's history is lawful, no number falls along either log, and the two logs merge to
+/// the histories, so all that is said of one channel at a time holds. Yet there is no order in
+/// which both logs stand.
 pub fn circle_law()
     ensures lawful { AreHistories histories_of_circle }
     ensures monotone { IsMonotone one_log × IsMonotone other_log }
@@ -52,10 +52,11 @@ pub fn circle_law()
 
 /// The headline, of each text that is a deck. After any list of steps of the machine that it loads,
 /// whichever processors their numbers name, each channel's history is its opening history followed
-/// by the events of the trace on it; it is lawful, and in every session the words taken are the
-/// first of the words put, all but at most one, which is lost only if a disconnect finds the
-/// channel full; and no word passes outside a session. The same holds of the histories that threads
-/// leave, with their accesses in one order; and some list of steps does what the threads did.
+/// by the events of the trace on it; it is lawful, and in every session, at each moment, the words
+/// taken are the first of the words put, all but at most one, which is lost only if a disconnect
+/// finds the channel full, directly after its put; and no word is put or taken outside a session.
+/// The same holds of the histories that threads leave, with their accesses in one order; and some
+/// list of steps does what the threads did.
 pub fn headline_law<A: Allocator>()
     ensures { (profile : Profile) (text : List ℕ) (deck : LoadedDeck)
         → deck_meaning profile text ≡ Ok deck → HoldsOfEveryRun A deck.machine }
@@ -66,11 +67,12 @@ pub fn headline_law<A: Allocator>()
     serial_law::<A>();
 }
 
-/// What one run of a deck determines of every run of it by threads, if it shows no race, on a
-/// channel or a central word, and is settled. However the threads ended, each processor and each
-/// channel stands as at some moment of that run. If nothing more can move, as when all are at rest,
-/// the run leads to the very processors and the very histories that the threads left, and to the
-/// words of central memory that their accesses leave.
+/// What one run of a deck determines of every run of it by threads, if no step of it may race on a
+/// channel, no processor uses a central word that another writes, and each is settled after it.
+/// However the threads ended, each processor and each channel stands as at some moment of that run.
+/// If nothing more can move, as when all are at rest, the run leads to the very processors and the
+/// very histories that the threads left, and to the words of central memory that their accesses
+/// leave.
 pub fn one_run_law<A: Allocator>()
     ensures parts { (profile : Profile) (text : List ℕ) (deck : LoadedDeck) (ns : List ℕ)
         (limits : RunLimits) (report : Report A)

@@ -11,8 +11,8 @@ ghost use Rattle.pp_text.specs.TextWriter.{Prints};
 ghost use Rattle.pp_text.specs.Piece.{HasRoom, longest_line};
 ghost use Rattle.pp_text.specs.PrintedText.{each_below, used_channel_line};
 ghost use Rattle.pp_report.specs.PrintedReport.{channel_events, line_by, named_worker_line, numbered_event_line, printed_report, worker_line};
-ghost use Rattle.pp_report.specs.ReportLaw.{FitsItsEnd, FitsItsLine, FitsItsReport, shown_end, told_by, told_events};
-ghost use Rattle.pp_text.specs.TextLaw.{IsListed};
+ghost use Rattle.pp_report.specs.ReportLaw.{FitsItsEnd, FitsItsLine, FitsItsReport, shown_end, printed_by, told_events};
+ghost use Rattle.pp_text.specs.TextLaw.{HistoryFits};
 ghost use Rattle.pp_text.specs.Written.{IsReportWritten, IsWritten};
 
 use crate::authors::{ChannelAuthors, authors};
@@ -133,7 +133,7 @@ fn push_event_by(
     ensures text { (place : Option ℕ) → author.now ≡ option_map processor_number place
         → piece.new ≡ piece.old ++ line_by c number event.now place }
     ensures fits { (place : Option ℕ) → author.now ≡ option_map processor_number place
-        → IfSome (told_by number event.now place) FitsItsLine }
+        → IfSome (printed_by number event.now place) FitsItsLine }
 {
     match author {
         Some(author) => push_numbered_event(piece, c, number as u64, *author, *event),
@@ -194,7 +194,7 @@ fn print_channels<A: Allocator, W: Write>(
 )
     ensures text { Prints W.contents text.old text.new
         (each_below NUMBERS (used_channel_line channels.now)) }
-    ensures fits { (c : ℕ) → IsTrue (names_channel c) → IsListed (history_on c channels.now) }
+    ensures fits { (c : ℕ) → IsTrue (names_channel c) → HistoryFits (history_on c channels.now) }
 {
     for number in 0..NUMBERS {
         print_used_channel(text, channels, number);
@@ -207,7 +207,7 @@ fn print_used_channel<A: Allocator, W: Write>(
     number: u8,
 )
     ensures text { Prints W.contents text.old text.new (used_channel_line channels.now number) }
-    ensures fits { IsTrue (names_channel number) → IsListed (history_on number channels.now) }
+    ensures fits { IsTrue (names_channel number) → HistoryFits (history_on number channels.now) }
 {
     if let Some(c) = ChannelNo::new(number) {
         let mut line = Piece::new();

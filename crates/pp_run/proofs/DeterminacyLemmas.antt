@@ -17,9 +17,9 @@ use Rattle.pp_machine.specs.declared.answer.Answer.{Answer}
 use Rattle.pp_machine.specs.declared.need.Need.{Need}
 use Rattle.pp_machine.specs.declared.need.Need.TheVariants.{Nothing, Local, Channel, Read, Write}
 use Rattle.pp_machine.proofs.MachineStepLemmas.{stepped_at_rest, event_at_rest}
-use Rattle.pp_run.specs.Determinacy.{Waits, IsQuiet, IsDeterminate, IsInTime, IsTimelyOn, Stays, TurnsInPlace, WaitsForGood, WritesAt, StandsIn, ShowsParts, made_on, AreAlike, at_moment, processor_at, history_at, need_at, MayFind}
-use Rattle.pp_run.specs.Determinacy.StandsIn.{over, next, beside}
-use Rattle.pp_run.specs.Determinacy.MayFind.{start, both_go_on}
+use Rattle.pp_run.specs.Determinacy.{Waits, IsQuiet, IsDeterminate, IsNoRaceAt, IsRaceFreeOn, Stays, TurnsInPlace, WaitsForGood, WritesAt, IsEmbeddedIn, ShowsParts, made_on, AreAlike, at_moment, processor_at, history_at, need_at, MayFind}
+use Rattle.pp_run.specs.Determinacy.IsEmbeddedIn.{over, next, beside}
+use Rattle.pp_run.specs.Determinacy.MayFind.{start, both_advance}
 use Rattle.pp_run.proofs.StepFacts.{own_step, other_step, central_by, made_unless, history_unless, event_by_need, event_by, length_processors, length_histories, length_central}
 use Rattle.pp_run.proofs.Moments.{moment_past, run_central, history_step, still, sides, made_still}
 use Rattle.pp_run.proofs.Standing.{Owns, word_of, Goes, Follows, CatchUp, read_alike, stays_alike, catch_up}
@@ -91,9 +91,9 @@ module _ (ns : List ℕ) (m : MachineState) (all : length m.processors ≡ proce
           inl (off_channel ns m all each d now reached stood f q (Write a w) go e (λ c op g. cc)
           (ap (λ k. Answer.Wrote (nat_lt a k)) sizes))
       by_need (Channel c op) e =
-          let timely : IsTimelyOn ns m (reached q) c op = go.timely c op (here ∙ e) in
+          let timely : IsRaceFreeOn ns m (reached q) c op = go.timely c op (here ∙ e) in
           let found : MayFind ns m (get_or ns (reached q) 0) c (reached q) (stood c) = subst (λ (k : ℕ). MayFind ns m k c (reached q) (stood c)) (sym go.mine) (f.stands.may q c) in
-          let fit : IsInTime ns m (reached q) c op (processor_at ns m q (reached q)) (stood c) = subst (λ (k : ℕ). IsInTime ns m (reached q) c op (processor_at ns m k (reached q)) (stood c)) go.mine (timely.in_time (stood c) found) in
+          let fit : IsNoRaceAt ns m (reached q) c op (processor_at ns m q (reached q)) (stood c) = subst (λ (k : ℕ). IsNoRaceAt ns m (reached q) c op (processor_at ns m k (reached q)) (stood c)) go.mine (timely.in_time (stood c) found) in
           elim fit [
             | inl same ↦ inl (as_then ns m all each d now reached stood f q c op go e timely.exists same)
             | inr or ↦ elim or [
@@ -296,7 +296,7 @@ module _ (ns : List ℕ) (m : MachineState) (all : length m.processors ≡ proce
       }
 
   -- and so they have where the list stands in the order
-  comes_through : (rest others : List ℕ) → StandsIn rest others → (now : MachineState) (t : ℕ) → t ≤ length ns → drop t ns ≡ rest → ComesTo ns m now t → ComesTo ns m (run others now) (length ns)
+  comes_through : (rest others : List ℕ) → IsEmbeddedIn rest others → (now : MachineState) (t : ℕ) → t ≤ length ns → drop t ns ≡ rest → ComesTo ns m now t → ComesTo ns m (run others now) (length ns)
   comes_through rest others (over others2) now t h e r =
       let ends : length ns ≤ t = omega (arith, length-drop t ns, ap (λ (ks : List ℕ). length ks) e) in
       let some : FollowsSomehow ns m (run others2 now) = follows_run others2 now (record { reached = r.reached; stood = r.stood; follows = r.follows }) in
@@ -394,7 +394,7 @@ module _ (ns : List ℕ) (m : MachineState) (all : length m.processors ≡ proce
     where
       together : (k c t : ℕ) → MayFind ns m k c t t
       together k c zero = start
-      together k c (suc t) = both_go_on t (together k c t)
+      together k c (suc t) = both_advance t (together k c t)
 
 pub shows_parts : (ns others : List ℕ) (m : MachineState) → length m.processors ≡ processor_count → length m.histories ≡ channel_count → IsDeterminate ns m → ShowsParts ns m (run others m)
 shows_parts ns others m all each d =
@@ -409,7 +409,7 @@ ends_alike ns others m all each d quiet =
     let some = follows_run ns m all each d others m (follows_start ns m all each d) in
     alike_at_end ns m all each d (run others m) (comes_to ns m all each d (run others m) some quiet (length ns) (omega arith))
 
-pub comes_alike : (ns others : List ℕ) (m : MachineState) → length m.processors ≡ processor_count → length m.histories ≡ channel_count → IsDeterminate ns m → StandsIn ns others → AreAlike (run others m) (run ns m)
+pub comes_alike : (ns others : List ℕ) (m : MachineState) → length m.processors ≡ processor_count → length m.histories ≡ channel_count → IsDeterminate ns m → IsEmbeddedIn ns others → AreAlike (run others m) (run ns m)
 comes_alike ns others m all each d in_others =
     let some = follows_start ns m all each d in
     let first : ComesTo ns m m zero = record { reached = some.reached; stood = some.stood; follows = some.follows; past = λ q. omega arith } in
@@ -417,3 +417,5 @@ comes_alike ns others m all each d in_others =
 
 pub ends_quiet : (ns : List ℕ) (m : MachineState) → length m.processors ≡ processor_count → length m.histories ≡ channel_count → IsDeterminate ns m → IsQuiet (run ns m)
 ends_quiet ns m all each d = record { waits = quiet_end ns m all each d }
+
+pub ruleset every_order = (ends_quiet, shows_parts, ends_alike, comes_alike)

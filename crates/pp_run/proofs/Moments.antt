@@ -10,8 +10,8 @@ use Rattle.pp_machine.specs.MachineStep.{stepped}
 use Rattle.pp_machine.specs.NeedAndEffect.{need}
 use Rattle.pp_machine.specs.Run.{run}
 use Rattle.pp_machine.specs.RunLaws.{run_more}
-use Rattle.pp_run.specs.Determinacy.{at_moment, processor_at, history_at, made_on, GoesOnAlone, MayFind}
-use Rattle.pp_run.specs.Determinacy.MayFind.{start, channel_goes_on, processor_goes_on, both_go_on}
+use Rattle.pp_run.specs.Determinacy.{at_moment, processor_at, history_at, made_on, AdvancesAlone, MayFind}
+use Rattle.pp_run.specs.Determinacy.MayFind.{start, channel_advances, processor_advances, both_advance}
 use Rattle.pp_run.proofs.StepFacts.{grows, made_as_history, history_unless, length_processors, length_histories, length_central}
 
 pub run_processors : (ns : List ℕ) (m : MachineState) → length (run ns m).processors ≡ length m.processors
@@ -93,7 +93,7 @@ module _ (ns : List ℕ) (m : MachineState) (each : length m.histories ≡ chann
     | inr more ↦ absurd (omega (arith, ap (λ (h : List Event). length h) same, ap (λ (h : List Event). length h) more.1, length_push (history_at ns m c u) more.0, mono c s u low, mono c (suc u) t (omega arith)))
   ]
 
-  alone_changes_none : (q c t s : ℕ) → GoesOnAlone ns m q c t s → get_or ns t 0 ≡ q → history_at ns m c (suc t) ≡ history_at ns m c t
+  alone_changes_none : (q c t s : ℕ) → AdvancesAlone ns m q c t s → get_or ns t 0 ≡ q → history_at ns m c (suc t) ≡ history_at ns m c t
   alone_changes_none q c t s alone mine = elim (cases_lt t (length ns)) [
     | inl within ↦ ap (λ n. history_of c n) (moment_next ns m t within)
         ∙ history_unless (get_or ns t 0) c (at_moment ns m t) (moment_each t) (λ op e. elim alone [
@@ -106,7 +106,7 @@ module _ (ns : List ℕ) (m : MachineState) (each : length m.histories ≡ chann
   -- what may be found is on the same side of each event of q on c
   pub sides : (q c : ℕ) {t s : ℕ} → MayFind ns m q c t s → (u : ℕ) → get_or ns u 0 ≡ q → (history_at ns m c (suc u) ≡ history_at ns m c u → ⊥) → (u < t → u < s) × (u < s → u < t)
   sides q c start u mine event = ((λ h. absurd (omega arith)), (λ h. absurd (omega arith)))
-  sides q c (channel_goes_on t s may none) u mine event =
+  sides q c (channel_advances t s may none) u mine event =
       let before = sides q c may u mine event in (
         (λ h. let b : u < s = before.0 h in omega arith),
         (λ h. elim (cases_lt u s) [
@@ -119,7 +119,7 @@ module _ (ns : List ℕ) (m : MachineState) (each : length m.histories ≡ chann
               ])
         ]),
       )
-  sides q c (processor_goes_on t s may alone) u mine event =
+  sides q c (processor_advances t s may alone) u mine event =
       let before = sides q c may u mine event in (
         (λ h. elim (cases_lt u t) [
           | inl below ↦ before.0 below
@@ -129,7 +129,7 @@ module _ (ns : List ℕ) (m : MachineState) (each : length m.histories ≡ chann
         ]),
         (λ h. let b : u < t = before.1 h in omega arith),
       )
-  sides q c (both_go_on t may) u mine event = ((λ h. h), (λ h. h))
+  sides q c (both_advance t may) u mine event = ((λ h. h), (λ h. h))
 
   -- a channel may go on where it does not change
   pub channel_to : (q c t0 s t : ℕ) → MayFind ns m q c t0 s → s ≤ t → ((u : ℕ) → s ≤ u → u < t → history_at ns m c (suc u) ≡ history_at ns m c u) → MayFind ns m q c t0 t
@@ -137,7 +137,7 @@ module _ (ns : List ℕ) (m : MachineState) (each : length m.histories ≡ chann
       let there : s ≡ zero = omega arith in
       subst (λ (k : ℕ). MayFind ns m q c t0 k) there may
   channel_to q c t0 s (suc t) may h none = elim (cases_lt s (suc t)) [
-    | inl below ↦ channel_goes_on t0 t (channel_to q c t0 s t may (omega arith) (λ u low high. none u low (omega arith))) (inr (none t (omega arith) (omega arith)))
+    | inl below ↦ channel_advances t0 t (channel_to q c t0 s t may (omega arith) (λ u low high. none u low (omega arith))) (inr (none t (omega arith) (omega arith)))
     | inr past ↦
         let there : s ≡ suc t = omega arith in
         subst (λ (k : ℕ). MayFind ns m q c t0 k) there may

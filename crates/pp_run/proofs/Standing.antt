@@ -14,8 +14,8 @@ use Rattle.pp_machine.specs.Processor.{Processor}
 use Rattle.pp_machine.specs.PpNo.{processor_count}
 use Rattle.pp_machine.specs.declared.need.Need.{Need}
 use Rattle.pp_machine.specs.declared.need.Need.TheVariants.{Nothing, Local, Channel, Read, Write}
-use Rattle.pp_run.specs.Determinacy.{Waits, IsDeterminate, IsTimely, Stays, at_moment, processor_at, history_at, need_at, made_on, MayFind}
-use Rattle.pp_run.specs.Determinacy.MayFind.{processor_goes_on}
+use Rattle.pp_run.specs.Determinacy.{Waits, IsDeterminate, IsRaceFree, Stays, at_moment, processor_at, history_at, need_at, made_on, MayFind}
+use Rattle.pp_run.specs.Determinacy.MayFind.{processor_advances}
 use Rattle.pp_run.proofs.StepFacts.{own_step, other_step, word_unless, central_by, event_by_need}
 use Rattle.pp_run.proofs.Moments.{moment_next, run_processors}
 
@@ -43,7 +43,7 @@ pub record Stands (ns : List ℕ) (m now : MachineState) (reached stood : ℕ �
 pub record Goes (ns : List ℕ) (m : MachineState) (q t : ℕ) : Type 0 where
   pub within : t < length ns
   pub mine : get_or ns t 0 ≡ q
-  pub timely : IsTimely ns m t
+  pub timely : IsRaceFree ns m t
 
 abbrev pub IsNext : List ℕ → MachineState → ℕ → ℕ → Type 0
 IsNext ns m q t = (t ≡ length ns) ⊎ Goes ns m q t
@@ -159,7 +159,7 @@ module _ (ns : List ℕ) (m : MachineState) (all : length m.processors ≡ proce
       let next : at_moment ns m (suc t) ≡ stepped n M = moment_next ns m t h in
       extended q t h
       (ap (λ k. processor_of q k) next ∙ other_step q n M (run_processors (take t ns) m ∙ all) (λ same. other (sym same)))
-      (λ channel s found. processor_goes_on t s found (inl other))
+      (λ channel s found. processor_advances t s found (inl other))
       (λ a owns. ap (λ k. word_of a k) next ∙ word_unless n a M (λ w e. other (owns t h w e)))
       c
 
@@ -173,7 +173,7 @@ module _ (ns : List ℕ) (m : MachineState) (all : length m.processors ≡ proce
       let step : at_moment ns m (suc t) ≡ stepped q M = next ∙ ap (λ k. stepped k M) mine in
       extended q t h
       (ap (λ k. processor_of q k) step ∙ w.processor)
-      (λ channel s found. processor_goes_on t s found (inr (λ op e. inl (record {
+      (λ channel s found. processor_advances t s found (inr (λ op e. inl (record {
         no_event = sym (event_by_need q channel op M e) ∙ w.event;
         stays = sym (ap (λ x. processor_after (processor_of q M) x) (ap (λ x. answer_to x M) e)) ∙ sym (own_step q M) ∙ w.processor;
       }))))

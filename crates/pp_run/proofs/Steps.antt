@@ -17,7 +17,7 @@ use Rattle.pp_machine.specs.declared.need.Need.{Need}
 use Rattle.pp_machine.specs.declared.need.Need.TheVariants.{Channel, Local}
 use Rattle.pp_machine.proofs.MachineStepLemmas.{stepped_at_rest}
 use Rattle.pp_run.specs.Determinacy.{IsDeterminate, Stays, TurnsInPlace, DoesTheSame, at_moment, processor_at, history_at, made_on, MayFind}
-use Rattle.pp_run.specs.Determinacy.MayFind.{channel_goes_on, processor_goes_on, both_go_on}
+use Rattle.pp_run.specs.Determinacy.MayFind.{channel_advances, processor_advances, both_advance}
 use Rattle.pp_run.proofs.StepFacts.{own_step, other_step, histories_by, histories_none, history_here, history_elsewhere, history_unless, word_unless, central_by, made_here, made_unless, length_processors, length_histories, length_central}
 use Rattle.pp_run.proofs.Moments.{moment_next, moment_each, run_central, mono, flat, channel_to, made_still}
 use Rattle.pp_run.proofs.Standing.{Owns, word_of, Goes, IsNext, Follows, put_at, put_same, put_other, put_all, by_answers, words_alike, catch_up}
@@ -139,7 +139,7 @@ module _ (ns : List ℕ) (m : MachineState) (all : length m.processors ≡ proce
         (by_answers q now M x (s.processor q) e answer)
         (λ c. history_unless q c now s.each (λ op g. absurd (off c op (sym e_now ∙ g))) ∙ s.history c)
         (λ c names. made_unless q c now (λ op g. absurd (off c op (sym e_now ∙ g))) ∙ s.made c names)
-        (λ c. processor_goes_on t (stood c) (s.may q c) (inr (λ op g. absurd (off c op (sym e ∙ g)))))
+        (λ c. processor_advances t (stood c) (s.may q c) (inr (λ op g. absurd (off c op (sym e ∙ g)))))
         (λ y c other. s.may y c)
 
     pub the_same : (q c : ℕ) (op : ChanOp) → Goes ns m q (reached q) → need (processor_at ns m q (reached q)) ≡ Channel c op
@@ -162,7 +162,7 @@ module _ (ns : List ℕ) (m : MachineState) (all : length m.processors ≡ proce
         (λ k names. made_unless q k now (λ oq g.
         let parts = channel_parts c k op oq (sym e_now ∙ g) in
         subst (λ (j : ℕ). event_of oq (history_of j now) ≡ None) parts.0 (subst (λ (o : ChanOp). event_of o (history_of c now) ≡ None) parts.1 none)) ∙ s.made k names)
-        (λ k. processor_goes_on t (stood k) (s.may q k) (inr (λ oq g.
+        (λ k. processor_advances t (stood k) (s.may q k) (inr (λ oq g.
         let parts = channel_parts c k op oq (sym e ∙ g) in
         inr (subst (λ (j : ℕ). DoesTheSame oq (processor_of q M) (history_at ns m j (stood j)) (history_at ns m j t)) parts.0
         (subst (λ (o : ChanOp). DoesTheSame o (processor_of q M) (history_at ns m c (stood c)) (history_at ns m c t)) parts.1 same)))))
@@ -198,10 +198,10 @@ module _ (ns : List ℕ) (m : MachineState) (all : length m.processors ≡ proce
         ∙ ap (λ (k : MachineState). made_on c k.trace) (sym step))
         (λ k other is. made_unless q k now (λ oq g. absurd (other (sym (channel_parts c k op oq (sym e_now ∙ g)).0))) ∙ s.made k is))
         (put_all (λ k v. MayFind ns m q k (suc t) v) stood c (suc t)
-        (both_go_on t (channel_to ns m each q c t (stood c) t (s.may q c) early between))
-        (λ k other. processor_goes_on t (stood k) (s.may q k) (inr (λ oq g. absurd (other (sym (channel_parts c k op oq (sym e ∙ g)).0))))))
+        (both_advance t (channel_to ns m each q c t (stood c) t (s.may q c) early between))
+        (λ k other. processor_advances t (stood k) (s.may q k) (inr (λ oq g. absurd (other (sym (channel_parts c k op oq (sym e ∙ g)).0))))))
         (λ y k other. put_all (λ j v. MayFind ns m y j (reached y) v) stood c (suc t)
-        (channel_goes_on (reached y) t (channel_to ns m each y c (reached y) (stood c) t (s.may y c) early between) (inl (λ is. other (sym is ∙ go.mine))))
+        (channel_advances (reached y) t (channel_to ns m each y c (reached y) (stood c) t (s.may y c) early between) (inl (λ is. other (sym is ∙ go.mine))))
         (λ j apart. s.may y j) k)
 
     -- where the channel stands as it did then

@@ -17,7 +17,7 @@ use Rattle.pp_machine.specs.declared.answer.Answer.{Answer}
 use Rattle.pp_machine.specs.declared.need.Need.{Need}
 use Rattle.pp_machine.specs.declared.trace.Trace.{Trace}
 
--- a step of processor n waits: it makes no event, and its processor and central memory stay
+-- a step of processor n waits: held, at rest or a jump to itself, it changes nothing but turns
 pub record Waits (n : ℕ) (m : MachineState) : Type 0 where
   pub processor : processor_of n (stepped n m) ≡ processor_of n m
   pub event : step_event n m ≡ None
@@ -53,10 +53,10 @@ pub record DoesTheSame (op : ChanOp) (pp : Processor) (found other : List Event)
   pub same : processor_after pp (Answer.Channel (reply_to op found))
       ≡ processor_after pp (Answer.Channel (reply_to op other))
 
--- Step t leaves it open where processor q stands, as channel c sees it: it is no step of q's on c,
--- or one that waits, or one that would do the same had it found channel c as it stood at moment s.
-abbrev pub GoesOnAlone : List ℕ → MachineState → ℕ → ℕ → ℕ → ℕ → Type 0
-GoesOnAlone ns m q c t s =
+-- processor q may pass step t while channel c stands as at moment s: the step is not q's on c, or
+-- waits, or would do the same at s
+abbrev pub AdvancesAlone : List ℕ → MachineState → ℕ → ℕ → ℕ → ℕ → Type 0
+AdvancesAlone ns m q c t s =
     (slice_index ns t ≢ q)
     ⊎ ((op : ChanOp) → need (processor_at ns m q t) ≡ Need.Channel c op
     → Stays op (processor_at ns m q t) (history_at ns m c t)
@@ -68,38 +68,37 @@ MakesNoneOf ns m q c s =
     (slice_index ns s ≢ q) ⊎ (history_at ns m c (suc s) ≡ history_at ns m c s)
 
 -- THE HEART: processor q may find channel c as the list had it at moment s when q itself stands as
--- the list had it at moment t. This holds wherever some order of steps finds them so. It may hold
--- even if no order does, for it looks at q and c alone: what another channel or a word of memory
--- makes wait, it does not see. Think of two hands on the list, one where q stands and one where c
--- stands. Both begin at the start. The channel's hand goes on alone over every step that is no
--- event of q's on c; q's hand goes on alone over every step that leaves it open where the channel
--- stands; and when both are at one step, they go on together.
+-- the list had it at moment t. This holds if some order of steps finds them so. It may hold even if
+-- no order does, for it looks at q and c alone: what another channel or a word of memory makes
+-- wait, it does not see. There are two counters, t for q and s for c, from 0: s passes any step
+-- that makes no event of q's on c; t passes any step by `AdvancesAlone`; and both pass one step
+-- together.
 pub data MayFind (ns : List ℕ) (m : MachineState) (q c : ℕ) : ℕ → ℕ → Type 0 where
   start : MayFind ns m q c zero zero
-  channel_goes_on : (t s : ℕ) → MayFind ns m q c t s → MakesNoneOf ns m q c s
+  channel_advances : (t s : ℕ) → MayFind ns m q c t s → MakesNoneOf ns m q c s
       → MayFind ns m q c t (suc s)
-  processor_goes_on : (t s : ℕ) → MayFind ns m q c t s → GoesOnAlone ns m q c t s
+  processor_advances : (t s : ℕ) → MayFind ns m q c t s → AdvancesAlone ns m q c t s
       → MayFind ns m q c (suc t) s
-  both_go_on : (t : ℕ) → MayFind ns m q c t t → MayFind ns m q c (suc t) (suc t)
+  both_advance : (t : ℕ) → MayFind ns m q c t t → MayFind ns m q c (suc t) (suc t)
 
--- Step t races with no other on channel c as it stood at moment s: the channel stood the same way
--- at moment t, or the step would do the same, or it would wait, and moment s is before t.
-abbrev pub IsInTime : List ℕ → MachineState → ℕ → ℕ → ChanOp → Processor → ℕ → Type 0
-IsInTime ns m t c op pp s =
+-- step t does not race with channel c as it stood at moment s: it had the same history; or the step
+-- makes no event with either, and does the same; or s is before t, and it would wait
+abbrev pub IsNoRaceAt : List ℕ → MachineState → ℕ → ℕ → ChanOp → Processor → ℕ → Type 0
+IsNoRaceAt ns m t c op pp s =
     (history_at ns m c s ≡ history_at ns m c t)
     ⊎ (DoesTheSame op pp (history_at ns m c s) (history_at ns m c t)
     ⊎ ((s < t) × Stays op pp (history_at ns m c s)))
 
 -- Step t is timely: if it is on a channel, then on one that exists, and however it may find it, it
--- races with no other.
-pub record IsTimelyOn (ns : List ℕ) (m : MachineState) (t c : ℕ) (op : ChanOp) : Type 0 where
+-- does not race.
+pub record IsRaceFreeOn (ns : List ℕ) (m : MachineState) (t c : ℕ) (op : ChanOp) : Type 0 where
   pub exists : IsTrue (names_channel c)
   pub in_time : (s : ℕ) → MayFind ns m (slice_index ns t) c t s
-      → IsInTime ns m t c op (processor_at ns m (slice_index ns t) t) s
+      → IsNoRaceAt ns m t c op (processor_at ns m (slice_index ns t) t) s
 
-abbrev pub IsTimely : List ℕ → MachineState → ℕ → Type 0
-IsTimely ns m t = (c : ℕ) (op : ChanOp) → need_at ns m t ≡ Need.Channel c op
-    → IsTimelyOn ns m t c op
+abbrev pub IsRaceFree : List ℕ → MachineState → ℕ → Type 0
+IsRaceFree ns m t = (c : ℕ) (op : ChanOp) → need_at ns m t ≡ Need.Channel c op
+    → IsRaceFreeOn ns m t c op
 
 -- a processor waits for a channel for good: however it may find it after the last step, it waits
 pub record WaitsForGood (ns : List ℕ) (m : MachineState) (q c : ℕ) (op : ChanOp) : Type 0 where
@@ -131,7 +130,7 @@ UsesAt a x = (x ≡ Need.Read a) ⊎ WritesAt a x
 -- only one that uses it.
 pub record IsDeterminate (ns : List ℕ) (m : MachineState) : Type 0 where
   pub steps : (t : ℕ) → t < length ns
-      → Waits (slice_index ns t) (at_moment ns m t) ⊎ IsTimely ns m t
+      → Waits (slice_index ns t) (at_moment ns m t) ⊎ IsRaceFree ns m t
   pub settled : (q : ℕ) → IsSettled ns m q
   pub apart : (u t a : ℕ) → u < length ns → t < length ns → a < length m.central
       → WritesAt a (need_at ns m u) → UsesAt a (need_at ns m t)
@@ -166,7 +165,7 @@ pub record AreAlike (one other : MachineState) : Type 0 where
 
 -- a list of steps stands in another, in its order, with any steps between: as it does in every
 -- order that goes on with each processor for long enough
-pub data StandsIn : List ℕ → List ℕ → Type 0 where
-  over : (others : List ℕ) → StandsIn [] others
-  next : (n : ℕ) (ns others : List ℕ) → StandsIn ns others → StandsIn (n ∷ ns) (n ∷ others)
-  beside : (n : ℕ) (ns others : List ℕ) → StandsIn ns others → StandsIn ns (n ∷ others)
+pub data IsEmbeddedIn : List ℕ → List ℕ → Type 0 where
+  over : (others : List ℕ) → IsEmbeddedIn [] others
+  next : (n : ℕ) (ns others : List ℕ) → IsEmbeddedIn ns others → IsEmbeddedIn (n ∷ ns) (n ∷ others)
+  beside : (n : ℕ) (ns others : List ℕ) → IsEmbeddedIn ns others → IsEmbeddedIn ns (n ∷ others)

@@ -51,7 +51,7 @@ abbrev pub MakesEvent : MachineState → ℕ → Type 0
 MakesEvent m turns =
     IsSome (step_event (processor_in_turn m.profile turns) (run (barrel m.profile turns) m))
 
--- A run of `turns` turns is cut after `done` of them, where something had to be kept: before a step
+-- A run of `turns` turns is cut after `done` of them, when something had to be kept: before a step
 -- that makes an event, or after a step that is kept itself.
 abbrev pub IsCutAt : (RunStep → Type 0) → ℕ → MachineState → ℕ → Type 0
 IsCutAt Keeps turns m done =

@@ -6,13 +6,15 @@ ghost use Rattle.pp_channel.specs.ChannelNo.{channel_count};
 ghost use Rattle.pp_machine.specs.MachineState.{MachineState};
 ghost use Rattle.pp_machine.specs.PpNo.{processor_count};
 ghost use Rattle.pp_machine.specs.Run.{run};
-ghost use Rattle.pp_run.specs.Determinacy.{AreAlike, IsDeterminate, IsQuiet, ShowsParts, StandsIn};
+ghost use Rattle.pp_run.specs.Determinacy.{AreAlike, IsDeterminate, IsQuiet, ShowsParts, IsEmbeddedIn};
 
-/// If one list of steps shows no race, on a channel or a central word, and is settled, it ends
-/// quiet. Every other list of steps shows each processor and each channel only as the first showed
-/// it at some moment; and one that ends quiet, or in which the first stands with any steps between,
-/// leaves the processors, central memory and the histories of the channels as the first did.
-#[tactic(auto, using(crate::proofs::DeterminacyLemmas::ends_quiet, crate::proofs::DeterminacyLemmas::shows_parts, crate::proofs::DeterminacyLemmas::ends_alike, crate::proofs::DeterminacyLemmas::comes_alike,))]
+/// If in one list of steps no step may race on a channel, no processor uses a central word that
+/// another writes, and each is settled after it, it ends quiet. Every other list of steps shows
+/// each processor and each channel only as the first showed it at some moment; and one that ends
+/// quiet, or in which the first stands with any steps between, leaves the processors, central
+/// memory and the histories of the channels as the first did, each event made by the same
+/// processor.
+#[tactic(auto, using(crate::proofs::DeterminacyLemmas::every_order))]
 pub fn determinacy_law()
     ensures quiet { (ns : List ℕ) (m : MachineState)
         → length m.processors ≡ processor_count → length m.histories ≡ channel_count
@@ -25,5 +27,5 @@ pub fn determinacy_law()
         → IsDeterminate ns m → IsQuiet (run others m) → AreAlike (run others m) (run ns m) }
     ensures going_on { (ns others : List ℕ) (m : MachineState)
         → length m.processors ≡ processor_count → length m.histories ≡ channel_count
-        → IsDeterminate ns m → StandsIn ns others → AreAlike (run others m) (run ns m) }
+        → IsDeterminate ns m → IsEmbeddedIn ns others → AreAlike (run others m) (run ns m) }
 {}

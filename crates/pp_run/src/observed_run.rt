@@ -22,7 +22,7 @@ pub fn run_observed<A: Allocator, O: Observer<A>>(
         (run_steps (barrel machine.old.profile turns) machine.old) observer.new) }
     ensures cut { IfErr result (λ c.
         machine.new ≡ run (barrel machine.old.profile c.done) machine.old) }
-    // A run is cut only where an event or a step had to be kept.
+    // A run is cut only when an event or a step had to be kept.
     ensures cut_at { IfErr result (λ c.
         IsCutAt (O.Keeps observer.old) turns machine.old c.done) }
     // An observer that keeps no step has seen those that were made.

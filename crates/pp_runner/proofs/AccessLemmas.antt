@@ -5,8 +5,8 @@ use Rattle.std.specs.Option.{option_map, option_or, option_to_list}
 use Rattle.std.proofs.lemmas.Bool.{cases_eq, eq-eqb, ne_eqb}
 use Rattle.std.proofs.lemmas.List.{append-nil, length-take-le, map-append, take_all}
 use Rattle.std.proofs.lemmas.List.Elements.{All-pop, filter_map-append}
-use Rattle.list_facts.specs.Subsequence.{IsSubsequence}
-use Rattle.list_facts.specs.Subsequences.{stands_append, stands_later, stands_more}
+use Rattle.pp_word.specs.Subsequence.{IsSubsequence}
+use Rattle.pp_word.specs.Subsequences.{stands_append, stands_later, stands_more}
 use Rattle.pp_line.proofs.ChannelWordLemmas.{number_of_word, flags_of_word}
 use Rattle.pp_channel.proofs.FrontLemmas.{twelve_bits_take}
 use Rattle.pp_channel.proofs.EachHistory.{bits_on}
@@ -35,7 +35,7 @@ use Rattle.pp_channel.specs.declared.reply.Reply.TheVariants as replies
 use Rattle.pp_line.specs.declared.rule.FoundWord.{FoundWord}
 use Rattle.pp_machine.specs.NeedAndEffect.{need, processor_after}
 use Rattle.pp_machine.specs.Processor.{Processor}
-use Rattle.pp_machine.specs.Replay.{OfChannel, given_by, given_count, replayed}
+use Rattle.pp_machine.specs.Replay.{OfChannel, contribution, given_count, replayed}
 use Rattle.pp_machine.specs.ReplayLaws.{Gives, Gives-counted}
 use Rattle.pp_machine.specs.declared.answer.Answer.{Answer}
 use Rattle.pp_machine.specs.declared.answer.Answer.TheVariants as answers
@@ -174,7 +174,7 @@ entries_on : (c number : ℕ) (o : Option Seen) → entries_among (map (λ what.
 entries_on c number None = refl
 entries_on c number (Some what) = refl
 
-pub entries_by : (number : ℕ) (n : Need) (x : Answer) → entries_among (accesses_by number n x) ≡ numbered number (given_by seen_answered n x)
+pub entries_by : (number : ℕ) (n : Need) (x : Answer) → entries_among (accesses_by number n x) ≡ numbered number (contribution seen_answered n x)
 entries_by number (needs.Channel c op) (answers.Channel reply) = entries_on c number (seen_answered op reply)
 entries_by number (needs.Channel c op) answers.Local = refl
 entries_by number (needs.Channel c op) (answers.Read word) = refl
@@ -274,7 +274,7 @@ given_to (y ∷ xs) pp new made x number gives is = (
 
 -- and the line that made them
 pub made_more : (load pp : Processor) (size : ℕ) (xs : List Answer) (x : Answer) (done now : List Entry) (before after : LineState) → (made : HasMade load xs done before.view) → (told : IsAnswered size (need pp) x before after) → pp ≡ replayed load xs
-    → given_count load xs ≡ length xs → ((old : List Entry) → IsSubsequence old done → IsSubsequence (old ++ numbered told.number (given_by seen_answered (need pp) x)) now) → HasMade load (xs ++ x ∷ []) now after.view
+    → given_count load xs ≡ length xs → ((old : List Entry) → IsSubsequence old done → IsSubsequence (old ++ numbered told.number (contribution seen_answered (need pp) x)) now) → HasMade load (xs ++ x ∷ []) now after.view
 made_more load pp size xs x done now before after made told same counted goes_on =
     let more : List Access = accesses_by told.number (need pp) x in record {
       accesses = made.accesses ++ more;

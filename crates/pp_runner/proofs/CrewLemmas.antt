@@ -1,30 +1,33 @@
 -- A worker and its line more.
-use Rattle.std.proofs.Common.{◌≡◌, ℕ, suc, ◌+◌, ◌*◌, ◌<◌, ◌≤◌, List, [], ◌∷◌, ◌++◌, length, take, refl, sym, ap, ◌∙◌, subst, arith}
-use Rattle.std.specs.Prelude.{Some, Result, Ok, Err, IfOk, All, slice_index_or}
+use Rattle.std.proofs.Common.{◌≡◌, ℕ, ◌+◌, ◌-◌, ◌*◌, ◌<◌, ◌≤◌, List, [], ◌∷◌, ◌++◌, length, take, sym, ap, ◌∙◌, subst, arith}
+use Rattle.std.specs.Prelude.{Some, All, slice_index_or}
+use Rattle.pp_line.proofs.JoinedLines.{zip_push}
 use Rattle.std.proofs.lemmas.List.{take_more, length-append}
 use Rattle.std.proofs.lemmas.List.Elements.{All-pop, All-push, All-weaker}
-use Rattle.list_facts.specs.Subsequence.{IsSubsequence}
-use Rattle.list_facts.specs.Subsequences.{stands_more}
+use Rattle.pp_word.specs.Subsequence.{IsSubsequence}
+use Rattle.pp_word.specs.Subsequences.{stands_more}
 use Rattle.pp_line.specs.LineState.{LineState, IsSplitFrom}
 use Rattle.pp_line.specs.Order.{entries_among}
 use Rattle.pp_line.specs.LineView.{parent_view}
-use Rattle.pp_line.specs.LineLog.{seen_on}
+use Rattle.pp_line.specs.LineLog.{IsMonotone, seen_on}
+use Rattle.pp_line.specs.Merge.{IsOpeningLog}
+use Rattle.pp_line.specs.declared.entry.Entry.{Entry}
+use Rattle.pp_machine.specs.Headline.{opening_history}
 use Rattle.pp_machine.specs.MachineState.{MachineState, processor_of}
 use Rattle.pp_machine.specs.Processor.{Processor, no_processor}
 use Rattle.pp_machine.specs.PpNo.{processor_count, processor_index, processor_number}
 use Rattle.pp_machine.specs.ProcessorPlaces.{place_of_number}
+use Rattle.pp_machine.specs.Replay.{looks_and_events}
 use Rattle.pp_runner.proofs.LabourLemmas.{work_begun}
 use Rattle.pp_runner.proofs.LogLemmas.{stands_done}
 use Rattle.pp_runner.proofs.LineLemmas.{operated_least, same_line_still, same_line_twice}
-use Rattle.pp_runner.specs.Crew.{AreReady, IsEnded, HasEnded, AreEnded}
+use Rattle.pp_runner.specs.Crew.{AreReady, IsEnded, HasEnded, AreEnded, HasOpened}
 use Rattle.pp_runner.specs.Labour.{IsAtWork, IsUnused, HasSeen, IsSameLine, HasOperated}
 use Rattle.pp_runner.specs.End.{IsEnd, WornWithCause}
-use Rattle.pp_runner.specs.WorkerReport.{AreWorkers}
-use Rattle.pp_runner.specs.declared.crew.Crew.{Crew}
+use Rattle.pp_runner.specs.WorkerReport.{events_in, sights_in}
 use Rattle.pp_runner.specs.declared.end.End.{End}
 use Rattle.pp_runner.specs.declared.end.End.TheVariants.{Patience}
-use Rattle.pp_runner.specs.declared.labour.Ended.{Ended}
-use Rattle.pp_runner.specs.declared.worker.Worker.{Worker}
+use Rattle.pp_runner.specs.declared.worker.Ended.{Ended}
 
 -- a line that has seen what another has
 pub same_seen : (happened : ℕ → ℕ) (line after : LineState) → after.view.seen ≡ line.view.seen → HasSeen happened line → HasSeen happened after
@@ -33,32 +36,22 @@ same_seen happened line after is has = record {
   seen = λ c. subst (λ (seen : List ℕ). happened c ≤ seen_on c seen) (sym is) (has.seen c);
 }
 
--- workers that have ended, and one more behind them
-ended_push : {A : Type 0} (loads : List Processor) (size steps room : ℕ) (family : LineState) (ws : List (Worker A)) (ls : List LineState) (load : Processor) (w : Worker A) (l : LineState)
-    → AreEnded loads size steps room family ws ls → HasEnded load size steps room family w l → AreEnded (loads ++ load ∷ []) size steps room family (ws ++ w ∷ []) (ls ++ l ∷ [])
-ended_push [] size steps room family [] [] load w l all one = (one, tt)
-ended_push [] size steps room family [] (k ∷ ls) load w l all one = absurd all
-ended_push [] size steps room family (v ∷ ws) ls load w l all one = absurd all
-ended_push (p ∷ loads) size steps room family [] ls load w l all one = absurd all
-ended_push (p ∷ loads) size steps room family (v ∷ ws) [] load w l all one = absurd all
-ended_push (p ∷ loads) size steps room family (v ∷ ws) (k ∷ ls) load w l all one = (all.0, ended_push loads size steps room family ws ls load w l all.1 one)
-
 -- a worker that makes no further step, and whose line has its log
-pub work_ended : {A : Type 0} (load : Processor) (size steps : ℕ) (line : LineState) (w : Worker A) → IsAtWork load size steps w.pp w.answers.items line → length w.answers.items ≤ steps
-    → IsEnd steps w.finish w.pp w.answers.items line.log.entries → WornWithCause (λ c. seen_on c line.view.seen) w.finish w.pp → IsEnded load size steps line w line
-work_ended load size steps line w work few finish worn =
+pub work_ended : {A : Type 0} (load : Processor) (size steps : ℕ) (line : LineState) (ended : Ended A) → IsAtWork load size steps ended.pp ended.answers.items line → length ended.answers.items ≤ steps
+    → IsEnd steps ended.finish ended.pp ended.answers.items line.log.entries → WornWithCause (λ c. seen_on c line.view.seen) ended.finish ended.pp → IsEnded load size steps line ended line
+work_ended load size steps line ended work few finish worn =
     let s = work_begun work in record {
-      worker = record {
+      worker = λ log is. record {
         pp = work.pp_is;
         all_given = work.all_given;
         all_moved = work.all_moved;
         by_size = work.by_size;
-        events = work.events;
-        sights = stands_done work.done line.log _ s work.sights;
-        monotone = work.monotone;
+        events = ap events_in is ∙ work.events;
+        sights = subst (λ (es : List Entry). IsSubsequence (looks_and_events load ended.answers.items) (sights_in es)) (sym is) (stands_done work.done line.log _ s work.sights);
+        monotone = subst IsMonotone (sym is) work.monotone;
         few_answers = few;
-        few_entries = omega (arith, s.few, work.few_entries);
-        finish = finish;
+        few_entries = omega (arith, ap length is, s.few, work.few_entries);
+        finish = subst (IsEnd steps ended.finish ended.pp ended.answers.items) (sym is) finish;
       };
       made = record {
         accesses = work.made.accesses;
@@ -74,21 +67,20 @@ work_ended load size steps line w work few finish worn =
     }
 
 -- a worker that has ended began with the line that it had at first
-pub ended_since : {A : Type 0} (load : Processor) (size steps : ℕ) (line mid : LineState) (ended : Ended A) → IsSameLine line mid
-    → IsEnded load size steps mid ended.worker ended.line → IsEnded load size steps line ended.worker ended.line
+pub ended_since : {A : Type 0} (load : Processor) (size steps : ℕ) (line mid : LineState) (ended : Ended A × LineState) → IsSameLine line mid → IsEnded load size steps mid ended.0 ended.1 → IsEnded load size steps line ended.0 ended.1
 ended_since load size steps line mid ended same one =
-    record { worker = one.worker; made = one.made; worn = one.worn; same_line = same_line_twice line mid ended.line same one.same_line }
+    record { worker = one.worker; made = one.made; worn = one.worn; same_line = same_line_twice line mid ended.1 same one.same_line }
 
 -- a worker that has given up, with the line that it had at first, at the beginning of its last step, and at its end
-pub gave_up : {A : Type 0} (patience : ℕ) (line mid after : LineState) (finish : End) (ended : Ended A) → length line.view.found ≤ length mid.view.found → (finish ≡ Patience → HasOperated patience mid after)
-    → ended.line ≡ after → ended.worker.finish ≡ finish → (ended.worker.finish ≡ Patience → length line.view.found + patience ≤ length ended.line.view.found)
+pub gave_up : {A : Type 0} (patience : ℕ) (line mid after : LineState) (finish : End) (ended : Ended A × LineState) → length line.view.found ≤ length mid.view.found → (finish ≡ Patience → HasOperated patience mid after)
+    → ended.1 ≡ after → ended.0.finish ≡ finish → (ended.0.finish ≡ Patience → length line.view.found + patience ≤ length ended.1.view.found)
 gave_up patience line mid after finish ended more operated same was = λ is.
     let last = operated (sym was ∙ is) in
     omega (arith, more, operated_least patience mid after last, ap (λ l. length l.view.found) same)
 
 -- one that has not
-pub not_given_up : {A : Type 0} (patience : ℕ) (line : LineState) (finish : End) (ended : Ended A) → (finish ≡ Patience → ⊥)
-    → ended.worker.finish ≡ finish → (ended.worker.finish ≡ Patience → length line.view.found + patience ≤ length ended.line.view.found)
+pub not_given_up : {A : Type 0} (patience : ℕ) (line : LineState) (finish : End) (ended : Ended A × LineState) → (finish ≡ Patience → ⊥)
+    → ended.0.finish ≡ finish → (ended.0.finish ≡ Patience → length line.view.found + patience ≤ length ended.1.view.found)
 not_given_up patience line finish ended other was = λ is. absurd (other (sym was ∙ is))
 
 -- the processor of the place behind so many
@@ -142,45 +134,47 @@ ready_before m size room family line others taken some = record {
 }
 
 -- workers, and the one behind them
-pub ended_beside : {A E : Type 0} (m : MachineState) (n room size steps left total : ℕ) (family line mine : LineState) (others ls : List LineState) (w : Worker A) (ws : List (Worker A)) (r : Result (Crew A) E)
+pub ended_beside : {A : Type 0} (m : MachineState) (n room size steps left total : ℕ) (family line : LineState) (others : List LineState) (crew after : List (Ended A × LineState)) (last : Ended A × LineState)
     → IsTaken m size room family line others → n ≡ processor_number left → left ≡ length others → total ≡ left + 1
-    → IsEnded (processor_of n m) size steps line w mine → AreEnded (take left m.processors) size steps room family ws ls
-    → IfOk r (λ crew. crew.workers.items ≡ ws ++ w ∷ []) → IfOk r (λ crew. crew.lines.items ≡ ls ++ mine ∷ [])
-    → IfOk r (λ crew. AreEnded (take total m.processors) size steps room family crew.workers.items crew.lines.items)
-ended_beside m n room size steps left total family line mine others ls w ws (Err e) taken at those sum one all workers_are lines_are = tt
-ended_beside {A} m n room size steps left total family line mine others ls w ws (Ok crew) taken at those sum one all workers_are lines_are =
+    → IsEnded (processor_of n m) size steps line last.0 last.1 → AreEnded (take left m.processors) size steps room family crew → after ≡ crew ++ last ∷ []
+    → AreEnded (take total m.processors) size steps room family after
+ended_beside {A} m n room size steps left total family line others crew after last taken at those sum one all after_is =
     let below : left < processor_count = omega (arith, taken.count, those) in
     let loads : take (left + 1) m.processors ≡ take left m.processors ++ processor_of n m ∷ [] =
     processors_push m n left (place_behind n left at below) (omega (arith, below, taken.each)) in
-    let ended : AreEnded (take left m.processors ++ processor_of n m ∷ []) size steps room family (ws ++ w ∷ []) (ls ++ mine ∷ []) =
-    ended_push (take left m.processors) size steps room family ws ls (processor_of n m) w mine all (record { line = line; fresh = taken.fresh; ended = one }) in
-    subst (λ (k : ℕ). AreEnded (take k m.processors) size steps room family crew.workers.items crew.lines.items) (sym sum)
-    (subst (λ (ps : List Processor). AreEnded ps size steps room family crew.workers.items crew.lines.items) (sym loads)
-    (subst (λ (vs : List (Worker A)). AreEnded (take left m.processors ++ processor_of n m ∷ []) size steps room family vs crew.lines.items) (sym workers_are)
-    (subst (λ (ks : List LineState). AreEnded (take left m.processors ++ processor_of n m ∷ []) size steps room family (ws ++ w ∷ []) ks) (sym lines_are) ended)))
+    let ended : AreEnded (take left m.processors ++ processor_of n m ∷ []) size steps room family (crew ++ last ∷ []) =
+    zip_push (λ load pair. HasEnded load size steps room family pair) (take left m.processors) crew (processor_of n m) last all (record { line = line; fresh = taken.fresh; has = one }) in
+    rw (sum, loads, after_is) ended
 
 -- the first worker, behind which there is none
-pub ended_alone : {A E : Type 0} (m : MachineState) (n room size steps total : ℕ) (load : Processor) (family line mine : LineState) (lines others ls : List LineState) (w : Worker A) (ws : List (Worker A)) (r : Result (Crew A) E)
+pub ended_alone : {A : Type 0} (m : MachineState) (n room size steps total : ℕ) (load : Processor) (family line : LineState) (lines others : List LineState) (crew after : List (Ended A × LineState)) (last : Ended A × LineState)
     → AreReady m size room family lines → lines ≡ others ++ line ∷ [] → total ≡ length lines → total ≤ 1 → n ≡ processor_number (length others) → load ≡ processor_of n m
-    → IsEnded load size steps line w mine → ws ≡ [] → ls ≡ []
-    → IfOk r (λ crew. crew.workers.items ≡ ws ++ w ∷ []) → IfOk r (λ crew. crew.lines.items ≡ ls ++ mine ∷ [])
-    → IfOk r (λ crew. AreEnded (take total m.processors) size steps room family crew.workers.items crew.lines.items)
-ended_alone {A} m n room size steps total load family line mine lines others ls w ws r ready is sum few at load_is one no_workers no_lines workers_are lines_are =
-    let taken = taken_of m size room family line lines others is ready in
+    → IsEnded load size steps line last.0 last.1 → crew ≡ [] → after ≡ crew ++ last ∷ [] → AreEnded (take total m.processors) size steps room family after
+ended_alone {A} m n room size steps total load family line lines others crew after last ready is sum few at load_is one nobody after_is =
     let none : length others ≡ 0 = omega (arith, ap length is, length-append others (line ∷ []), sum, few) in
-    let nobody : AreEnded [] size steps room family ws ls = rw (no_workers, no_lines) tt in
-    ended_beside m n room size steps 0 total family line mine others ls w ws r taken (at ∙ ap processor_number none) (sym none) (omega (arith, sum, few, ready.some))
-    (subst (λ (p : Processor). IsEnded p size steps line w mine) load_is one) nobody workers_are lines_are
+    ended_beside m n room size steps 0 total family line others crew after last (taken_of m size room family line lines others is ready) (at ∙ ap processor_number none) (sym none) (omega (arith, sum, few, ready.some))
+    (subst (λ (p : Processor). IsEnded p size steps line last.0 last.1) load_is one) (rw nobody tt) after_is
 
 -- what a promise says, in the words of what it was made from
-pub promised : {A : Type 0} (load was : Processor) (size size_was steps steps_was : ℕ) (line line_was : LineState) (w : Worker A) (after : LineState) → was ≡ load → size_was ≡ size → steps_was ≡ steps → line_was ≡ line
-    → IsEnded was size_was steps_was line_was w after → IsEnded load size steps line w after
-promised load was size size_was steps steps_was line line_was w after a b c d h = rw (← a, ← b, ← c, ← d) h
+pub promised : {A : Type 0} (load was : Processor) (size steps steps_was : ℕ) (line line_was : LineState) (ended : Ended A × LineState) → was ≡ load → steps_was ≡ steps → line_was ≡ line
+    → IsEnded was size steps_was line_was ended.0 ended.1 → IsEnded load size steps line ended.0 ended.1
+promised load was size steps steps_was line line_was ended a b c h = rw (← a, ← b, ← c) h
 
 -- and a worker that ends as the promise's words say keeps it
-pub promise_kept : {A : Type 0} (load was : Processor) (size size_was steps steps_was : ℕ) (line line_was : LineState) (ended : Ended A) → was ≡ load → size_was ≡ size → steps_was ≡ steps → line_was ≡ line
-    → IsEnded load size steps line ended.worker ended.line → IsEnded was size_was steps_was line_was ended.worker ended.line
-promise_kept load was size size_was steps steps_was line line_was ended a b c d h = rw (a, b, c, d) h
+pub promise_kept : {A : Type 0} (load was : Processor) (size steps steps_was : ℕ) (line line_was : LineState) (ended : Ended A × LineState) → was ≡ load → steps_was ≡ steps → line_was ≡ line
+    → IsEnded load size steps line ended.0 ended.1 → IsEnded was size steps_was line_was ended.0 ended.1
+promise_kept load was size steps steps_was line line_was ended a b c h = rw (a, b, c) h
+
+-- a line that gives a share to another has one less, and has opened what it had
+pub opened_split : (m : MachineState) (all some : ℕ) (first after : LineState) → after ≡ record first { view = parent_view first.view } → HasOpened m all some first → HasOpened m all (some - 1) after
+opened_split m all some first after is has = record {
+  opening = subst (IsOpeningLog (λ c. opening_history c m)) (sym (ap (λ l. l.log.entries) is)) has.opening;
+  seen = same_seen (λ c. length (opening_history c m)) first after (ap (λ l. l.view.seen) is) has.seen;
+  whole = ap (λ l. l.view.whole) is ∙ has.whole;
+  shares = ap (λ l. l.view.shares) is ∙ ap (λ n. n - 1) has.shares;
+  no_write = ap (λ l. l.view.written) is ∙ has.no_write;
+  central = ap (λ l. l.view.central) is ∙ has.central;
+}
 
 -- a line that gives a share to another is of the same family as before
 pub split_more : (room : ℕ) (first after line : LineState) (lines : List LineState) → after ≡ record first { view = parent_view first.view } → IsSplitFrom first room line →
@@ -188,10 +182,3 @@ pub split_more : (room : ℕ) (first after line : LineState) (lines : List LineS
 split_more room first after line lines is split all =
     let same : (other : LineState) → IsSplitFrom first room other → IsSplitFrom after room other = λ other b. subst (λ (parent : LineState). IsSplitFrom parent room other) (sym is) (record { log = b.log; view = b.view; table = b.table }) in
     All-push (IsSplitFrom after room) lines line (All-weaker (IsSplitFrom first room) (IsSplitFrom after room) same lines all) (same line split)
-
--- there are as many workers as processors
-pub workers_count : {A : Type 0} (loads : List Processor) (size steps : ℕ) (ws : List (Worker A)) → AreWorkers loads size steps ws → length ws ≡ length loads
-workers_count [] size steps [] all = refl
-workers_count [] size steps (w ∷ ws) all = absurd all
-workers_count (p ∷ loads) size steps [] all = absurd all
-workers_count (p ∷ loads) size steps (w ∷ ws) all = ap suc (workers_count loads size steps ws all.1)

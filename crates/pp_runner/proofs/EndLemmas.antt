@@ -1,36 +1,14 @@
 -- Each end, by what the processor, the answers and the log are.
-use Rattle.std.proofs.Common.{◌≡◌, ℕ, ◌<◌, ◌≤◌, List, [], Option, None, Some, length, refl, arith}
+use Rattle.std.proofs.Common.{◌≡◌, ℕ, ◌<◌, ◌≤◌, List, [], Option, None, Some, length, arith}
 use Rattle.std.specs.Prelude.{IfNone, IfSome, unwrap_or}
 use Rattle.pp_line.specs.declared.entry.Entry.{Entry}
 use Rattle.pp_machine.specs.NeedAndEffect.{need}
-use Rattle.pp_machine.specs.Processor.{Processor, IsFaultNumber}
+use Rattle.pp_machine.specs.Processor.{Processor}
 use Rattle.pp_machine.specs.declared.answer.Answer.{Answer}
 use Rattle.pp_machine.specs.declared.pp_state.PpState.TheVariants as states
 use Rattle.pp_runner.specs.End.{IsEnd, NeedsWornChannel, WornWithCause, WasHeld}
 use Rattle.pp_runner.specs.declared.end.End.{End}
 use Rattle.pp_runner.specs.declared.end.End.TheVariants as ends
-
-pub end_stopped : (steps : ℕ) (pp : Processor) (xs : List Answer) (log : List Entry) → pp.state ≡ states.Stopped → IsEnd steps ends.Stopped pp xs log
-end_stopped steps pp xs log is = record {
-  stopped = (λ e. is, λ s. refl);
-  fault = λ n. (λ e. absurd cc, λ s. absurd cc);
-  numbered = tt;
-  all_steps = λ e. absurd cc;
-  patience = λ e. absurd cc;
-  memory = λ e. absurd cc;
-  worn = λ e. absurd cc;
-}
-
-pub end_fault : (steps number : ℕ) (pp : Processor) (xs : List Answer) (log : List Entry) → pp.state ≡ states.Fault number → IsFaultNumber number → IsEnd steps (ends.Fault number) pp xs log
-end_fault steps number pp xs log is numbered = record {
-  stopped = (λ e. absurd cc, λ s. absurd cc);
-  fault = λ n. (λ e. cc, λ s. cc);
-  numbered = numbered;
-  all_steps = λ e. absurd cc;
-  patience = λ e. absurd cc;
-  memory = λ e. absurd cc;
-  worn = λ e. absurd cc;
-}
 
 pub end_steps : (steps : ℕ) (pp : Processor) (xs : List Answer) (log : List Entry) → pp.state ≡ states.Running → length xs ≡ steps → IsEnd steps ends.Steps pp xs log
 end_steps steps pp xs log running all = record {

@@ -9,7 +9,7 @@ use Rattle.std.proofs.lemmas.Option.{slice_get_within, slice_get-get_or}
 use Rattle.std.proofs.Math.ListN.{get_or-append}
 use Rattle.std.proofs.Math.Seq.{take-append_seam, get_or-append_seam}
 use Rattle.pp_channel.specs.AnswerLaws.{shown_makes_none}
-use Rattle.list_facts.specs.LastElements.{last_or-push}
+use Rattle.pp_word.specs.LastElements.{last_or-push}
 use Rattle.pp_line.specs.LineLog.{LogState, empty_log, appended, looked, with_seen, is_look_at, IsMonotone}
 use Rattle.pp_channel.specs.Answer.{event_answered, flags_shown, seen_answered}
 use Rattle.pp_channel.specs.declared.chan_op.ChanOp.{ChanOp}
@@ -21,10 +21,10 @@ use Rattle.pp_channel.specs.declared.flags.Flags.{Flags}
 use Rattle.pp_channel.specs.declared.reply.Reply.{Reply}
 use Rattle.pp_channel.specs.declared.reply.Reply.TheVariants as replies
 use Rattle.pp_machine.specs.FitLaws.{acts_where_held}
-use Rattle.pp_machine.specs.ReplayLaws.{replayed-push, given_count-push, told_along-push}
+use Rattle.pp_machine.specs.ReplayLaws.{replayed-push, given_count-push, collected_along-push}
 use Rattle.pp_machine.specs.NeedAndEffect.{need, processor_after, outcome, IsHeldAnswer}
 use Rattle.pp_machine.specs.Processor.{Processor}
-use Rattle.pp_machine.specs.Replay.{OfChannel, fits, replayed, given_count, told_along, events_given, sights_given, given_by}
+use Rattle.pp_machine.specs.Replay.{OfChannel, fits, replayed, given_count, collected_along, events_given, looks_and_events, contribution}
 use Rattle.pp_machine.specs.declared.answer.Answer.{Answer}
 use Rattle.pp_machine.specs.declared.answer.Answer.TheVariants as answers
 use Rattle.pp_machine.specs.declared.need.Need.{Need}
@@ -33,8 +33,8 @@ use Rattle.pp_machine.specs.declared.outcome.Outcome.TheVariants.{Moved}
 use Rattle.pp_runner.proofs.LogLemmas.{looked_at, BeginsWith, begins_with, events_done, events_in-push, sights_in-push, stands_done}
 use Rattle.pp_runner.proofs.ReplyLemmas.{sight_of, reply_to_channel}
 use Rattle.pp_runner.specs.WorkerReport.{OfEachAnswer, IsBySize, event_in, events_in, sights_in}
-use Rattle.list_facts.specs.Subsequence.{IsSubsequence}
-use Rattle.list_facts.specs.Subsequences.{stands_more, stands_push}
+use Rattle.pp_word.specs.Subsequence.{IsSubsequence}
+use Rattle.pp_word.specs.Subsequences.{stands_more, stands_push}
 use Rattle.pp_line.specs.LineState.{LineState}
 use Rattle.pp_line.specs.Order.{writes_among}
 use Rattle.pp_line.specs.declared.rule.LineView.{LineView}
@@ -79,15 +79,15 @@ among_event c None = refl
 among_event c (Some e) = refl
 
 among_shown : (c : ℕ) (operation : ChanOp) (reply : Reply) (shown : Option Flags) → flags_shown reply ≡ shown →
-    events_among (map (λ what. record { channel = c; what = what }) (option_to_list (option_or (option_map (λ f. Saw f) shown) (option_map (λ e. Did e) (event_answered operation reply))))) ≡ given_by event_answered (needs.Channel c operation) (answers.Channel reply)
+    events_among (map (λ what. record { channel = c; what = what }) (option_to_list (option_or (option_map (λ f. Saw f) shown) (option_map (λ e. Did e) (event_answered operation reply))))) ≡ contribution event_answered (needs.Channel c operation) (answers.Channel reply)
 among_shown c operation reply (Some f) shows = rw (shown_makes_none operation reply f shows) refl
 among_shown c operation reply None shows = among_event c (event_answered operation reply)
 
 among_seen : (c : ℕ) (operation : ChanOp) (reply : Reply) →
-    events_among (given_by seen_answered (needs.Channel c operation) (answers.Channel reply)) ≡ given_by event_answered (needs.Channel c operation) (answers.Channel reply)
+    events_among (contribution seen_answered (needs.Channel c operation) (answers.Channel reply)) ≡ contribution event_answered (needs.Channel c operation) (answers.Channel reply)
 among_seen c operation reply = among_shown c operation reply (flags_shown reply) refl
 
-among_sights : (n : Need) (x : Answer) → events_among (given_by seen_answered n x) ≡ given_by event_answered n x
+among_sights : (n : Need) (x : Answer) → events_among (contribution seen_answered n x) ≡ contribution event_answered n x
 among_sights (needs.Channel c operation) (answers.Channel reply) = among_seen c operation reply
 among_sights (needs.Channel c operation) answers.Local = refl
 among_sights (needs.Channel c operation) (answers.Read word) = refl
@@ -183,25 +183,25 @@ logged number (s ∷ []) done look before after room b held is =
 logged number (s ∷ t ∷ more) done look before after room b held is = absurd is
 
 -- where the processor was held and the answer fits, the only sight is at the channel at which it was held
-held_sight : (pp : Processor) (x : Answer) (log : LogState) → WasHeld pp log.entries → fits (need pp) x ≡ true → IsHeldAt (given_by seen_answered (need pp) x) log
+held_sight : (pp : Processor) (x : Answer) (log : LogState) → WasHeld pp log.entries → fits (need pp) x ≡ true → IsHeldAt (contribution seen_answered (need pp) x) log
 held_sight pp x log h fit =
     let n : need pp ≡ needs.Channel h.channel h.needs.operation = h.needs.is in
     let r = reply_to_channel h.channel h.needs.operation x (ap (λ m. fits m x) (sym n) ∙ fit) in
     let s = sight_of h.channel h.needs.operation r.reply r.fits in record {
       channel = h.channel;
       what = s.what;
-      only = ap (λ m. given_by seen_answered m x) n ∙ (ap (λ y. given_by seen_answered (needs.Channel h.channel h.needs.operation) y) r.is ∙ s.is);
+      only = ap (λ m. contribution seen_answered m x) n ∙ (ap (λ y. contribution seen_answered (needs.Channel h.channel h.needs.operation) y) r.is ∙ s.is);
       looked = h.looked;
     }
 
 -- an answer that fits is one event or one look at most
-one_sight : (n : Need) (x : Answer) → fits n x ≡ true → length (given_by seen_answered n x) ≤ 1
+one_sight : (n : Need) (x : Answer) → fits n x ≡ true → length (contribution seen_answered n x) ≤ 1
 one_sight needs.Nothing x fit = omega arith
 one_sight needs.Local x fit = omega arith
 one_sight (needs.Channel c operation) x fit =
     let r = reply_to_channel c operation x fit in
     let s = sight_of c operation r.reply r.fits in
-    omega (arith, ap (λ y. length (given_by seen_answered (needs.Channel c operation) y)) r.is, ap length s.is)
+    omega (arith, ap (λ y. length (contribution seen_answered (needs.Channel c operation) y)) r.is, ap length s.is)
 one_sight (needs.Read a) x fit = omega arith
 one_sight (needs.Write a w) x fit = omega arith
 
@@ -226,14 +226,14 @@ work_moved load size steps pp new xs x before after kept work fewer told moved n
     let same : pp ≡ replayed load xs = work.pp_is in
     let fit : fits (need (replayed load xs)) x ≡ true = subst (λ (q : Processor). fits (need q) x ≡ true) same told.fits in
     let room : 1 ≤ before.log.room = room_left load size steps pp xs before work fewer in
-    let log = logged told.number (given_by seen_answered (need pp) x) work.done work.look before.log after.log room work.has (λ k. held_sight pp x before.log (work.held k) told.fits) told.noted in
+    let log = logged told.number (contribution seen_answered (need pp) x) work.done work.look before.log after.log room work.has (λ k. held_sight pp x before.log (work.held k) told.fits) told.noted in
     let made = made_more load pp size xs x work.done after.log.entries before after work.made told same work.all_given (λ old h. log.stand old h) in
     let log_is : kept.log ≡ record after.log { kept = true } = ap (λ l. l.log) kept_is in
     let n : length (xs ++ x ∷ []) ≡ length xs + 1 = length-append xs (x ∷ []) in
-    let more : sights_given load (xs ++ x ∷ []) ≡ sights_given load xs ++ given_by seen_answered (need pp) x =
-    told_along-push seen_answered xs load x work.all_given fit ∙ ap (λ q. sights_given load xs ++ given_by seen_answered (need q) x) (sym same) in
-    let count : length (sights_given load (xs ++ x ∷ [])) ≡ length (sights_given load xs) + length (given_by seen_answered (need pp) x) =
-    ap length more ∙ length-append (sights_given load xs) (given_by seen_answered (need pp) x) in record {
+    let more : looks_and_events load (xs ++ x ∷ []) ≡ looks_and_events load xs ++ contribution seen_answered (need pp) x =
+    collected_along-push seen_answered xs load x work.all_given fit ∙ ap (λ q. looks_and_events load xs ++ contribution seen_answered (need q) x) (sym same) in
+    let count : length (looks_and_events load (xs ++ x ∷ [])) ≡ length (looks_and_events load xs) + length (contribution seen_answered (need pp) x) =
+    ap length more ∙ length-append (looks_and_events load xs) (contribution seen_answered (need pp) x) in record {
       pp_is = new_is ∙ (ap (λ q. processor_after q x) same ∙ sym (replayed-push xs load x work.all_given fit));
       all_given = given_count-push xs load x work.all_given fit;
       all_moved = each_push (λ q y. outcome q y ≡ Moved) load xs x work.all_moved (ap (λ q. outcome q x) (sym same) ∙ moved);
@@ -242,8 +242,8 @@ work_moved load size steps pp new xs x before after kept work fewer told moved n
       look = None;
       has = record { all = ap (λ l. l.entries) log_is ∙ sym (append-nil after.log.entries); kept = ap (λ l. l.kept) log_is };
       made = subst (λ (v : LineView). HasMade load (xs ++ x ∷ []) after.log.entries v) (sym (ap (λ l. l.view) kept_is)) made;
-      events = ap (λ l. events_in l.entries) log_is ∙ (log.events ∙ ((λ i. work.events i ++ among_sights (need pp) x i) ∙ (ap (λ q. events_given load xs ++ given_by event_answered (need q) x) same ∙ sym (told_along-push event_answered xs load x work.all_given fit))));
-      sights = subst (λ (ss : List (OfChannel Seen)). IsSubsequence ss (sights_in after.log.entries)) (sym more) (log.sights (sights_given load xs) work.sights);
+      events = ap (λ l. events_in l.entries) log_is ∙ (log.events ∙ ((λ i. work.events i ++ among_sights (need pp) x i) ∙ (ap (λ q. events_given load xs ++ contribution event_answered (need q) x) same ∙ sym (collected_along-push event_answered xs load x work.all_given fit))));
+      sights = subst (λ (ss : List (OfChannel Seen)). IsSubsequence ss (sights_in after.log.entries)) (sym more) (log.sights (looks_and_events load xs) work.sights);
       monotone = subst (λ (l : List Entry). IsMonotone l) (sym (ap (λ l. l.entries) log_is)) (told.monotone work.monotone);
       few_entries = omega (arith, log.few, work.few_entries, count);
       few_sights = omega (arith, work.few_sights, count, one_sight (need pp) x told.fits, n);
@@ -256,7 +256,7 @@ record IsHold (pp : Processor) (x : Answer) : Type 0 where
   pub channel : ℕ
   pub needs : NeedsChannel (need pp) channel
   pub flags : Flags
-  pub only : given_by seen_answered (need pp) x ≡ record { channel = channel; what = Saw flags } ∷ []
+  pub only : contribution seen_answered (need pp) x ≡ record { channel = channel; what = Saw flags } ∷ []
 
 hold_of : (n : Need) (pp : Processor) (f : Flags) → need pp ≡ n → fits n (answers.Channel (replies.Held f)) ≡ true → IsHold pp (answers.Channel (replies.Held f))
 hold_of (needs.Channel c operation) pp f n fit = record { channel = c; needs = record { operation = operation; is = n; acts = acts_where_held operation f fit }; flags = f; only = rw n refl }
@@ -336,7 +336,7 @@ work_worn load size steps pp xs before after work same looked = record {
 
 -- a worker before its first step
 pub work_begins : (load pp : Processor) (size steps : ℕ) (xs : List Answer) (line : LineState) → pp ≡ load → xs ≡ [] → IsUnused size steps line → IsAtWork load size steps pp xs line
-unfolding replayed given_count told_along
+unfolding replayed given_count collected_along
 work_begins load pp size steps xs line pp_is none unused =
     let is : line.log ≡ empty_log (2 * steps + 1) = unused.log in
     let entries : line.log.entries ≡ [] = ap (λ l. l.entries) is in record {

@@ -1,12 +1,11 @@
 -- Accesses that came after what dead start opened.
 use Rattle.std.proofs.Common.{◌≡◌, ℕ, ◌≤◌, Bool, true, false, cond, not, List, [], ◌∷◌, length, refl, sym, ap, ◌∙◌, subst, inl, inr}
 use Rattle.std.specs.List.{All, filter, range_with_len}
-use Rattle.std.specs.declared.vec.Vec.{Vec}
 use Rattle.std.proofs.lemmas.Bool.{le-ltb}
 use Rattle.std.proofs.lemmas.List.{append-nil}
 use Rattle.std.proofs.lemmas.List.Elements.{All-cons, All-head, All-nil, All-tail}
-use Rattle.list_facts.specs.Subsequence.{IsSubsequence}
-use Rattle.list_facts.specs.Subsequences.{stands_after, stands_passed, stands_through}
+use Rattle.pp_word.specs.Subsequence.{IsSubsequence}
+use Rattle.pp_word.specs.Subsequences.{stands_after, stands_passed, stands_through}
 use Rattle.pp_line.proofs.OrderLemmas.{is_later, stands_later_in}
 use Rattle.pp_channel.specs.History.{history_on}
 use Rattle.pp_channel.specs.Law.{IsPrefix}
@@ -108,9 +107,9 @@ module _ (opening : ℕ → List Event) (histories : List (List Event)) (begins 
   all_late (Write address word number ∷ xs) all = All-cons IsLate (Write address word number) xs refl (all_late xs all)
 
   -- a worker's accesses, in the order of those that came later
-  pub late_accessed : {A : Type 0} (load : Processor) (order : List Access) (w : Worker A) (log : Vec Entry A) (l : LineState) → (made : HasMade load w.answers.items l.log.entries l.view) → NoneOlder (λ c. length (opening c)) l.log.entries
-      → ExtendsEach order l.view.program_orders → IsDrawnFrom l.view.program_orders l.log.entries → log.items ≡ l.log.entries → HasAccessed load (filter is_late order) (record w { log = log }) made.accesses
-  late_accessed load order w log l made none extends drawn same =
+  pub late_accessed : {A : Type 0} (load : Processor) (order : List Access) (w : Worker A) (l : LineState) → (made : HasMade load w.answers.items l.log.entries l.view) → NoneOlder (λ c. length (opening c)) l.log.entries
+      → ExtendsEach order l.view.program_orders → IsDrawnFrom l.view.program_orders l.log.entries → w.log.items ≡ l.log.entries → HasAccessed load (filter is_late order) w made.accesses
+  late_accessed load order w l made none extends drawn same =
       let t = made.program_order in
       let within : IsSubsequence t order = All-head (λ (x : List Access). IsSubsequence x order) t [] (subst (ExtendsEach order) made.only extends) in
       let all : All NotOlder (entries_among made.accesses) = all_standing NotOlder (entries_among made.accesses) l.log.entries none made.logged in

@@ -9,7 +9,7 @@ use Rattle.std.proofs.lemmas.List.Elements.{All-append, All-cons, All-head, All-
 use Rattle.std.proofs.Math.Nat.{suc-mul, mul-one, zero-mul}
 use Rattle.pp_line.proofs.LineAnswers.{number_later}
 use Rattle.pp_line.proofs.LineKnowledge.{all_looked}
-use Rattle.list_facts.specs.WrittenNumbers.{set_raises}
+use Rattle.pp_word.specs.WrittenNumbers.{set_raises}
 use Rattle.pp_channel.specs.ChannelNo.{channel_index}
 use Rattle.pp_line.specs.ChannelWord.{number_in}
 use Rattle.pp_line.specs.LineLog.{LogState, with_seen, seen_on}
@@ -168,6 +168,11 @@ pub operated_tries : (first last made each : ℕ) (line after : LineState) → l
 operated_tries first last made each line after count a =
     let difference : made ≡ last - first = omega (arith, count) in
     subst (λ (n : ℕ). HasOperated (n * each) line after) difference a
+
+-- the same, and one more try
+pub operated_more : (first last held each again : ℕ) (line mid after : LineState) → last ≡ first + (held + 1) → again ≡ each → HasOperated (held * each) line mid → HasOperated again mid after → HasOperated ((last - first) * each) line after
+operated_more first last held each again line mid after count same a b =
+    operated_tries first last (held + 1) each line after count (operated_again held each line mid after a (subst (λ (n : ℕ). HasOperated n mid after) same b))
 
 -- a step at which the processor was held makes one operation at each try
 pub held_operates : (pp : Processor) (log : List Entry) → WasHeld pp log → operations (need pp) ≡ 1

@@ -14,7 +14,7 @@ use Rattle.pp_line.specs.declared.entry.Entry.{Entry}
 use Rattle.pp_channel.specs.declared.event.Event.{Event}
 use Rattle.pp_channel.specs.declared.event.Event.TheVariants.{Activate}
 use Rattle.pp_line.proofs.MergeLemmas.{times_within}
-use Rattle.pp_line.proofs.OpeningLemmas.{opening_more, opening_same, opening_none}
+use Rattle.pp_line.proofs.OpeningLemmas.{opening_more, opening_same}
 use Rattle.pp_machine.specs.Headline.{opening_history}
 use Rattle.pp_machine.specs.MachineState.{MachineState, is_opened}
 use Rattle.pp_runner.specs.Labour.{HasSeen}
@@ -40,9 +40,6 @@ same_before place m c below other =
     (λ (l : place ≤ channel_index c).
     let apart : channel_index c ≢ place = λ e. other (own_place c place below e) in
     not_before_it (place + 1) m c (omega (arith, l, apart)) ∙ sym (not_before_it place m c l)) (cases_lt (channel_index c) place)
-
-pub nothing_before : (m : MachineState) (log : List Entry) → log ≡ [] → IsOpeningLog (opened_before 0 m) log
-nothing_before m log none = opening_none (opened_before 0 m) log (λ c. not_before_it 0 m c (omega arith)) none
 
 -- the channel at a place has not been told of before
 pub untold : (place : ℕ) (m : MachineState) (log : List Entry) → place < channel_count → IsOpeningLog (opened_before place m) log → times_logged (channel_number place) 0 log ≡ 0

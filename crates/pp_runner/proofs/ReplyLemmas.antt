@@ -6,7 +6,7 @@ use Rattle.std.proofs.lemmas.Bool.{cases_eq}
 use Rattle.std.proofs.lemmas.List.{append-nil}
 use Rattle.pp_channel.specs.Answer.{IsAnswer, channel_state, seen_answered, flags_of}
 use Rattle.pp_line.specs.LineLog.{LogState, with_seen, IsMonotone}
-use Rattle.pp_line.specs.LineState.{LineState, IsActed, IsAnsweredBy, IsLost, IsWornOut}
+use Rattle.pp_line.specs.LineState.{LineState, IsActed, IsAnsweredBy, IsLost}
 use Rattle.pp_channel.specs.History.{history_on}
 use Rattle.pp_channel.specs.declared.chan_op.ChanOp.{ChanOp}
 use Rattle.pp_channel.specs.declared.seen.Seen.{Seen}
@@ -14,14 +14,12 @@ use Rattle.pp_channel.specs.declared.event.Event.{Event}
 use Rattle.pp_channel.specs.declared.numbered.Numbered.{Numbered}
 use Rattle.pp_channel.specs.declared.reply.Reply.{Reply}
 use Rattle.pp_machine.specs.FitLaws.{held_fits, made_fits, shown_fits, tells_where_fits}
-use Rattle.pp_machine.specs.Replay.{OfChannel, fits, reply_fits, given_by}
+use Rattle.pp_machine.specs.Replay.{OfChannel, fits, reply_fits, contribution}
 use Rattle.pp_machine.specs.declared.answer.Answer.{Answer}
 use Rattle.pp_machine.specs.declared.answer.Answer.TheVariants as answers
 use Rattle.pp_machine.specs.declared.need.Need.TheVariants as needs
-use Rattle.pp_line.specs.LineView.{look_by}
-use Rattle.pp_line.specs.declared.access.Access.{Access}
 use Rattle.pp_runner.proofs.AccessLemmas.{all_made, channel_accessed, no_writes}
-use Rattle.pp_runner.specs.Labour.{HasLooked, IsAnswered, IsNoted}
+use Rattle.pp_runner.specs.Labour.{IsAnswered, IsNoted}
 
 answer_fits : (h after : List Event) (op : ChanOp) (reply : Reply) → IsAnswer h op reply after → reply_fits op reply ≡ true
 answer_fits h after op reply is =
@@ -44,7 +42,7 @@ line_reply_fits h op r by =
 -- what a reply did or saw on channel c, and how the log takes it
 pub record IsSight (c : ℕ) (op : ChanOp) (reply : Reply) : Type 0 where
   pub what : Seen
-  pub is : given_by seen_answered (needs.Channel c op) (answers.Channel reply) ≡ record { channel = c; what = what } ∷ []
+  pub is : contribution seen_answered (needs.Channel c op) (answers.Channel reply) ≡ record { channel = c; what = what } ∷ []
   pub noted : (log : LogState) (number : ℕ) → with_seen log c number (seen_answered op reply) ≡ with_seen log c number (Some what)
 
 pub sight_of : (c : ℕ) (op : ChanOp) (reply : Reply) → reply_fits op reply ≡ true → IsSight c op reply
@@ -84,11 +82,3 @@ acted_answer size c op r before after acted monotone =
       written = ap (λ l. l.view.written) acted.after_is ∙ sym (ap (λ ws. before.view.written ++ ws) (no_writes r.number c op (answers.Channel r.reply)) ∙ append-nil before.view.written);
       monotone = monotone;
     }
-
--- a channel was found worn
-pub worn_looked : (before after : LineState) (c : ℕ) (op : ChanOp) → IsWornOut before c op after → HasLooked before after
-worn_looked before after c op worn = record {
-  more = Access.OnChannel (look_by c worn.word) ∷ [];
-  program_orders = ap (λ l. l.view.program_orders) worn.after_is;
-  written = ap (λ l. l.view.written) worn.after_is;
-}

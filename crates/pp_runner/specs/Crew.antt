@@ -1,13 +1,19 @@
 -- Workers that run at once, with their lines. (Only private contracts cite this.)
-use Rattle.std.specs.Prelude.{◌≡◌, ◌<◌, ◌≤◌, ℕ, List, [], ◌∷◌, All, length}
+use Rattle.std.specs.Prelude.{◌≡◌, ◌<◌, ◌≤◌, ℕ, List, [], All, length}
+use Rattle.std.specs.List.{AllZip}
+use Rattle.std.specs.declared.vec.Vec.{Vec}
 use Rattle.pp_line.specs.LineState.{LineState, IsSplitFrom}
 use Rattle.pp_line.specs.LineLog.{seen_on}
+use Rattle.pp_line.specs.Merge.{IsOpeningLog}
+use Rattle.pp_line.specs.declared.entry.Entry.{Entry}
+use Rattle.pp_machine.specs.Headline.{opening_history}
 use Rattle.pp_machine.specs.MachineState.{MachineState}
 use Rattle.pp_machine.specs.Processor.{Processor}
 use Rattle.pp_machine.specs.PpNo.{processor_count}
-use Rattle.pp_runner.specs.Labour.{HasMade, IsSameLine}
+use Rattle.pp_runner.specs.Labour.{HasMade, HasSeen, IsSameLine}
 use Rattle.pp_runner.specs.End.{WornWithCause}
-use Rattle.pp_runner.specs.WorkerReport.{IsLoggedWorker}
+use Rattle.pp_runner.specs.WorkerReport.{IsWorker}
+use Rattle.pp_runner.specs.declared.worker.Ended.{Ended}
 use Rattle.pp_runner.specs.declared.worker.Worker.{Worker}
 
 -- The workers of the barrel's first processors are ready, each on one of lines split from one,
@@ -20,26 +26,40 @@ pub record AreReady (m : MachineState) (size room : ℕ) (family : LineState)
   pub central : length family.view.central ≡ size
   pub fresh : All (IsSplitFrom family room) lines
 
+-- A line has opened the channels that dead start opened, and seen that: its log has an Activate for
+-- each, and no other event. It holds some of all shares, beside the machine's central memory.
+pub record HasOpened (m : MachineState) (all some : ℕ) (line : LineState) : Type 0 where
+  pub opening : IsOpeningLog (λ c. opening_history c m) line.log.entries
+  pub seen : HasSeen (λ c. length (opening_history c m)) line
+  pub whole : line.view.whole ≡ all
+  pub shares : line.view.shares ≡ some
+  pub no_write : line.view.written ≡ []
+  pub central : line.view.central ≡ m.central
+
+-- a worker that has ended, with its log
+abbrev pub worker_of : {A : Type 0} → Ended A × Vec Entry A → Worker A
+worker_of left =
+    record { pp = left.0.pp; log = left.1; answers = left.0.answers; finish = left.0.finish }
+
 -- A worker that began with this processor and this line has ended, and the line has its log and its
 -- accesses.
 pub record IsEnded {A : Type 0} (load : Processor) (size steps : ℕ) (line : LineState)
-    (w : Worker A) (after : LineState) : Type 0 where
-  pub worker : IsLoggedWorker load size steps after.log.entries w
-  pub made : HasMade load w.answers.items after.log.entries after.view
-  pub worn : WornWithCause (λ c. seen_on c after.view.seen) w.finish w.pp
+    (ended : Ended A) (after : LineState) : Type 0 where
+  pub worker : (log : Vec Entry A) → log.items ≡ after.log.entries
+      → IsWorker load size steps (worker_of (ended, log))
+  pub made : HasMade load ended.answers.items after.log.entries after.view
+  pub worn : WornWithCause (λ c. seen_on c after.view.seen) ended.finish ended.pp
   pub same_line : IsSameLine line after
 
 -- one that began with a line that was split from this family's
 pub record HasEnded {A : Type 0} (load : Processor) (size steps room : ℕ) (family : LineState)
-    (w : Worker A) (after : LineState) : Type 0 where
+    (ended : Ended A × LineState) : Type 0 where
   pub line : LineState
   pub fresh : IsSplitFrom family room line
-  pub ended : IsEnded load size steps line w after
+  pub has : IsEnded load size steps line ended.0 ended.1
 
--- for each of these processors one, with a line, in their order
-abbrev pub AreEnded : {A : Type 0} → List Processor → ℕ → ℕ → ℕ → LineState → List (Worker A)
-    → List LineState → Type 0
-AreEnded [] size steps room family [] [] = Unit {0}
-AreEnded (load ∷ loads) size steps room family (w ∷ ws) (l ∷ ls) =
-    HasEnded load size steps room family w l × AreEnded loads size steps room family ws ls
-AreEnded loads size steps room family ws ls = ⊥
+-- for each of these processors one, beside its line, in their order
+abbrev pub AreEnded : {A : Type 0} → List Processor → ℕ → ℕ → ℕ → LineState
+    → List (Ended A × LineState) → Type 0
+AreEnded loads size steps room family crew =
+    AllZip (λ load ended. HasEnded load size steps room family ended) loads crew

@@ -13,12 +13,12 @@ use Rattle.pp_channel.specs.declared.numbered.Numbered.{Numbered}
 use Rattle.pp_line.specs.declared.rule.FoundWord.{FoundWord}
 use Rattle.pp_line.specs.declared.rule.LineView.{LineView}
 use Rattle.pp_machine.specs.Processor.{Processor}
-use Rattle.pp_machine.specs.Replay.{OfChannel, fits, given_by, replayed, given_count, events_given, sights_given}
+use Rattle.pp_machine.specs.Replay.{OfChannel, fits, contribution, replayed, given_count, events_given, looks_and_events}
 use Rattle.pp_machine.specs.declared.answer.Answer.{Answer}
 use Rattle.pp_machine.specs.declared.need.Need.{Need}
 use Rattle.pp_runner.specs.Accesses.{accesses_by, AreAccessesOf}
 use Rattle.pp_runner.specs.WorkerReport.{AllMoved, AllBySize, IsBySize, events_in, sights_in}
-use Rattle.list_facts.specs.Subsequence.{IsSubsequence}
+use Rattle.pp_word.specs.Subsequence.{IsSubsequence}
 use Rattle.pp_runner.specs.End.{WasHeld}
 
 -- The log has the entries of the steps that are done, and then the look, if there is one, that has
@@ -59,10 +59,10 @@ pub record IsAtWork (load : Processor) (size steps : ℕ) (pp : Processor) (answ
   pub has : HasEntries done look line.log
   pub made : HasMade load answers done line.view
   pub events : events_in line.log.entries ≡ events_given load answers
-  pub sights : IsSubsequence (sights_given load answers) (sights_in done)
+  pub sights : IsSubsequence (looks_and_events load answers) (sights_in done)
   pub monotone : IsMonotone line.log.entries
-  pub few_entries : length done ≤ 2 * length (sights_given load answers)
-  pub few_sights : length (sights_given load answers) ≤ length answers
+  pub few_entries : length done ≤ 2 * length (looks_and_events load answers)
+  pub few_sights : length (looks_and_events load answers) ≤ length answers
   pub held : line.log.kept ≡ false → WasHeld pp line.log.entries
   pub room : line.log.room + length line.log.entries ≡ 2 * steps + 1
 
@@ -86,7 +86,7 @@ pub record IsAnswered (size : ℕ) (needed : Need) (answer : Answer) (before aft
   pub fits : fits needed answer ≡ true
   pub by_size : IsBySize size needed answer
   pub number : ℕ
-  pub noted : IsNoted number (given_by seen_answered needed answer) before.log after.log
+  pub noted : IsNoted number (contribution seen_answered needed answer) before.log after.log
   pub more : List Access
   pub program_orders : after.view.program_orders ≡ extended before.view.program_orders more
   pub accessed : IsSubsequence (accesses_by number needed answer) more

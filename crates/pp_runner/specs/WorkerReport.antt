@@ -1,14 +1,13 @@
 -- What a worker leaves: its answers, its log, and the whole.
-use Rattle.std.specs.Prelude.{◌≡◌, ◌≤◌, ◌+◌, ◌*◌, ℕ, List, [], ◌∷◌, length, ◌↔◌, ◌<◌, IsNone, IsTrue, Some, slice_get, take, map, Option, None, filter_map}
+use Rattle.std.specs.Prelude.{◌≡◌, ◌≤◌, ◌+◌, ◌*◌, ℕ, List, length, ◌↔◌, ◌<◌, IsNone, IsTrue, Some, slice_get, take, map, Option, None, filter_map}
 use Rattle.std.specs.List.{AllZip, flat_map}
-use Rattle.std.specs.declared.vec.Vec.{Vec}
-use Rattle.list_facts.specs.Subsequence.{IsSubsequence}
+use Rattle.pp_word.specs.Subsequence.{IsSubsequence}
 use Rattle.pp_line.specs.LineLog.{IsMonotone}
 use Rattle.pp_line.specs.declared.entry.Entry.{Entry}
 use Rattle.pp_channel.specs.declared.seen.Seen.{Seen}
 use Rattle.pp_channel.specs.declared.event.Event.{Event}
 use Rattle.pp_machine.specs.Processor.{Processor}
-use Rattle.pp_machine.specs.Replay.{replayed, given_count, events_given, sights_given, OfChannel}
+use Rattle.pp_machine.specs.Replay.{replayed, given_count, events_given, looks_and_events, OfChannel}
 use Rattle.pp_machine.specs.NeedAndEffect.{need, outcome}
 use Rattle.pp_machine.specs.declared.answer.Answer.{Answer}
 use Rattle.pp_machine.specs.declared.need.Need.{Need}
@@ -49,32 +48,24 @@ abbrev pub sights_in : List Entry → List (OfChannel Seen)
 sights_in log = map (λ entry. record { channel = entry.channel; what = entry.what }) log
 
 -- A worker that began with this processor, beside central memory of this size, and was to make at
--- most `steps` steps: it leaves the replay of its answers; this log records what that did and saw.
-pub record IsLoggedWorker {A : Type 0} (load : Processor) (size steps : ℕ) (log : List Entry)
-    (w : Worker A) : Type 0 where
+-- most `steps` steps: it leaves the replay of its answers; its log records what that did and saw.
+pub record IsWorker {A : Type 0} (load : Processor) (size steps : ℕ) (w : Worker A) : Type 0 where
   pub pp : w.pp ≡ replayed load w.answers.items
   pub all_given : given_count load w.answers.items ≡ length w.answers.items
   pub all_moved : AllMoved load w.answers.items
   pub by_size : AllBySize size load w.answers.items
   -- its events are those of the replay, and each look that moved its processor stands in its log
-  pub events : events_in log ≡ events_given load w.answers.items
-  pub sights : IsSubsequence (sights_given load w.answers.items) (sights_in log)
-  pub monotone : IsMonotone log
+  pub events : events_in w.log.items ≡ events_given load w.answers.items
+  pub sights : IsSubsequence (looks_and_events load w.answers.items) (sights_in w.log.items)
+  pub monotone : IsMonotone w.log.items
   pub few_answers : length w.answers.items ≤ steps
-  pub few_entries : length log ≤ 2 * length (sights_given load w.answers.items) + 1
-  pub finish : IsEnd steps w.finish w.pp w.answers.items log
+  pub few_entries : length w.log.items ≤ 2 * length (looks_and_events load w.answers.items) + 1
+  pub finish : IsEnd steps w.finish w.pp w.answers.items w.log.items
 
--- a worker for each of these processors, in their order, each with its own log
+-- a worker for each of these processors, in their order
 abbrev pub AreWorkers : {A : Type 0} → List Processor → ℕ → ℕ → List (Worker A) → Type 0
-AreWorkers loads size steps ws =
-    AllZip (λ load w. IsLoggedWorker load size steps w.log.items w) loads ws
+AreWorkers loads size steps ws = AllZip (λ load w. IsWorker load size steps w) loads ws
 
 -- the logs of the workers, end to end
 abbrev pub logs_of : {A : Type 0} → List (Worker A) → List Entry
 logs_of ws = flat_map (λ w. w.log.items) ws
-
--- the workers, each with a log of its own
-abbrev pub with_logs : {A : Type 0} → List (Vec Entry A) → List (Worker A) → List (Worker A)
-with_logs [] ws = ws
-with_logs (log ∷ logs) [] = []
-with_logs (log ∷ logs) (w ∷ ws) = record w { log = log } ∷ with_logs logs ws

@@ -1,15 +1,15 @@
 //! Runs the workers concurrently, one thread each.
 
-ghost use Rattle.std.specs.Prelude.{◌≡◌, ◌+◌, ◌*◌, ◌<◌, [], ◌∷◌, ◌++◌, take, vec_len, IfOk};
+ghost use Rattle.std.specs.Prelude.{◌+◌, ◌*◌, ◌<◌, take, vec_len, IfOk};
 ghost use denote.Param.Send.{IsSync, IsSend, Frees};
 ghost use Rattle.pp_runner.specs.Crew.{IsEnded, AreEnded, AreReady};
 ghost use Rattle.pp_runner.specs.Labour.{IsUnused};
 
 use crate::gate::Gate;
-use crate::labour::{Ended, work};
+use crate::labour::work;
 use crate::run_fault::RunFault;
 use crate::site::Site;
-use crate::worker::Worker;
+use crate::worker::Ended;
 use pp_line::Line;
 use pp_machine::{Machine, Pp, PpNo};
 use std::alloc::Allocator;
@@ -18,12 +18,8 @@ use std::sync::Wait;
 use std::thread;
 use std::thread::{Promise, Threads};
 
-/// Workers that have ended, in order, and their lines, which have their logs.
-#[derive(Drop)]
-pub struct Crew<A: Allocator> {
-    pub workers: Vec<Worker<A>, A>,
-    pub lines: Vec<Line<A>, A>,
-}
+/// Workers that have ended, in order, each beside its line, which has its log.
+pub type Crew<A> = Vec<(Ended<A>, Line<A>), A>;
 
 /// The promise that a worker ends as one that began with this processor and this line.
 #[derive(Drop)]
@@ -34,27 +30,10 @@ struct EndOf<A: Allocator> {
     steps: u32,
 }
 
-impl<A: Allocator> Promise<Ended<A>> for EndOf<A> {
+impl<A: Allocator> Promise<(Ended<A>, Line<A>)> for EndOf<A> {
     ghost use Rattle.pp_runner.specs.Crew.{IsEnded};
 
-    ghost kept_by = { λ p ended. IsEnded p.load.value p.size p.steps p.line.value ended.worker
-        ended.line };
-}
-
-/// Adds a worker after the others.
-fn combined<A: Allocator>(others: Crew<A>, last: Ended<A>) -> Result<Crew<A>, RunFault>
-    ensures workers { IfOk result (λ crew. crew.workers.items
-        ≡ others.workers.items ++ last.worker ∷ []) }
-    ensures lines { IfOk result (λ crew. crew.lines.items ≡ others.lines.items ++ last.line ∷ []) }
-{
-    let Crew {
-        mut workers,
-        mut lines,
-    } = others;
-    let Ended { worker, line } = last;
-    workers.push(worker)?;
-    lines.push(line)?;
-    Ok(Crew { workers, lines })
+    ghost kept_by = { λ p ended. IsEnded p.load.value p.size p.steps p.line.value ended.0 ended.1 };
 }
 
 /// Runs the workers of the barrel's first processors at once, one on each line. The first works in
@@ -72,7 +51,7 @@ pub fn run_first<R: Threads + Wait + Sync, G: Gate + Sync, A: Allocator + Copy +
         lines.items }
     ensures { IfOk result (λ crew. AreEnded (take
         (vec_len lines) machine.now.processors) site.now.size site.now.limits.steps
-        (2 * site.now.limits.steps + 1) family.value crew.workers.items crew.lines.items) }
+        (2 * site.now.limits.steps + 1) family.value crew.items) }
 {
     if lines.len() > 1 {
         return beside(rt, site, gate, machine, family, lines);
@@ -81,12 +60,9 @@ pub fn run_first<R: Threads + Wait + Sync, G: Gate + Sync, A: Allocator + Copy +
         unreachable!()
     };
     let number = PpNo::at(lines.len());
-    let first = work(site, gate, number, machine.pp(number), line);
-    let nobody = Crew {
-        workers: Vec::new(site.alloc),
-        lines: Vec::new(site.alloc),
-    };
-    combined(nobody, first)
+    let mut crew = Vec::new(site.alloc);
+    crew.push(work(site, gate, number, machine.pp(number), line))?;
+    Ok(crew)
 }
 
 /// Runs the worker on the last line in a thread of its own, beside those before it.
@@ -104,7 +80,7 @@ fn beside<R: Threads + Wait + Sync, G: Gate + Sync, A: Allocator + Copy + Send +
         family.value lines.items }
     ensures { IfOk result (λ crew. AreEnded (take
         (vec_len lines) machine.now.processors) site.now.size site.now.limits.steps
-        (2 * site.now.limits.steps + 1) family.value crew.workers.items crew.lines.items) }
+        (2 * site.now.limits.steps + 1) family.value crew.items) }
 {
     thread::scope(
         thread::scope_env(),
@@ -117,7 +93,7 @@ fn beside<R: Threads + Wait + Sync, G: Gate + Sync, A: Allocator + Copy + Send +
             ensures { IfOk result (λ crew. AreEnded
                 (take (vec_len lines) machine.entry.now.processors) site.entry.now.size
                 site.entry.now.limits.steps (2 * site.entry.now.limits.steps + 1) family.value
-                crew.workers.items crew.lines.items) }
+                crew.items) }
         {
             let mut others = lines;
             let Some(line) = others.pop() else {
@@ -133,15 +109,17 @@ fn beside<R: Threads + Wait + Sync, G: Gate + Sync, A: Allocator + Copy + Send +
             };
             let child = scope.spawn_with(
                 promise,
-                move || -> Ended<A>
+                move || -> (Ended<A>, Line<A>)
                     requires { IsUnused site.now.size site.now.limits.steps line }
                     ensures { IsEnded load.entry.now site.entry.now.size
-                        site.entry.now.limits.steps line result.worker result.line }
+                        site.entry.now.limits.steps line result.0 result.1 }
                 { work(site, gate, number, load, line) },
             )?;
             let others = run_first(rt, site, gate, machine, family, others);
             let last = child.join(rt);
-            combined(others?, last)
+            let mut crew = others?;
+            crew.push(last)?;
+            Ok(crew)
         },
     )
 }

@@ -13,7 +13,7 @@ use crate::end::End;
 use crate::gate::Gate;
 use crate::site::Site;
 use crate::spinning::Spinning;
-use crate::worker::Worker;
+use crate::worker::Ended;
 use pp_line::{Line, Worn};
 use pp_machine::{Answer, Need, Outcome, Pp, PpNo, PpState};
 use std::alloc::Allocator;
@@ -27,13 +27,6 @@ pub struct Labour<A: Allocator> {
     pub line: Line<A>,
     pub tries: u64,
     pub spinning: Spinning,
-}
-
-/// A worker that has ended, with its line. The line has its log.
-#[derive(Drop)]
-pub struct Ended<A: Allocator> {
-    pub worker: Worker<A>,
-    pub line: Line<A>,
 }
 
 /// What one try of a step did.
@@ -166,8 +159,8 @@ impl<A: Allocator + Copy> Labour<A> {
         Some(End::Patience)
     }
 
-    /// What is left when no further step is made. The log stays with the line.
-    fn ended(self, site: &Site<A>, load: &Pp, finish: End) -> Ended<A>
+    /// What is left when no further step is made, and the line, which has the log.
+    fn ended(self, site: &Site<A>, load: &Pp, finish: End) -> (Ended<A>, Line<A>)
         requires work { IsAtWork load.now site.now.size site.now.limits.steps self.pp
             self.answers.items self.line }
         requires few { vec_len self.answers ≤ site.now.limits.steps }
@@ -175,9 +168,9 @@ impl<A: Allocator + Copy> Labour<A> {
             self.line.log.entries }
         requires worn { WornWithCause (λ c. seen_on c self.line.view.seen) finish self.pp }
         ensures ended { IsEnded load.now site.now.size site.now.limits.steps self.line
-            result.worker result.line }
-        ensures line { result.line ≡ self.line }
-        ensures finish { result.worker.finish ≡ finish }
+            result.0 result.1 }
+        ensures line { result.1 ≡ self.line }
+        ensures finish { result.0.finish ≡ finish }
     {
         let Labour {
             number: _,
@@ -187,13 +180,12 @@ impl<A: Allocator + Copy> Labour<A> {
             tries: _,
             spinning: _,
         } = self;
-        let worker = Worker {
+        let ended = Ended {
             pp,
-            log: Vec::new(site.alloc),
             answers,
             finish,
         };
-        Ended { worker, line }
+        (ended, line)
     }
 }
 
@@ -210,19 +202,18 @@ fn at_rest(pp: &Pp) -> Option<End>
     }
 }
 
-/// A worker from its load to its end, on a line of its own.
+/// A worker from its load to its end, on a line of its own, which it gives back.
 pub fn work<G: Gate, A: Allocator + Copy>(
     site: &Site<A>,
     gate: &G,
     number: PpNo,
     load: &Pp,
     line: Line<A>,
-) -> Ended<A>
+) -> (Ended<A>, Line<A>)
     requires { IsUnused site.now.size site.now.limits.steps line }
-    ensures ended { IsEnded load.now site.now.size site.now.limits.steps line result.worker
-        result.line }
-    ensures patience { result.worker.finish ≡ End.Patience
-        → length line.view.found + site.now.limits.patience ≤ length result.line.view.found }
+    ensures ended { IsEnded load.now site.now.size site.now.limits.steps line result.0 result.1 }
+    ensures patience { result.0.finish ≡ End.Patience
+        → length line.view.found + site.now.limits.patience ≤ length result.1.view.found }
 {
     // Reveals to the proof that the patience has 32 bits, so that tries can be counted.
     let _patience = site.limits.patience();

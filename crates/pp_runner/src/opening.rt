@@ -1,12 +1,11 @@
 //! The line that opens channels before the workers begin.
 
-ghost use Rattle.std.specs.Prelude.{◌≡◌, ◌≤◌, [], IfOk, length};
+ghost use Rattle.std.specs.Prelude.{◌≡◌, ◌≤◌, IfOk};
 ghost use Rattle.pp_line.specs.LineLog.{appended, IsWithin};
-ghost use Rattle.pp_line.specs.Merge.{IsOpeningLog, times_logged};
+ghost use Rattle.pp_line.specs.Merge.{times_logged};
 ghost use Rattle.pp_channel.specs.declared.seen.Seen.TheVariants.{Did};
 ghost use Rattle.pp_channel.specs.declared.event.Event.TheVariants.{Activate};
-ghost use Rattle.pp_machine.specs.Headline.{opening_history};
-ghost use Rattle.pp_runner.specs.Labour.{HasSeen};
+ghost use Rattle.pp_runner.specs.Crew.{HasOpened};
 
 use pp_channel::{CHANNELS, ChanOp, ChannelNo, Memory};
 use pp_line::{Line, open_lines_beside};
@@ -22,14 +21,7 @@ pub fn opening_line<A: Allocator + Copy>(
     shares: u32,
 ) -> Result<Line<A>, Memory>
     requires { 1 ≤ shares }
-    ensures log { IfOk result (λ line. IsOpeningLog
-        (λ c. opening_history c machine.now) line.log.entries) }
-    ensures seen { IfOk result (λ line. HasSeen
-        (λ c. length (opening_history c machine.now)) line) }
-    ensures shares { IfOk result (λ line. line.view.shares ≡ shares) }
-    ensures whole { IfOk result (λ line. line.view.whole ≡ shares) }
-    ensures no_write { IfOk result (λ line. line.view.written ≡ []) }
-    ensures central { IfOk result (λ line. line.view.central ≡ machine.now.central) }
+    ensures { IfOk result (HasOpened machine.now shares shares) }
 {
     // Reveals to the proof what holds of every machine.
     let _turns = machine.turns();

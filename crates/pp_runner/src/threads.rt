@@ -1,14 +1,12 @@
 //! A run of a machine's processors, each in a thread of its own.
 
-ghost use Rattle.std.specs.Prelude.{◌≡◌, ◌+◌, [], All, length, vec_len, IfOk};
+ghost use Rattle.std.specs.Prelude.{◌≡◌, ◌+◌, [], All, vec_len, IfOk};
 ghost use Rattle.pp_line.specs.LineState.{IsSplitFrom};
-ghost use Rattle.pp_line.specs.Merge.{IsOpeningLog};
-ghost use Rattle.pp_machine.specs.Headline.{opening_history};
 ghost use Rattle.pp_machine.specs.Profile.{processors_in};
-ghost use Rattle.pp_runner.specs.Labour.{HasSeen};
+ghost use Rattle.pp_runner.specs.Crew.{HasOpened};
 ghost use Rattle.pp_runner.specs.Report.{IsReportOf};
 
-use crate::crew::{Crew, run_first};
+use crate::crew::run_first;
 use crate::gate::Gate;
 use crate::limits::Limits;
 use crate::opening::opening_line;
@@ -16,7 +14,7 @@ use crate::report::Report;
 use crate::run_fault::RunFault;
 use crate::site::Site;
 use crate::spinning::Spinning;
-use crate::worker::with_logs;
+use crate::worker::workers;
 use pp_channel::Memory;
 use pp_line::{Closed, Line};
 use pp_machine::Machine;
@@ -35,15 +33,8 @@ fn open_family<A: Allocator + Copy>(
     ensures each_processor { IfOk result (λ opened.
         vec_len opened.1 ≡ processors_in machine.now.profile) }
     ensures fresh { IfOk result (λ opened. All (IsSplitFrom opened.0 room) opened.1.items) }
-    ensures opening { IfOk result (λ opened.
-        IsOpeningLog (λ c. opening_history c machine.now) opened.0.log.entries) }
-    ensures seen { IfOk result (λ opened. HasSeen
-        (λ c. length (opening_history c machine.now)) opened.0) }
-    ensures share { IfOk result (λ opened. opened.0.view.shares ≡ 1) }
-    ensures whole { IfOk result (λ opened. opened.0.view.whole
-        ≡ processors_in machine.now.profile + 1) }
-    ensures no_write { IfOk result (λ opened. opened.0.view.written ≡ []) }
-    ensures central { IfOk result (λ opened. opened.0.view.central ≡ machine.now.central) }
+    ensures first { IfOk result (λ opened.
+        HasOpened machine.now (processors_in machine.now.profile + 1) 1 opened.0) }
 {
     let processors = machine.profile().processors();
     let mut first = opening_line(alloc, machine, processors as u32 + 1)?;
@@ -82,11 +73,11 @@ pub fn run_threads<R: Threads + Wait + Sync, G: Gate + Sync, A: Allocator + Copy
     // Two entries an answer at most, and a look at which the worker gives up.
     let (first, lines) = open_family(alloc, machine, 2 * limits.steps() + 1)?;
     let family = Snapshot::of(&first);
-    let Crew { workers, lines } = run_first(rt, &site, gate, machine, family, lines)?;
+    let crew = run_first(rt, &site, gate, machine, family, lines)?;
     // The events of the line that opened channels stand in no worker's log.
-    let Closed { logs, channels } = first.close_with(lines)?;
+    let Closed { logs, channels } = first.close_with(crew)?;
     Ok(Report {
-        ends: with_logs(workers, logs),
+        ends: workers(alloc, logs)?,
         channels,
     })
 }

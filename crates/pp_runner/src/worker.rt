@@ -1,10 +1,10 @@
 //! What a worker leaves.
 
-ghost use Rattle.std.specs.Prelude.{◌≡◌, ◌<◌, Some, length, slice_get, slice_set};
-ghost use Rattle.pp_runner.specs.WorkerReport.{with_logs};
-ghost use Rattle.pp_runner.specs.declared.worker.Worker.{Worker};
+ghost use Rattle.std.specs.Prelude.{◌≡◌, IfOk, map};
+ghost use Rattle.pp_runner.specs.Crew.{worker_of};
 
 use crate::end::End;
+use pp_channel::Memory;
 use pp_line::Entry;
 use pp_machine::{Answer, Pp};
 use std::alloc::Allocator;
@@ -19,28 +19,34 @@ pub struct Worker<A: Allocator> {
     pub finish: End,
 }
 
-/// The workers, each with the log that stands at its place.
-pub fn with_logs<A: Allocator>(
-    mut workers: Vec<Worker<A>, A>,
-    logs: Vec<Vec<Entry, A>, A>,
-) -> Vec<Worker<A>, A>
-    requires { length logs.items ≡ length workers.items }
-    ensures { result.items ≡ with_logs logs.items workers.items }
-{
-    let mut place = 0;
-    for log in logs {
-        put_log(&mut workers, place, log);
-        place += 1;
-    }
-    workers
+/// What a worker leaves but for its log, which its line has until all lines are closed.
+#[derive(Drop)]
+pub struct Ended<A: Allocator> {
+    pub pp: Pp,
+    pub answers: Vec<Answer, A>,
+    pub finish: End,
 }
 
-/// Gives the worker at a place this log.
-fn put_log<A: Allocator>(workers: &mut Vec<Worker<A>, A>, place: usize, log: Vec<Entry, A>)
-    requires { place < length workers.old.items }
-    ensures { (w : Worker A) → slice_get workers.old.items place ≡ Some w
-        → workers.new.items ≡ slice_set workers.old.items place (record w { log = log }) }
+/// The workers that have ended, each with its log.
+pub fn workers<A: Allocator>(
+    alloc: A,
+    crew: Vec<(Ended<A>, Vec<Entry, A>), A>,
+) -> Result<Vec<Worker<A>, A>, Memory>
+    ensures { IfOk result (λ workers. workers.items ≡ map worker_of crew.items) }
 {
-    let worker = &mut workers[place];
-    worker.log = log;
+    let mut workers = Vec::with_capacity(alloc, crew.len())?;
+    for (ended, log) in crew {
+        let Ended {
+            pp,
+            answers,
+            finish,
+        } = ended;
+        workers.push(Worker {
+            pp,
+            log,
+            answers,
+            finish,
+        })?;
+    }
+    Ok(workers)
 }

@@ -17,7 +17,7 @@ IsUncut test x [] = Unit {0}
 IsUncut test x (next ∷ xs) = (test x next ≡ false) × IsUncut test next xs
 
 -- what is known of the stretch that is open, if one is: the number of the next session, what its
--- line tells, and its words
+-- line says, and its words
 pub record Open : Type 0 where
   pub number : ℕ
   pub tally : Option Tally
@@ -40,7 +40,8 @@ IsOpen (Some tally) words (first ∷ others) =
     (tally ≡ tally_of first others) × (words ≡ words_in (first ∷ others))
     × IsUncut are_parted first others
 
--- events come, and these lines are printed: whatever comes then, the other lines are still to come
+-- events come, and these lines are printed: whatever comes after, the text of all that is to come
+-- is these lines and then what the new stretch gives for the rest
 abbrev pub TakesIn : Bool → ℕ → Open → List TimedEvent → List ℕ → Open → Type 0
 TakesIn with_words c old events printed new =
     (stretch : List TimedEvent) → IsOpen old.tally old.words stretch
@@ -48,7 +49,7 @@ TakesIn with_words c old events printed new =
     → lines_from with_words c old.number (stretches (stretch ++ (events ++ rest)))
     ≡ printed ++ lines_from with_words c new.number (stretches (after ++ rest)))
 
--- the word put and not taken after an event, where it was this before
+-- the word put and not taken after an event, if it was this before
 abbrev pub untaken_after : Event → Option ℕ → Option ℕ
 untaken_after (Put w) word = Some w
 untaken_after (Take w) word = None
@@ -60,7 +61,7 @@ pub record CountsAtMost (most : ℕ) (tally : Tally) : Type 0 where
   pub put : tally.put ≤ most
   pub taken : tally.taken ≤ most
 
--- at most so many events have come
+-- at most `most` events have come
 pub record HasAtMost (most : ℕ) (stretch : OpenStretch) : Type 0 where
   pub number : stretch.number ≤ most + 1
   pub tally : IfSome stretch.tally (CountsAtMost most)

@@ -1,4 +1,4 @@
--- What the lines of a channel tell: the sessions of its course, with the idle stretches between
+-- What the lines of a channel say: the sessions of its course, with the idle stretches between
 -- them.
 use Rattle.std.specs.Prelude.{◌≡◌, ℕ, ◌+◌, Bool, true, false, List, [], ◌∷◌, ◌++◌, length, map, Some, if◌then◌else◌}
 use Rattle.std.specs.List.{flat_map, last_or}
@@ -14,7 +14,7 @@ use Rattle.pp_sessions.specs.declared.tally.Tally.{Tally}
 abbrev pub session_events : Session → Bool → List Event
 session_events session ended = body session ++ (if ended then Disconnect ∷ [] else [])
 
--- an idle stretch is one where it has a function code
+-- an idle stretch is one if it has a function code
 abbrev pub idle_part : List ℕ → List (List Event)
 idle_part [] = []
 idle_part (code ∷ codes) = idle_stretch (code ∷ codes) ∷ []
@@ -30,7 +30,7 @@ stretches_of c =
     ++ flat_map whole_parts c.whole_sessions
     ++ map (λ session. session_events session false) (option_to_list c.open_session)
 
--- what the line of a stretch tells is a session: whether it ended, its words, the lone last word
+-- what the line of a stretch says is a session: whether it ended, its words, the lone last word
 pub record TellsSession (session : Session) (ended : Bool) (told : Tally) : Type 0 where
   pub is_session : told.is_session ≡ true
   pub end : told.has_ended ≡ ended
@@ -38,7 +38,7 @@ pub record TellsSession (session : Session) (ended : Bool) (told : Tally) : Type
   pub taken : told.taken ≡ length session.passed
   pub untaken : told.untaken ≡ session.lone
 
--- the line of a stretch tells when its first event was, and when its last
+-- the line of a stretch says when its first event was, and when its last
 pub record TellsMoments (first : TimedEvent) (others : List TimedEvent) (told : Tally)
     : Type 0 where
   pub from : told.from ≡ first.moment

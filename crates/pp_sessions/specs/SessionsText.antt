@@ -1,5 +1,5 @@
 -- The text of the sessions of a run: for each channel a line for each of its stretches, and after
--- it the words of the stretch where they are asked for; and for each processor that is shown a line
+-- it the words of the stretch if they are asked for; and for each processor that is shown a line
 -- with the counts of its steps.
 use Rattle.std.specs.Prelude.{ℕ, ◌+◌, ◌%◌, ◌==◌, Bool, List, [], ◌∷◌, ◌++◌, Option, None, Some, codes, slice_index_or, if◌then◌else◌}
 use Rattle.pp_channel.specs.ChannelNo.{names_channel}
@@ -33,12 +33,12 @@ idle_line c idle =
     codes "CH" ++ octal 2 c ++ codes " IDLE FUNCTIONS " ++ short_decimal idle.events
     ++ codes " FROM " ++ moment_text idle.from ++ codes " TO " ++ moment_text idle.to ++ line_end
 
--- ` TO 000030`, the moment of its Disconnect, where a session has ended
+-- ` TO 000030`, the moment of its Disconnect, if a session has ended
 abbrev pub end_text : Bool → Moment → List ℕ
 end_text has_ended moment =
     if has_ended then codes " TO " ++ moment_text moment else codes " GOING ON"
 
--- ` LOST 0007`, a word untaken where a session has ended, else ` WAITING 0007`
+-- ` LOST 0007`, a word untaken if a session has ended, else ` WAITING 0007`
 abbrev pub word_text : Bool → Option ℕ → List ℕ
 word_text has_ended None = []
 word_text has_ended (Some word) =
@@ -52,24 +52,24 @@ session_line c number session =
     ++ codes " PUT " ++ short_decimal session.put ++ codes " TAKEN " ++ short_decimal session.taken
     ++ word_text session.has_ended session.untaken ++ line_end
 
--- the line of a stretch; where it is a session, it has this number
+-- the line of a stretch; if it is a session, it has this number
 abbrev pub tally_line : ℕ → ℕ → Tally → List ℕ
 tally_line c number stretch =
     if stretch.is_session then session_line c number stretch else idle_line c stretch
 
--- ` 0033`, a word after this many others on its line, or `  0011` where it is the first; the eighth
--- ends the line
+-- ` 0033`, a word after `count` others on its line, or `  0011` if it is the first; the eighth ends
+-- the line
 abbrev pub one_word : ℕ → ℕ → List ℕ
 one_word count word =
     (if count == 0 then codes "  " else codes " ") ++ octal 4 word
     ++ (if count == 7 then line_end else [])
 
--- words, eight a line, after this many others on the first line
+-- words, eight a line, after `count` others on the first line
 unfoldable pub words_from : ℕ → List ℕ → List ℕ
 words_from count [] = if count == 0 then [] else line_end
 words_from count (word ∷ words) = one_word count word ++ words_from ((count + 1) % 8) words
 
--- the line of a stretch, and where they are asked for its words
+-- the line of a stretch, and if they are asked for its words
 abbrev pub line_and_words : Bool → ℕ → ℕ → Tally → List ℕ → List ℕ
 line_and_words with_words c number stretch words =
     tally_line c number stretch ++ (if with_words then words_from 0 words else [])
@@ -79,18 +79,18 @@ stretch_text with_words c number [] = []
 stretch_text with_words c number (first ∷ others) =
     line_and_words with_words c number (tally_of first others) (words_in (first ∷ others))
 
--- the number of the next session after a stretch, where it was this before
+-- the number of the next session after a stretch, if it was this before
 abbrev pub next_number : ℕ → List TimedEvent → ℕ
 next_number number stretch = if is_session stretch then number + 1 else number
 
--- the lines of stretches, where the first session among them has this number
+-- the lines of stretches, if the first session among them has this number
 unfoldable pub lines_from : Bool → ℕ → ℕ → List (List TimedEvent) → List ℕ
 lines_from with_words c number [] = []
 lines_from with_words c number (stretch ∷ others) =
     stretch_text with_words c number stretch
     ++ lines_from with_words c (next_number number stretch) others
 
--- the lines of the channel with this number, where there is one
+-- the lines of the channel with this number, if there is one
 unfoldable pub channel_lines : Bool → MachineState → ℕ → List ℕ
 channel_lines with_words m c =
     if names_channel c then lines_from with_words c 1 (stretches (timed_events c m)) else []
@@ -104,8 +104,8 @@ counts_line n counts =
     ++ codes " HELD " ++ short_decimal counts.held ++ codes " REST " ++ short_decimal counts.at_rest
     ++ line_end
 
--- the line of the processor with this number, where it is shown; `counts` has the counts of
--- each processor, in the order of the barrel
+-- the line of the processor with this number, if it is shown; `counts` has the counts of each
+-- processor, in the order of the barrel
 abbrev pub shown_counts_line : List Bool → List StepCounts → ℕ → List ℕ
 shown_counts_line shown counts n =
     if is_named shown n

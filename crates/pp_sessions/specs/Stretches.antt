@@ -37,7 +37,7 @@ are_parted e next = is_over e.event next.event
 abbrev pub stretches : List TimedEvent → List (List TimedEvent)
 stretches events = cut_between are_parted events
 
--- a stretch is a session where its first event is Activate
+-- a stretch is a session if its first event is Activate
 abbrev pub is_session : List TimedEvent → Bool
 is_session [] = false
 is_session (first ∷ others) = begins_session first.event
@@ -60,7 +60,7 @@ word_of event = None
 abbrev pub words_in : List TimedEvent → List ℕ
 words_in events = filter_map (λ (e : TimedEvent). word_of e.event) events
 
--- What the line of a stretch tells of it, by its first event and the others: whether it is a
+-- What the line of a stretch says of it, by its first event and the others: whether it is a
 -- session, and whether it ended; when it began, and when its last event was; how many events it
 -- has, how many words were put and taken, and the word put and not taken.
 unfoldable pub tally_of : TimedEvent → List TimedEvent → Tally

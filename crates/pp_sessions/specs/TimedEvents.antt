@@ -8,7 +8,7 @@ use Rattle.pp_machine.specs.declared.trace.Trace.{Trace}
 use Rattle.pp_sessions.specs.declared.moment.Moment.TheVariants.{DeadStart, Turn}
 use Rattle.pp_sessions.specs.declared.moment.TimedEvent.{TimedEvent}
 
--- what happened on channel c before the first turn: an Activate, where dead start opened it
+-- what happened on channel c before the first turn: an Activate, if dead start opened it
 abbrev pub opening_events : ℕ → MachineState → List TimedEvent
 opening_events c m =
     if is_opened c m then (record { moment = DeadStart; event = Activate }) ∷ [] else []

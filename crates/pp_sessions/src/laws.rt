@@ -17,14 +17,14 @@ ghost use Rattle.pp_sessions.specs.Stretches.{is_session, stretches, tally_of, w
 ghost use Rattle.pp_sessions.specs.TimedEvents.{events_in, timed_events};
 ghost use Rattle.pp_sessions.specs.declared.moment.TimedEvent.{TimedEvent};
 
-/// A lawful history has just one course.
+/// A lawful history has exactly one course.
 pub fn course_law()
     ensures { (one other : Course) → events_of one ≡ events_of other → one ≡ other }
 {}
 
 /// The lines of a channel are about its whole history, and each about a session or an idle stretch
-/// of its course, in order; what is told of a session is whether it ended, how many words were put
-/// and taken in it, its lone last word, and the turns of its first event and its last; and its
+/// of its course, in order; what is printed of a session is whether it ended, how many words were
+/// put and taken in it, its lone last word, and the turns of its first event and its last; and its
 /// words are those that passed, and the lone one.
 pub fn sessions_law()
     ensures history { (c : ℕ) (m : MachineState) → IsTrue (names_channel c)
@@ -42,7 +42,7 @@ pub fn sessions_law()
     ensures session { (session : Session) (ended : Bool) (first : TimedEvent)
         (others : List TimedEvent) → events_in (first ∷ others) ≡ session_events session ended
         → TellsSession session ended (tally_of first others) }
-    // Whatever the stretch is, the turns told of it are those of its first event and its last.
+    // Whatever the stretch is, the turns printed of it are those of its first event and its last.
     ensures moments { (first : TimedEvent) (others : List TimedEvent)
         → TellsMoments first others (tally_of first others) }
     ensures idle { (codes : List ℕ) (first : TimedEvent) (others : List TimedEvent)

@@ -12,8 +12,7 @@ use pp_machine::PpNo;
 use pp_text::{Piece, channel_name, octal4, processor_name, push_decimal, push_short_decimal};
 use pp_word::Word12;
 
-/// Adds the line of a stretch of a channel and a line feed; where it is a session, it has this
-/// number.
+/// Adds the line of a stretch of a channel and a line feed; if it is a session, it has this number.
 pub(crate) fn push_stretch(line: &mut Piece, c: ChannelNo, number: u64, stretch: &Tally)
     requires { HasRoom 160 line.old }
     ensures { line.new ≡ line.old ++ tally_line c number stretch.now }
@@ -89,7 +88,7 @@ fn push_moment(line: &mut Piece, moment: Moment)
     }
 }
 
-/// Adds ` TO 000030`, where a session has ended, else ` GOING ON`.
+/// Adds ` TO 000030`, if a session has ended, else ` GOING ON`.
 fn push_end(line: &mut Piece, has_ended: bool, moment: Moment)
     requires { HasRoom 24 line.old }
     ensures text { line.new ≡ line.old ++ end_text has_ended moment }
@@ -103,7 +102,7 @@ fn push_end(line: &mut Piece, has_ended: bool, moment: Moment)
     }
 }
 
-/// Adds ` LOST 0007`, or ` WAITING 0007` where the session has not ended.
+/// Adds ` LOST 0007`, or ` WAITING 0007` if the session has not ended.
 fn push_word(line: &mut Piece, has_ended: bool, untaken: Option<Word12>)
     requires { HasRoom 13 line.old }
     ensures text { line.new ≡ line.old ++ word_text has_ended untaken }

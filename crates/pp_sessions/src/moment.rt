@@ -7,7 +7,7 @@ use pp_channel::Event;
 pub(crate) enum Moment {
     /// At dead start, before the first turn.
     DeadStart,
-    /// In a step before which the machine had counted so many turns (decimal).
+    /// In the step of this turn (decimal).
     Turn(u64),
 }
 

@@ -18,8 +18,8 @@ use pp_text::{Piece, TextWriter};
 use std::alloc::Allocator;
 use std::io::Write;
 
-/// What the line of the stretch will tell, if any event has come; and the number of the next
-/// session, which it is itself where it is one.
+/// What the line of the stretch will say, if any event has come; and the number of the next
+/// session, which it is itself if it is one.
 #[derive(Clone, Copy)]
 pub(crate) struct OpenStretch {
     pub(crate) number: u64,
@@ -57,7 +57,7 @@ impl OpenStretch {
 }
 
 /// Prints what is over before an entry of the trace, which comes after these entries, and takes the
-/// entry in, where it is on this channel.
+/// entry in, if it is on this channel.
 pub(crate) fn take_in_entry<W: Write>(
     text: &mut TextWriter<W>,
     line: &mut Piece,
@@ -118,8 +118,8 @@ fn take_in<W: Write>(
     current.start = past.len();
 }
 
-/// Prints the line of a stretch, and where they are asked for its words, which are in these entries
-/// of the trace; where it is a session, it has this number.
+/// Prints the line of a stretch, and if they are asked for its words, which are in these entries of
+/// the trace; if it is a session, it has this number.
 pub(crate) fn print_stretch<W: Write>(
     text: &mut TextWriter<W>,
     line: &mut Piece,
@@ -140,7 +140,7 @@ pub(crate) fn print_stretch<W: Write>(
     }
 }
 
-/// The number of the next session after a stretch, where it was this before.
+/// The number of the next session after a stretch, if it was this before.
 fn next_number(number: u64, stretch: &Tally) -> u64
     requires { number + 1 < 2 ^ 64 }
     ensures { result ≡ (if stretch.now.is_session then number + 1 else number) }

@@ -19,7 +19,7 @@ use std::io::Write;
 /// for each processor shown how many of its steps did what, by these counts of each processor in
 /// the order of the barrel; and flushes the writer. `with_words` asks, after the line of each
 /// session, for the words put, and after that of an idle stretch for its function codes. The text
-/// goes out in pieces, and takes no memory. Where the writer fails, the rest of the text is lost.
+/// goes out in pieces, and takes no memory. If the writer fails, the rest of the text is lost.
 #[tactic(auto, unfolding(crate::specs::SessionsText::sessions_text))]
 pub fn write_sessions<A: Allocator, W: Write>(
     writer: &mut W,

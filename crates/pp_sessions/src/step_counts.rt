@@ -48,10 +48,10 @@ impl StepCounts {
     }
 }
 
-/// Runs so many turns of the barrel (decimal), as `Machine::run_barrel` does, and says of each
+/// Runs `turns` turns of the barrel (decimal), as `Machine::run_barrel` does, and says of each
 /// processor, in the order of the barrel, how many of its steps moved it, were held, and found it
 /// at rest.
-#[tactic(auto, unfolding(list_facts::specs::Tables::tabulate))]
+#[tactic(auto, unfolding(pp_word::specs::Tables::tabulate))]
 pub fn run_counting_steps<A: Allocator>(
     machine: &mut Machine<A>,
     turns: u32,

@@ -1,4 +1,4 @@
-//! What a line tells of a stretch.
+//! What a line says of a stretch.
 
 ghost use Rattle.std.specs.Prelude.{◌≡◌, ◌+◌, ◌≤◌, ◌^◌, ◌++◌, ◌∷◌, ◌||◌, [], ℕ, List, length};
 ghost use Rattle.pp_channel.specs.Session.{puts, takes};
@@ -10,7 +10,7 @@ use crate::moment::{Moment, TimedEvent};
 use pp_channel::Event;
 use pp_word::Word12;
 
-/// What a line tells of a stretch: whether it is a session, and whether a Disconnect has ended it;
+/// What a line says of a stretch: whether it is a session, and whether a Disconnect has ended it;
 /// when its first and its last event happened, and how many it has (decimal); how many words were
 /// put and taken, and the word that was put and not taken.
 #[derive(Clone, Copy)]
@@ -111,7 +111,7 @@ fn taken_by(event: &Event) -> u64
     }
 }
 
-/// The word put and not taken after an event, where it was this before.
+/// The word put and not taken after an event, if it was this before.
 fn untaken_after(event: &Event, word: Option<Word12>) -> Option<Word12>
     ensures { result ≡ untaken_after event.now word }
 {

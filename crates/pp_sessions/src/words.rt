@@ -37,8 +37,8 @@ pub(crate) fn print_words<W: Write>(
     }
 }
 
-/// Prints the word of an entry, if it has one on this channel, on a line that has this many, and
-/// gives how many the line has then.
+/// Prints the word of an entry, if it has one on this channel, on a line that has `count` words,
+/// and gives how many it has then.
 fn print_entry<W: Write>(
     text: &mut TextWriter<W>,
     line: &mut Piece,

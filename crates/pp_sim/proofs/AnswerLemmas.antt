@@ -7,37 +7,38 @@ use Rattle.pp_sim.proofs.ByteLemmas.{read_front}
 use Rattle.pp_machine.specs.declared.profile.Profile.{Profile}
 use Rattle.pp_deck.specs.DeckMeaning.{LoadedDeck, deck_meaning}
 use Rattle.pp_deck.specs.declared.deck_fault.DeckFault.{DeckFault}
-use Rattle.pp_text.specs.Written.{AppendsFront}
-use Rattle.pp_sim.specs.TextAnswer.{AnswersDeckUnless, IsAnswerUnless, IsOfDeck, IsLoadFault, IsReadFault, most_bytes}
-use Rattle.pp_listing.specs.declared.going_on.GoingOn.{GoingOn}
+use Rattle.pp_text.specs.Written.{AppendsFront, IsWritten}
+use Rattle.pp_text.specs.declared.write_fault.WriteFault.{WriteFault}
+use Rattle.pp_sim.specs.TextAnswer.{AnswersDeckUnless, IsAnswerUnless, answer_to, IsOfDeck, IsLoadFault, IsReadFault, most_bytes}
+use Rattle.pp_listing.specs.declared.going_on.Busy.{Busy}
 use Rattle.pp_sim.specs.declared.text_fault.TextFault.{TextFault}
 use Rattle.pp_sim.specs.declared.text_fault.TextFault.TheVariants as fault
 
 -- a text of the deck was written, or a first part of it
-pub written : (profile : Profile) (Hinders : LoadedDeck → GoingOn → Type 0) (IsDeckText : LoadedDeck → List ℕ → Type 0) (bytes text : List ℕ) (answer : Result (Unit {0}) TextFault) (old new : Option (List ℕ))
-    → IsOfDeck profile IsDeckText bytes text → OnOk answer (Appends old new text) → IfErr answer (λ f. f ≡ fault.Write) → OnErr answer (AppendsFront old new text) → IsAnswerUnless profile Hinders IsDeckText answer bytes old new
-written profile Hinders IsDeckText bytes text (Ok done) old new is ok err front = (text, is, ok)
-written profile Hinders IsDeckText bytes text (Err f) old new is ok err front = rw err (text, is, front)
+pub answers_written : (profile : Profile) (Prevents : LoadedDeck → Busy → Type 0) (IsDeckText : LoadedDeck → List ℕ → Type 0) (bytes text : List ℕ) (written : Result (Unit {0}) WriteFault) (old new : Option (List ℕ))
+    → IsOfDeck profile IsDeckText bytes text → IsWritten text written old new → IsAnswerUnless profile Prevents IsDeckText (answer_to written) bytes old new
+answers_written profile Prevents IsDeckText bytes text (Ok done) old new is whole = (text, is, whole)
+answers_written profile Prevents IsDeckText bytes text (Err fault) old new is front = (text, is, front)
 
 -- the answer to the bytes that were read is that to the first bytes that the reader had
-told_answer : (profile : Profile) (before after old new : Option (List ℕ)) (Hinders : LoadedDeck → GoingOn → Type 0) (IsDeckText : LoadedDeck → List ℕ → Type 0) (front : List ℕ) (most : ℕ) (answer : Result (Unit {0}) TextFault)
-    → IsAnswerUnless profile Hinders IsDeckText answer front old new → Consumes before after front → length front ≤ most → (length front < most → IsAtEnd after)
-    → IfSome before (λ bytes. IsAnswerUnless profile Hinders IsDeckText answer (take most bytes) old new)
-told_answer profile None after old new Hinders IsDeckText front most answer answered consumed le end = tt
-told_answer profile (Some bytes) None old new Hinders IsDeckText front most answer answered consumed le end = absurd consumed
-told_answer profile (Some bytes) (Some rest) old new Hinders IsDeckText front most answer answered consumed le end =
+told_answer : (profile : Profile) (before after old new : Option (List ℕ)) (Prevents : LoadedDeck → Busy → Type 0) (IsDeckText : LoadedDeck → List ℕ → Type 0) (front : List ℕ) (most : ℕ) (answer : Result (Unit {0}) TextFault)
+    → IsAnswerUnless profile Prevents IsDeckText answer front old new → Consumes before after front → length front ≤ most → (length front < most → IsAtEnd after)
+    → IfSome before (λ bytes. IsAnswerUnless profile Prevents IsDeckText answer (take most bytes) old new)
+told_answer profile None after old new Prevents IsDeckText front most answer answered consumed le end = tt
+told_answer profile (Some bytes) None old new Prevents IsDeckText front most answer answered consumed le end = absurd consumed
+told_answer profile (Some bytes) (Some rest) old new Prevents IsDeckText front most answer answered consumed le end =
     rw (consumed, ← read_front front rest most le end (cases_lt (length front) most)) answered
 
 -- an answer to these bytes is a fault of writing, or nothing was written
-unwritten_answer : (profile : Profile) (Hinders : LoadedDeck → GoingOn → Type 0) (IsDeckText : LoadedDeck → List ℕ → Type 0) (answer : Result (Unit {0}) TextFault) (front : List ℕ) (old new : Option (List ℕ))
-    → IsAnswerUnless profile Hinders IsDeckText answer front old new → IfErr answer (λ f. f ≢ fault.Write → Keeps old new)
-unwritten_answer profile Hinders IsDeckText (Ok done) front old new answered = tt
-unwritten_answer profile Hinders IsDeckText (Err fault.Write) front old new answered = λ other. absurd (other refl)
-unwritten_answer profile Hinders IsDeckText (Err (fault.NotBetweenPrograms going_on)) front old new (_, keeps) = λ _. keeps
-unwritten_answer profile Hinders IsDeckText (Err (fault.Deck f)) front old new (_, keeps) = λ _. keeps
-unwritten_answer profile Hinders IsDeckText (Err (fault.Trace f)) front old new answered = absurd answered
-unwritten_answer profile Hinders IsDeckText (Err fault.Read) front old new keeps = λ _. keeps
-unwritten_answer profile Hinders IsDeckText (Err fault.Memory) front old new keeps = λ _. keeps
+unwritten_answer : (profile : Profile) (Prevents : LoadedDeck → Busy → Type 0) (IsDeckText : LoadedDeck → List ℕ → Type 0) (answer : Result (Unit {0}) TextFault) (front : List ℕ) (old new : Option (List ℕ))
+    → IsAnswerUnless profile Prevents IsDeckText answer front old new → IfErr answer (λ f. f ≢ fault.Write → Keeps old new)
+unwritten_answer profile Prevents IsDeckText (Ok done) front old new answered = tt
+unwritten_answer profile Prevents IsDeckText (Err fault.Write) front old new answered = λ other. absurd (other refl)
+unwritten_answer profile Prevents IsDeckText (Err (fault.NotBetweenPrograms going_on)) front old new (_, keeps) = λ _. keeps
+unwritten_answer profile Prevents IsDeckText (Err (fault.Deck f)) front old new (_, keeps) = λ _. keeps
+unwritten_answer profile Prevents IsDeckText (Err (fault.Trace f)) front old new answered = absurd answered
+unwritten_answer profile Prevents IsDeckText (Err fault.Read) front old new keeps = λ _. keeps
+unwritten_answer profile Prevents IsDeckText (Err fault.Memory) front old new keeps = λ _. keeps
 
 no_meaning : (b : Bool) (fault : DeckFault) (meaning : Result LoadedDeck DeckFault) (deck : LoadedDeck) → b ≡ true → cond b (Err fault) meaning ≡ Ok deck → ⊥
 no_meaning true fault meaning deck long is = cc
@@ -50,31 +51,31 @@ short_deck profile bytes deck (inl short) is = short
 short_deck profile bytes deck (inr long) is = absurd (no_meaning _ _ _ deck (lt-ltb 1048576 (length bytes) long) is)
 
 -- so that the answer says of a text that all of its deck was read
-short_answer : (profile : Profile) (Hinders : LoadedDeck → GoingOn → Type 0) (IsDeckText : LoadedDeck → List ℕ → Type 0) (answer : Result (Unit {0}) TextFault) (bytes : List ℕ) (old new : Option (List ℕ))
-    → IsAnswerUnless profile Hinders IsDeckText answer bytes old new → OnOk answer (length bytes < most_bytes)
-short_answer profile Hinders IsDeckText (Ok done) bytes old new (text, is, _) = short_deck profile bytes is.deck (cases_lt (length bytes) most_bytes) is.meant
-short_answer profile Hinders IsDeckText (Err f) bytes old new answered = tt
+short_answer : (profile : Profile) (Prevents : LoadedDeck → Busy → Type 0) (IsDeckText : LoadedDeck → List ℕ → Type 0) (answer : Result (Unit {0}) TextFault) (bytes : List ℕ) (old new : Option (List ℕ))
+    → IsAnswerUnless profile Prevents IsDeckText answer bytes old new → OnOk answer (length bytes < most_bytes)
+short_answer profile Prevents IsDeckText (Ok done) bytes old new (text, is, _) = short_deck profile bytes is.deck (cases_lt (length bytes) most_bytes) is.meant
+short_answer profile Prevents IsDeckText (Err f) bytes old new answered = tt
 
 at_end : {X : Type 0} {E : Type 0} {P Q : Type 0} (answer : Result X E) → OnOk answer P → (P → Q) → OnOk answer Q
 at_end (Ok done) holds then = then holds
 at_end (Err f) holds then = tt
 
 -- where the bytes were read that a deck may have, and the answer is that to them
-pub answered_deck : (profile : Profile) (before after old new : Option (List ℕ)) (Hinders : LoadedDeck → GoingOn → Type 0) (IsDeckText : LoadedDeck → List ℕ → Type 0) (front : List ℕ) (answer : Result (Unit {0}) TextFault)
-    → IsAnswerUnless profile Hinders IsDeckText answer front old new → Consumes before after front → length front ≤ most_bytes → (length front < most_bytes → IsAtEnd after)
-    → AnswersDeckUnless profile Hinders IsDeckText answer before after old new
-answered_deck profile before after old new Hinders IsDeckText front answer answered consumed le end = record {
+pub answered_deck : (profile : Profile) (before after old new : Option (List ℕ)) (Prevents : LoadedDeck → Busy → Type 0) (IsDeckText : LoadedDeck → List ℕ → Type 0) (front : List ℕ) (answer : Result (Unit {0}) TextFault)
+    → IsAnswerUnless profile Prevents IsDeckText answer front old new → Consumes before after front → length front ≤ most_bytes → (length front < most_bytes → IsAtEnd after)
+    → AnswersDeckUnless profile Prevents IsDeckText answer before after old new
+answered_deck profile before after old new Prevents IsDeckText front answer answered consumed le end = record {
   every_reader = (
     front,
     record {
       consumed = consumed;
       bounded = le;
       answered = answered;
-      whole = at_end answer (short_answer profile Hinders IsDeckText answer front old new answered) end;
+      whole = at_end answer (short_answer profile Prevents IsDeckText answer front old new answered) end;
     },
   );
-  telling_reader = told_answer profile before after old new Hinders IsDeckText front most_bytes answer answered consumed le end;
-  unwritten = unwritten_answer profile Hinders IsDeckText answer front old new answered;
+  known_reader = told_answer profile before after old new Prevents IsDeckText front most_bytes answer answered consumed le end;
+  unwritten = unwritten_answer profile Prevents IsDeckText answer front old new answered;
 }
 
 pub kept_as_it_was : (kept : Option (List ℕ)) → Keeps kept kept
@@ -82,44 +83,44 @@ kept_as_it_was None = tt
 kept_as_it_was (Some bytes) = refl
 
 -- where no text was made, nothing was written
-pub refused : (profile : Profile) (Hinders : LoadedDeck → GoingOn → Type 0) (IsDeckText : LoadedDeck → List ℕ → Type 0) (f : TextFault) (bytes : List ℕ) (kept : Option (List ℕ))
-    → IsLoadFault profile bytes f → IsAnswerUnless profile Hinders IsDeckText (Err f) bytes kept kept
-refused profile Hinders IsDeckText (fault.Deck f) bytes kept is = (is, kept_as_it_was kept)
-refused profile Hinders IsDeckText (fault.NotBetweenPrograms going_on) bytes kept is = absurd is
-refused profile Hinders IsDeckText fault.Memory bytes kept is = kept_as_it_was kept
-refused profile Hinders IsDeckText fault.Read bytes kept is = absurd is
-refused profile Hinders IsDeckText fault.Write bytes kept is = absurd is
-refused profile Hinders IsDeckText (fault.Trace f) bytes kept is = absurd is
+pub refused : (profile : Profile) (Prevents : LoadedDeck → Busy → Type 0) (IsDeckText : LoadedDeck → List ℕ → Type 0) (f : TextFault) (bytes : List ℕ) (kept : Option (List ℕ))
+    → IsLoadFault profile bytes f → IsAnswerUnless profile Prevents IsDeckText (Err f) bytes kept kept
+refused profile Prevents IsDeckText (fault.Deck f) bytes kept is = (is, kept_as_it_was kept)
+refused profile Prevents IsDeckText (fault.NotBetweenPrograms going_on) bytes kept is = absurd is
+refused profile Prevents IsDeckText fault.Memory bytes kept is = kept_as_it_was kept
+refused profile Prevents IsDeckText fault.Read bytes kept is = absurd is
+refused profile Prevents IsDeckText fault.Write bytes kept is = absurd is
+refused profile Prevents IsDeckText (fault.Trace f) bytes kept is = absurd is
 
 -- where reading failed, the answer to all bytes is that nothing was written
-unread : (profile : Profile) (Hinders : LoadedDeck → GoingOn → Type 0) (IsDeckText : LoadedDeck → List ℕ → Type 0) (f : TextFault) (bytes : List ℕ) (kept : Option (List ℕ))
-    → IsReadFault f → Keeps kept kept → IsAnswerUnless profile Hinders IsDeckText (Err f) bytes kept kept
-unread profile Hinders IsDeckText fault.Read bytes kept is keeps = keeps
-unread profile Hinders IsDeckText fault.Memory bytes kept is keeps = keeps
-unread profile Hinders IsDeckText fault.Write bytes kept is keeps = absurd is
-unread profile Hinders IsDeckText (fault.Deck f) bytes kept is keeps = absurd is
-unread profile Hinders IsDeckText (fault.NotBetweenPrograms going_on) bytes kept is keeps = absurd is
-unread profile Hinders IsDeckText (fault.Trace f) bytes kept is keeps = absurd is
+unread : (profile : Profile) (Prevents : LoadedDeck → Busy → Type 0) (IsDeckText : LoadedDeck → List ℕ → Type 0) (f : TextFault) (bytes : List ℕ) (kept : Option (List ℕ))
+    → IsReadFault f → Keeps kept kept → IsAnswerUnless profile Prevents IsDeckText (Err f) bytes kept kept
+unread profile Prevents IsDeckText fault.Read bytes kept is keeps = keeps
+unread profile Prevents IsDeckText fault.Memory bytes kept is keeps = keeps
+unread profile Prevents IsDeckText fault.Write bytes kept is keeps = absurd is
+unread profile Prevents IsDeckText (fault.Deck f) bytes kept is keeps = absurd is
+unread profile Prevents IsDeckText (fault.NotBetweenPrograms going_on) bytes kept is keeps = absurd is
+unread profile Prevents IsDeckText (fault.Trace f) bytes kept is keeps = absurd is
 
-told_unread : (profile : Profile) (before kept : Option (List ℕ)) (Hinders : LoadedDeck → GoingOn → Type 0) (IsDeckText : LoadedDeck → List ℕ → Type 0) (f : TextFault) (most : ℕ)
-    → IsReadFault f → IfSome before (λ bytes. IsAnswerUnless profile Hinders IsDeckText (Err f) (take most bytes) kept kept)
-told_unread profile None kept Hinders IsDeckText f most is = tt
-told_unread profile (Some bytes) kept Hinders IsDeckText f most is =
-    unread profile Hinders IsDeckText f (take most bytes) kept is (kept_as_it_was kept)
+told_unread : (profile : Profile) (before kept : Option (List ℕ)) (Prevents : LoadedDeck → Busy → Type 0) (IsDeckText : LoadedDeck → List ℕ → Type 0) (f : TextFault) (most : ℕ)
+    → IsReadFault f → IfSome before (λ bytes. IsAnswerUnless profile Prevents IsDeckText (Err f) (take most bytes) kept kept)
+told_unread profile None kept Prevents IsDeckText f most is = tt
+told_unread profile (Some bytes) kept Prevents IsDeckText f most is =
+    unread profile Prevents IsDeckText f (take most bytes) kept is (kept_as_it_was kept)
 
-pub unread_deck : (profile : Profile) (before after kept : Option (List ℕ)) (Hinders : LoadedDeck → GoingOn → Type 0) (IsDeckText : LoadedDeck → List ℕ → Type 0) (f : TextFault)
+pub unread_deck : (profile : Profile) (before after kept : Option (List ℕ)) (Prevents : LoadedDeck → Busy → Type 0) (IsDeckText : LoadedDeck → List ℕ → Type 0) (f : TextFault)
     → IsReadFault f → ((bytes : List ℕ) × Consumes before after bytes × (length bytes ≤ most_bytes))
-    → AnswersDeckUnless profile Hinders IsDeckText (Err f) before after kept kept
-unread_deck profile before after kept Hinders IsDeckText f is (bytes, consumed, le) = record {
+    → AnswersDeckUnless profile Prevents IsDeckText (Err f) before after kept kept
+unread_deck profile before after kept Prevents IsDeckText f is (bytes, consumed, le) = record {
   every_reader = (
     bytes,
     record {
       consumed = consumed;
       bounded = le;
-      answered = unread profile Hinders IsDeckText f bytes kept is (kept_as_it_was kept);
+      answered = unread profile Prevents IsDeckText f bytes kept is (kept_as_it_was kept);
       whole = tt;
     },
   );
-  telling_reader = told_unread profile before kept Hinders IsDeckText f most_bytes is;
+  known_reader = told_unread profile before kept Prevents IsDeckText f most_bytes is;
   unwritten = λ _. kept_as_it_was kept;
 }

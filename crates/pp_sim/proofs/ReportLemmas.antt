@@ -14,14 +14,14 @@ use Rattle.pp_deck.specs.DeckLaw.{NamesWithin}
 use Rattle.pp_runner.specs.Report.{IsReportOf}
 use Rattle.pp_runner.specs.Limits.{RunLimits}
 use Rattle.pp_runner.specs.End.{HasEndNumber}
-use Rattle.pp_runner.specs.WorkerReport.{IsLoggedWorker}
+use Rattle.pp_runner.specs.WorkerReport.{IsWorker}
 use Rattle.pp_runner.specs.declared.report.Report.{Report}
 use Rattle.pp_runner.specs.declared.worker.Worker.{Worker}
 use Rattle.pp_report.specs.ReportLaw.{ShownEnd, end_of, shown_end, shown_of}
 use Rattle.pp_text.specs.TextLaw.{NameAlike}
 
 each_numbered : {Z : Type 0} (size steps : ℕ) (loads : List Processor) (workers : List (Worker Z))
-    → AllZip (λ load w. IsLoggedWorker load size steps w.log.items w) loads workers → All (λ (w : Worker Z). HasEndNumber w.finish) workers
+    → AllZip (λ load w. IsWorker load size steps w) loads workers → All (λ (w : Worker Z). HasEndNumber w.finish) workers
 each_numbered {Z} size steps [] [] each = All-nil (λ (w : Worker Z). HasEndNumber w.finish)
 each_numbered {Z} size steps [] (w ∷ ws) each = absurd each
 each_numbered {Z} size steps (load ∷ loads) [] each = absurd each

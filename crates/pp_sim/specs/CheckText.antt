@@ -1,7 +1,7 @@
 -- What the check of a trace answers.
 use Rattle.std.specs.Prelude.{◌≢◌, ℕ, Bool, List, Option, Result, Ok, Err, IfErr, IfSome}
 use Rattle.std.specs.Io.KnownBytes.{Appends, Consumes, IsAtEnd, Keeps}
-use Rattle.pp_check.specs.LawfulTrace.{AreLawful, lines_said}
+use Rattle.pp_check.specs.LawfulTrace.{AreLawful, parsed_lines}
 use Rattle.pp_check.specs.TraceFault.{IsFault}
 use Rattle.pp_check.specs.Verdict.{verdict_line, verdict_of}
 use Rattle.pp_deck.specs.DeckText.{lines_of}
@@ -10,7 +10,7 @@ use Rattle.pp_sim.specs.declared.text_fault.TextFault.{TextFault}
 
 -- the line of what is counted in a lawful trace of these bytes
 abbrev pub verdict_text : List Bool → List ℕ → List ℕ
-verdict_text opened bytes = verdict_line (verdict_of opened (lines_said (lines_of bytes)))
+verdict_text opened bytes = verdict_line (verdict_of opened (parsed_lines (lines_of bytes)))
 
 -- THE ANSWER to a trace of these bytes, and what was written: of a lawful trace a line or a first
 -- part of it; of any other nothing, and the answer is its fault
@@ -37,7 +37,7 @@ IsAtEndIfJudged (Err (TextFault.Deck f)) after = Unit {0}
 IsAtEndIfJudged (Err (TextFault.NotBetweenPrograms going_on)) after = Unit {0}
 
 -- One call, whatever its reader is: these bytes were consumed; the answer is that to the trace that
--- they spell; and where it was judged, they were all that the reader had.
+-- they spell; and if it was judged, they were all that the reader had.
 pub record Checks (opened : List Bool) (answer : Result (Unit {0}) TextFault)
     (before after old new : Option (List ℕ)) (bytes : List ℕ) : Type 0 where
   pub consumed : Consumes before after bytes
@@ -49,6 +49,6 @@ pub record Checks (opened : List Bool) (answer : Result (Unit {0}) TextFault)
 pub record AnswersTrace (opened : List Bool) (answer : Result (Unit {0}) TextFault)
     (before after old new : Option (List ℕ)) : Type 0 where
   pub every_reader : (bytes : List ℕ) × Checks opened answer before after old new bytes
-  pub telling_reader : IfSome before (λ bytes. IsCheck opened answer bytes old new)
+  pub known_reader : IfSome before (λ bytes. IsCheck opened answer bytes old new)
   -- every fault but Write comes before the first byte is written
   pub unwritten : IfErr answer (λ f. f ≢ TextFault.Write → Keeps old new)

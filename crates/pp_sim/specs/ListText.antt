@@ -4,7 +4,7 @@ use Rattle.pp_deck.specs.DeckMeaning.{LoadedDeck, deck_meaning}
 use Rattle.pp_listing.specs.Listing.{listing}
 
 -- the text of a loaded deck: its listing, which means the same deck for a machine of the same
--- profile, where it is no longer than a deck may be
+-- profile, if it is no longer than a deck may be
 pub record IsListText (deck : LoadedDeck) (text : List ℕ) : Type 0 where
   pub told : text ≡ listing deck
   pub reads_back : length text ≤ 1048576 → deck_meaning deck.machine.profile text ≡ Ok deck

@@ -7,7 +7,7 @@ use Rattle.clap.specs.declared.error.kind.ErrorKind.TheVariants.{DisplayHelp, Di
 use Rattle.pp_sim.specs.CheckText.{AnswersTrace}
 use Rattle.pp_command.specs.CommandLine.{AskFor, IsRefused, Name, refusals}
 use Rattle.pp_sim.specs.TextAnswer.{AnswersDeck, AnswersDeckUnless}
-use Rattle.pp_sim.specs.TextOf.{IsTextOf, hindrance}
+use Rattle.pp_sim.specs.TextOf.{IsTextOf, obstacle}
 use Rattle.pp_sim.specs.ThreadsText.{IsThreadsText}
 use Rattle.pp_text.specs.Written.{AppendsFront}
 use Rattle.pp_command.specs.declared.line_fault.LineFault.{LineFault}
@@ -20,7 +20,7 @@ use Rattle.pp_command.specs.declared.work.Work.{Work}
 -- of the trace that was read. Z is the allocator's type, of which a report is made.
 abbrev pub IsDone : Type 0 → Work → Result (Unit {0}) TextFault → Option (List ℕ) → Option (List ℕ)
     → Option (List ℕ) → Option (List ℕ) → Type 0
-IsDone Z (Work.Deck profile text) = AnswersDeckUnless profile (hindrance text) (IsTextOf text)
+IsDone Z (Work.Deck profile text) = AnswersDeckUnless profile (obstacle text) (IsTextOf text)
 IsDone Z (Work.Threads profile limits) = AnswersDeck profile (IsThreadsText Z limits)
 IsDone Z (Work.Check opened) = AnswersTrace opened
 
@@ -41,7 +41,7 @@ pub record IsDoneWith (Z : Type 0) (work : Work) (status : ℕ)
   pub done : IsDone Z work answer before after old new
   pub told : status ≡ status_of answer
 
--- so it was over the bytes of a file; or there is no such file to read, and nothing is written
+-- so it was over some bytes, those of a file; or the status is 3, and nothing is written
 abbrev pub IsDoneOnFile : Type 0 → Work → ℕ → Option (List ℕ) → Option (List ℕ) → Type 0
 IsDoneOnFile Z work status old new =
     ((before : Option (List ℕ)) × ((after : Option (List ℕ))
@@ -77,22 +77,22 @@ IsPrinted text status old new =
     ((status ≡ 0) × Appends old new text) ⊎ (((status ≡ 3) × AppendsFront old new text)
     ⊎ ((status ≡ 4) × Keeps old new))
 
--- the status of a refusal: that of printing where help was asked for; else nothing is printed
-abbrev pub IsTold : LineFault → ℕ → Option (List ℕ) → Option (List ℕ) → Type 0
-IsTold LineFault.Memory status old new = (status ≡ 4) × Keeps old new
-IsTold LineFault.Number status old new = (status ≡ 2) × Keeps old new
-IsTold LineFault.Picture status old new = (status ≡ 2) × Keeps old new
-IsTold (LineFault.Refused error) status old new =
+-- the status of a refusal: that of printing if help was asked for; else nothing is printed
+abbrev pub IsReported : LineFault → ℕ → Option (List ℕ) → Option (List ℕ) → Type 0
+IsReported LineFault.Memory status old new = (status ≡ 4) × Keeps old new
+IsReported LineFault.Number status old new = (status ≡ 2) × Keeps old new
+IsReported LineFault.Picture status old new = (status ≡ 2) × Keeps old new
+IsReported (LineFault.Refused error) status old new =
     (IsHelp error × ((text : List ℕ) × IsPrinted text status old new))
     ⊎ (¬ IsHelp error × (status ≡ 2) × Keeps old new)
 
--- the words are refused, nothing is read, and the status tells why
+-- the words are refused, nothing is read, and the status says why
 pub record HasRefused (words : List Text) (status : ℕ) (before after old new : Option (List ℕ)) :
     Type 0 where
   pub why : LineFault
   pub refused : IsRefused words why
   pub unread : Keeps before after
-  pub told : IsTold why status old new
+  pub told : IsReported why status old new
 
 -- THE PROGRAM: it does the work that its words ask for, or refuses them
 abbrev pub IsRun : Type 0 → List Text → ℕ → Option (List ℕ) → Option (List ℕ) → Option (List ℕ)

@@ -8,7 +8,7 @@ use Rattle.pp_races.specs.Findings.{findings}
 use Rattle.pp_races.specs.RacesText.{races_text}
 
 -- the text of a loaded deck that has run in the barrel for N turns; its machine is a whole one, and
--- where nothing is found the run tells the result of every order of steps
+-- if nothing is found the run is determinate
 pub record IsRacesText (turns : ℕ) (deck : LoadedDeck) (text : List ℕ) : Type 0 where
   pub told : text ≡ races_text (barrel deck.machine.profile turns) deck.machine
   pub machine : IsMachine deck.machine

@@ -6,7 +6,8 @@ use Rattle.pp_deck.specs.DeckMeaning.{LoadedDeck, deck_meaning}
 use Rattle.pp_deck.specs.declared.deck_fault.DeckCode.TheVariants as code
 use Rattle.pp_deck.specs.declared.deck_fault.DeckFault.{DeckFault}
 use Rattle.pp_text.specs.Written.{AppendsFront}
-use Rattle.pp_listing.specs.declared.going_on.GoingOn.{GoingOn}
+use Rattle.pp_text.specs.declared.write_fault.WriteFault.{WriteFault}
+use Rattle.pp_listing.specs.declared.going_on.Busy.{Busy}
 use Rattle.pp_sim.specs.declared.text_fault.TextFault.{TextFault}
 
 -- how many bytes are read at most (decimal): one more than a deck may have
@@ -18,7 +19,8 @@ pub record IsFaultOf (profile : Profile) (bytes : List ℕ) (f : DeckFault) : Ty
   pub told : deck_meaning profile bytes ≡ Err f
   pub no_memory : f.code ≢ code.Memory
 
--- the bytes are a deck for such a machine, of which this is told: a text, or what stands in its way
+-- the bytes mean a deck for such a machine, and x is what the relation gives for it: a text, or
+-- what stands in its way
 pub record IsOfDeck {X : Type 0} (profile : Profile) (Tells : LoadedDeck → X → Type 0)
     (bytes : List ℕ) (x : X) : Type 0 where
   pub deck : LoadedDeck
@@ -27,56 +29,61 @@ pub record IsOfDeck {X : Type 0} (profile : Profile) (Tells : LoadedDeck → X �
 
 -- THE ANSWER to a deck of these bytes, for a machine of this profile, and what was written: a whole
 -- text of the deck, a first part of one, or nothing
-abbrev pub IsAnswerUnless : Profile → (LoadedDeck → GoingOn → Type 0)
+abbrev pub IsAnswerUnless : Profile → (LoadedDeck → Busy → Type 0)
     → (LoadedDeck → List ℕ → Type 0) → Result (Unit {0}) TextFault → List ℕ → Option (List ℕ)
     → Option (List ℕ) → Type 0
-IsAnswerUnless profile Hinders IsDeckText (Ok done) bytes old new =
+IsAnswerUnless profile Prevents IsDeckText (Ok done) bytes old new =
     (text : List ℕ) × IsOfDeck profile IsDeckText bytes text × Appends old new text
-IsAnswerUnless profile Hinders IsDeckText (Err TextFault.Write) bytes old new =
+IsAnswerUnless profile Prevents IsDeckText (Err TextFault.Write) bytes old new =
     (text : List ℕ) × IsOfDeck profile IsDeckText bytes text × AppendsFront old new text
-IsAnswerUnless profile Hinders _ (Err (TextFault.NotBetweenPrograms going_on)) bytes old new =
-    IsOfDeck profile Hinders bytes going_on × Keeps old new
-IsAnswerUnless profile Hinders IsDeckText (Err (TextFault.Deck f)) bytes old new =
+IsAnswerUnless profile Prevents _ (Err (TextFault.NotBetweenPrograms going_on)) bytes old new =
+    IsOfDeck profile Prevents bytes going_on × Keeps old new
+IsAnswerUnless profile Prevents IsDeckText (Err (TextFault.Deck f)) bytes old new =
     IsFaultOf profile bytes f × Keeps old new
-IsAnswerUnless profile Hinders IsDeckText (Err (TextFault.Trace f)) bytes old new = ⊥
-IsAnswerUnless profile Hinders IsDeckText (Err TextFault.Read) bytes old new = Keeps old new
-IsAnswerUnless profile Hinders IsDeckText (Err TextFault.Memory) bytes old new = Keeps old new
+IsAnswerUnless profile Prevents IsDeckText (Err (TextFault.Trace f)) bytes old new = ⊥
+IsAnswerUnless profile Prevents IsDeckText (Err TextFault.Read) bytes old new = Keeps old new
+IsAnswerUnless profile Prevents IsDeckText (Err TextFault.Memory) bytes old new = Keeps old new
 
 -- One call, whatever its reader is: these bytes were consumed; the answer is that to the deck that
--- they spell; and where it is Ok, they were all that the reader had.
-pub record AnswersUnless (profile : Profile) (Hinders : LoadedDeck → GoingOn → Type 0)
+-- they spell; and if it is Ok, they were all that the reader had.
+pub record AnswersUnless (profile : Profile) (Prevents : LoadedDeck → Busy → Type 0)
     (IsDeckText : LoadedDeck → List ℕ → Type 0) (answer : Result (Unit {0}) TextFault)
     (before after old new : Option (List ℕ)) (bytes : List ℕ) : Type 0 where
   pub consumed : Consumes before after bytes
   pub bounded : length bytes ≤ most_bytes
-  pub answered : IsAnswerUnless profile Hinders IsDeckText answer bytes old new
+  pub answered : IsAnswerUnless profile Prevents IsDeckText answer bytes old new
   pub whole : OnOk answer (IsAtEnd after)
 
--- THE PROMISE of a call that reads a deck and writes a text of it: how it answers every reader,
--- whatever that knows of its bytes; and one that knows which bytes it has
-pub record AnswersDeckUnless (profile : Profile) (Hinders : LoadedDeck → GoingOn → Type 0)
+-- THE PROMISE of a call that reads a deck and writes a text of it: whatever the reader, the answer
+-- is that to some bytes which it lost; if its bytes are known, it is that to those
+pub record AnswersDeckUnless (profile : Profile) (Prevents : LoadedDeck → Busy → Type 0)
     (IsDeckText : LoadedDeck → List ℕ → Type 0) (answer : Result (Unit {0}) TextFault)
     (before after old new : Option (List ℕ)) : Type 0 where
-  pub every_reader : (bytes : List ℕ) × AnswersUnless profile Hinders IsDeckText answer before after
-      old new bytes
-  pub telling_reader : IfSome before (λ bytes.
-      IsAnswerUnless profile Hinders IsDeckText answer (take most_bytes bytes) old new)
+  pub every_reader : (bytes : List ℕ)
+      × AnswersUnless profile Prevents IsDeckText answer before after old new bytes
+  pub known_reader : IfSome before (λ bytes.
+      IsAnswerUnless profile Prevents IsDeckText answer (take most_bytes bytes) old new)
   -- every fault but Write comes before the first byte is written
   pub unwritten : IfErr answer (λ f. f ≢ TextFault.Write → Keeps old new)
 
 -- most works have a text of every deck: nothing stands in their way
-abbrev pub Never : LoadedDeck → GoingOn → Type 0
-Never deck going_on = ⊥
+abbrev pub NothingPrevents : LoadedDeck → Busy → Type 0
+NothingPrevents deck going_on = ⊥
 
 abbrev pub IsAnswer : Profile → (LoadedDeck → List ℕ → Type 0) → Result (Unit {0}) TextFault
     → List ℕ → Option (List ℕ) → Option (List ℕ) → Type 0
-IsAnswer profile IsDeckText = IsAnswerUnless profile Never IsDeckText
+IsAnswer profile IsDeckText = IsAnswerUnless profile NothingPrevents IsDeckText
 
 abbrev pub AnswersDeck : Profile → (LoadedDeck → List ℕ → Type 0) → Result (Unit {0}) TextFault
     → (before after old new : Option (List ℕ)) → Type 0
-AnswersDeck profile IsDeckText = AnswersDeckUnless profile Never IsDeckText
+AnswersDeck profile IsDeckText = AnswersDeckUnless profile NothingPrevents IsDeckText
 
 -- ---- parts of a call
+
+-- the answer after a text was written, or after the writer failed
+abbrev pub answer_to : Result (Unit {0}) WriteFault → Result (Unit {0}) TextFault
+answer_to (Ok done) = Ok done
+answer_to (Err fault) = Err TextFault.Write
 
 -- reading fails by the reader or for lack of memory
 abbrev pub IsReadFault : TextFault → Type 0

@@ -6,18 +6,18 @@ use Rattle.pp_machine.specs.Run.{barrel, run}
 use Rattle.pp_deck.specs.DeckMeaning.{LoadedDeck}
 use Rattle.pp_draw.specs.DrawingText.{drawing_of_run}
 use Rattle.pp_draw.specs.declared.window.Window.{Window}
-use Rattle.pp_listing.specs.declared.going_on.GoingOn.{GoingOn}
+use Rattle.pp_listing.specs.declared.going_on.Busy.{Busy}
 use Rattle.pp_state.specs.CentralText.{central_text}
 use Rattle.pp_state.specs.MemoryText.{memory_text}
 use Rattle.pp_state.specs.declared.bounds.Bounds.{Bounds}
 use Rattle.pp_sessions.specs.SessionsText.{sessions_after}
 use Rattle.pp_sim.specs.BarrelText.{IsBarrelText}
-use Rattle.pp_sim.specs.DumpText.{HindersDump, IsDumpText}
+use Rattle.pp_sim.specs.DumpText.{PreventsDump, IsDumpText}
 use Rattle.pp_sim.specs.EndsText.{IsEndsText}
 use Rattle.pp_sim.specs.ListText.{IsListText}
 use Rattle.pp_sim.specs.RacesText.{IsRacesText}
 use Rattle.pp_sim.specs.StepsText.{IsStepsText}
-use Rattle.pp_sim.specs.TextAnswer.{Never}
+use Rattle.pp_sim.specs.TextAnswer.{NothingPrevents}
 use Rattle.pp_command.specs.declared.text_of.TextOf.{TextOf}
 use Rattle.pp_state.specs.StateText.{state_after}
 
@@ -57,6 +57,6 @@ IsTextOf (TextOf.Steps turns chosen) = IsStepsText turns chosen
 IsTextOf (TextOf.Draw window) = IsDrawing window
 
 -- what stands in its way: of a dump what goes on in the machine, and of all others nothing
-abbrev pub hindrance : TextOf → LoadedDeck → GoingOn → Type 0
-hindrance (TextOf.Dump turns) = HindersDump turns
-hindrance other = Never
+abbrev pub obstacle : TextOf → LoadedDeck → Busy → Type 0
+obstacle (TextOf.Dump turns) = PreventsDump turns
+obstacle other = NothingPrevents

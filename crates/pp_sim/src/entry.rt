@@ -1,7 +1,7 @@
 //! What the program does from its words to its exit status. It stands in a library, so that several
 //! programs with other words, decks and statuses can be run on it.
 
-use crate::program::{LINE_REFUSED, NO_MEMORY, run_program};
+use crate::program::{BAD_USAGE, NO_MEMORY, run_program};
 use std::alloc::{AllocError, Global};
 use std::env::Env;
 use std::fs::Files;
@@ -26,7 +26,7 @@ pub fn run_main<
         Err(fault) if fault.kind() == ErrorKind::OutOfMemory => return without_memory(error),
         Err(_) => {
             let _ = writeln!(error, "ppsim: a word is not UTF-8");
-            return ExitCode::from(LINE_REFUSED);
+            return ExitCode::from(BAD_USAGE);
         }
     };
     let Ok(words) = as_words(alloc, &arguments) else {

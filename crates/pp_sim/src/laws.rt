@@ -9,7 +9,7 @@ ghost use Rattle.pp_deck.specs.DeckMeaning.{LoadedDeck, deck_meaning};
 ghost use Rattle.pp_deck.specs.DeckText.{lines_of};
 ghost use Rattle.pp_machine.specs.Run.{barrel, run};
 ghost use Rattle.pp_machine.specs.declared.profile.Profile.{Profile};
-ghost use Rattle.pp_run.specs.Determinacy.{AreAlike, IsQuiet, ShowsParts, StandsIn};
+ghost use Rattle.pp_run.specs.Determinacy.{AreAlike, IsQuiet, ShowsParts, IsEmbeddedIn};
 ghost use Rattle.pp_report.specs.OneRun.{IsOver, ShowsPartsOf};
 ghost use Rattle.pp_report.specs.Serial.{LeadsTo};
 ghost use Rattle.pp_races.specs.RacesText.{verdict_line};
@@ -29,7 +29,7 @@ use pp_run::determinacy_law;
 use pp_text::text_law;
 use std::alloc::Allocator;
 
-/// The text is the trace: where two decks run to one text, they name the same processors, their
+/// The text is the trace: if two decks run to one text, they name the same processors, their
 /// machines made the same events in the same turns, agree on what is shown of each processor named
 /// and of each channel, and have the same history on each channel.
 pub fn barrel_text_law()
@@ -43,10 +43,10 @@ pub fn barrel_text_law()
     text_law();
 }
 
-/// The same for threads: where runs of two decks come to one text, the decks name the same
-/// processors, and the reports agree on the events of each channel, each with its number and its
-/// author, on P, A and the end of each processor named, and on the channels; and each channel has
-/// the same history in both.
+/// The same for threads: if runs of two decks come to one text, the decks name the same processors,
+/// and the reports agree on the events of each channel, each with its number and its author, on P,
+/// A and the end of each processor named, and on the channels; and each channel has the same
+/// history in both.
 pub fn threads_text_law<A: Allocator>()
     ensures { (deck other : LoadedDeck) (limits others : RunLimits) (text : List ℕ)
         (one : IsThreadsText A limits deck text) (also : IsThreadsText A others other text)
@@ -57,9 +57,9 @@ pub fn threads_text_law<A: Allocator>()
     report_law::<A>();
 }
 
-/// What `barrel_text` and `threads_text` write is a lawful trace, which `check_text` accepts where
-/// the channels that it takes as open are those that dead start opened: of every deck after any
-/// turns, and of every run by threads in which no channel has 10^19 events.
+/// What `barrel_text` and `threads_text` write is a lawful trace, which `check_text` accepts if the
+/// channels that it takes as open are those that dead start opened: of every deck after any turns,
+/// and of every run by threads in which no channel has 10^19 events.
 pub fn checked_text_law<A: Allocator>()
     ensures barrel { (profile : Profile) (bytes text : List ℕ) (deck : LoadedDeck) (turns : ℕ)
         → deck_meaning profile bytes ≡ Ok deck → turns < 10 ^ 19 → IsBarrelText turns deck text
@@ -75,8 +75,8 @@ pub fn checked_text_law<A: Allocator>()
     printed_report_law::<A>();
 }
 
-/// Where the last line of a `TextOf::Races` is `SAME IN EVERY ORDER`, the run ends quiet; every
-/// other list of steps of the deck's machine shows each processor and each channel only as this run
+/// If the last line of a `TextOf::Races` is `SAME IN EVERY ORDER`, the run ends quiet; every other
+/// list of steps of the deck's machine shows each processor and each channel only as this run
 /// showed it at some moment; and one that ends quiet, or in which the turns of this run stand with
 /// any steps between, leaves the processors, central memory, and the histories of the channels,
 /// each event made by the same processor, as this run did.
@@ -94,15 +94,15 @@ pub fn races_text_law()
         (run (barrel deck.machine.profile turns) deck.machine) }
     ensures going_on { (turns : ℕ) (deck : LoadedDeck) (text before others : List ℕ)
         → IsRacesText turns deck text → text ≡ before ++ verdict_line Same
-        → StandsIn (barrel deck.machine.profile turns) others
+        → IsEmbeddedIn (barrel deck.machine.profile turns) others
         → AreAlike (run others deck.machine)
         (run (barrel deck.machine.profile turns) deck.machine) }
 {
     determinacy_law();
 }
 
-/// What such a text tells of every run of the deck by threads. However the threads ended, each
-/// processor and each channel stands as at some moment of the run in the barrel. Where nothing more
+/// What such a text says of every run of the deck by threads. However the threads ended, each
+/// processor and each channel stands as at some moment of the run in the barrel. If nothing more
 /// can move, the barrel leads to the very processors and the very histories that the threads left,
 /// and to the words of central memory that their accesses leave.
 pub fn races_report_law<A: Allocator>()

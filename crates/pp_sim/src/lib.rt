@@ -25,14 +25,14 @@ pub use pp_deck::{Deck, DeckCode, DeckFault, deck_law, read_deck, reading_law};
 pub use pp_draw::{
     Condition, MOST_TURNS, SeenStep, Window, drawing_law, run_seeing_steps, write_drawing,
 };
-pub use pp_listing::{DumpFault, GoingOn, dump, dump_law, listing, listing_law};
+pub use pp_listing::{Busy, DumpFault, dump_law, listing_law, write_dump, write_listing};
 pub use pp_races::write_races;
 pub use pp_report::{headline_law, one_run_law};
 pub use pp_run::determinacy_law;
 pub use pp_sessions::{
     StepCounts, counts_law, course_law, run_counting_steps, sessions_law, write_sessions,
 };
-pub use pp_state::{printed_state, run_counting_held, state_law};
+pub use pp_state::{run_counting_held, state_law, write_state};
 pub use pp_steps::{steps_law, write_steps};
 pub use program::run_program;
 pub use text_fault::TextFault;

@@ -2,7 +2,7 @@
 
 ghost use Rattle.std.specs.Prelude.{◌≡◌, map};
 ghost use Rattle.pp_runner.specs.Report.{ReportFitsInMemory};
-ghost use Rattle.pp_sim.specs.Program.{IsDone, IsDoneOnFile, IsPrinted, IsRun, IsTold, status_of};
+ghost use Rattle.pp_sim.specs.Program.{IsDone, IsDoneOnFile, IsPrinted, IsRun, IsReported, status_of};
 
 use crate::streams::write_whole;
 use crate::text_fault::TextFault;
@@ -20,11 +20,11 @@ use std::thread::Threads;
 /// It is done, or help was asked for.
 const DONE: u8 = 0;
 /// The deck was refused, or can't be dumped as it stands; or a trace is not lawful.
-const INPUT_REFUSED: u8 = 1;
+const BAD_INPUT: u8 = 1;
 /// The command line was refused.
-pub(crate) const LINE_REFUSED: u8 = 2;
+pub(crate) const BAD_USAGE: u8 = 2;
 /// The input or the output failed.
-const DEVICE_FAILED: u8 = 3;
+const IO_FAULT: u8 = 3;
 /// Memory was refused.
 pub(crate) const NO_MEMORY: u8 = 4;
 
@@ -73,12 +73,12 @@ fn work_on_file<
     }
 }
 
-/// The status where a file can't be opened or read, which is reported.
+/// The status if a file can't be opened or read, which is reported.
 fn tell_unread<E: Write>(path: &str, error: &mut E) -> u8
     ensures { result ≡ 3 }
 {
     let _ = writeln!(error, "ppsim: {path}: cannot be read");
-    DEVICE_FAILED
+    IO_FAULT
 }
 
 /// Does what the words ask for.
@@ -108,13 +108,13 @@ fn tell_line_fault<O: Write, E: Write>(
     output: &mut O,
     error: &mut E,
 ) -> u8
-    ensures { IsTold fault.now result (O.contents output.old) (O.contents output.new) }
+    ensures { IsReported fault.now result (O.contents output.old) (O.contents output.new) }
 {
     match fault {
         LineFault::Refused(refusal) => show_refusal(alloc, refusal, output, error),
         LineFault::Number | LineFault::Picture => {
             let _ = writeln!(error, "ppsim: {fault}");
-            LINE_REFUSED
+            BAD_USAGE
         }
         LineFault::Memory => {
             let _ = writeln!(error, "ppsim: {fault}");
@@ -130,12 +130,12 @@ fn show_refusal<O: Write, E: Write>(
     output: &mut O,
     error: &mut E,
 ) -> u8
-    ensures { IsTold (LineFault.Refused refusal.now) result (O.contents output.old)
+    ensures { IsReported (LineFault.Refused refusal.now) result (O.contents output.old)
         (O.contents output.new) }
 {
     if refusal.use_stderr() {
         let _ = write!(error, "{refusal}");
-        return LINE_REFUSED;
+        return BAD_USAGE;
     }
     match format!(in alloc; "{refusal}") {
         Ok(help) => show_help(help.as_bytes(), output, error),
@@ -150,7 +150,7 @@ fn show_help<O: Write, E: Write>(help: &[u8], output: &mut O, error: &mut E) -> 
     tell_answer(write_whole(output, help), error)
 }
 
-/// The status of what was done, or failed, which is told.
+/// The status of what was done, or failed, which is reported.
 fn tell_answer<E: Write>(answer: Result<(), TextFault>, error: &mut E) -> u8
     ensures { result ≡ status_of answer }
 {
@@ -159,10 +159,8 @@ fn tell_answer<E: Write>(answer: Result<(), TextFault>, error: &mut E) -> u8
     };
     let _ = writeln!(error, "ppsim: {fault}");
     match fault {
-        TextFault::Deck(_) | TextFault::NotBetweenPrograms(_) | TextFault::Trace(_) => {
-            INPUT_REFUSED
-        }
-        TextFault::Read | TextFault::Write => DEVICE_FAILED,
+        TextFault::Deck(_) | TextFault::NotBetweenPrograms(_) | TextFault::Trace(_) => { BAD_INPUT }
+        TextFault::Read | TextFault::Write => IO_FAULT,
         TextFault::Memory => NO_MEMORY,
     }
 }

@@ -9,10 +9,11 @@ use Rattle.std.proofs.Math.Seq.{set-append_seam}
 use Rattle.pp_word.specs.Address.{place_count}
 use Rattle.pp_machine.specs.MachineState.{MachineState, processor_of}
 use Rattle.pp_deck.specs.DeckLine.{Line, central_words, section}
-use Rattle.pp_state.specs.Changes.{begins_line, central_line, changed_lines, changed_section, differs, has_changes, line_from, neighbours, places, words_in_front}
+use Rattle.pp_text.specs.Differences.{differs, places}
+use Rattle.pp_state.specs.Changes.{begins_line, central_line, changed_lines, changed_section, has_changes, line_from, neighbours, position_on_line}
 use Rattle.pp_state.specs.StateLaw.{AreMemories, IsNew, overwritten, placed, words_set}
 use Rattle.pp_state.proofs.NeighbourLemmas.{in_front_of_same, in_front_of_next, no_neighbour, no_more, none_at_first, one_neighbour}
-use Rattle.pp_state.proofs.TextLemmas.{range_flat}
+use Rattle.pp_text.specs.PrintingLaws.{range_flat}
 
 -- ---- the words that differ, each with its place
 
@@ -76,19 +77,19 @@ abbrev pub words_before : List ℕ → List ℕ → ℕ → List (ℕ × ℕ)
 words_before before after count = flat_map words_set (flat_map (line_from before after) (range_with_len 0 count))
 
 -- so many words of the line before stand from a place on
-pub words_behind : List ℕ → List ℕ → ℕ → ℕ
-words_behind before after place = cond (eqb (words_in_front before after place) 0) 0 (length (neighbours before after (8 - words_in_front before after place) place))
+pub words_after : List ℕ → List ℕ → ℕ → ℕ
+words_after before after place = cond (eqb (position_on_line before after place) 0) 0 (length (neighbours before after (8 - position_on_line before after place) place))
 
 words_before_more : (before after : List ℕ) (place : ℕ) → words_before before after (place + 1) ≡ words_before before after place ++ flat_map words_set (line_from before after place)
 words_before_more before after place =
     ap (flat_map words_set) (range_flat (line_from before after) place)
     ∙ flat_map-append words_set (flat_map (line_from before after) (range_with_len 0 place)) (line_from before after place)
 
-few_in_front : (before after : List ℕ) (place : ℕ) → words_in_front before after place < 8
+few_in_front : (before after : List ℕ) (place : ℕ) → position_on_line before after place < 8
 few_in_front before after zero = omega (arith, none_at_first before after)
 few_in_front before after (suc place) = by (cases (differs before after place))
   where
-    by : (differs before after place ≡ true) ⊎ (differs before after place ≡ false) → words_in_front before after (suc place) < 8
+    by : (differs before after place ≡ true) ⊎ (differs before after place ≡ false) → position_on_line before after (suc place) < 8
     by (inl other) = omega (arith, in_front_of_next before after place other)
     by (inr same) = omega (arith, in_front_of_same before after place same)
 
@@ -106,55 +107,55 @@ one_line before after place e =
     ∙ ap (λ (ls : List Line). words_before before after place ++ flat_map words_set ls) (cond-true (begins_line before after place) _ _ e)
     ∙ ap (λ (xs : List (ℕ × ℕ)). words_before before after place ++ xs) (append-nil (placed place (neighbours before after 8 place)))
 
-behind_first : (before after : List ℕ) (place : ℕ) → words_in_front before after place ≡ 0 → words_behind before after place ≡ 0
-unfolding words_behind
-behind_first before after place e = cond-true (eqb (words_in_front before after place) 0) _ _ (eq-eqb (words_in_front before after place) 0 e)
+behind_first : (before after : List ℕ) (place : ℕ) → position_on_line before after place ≡ 0 → words_after before after place ≡ 0
+unfolding words_after
+behind_first before after place e = cond-true (eqb (position_on_line before after place) 0) _ _ (eq-eqb (position_on_line before after place) 0 e)
 
-behind_more : (before after : List ℕ) (place : ℕ) → words_in_front before after place ≢ 0 → words_behind before after place ≡ length (neighbours before after (8 - words_in_front before after place) place)
-unfolding words_behind
-behind_more before after place e = cond-false (eqb (words_in_front before after place) 0) _ _ (ne_eqb (words_in_front before after place) 0 e)
+behind_more : (before after : List ℕ) (place : ℕ) → position_on_line before after place ≢ 0 → words_after before after place ≡ length (neighbours before after (8 - position_on_line before after place) place)
+unfolding words_after
+behind_more before after place e = cond-false (eqb (position_on_line before after place) 0) _ _ (ne_eqb (position_on_line before after place) 0 e)
 
 no_words : (before after : List ℕ) (most place : ℕ) → differs before after place ≡ false → length (neighbours before after most place) ≡ 0
 no_words before after most place e = ap length (no_neighbour before after most place e)
 
-behind_same : (before after : List ℕ) (place : ℕ) → differs before after place ≡ false → words_behind before after place ≡ 0
-behind_same before after place e = by (cases_eq (words_in_front before after place) 0)
+behind_same : (before after : List ℕ) (place : ℕ) → differs before after place ≡ false → words_after before after place ≡ 0
+behind_same before after place e = by (cases_eq (position_on_line before after place) 0)
   where
-    by : (words_in_front before after place ≡ 0) ⊎ (words_in_front before after place ≢ 0) → words_behind before after place ≡ 0
+    by : (position_on_line before after place ≡ 0) ⊎ (position_on_line before after place ≢ 0) → words_after before after place ≡ 0
     by (inl first) = behind_first before after place first
-    by (inr later) = behind_more before after place later ∙ no_words before after (8 - words_in_front before after place) place e
+    by (inr later) = behind_more before after place later ∙ no_words before after (8 - position_on_line before after place) place e
 
 more_words : (before after : List ℕ) (most place : ℕ) → differs before after place ≡ true → length (neighbours before after (suc most) place) ≡ suc (length (neighbours before after most (place + 1)))
 more_words before after most place e = ap length (one_neighbour before after most place e)
 
 -- behind a word that differs there are as many as may still come
-behind_next : (before after : List ℕ) (place : ℕ) → differs before after place ≡ true → words_behind before after (suc place) ≡ length (neighbours before after (7 - words_in_front before after place) (place + 1))
-behind_next before after place e = by (cases_lt (words_in_front before after place) 7)
+behind_next : (before after : List ℕ) (place : ℕ) → differs before after place ≡ true → words_after before after (suc place) ≡ length (neighbours before after (7 - position_on_line before after place) (place + 1))
+behind_next before after place e = by (cases_lt (position_on_line before after place) 7)
   where
     front : ℕ
-    front = words_in_front before after place
+    front = position_on_line before after place
 
-    next : words_in_front before after (suc place) ≡ (words_in_front before after place + 1) % 8
+    next : position_on_line before after (suc place) ≡ (position_on_line before after place + 1) % 8
     next = in_front_of_next before after place e
 
     one_more : suc place ≡ place + 1
     one_more = omega arith
 
-    by : (words_in_front before after place < 7) ⊎ (7 ≤ words_in_front before after place) → words_behind before after (suc place) ≡ length (neighbours before after (7 - words_in_front before after place) (place + 1))
+    by : (position_on_line before after place < 7) ⊎ (7 ≤ position_on_line before after place) → words_after before after (suc place) ≡ length (neighbours before after (7 - position_on_line before after place) (place + 1))
     by (inl few) =
-        let later : words_in_front before after (suc place) ≢ 0 = λ (none : words_in_front before after (suc place) ≡ 0). absurd (omega (arith, next, none, few)) in
-        let left : 8 - words_in_front before after (suc place) ≡ 7 - words_in_front before after place = omega (arith, next, few) in
+        let later : position_on_line before after (suc place) ≢ 0 = λ (none : position_on_line before after (suc place) ≡ 0). absurd (omega (arith, next, none, few)) in
+        let left : 8 - position_on_line before after (suc place) ≡ 7 - position_on_line before after place = omega (arith, next, few) in
         behind_more before after (suc place) later
         ∙ ap (λ (most : ℕ). length (neighbours before after most (suc place))) left
-        ∙ ap (λ (p : ℕ). length (neighbours before after (7 - words_in_front before after place) p)) one_more
+        ∙ ap (λ (p : ℕ). length (neighbours before after (7 - position_on_line before after place) p)) one_more
     by (inr many) =
-        let low : words_in_front before after place < 8 = few_in_front before after place in
-        let first : words_in_front before after (suc place) ≡ 0 = omega (arith, next, low, many) in
-        let none : 7 - words_in_front before after place ≡ 0 = omega (arith, low, many) in
-        behind_first before after (suc place) first ∙ sym (ap length (no_more before after (7 - words_in_front before after place) (place + 1) none))
+        let low : position_on_line before after place < 8 = few_in_front before after place in
+        let first : position_on_line before after (suc place) ≡ 0 = omega (arith, next, low, many) in
+        let none : 7 - position_on_line before after place ≡ 0 = omega (arith, low, many) in
+        behind_first before after (suc place) first ∙ sym (ap length (no_more before after (7 - position_on_line before after place) (place + 1) none))
 
 -- over one place more
-words_step : (before after : List ℕ) (place : ℕ) → words_before before after place ≡ changes before after (place + words_behind before after place) → words_before before after (place + 1) ≡ changes before after (suc place + words_behind before after (suc place))
+words_step : (before after : List ℕ) (place : ℕ) → words_before before after place ≡ changes before after (place + words_after before after place) → words_before before after (place + 1) ≡ changes before after (suc place + words_after before after (suc place))
 words_step before after place so_far = by (cases (differs before after place))
   where
     ended : (behind : ℕ) → behind ≡ 0 → place + behind ≡ place
@@ -166,38 +167,38 @@ words_step before after place so_far = by (cases (differs before after place))
     along : (old new : ℕ) → old ≡ suc new → place + old ≡ suc place + new
     along old new e = omega (arith, e)
 
-    left : 8 - words_in_front before after place ≡ suc (7 - words_in_front before after place)
-    left = let low : words_in_front before after place < 8 = few_in_front before after place in omega (arith, low)
+    left : 8 - position_on_line before after place ≡ suc (7 - position_on_line before after place)
+    left = let low : position_on_line before after place < 8 = few_in_front before after place in omega (arith, low)
 
-    by : (differs before after place ≡ true) ⊎ (differs before after place ≡ false) → words_before before after (place + 1) ≡ changes before after (suc place + words_behind before after (suc place))
+    by : (differs before after place ≡ true) ⊎ (differs before after place ≡ false) → words_before before after (place + 1) ≡ changes before after (suc place + words_after before after (suc place))
     by (inr same) =
-        no_line before after place (ap (λ (b : Bool). b && eqb (words_in_front before after place) 0) same)
-        ∙ so_far ∙ ap (changes before after) (ended (words_behind before after place) (behind_same before after place same))
+        no_line before after place (ap (λ (b : Bool). b && eqb (position_on_line before after place) 0) same)
+        ∙ so_far ∙ ap (changes before after) (ended (words_after before after place) (behind_same before after place same))
         ∙ sym (changes_same before after place same)
-        ∙ ap (changes before after) (on (words_behind before after (suc place)) (behind_first before after (suc place) (in_front_of_same before after place same)))
-    by (inl other) = by_front (cases_eq (words_in_front before after place) 0)
+        ∙ ap (changes before after) (on (words_after before after (suc place)) (behind_first before after (suc place) (in_front_of_same before after place same)))
+    by (inl other) = by_front (cases_eq (position_on_line before after place) 0)
       where
-        counted : length (neighbours before after (8 - words_in_front before after place) place) ≡ suc (words_behind before after (suc place))
+        counted : length (neighbours before after (8 - position_on_line before after place) place) ≡ suc (words_after before after (suc place))
         counted =
             ap (λ (most : ℕ). length (neighbours before after most place)) left
-            ∙ more_words before after (7 - words_in_front before after place) place other
+            ∙ more_words before after (7 - position_on_line before after place) place other
             ∙ ap (λ (k : ℕ). suc k) (sym (behind_next before after place other))
 
-        by_front : (words_in_front before after place ≡ 0) ⊎ (words_in_front before after place ≢ 0) → words_before before after (place + 1) ≡ changes before after (suc place + words_behind before after (suc place))
+        by_front : (position_on_line before after place ≡ 0) ⊎ (position_on_line before after place ≢ 0) → words_before before after (place + 1) ≡ changes before after (suc place + words_after before after (suc place))
         by_front (inl first) =
-            let begins : begins_line before after place ≡ true = ap (λ (b : Bool). b && eqb (words_in_front before after place) 0) other ∙ eq-eqb (words_in_front before after place) 0 first in
+            let begins : begins_line before after place ≡ true = ap (λ (b : Bool). b && eqb (position_on_line before after place) 0) other ∙ eq-eqb (position_on_line before after place) 0 first in
             one_line before after place begins
-            ∙ ap (λ (xs : List (ℕ × ℕ)). xs ++ placed place (neighbours before after 8 place)) (so_far ∙ ap (changes before after) (ended (words_behind before after place) (behind_first before after place first)))
+            ∙ ap (λ (xs : List (ℕ × ℕ)). xs ++ placed place (neighbours before after 8 place)) (so_far ∙ ap (changes before after) (ended (words_after before after place) (behind_first before after place first)))
             ∙ neighbours_are before after 8 place
-            ∙ ap (changes before after) (along (length (neighbours before after 8 place)) (words_behind before after (suc place)) (ap (λ (k : ℕ). length (neighbours before after (8 - k) place)) (sym first) ∙ counted))
+            ∙ ap (changes before after) (along (length (neighbours before after 8 place)) (words_after before after (suc place)) (ap (λ (k : ℕ). length (neighbours before after (8 - k) place)) (sym first) ∙ counted))
         by_front (inr later) =
-            no_line before after place (ap (λ (b : Bool). b && eqb (words_in_front before after place) 0) other ∙ ne_eqb (words_in_front before after place) 0 later)
+            no_line before after place (ap (λ (b : Bool). b && eqb (position_on_line before after place) 0) other ∙ ne_eqb (position_on_line before after place) 0 later)
             ∙ so_far ∙ ap (λ (k : ℕ). changes before after (place + k)) (behind_more before after place later)
-            ∙ ap (changes before after) (along (length (neighbours before after (8 - words_in_front before after place) place)) (words_behind before after (suc place)) counted)
+            ∙ ap (changes before after) (along (length (neighbours before after (8 - position_on_line before after place) place)) (words_after before after (suc place)) counted)
 
 -- the words on the lines so far are the changes, some of them ahead
-words_are : (before after : List ℕ) (place : ℕ) → words_before before after place ≡ changes before after (place + words_behind before after place)
-words_are before after zero = ap (changes before after) (start (words_behind before after 0) (behind_first before after 0 (none_at_first before after)))
+words_are : (before after : List ℕ) (place : ℕ) → words_before before after place ≡ changes before after (place + words_after before after place)
+words_are before after zero = ap (changes before after) (start (words_after before after 0) (behind_first before after 0 (none_at_first before after)))
   where
     start : (behind : ℕ) → behind ≡ 0 → 0 ≡ 0 + behind
     start behind e = omega (arith, e)
@@ -215,7 +216,7 @@ pub words_on_lines : (before after : List ℕ) → length before ≡ place_count
 unfolding places
 words_on_lines before after long as_long =
     words_are before after place_count
-    ∙ ap (changes before after) (ended (words_behind before after place_count) (behind_same before after place_count (past before after place_count (omega (arith, long)) (omega (arith, as_long)))))
+    ∙ ap (changes before after) (ended (words_after before after place_count) (behind_same before after place_count (past before after place_count (omega (arith, long)) (omega (arith, as_long)))))
   where
     ended : (behind : ℕ) → behind ≡ 0 → place_count + behind ≡ place_count
     ended behind e = omega (arith, e)

@@ -1,4 +1,3 @@
-mod InstructionLemmas
 mod NeighbourLemmas
 mod ChangeLemmas
 mod WaitLemmas
@@ -6,6 +5,3 @@ mod MemoryTextLemmas
 mod MemoryLineLemmas
 mod MemoryReadingLemmas
 mod MemoryLawLemmas
--- facts of the definitions, which proofs of other crates cite
-pub mod HeldLemmas
-pub mod TextLemmas

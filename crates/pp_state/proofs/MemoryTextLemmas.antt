@@ -3,14 +3,14 @@ use Rattle.std.proofs.Common.{◌≡◌, ◌≢◌, ℕ, zero, suc, ◌+◌, ◌
 use Rattle.std.proofs.lemmas.List.{append-nil}
 use Rattle.pp_machine.specs.Processor.{Processor}
 use Rattle.pp_text.specs.PrintedText.{each_below, line_end}
-use Rattle.pp_text.specs.PrintingLaws.{nothing_said, said_goes_on}
+use Rattle.pp_text.specs.PrintingLaws.{each_below_zero, each_below_suc}
 use Rattle.pp_state.specs.DisplayCode.{display_character, displayed}
 use Rattle.pp_state.specs.MemoryText.{has_words, meets, memory_line, shown_line}
 use Rattle.pp_state.specs.declared.bounds.Bounds.{Bounds}
 
 -- nothing is added for no number
 pub none_added : (text : List ℕ) (said : ℕ → List ℕ) → text ≡ text ++ each_below 0 said
-none_added text said = rw (nothing_said said) (sym (append-nil text))
+none_added text said = rw (each_below_zero said) (sym (append-nil text))
 
 -- what is said of one number more is added
 pub one_added : (text before after : List ℕ) (k : ℕ) (said : ℕ → List ℕ) → before ≡ text ++ each_below k said → after ≡ before ++ said k
@@ -18,7 +18,7 @@ pub one_added : (text before after : List ℕ) (k : ℕ) (said : ℕ → List �
 one_added text before after k said is more =
     more ∙ ap (λ (t : List ℕ). t ++ said k) is
     ∙ append_assoc text (each_below k said) (said k)
-    ∙ ap (λ (t : List ℕ). text ++ t) (said_goes_on k said)
+    ∙ ap (λ (t : List ℕ). text ++ t) (each_below_suc k said)
 
 -- what is said of all numbers has been added
 pub all_added : (text after : List ℕ) (k count : ℕ) (said : ℕ → List ℕ) → after ≡ text ++ each_below k said → k ≡ count

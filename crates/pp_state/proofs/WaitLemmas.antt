@@ -23,9 +23,9 @@ use Rattle.pp_machine.specs.declared.need.Need.TheVariants as needs
 use Rattle.pp_machine.specs.declared.outcome.Outcome.{Outcome}
 use Rattle.pp_machine.specs.declared.outcome.Outcome.TheVariants.{AtRest, Held, Moved}
 use Rattle.pp_machine.proofs.StepLemmas.{held_by_answer}
-use Rattle.pp_state.specs.StateLaw.{Waits, WaitsFor}
-use Rattle.pp_state.specs.StateText.{held_text}
-use Rattle.pp_state.proofs.HeldLemmas.{goes_on, held_where_none, moves_where_looked, moves_where_made}
+use Rattle.pp_state.specs.StateLaw.{IsHeld, IsHeldBy}
+use Rattle.pp_text.specs.Standing.{held_text}
+use Rattle.pp_text.proofs.HeldLemmas.{goes_on, held_where_none, moves_where_looked, moves_where_made}
 
 -- ---- histories of all channels, also of numbers that name none
 
@@ -59,7 +59,7 @@ unfolding goes_on
 goes_is_on None is_active e = inl refl
 goes_is_on (Some block) is_active e = inr e
 
-pub held_where_waits : (n : ℕ) (m : MachineState) → length m.histories ≡ channel_count → HoldsOnEachChannel m → Waits n m → step_outcome n m ≡ Held
+pub held_where_waits : (n : ℕ) (m : MachineState) → length m.histories ≡ channel_count → HoldsOnEachChannel m → IsHeld n m → step_outcome n m ≡ Held
 held_where_waits n m all holds (c, op, waits) =
     held_where_none n c op m waits.needs waits.acts (none_without_ready (history_of c m) (lawful c m all holds) op waits.not_ready (event_of op (history_of c m)) refl)
     ∙ ap (λ (b : Bool). cond b Held Moved) (on_goes (processor_of n m).block (active (history_of c m)) waits.no_end)
@@ -80,10 +80,10 @@ held_is_true false o is held = absurd (moved_not_held o is held)
 never_ready : (h : List Event) (op : ChanOp) → IsLawful h → event_of op h ≡ None → (e : Event) → IsReady h op e → ⊥
 never_ready h op law none e ready = let made : event_of op h ≡ Some e = table_of_ready h law op e ready in cc
 
-waits_on : (n c : ℕ) (op : ChanOp) (m : MachineState) → IsLawful (history_of c m) → need (processor_of n m) ≡ needs.Channel c op → step_outcome n m ≡ Held → Waits n m
+waits_on : (n c : ℕ) (op : ChanOp) (m : MachineState) → IsLawful (history_of c m) → need (processor_of n m) ≡ needs.Channel c op → step_outcome n m ≡ Held → IsHeld n m
 waits_on n c op m law needed held = (c, op, by (looks_or_acts (only_looks op)) (event_or_not (event_of op (history_of c m))))
   where
-    by : (only_looks op ≡ true) ⊎ (only_looks op ≡ false) → (event_of op (history_of c m) ≡ None) ⊎ ((e : Event) × (event_of op (history_of c m) ≡ Some e)) → WaitsFor n m c op
+    by : (only_looks op ≡ true) ⊎ (only_looks op ≡ false) → (event_of op (history_of c m) ≡ None) ⊎ ((e : Event) × (event_of op (history_of c m) ≡ Some e)) → IsHeldBy n m c op
     by (inl looks) event = absurd (moved_not_held (step_outcome n m) (moves_where_looked n c op m needed looks) held)
     by (inr acts) (inr made) = absurd (moved_not_held (step_outcome n m) (moves_where_made n c op m made.0 needed made.1) held)
     by (inr acts) (inl none) = record {
@@ -98,10 +98,10 @@ held_answer : (n : ℕ) (m : MachineState) → step_outcome n m ≡ Held → IsH
 unfolding step_outcome
 held_answer n m held = held_by_answer (processor_of n m) (answer_to (need (processor_of n m)) m) held
 
-pub waits_where_held : (n : ℕ) (m : MachineState) → length m.histories ≡ channel_count → HoldsOnEachChannel m → step_outcome n m ≡ Held → Waits n m
+pub waits_where_held : (n : ℕ) (m : MachineState) → length m.histories ≡ channel_count → HoldsOnEachChannel m → step_outcome n m ≡ Held → IsHeld n m
 waits_where_held n m all holds held = by (need (processor_of n m)) refl (held_answer n m held)
   where
-    by : (x : Need) → need (processor_of n m) ≡ x → IsHeldAnswer (answer_to (need (processor_of n m)) m) → Waits n m
+    by : (x : Need) → need (processor_of n m) ≡ x → IsHeldAnswer (answer_to (need (processor_of n m)) m) → IsHeld n m
     by needs.Nothing e h = absurd (local (answer_to (need (processor_of n m)) m) (ap (λ (x : Need). answer_to x m) e) h)
       where
         local : (answer : Answer) → answer ≡ answers.Local → IsHeldAnswer answer → ⊥
@@ -134,7 +134,7 @@ said (needs.Write a w) o m count some = absurd (some refl)
 not_nothing : (x : ℕ) (xs ys : List ℕ) → ys ≡ x ∷ xs → ys ≡ [] → ⊥
 not_nothing x xs ys some none = cc
 
-pub says_where_waits : (n : ℕ) (m : MachineState) (count : ℕ) → step_outcome n m ≡ Held → Waits n m → held_text (need (processor_of n m)) (step_outcome n m) m count ≢ []
+pub says_where_waits : (n : ℕ) (m : MachineState) (count : ℕ) → step_outcome n m ≡ Held → IsHeld n m → held_text (need (processor_of n m)) (step_outcome n m) m count ≢ []
 says_where_waits n m count held (c, op, waits) =
     let text : held_text (need (processor_of n m)) (step_outcome n m) m count ≡ held_text (needs.Channel c op) Held m count =
     ap (λ (x : Need). held_text x (step_outcome n m) m count) waits.needs ∙ ap (λ (o : Outcome). held_text (needs.Channel c op) o m count) held in

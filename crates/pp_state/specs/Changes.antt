@@ -2,22 +2,18 @@
 -- words.
 use Rattle.std.specs.Prelude.{ℕ, zero, suc, ◌+◌, ◌%◌, ◌==◌, ◌&&◌, Bool, not, List, [], ◌∷◌, length, slice_index, if◌then◌else◌}
 use Rattle.std.specs.List.{flat_map, list_any, range_with_len}
-use Rattle.pp_word.specs.Address.{place_count}
 use Rattle.pp_machine.specs.MachineState.{MachineState, processor_of}
 use Rattle.pp_machine.specs.PpNo.{names_processor}
 use Rattle.pp_deck.specs.DeckLine.{Line, central_words, section, words}
+use Rattle.pp_text.specs.Differences.{differs, places}
 use Rattle.pp_listing.specs.Listing.{numbers}
-
--- whether the word at a place differs
-abbrev pub differs : List ℕ → List ℕ → ℕ → Bool
-differs before after place = not (slice_index before place == slice_index after place)
 
 -- how many words are on a line before the one at a place: none after a word that does not
 -- differ, and none after eight
-unfoldable pub words_in_front : List ℕ → List ℕ → ℕ → ℕ
-words_in_front before after zero = 0
-words_in_front before after (suc place) =
-    if differs before after place then (words_in_front before after place + 1) % 8 else 0
+unfoldable pub position_on_line : List ℕ → List ℕ → ℕ → ℕ
+position_on_line before after zero = 0
+position_on_line before after (suc place) =
+    if differs before after place then (position_on_line before after place + 1) % 8 else 0
 
 -- the words from a place on, as long as they differ, but at most this many
 unfoldable pub neighbours : List ℕ → List ℕ → ℕ → ℕ → List ℕ
@@ -30,17 +26,13 @@ neighbours before after (suc most) place =
 -- whether a line begins at a place
 abbrev pub begins_line : List ℕ → List ℕ → ℕ → Bool
 begins_line before after place =
-    differs before after place && words_in_front before after place == 0
+    differs before after place && position_on_line before after place == 0
 
 -- the line that begins at a place, if one does
 abbrev pub line_from : List ℕ → List ℕ → ℕ → List Line
 line_from before after place =
     if begins_line before after place
     then words place (neighbours before after 8 place) ∷ [] else []
-
--- all places of a memory
-unfoldable pub places : List ℕ
-places = range_with_len 0 place_count
 
 -- the lines of a memory, in order of place
 abbrev pub changed_lines : List ℕ → List ℕ → List Line

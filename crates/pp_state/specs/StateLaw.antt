@@ -13,15 +13,15 @@ use Rattle.pp_deck.specs.DeckLine.{Line, central_words, words}
 
 -- the next step of processor n needs an operation that does more than look, and channel c is not
 -- ready for it. An inactive channel does not hold a block, but ends it
-pub record WaitsFor (n : ℕ) (m : MachineState) (c : ℕ) (operation : ChanOp) : Type 0 where
+pub record IsHeldBy (n : ℕ) (m : MachineState) (c : ℕ) (operation : ChanOp) : Type 0 where
   pub needs : need (processor_of n m) ≡ Channel c operation
   pub acts : only_looks operation ≡ false
   pub not_ready : (e : Event) → ¬ IsReady (history_of c m) operation e
   pub no_end : ((processor_of n m).block ≡ None) ⊎ (active (history_of c m) ≡ true)
 
 -- it waits for some channel
-abbrev pub Waits : ℕ → MachineState → Type 0
-Waits n m = (c : ℕ) × (operation : ChanOp) × WaitsFor n m c operation
+abbrev pub IsHeld : ℕ → MachineState → Type 0
+IsHeld n m = (c : ℕ) × (operation : ChanOp) × IsHeldBy n m c operation
 
 -- processor n of two machines, each with a word for each place
 pub record AreMemories (n : ℕ) (before after : MachineState) : Type 0 where

@@ -16,7 +16,7 @@ use std::alloc::Allocator;
 
 /// Runs so many turns of the barrel (decimal), as `Machine::run_barrel` does, and says of each
 /// processor, in the order of the barrel, how many of its last steps in a row were held.
-#[tactic(auto, unfolding(list_facts::specs::Tables::tabulate))]
+#[tactic(auto, unfolding(pp_word::specs::Tables::tabulate))]
 pub fn run_counting_held<A: Allocator>(
     machine: &mut Machine<A>,
     turns: u32,

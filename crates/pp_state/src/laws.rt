@@ -10,8 +10,8 @@ ghost use Rattle.pp_machine.specs.MachineStep.{step_outcome};
 ghost use Rattle.pp_machine.specs.NeedAndEffect.{need};
 ghost use Rattle.pp_machine.specs.declared.outcome.Outcome.TheVariants.{Held};
 ghost use Rattle.pp_state.specs.Changes.{changed_central, changed_section};
-ghost use Rattle.pp_state.specs.StateLaw.{AreMemories, IsNew, Waits, overwritten, words_set};
-ghost use Rattle.pp_state.specs.StateText.{held_text};
+ghost use Rattle.pp_state.specs.StateLaw.{AreMemories, IsNew, IsHeld, overwritten, words_set};
+ghost use Rattle.pp_text.specs.Standing.{held_text};
 
 /// What the text of a machine says: it says ` HELD ` of a processor exactly where its next step
 /// needs an operation for which its channel is not ready, which is where that step is held; the
@@ -19,10 +19,10 @@ ghost use Rattle.pp_state.specs.StateText.{held_text};
 /// stands at its place already; and the same of central memory.
 pub fn state_law()
     ensures waits { (n : ℕ) (m : MachineState) → length m.histories ≡ channel_count
-        → HoldsOnEachChannel m → (step_outcome n m ≡ Held) ↔ Waits n m }
+        → HoldsOnEachChannel m → (step_outcome n m ≡ Held) ↔ IsHeld n m }
     ensures held { (n : ℕ) (m : MachineState) (count : ℕ) → length m.histories ≡ channel_count
         → HoldsOnEachChannel m
-        → (held_text (need (processor_of n m)) (step_outcome n m) m count ≢ []) ↔ Waits n m }
+        → (held_text (need (processor_of n m)) (step_outcome n m) m count ≢ []) ↔ IsHeld n m }
     ensures memory { (n : ℕ) (before after : MachineState) → AreMemories n before after
         → overwritten (processor_of n before).memory
         (flat_map words_set (changed_section before after n))

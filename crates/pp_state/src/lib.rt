@@ -4,27 +4,19 @@
 
 mod bounds;
 mod central_text;
-mod central_words;
 mod changes;
 mod display_code;
 mod held_steps;
-mod held_text;
-mod instruction;
 mod laws;
 mod memory_laws;
 mod memory_text;
 mod octal_field;
-mod standing;
 mod whole_text;
 
 pub use bounds::Bounds;
 pub use central_text::write_central;
-pub use central_words::central_word;
 pub use held_steps::run_counting_held;
-pub use held_text::{push_flags_text, push_held_text};
-pub use instruction::running_field;
 pub use laws::state_law;
 pub use memory_laws::{central_law, memory_law};
 pub use memory_text::write_memory;
-pub use standing::push_standing;
-pub use whole_text::{printed_state, push_channels};
+pub use whole_text::write_state;

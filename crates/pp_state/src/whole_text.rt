@@ -1,134 +1,119 @@
 //! The whole text of how things stand.
 
-ghost use Rattle.std.specs.Prelude.{◌≡◌, ◌++◌, IfOk, OnOk};
 ghost use Rattle.std.specs.List.{flat_map};
-ghost use Rattle.pp_text.specs.PrintedText.{each_below, used_channel_line};
+ghost use Rattle.pp_machine.specs.MachineState.{processor_of};
+ghost use Rattle.pp_text.specs.PrintedText.{each_below, processor_line};
+ghost use Rattle.pp_text.specs.Standing.{standing};
+ghost use Rattle.pp_text.specs.TextWriter.{Prints};
+ghost use Rattle.pp_text.specs.Written.{IsWritten};
+ghost use Rattle.pp_listing.specs.ListedLine.{deck_line};
 ghost use Rattle.pp_state.specs.Changes.{changed_section, changed_sections};
-ghost use Rattle.pp_state.specs.StateText.{deck_line, standing_line, state_text};
+ghost use Rattle.pp_state.specs.StateText.{standing_line, state_text};
 
-use crate::changes::{has_changes, push_changed_central, push_section};
-use crate::standing::push_standing_line;
-use pp_channel::ChannelNo;
+use crate::changes::{has_changes, print_changed_central, print_section};
 use pp_machine::{Machine, PROCESSORS, PpNo};
-use pp_text::{NUMBERS, Piece, push_channel_line};
-use std::alloc::{AllocError, Allocator};
+use pp_text::{NUMBERS, TextWriter, WriteFault, print_channels, print_standing, processor_heading};
+use std::alloc::Allocator;
+use std::io::Write;
 
-/// How things stand after a run: the processors shown, each with the instruction that runs, the
-/// place of a block in progress and the channel that holds it; the words that differ from the
-/// machine as it was loaded, `before`; and the channels that have a history. `held` has for each
-/// processor, in the order of the barrel, the count of its last steps in a row that were held.
-/// Numbers are octal, but this count.
+/// Writes how things stand after a run: the processors shown, each with the instruction that runs,
+/// the place of a block in progress and the channel that holds it; the words that differ from the
+/// machine as it was loaded, `before`; and the channels that have a history; and flushes the
+/// writer. `held` has for each processor, in the order of the barrel, the count of its last steps
+/// in a row that were held. Numbers are octal, but this count. The text goes out in pieces, and
+/// takes no memory. If the writer fails, the rest of the text is lost.
 #[tactic(auto, unfolding(crate::specs::StateText::state_text))]
-pub fn printed_state<A: Allocator + Copy, B: Allocator>(
-    alloc: A,
+pub fn write_state<A: Allocator, W: Write>(
+    writer: &mut W,
     shown: &[bool; PROCESSORS],
-    before: &Machine<B>,
-    after: &Machine<B>,
+    before: &Machine<A>,
+    after: &Machine<A>,
     held: &[u32; PROCESSORS],
-) -> Result<Vec<u8, A>, AllocError>
-    ensures text { IfOk result (λ text.
-        text.items ≡ state_text shown.now before.now after.now held.now) }
+) -> Result<(), WriteFault>
+    ensures { IsWritten (state_text shown.now before.now after.now held.now) result
+        (W.contents writer.old) (W.contents writer.new) }
 {
-    let mut text = Vec::new(alloc);
-    push_processors(&mut text, shown, after, held)?;
-    push_memories(&mut text, before, after)?;
-    push_changed_central(&mut text, before.central(), after.central())?;
-    push_channels(&mut text, after)?;
-    Ok(text)
+    let mut text = TextWriter::new(writer);
+    print_processors(&mut text, shown, after, held);
+    print_memories(&mut text, before, after);
+    print_changed_central(&mut text, before.central(), after.central());
+    print_channels(&mut text, after);
+    text.finish()
 }
 
-/// Adds the lines of all processors shown, in order of number.
-fn push_processors<A: Allocator, B: Allocator>(
-    text: &mut Vec<u8, A>,
+/// Prints the lines of all processors shown, in order of number.
+fn print_processors<A: Allocator, W: Write>(
+    text: &mut TextWriter<W>,
     shown: &[bool; PROCESSORS],
-    machine: &Machine<B>,
+    machine: &Machine<A>,
     held: &[u32; PROCESSORS],
-) -> Result<(), AllocError>
-    ensures { OnOk result (text.new.items ≡ text.old.items
-        ++ each_below NUMBERS (standing_line shown.now machine.now held.now)) }
+)
+    ensures { Prints W.contents text.old text.new
+        (each_below NUMBERS (standing_line shown.now machine.now held.now)) }
 {
     for number in 0..NUMBERS {
-        push_shown_processor(text, shown, machine, held, number)?;
+        print_shown_processor(text, shown, machine, held, number);
     }
-    Ok(())
 }
 
-fn push_shown_processor<A: Allocator, B: Allocator>(
-    text: &mut Vec<u8, A>,
+fn print_shown_processor<A: Allocator, W: Write>(
+    text: &mut TextWriter<W>,
     shown: &[bool; PROCESSORS],
-    machine: &Machine<B>,
+    machine: &Machine<A>,
     held: &[u32; PROCESSORS],
     number: u8,
-) -> Result<(), AllocError>
-    ensures { OnOk result (text.new.items ≡ text.old.items
-        ++ standing_line shown.now machine.now held.now number) }
+)
+    ensures { Prints W.contents text.old text.new
+        (standing_line shown.now machine.now held.now number) }
 {
     match PpNo::new(number) {
-        Some(n) if shown[n.index()] => push_standing_line(text, machine, n, held[n.index()]),
-        _ => Ok(()),
+        Some(n) if shown[n.index()] => print_processor(text, machine, n, held[n.index()]),
+        _ => {}
     }
 }
 
-/// Adds the lines of all words of processors that differ from the load.
-fn push_memories<A: Allocator, B: Allocator>(
-    text: &mut Vec<u8, A>,
-    before: &Machine<B>,
-    after: &Machine<B>,
-) -> Result<(), AllocError>
-    ensures { OnOk result (text.new.items ≡ text.old.items
-        ++ flat_map deck_line (changed_sections before.now after.now)) }
+/// Prints `PP00 P=0113 A=000006 RUNNING IAN 01 HELD CH01 ACTIVE EMPTY x376` and a line feed.
+fn print_processor<A: Allocator, W: Write>(
+    text: &mut TextWriter<W>,
+    machine: &Machine<A>,
+    n: PpNo,
+    count: u32,
+)
+    ensures { Prints W.contents text.old text.new
+        (processor_line n (processor_of n machine.now) (standing n machine.now count)) }
+{
+    text.print(&processor_heading(n, machine.pp(n)));
+    print_standing(text, machine, n, count);
+    text.print(b"\n");
+}
+
+/// Prints the lines of all words of processors that differ from the load.
+fn print_memories<A: Allocator, W: Write>(
+    text: &mut TextWriter<W>,
+    before: &Machine<A>,
+    after: &Machine<A>,
+)
+    ensures { Prints W.contents text.old text.new
+        (flat_map deck_line (changed_sections before.now after.now)) }
 {
     for number in 0..NUMBERS {
-        push_memory(text, before, after, number)?;
+        print_memory(text, before, after, number);
     }
-    Ok(())
 }
 
-fn push_memory<A: Allocator, B: Allocator>(
-    text: &mut Vec<u8, A>,
-    before: &Machine<B>,
-    after: &Machine<B>,
+fn print_memory<A: Allocator, W: Write>(
+    text: &mut TextWriter<W>,
+    before: &Machine<A>,
+    after: &Machine<A>,
     number: u8,
-) -> Result<(), AllocError>
-    ensures { OnOk result (text.new.items ≡ text.old.items
-        ++ flat_map deck_line (changed_section before.now after.now number)) }
+)
+    ensures { Prints W.contents text.old text.new
+        (flat_map deck_line (changed_section before.now after.now number)) }
 {
     match PpNo::new(number) {
         Some(n) if has_changes(before.pp(n), after.pp(n)) => {
-            push_section(text, n, before.pp(n), after.pp(n))
+            print_section(text, n, before.pp(n), after.pp(n));
         }
-        _ => Ok(()),
-    }
-}
-
-/// Adds the lines of all channels that have a history, in order of number.
-pub fn push_channels<A: Allocator, B: Allocator>(
-    text: &mut Vec<u8, A>,
-    machine: &Machine<B>,
-) -> Result<(), AllocError>
-    ensures { OnOk result (text.new.items ≡ text.old.items
-        ++ each_below NUMBERS (used_channel_line machine.now.histories)) }
-{
-    for number in 0..NUMBERS {
-        push_used_channel(text, machine, number)?;
-    }
-    Ok(())
-}
-
-fn push_used_channel<A: Allocator, B: Allocator>(
-    text: &mut Vec<u8, A>,
-    machine: &Machine<B>,
-    number: u8,
-) -> Result<(), AllocError>
-    ensures { OnOk result (text.new.items ≡ text.old.items
-        ++ used_channel_line machine.now.histories number) }
-{
-    match ChannelNo::new(number) {
-        Some(c) => {
-            let mut line = Piece::new();
-            push_channel_line(&mut line, c, machine.channel(c));
-            text.extend_from_slice(line.as_slice())
-        }
-        None => Ok(()),
+        _ => {}
     }
 }

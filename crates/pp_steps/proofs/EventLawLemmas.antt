@@ -19,7 +19,7 @@ use Rattle.pp_machine.specs.declared.outcome.Outcome.{Outcome}
 use Rattle.pp_machine.specs.declared.outcome.Outcome.TheVariants as outcomes
 use Rattle.pp_machine.specs.declared.trace.Trace.{Trace}
 use Rattle.pp_run.specs.RunSteps.{RunStep, run_steps, seen_of}
-use Rattle.pp_state.proofs.HeldLemmas.{moves_where_made}
+use Rattle.pp_text.proofs.HeldLemmas.{moves_where_made}
 use Rattle.pp_run.specs.BareMachine.{progress, progress_by}
 use Rattle.pp_steps.specs.Choice.{chooses_channel, chooses_need, chooses_turn, chosen_steps, is_chosen}
 use Rattle.pp_steps.specs.HeldRuns.{last_of, progress_of}

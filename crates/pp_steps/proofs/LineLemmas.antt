@@ -8,8 +8,8 @@ use Rattle.pp_machine.specs.NeedAndEffect.{need, processor_after}
 use Rattle.pp_machine.specs.Processor.{Processor, no_processor, word_at}
 use Rattle.pp_machine.specs.declared.need.Need.{Need}
 use Rattle.pp_machine.specs.declared.pp_state.PpState.{PpState}
-use Rattle.pp_listing.specs.InstructionText.{running_instruction}
-use Rattle.pp_listing.specs.ListedLine.{padded}
+use Rattle.pp_text.specs.InstructionText.{running_instruction}
+use Rattle.pp_text.specs.PrintedText.{padded}
 use Rattle.pp_text.specs.Numeral.{decimal, digits, octal, unpadded}
 use Rattle.pp_steps.specs.StepLine.{centrals_text, channel_text, end_text, heading, places_text, step_line, words_text}
 

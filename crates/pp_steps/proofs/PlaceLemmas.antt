@@ -8,13 +8,13 @@ use Rattle.std.proofs.lemmas.List.Concat.{flat_map-append}
 use mathlib.Core.Logic.{dite}
 use native.Mathlib.Decide.{dec_lt}
 use Rattle.pp_word.specs.Address.{place_count}
-use Rattle.list_facts.specs.GrowingLists.{range_append, range_more}
+use Rattle.pp_word.specs.GrowingLists.{range_append, range_more}
 use Rattle.pp_machine.specs.MachineState.{MachineState}
 use Rattle.pp_machine.specs.MachineStep.{central_after}
 use Rattle.pp_machine.specs.declared.need.Need.{Need}
 use Rattle.pp_machine.specs.declared.need.Need.TheVariants.{Nothing, Local, Channel, Read, Write}
 use Rattle.pp_text.specs.Numeral.{octal}
-use Rattle.pp_state.specs.Changes.{places}
+use Rattle.pp_text.specs.Differences.{places}
 use Rattle.pp_steps.specs.StepLine.{central_text, centrals_text, place_text, places_text, written_address}
 use Rattle.pp_steps.specs.Stores.{IsApart}
 

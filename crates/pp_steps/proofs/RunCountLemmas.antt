@@ -2,7 +2,7 @@
 use Rattle.std.proofs.Common.{◌≡◌, ℕ, ◌+◌, Bool, true, false, ◌&&◌, cond, List, [], ◌∷◌, ◌++◌, refl, sym, ap, ◌∙◌, arith}
 use Rattle.std.specs.List.{prefix_len}
 use Rattle.pp_channel.specs.declared.flags.Flags.{Flags}
-use Rattle.pp_steps.specs.HeldRuns.{goes_on, held_counts, is_held_with, open_time, same_flag}
+use Rattle.pp_steps.specs.HeldRuns.{goes_on, held_counts, is_held_with, current_spell, same_flag}
 use Rattle.pp_run.specs.declared.progress.Progress.{Progress}
 use Rattle.pp_run.specs.declared.progress.Progress.TheVariants.{AtRest, Moved, Held}
 
@@ -50,7 +50,7 @@ first_of g steps = ap (λ (b : Bool). cond b (1 + prefix_len (is_held_with g) st
 
 -- a step that is not held like the last: the last time is over
 pub over : (last step : Progress) (current : ℕ) (steps : List Progress) → goes_on last step ≡ false
-    → open_time last current [] ++ (open_time step 1 steps ++ held_counts step steps) ≡ open_time last current (step ∷ steps) ++ held_counts last (step ∷ steps)
+    → current_spell last current [] ++ (current_spell step 1 steps ++ held_counts step steps) ≡ current_spell last current (step ∷ steps) ++ held_counts last (step ∷ steps)
 over AtRest AtRest current steps ends = refl
 over AtRest Moved current steps ends = refl
 over Moved AtRest current steps ends = refl
@@ -66,7 +66,7 @@ over (Held f) (Held g) current steps ends =
 
 -- a step that is: it belongs to the last time
 pub longer : (last step : Progress) (current : ℕ) (steps : List Progress) → goes_on last step ≡ true
-    → open_time step (current + 1) steps ++ held_counts step steps ≡ open_time last current (step ∷ steps) ++ held_counts last (step ∷ steps)
+    → current_spell step (current + 1) steps ++ held_counts step steps ≡ current_spell last current (step ∷ steps) ++ held_counts last (step ∷ steps)
 longer AtRest AtRest current steps goes = absurd (cc)
 longer AtRest Moved current steps goes = absurd (cc)
 longer AtRest (Held g) current steps goes = absurd (cc)

@@ -95,11 +95,11 @@ told_all (Held f) (Held g ∷ steps) = by_test f g steps (is_held_with g (Held f
 
 -- ---- the lines of one processor
 
-abbrev IsTold : ℕ → List RunStep → List RunStep → Type 0
-IsTold n past steps =
+abbrev EventFits : ℕ → List RunStep → List RunStep → Type 0
+EventFits n past steps =
     flat_map line_steps (filter (is_by n) (lines_from past steps)) ≡ steps_told (last_of (seen_of progress_of n past)) (seen_of progress_of n steps)
 
-own_told : (past : List RunStep) (step : RunStep) (steps : List RunStep) → IsTold step.processor (past ++ step ∷ []) steps → IsTold step.processor past (step ∷ steps)
+own_told : (past : List RunStep) (step : RunStep) (steps : List RunStep) → EventFits step.processor (past ++ step ∷ []) steps → EventFits step.processor past (step ∷ steps)
 own_told past step steps rest =
     let n = step.processor in
     let last = last_of (seen_of progress_of n past) in
@@ -110,7 +110,7 @@ own_told past step steps rest =
     ∙ ap (λ (p : Progress). own ++ steps_told p (seen_of progress_of n steps)) (last_own past step)
     ∙ ap (steps_told last) (sym (seen_first step steps))
 
-other_told : (n : ℕ) (past : List RunStep) (step : RunStep) (steps : List RunStep) → step.processor ≢ n → IsTold n (past ++ step ∷ []) steps → IsTold n past (step ∷ steps)
+other_told : (n : ℕ) (past : List RunStep) (step : RunStep) (steps : List RunStep) → step.processor ≢ n → EventFits n (past ++ step ∷ []) steps → EventFits n past (step ∷ steps)
 other_told n past step steps other rest =
     let others = filter (is_by n) (lines_from (past ++ step ∷ []) steps) in
     ap (flat_map line_steps) (cond-false (eqb step.processor n) (with_line past step steps ∷ others) others (ne_eqb step.processor n other))
@@ -118,12 +118,12 @@ other_told n past step steps other rest =
     ∙ ap (λ (ss : List Progress). steps_told (last_of ss) (seen_of progress_of n steps)) (seen_other progress_of n past step other)
     ∙ ap (steps_told (last_of (seen_of progress_of n past))) (sym (seen_past_first n step steps other))
 
-by_number : (n : ℕ) (past : List RunStep) (step : RunStep) (steps : List RunStep) → (step.processor ≡ n) ⊎ (step.processor ≢ n) → IsTold n (past ++ step ∷ []) steps → IsTold n past (step ∷ steps)
+by_number : (n : ℕ) (past : List RunStep) (step : RunStep) (steps : List RunStep) → (step.processor ≡ n) ⊎ (step.processor ≢ n) → EventFits n (past ++ step ∷ []) steps → EventFits n past (step ∷ steps)
 by_number n past step steps (inl same) rest =
-    subst (λ (j : ℕ). IsTold j past (step ∷ steps)) same (own_told past step steps (subst (λ (j : ℕ). IsTold j (past ++ step ∷ []) steps) (sym same) rest))
+    subst (λ (j : ℕ). EventFits j past (step ∷ steps)) same (own_told past step steps (subst (λ (j : ℕ). EventFits j (past ++ step ∷ []) steps) (sym same) rest))
 by_number n past step steps (inr other) rest = other_told n past step steps other rest
 
-told_from : (n : ℕ) (past steps : List RunStep) → IsTold n past steps
+told_from : (n : ℕ) (past steps : List RunStep) → EventFits n past steps
 told_from n past [] = refl
 told_from n past (step ∷ steps) = by_number n past step steps (cases_eq step.processor n) (told_from n (past ++ step ∷ []) steps)
 

@@ -9,7 +9,7 @@ use Rattle.pp_machine.specs.ProcessorPlaces.{one_place}
 use Rattle.pp_run.specs.RunSteps.{RunStep, is_of, seen_of}
 use Rattle.pp_run.specs.RunStepLaws.{seen_more, seen_other}
 use Rattle.pp_steps.specs.Cursor.{CountsOf, Passes, no_cursor}
-use Rattle.pp_steps.specs.HeldRuns.{AreCounted, HeldTimes, held_counts, last_of, no_times, progress_of}
+use Rattle.pp_steps.specs.HeldRuns.{AreCounted, HeldSpells, held_counts, last_of, no_spells, progress_of}
 use Rattle.pp_steps.specs.StepsText.{kind_text, line_kind, line_text, lines_from, with_lines}
 use Rattle.pp_steps.specs.declared.cursor.Cursor.{Cursor}
 use Rattle.pp_steps.specs.declared.line_kind.LineKind.{LineKind}
@@ -42,9 +42,9 @@ last_own past step =
 -- ---- the cursors of the processors
 
 -- between two lists of steps, in so many turns: the cursor of each processor is past its steps
-pub record AreFollowed (turn : ℕ) (past future : List RunStep) (runs : List HeldTimes) (cursors : List Cursor) : Type 0 where
+pub record AreFollowed (turn : ℕ) (past future : List RunStep) (runs : List HeldSpells) (cursors : List Cursor) : Type 0 where
   pub last : (n : ℕ) → IsTrue (names_processor n) → (get_or cursors (processor_index n) no_cursor).last ≡ last_of (seen_of progress_of n past)
-  pub rest : (n : ℕ) → IsTrue (names_processor n) → CountsOf (get_or runs (processor_index n) no_times).counts (get_or cursors (processor_index n) no_cursor) (seen_of progress_of n future)
+  pub rest : (n : ℕ) → IsTrue (names_processor n) → CountsOf (get_or runs (processor_index n) no_spells).counts (get_or cursors (processor_index n) no_cursor) (seen_of progress_of n future)
   pub low : (n : ℕ) → IsTrue (names_processor n) → (get_or cursors (processor_index n) no_cursor).times ≤ turn
 
 without_steps : (k i : ℕ) → get_or (replicate k no_cursor) i no_cursor ≡ no_cursor
@@ -52,7 +52,7 @@ without_steps zero i = refl
 without_steps (suc k) zero = refl
 without_steps (suc k) (suc i) = without_steps k i
 
-pub none_followed : (steps : List RunStep) (runs : List HeldTimes) (cursors : List Cursor) → AreCounted steps runs → cursors ≡ replicate processor_count no_cursor → AreFollowed 0 [] steps runs cursors
+pub none_followed : (steps : List RunStep) (runs : List HeldSpells) (cursors : List Cursor) → AreCounted steps runs → cursors ≡ replicate processor_count no_cursor → AreFollowed 0 [] steps runs cursors
 none_followed steps runs cursors counted is = record {
   last = λ n names. ap (λ (x : Cursor). x.last) (none n);
   rest = λ n names. rw (none n) (counted.counts n names);
@@ -63,19 +63,19 @@ none_followed steps runs cursors counted is = record {
     none n = ap (λ (xs : List Cursor). get_or xs (processor_index n) no_cursor) is ∙ without_steps processor_count (processor_index n)
 
 -- the counts at a step
-counts_at : (turn : ℕ) (past future : List RunStep) (runs : List HeldTimes) (cursors : List Cursor) (step : RunStep) (did : Progress)
+counts_at : (turn : ℕ) (past future : List RunStep) (runs : List HeldSpells) (cursors : List Cursor) (step : RunStep) (did : Progress)
     → IsTrue (names_processor step.processor) → did ≡ progress_of step → AreFollowed turn past (step ∷ future) runs cursors
-    → CountsOf (get_or runs (processor_index step.processor) no_times).counts (get_or cursors (processor_index step.processor) no_cursor) (did ∷ seen_of progress_of step.processor future)
+    → CountsOf (get_or runs (processor_index step.processor) no_spells).counts (get_or cursors (processor_index step.processor) no_cursor) (did ∷ seen_of progress_of step.processor future)
 counts_at turn past future runs cursors step did names made h =
     let last = (get_or cursors (processor_index step.processor) no_cursor).last in
     h.rest step.processor names
     ∙ ap (held_counts last) (seen_first step future ∙ ap (λ (p : Progress). p ∷ seen_of progress_of step.processor future) (sym made))
 
 -- past a step
-one_followed : (turn : ℕ) (past future : List RunStep) (runs : List HeldTimes) (cursors new : List Cursor) (step : RunStep) (did : Progress) (kind : LineKind)
+one_followed : (turn : ℕ) (past future : List RunStep) (runs : List HeldSpells) (cursors new : List Cursor) (step : RunStep) (did : Progress) (kind : LineKind)
     → IsTrue (names_processor step.processor) → did ≡ progress_of step → AreFollowed turn past (step ∷ future) runs cursors
     → ((i : ℕ) → i ≢ processor_index step.processor → get_or new i no_cursor ≡ get_or cursors i no_cursor)
-    → Passes (get_or runs (processor_index step.processor) no_times).counts did (get_or cursors (processor_index step.processor) no_cursor) (get_or new (processor_index step.processor) no_cursor) kind
+    → Passes (get_or runs (processor_index step.processor) no_spells).counts did (get_or cursors (processor_index step.processor) no_cursor) (get_or new (processor_index step.processor) no_cursor) kind
     → (get_or new (processor_index step.processor) no_cursor).times ≤ (get_or cursors (processor_index step.processor) no_cursor).times + 1
     → AreFollowed (turn + 1) (past ++ step ∷ []) future runs new
 one_followed turn past future runs cursors new step did kind names made h others own low = record {
@@ -94,7 +94,7 @@ one_followed turn past future runs cursors new step did kind names made h others
         ∙ h.last n names_n ∙ sym (ap last_of (seen_other progress_of n past step (λ e. other (sym e))))
 
     rest_by : (n : ℕ) → IsTrue (names_processor n) → (n ≡ k) ⊎ (n ≢ k)
-        → CountsOf (get_or runs (processor_index n) no_times).counts (get_or new (processor_index n) no_cursor) (seen_of progress_of n future)
+        → CountsOf (get_or runs (processor_index n) no_spells).counts (get_or new (processor_index n) no_cursor) (seen_of progress_of n future)
     rest_by n names_n (inl same) = rw same (own.rest _ (counts_at turn past future runs cursors step did names made h))
     rest_by n names_n (inr other) =
         let same : get_or new (processor_index n) no_cursor ≡ get_or cursors (processor_index n) no_cursor = others (processor_index n) (λ e. other (one_place k n names e)) in
@@ -109,10 +109,10 @@ one_followed turn past future runs cursors new step did kind names made h others
         omega (arith, here, h.low n names_n)
 
 -- a turn more, whose step is chosen or not
-pub turn_followed : (is_chosen : Bool) (turn : ℕ) (past future : List RunStep) (runs : List HeldTimes) (cursors new : List Cursor) (step : RunStep) (did : Progress) (kind : LineKind)
+pub turn_followed : (is_chosen : Bool) (turn : ℕ) (past future : List RunStep) (runs : List HeldSpells) (cursors new : List Cursor) (step : RunStep) (did : Progress) (kind : LineKind)
     → IsTrue (names_processor step.processor) → did ≡ progress_of step → AreFollowed turn past (cond is_chosen (step ∷ future) future) runs cursors
     → ((i : ℕ) → i ≢ processor_index step.processor → get_or new i no_cursor ≡ get_or cursors i no_cursor)
-    → (IsTrue is_chosen → Passes (get_or runs (processor_index step.processor) no_times).counts did (get_or cursors (processor_index step.processor) no_cursor) (get_or new (processor_index step.processor) no_cursor) kind)
+    → (IsTrue is_chosen → Passes (get_or runs (processor_index step.processor) no_spells).counts did (get_or cursors (processor_index step.processor) no_cursor) (get_or new (processor_index step.processor) no_cursor) kind)
     → (is_chosen ≡ false → (kind ≡ NoLine) × (new ≡ cursors))
     → (get_or new (processor_index step.processor) no_cursor).times ≤ (get_or cursors (processor_index step.processor) no_cursor).times + 1
     → AreFollowed (turn + 1) (cond is_chosen (past ++ step ∷ []) past) future runs new
@@ -137,9 +137,9 @@ unfolding with_lines
 nothing_so_far all = refl
 
 -- a turn more
-pub turn_told : (is_chosen : Bool) (all : List RunStep) (turn : ℕ) (past future : List RunStep) (runs : List HeldTimes) (cursors new : List Cursor) (step : RunStep) (did : Progress) (kind : LineKind) (text : List ℕ)
+pub turn_told : (is_chosen : Bool) (all : List RunStep) (turn : ℕ) (past future : List RunStep) (runs : List HeldSpells) (cursors new : List Cursor) (step : RunStep) (did : Progress) (kind : LineKind) (text : List ℕ)
     → IsTrue (names_processor step.processor) → did ≡ progress_of step → AreFollowed turn past (cond is_chosen (step ∷ future) future) runs cursors
-    → (IsTrue is_chosen → Passes (get_or runs (processor_index step.processor) no_times).counts did (get_or cursors (processor_index step.processor) no_cursor) (get_or new (processor_index step.processor) no_cursor) kind)
+    → (IsTrue is_chosen → Passes (get_or runs (processor_index step.processor) no_spells).counts did (get_or cursors (processor_index step.processor) no_cursor) (get_or new (processor_index step.processor) no_cursor) kind)
     → (is_chosen ≡ false → (kind ≡ NoLine) × (new ≡ cursors))
     → IsSoFar all past (cond is_chosen (step ∷ future) future) text
     → IsSoFar all (cond is_chosen (past ++ step ∷ []) past) future (text ++ kind_text kind step.processor step.before)

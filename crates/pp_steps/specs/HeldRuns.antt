@@ -33,8 +33,8 @@ goes_on last step = false
 abbrev pub last_of : List Progress → Progress
 last_of steps = fold (λ last step. step) AtRest steps
 
--- of each time that a processor is held in some steps, behind a last one, how many steps in a row:
--- a step that is held like the last one begins no time of its own
+-- the lengths of the stretches of equally held steps, where `last` is the step before them: a step
+-- that is held like it begins no stretch of its own
 abbrev pub held_counts : Progress → List Progress → List ℕ
 held_counts last [] = []
 held_counts last (Held flags ∷ steps) =
@@ -44,28 +44,28 @@ held_counts last (step ∷ steps) = held_counts step steps
 
 -- the times of one processor so far: how many steps each took that is over, how many the one that
 -- may go on, and the last step
-pub record HeldTimes : Type 0 where
+pub record HeldSpells : Type 0 where
   pub counts : List ℕ
   pub current : ℕ
   pub last : Progress
 
 -- the time that may go on, with what follows
-abbrev pub open_time : Progress → ℕ → List Progress → List ℕ
-open_time (Held flags) current steps = (current + prefix_len (is_held_with flags) steps) ∷ []
-open_time step current steps = []
+abbrev pub current_spell : Progress → ℕ → List Progress → List ℕ
+current_spell (Held flags) current steps = (current + prefix_len (is_held_with flags) steps) ∷ []
+current_spell step current steps = []
 
 -- all times, with the steps that follow
-abbrev pub all_times : HeldTimes → List Progress → List ℕ
-all_times times steps =
-    times.counts ++ (open_time times.last times.current steps ++ held_counts times.last steps)
+abbrev pub all_spells : HeldSpells → List Progress → List ℕ
+all_spells times steps =
+    times.counts ++ (current_spell times.last times.current steps ++ held_counts times.last steps)
 
 -- a processor without steps
-abbrev pub no_times : HeldTimes
-no_times = record { counts = []; current = 0; last = AtRest }
+abbrev pub no_spells : HeldSpells
+no_spells = record { counts = []; current = 0; last = AtRest }
 
 -- how long each processor is held each time in some steps
-pub record AreCounted (steps : List RunStep) (runs : List HeldTimes) : Type 0 where
+pub record AreCounted (steps : List RunStep) (runs : List HeldSpells) : Type 0 where
   pub as_many : length runs ≡ processor_count
   pub counts : (n : ℕ) → IsTrue (names_processor n)
-      → (slice_index_or runs (processor_index n) no_times).counts
+      → (slice_index_or runs (processor_index n) no_spells).counts
       ≡ held_counts AtRest (seen_of progress_of n steps)

@@ -14,12 +14,12 @@ use Rattle.pp_machine.specs.declared.need.Need.TheVariants.{Channel, Write}
 use Rattle.pp_machine.specs.declared.outcome.Outcome.TheVariants.{Held}
 use Rattle.pp_machine.specs.declared.pp_state.PpState.{PpState}
 use Rattle.pp_machine.specs.declared.pp_state.PpState.TheVariants.{Running}
-use Rattle.pp_listing.specs.InstructionText.{is_long, running_instruction}
-use Rattle.pp_listing.specs.ListedLine.{padded}
+use Rattle.pp_text.specs.InstructionText.{is_long, running_instruction}
+use Rattle.pp_text.specs.PrintedText.{padded}
 use Rattle.pp_text.specs.Numeral.{decimal, octal}
 use Rattle.pp_text.specs.PrintedText.{event_text, line_end, state_text}
-use Rattle.pp_state.specs.Changes.{differs, places}
-use Rattle.pp_state.specs.StateText.{flags_text, held_text}
+use Rattle.pp_text.specs.Differences.{differs, places}
+use Rattle.pp_text.specs.Standing.{flags_text, held_text}
 
 -- `7105 0300`: a word and, where a second belongs to the instruction, the next; a block in progress
 -- reads none

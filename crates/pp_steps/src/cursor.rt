@@ -3,7 +3,7 @@
 ghost use Rattle.std.specs.Prelude.{◌≡◌, ◌≢◌, ℕ, ◌+◌, ◌<◌, ◌≤◌, ◌^◌, IsTrue, false, length, slice_index_or};
 ghost use Rattle.pp_machine.specs.PpNo.{processor_count, processor_index};
 ghost use Rattle.pp_steps.specs.Cursor.{Passes, no_cursor};
-ghost use Rattle.pp_steps.specs.HeldRuns.{no_times};
+ghost use Rattle.pp_steps.specs.HeldRuns.{no_spells};
 ghost use Rattle.pp_steps.specs.declared.line_kind.LineKind.TheVariants.{NoLine};
 
 use crate::held_runs::{HeldRuns, goes_on};
@@ -64,7 +64,7 @@ pub(crate) fn pass_step<A: Allocator>(
     ensures others { (k : ℕ) → k ≢ processor_index n
         → slice_index_or cursors.new k no_cursor ≡ slice_index_or cursors.old k no_cursor }
     ensures own { IsTrue is_chosen
-        → Passes (slice_index_or runs.now.items (processor_index n) no_times).counts step
+        → Passes (slice_index_or runs.now.items (processor_index n) no_spells).counts step
         (slice_index_or cursors.old (processor_index n) no_cursor)
         (slice_index_or cursors.new (processor_index n) no_cursor) result }
     ensures unchosen { is_chosen ≡ false → (result ≡ NoLine) × (cursors.new ≡ cursors.old) }

@@ -1,7 +1,7 @@
 //! How long processors are held each time.
 
 ghost use Rattle.std.specs.Prelude.{◌≡◌, ◌+◌, ◌<◌, ◌≤◌, ◌^◌, ◌∷◌, ◌++◌, [], slice_index, List, OnOk};
-ghost use Rattle.pp_steps.specs.HeldRuns.{all_times, goes_on, is_held_with, open_time};
+ghost use Rattle.pp_steps.specs.HeldRuns.{all_spells, goes_on, is_held_with, current_spell};
 ghost use Rattle.pp_run.specs.declared.progress.Progress.{Progress};
 ghost use Rattle.pp_run.specs.declared.progress.Progress.TheVariants.{AtRest};
 
@@ -19,9 +19,9 @@ pub(crate) struct HeldRuns<A: Allocator> {
 }
 
 impl<A: Allocator> Model for HeldRuns<A> {
-    ghost use Rattle.pp_steps.specs.HeldRuns.{HeldTimes};
+    ghost use Rattle.pp_steps.specs.HeldRuns.{HeldSpells};
 
-    ghost Value = { HeldTimes };
+    ghost Value = { HeldSpells };
 
     ghost view = { λ r. record { counts = r.counts.items; current = r.current; last = r.last } };
 }
@@ -42,7 +42,7 @@ impl<A: Allocator> HeldRuns<A> {
     pub(crate) fn note(&mut self, step: Progress) -> Result<(), Memory>
         requires { self.old.current + 1 < 2 ^ 32 }
         ensures times { OnOk result ((steps : List Progress)
-            → all_times self.new steps ≡ all_times self.old (step ∷ steps)) }
+            → all_spells self.new steps ≡ all_spells self.old (step ∷ steps)) }
         ensures most { OnOk result (self.new.current ≤ self.old.current + 1) }
         ensures last { OnOk result (self.new.last ≡ step) }
     {
@@ -60,7 +60,7 @@ impl<A: Allocator> HeldRuns<A> {
     /// The last time is over, if the last step was held.
     pub(crate) fn end(&mut self) -> Result<(), Memory>
         ensures { OnOk result (self.new ≡ record self.old {
-          counts = self.old.counts ++ open_time self.old.last self.old.current [];
+          counts = self.old.counts ++ current_spell self.old.last self.old.current [];
         }) }
     {
         match self.last {

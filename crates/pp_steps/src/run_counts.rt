@@ -4,7 +4,7 @@ ghost use Rattle.std.specs.Prelude.{◌≡◌, ◌≢◌, ℕ, ◌+◌, ◌<◌,
 ghost use Rattle.pp_machine.specs.PpNo.{processor_count, processor_index};
 ghost use Rattle.pp_machine.specs.Run.{barrel};
 ghost use Rattle.pp_steps.specs.Choice.{chosen_steps};
-ghost use Rattle.pp_steps.specs.HeldRuns.{AreCounted, all_times, no_times};
+ghost use Rattle.pp_steps.specs.HeldRuns.{AreCounted, all_spells, no_spells};
 ghost use Rattle.pp_run.specs.declared.progress.Progress.{Progress};
 
 use crate::choice::Choice;
@@ -47,17 +47,17 @@ fn note_step<A: Allocator>(
     step: Progress,
 ) -> Result<(), Memory>
     requires as_many { length runs.old.items ≡ processor_count }
-    requires low { (slice_index_or runs.old.items (processor_index n) no_times).current + 1
+    requires low { (slice_index_or runs.old.items (processor_index n) no_spells).current + 1
         < 2 ^ 32 }
     ensures as_many { OnOk result (length runs.new.items ≡ processor_count) }
     ensures others { OnOk result ((k : ℕ) → k ≢ processor_index n
-        → slice_index_or runs.new.items k no_times ≡ slice_index_or runs.old.items k no_times) }
+        → slice_index_or runs.new.items k no_spells ≡ slice_index_or runs.old.items k no_spells) }
     ensures own { OnOk result (IsTrue is_chosen → (steps : List Progress)
-        → all_times (slice_index_or runs.new.items (processor_index n) no_times) steps
-        ≡ all_times (slice_index_or runs.old.items (processor_index n) no_times) (step ∷ steps)) }
+        → all_spells (slice_index_or runs.new.items (processor_index n) no_spells) steps
+        ≡ all_spells (slice_index_or runs.old.items (processor_index n) no_spells) (step ∷ steps)) }
     ensures unchosen { OnOk result (is_chosen ≡ false → runs.new.items ≡ runs.old.items) }
-    ensures low { OnOk result ((slice_index_or runs.new.items (processor_index n) no_times).current
-        ≤ (slice_index_or runs.old.items (processor_index n) no_times).current + 1) }
+    ensures low { OnOk result ((slice_index_or runs.new.items (processor_index n) no_spells).current
+        ≤ (slice_index_or runs.old.items (processor_index n) no_spells).current + 1) }
 {
     if !is_chosen {
         return Ok(());
@@ -70,8 +70,8 @@ fn end_runs<A: Allocator>(runs: &mut Vec<HeldRuns<A>, A>) -> Result<(), Memory>
     requires { length runs.old.items ≡ processor_count }
     ensures as_many { OnOk result (length runs.new.items ≡ processor_count) }
     ensures counts { OnOk result ((k : ℕ) → k < processor_count
-        → (slice_index_or runs.new.items k no_times).counts
-        ≡ all_times (slice_index_or runs.old.items k no_times) []) }
+        → (slice_index_or runs.new.items k no_spells).counts
+        ≡ all_spells (slice_index_or runs.old.items k no_spells) []) }
 {
     for place in 0..PROCESSORS {
         runs[place].end()?;
@@ -81,7 +81,7 @@ fn end_runs<A: Allocator>(runs: &mut Vec<HeldRuns<A>, A>) -> Result<(), Memory>
 
 /// Those of processors without steps.
 fn no_runs<A: Allocator + Copy>(alloc: A) -> Result<Vec<HeldRuns<A>, A>, Memory>
-    ensures { IfOk result (λ runs. runs.items ≡ replicate processor_count no_times) }
+    ensures { IfOk result (λ runs. runs.items ≡ replicate processor_count no_spells) }
 {
     let mut runs = Vec::with_capacity(alloc, PROCESSORS)?;
     for _ in 0..PROCESSORS {

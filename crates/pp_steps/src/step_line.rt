@@ -12,7 +12,7 @@ ghost use Rattle.pp_machine.specs.declared.outcome.Outcome.TheVariants.{Held};
 ghost use Rattle.pp_text.specs.Numeral.{digits, octal};
 ghost use Rattle.pp_text.specs.Piece.{HasRoom};
 ghost use Rattle.pp_text.specs.PrintedText.{event_text};
-ghost use Rattle.pp_state.specs.StateText.{held_text};
+ghost use Rattle.pp_text.specs.Standing.{held_text};
 ghost use Rattle.pp_run.specs.BareMachine.{StandsFor};
 ghost use Rattle.pp_steps.specs.StepLine.{longest_line, central_text, centrals_text, channel_text, end_text, event_or_flags, heading, held_line, place_text, places_text, step_line, written_address};
 ghost use Rattle.pp_steps.specs.Stores.{KeepsOthers};
@@ -22,9 +22,9 @@ use crate::words_field::words_field;
 use pp_channel::{ChannelNo, Event, Flags};
 use pp_machine::{Central, Need, Pp, PpNo, PpState};
 use pp_run::BareMachine;
-use pp_state::{central_word, push_flags_text, push_held_text, running_field};
 use pp_text::{
-    Piece, channel_name, decimal6, octal2, octal4, octal6, push_state_text, push_upper_digits,
+    Piece, central_word, channel_name, decimal6, octal2, octal4, octal6, push_flags_text,
+    push_held_text, push_state_text, push_upper_digits, running_field,
 };
 use pp_word::{Word12, Word18, next};
 use std::alloc::Allocator;

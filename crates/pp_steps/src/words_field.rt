@@ -1,7 +1,7 @@
 //! The words that a step reads, in columns.
 
 ghost use Rattle.std.specs.Prelude.{◌≡◌, ◌++◌, codes};
-ghost use Rattle.pp_listing.specs.ListedLine.{padded};
+ghost use Rattle.pp_text.specs.PrintedText.{padded};
 ghost use Rattle.pp_steps.specs.StepLine.{words_text};
 
 use pp_machine::Block;

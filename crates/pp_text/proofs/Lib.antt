@@ -1,7 +1,10 @@
 mod PairLemmas
 mod WriteLemmas
 mod TextWriterLemmas
+mod InstructionLemmas
+mod OctalLemmas
 -- facts of the definitions, which proofs of other crates cite
 pub mod TextLawLemmas
 pub mod TextLemmas
+pub mod HeldLemmas
 pub mod HistoryLawLemmas

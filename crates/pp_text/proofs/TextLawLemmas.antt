@@ -23,7 +23,7 @@ use Rattle.pp_machine.specs.declared.pp_state.PpState.{PpState}
 use Rattle.pp_machine.specs.declared.pp_state.PpState.TheVariants.{Running, Stopped, Fault}
 use Rattle.pp_machine.specs.declared.trace.Trace.{Trace}
 use Rattle.pp_text.specs.Numeral.{decimal, digit, digits, octal, unpadded}
-use Rattle.pp_text.specs.TextLaw.{IsTold, IsShown, IsListed, IsShownAlike, IsToldAlike, FitsItsText, AgreeOnText}
+use Rattle.pp_text.specs.TextLaw.{EventFits, ProcessorFits, HistoryFits, ShowSameProcessor, ShowSameChannel, FitsItsText, AgreeOnText}
 use Rattle.pp_text.specs.PrintedText.{channel_line, channel_text, each_below, event_line, event_text, line_end, named_processor_line, printed, processor_line, state_text, used_channel_line}
 
 -- ---- lists of characters
@@ -255,7 +255,7 @@ same_event e k _ _ same =
     let first : get_or (event_text e) 0 0 ≡ get_or (event_text k) 0 0 = ap (λ text. get_or text 0 0) same in
     absurd (omega (arith, first))
 
-same_tail : (e k : Trace) → IsTold e → IsTold k → event_tail e ≡ event_tail k → (e.pp ≡ k.pp) × (e.channel ≡ k.channel) × (e.event ≡ k.event)
+same_tail : (e k : Trace) → EventFits e → EventFits k → event_tail e ≡ event_tail k → (e.pp ≡ k.pp) × (e.channel ≡ k.channel) × (e.event ≡ k.event)
 unfolding event_tail
 same_tail e k told other same =
     let pp : octal 2 e.pp ≡ octal 2 k.pp = ap (λ t. take 2 (drop 2 t)) same in
@@ -273,7 +273,7 @@ told_alike e k turn pp channel event =
     ∙ (ap (λ n. record e { turn = k.turn; pp = k.pp; channel = n }) channel
     ∙ ap (λ x. record e { turn = k.turn; pp = k.pp; channel = k.channel; event = x }) event))
 
-same_body : (e k : Trace) → IsTold e → IsTold k → event_body e ≡ event_body k → e ≡ k
+same_body : (e k : Trace) → EventFits e → EventFits k → event_body e ≡ event_body k → e ≡ k
 unfolding event_body
 same_body e k told other same =
     let both = cut 32 (decimal e.turn) (decimal k.turn) (event_tail e) (event_tail k) (above_less 32 47 (decimal e.turn) (omega arith) (above_decimal e.turn))
@@ -314,7 +314,7 @@ unfolding bodies
 are_lines_of_trace [] = tt
 are_lines_of_trace (e ∷ trace) = (above_event_line e, are_lines_of_trace trace)
 
-same_trace : (one other : List Trace) → All IsTold one → All IsTold other → bodies one ≡ bodies other → one ≡ other
+same_trace : (one other : List Trace) → All EventFits one → All EventFits other → bodies one ≡ bodies other → one ≡ other
 unfolding bodies
 same_trace [] [] _ _ e = refl
 same_trace [] (k ∷ ks) _ _ e = absurd cc
@@ -322,8 +322,8 @@ same_trace (t ∷ ts) [] _ _ e = absurd cc
 same_trace (t ∷ ts) (k ∷ ks) told other e =
     let first : event_body t ≡ event_body k = cc in
     let rest : map event_body ts ≡ map event_body ks = cc in
-    let more = same_trace ts ks (All-tail IsTold t ts told) (All-tail IsTold k ks other) rest in
-    ap (λ x. x ∷ ts) (same_body t k (All-head IsTold t ts told) (All-head IsTold k ks other) first) ∙ ap (λ xs. k ∷ xs) more
+    let more = same_trace ts ks (All-tail EventFits t ts told) (All-tail EventFits k ks other) rest in
+    ap (λ x. x ∷ ts) (same_body t k (All-head EventFits t ts told) (All-head EventFits k ks other) first) ∙ ap (λ xs. k ∷ xs) more
 
 -- ---- lines with a letter and a number
 
@@ -582,7 +582,7 @@ same_state s t _ _ e =
     let first : get_or (state_text s) 0 0 ≡ get_or (state_text t) 0 0 = ap (λ text. get_or text 0 0) e in
     absurd (omega (arith, first))
 
-same_processor : (n : ℕ) (pp other : Processor) → IsShown pp → IsShown other → processor_body n pp ≡ processor_body n other → (pp.p ≡ other.p) × (pp.a ≡ other.a) × (pp.state ≡ other.state)
+same_processor : (n : ℕ) (pp other : Processor) → ProcessorFits pp → ProcessorFits other → processor_body n pp ≡ processor_body n other → (pp.p ≡ other.p) × (pp.a ≡ other.a) × (pp.state ≡ other.state)
 unfolding processor_body
 same_processor n pp other shown also e = (
   octal_tells 4 pp.p other.p shown.p also.p (ap (λ l. take 4 (drop 7 l)) e),
@@ -590,8 +590,8 @@ same_processor n pp other shown also e = (
   same_state pp.state other.state shown.state also.state (ap (drop 21) e),
 )
 
-tells_processor : (named others : List Bool) (one other : MachineState) (n : ℕ) → n < 0o100 → IsTrue (is_named named n) → IsTrue (is_named others n) → IsShown (processor_of n one) → IsShown (processor_of n other)
-    → printed named one ≡ printed others other → IsShownAlike (processor_of n one) (processor_of n other)
+tells_processor : (named others : List Bool) (one other : MachineState) (n : ℕ) → n < 0o100 → IsTrue (is_named named n) → IsTrue (is_named others n) → ProcessorFits (processor_of n one) → ProcessorFits (processor_of n other)
+    → printed named one ≡ printed others other → ShowSameProcessor (processor_of n one) (processor_of n other)
 unfolding processors
 tells_processor named others one other n within is too shown also e =
     let lines : (if is_named named n then processor_body n (processor_of n one) ∷ [] else []) ≡ (if is_named others n then processor_body n (processor_of n other) ∷ [] else []) =
@@ -627,7 +627,7 @@ same_channel_text false b (Some v) (Some w) none _ _ _ e = let no : Some v ≡ N
 same_channel_text true false (Some v) (Some w) _ none _ _ e = let no : Some w ≡ None = none refl in absurd cc
 
 pub used_alike : (b : Bool) (c : ℕ) (h k : List Event) → IsTrue b → (if b && is_used h then channel_body c h ∷ [] else []) ≡ (if b && is_used k then channel_body c k ∷ [] else [])
-    → IfSome (waiting h) (λ n. n < 2 ^ 12) → IfSome (waiting k) (λ n. n < 2 ^ 12) → IsToldAlike h k
+    → IfSome (waiting h) (λ n. n < 2 ^ 12) → IfSome (waiting k) (λ n. n < 2 ^ 12) → ShowSameChannel h k
 unfolding channel_body
 used_alike false c h k is e small also = absurd cc
 used_alike true c [] [] is e small also = record { unused = (λ e. e, λ e. e); active = refl; waiting = refl }
@@ -639,8 +639,8 @@ used_alike true c (x ∷ h) (y ∷ k) is e small also =
     record { unused = (λ e. absurd cc, λ e. absurd cc); active = same.0; waiting = same.1 }
 
 tells_channel : (named others : List Bool) (one other : MachineState) (c : ℕ) → c < 0o100 → IsTrue (names_channel c)
-    → IsListed (history_on c one.histories) → IsListed (history_on c other.histories)
-    → printed named one ≡ printed others other → IsToldAlike (history_on c one.histories) (history_on c other.histories)
+    → HistoryFits (history_on c one.histories) → HistoryFits (history_on c other.histories)
+    → printed named one ≡ printed others other → ShowSameChannel (history_on c one.histories) (history_on c other.histories)
 unfolding channels
 tells_channel named others one other c within is small also e =
     used_alike (names_channel c) c (history_on c one.histories) (history_on c other.histories) is (same_channels named others one other c within e) small also
@@ -689,10 +689,10 @@ text_tells named others one other fits also e =
 -- ---- what is printed fits
 
 -- the events printed so far, and one more
-pub told_so_far : (events : List Trace) (i : ℕ) (e : Trace) → i < length events → e ≡ slice_index_or events i e → All IsTold (take i events) → IsTold e → All IsTold (take (i + 1) events)
+pub told_so_far : (events : List Trace) (i : ℕ) (e : Trace) → i < length events → e ≡ slice_index_or events i e → All EventFits (take i events) → EventFits e → All EventFits (take (i + 1) events)
 told_so_far events i e within at so_far told =
-    subst (All IsTold) (sym (ap (λ n. take n events) (add-one i) ∙ take-suc events i e within ∙ ap (λ x. take i events ++ x ∷ []) (sym at)))
-    (All-append IsTold (take i events) (e ∷ []) so_far (All-cons IsTold e [] told (All-nil IsTold)))
+    subst (All EventFits) (sym (ap (λ n. take n events) (add-one i) ∙ take-suc events i e within ∙ ap (λ x. take i events ++ x ∷ []) (sym at)))
+    (All-append EventFits (take i events) (e ∷ []) so_far (All-cons EventFits e [] told (All-nil EventFits)))
 
 -- their text so far, and one more line
 pub events_go_on : (events : List Trace) (i : ℕ) (e : Trace) → i < length events → e ≡ slice_index_or events i e

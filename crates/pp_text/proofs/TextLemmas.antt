@@ -1,8 +1,17 @@
 -- Steps of what prints.
-use Rattle.std.proofs.Common.{◌≡◌, ◌≢◌, ℕ, ◌-◌, ◌/◌, ◌%◌, ◌^◌, ◌<◌, zero, suc, List, ◌++◌, append_assoc, arith, codes}
+use Rattle.std.proofs.Common.{◌≡◌, ◌≢◌, ℕ, ◌-◌, ◌/◌, ◌%◌, ◌^◌, ◌<◌, zero, suc, List, [], ◌∷◌, ◌++◌, Option, None, get_or, slice_get, refl, append_assoc, arith, codes}
+use Rattle.pp_channel.specs.Answer.{flags_of}
+use Rattle.pp_channel.specs.declared.chan_op.ChanOp.{ChanOp}
+use Rattle.pp_channel.specs.declared.flags.Flags.{Flags}
+use Rattle.pp_machine.specs.MachineState.{MachineState, history_of, processor_of}
+use Rattle.pp_machine.specs.MachineStep.{step_outcome}
+use Rattle.pp_machine.specs.NeedAndEffect.{need}
 use Rattle.pp_machine.specs.Processor.{Processor}
+use Rattle.pp_machine.specs.declared.need.Need.TheVariants.{Channel}
+use Rattle.pp_machine.specs.declared.outcome.Outcome.TheVariants.{Held}
 use Rattle.pp_machine.specs.declared.trace.Trace.{Trace}
 use Rattle.pp_text.specs.Numeral.{decimal, digit, digits, octal, unpadded}
+use Rattle.pp_text.specs.Standing.{channel_held_text, held_text}
 use Rattle.pp_text.specs.PrintedText.{event_line, event_text, line_end, processor_line}
 
 -- a number that is not 0 ends with its last digit
@@ -24,3 +33,14 @@ pub processor_line_in_pieces : (text heading : List ℕ) (n : ℕ) (pp : Process
     → ((text ++ heading) ++ said) ++ line_end ≡ text ++ processor_line n pp said
 unfolding processor_line
 processor_line_in_pieces text heading n pp said h = rw h (simp append_assoc)
+
+-- past the end of central memory stands nothing
+pub no_central_word : (central : List ℕ) (a : ℕ) → None ≡ slice_get central a → get_or central a 0 ≡ 0
+no_central_word [] a e = refl
+no_central_word (w ∷ ws) zero e = absurd (cc)
+no_central_word (w ∷ ws) (suc a) e = no_central_word ws a e
+
+-- the text of a channel that holds a processor
+pub held_is : (n c : ℕ) (op : ChanOp) (m : MachineState) (count : ℕ) (flags : Flags) → need (processor_of n m) ≡ Channel c op → step_outcome n m ≡ Held → flags ≡ flags_of (history_of c m)
+    → channel_held_text c flags count ≡ held_text (need (processor_of n m)) (step_outcome n m) m count
+held_is n c op m count flags needs is_held are = rw (needs, is_held, are) refl

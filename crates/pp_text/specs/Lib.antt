@@ -1,5 +1,8 @@
 pub mod Numeral
 pub mod PrintedText
+pub mod InstructionText
+pub mod Standing
+pub mod Differences
 pub mod TextLaw
 pub mod Piece
 pub mod Written

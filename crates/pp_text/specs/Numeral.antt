@@ -1,5 +1,5 @@
 -- Printed numbers: octal in a fixed width, and counts in decimal. A text is a list of ASCII codes.
-use Rattle.std.specs.Prelude.{◌≡◌, ℕ, zero, suc, ◌+◌, ◌-◌, ◌*◌, ◌<◌, ◌≤◌, fold, All, ◌/◌, ◌%◌, ◌^◌, List, [], ◌∷◌, ◌++◌, ◌==◌, if◌then◌else◌}
+use Rattle.std.specs.Prelude.{◌≡◌, ℕ, zero, suc, ◌+◌, ◌-◌, ◌*◌, ◌<◌, ◌≤◌, fold, All, ◌/◌, ◌%◌, ◌^◌, List, [], ◌∷◌, ◌++◌, ◌==◌, nat_lt, if◌then◌else◌}
 use Rattle.std.specs.List.{flat_map, range_with_len}
 
 -- the character of a digit, 0 to 9
@@ -14,6 +14,11 @@ digits base (suc width) n = digits base width (n / base) ++ digit (n % base)
 -- a number in exactly `width` octal digits
 abbrev pub octal : ℕ → ℕ → List ℕ
 octal width n = digits 8 width n
+
+-- a number in octal digits, without leading zeros, in at most `most` digits
+unfoldable pub short_octal : ℕ → ℕ → List ℕ
+short_octal zero n = []
+short_octal (suc most) n = if nat_lt n 8 then digit n else short_octal most (n / 8) ++ digit (n % 8)
 
 -- a number in decimal digits, without leading zeros, but at most `most` digits
 abbrev pub unpadded : ℕ → ℕ → List ℕ

@@ -1,6 +1,6 @@
 -- The text of a run: a line for each event, each processor named, and each channel with a history.
 -- A text is a list of ASCII codes, and every line ends with a line feed.
-use Rattle.std.specs.Prelude.{ℕ, zero, suc, Bool, List, [], ◌∷◌, ◌++◌, Option, Some, None, codes, if◌then◌else◌, flat_map}
+use Rattle.std.specs.Prelude.{ℕ, zero, suc, ◌-◌, Bool, List, [], ◌∷◌, ◌++◌, Option, Some, None, codes, length, replicate, if◌then◌else◌, flat_map}
 use Rattle.pp_channel.specs.ChannelNo.{names_channel}
 use Rattle.pp_channel.specs.History.{active, waiting, history_on}
 use Rattle.pp_channel.specs.declared.event.Event.{Event}
@@ -15,6 +15,10 @@ use Rattle.pp_text.specs.Numeral.{decimal, octal}
 
 abbrev pub line_end : List ℕ
 line_end = 10 ∷ []
+
+-- a text, padded with spaces to `columns` columns
+abbrev pub padded : ℕ → List ℕ → List ℕ
+padded columns text = text ++ replicate (columns - length text) 32
 
 -- `PUT 0007`
 abbrev pub event_text : Event → List ℕ

@@ -9,36 +9,36 @@ use Rattle.pp_machine.specs.PpNo.{names_processor, is_named}
 use Rattle.pp_machine.specs.declared.trace.Trace.{Trace}
 
 -- an event fits its line: a turn of 64 bits, a processor, a channel, a word of 12 bits
-pub record IsTold (e : Trace) : Type 0 where
+pub record EventFits (e : Trace) : Type 0 where
   pub turn : e.turn < 2 ^ 64
   pub pp : IsTrue (names_processor e.pp)
   pub channel : IsTrue (names_channel e.channel)
   pub word : HasTwelveBitWord e.event
 
 -- a processor fits its line: registers of the manual's widths, a numbered fault
-pub record IsShown (pp : Processor) : Type 0 where
+pub record ProcessorFits (pp : Processor) : Type 0 where
   pub p : pp.p < 2 ^ 12
   pub a : pp.a < 2 ^ 18
   pub state : HasFaultNumber pp.state
 
 -- a history fits the line of its channel: a word that waits has 12 bits
-abbrev pub IsListed : List Event → Type 0
-IsListed h = IfSome (waiting h) (λ word. word < 2 ^ 12)
+abbrev pub HistoryFits : List Event → Type 0
+HistoryFits h = IfSome (waiting h) (λ word. word < 2 ^ 12)
 
 -- a machine fits its text, as each that is printed does
 pub record FitsItsText (named : List Bool) (m : MachineState) : Type 0 where
-  pub trace : All IsTold m.trace
-  pub processors : (n : ℕ) → IsTrue (is_named named n) → IsShown (processor_of n m)
-  pub channels : (c : ℕ) → IsTrue (names_channel c) → IsListed (history_on c m.histories)
+  pub trace : All EventFits m.trace
+  pub processors : (n : ℕ) → IsTrue (is_named named n) → ProcessorFits (processor_of n m)
+  pub channels : (c : ℕ) → IsTrue (names_channel c) → HistoryFits (history_on c m.histories)
 
 -- two processors with one line
-pub record IsShownAlike (pp other : Processor) : Type 0 where
+pub record ShowSameProcessor (pp other : Processor) : Type 0 where
   pub p : pp.p ≡ other.p
   pub a : pp.a ≡ other.a
   pub state : pp.state ≡ other.state
 
 -- two histories of a channel with one line, or both without, where nothing has happened
-pub record IsToldAlike (h other : List Event) : Type 0 where
+pub record ShowSameChannel (h other : List Event) : Type 0 where
   pub unused : (h ≡ []) ↔ (other ≡ [])
   pub active : active h ≡ active other
   pub waiting : waiting h ≡ waiting other
@@ -54,9 +54,10 @@ pub record AgreeOnText (named others : List Bool) (one other : MachineState) : T
   pub names : NameAlike named others
   pub trace : one.trace ≡ other.trace
   pub processors :
-      (n : ℕ) → IsTrue (is_named named n) → IsShownAlike (processor_of n one) (processor_of n other)
+      (n : ℕ) → IsTrue (is_named named n)
+      → ShowSameProcessor (processor_of n one) (processor_of n other)
   pub channels : (c : ℕ) → IsTrue (names_channel c)
-      → IsToldAlike (history_on c one.histories) (history_on c other.histories)
+      → ShowSameChannel (history_on c one.histories) (history_on c other.histories)
 
 -- the same history on each channel
 abbrev pub AreSameHistories : List (List Event) → List (List Event) → Type 0

@@ -8,7 +8,7 @@ ghost use Rattle.pp_machine.specs.MachineState.{processor_of};
 ghost use Rattle.pp_text.specs.TextWriter.{Prints};
 ghost use Rattle.pp_machine.specs.PpNo.{is_named};
 ghost use Rattle.pp_text.specs.PrintedText.{each_below, event_line, named_processor_line, printed, used_channel_line};
-ghost use Rattle.pp_text.specs.TextLaw.{FitsItsText, IsListed, IsShown, IsTold};
+ghost use Rattle.pp_text.specs.TextLaw.{FitsItsText, HistoryFits, ProcessorFits, EventFits};
 ghost use Rattle.pp_text.specs.Written.{IsWritten};
 
 use crate::printed_line::{push_event, push_processor};
@@ -42,7 +42,7 @@ pub fn write_text<A: Allocator + Copy, W: Write>(
 
 fn print_events<W: Write>(text: &mut TextWriter<W>, events: &[Trace])
     ensures text { Prints W.contents text.old text.new (flat_map event_line events.now) }
-    ensures fits { All IsTold events.now }
+    ensures fits { All EventFits events.now }
 {
     for entry in events {
         text.make_room();
@@ -57,7 +57,8 @@ fn print_processors<A: Allocator, W: Write>(
 )
     ensures text { Prints W.contents text.old text.new
         (each_below NUMBERS (named_processor_line named.now machine.now)) }
-    ensures fits { (n : ℕ) → IsTrue (is_named named.now n) → IsShown (processor_of n machine.now) }
+    ensures fits { (n : ℕ) → IsTrue (is_named named.now n)
+        → ProcessorFits (processor_of n machine.now) }
 {
     for number in 0..NUMBERS {
         print_named_processor(text, machine, named, number);
@@ -73,7 +74,7 @@ fn print_named_processor<A: Allocator, W: Write>(
     ensures text { Prints W.contents text.old text.new
         (named_processor_line named.now machine.now number) }
     ensures fits { IsTrue (is_named named.now number)
-        → IsShown (processor_of number machine.now) }
+        → ProcessorFits (processor_of number machine.now) }
 {
     match PpNo::new(number) {
         Some(n) if named[n.index()] => {
@@ -84,11 +85,12 @@ fn print_named_processor<A: Allocator, W: Write>(
     }
 }
 
-fn print_channels<A: Allocator, W: Write>(text: &mut TextWriter<W>, machine: &Machine<A>)
+/// Prints the lines of all channels that have a history, in order of number.
+pub fn print_channels<A: Allocator, W: Write>(text: &mut TextWriter<W>, machine: &Machine<A>)
     ensures text { Prints W.contents text.old text.new
         (each_below NUMBERS (used_channel_line machine.now.histories)) }
     ensures fits { (c : ℕ) → IsTrue (names_channel c)
-        → IsListed (history_on c machine.now.histories) }
+        → HistoryFits (history_on c machine.now.histories) }
 {
     for number in 0..NUMBERS {
         print_used_channel(text, machine, number);
@@ -103,7 +105,7 @@ fn print_used_channel<A: Allocator, W: Write>(
     ensures text { Prints W.contents text.old text.new
         (used_channel_line machine.now.histories number) }
     ensures fits { IsTrue (names_channel number)
-        → IsListed (history_on number machine.now.histories) }
+        → HistoryFits (history_on number machine.now.histories) }
 {
     if let Some(c) = ChannelNo::new(number) {
         text.make_room();

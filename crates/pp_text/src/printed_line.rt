@@ -7,7 +7,7 @@ ghost use Rattle.pp_machine.specs.PpNo.{names_processor};
 ghost use Rattle.pp_text.specs.Numeral.{digits, octal};
 ghost use Rattle.pp_text.specs.Piece.{HasRoom, longest_line};
 ghost use Rattle.pp_text.specs.PrintedText.{event_line, event_text, line_end, processor_line, state_text};
-ghost use Rattle.pp_text.specs.TextLaw.{IsShown, IsTold};
+ghost use Rattle.pp_text.specs.TextLaw.{ProcessorFits, EventFits};
 
 use crate::digits::{decimal6, octal2, octal4, push_upper_digits};
 use crate::piece::Piece;
@@ -21,7 +21,7 @@ use pp_word::Word12;
 pub(crate) fn push_event(piece: &mut Piece, entry: &Trace)
     requires { HasRoom longest_line piece.old }
     ensures text { piece.new ≡ piece.old ++ event_line entry.now }
-    ensures fits { IsTold entry.now }
+    ensures fits { EventFits entry.now }
 {
     let turn = push_upper_digits(piece, entry.turn);
     piece.push(&event_heading(turn, entry.pp, entry.channel));
@@ -75,7 +75,7 @@ fn line_with_word(name: [u8; 3], word: Word12) -> [u8; 9]
 pub(crate) fn push_processor(piece: &mut Piece, n: PpNo, pp: &Pp)
     requires { HasRoom longest_line piece.old }
     ensures text { piece.new ≡ piece.old ++ processor_line n pp.now (state_text pp.now.state) }
-    ensures fits { IsShown pp.now }
+    ensures fits { ProcessorFits pp.now }
 {
     piece.push(&processor_heading(n, pp));
     push_state_text(piece, pp.state());

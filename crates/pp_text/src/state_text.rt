@@ -5,7 +5,7 @@ ghost use Rattle.pp_channel.specs.History.{active, waiting};
 ghost use Rattle.pp_text.specs.Numeral.{octal};
 ghost use Rattle.pp_text.specs.Piece.{HasRoom};
 ghost use Rattle.pp_text.specs.PrintedText.{channel_line, channel_text, state_text};
-ghost use Rattle.pp_text.specs.TextLaw.{IsListed};
+ghost use Rattle.pp_text.specs.TextLaw.{HistoryFits};
 
 use crate::digits::{octal1, octal2, octal4, octal6};
 use crate::piece::Piece;
@@ -77,7 +77,7 @@ pub fn push_channel_text<A: Allocator>(piece: &mut Piece, channel: &Channel<A>)
     ensures text { piece.new
         ≡ piece.old ++ channel_text (active channel.now) (waiting channel.now) }
     ensures room { length piece.new ≤ length piece.old + 16 }
-    ensures fits { IsListed channel.now }
+    ensures fits { HistoryFits channel.now }
 {
     match channel.waiting() {
         Some(word) => {
@@ -94,7 +94,7 @@ pub fn push_channel_line<A: Allocator>(piece: &mut Piece, c: ChannelNo, channel:
     requires { HasRoom 22 piece.old }
     ensures text { piece.new ≡ piece.old ++ channel_line c channel.now }
     ensures room { length piece.new ≤ length piece.old + 22 }
-    ensures fits { IsListed channel.now }
+    ensures fits { HistoryFits channel.now }
 {
     if channel.history().is_empty() {
         return;

@@ -3,3 +3,11 @@ pub mod Bits
 pub mod CentralWord
 pub mod OnesComplement
 pub mod Opcode
+-- facts about lists that the standard library lacks, for the crates above; contracts cite
+-- `tabulate` and `IsSubsequence` alone
+pub mod LastElements
+pub mod Tables
+pub mod GrowingLists
+pub mod WrittenNumbers
+pub mod Subsequence
+pub mod Subsequences

@@ -23,7 +23,7 @@ pub struct Answer {
 
 const WRITTEN: u32 = 0;
 
-const INPUT_REFUSED: u32 = 1;
+const BAD_INPUT: u32 = 1;
 
 const NUMBER_REFUSED: u32 = 2;
 
@@ -88,9 +88,7 @@ fn status_of(fault: &TextFault) -> u32
     ensures { result ≡ status_of fault.now }
 {
     match fault {
-        TextFault::Deck(_) | TextFault::NotBetweenPrograms(_) | TextFault::Trace(_) => {
-            INPUT_REFUSED
-        }
+        TextFault::Deck(_) | TextFault::NotBetweenPrograms(_) | TextFault::Trace(_) => { BAD_INPUT }
         // A reader of bytes does not fail, and a writer of bytes only for lack of memory.
         TextFault::Memory | TextFault::Read | TextFault::Write => NO_MEMORY,
     }

@@ -12,7 +12,7 @@ const NONE: [bool; CHANNELS] = [false; CHANNELS];
 /// How many changed traces are to be refused.
 const REFUSED: u32 = 1000;
 
-/// An event that may come where a channel stands so.
+/// An event that may come when a channel stands so.
 fn some_event(chance: &mut Chance, stand: Stand) -> Event {
     let kind = chance.next() % 8;
     let code = chance.next();
@@ -60,7 +60,7 @@ fn in_order(lines: &mut Vec<Told>) {
     }
 }
 
-/// The event with another word, or another event where it has none.
+/// The event with another word, or another event if it has none.
 fn altered(event: &Event) -> Event {
     match event {
         Event::Put(old) => Event::Put(word(old.get() ^ 1)),

@@ -51,7 +51,7 @@ fn channel_of(profile: Profile, code: u16) -> Option<u8> {
 }
 
 /// The first instruction with this d that does not go to the channel of this number, or is not the
-/// fault where there is none.
+/// fault if there is none.
 fn wrong_code(profile: Profile, d: u8, expected: Option<u8>) -> Option<u16> {
     for code in CODES_OF_CHANNELS {
         let word = code | u16::from(d);

@@ -1,7 +1,7 @@
 //! Decks as long as allowed, and longer: lines, fields and comments of a million characters, and
 //! lines by the hundred thousand.
 
-use pp_listing::listing;
+use pp_listing::write_listing;
 use pp_machine::{Machine, Profile};
 use pp_sim::DeckCode::{
     BadDigits, BadProcessor, CentralRange, NoProcessor, NotAscii, PastEnd, TooLong, UnknownLine,
@@ -85,7 +85,8 @@ const DECKS: [(Long, &str); 5] = [
 /// Whether a long deck is listed so.
 fn is_listed(alloc: Global, deck: Long, listed: &str) -> Result<bool, Fail> {
     let text = text_of(deck, alloc)?;
-    let shown = listing(alloc, &read_deck(alloc, Profile::Ten, &text)?)?;
+    let mut shown = Vec::new(alloc);
+    write_listing(&mut shown, &read_deck(alloc, Profile::Ten, &text)?)?;
     Ok(text.len() == deck.3 && shown.as_slice() == listed.as_bytes())
 }
 
@@ -116,7 +117,7 @@ fn ones(machine: &Machine<Global>) -> (u32, u32) {
     (places, words)
 }
 
-/// Whether a deck of one line loads so many ones.
+/// Whether a deck of one line loads as many ones as expected.
 fn loads(alloc: Global, deck: Long, expected: (u32, u32)) -> Result<bool, AllocError> {
     let text = text_of(deck, alloc)?;
     match read_deck(alloc, Profile::Ten, &text) {

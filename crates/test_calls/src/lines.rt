@@ -33,7 +33,7 @@ fn entry(channel: ChannelNo, number: u64, what: Seen) -> Entry {
     }
 }
 
-/// Whether a line has this log, this room, so many events seen, and so many shares.
+/// Whether a line has this log, this room, `seen` events seen, and `shares` shares.
 fn is_line(
     line: &Line<Global>,
     channel: ChannelNo,
@@ -47,7 +47,7 @@ fn is_line(
 }
 
 /// A line makes the first of these calls, and is split. Then its child makes calls, then the line,
-/// and the two are joined. Nothing where an answer is another, or the child has not seen the same.
+/// and the two are joined. Nothing if an answer is another, or the child has not seen the same.
 fn joined(
     alloc: Global,
     channel: ChannelNo,
@@ -173,7 +173,7 @@ fn keeps_look(line: &mut Line<Global>, channel: ChannelNo) -> bool {
     is_answered && line.kept() && answers(line, channel, &[probe])
 }
 
-/// A look that is kept stays in the log, where the next one would take its place.
+/// A look that is kept stays in the log; the next one would take its place.
 #[test]
 fn kept_look(rt: HostRuntime) -> Result<(), Fail> {
     let five = channel(5)?;

@@ -73,7 +73,7 @@ fn numbers_of_all(rt: HostRuntime) {
     assert_eq!(rt; wrong_place(), None);
 }
 
-/// Whether a profile has just these processors and channels, at the places that they have in the
+/// Whether a profile has exactly these processors and channels, at the places that they have in the
 /// greater one.
 fn has_numbers(profile: Profile, processors: &[u8], channels: &[u8]) -> bool {
     profile.processors() == processors.len()

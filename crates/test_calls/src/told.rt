@@ -24,7 +24,7 @@ pub(crate) enum Stand {
     Holds(u16),
 }
 
-/// How a channel stands after an event; nothing where the event may not come.
+/// How a channel stands after an event; nothing if the event may not come.
 pub(crate) fn after(stand: Stand, event: &Event) -> Option<Stand> {
     match (stand, event) {
         (Stand::Idle, Event::Function(_)) => Some(Stand::Idle),
@@ -44,7 +44,7 @@ pub(crate) enum Form {
     ByNumber,
 }
 
-/// The place of the first line, from 0 on, that may not come behind those before it.
+/// The place of the first line, from 0 on, that may not come after those before it.
 pub(crate) fn first_unlawful(lines: &[Told], form: Form) -> Option<usize> {
     let mut stands = [Stand::Idle; 4];
     let mut numbers = [0u32; 4];

@@ -1,4 +1,4 @@
-//! Turns of the barrel on both machines, and steps of processors behind it.
+//! Turns of the barrel on both machines, and steps of processors that it leaves out.
 
 use crate::processor::shown;
 use pp_machine::{Machine, Outcome, PROCESSORS, Pp, PpNo, PpState, Profile};
@@ -34,7 +34,7 @@ fn made_steps(machine: &Machine<Global>, more: usize, barrel: usize, steps: [u32
     true
 }
 
-/// Whether all twenty make these steps, once they are started, in so many turns of the barrel.
+/// Whether all twenty make these steps, once they are started, in `turns` turns of the barrel.
 fn make_steps(
     alloc: Global,
     profile: Profile,
@@ -68,7 +68,7 @@ fn rounds_of_each_profile(rt: HostRuntime) {
 }
 
 /// The machine of ten, after 1000 turns of the barrel (decimal) and three of these processors,
-/// which are behind it.
+/// which it leaves out.
 fn turned_behind(alloc: Global, one: PpNo, other: PpNo) -> Result<Machine<Global>, Fail> {
     let mut machine = Machine::new(alloc, Profile::Ten, 1)?;
     count_steps(machine.pp_mut(other));

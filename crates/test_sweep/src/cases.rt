@@ -15,7 +15,7 @@ pub(crate) const CASES: [Case; 20] = [
         5,
     ),
     (&["ppsim", "list"], CENTRAL_AND_WAITING, 5),
-    (&["ppsim", "dump", "--turns", "20"], LOOP, 5),
+    (&["ppsim", "dump", "--turns", "20"], LOOP, 4),
     (
         &["ppsim", "steps", "--turns", "40", "--pp", "1"],
         HANDOFF,
@@ -97,7 +97,7 @@ PP 0
 START 0100
 ";
 
-/// A trace that is lawful only where its channel was not open before.
+/// A trace that is lawful only if its channel was not open before.
 const TRACE: &str = "000000 PP00 CH05 ACN\n";
 
 /// A processor that goes on after the run.

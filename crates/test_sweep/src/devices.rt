@@ -87,7 +87,7 @@ fn flushes(rt: HostRuntime) {
 }
 
 /// An output that fills up at the end of the text is not noticed, and one that fails is not touched
-/// where the deck is refused; where nothing can be reported, the status is the same.
+/// if the deck is refused; if nothing can be reported, the status is the same.
 const UNTOLD: [(&str, &str, usize, u8); 5] = [
     ("40", HANDOFF, 149, 0),
     ("40", "PP 12", 149, 1),
@@ -123,8 +123,7 @@ fn errors_that_are_not_told(rt: HostRuntime) {
     }
 }
 
-/// Whether a run on this many spaces, after which the reader gives up, ends so, and how often it
-/// did.
+/// Whether a run on `count` spaces, after which the reader gives up, ends so, and how often it did.
 fn ends_on_spaces<R: AllocGlobal + Files + Threads + Wait + Sync>(
     rt: &R,
     count: usize,

@@ -28,7 +28,7 @@ PP 2
 START 0100
 ";
 
-/// The status of so many turns of a loop, whose steps are printed, and how many requests are made.
+/// The status of `turns` turns of a loop, whose steps are printed, and how many requests are made.
 fn requests_in<R: AllocGlobal + Files + Threads + Wait + Sync>(rt: &R, turns: &str) -> (u8, u64) {
     let heap = Rationed::new(rt.alloc());
     let words = ["ppsim", "steps", "--turns", turns];
@@ -45,7 +45,7 @@ fn lines_take_no_memory(rt: HostRuntime) {
 /// A command line whose text is longer than a piece in which it goes out.
 const LONG_TEXT: [&str; 4] = ["ppsim", "barrel", "--turns", "30000"];
 
-/// Nothing of a long text is written where a request is refused.
+/// Nothing of a long text is written if a request is refused.
 #[test]
 fn long_texts_refused(rt: HostRuntime) -> Result<(), Fail> {
     let text = text_of_sessions(rt.alloc(), 1000)?;

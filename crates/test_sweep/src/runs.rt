@@ -36,7 +36,7 @@ pub(crate) fn whole<R: AllocGlobal + Files + Threads + Wait + Sync>(
     ending(rt, &Rationed::new(rt.alloc()), words, input)
 }
 
-/// Nothing where a run ends for want of memory as it should; else whether it ends in this way.
+/// Nothing if a run ends for want of memory as it should; else whether it ends in this way.
 fn with_little<R: AllocGlobal + Files + Threads + Wait + Sync>(
     rt: &R,
     heap: &Rationed<Global>,
@@ -86,8 +86,8 @@ pub(crate) fn ends<R: AllocGlobal + Files + Threads + Wait + Sync, I: Read, O: W
         && told.as_slice() == error
 }
 
-/// Whether a run ends with status 3 and writes nothing where the reader gives these bytes, so many
-/// a call, and then an error, which is the last call.
+/// Whether a run ends with status 3 and writes nothing if the reader gives these bytes, `piece` a
+/// call, and then an error, which is the last call.
 pub(crate) fn is_read_fault<R: AllocGlobal + Files + Threads + Wait + Sync>(
     rt: &R,
     words: &[&str],
@@ -109,7 +109,7 @@ pub(crate) fn is_read_fault<R: AllocGlobal + Files + Threads + Wait + Sync>(
         && (piece > 1 || reader.calls() as usize == front.len().saturating_add(1))
 }
 
-/// Whether a run ends with status 3 where the writer takes these bytes of its text, so many a call,
+/// Whether a run ends with status 3 if the writer takes these bytes of its text, `piece` a call,
 /// and then fails, which is the last call.
 pub(crate) fn is_write_fault<R: AllocGlobal + Files + Threads + Wait + Sync>(
     rt: &R,

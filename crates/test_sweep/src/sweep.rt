@@ -48,7 +48,7 @@ fn readers_that_fail(rt: HostRuntime) {
 }
 
 /// Whether a writer that fails in this way after each byte of the output, and one that can't be
-/// flushed after the last, end a run. Of an output of more than 500 bytes (decimal) about so many
+/// flushed after the last, end a run. Of an output of more than 500 bytes (decimal) about 500
 /// lengths are tried.
 fn tells_writer<R: AllocGlobal + Files + Threads + Wait + Sync>(
     rt: &R,
@@ -113,7 +113,7 @@ fn answers_ask_for_nothing(rt: HostRuntime) {
     }
 }
 
-/// Whether nothing is read, and a writer that takes nothing is met exactly where there is a text.
+/// Whether nothing is read, and a writer that takes nothing is met exactly if there is a text.
 fn is_at_once<R: AllocGlobal + Files + Threads + Wait + Sync>(
     rt: &R,
     words: &'static [&str],

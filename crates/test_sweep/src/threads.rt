@@ -10,8 +10,8 @@ use std::test::Fail;
 use std::thread::Threads;
 use test_bench::{BLOCK, Rationed};
 
-/// Nothing where a run ends for want of memory as it should, in a worker, which the text says, or
-/// as a whole, and then without a text; else whether all of the text comes.
+/// Nothing if a run ends for want of memory as it should, in a worker, which the text says, or as a
+/// whole, and then without a text; else whether all of the text comes.
 fn with_little<R: AllocGlobal + Files + Threads + Wait + Sync>(
     rt: &R,
     heap: &Rationed<Global>,

@@ -1,7 +1,8 @@
 //! Lines of a family that are closed together.
 
-ghost use Rattle.std.specs.Prelude.{◌≡◌, ◌∷◌, All, IfOk, map};
-ghost use Rattle.pp_line.specs.LineState.{all_joined, ForgetsNothing, AreClosed, AreInOneOrder};
+ghost use Rattle.std.specs.Prelude.{◌≡◌, ◌∷◌, All, IfOk};
+ghost use Rattle.std.specs.List.{AllZip};
+ghost use Rattle.pp_line.specs.LineState.{all_joined, lines_of, IsLogBeside, SeesAtLeast, AreClosed, AreInOneOrder};
 ghost use Rattle.pp_line.specs.LineSteps.{IsLogOf};
 ghost use Rattle.pp_line.specs.LineView.{joined_view, with_unrecorded_load, greater_of_each};
 
@@ -14,30 +15,32 @@ use std::alloc::Allocator;
 
 /// What lines that were closed together leave.
 #[derive(Drop)]
-pub struct Closed<A: Allocator> {
-    /// The log of each line but the first, in order.
-    pub logs: Vec<Vec<Entry, A>, A>,
+pub struct Closed<T, A: Allocator> {
+    /// The log of each line but the first, beside the value that came with the line, in order.
+    pub logs: Vec<(T, Vec<Entry, A>), A>,
     /// All channels, in order.
     pub channels: [Channel<A>; CHANNELS],
 }
 
 impl<A: Allocator + Copy> Line<A> {
     /// The channels of this line and others of its family, which hold every share between them:
-    /// their histories are the events of all logs, each at its number. The logs of the others come
-    /// back, and no log is copied. One total order over all channels extends the program orders of
-    /// all lines. It makes two loads for each of the others and one more; after `Memory` the lines
-    /// are gone.
-    pub fn close_with(self, others: Vec<Line<A>, A>) -> Result<Closed<A>, Memory>
-        requires tables { All (λ other. other.table ≡ self.table) others.items }
-        requires shares { (all_joined self others.items).view.shares ≡ self.view.whole }
+    /// their histories are the events of all logs, each at its number. Each of the others comes
+    /// with a value of the caller's, which is returned beside the line's log; no log is copied. One
+    /// total order over all channels extends the program orders of all lines. It makes two loads
+    /// for each of the others and one more; after `Memory` the lines are gone.
+    pub fn close_with<T: Drop>(self, others: Vec<(T, Line<A>), A>) -> Result<Closed<T, A>, Memory>
+        requires tables { All (λ other. other.1.table ≡ self.table) others.items }
+        requires shares { (all_joined self (lines_of others.items)).view.shares
+            ≡ self.view.whole }
         ensures channels { IfOk result (λ closed.
-            AreClosed (all_joined self others.items) closed.channels) }
+            AreClosed (all_joined self (lines_of others.items)) closed.channels) }
         ensures order { IfOk result (λ closed.
-            AreInOneOrder self.view.central closed.channels (self ∷ others.items)) }
-        ensures logs { IfOk result (λ closed. map (λ log. log.items) closed.logs.items
-            ≡ map (λ line. line.log.entries) others.items) }
+            AreInOneOrder self.view.central closed.channels (self ∷ lines_of others.items)) }
+        ensures logs { IfOk result (λ closed.
+            AllZip (λ other log. IsLogBeside other log) others.items closed.logs.items) }
         ensures nothing_forgotten { IfOk result (λ closed.
-            All (λ line. ForgetsNothing line (all_joined self others.items)) others.items) }
+            All (λ line. SeesAtLeast line (all_joined self (lines_of others.items)))
+            (lines_of others.items)) }
     {
         let Line {
             alloc,
@@ -48,9 +51,9 @@ impl<A: Allocator + Copy> Line<A> {
             whole: _,
         } = self;
         let mut logs = Vec::with_capacity(alloc, others.len())?;
-        for other in others {
+        for (value, other) in others {
             let log = absorb(&mut words, &mut seen, other);
-            logs.push(log)?;
+            logs.push((value, log))?;
         }
         words.check_shares(ChannelNo::at(0));
         let channels = recorded_channels(alloc, log.entries(), logs.as_slice(), &seen)?;

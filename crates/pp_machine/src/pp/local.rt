@@ -1,7 +1,7 @@
 //! Instructions that need nothing from outside.
 
 ghost use Rattle.std.specs.Prelude.{◌≡◌, IsTrue, None, false, true};
-ghost use Rattle.pp_machine.specs.NextStep.{ends, is_inner};
+ghost use Rattle.pp_machine.specs.NextStep.{ends, is_internal};
 ghost use Rattle.pp_machine.specs.InstructionTable.{instruction};
 ghost use Rattle.pp_machine.specs.NeedAndEffect.{answered};
 ghost use Rattle.pp_machine.specs.Replay.{fits};
@@ -45,9 +45,9 @@ impl Pp {
         requires free { self.old.block ≡ None }
         requires fits { fits (need_of (instruction op self.old d)) Answer.Local ≡ true }
         ensures answered { self.new ≡ answered (instruction op self.old d) self.old Answer.Local }
-        ensures running { IsTrue (is_inner op) → ends op d ≡ false
+        ensures running { IsTrue (is_internal op) → ends op d ≡ false
             → self.new.state ≡ PpState.Running }
-        ensures free { IsTrue (is_inner op) → self.new.block ≡ None }
+        ensures free { IsTrue (is_internal op) → self.new.block ≡ None }
     {
         match op {
             Opcode::PSN => self.go_on(1),

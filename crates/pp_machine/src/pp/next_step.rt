@@ -3,7 +3,7 @@
 
 ghost use Rattle.std.specs.Prelude.{◌≡◌, ℕ, None, IsTrue, false, if◌then◌else◌};
 ghost use Rattle.std.specs.Bool.{OnTrue, OnFalse};
-ghost use Rattle.pp_machine.specs.NextStep.{IsAtInstruction, IsNext, ends, is_inner};
+ghost use Rattle.pp_machine.specs.NextStep.{IsAtInstruction, IsNext, ends, is_internal};
 ghost use Rattle.pp_machine.specs.InstructionTable.{instruction};
 ghost use Rattle.pp_machine.specs.NeedAndEffect.{need, processor_after, outcome};
 ghost use Rattle.pp_machine.specs.Processor.{Processor};
@@ -22,8 +22,8 @@ use pp_channel::{ChanOp, Flags, Reply};
 use pp_word::{Opcode, Word6, Word60};
 
 /// Whether an operation needs nothing from outside, whatever its operands: codes 00 to 57 (octal).
-fn is_inner(op: Opcode) -> bool
-    ensures inner { result ≡ is_inner op }
+fn is_internal(op: Opcode) -> bool
+    ensures inner { result ≡ is_internal op }
     ensures local { (pp : Processor) (d : ℕ) → IsTrue result
         → need_of (instruction op pp d) ≡ Need.Local }
 {
@@ -84,9 +84,11 @@ impl Pp {
 
     /// Makes its next step if that is an instruction of the codes 00 to 57 (octal), and returns
     /// whether it was.
-    #[tactic(auto, unfolding(crate::specs::NeedAndEffect::need, crate::specs::NeedAndEffect::processor_after, crate::specs::NeedAndEffect::outcome))]
+    #[tactic(auto, unfolding(crate::specs::NeedAndEffect::need, // what it asks
+    crate::specs::NeedAndEffect::processor_after, // what the answer does
+    crate::specs::NeedAndEffect::outcome))]
     #[inline(always)]
-    pub(crate) fn run_inner(&mut self, op: Opcode, d: Word6) -> bool
+    pub(crate) fn step_internal(&mut self, op: Opcode, d: Word6) -> bool
         requires { IsAtInstruction op d self.old }
         ensures local { OnTrue result (need self.old ≡ Need.Local) }
         ensures after { OnTrue result (self.new ≡ processor_after self.old Answer.Local) }
@@ -95,7 +97,7 @@ impl Pp {
         ensures free { OnTrue result (self.new.block ≡ None) }
         ensures otherwise { OnFalse result (self.new ≡ self.old) }
     {
-        if !is_inner(op) {
+        if !is_internal(op) {
             return false;
         }
         self.run_local(op, d);
@@ -114,7 +116,9 @@ impl Pp {
     }
 
     /// Makes its next step, a test of a channel with these flags.
-    #[tactic(auto, unfolding(crate::specs::NeedAndEffect::need, crate::specs::NeedAndEffect::processor_after, crate::specs::NeedAndEffect::outcome))]
+    #[tactic(auto, unfolding(crate::specs::NeedAndEffect::need, // what it asks
+    crate::specs::NeedAndEffect::processor_after, // what the answer does
+    crate::specs::NeedAndEffect::outcome))]
     #[inline(always)]
     pub(crate) fn test_flags(&mut self, op: Opcode, d: Word6, flags: Flags)
         requires next { IsAtInstruction op d self.old }
@@ -150,7 +154,9 @@ impl Pp {
     }
 
     /// Makes its next step if that needs nothing from outside.
-    #[tactic(auto, unfolding(crate::specs::NeedAndEffect::need, crate::specs::NeedAndEffect::processor_after, crate::specs::NeedAndEffect::outcome))]
+    #[tactic(auto, unfolding(crate::specs::NeedAndEffect::need, // what it asks
+    crate::specs::NeedAndEffect::processor_after, // what the answer does
+    crate::specs::NeedAndEffect::outcome))]
     #[inline(always)]
     pub(crate) fn give_local(&mut self, next: &Option<Opcode>, d: Word6) -> Outcome
         requires next { IsNext next.now d self.old }
@@ -175,7 +181,9 @@ impl Pp {
     }
 
     /// Gives the reply of the channel that its next step needs.
-    #[tactic(auto, unfolding(crate::specs::NeedAndEffect::need, crate::specs::NeedAndEffect::processor_after, crate::specs::NeedAndEffect::outcome))]
+    #[tactic(auto, unfolding(crate::specs::NeedAndEffect::need, // what it asks
+    crate::specs::NeedAndEffect::processor_after, // what the answer does
+    crate::specs::NeedAndEffect::outcome))]
     #[inline(always)]
     pub(crate) fn give_reply(&mut self, next: &Option<Opcode>, d: Word6, reply: Reply) -> Outcome
         requires next { IsNext next.now d self.old }
@@ -196,7 +204,9 @@ impl Pp {
     }
 
     /// Gives the reply of the channel of its block.
-    #[tactic(auto, unfolding(crate::specs::NeedAndEffect::need, crate::specs::NeedAndEffect::processor_after, crate::specs::NeedAndEffect::outcome))]
+    #[tactic(auto, unfolding(crate::specs::NeedAndEffect::need, // what it asks
+    crate::specs::NeedAndEffect::processor_after, // what the answer does
+    crate::specs::NeedAndEffect::outcome))]
     #[inline(always)]
     fn move_by_reply(&mut self, reply: Reply) -> Outcome
         requires next { IsNext None 0 self.old }
@@ -229,7 +239,9 @@ impl Pp {
     }
 
     /// Gives the central word that its next step needs, or none past the size.
-    #[tactic(auto, unfolding(crate::specs::NeedAndEffect::need, crate::specs::NeedAndEffect::processor_after, crate::specs::NeedAndEffect::outcome))]
+    #[tactic(auto, unfolding(crate::specs::NeedAndEffect::need, // what it asks
+    crate::specs::NeedAndEffect::processor_after, // what the answer does
+    crate::specs::NeedAndEffect::outcome))]
     #[inline(always)]
     pub(crate) fn give_central(&mut self, next: &Option<Opcode>, d: Word6, word: Option<Word60>)
         requires next { IsNext next.now d self.old }
@@ -256,7 +268,9 @@ impl Pp {
     }
 
     /// Gives whether the central word that its next step writes was written.
-    #[tactic(auto, unfolding(crate::specs::NeedAndEffect::need, crate::specs::NeedAndEffect::processor_after, crate::specs::NeedAndEffect::outcome))]
+    #[tactic(auto, unfolding(crate::specs::NeedAndEffect::need, // what it asks
+    crate::specs::NeedAndEffect::processor_after, // what the answer does
+    crate::specs::NeedAndEffect::outcome))]
     #[inline(always)]
     pub(crate) fn give_written(&mut self, next: &Option<Opcode>, d: Word6, written: bool)
         requires next { IsNext next.now d self.old }

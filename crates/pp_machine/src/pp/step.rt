@@ -71,7 +71,8 @@ impl Pp {
     }
 
     /// What the next step needs from outside: nothing if it is at rest.
-    #[tactic(auto, unfolding(crate::specs::NeedAndEffect::need), using(crate::proofs::StepLemmas::nothing_at_rest))]
+    #[tactic(auto, unfolding(crate::specs::NeedAndEffect::need), // at rest it asks for nothing
+    using(crate::proofs::StepLemmas::nothing_at_rest))]
     pub fn wants(&self) -> Need
         ensures need { result ≡ need self.now }
         ensures nothing_unless_running { (result ≡ Need.Nothing) ↔ IsAtRest self.now }
@@ -86,7 +87,7 @@ impl Pp {
     }
 
     /// Gives the answer to the need that `wants` returns.
-    #[tactic(auto, using(crate::proofs::StepLemmas::held_changes_nothing, crate::proofs::StepLemmas::held_by_answer, crate::proofs::StepLemmas::at_rest, crate::proofs::StepLemmas::rest_changes_nothing, crate::proofs::StepLemmas::fault_keeps))]
+    #[tactic(auto, using(crate::proofs::StepLemmas::answers_given))]
     pub fn give(&mut self, answer: Answer) -> Outcome
         requires fits { IsTrue (fits (need self.old) answer) }
         ensures after { self.new ≡ processor_after self.old answer }
@@ -102,7 +103,9 @@ impl Pp {
     }
 
     /// The step by the table.
-    #[tactic(auto, unfolding(crate::specs::NeedAndEffect::need, crate::specs::NeedAndEffect::processor_after, crate::specs::NeedAndEffect::outcome))]
+    #[tactic(auto, unfolding(crate::specs::NeedAndEffect::need, // what it asks
+    crate::specs::NeedAndEffect::processor_after, // what the answer does
+    crate::specs::NeedAndEffect::outcome))]
     fn advance(&mut self, answer: Answer) -> Outcome
         requires fits { IsTrue (fits (need self.old) answer) }
         ensures after { self.new ≡ processor_after self.old answer }

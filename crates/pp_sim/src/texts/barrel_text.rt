@@ -12,7 +12,7 @@ use pp_text::write_text;
 use std::alloc::Allocator;
 use std::io::{Read, Write};
 
-/// Reads a deck for a machine of this profile, runs it in the barrel for this many turns (decimal),
+/// Reads a deck for a machine of this profile, runs it in the barrel for `turns` turns (decimal),
 /// and writes the text of the run. That the headline holds of it is law `headline_law`.
 pub fn barrel_text<A: Allocator + Copy, R: Read, W: Write>(
     alloc: A,

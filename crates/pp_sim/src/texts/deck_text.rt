@@ -1,7 +1,7 @@
 //! Reading a deck and writing a text of it.
 
 ghost use Rattle.pp_sim.specs.TextAnswer.{AnswersDeckUnless};
-ghost use Rattle.pp_sim.specs.TextOf.{IsTextOf, hindrance};
+ghost use Rattle.pp_sim.specs.TextOf.{IsTextOf, obstacle};
 
 use crate::deck_bytes::DeckBytes;
 use crate::streams::read_front;
@@ -12,8 +12,8 @@ use pp_machine::Profile;
 use std::alloc::Allocator;
 use std::io::{Read, Write};
 
-/// Reads a deck for a machine of this profile, and writes this text of it. Where a dump is asked
-/// for and there is none, nothing is written, and the answer is `NotBetweenPrograms`.
+/// Reads a deck for a machine of this profile, and writes this text of it. If a dump is asked for
+/// and there is none, nothing is written, and the answer is `NotBetweenPrograms`.
 pub fn deck_text<A: Allocator + Copy, R: Read, W: Write>(
     alloc: A,
     profile: Profile,
@@ -21,7 +21,7 @@ pub fn deck_text<A: Allocator + Copy, R: Read, W: Write>(
     writer: &mut W,
     text: &TextOf,
 ) -> Result<(), TextFault>
-    ensures { AnswersDeckUnless profile (hindrance text.now) (IsTextOf text.now) result
+    ensures { AnswersDeckUnless profile (obstacle text.now) (IsTextOf text.now) result
         (R.remaining reader.old) (R.remaining reader.new)
         (W.contents writer.old) (W.contents writer.new) }
 {

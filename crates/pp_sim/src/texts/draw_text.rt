@@ -4,7 +4,7 @@ ghost use Rattle.pp_sim.specs.TextAnswer.{IsAnswer};
 ghost use Rattle.pp_sim.specs.TextOf.{IsDrawing};
 
 use crate::deck_bytes::DeckBytes;
-use crate::text_fault::TextFault;
+use crate::text_fault::{TextFault, answer_to};
 use pp_draw::{Window, run_seeing_steps, write_drawing};
 use std::alloc::Allocator;
 use std::io::Write;
@@ -23,8 +23,5 @@ pub(crate) fn write_drawn<A: Allocator + Copy, W: Write>(
     let Ok(steps) = run_seeing_steps(alloc, &mut loaded.machine, window) else {
         return Err(TextFault::Memory);
     };
-    match write_drawing(writer, &loaded.machine, &shown, steps.as_slice(), window) {
-        Ok(()) => Ok(()),
-        Err(_) => Err(TextFault::Write),
-    }
+    answer_to(write_drawing(writer, &loaded.machine, &shown, steps.as_slice(), window))
 }

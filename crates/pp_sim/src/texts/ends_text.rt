@@ -4,14 +4,13 @@ ghost use Rattle.pp_sim.specs.EndsText.{IsEndsText};
 ghost use Rattle.pp_sim.specs.TextAnswer.{IsAnswer};
 
 use crate::deck_bytes::DeckBytes;
-use crate::streams::write_whole;
-use crate::text_fault::TextFault;
-use pp_ends::{find_ending, find_loops, printed_ends};
+use crate::text_fault::{TextFault, answer_to};
+use pp_ends::{find_ending, find_loops, write_ends};
 use std::alloc::Allocator;
 use std::io::Write;
 
 /// The machine runs to the turn that the ending names.
-pub(crate) fn write_ends<A: Allocator + Copy, W: Write>(
+pub(crate) fn write_ends_after<A: Allocator + Copy, W: Write>(
     alloc: A,
     deck: &DeckBytes,
     writer: &mut W,
@@ -31,8 +30,5 @@ pub(crate) fn write_ends<A: Allocator + Copy, W: Write>(
     let Ok(()) = loaded.machine.run_barrel(ending.turn(turns)) else {
         return Err(TextFault::Memory);
     };
-    let Ok(text) = printed_ends(alloc, &shown, ending, turns, &loaded.machine, &loops) else {
-        return Err(TextFault::Memory);
-    };
-    write_whole(writer, text.as_slice())
+    answer_to(write_ends(writer, &shown, ending, turns, &loaded.machine, &loops))
 }

@@ -4,9 +4,8 @@ ghost use Rattle.pp_sim.specs.ListText.{IsListText};
 ghost use Rattle.pp_sim.specs.TextAnswer.{IsAnswer};
 
 use crate::deck_bytes::DeckBytes;
-use crate::streams::write_whole;
-use crate::text_fault::TextFault;
-use pp_listing::listing;
+use crate::text_fault::{TextFault, answer_to};
+use pp_listing::write_listing;
 use std::alloc::Allocator;
 use std::io::Write;
 
@@ -19,8 +18,5 @@ pub(crate) fn write_list<A: Allocator + Copy, W: Write>(
         (W.contents writer.old) (W.contents writer.new) }
 {
     let loaded = deck.load(alloc)?;
-    let Ok(text) = listing(alloc, &loaded) else {
-        return Err(TextFault::Memory);
-    };
-    write_whole(writer, text.as_slice())
+    answer_to(write_listing(writer, &loaded))
 }

@@ -5,14 +5,13 @@ ghost use Rattle.pp_sim.specs.TextOf.{IsTextAfter};
 ghost use Rattle.pp_state.specs.StateText.{state_after};
 
 use crate::deck_bytes::DeckBytes;
-use crate::streams::write_whole;
-use crate::text_fault::TextFault;
-use pp_state::{printed_state, run_counting_held};
+use crate::text_fault::{TextFault, answer_to};
+use pp_state::{run_counting_held, write_state};
 use std::alloc::Allocator;
 use std::io::Write;
 
 /// The deck is loaded twice, once to be compared with.
-pub(crate) fn write_state<A: Allocator + Copy, W: Write>(
+pub(crate) fn write_state_after<A: Allocator + Copy, W: Write>(
     alloc: A,
     deck: &DeckBytes,
     writer: &mut W,
@@ -27,8 +26,5 @@ pub(crate) fn write_state<A: Allocator + Copy, W: Write>(
         return Err(TextFault::Memory);
     };
     let shown = before.in_use();
-    let Ok(text) = printed_state(alloc, &shown, &before.machine, &after.machine, &held) else {
-        return Err(TextFault::Memory);
-    };
-    write_whole(writer, text.as_slice())
+    answer_to(write_state(writer, &shown, &before.machine, &after.machine, &held))
 }

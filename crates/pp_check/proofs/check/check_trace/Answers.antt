@@ -1,6 +1,6 @@
 use Rattle.std.proofs.Common.{◌≤◌, ◌+◌, length, arith, ap, refl, sym, ◌∙◌}
 use Rattle.pp_deck.specs.DeckText.{lines_of}
-use Rattle.pp_check.specs.LawfulTrace.{lines_said}
+use Rattle.pp_check.specs.LawfulTrace.{parsed_lines}
 use Rattle.pp_check.proofs.CheckLemmas.{keeps_text, lawful_text, line_at, lines_behind, none_behind, none_read, read_fault, read_more}
 use Rattle.pp_check.proofs.FaultLemmas.{first_fault}
 use Rattle.pp_check.proofs.check.check_trace.Goals as goal
@@ -41,7 +41,7 @@ returns-in_default-rest-clause-counted c =
     let line = line_at _ _ _ (c.first_line.result.0).now (c.first_line.result.1) c.lines.invariant.left c.first_line.ensures.lines in
     let more = read_more c.args.opened.now all c.lines.passed _ c.read.new.self line.within line.here read.said (c.in_default.ensures.judged c.args.opened.now _ read.keeps) in
     let last : length all ≤ c.lines.passed + 1 = none_behind all c.lines.passed (sym line.behind ∙ ap lines_behind c.in_default-rest.is) in
-    c.verdict.ensures c.args.opened.now (lines_said all) (keeps_text c.args.opened.now all _ c.read.new.self last more)
+    c.verdict.ensures c.args.opened.now (parsed_lines all) (keeps_text c.args.opened.now all _ c.read.new.self last more)
 
 pub lines-preserved : goal.lines-preserved
 lines-preserved c =

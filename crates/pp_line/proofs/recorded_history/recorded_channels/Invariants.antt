@@ -9,6 +9,6 @@ abbrev pub invariant-loop-place : goal.invariant-loop-place
 invariant-loop-place g l = record {
   each : length l.channels ≡ channel_count;
   each_history : length l.histories.items ≡ channel_count;
-  done : (histories : List (List Event)) → IsRecordedBy (l.log ++ flat_map (λ other. other.items) l.others) l.seen histories → (k : ℕ) → k < l.place → get_or l.channels k [] ≡ get_or histories k [];
-  left : (histories : List (List Event)) → IsRecordedBy (l.log ++ flat_map (λ other. other.items) l.others) l.seen histories → (k : ℕ) → l.place ≤ k → get_or l.histories.items k [] ≡ get_or histories k [];
+  done : (histories : List (List Event)) → IsRecordedBy (l.log ++ flat_map (λ other. other.1.items) l.others) l.seen histories → (k : ℕ) → k < l.place → get_or l.channels k [] ≡ get_or histories k [];
+  left : (histories : List (List Event)) → IsRecordedBy (l.log ++ flat_map (λ other. other.1.items) l.others) l.seen histories → (k : ℕ) → l.place ≤ k → get_or l.histories.items k [] ≡ get_or histories k [];
 }

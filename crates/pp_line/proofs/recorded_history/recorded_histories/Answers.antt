@@ -18,12 +18,12 @@ loop-other-preserved g c = record {
   each = ap length c.put_log-in-loop-other.ensures ∙ (count-filled c.as_slice.result.now c.loop-other.told.items ∙ c.loop-other.invariant.each);
   filled =
       let before = c.put_log.new.histories.items in
-      let told = flat_map (λ other. other.items) (take c.loop-other.other-index c.args.others.now) in
+      let told = flat_map (λ other. other.1.items) (take c.loop-other.other-index c.args.others.now) in
       c.put_log-in-loop-other.ensures
       ∙ (ap (fold with_entry c.loop-other.told.items) c.as_slice.ensures.value
-      ∙ (ap (λ hs. fold with_entry hs c.other-item.result.items) c.loop-other.invariant.filled
-      ∙ (sym (fold-append with_entry before told c.other-item.result.items)
-      ∙ ap (fold with_entry before) (sym (flat_map_more (λ other. other.items) c.args.others.now c.loop-other.other-index c.other-item.result c.loop-other-test.true c.other-item.is)))));
+      ∙ (ap (λ hs. fold with_entry hs c.other-item.result.1.items) c.loop-other.invariant.filled
+      ∙ (sym (fold-append with_entry before told c.other-item.result.1.items)
+      ∙ ap (fold with_entry before) (sym (flat_map_more (λ other. other.1.items) c.args.others.now c.loop-other.other-index c.other-item.result c.loop-other-test.true c.other-item.is)))));
 }
 
 pub returns : goal.returns
@@ -31,9 +31,9 @@ returns g c histories told =
     let untold = c.in_ok-told.told.items in
     let log = c.args.log.now in
     let others = c.args.others.now in
-    let rest = flat_map (λ other. other.items) others in
+    let rest = flat_map (λ other. other.1.items) others in
     c.loop-other.invariant.filled
-    ∙ (ap (λ os. fold with_entry c.put_log.new.histories.items (flat_map (λ other. other.items) os)) (take_all c.loop-other.other-index others c.loop-other-test.false)
+    ∙ (ap (λ os. fold with_entry c.put_log.new.histories.items (flat_map (λ other. other.1.items) os)) (take_all c.loop-other.other-index others c.loop-other-test.false)
     ∙ (ap (λ hs. fold with_entry hs rest) c.put_log.ensures
     ∙ (sym (fold-append with_entry untold log rest)
     ∙ histories_filled histories untold c.args.seen.now (log ++ rest) told c.in_ok-told.ensures.each_channel c.in_ok-told.ensures.each_event)))

@@ -34,35 +34,35 @@ loop-left-init g c = record {
 
 pub returns-then-ends-clause-ahead : goal.returns-then-ends-clause-ahead
 returns-then-ends-clause-ahead g c = λ m same.
-    subst (λ made. IsAhead made m c.args.pp.now c.run_inner.new.self) (one_more c.args.most c.loop-left.left c.loop-left-test.true c.loop-left.invariant.within)
-    (local_ahead (c.args.most - c.loop-left.left) m c.args.pp.now c.loop-left.pp c.run_inner.new.self (c.loop-left.invariant.ahead m same) c.if-run_inner.ensures.local c.if-run_inner.ensures.after)
+    subst (λ made. IsAhead made m c.args.pp.now c.step_internal.new.self) (one_more c.args.most c.loop-left.left c.loop-left-test.true c.loop-left.invariant.within)
+    (local_ahead (c.args.most - c.loop-left.left) m c.args.pp.now c.loop-left.pp c.step_internal.new.self (c.loop-left.invariant.ahead m same) c.if-step_internal.ensures.local c.if-step_internal.ensures.after)
 
-pub loop-left-preserved-then-run_inner : goal.loop-left-preserved-then-run_inner
-loop-left-preserved-then-run_inner g c = record {
+pub loop-left-preserved-then-step_internal : goal.loop-left-preserved-then-step_internal
+loop-left-preserved-then-step_internal g c = record {
   ahead = λ m same.
-      subst (λ made. IsAhead made m c.args.pp.now c.run_inner.new.self) (one_more c.args.most c.loop-left.left c.loop-left-test.true c.loop-left.invariant.within)
-      (local_ahead (c.args.most - c.loop-left.left) m c.args.pp.now c.loop-left.pp c.run_inner.new.self (c.loop-left.invariant.ahead m same) c.if-run_inner.ensures.local c.if-run_inner.ensures.after);
+      subst (λ made. IsAhead made m c.args.pp.now c.step_internal.new.self) (one_more c.args.most c.loop-left.left c.loop-left-test.true c.loop-left.invariant.within)
+      (local_ahead (c.args.most - c.loop-left.left) m c.args.pp.now c.loop-left.pp c.step_internal.new.self (c.loop-left.invariant.ahead m same) c.if-step_internal.ensures.local c.if-step_internal.ensures.after);
   within = omega arith;
-  running = c.if-run_inner.ensures.running (sym c.ends.ensures ∙ c.if-ends.false);
-  free = c.if-run_inner.ensures.free;
+  running = c.if-step_internal.ensures.running (sym c.ends.ensures ∙ c.if-ends.false);
+  free = c.if-step_internal.ensures.free;
 }
 
 pub returns-then-not-tests_flags-clause-ahead : goal.returns-then-not-tests_flags-clause-ahead
 returns-then-not-tests_flags-clause-ahead g c = λ m same.
-    subst (λ (pp : Processor). IsAhead (c.args.most - c.loop-left.left) m c.args.pp.now pp) (sym c.if-run_inner.ensures.otherwise) (c.loop-left.invariant.ahead m same)
+    subst (λ (pp : Processor). IsAhead (c.args.most - c.loop-left.left) m c.args.pp.now pp) (sym c.if-step_internal.ensures.otherwise) (c.loop-left.invariant.ahead m same)
 
 pub returns-in_default-clause-ahead : goal.returns-in_default-clause-ahead
 returns-in_default-clause-ahead g c = λ m same.
-    subst (λ (pp : Processor). IsAhead (c.args.most - c.loop-left.left) m c.args.pp.now pp) (sym c.if-run_inner.ensures.otherwise) (c.loop-left.invariant.ahead m same)
+    subst (λ (pp : Processor). IsAhead (c.args.most - c.loop-left.left) m c.args.pp.now pp) (sym c.if-step_internal.ensures.otherwise) (c.loop-left.invariant.ahead m same)
 
 pub loop-left-preserved : goal.loop-left-preserved
 loop-left-preserved g c = record {
   ahead = λ m same.
       let histories = c.args.channels.now.items in
-      let between = c.run_inner.new.self in
+      let between = c.step_internal.new.self in
       let channel = c.in-Some.channel in
       let d = c.instruction_at_p-op.result.1 in
-      let ahead : IsAhead (c.args.most - c.loop-left.left) m c.args.pp.now between = subst (λ (pp : Processor). IsAhead (c.args.most - c.loop-left.left) m c.args.pp.now pp) (sym c.if-run_inner.ensures.otherwise) (c.loop-left.invariant.ahead m same) in
+      let ahead : IsAhead (c.args.most - c.loop-left.left) m c.args.pp.now between = subst (λ (pp : Processor). IsAhead (c.args.most - c.loop-left.left) m c.args.pp.now pp) (sym c.if-step_internal.ensures.otherwise) (c.loop-left.invariant.ahead m same) in
       let number : channel ≡ d = c.in-Some.ensures.value in
       let named : has_channel between.profile d ≡ true = c.in-Some.ensures.exists.0 refl in
       let asks : need between ≡ needs.Channel channel Probe =

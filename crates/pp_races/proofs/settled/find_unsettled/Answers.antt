@@ -3,7 +3,7 @@ use Rattle.std.proofs.lemmas.Bool.{cases_lt}
 use Rattle.pp_machine.specs.PpNo.{processor_count, processor_index, processor_number}
 use Rattle.pp_machine.specs.ProcessorPlaces as processor_places
 use Rattle.pp_races.specs.Findings.{end_of}
-use Rattle.pp_races.specs.Soundness.{TurnsWell}
+use Rattle.pp_races.specs.Soundness.{TurnTestIsExact}
 use Rattle.pp_races.specs.Watch.{each_below}
 use Rattle.pp_races.proofs.EndLemmas.{each_more, each_none}
 use Rattle.pp_races.proofs.settled.find_unsettled.Goals as goal
@@ -24,8 +24,8 @@ loop-place-preserved g c = record {
     | inl below ↦ c.loop-place.invariant.turns k below
     | inr past ↦
         let here : c.loop-place.place ≡ k = omega arith in
-        subst (λ (j : ℕ). TurnsWell c.args.machine.now (processor_number j)) here
-        (subst (λ (q : ℕ). TurnsWell c.args.machine.now q) c.at.ensures.number c.in_ok-find_end.ensures.turns)
+        subst (λ (j : ℕ). TurnTestIsExact c.args.machine.now (processor_number j)) here
+        (subst (λ (q : ℕ). TurnTestIsExact c.args.machine.now q) c.at.ensures.number c.in_ok-find_end.ensures.turns)
   ];
 }
 
@@ -36,5 +36,5 @@ returns-clause-found g c = λ w are.
 
 pub returns-clause-turns : goal.returns-clause-turns
 returns-clause-turns g c = λ q named.
-    subst (λ (k : ℕ). TurnsWell c.args.machine.now k) (processor_places.number_of_place q named)
+    subst (λ (k : ℕ). TurnTestIsExact c.args.machine.now k) (processor_places.number_of_place q named)
     (c.loop-place.invariant.turns (processor_index q) (omega (arith, processor_places.place_below q named)))

@@ -6,18 +6,18 @@ use Rattle.pp_text.specs.TextWriter.{Prints}
 use Rattle.pp_text.specs.PrintedText.{each_below}
 use Rattle.pp_report.specs.PrintedReport.{channel_events}
 use Rattle.pp_report.specs.ReportLaw.{FitsItsLine, told_events}
-use Rattle.pp_text.specs.PrintingLaws.{prints_nothing, prints_on, nothing_said, said_goes_on}
+use Rattle.pp_text.specs.PrintingLaws.{prints_nothing, prints_on, each_below_zero, each_below_suc}
 use Rattle.pp_channel.specs.ChannelPlaces.{number_fits}
 use Rattle.pp_text.proofs.TextLawLemmas.{below_goes_on}
 use Rattle.pp_report.proofs.report_text.print_events.Goals as goal
 
 pub loop-number-init : goal.loop-number-init
-loop-number-init g c workers are = (rw (nothing_said (channel_events workers c.args.channels.now)) (prints_nothing _ _), λ n within. absurd (omega (arith, within)))
+loop-number-init g c workers are = (rw (each_below_zero (channel_events workers c.args.channels.now)) (prints_nothing _ _), λ n within. absurd (omega (arith, within)))
 
 pub loop-number-preserved : goal.loop-number-preserved
 loop-number-preserved g c workers are =
     let so_far = c.loop-number.invariant workers are in (
-      prints_on _ _ _ _ _ _ _ so_far.0 (c.print_channel_events.ensures.text workers are) (said_goes_on c.loop-number.number _),
+      prints_on _ _ _ _ _ _ _ so_far.0 (c.print_channel_events.ensures.text workers are) (each_below_suc c.loop-number.number _),
       below_goes_on (λ (n : ℕ). IsTrue (names_channel n) → All FitsItsLine (told_events n workers (history_on n c.args.channels.now)))
           c.loop-number.number so_far.1 (c.print_channel_events.ensures.fits workers are),
     )

@@ -1,4 +1,4 @@
-use Rattle.std.proofs.Common.{◌+◌, ◌*◌, ◌∙◌, refl, ap, subst, vec_len, rules, arith}
+use Rattle.std.proofs.Common.{◌+◌, ◌*◌, ◌∙◌, ap, subst, vec_len, rules, arith}
 use Rattle.pp_machine.specs.MachineState.{processor_of}
 use Rattle.pp_machine.specs.PpNo.{processor_number}
 use Rattle.pp_runner.proofs.CrewLemmas.{taken_of, taken_unused, some_left, ready_before, ended_alone, ended_beside, promised, promise_kept}
@@ -15,25 +15,24 @@ beside-scope-run_first-others-requires-after_bounds g t c κs within =
 pub beside-scope-returns : goal.beside-scope-returns
 beside-scope-returns g t c =
     let last = c.join-last.result in
-    let others = c.in_ok-others.field-0 in
-    let one : IsEnded (processor_of c.at-number.result c.captures.machine.now) c.captures.site.now.size c.captures.site.now.limits.steps c.in-Some.line last.worker last.line =
-    promised (processor_of c.at-number.result c.captures.machine.now) c.of.result.value c.captures.site.now.size c.captures.site.now.size c.captures.site.now.limits.steps c.steps.result c.in-Some.line c.of-2.result.value last.worker last.line (c.of.ensures ∙ c.pp-load.ensures) refl c.steps.ensures.value c.of-2.ensures
-    (subst (λ (p : EndOf g.row.A.Denot). IsEnded p.load.value p.size p.steps p.line.value last.worker last.line) c.in_ok-child.ensures.ok c.join-last.ensures) in
+    let one : IsEnded (processor_of c.at-number.result c.captures.machine.now) c.captures.site.now.size c.captures.site.now.limits.steps c.in-Some.line last.0 last.1 =
+    promised (processor_of c.at-number.result c.captures.machine.now) c.of.result.value c.captures.site.now.size c.captures.site.now.limits.steps c.steps.result c.in-Some.line c.of-2.result.value last (c.of.ensures ∙ c.pp-load.ensures) c.steps.ensures.value c.of-2.ensures
+    (subst (λ (p : EndOf g.row.A.Denot). IsEnded p.load.value p.size p.steps p.line.value last.0 last.1) c.in_ok-child.ensures.ok c.join-last.ensures) in
     ended_beside c.captures.machine.now c.at-number.result (2 * c.captures.site.now.limits.steps + 1) c.captures.site.now.size c.captures.site.now.limits.steps (vec_len c.pop.new.self) (vec_len c.captures.lines)
-    c.captures.family.value c.in-Some.line last.line c.pop.new.self.items others.lines.items last.worker others.workers.items c.combined.result
+    c.captures.family.value c.in-Some.line c.pop.new.self.items c.in_ok-crew.crew.items c.push.new.self.items last
     (taken_of c.captures.machine.now c.captures.site.now.size (2 * c.captures.site.now.limits.steps + 1) c.captures.family.value c.in-Some.line c.captures.lines.items c.pop.new.self.items c.in-Some.ensures.items c.requires.6)
     (c.at-number.ensures.number ∙ ap processor_number c.len.ensures) c.pop.new.self.ok.0
-    (omega (arith, c.in-Some.ensures.len)) one c.in_ok-others.ensures c.combined.ensures.workers c.combined.ensures.lines
+    (omega (arith, c.in-Some.ensures.len)) one c.in_ok-crew.ensures c.in_ok-push.ensures.items
 
 pub fn::beside::scope+FnOnce::call_once-scope-requires : goal.fn::beside::scope+FnOnce::call_once-scope-requires
 fn::beside::scope+FnOnce::call_once-scope-requires g t c = search rules
 
 pub run_first-returns : goal.run_first-returns
 run_first-returns g t c =
-    ended_alone c.args.machine.now c.at-number.result (2 * c.args.site.now.limits.steps + 1) c.args.site.now.size c.args.site.now.limits.steps (vec_len c.args.lines) c.pp.result.now c.args.family.value c.in-Some.line c.work-first.result.line
-    c.args.lines.items c.pop.new.self.items c.new-2.result.items c.work-first.result.worker c.new.result.items c.combined.result
-    c.requires c.in-Some.ensures.items c.args.lines.ok.0 (omega (arith, c.len.ensures, c.if-len-gt1.false)) (c.at-number.ensures.number ∙ ap processor_number (c.len-2.ensures ∙ c.pop.new.self.ok.0)) c.pp.ensures c.work-first.ensures.ended
-    c.new.ensures.items c.new-2.ensures.items c.combined.ensures.workers c.combined.ensures.lines
+    ended_alone c.args.machine.now c.at-number.result (2 * c.args.site.now.limits.steps + 1) c.args.site.now.size c.args.site.now.limits.steps (vec_len c.args.lines) c.pp.result.now c.args.family.value c.in-Some.line
+    c.args.lines.items c.pop.new.self.items c.new-crew.result.items c.push.new.self.items c.work.result
+    c.requires c.in-Some.ensures.items c.args.lines.ok.0 (omega (arith, c.len.ensures, c.if-len-gt1.false)) (c.at-number.ensures.number ∙ ap processor_number (c.len-2.ensures ∙ c.pop.new.self.ok.0)) c.pp.ensures c.work.ensures.ended
+    c.new-crew.ensures.items c.in_ok-push.ensures.items
 
 pub beside-returns : goal.beside-returns
 beside-returns g t c = c.scoped.ensures.1
@@ -45,8 +44,8 @@ beside-scope-spawn_with-requires-clause-runs g t c = λ κs within.
 
 pub beside-scope-spawn_with-requires-clause-keeps : goal.beside-scope-spawn_with-requires-clause-keeps
 beside-scope-spawn_with-requires-clause-keeps g t c = λ κs within r ended.
-    promise_kept (processor_of c.at-number.result c.captures.machine.now) c.of.result.value c.captures.site.now.size c.captures.site.now.size c.captures.site.now.limits.steps c.steps.result c.in-Some.line c.of-2.result.value r
-    (c.of.ensures ∙ c.pp-load.ensures) refl c.steps.ensures.value c.of-2.ensures (rw c.pp-load.ensures at ended)
+    promise_kept (processor_of c.at-number.result c.captures.machine.now) c.of.result.value c.captures.site.now.size c.captures.site.now.limits.steps c.steps.result c.in-Some.line c.of-2.result.value r
+    (c.of.ensures ∙ c.pp-load.ensures) c.steps.ensures.value c.of-2.ensures (rw c.pp-load.ensures at ended)
 
 pub run_first-beside-requires-clause-several : goal.run_first-beside-requires-clause-several
 run_first-beside-requires-clause-several g t c = omega (arith, c.len.ensures, c.if-len-gt1.true)
@@ -57,7 +56,7 @@ run_first-beside-requires-clause-ready g t c = λ κs within. c.requires
 pub run_first-returns-then-len-gt1 : goal.run_first-returns-then-len-gt1
 run_first-returns-then-len-gt1 g t c = c.beside.ensures
 
-pub run_first-work-first-requires : goal.run_first-work-first-requires
-run_first-work-first-requires g t c =
+pub run_first-work-requires : goal.run_first-work-requires
+run_first-work-requires g t c =
     taken_unused c.args.machine.now c.args.site.now.size c.args.site.now.limits.steps c.args.family.value c.in-Some.line c.pop.new.self.items
     (taken_of c.args.machine.now c.args.site.now.size (2 * c.args.site.now.limits.steps + 1) c.args.family.value c.in-Some.line c.args.lines.items c.pop.new.self.items c.in-Some.ensures.items c.requires)

@@ -53,17 +53,17 @@ loop-place-preserved g c =
           }
     ]
 
-pub returns-clause-log : goal.returns-clause-log
-returns-clause-log g c =
-    let place : c.loop-place.place ≡ channel_count = omega (arith, c.loop-place-test.false, c.loop-place.auto.place-end) in
-    let m = c.args.machine.now in
-    let log = c.loop-place.line.log.entries in
-    all_opened m log c.turns-turns.ensures.sound.opened (subst (λ (k : ℕ). IsOpeningLog (opened_before k m) log) place c.loop-place.invariant.opened)
-
-pub returns-clause-seen : goal.returns-clause-seen
-returns-clause-seen g c =
+pub returns : goal.returns
+returns g c =
     let place : c.loop-place.place ≡ channel_count = omega (arith, c.loop-place-test.false, c.loop-place.auto.place-end) in
     let m = c.args.machine.now in
     let line = c.loop-place.line in
-    opened_seen m line c.loop-place.invariant.within
-    (all_opened m line.log.entries c.turns-turns.ensures.sound.opened (subst (λ (k : ℕ). IsOpeningLog (opened_before k m) line.log.entries) place c.loop-place.invariant.opened))
+    let before = c.loop-place.invariant in
+    let opening = all_opened m line.log.entries c.turns-turns.ensures.sound.opened (subst (λ (k : ℕ). IsOpeningLog (opened_before k m) line.log.entries) place before.opened) in record {
+      opening = opening;
+      seen = opened_seen m line before.within opening;
+      whole = before.whole;
+      shares = before.shares;
+      no_write = before.no_write;
+      central = before.central;
+    }

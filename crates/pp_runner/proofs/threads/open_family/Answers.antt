@@ -1,40 +1,32 @@
-use Rattle.std.proofs.Common.{List, length, ap, sym, ◌∙◌, subst, arith}
+use Rattle.std.proofs.Common.{ℕ, ◌≡◌, ◌+◌, ◌-◌, List, ap, sym, ◌∙◌, subst, arith}
 use Rattle.std.specs.Prelude.{All}
 use Rattle.std.proofs.lemmas.List.Elements.{All-nil}
 use Rattle.pp_line.specs.LineState.{LineState, IsSplitFrom}
-use Rattle.pp_line.specs.Merge.{IsOpeningLog}
-use Rattle.pp_line.specs.declared.entry.Entry.{Entry}
-use Rattle.pp_machine.specs.Headline.{opening_history}
 use Rattle.pp_machine.specs.Profile.{processors_in}
-use Rattle.pp_runner.proofs.CrewLemmas.{split_more, same_seen}
+use Rattle.pp_runner.proofs.CrewLemmas.{split_more, opened_split}
+use Rattle.pp_runner.specs.Crew.{HasOpened}
 use Rattle.pp_runner.proofs.threads.open_family.Goals as goal
 
 pub loop-count-init : goal.loop-count-init
-loop-count-init g c = record {
-  opening = c.in_ok-first.ensures.log;
-  seen = c.in_ok-first.ensures.seen;
-  whole = let many = (c.processors-processors.ensures ∙ ap (λ p. processors_in p) c.profile.ensures) in omega (arith, c.in_ok-first.ensures.whole, many);
-  shares = let many = (c.processors-processors.ensures ∙ ap (λ p. processors_in p) c.profile.ensures) in omega (arith, c.in_ok-first.ensures.shares, many);
-  fresh = subst (λ (ls : List LineState). All (IsSplitFrom c.in_ok-first.first c.args.room) ls) (sym c.in_ok-lines.ensures.items) (All-nil (IsSplitFrom c.in_ok-first.first c.args.room));
-  no_write = c.in_ok-first.ensures.no_write;
-  central = c.in_ok-first.ensures.central;
-  made = omega (arith, c.in_ok-lines.ensures.len);
-}
+loop-count-init g c =
+    let many = c.processors-processors.ensures ∙ ap (λ p. processors_in p) c.profile.ensures in
+    let all = processors_in c.args.machine.now.profile + 1 in
+    let same : c.processors-processors.result + 1 ≡ all = omega (arith, many) in record {
+      opened = subst (λ (some : ℕ). HasOpened c.args.machine.now all some c.in_ok-first.first) (omega arith) (subst (λ (n : ℕ). HasOpened c.args.machine.now n n c.in_ok-first.first) same c.in_ok-first.ensures);
+      fresh = subst (λ (ls : List LineState). All (IsSplitFrom c.in_ok-first.first c.args.room) ls) (sym c.in_ok-lines.ensures.items) (All-nil (IsSplitFrom c.in_ok-first.first c.args.room));
+      made = omega (arith, c.in_ok-lines.ensures.len);
+    }
 
 pub split-requires : goal.split-requires
-split-requires g c = let many = (c.processors-processors.ensures ∙ ap (λ p. processors_in p) c.profile.ensures) in omega (arith, many, c.loop-count.invariant.shares, c.loop-count-test.true)
+split-requires g c = let many = (c.processors-processors.ensures ∙ ap (λ p. processors_in p) c.profile.ensures) in omega (arith, many, c.loop-count.invariant.opened.shares, c.loop-count-test.true)
 
 pub loop-count-preserved : goal.loop-count-preserved
 loop-count-preserved g c =
-    let parent = c.in_ok-split.ensures.parent in record {
-      opening = subst (λ (log : List Entry). IsOpeningLog (λ k. opening_history k c.args.machine.now) log) (sym (ap (λ l. l.log.entries) parent)) c.loop-count.invariant.opening;
-      seen = same_seen (λ k. length (opening_history k c.args.machine.now)) c.loop-count.first c.split.new.self (ap (λ l. l.view.seen) parent) c.loop-count.invariant.seen;
-      whole = ap (λ l. l.view.whole) parent ∙ c.loop-count.invariant.whole;
-      shares = let many = (c.processors-processors.ensures ∙ ap (λ p. processors_in p) c.profile.ensures) in omega (arith, many, ap (λ l. l.view.shares) parent, c.loop-count.invariant.shares, c.loop-count-test.true);
+    let parent = c.in_ok-split.ensures.parent in
+    let all = processors_in c.args.machine.now.profile + 1 in record {
+      opened = subst (λ (some : ℕ). HasOpened c.args.machine.now all some c.split.new.self) (omega arith) (opened_split c.args.machine.now all (all - c.loop-count.count) c.loop-count.first c.split.new.self parent c.loop-count.invariant.opened);
       fresh = subst (λ (ls : List LineState). All (IsSplitFrom c.split.new.self c.args.room) ls) (sym c.in_ok-push.ensures.items)
           (split_more c.args.room c.loop-count.first c.split.new.self c.in_ok-split.field-0 c.loop-count.lines.items parent c.in_ok-split.ensures.line c.loop-count.invariant.fresh);
-      no_write = ap (λ l. l.view.written) parent ∙ c.loop-count.invariant.no_write;
-      central = ap (λ l. l.view.central) parent ∙ c.loop-count.invariant.central;
       made = omega (arith, c.in_ok-push.ensures.len, c.loop-count.invariant.made);
     }
 
@@ -44,20 +36,7 @@ returns-clause-each_processor g c = let many = (c.processors-processors.ensures 
 pub returns-clause-fresh : goal.returns-clause-fresh
 returns-clause-fresh g c = c.loop-count.invariant.fresh
 
-pub returns-clause-opening : goal.returns-clause-opening
-returns-clause-opening g c = c.loop-count.invariant.opening
-
-pub returns-clause-seen : goal.returns-clause-seen
-returns-clause-seen g c = c.loop-count.invariant.seen
-
-pub returns-clause-share : goal.returns-clause-share
-returns-clause-share g c = let many = (c.processors-processors.ensures ∙ ap (λ p. processors_in p) c.profile.ensures) in omega (arith, many, c.loop-count.invariant.shares, c.loop-count-test.false, c.loop-count.auto.count-end)
-
-pub returns-clause-whole : goal.returns-clause-whole
-returns-clause-whole g c = c.loop-count.invariant.whole
-
-pub returns-clause-central : goal.returns-clause-central
-returns-clause-central g c = c.loop-count.invariant.central
-
-pub returns-clause-no_write : goal.returns-clause-no_write
-returns-clause-no_write g c = c.loop-count.invariant.no_write
+pub returns-clause-first : goal.returns-clause-first
+returns-clause-first g c =
+    let many = (c.processors-processors.ensures ∙ ap (λ p. processors_in p) c.profile.ensures) in
+    subst (λ (some : ℕ). HasOpened c.args.machine.now (processors_in c.args.machine.now.profile + 1) some c.loop-count.first) (omega (arith, many, c.loop-count-test.false, c.loop-count.auto.count-end)) c.loop-count.invariant.opened

@@ -1,9 +1,9 @@
-use Rattle.pp_text.specs.PrintingLaws.{nothing_said, said_goes_on, prints_nothing, prints_on}
+use Rattle.pp_text.specs.PrintingLaws.{each_below_zero, each_below_suc, prints_nothing, prints_on}
 use Rattle.pp_sessions.specs.SessionsText.{shown_counts_line}
 use Rattle.pp_sessions.proofs.sessions_text.print_processors.Goals as goal
 
 pub loop-number-init : goal.loop-number-init
-loop-number-init g c = rw (nothing_said (shown_counts_line c.args.shown.now c.args.counts.now)) (prints_nothing _ _)
+loop-number-init g c = rw (each_below_zero (shown_counts_line c.args.shown.now c.args.counts.now)) (prints_nothing _ _)
 
 pub loop-number-preserved : goal.loop-number-preserved
-loop-number-preserved g c = prints_on _ _ _ _ _ _ _ c.loop-number.invariant c.print_shown_processor.ensures (said_goes_on c.loop-number.number _)
+loop-number-preserved g c = prints_on _ _ _ _ _ _ _ c.loop-number.invariant c.print_shown_processor.ensures (each_below_suc c.loop-number.number _)

@@ -2,8 +2,8 @@ use Rattle.std.proofs.Common.{◌≡◌, ℕ, Option, ◌%◌, ◌^◌, ◌++◌
 use Rattle.pp_word.specs.Address.{next_place}
 use Rattle.pp_machine.specs.Processor.{word_at}
 use Rattle.pp_machine.specs.declared.block.Block.{Block}
-use Rattle.pp_listing.specs.InstructionText.{running_text}
-use Rattle.pp_listing.specs.ListedLine.{padded}
+use Rattle.pp_text.specs.InstructionText.{running_text}
+use Rattle.pp_text.specs.PrintedText.{padded}
 use Rattle.pp_text.specs.Numeral.{digits, octal}
 use Rattle.pp_steps.specs.StepLine.{words_text}
 use Rattle.pp_steps.proofs.LineLemmas.{heading_in_pieces}

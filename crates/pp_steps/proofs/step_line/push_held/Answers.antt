@@ -1,6 +1,6 @@
 use Rattle.std.proofs.Common.{◌++◌, ap, ◌∙◌}
 use Rattle.pp_channel.specs.declared.channel_state.ChannelState.{ChannelState}
-use Rattle.pp_state.specs.StateText.{channel_held_text}
+use Rattle.pp_text.specs.Standing.{channel_held_text}
 use Rattle.pp_steps.proofs.step_line.push_held.Goals as goal
 
 pub returns-in-Channel-clause-text : goal.returns-in-Channel-clause-text

@@ -2,7 +2,6 @@ use Rattle.std.proofs.Common.{ℕ, ◌≤◌, refl, sym, ap, ◌∙◌, subst}
 use Rattle.pp_channel.specs.declared.chan_op.ChanOp.{ChanOp}
 use Rattle.pp_line.specs.declared.entry.Entry.{Entry}
 use Rattle.pp_channel.specs.declared.numbered.Numbered.{Numbered}
-use Rattle.pp_channel.specs.declared.reply.Reply.TheVariants.{Held}
 use Rattle.pp_channel.specs.Answer.{reply_shown}
 use Rattle.pp_line.specs.ChannelWord.{number_in, flags_in, greatest_number}
 use Rattle.pp_line.specs.LineLog.{LogState, event_entry, look_entry, appended, looked, IsMonotone, IsWithin}
@@ -12,7 +11,7 @@ use Rattle.pp_line.proofs.ChannelWordLemmas.{next_word, stays_either}
 use Rattle.pp_line.proofs.LineAnswers.{acted_shown, worn_by_load, acted_made, acted_lost, number_later}
 use Rattle.pp_line.proofs.MonotoneLemmas.{rising_answer}
 use Rattle.pp_line.proofs.line.Line.act.Goals as goal
-use Rattle.pp_line.proofs.line.Line.act.Goals.{in-Ok, in-Err}
+use Rattle.pp_line.proofs.line.Line.act.Goals.{in-Look, in-Next+in-Ok, in-Next+in-Err}
 
 -- what a line that acted writes goes on monotone
 rising_acted : (line : LineState) (c : ℕ) (op : ChanOp) (r : Numbered) (after : LineState) → IsWithin line.view.seen line.log.entries → IsActed line c op r after → IsMonotone line.log.entries → IsMonotone after.log.entries
@@ -32,40 +31,41 @@ look-requires-clause-found g c =
     let load = c.load-word.ensures in
     (c.args.self.now.view, subst (λ (log : LogState). IsLogOf c.args.self.now.view log.entries) (sym load.log) load.log_before, load.load)
 
-pub returns-in-Look-clause-ok : goal.returns-in-Look-clause-ok
-returns-in-Look-clause-ok g c =
-    let load = c.load-word.ensures in
-    let look = c.look.ensures in
-    let entry : Entry = look_entry c.args.channel (number_in c.load-word.result) (flags_in c.load-word.result) in
-    let most = subst (λ (n : ℕ). n ≤ greatest_number) c.number_in-loaded.ensures.value c.number_in-loaded.ensures.at_most in
-    subst (λ (n : ℕ). IsActed c.args.self.now c.args.channel c.args.op (record { reply = c.reply_shown.result; loaded = n; number = n }) c.look.new.self) (sym c.number_in-loaded.ensures.value)
-    (acted_shown _ load.load load.log_before c.args.op c.advance.result c.reply_shown.result c.look.new.self (stays_either c.advance.result c.in-Look.is) c.advance.ensures.table (c.reply_shown.ensures ∙ ap (reply_shown c.args.op) c.state_in.ensures) most
-    (record { log_is = look.written ∙ ap (λ (log : LogState). looked log entry) load.log; view_is = look.view; table_is = look.table ∙ load.table; log_of = look.log_after }))
-
 -- an operation that is ready
 pub try_event-requires-clause-next : goal.try_event-requires-clause-next
 try_event-requires-clause-next g c =
-    next_word c.load-word.result c.args.op c.in-Some.event c.in-Next.next c.in-Next.reply (c.in-Next.ensures).table (c.in-Some.ensures).event (c.in-Some.ensures).twelve_bits
+    next_word c.load-word.result c.args.op c.in-Next.event c.in-Next.next c.in-Next.reply (c.in-Next.ensures).table ((c.in-Next.ensures).twelve_bits c.in-Next.next c.in-Next.reply c.in-Next.event refl)
 
-pub returns-after-try_event-clause-ok : goal.returns-after-try_event-clause-ok
-returns-after-try_event-clause-ok g c =
+-- what was answered
+pub returns-clause-ok : goal.returns-clause-ok
+returns-clause-ok g c =
     let load = c.load-word.ensures in
-    let tried = c.try_event.ensures in
-    let e = c.in-Some.event in
-    let after = c.try_event.new.self in
-    let most = subst (λ (n : ℕ). n ≤ greatest_number) c.number_in-loaded.ensures.value c.number_in-loaded.ensures.at_most in
-    elim c.match-try_event.branch [
-      | in-Ok w ↦
-          let entry : Entry = event_entry c.args.channel (number_in c.load-word.result) e in
-          subst (λ (r : Numbered). IsActed c.args.self.now c.args.channel c.args.op r after) (sym (w.result-is ∙ (λ j. record { reply = c.in-Next.reply; loaded = c.number_in-loaded.ensures.value j; number = c.number_in-loaded.ensures.value j })))
-          (acted_made _ load.load load.log_before c.args.op e c.in-Next.next c.in-Next.reply after (c.in-Next.ensures).table (c.in-Some.ensures).event most (w.in-Ok.ensures).won
-          (record { log_is = (w.in-Ok.ensures).event_written ∙ ap (λ (log : LogState). appended log entry) load.log; view_is = refl; table_is = tried.table ∙ load.table; log_of = tried.log_after }))
-      | in-Err w ↦
-          let entry : Entry = look_entry c.args.channel (number_in w.in-Err.found) (flags_in w.in-Err.found) in
-          subst (λ (r : Numbered). IsActed c.args.self.now c.args.channel c.args.op r after) (sym (w.result-is ∙ (λ j. record { reply = Held (w.flags_in.ensures j); loaded = c.number_in-loaded.ensures.value j; number = w.number_in.ensures.value j })))
-          (acted_lost _ load.load load.log_before c.args.op e c.in-Next.next c.in-Next.reply after (c.in-Next.ensures).table (c.in-Some.ensures).event most w.in-Err.found (w.in-Err.ensures).lost
-          (record { log_is = (w.in-Err.ensures).look_written ∙ ap (λ (log : LogState). looked log entry) load.log; view_is = refl; table_is = tried.table ∙ load.table; log_of = tried.log_after }))
+    let loaded = c.number_in-loaded.ensures in
+    let most = subst (λ (n : ℕ). n ≤ greatest_number) loaded.value loaded.at_most in
+    elim c.match-advance.branch [
+      | in-Look w ↦
+          let look = w.look.ensures in
+          let entry : Entry = look_entry c.args.channel (number_in c.load-word.result) (flags_in c.load-word.result) in
+          rw (w.self-is, w.number-is, loaded.value)
+          (acted_shown _ load.load load.log_before c.args.op c.advance.result w.reply_shown.result w.look.new.self (stays_either c.advance.result w.in-Look.is) c.advance.ensures.table (w.reply_shown.ensures ∙ ap (reply_shown c.args.op) w.state_in.ensures) most
+          (record { log_is = look.written ∙ ap (λ (log : LogState). looked log entry) load.log; view_is = look.view; table_is = look.table ∙ load.table; log_of = look.log_after }))
+      | in-Next+in-Ok w ↦
+          let next = w.in-Next in
+          let entry : Entry = event_entry c.args.channel (number_in c.load-word.result) next.event in
+          rw (w.self-is, w.number-is, loaded.value)
+          (acted_made _ load.load load.log_before c.args.op next.event next.next next.reply w.try_event.new.self next.ensures.table most w.in-Ok.ensures.won
+          (record { log_is = w.in-Ok.ensures.event_written ∙ ap (λ (log : LogState). appended log entry) load.log; view_is = refl; table_is = w.try_event.ensures.table ∙ load.table; log_of = w.try_event.ensures.log_after }))
+      | in-Next+in-Err w ↦
+          let next = w.in-Next in
+          let found = w.in-Err.found in
+          let entry : Entry = look_entry c.args.channel (number_in found) (flags_in found) in
+          rw (w.self-is, w.number-is, loaded.value, w.flags_in.ensures, w.number_in.ensures.value)
+          (acted_lost _ load.load load.log_before c.args.op next.event next.next next.reply w.try_event.new.self next.ensures.table most found w.in-Err.ensures.lost
+          (record { log_is = w.in-Err.ensures.look_written ∙ ap (λ (log : LogState). looked log entry) load.log; view_is = refl; table_is = w.try_event.ensures.table ∙ load.table; log_of = w.try_event.ensures.log_after }))
     ]
+
+pub returns-clause-monotone : goal.returns-clause-monotone
+returns-clause-monotone g c monotone = rising_acted _ c.args.channel c.args.op _ _ c.load-word.ensures.log_before.within (returns-clause-ok g c) monotone
 
 pub returns-in-Worn-clause-ok : goal.returns-in-Worn-clause-ok
 returns-in-Worn-clause-ok g c = tt
@@ -84,33 +84,3 @@ returns-in-Worn-clause-table g c = ap (λ (line : LineState). line.table) (retur
 
 pub returns-in-Worn-clause-within : goal.returns-in-Worn-clause-within
 returns-in-Worn-clause-within g c = c.load-word.ensures.log_after.within
-
-pub returns-in-Look-clause-monotone : goal.returns-in-Look-clause-monotone
-returns-in-Look-clause-monotone g c monotone = rising_acted _ c.args.channel c.args.op _ _ c.load-word.ensures.log_before.within (returns-in-Look-clause-ok g c) monotone
-
-pub returns-in-Look-clause-shares : goal.returns-in-Look-clause-shares
-returns-in-Look-clause-shares g c = ap (λ (line : LineState). line.view.shares) (returns-in-Look-clause-ok g c).after_is
-
-pub returns-in-Look-clause-whole : goal.returns-in-Look-clause-whole
-returns-in-Look-clause-whole g c = ap (λ (line : LineState). line.view.whole) (returns-in-Look-clause-ok g c).after_is
-
-pub returns-in-Look-clause-table : goal.returns-in-Look-clause-table
-returns-in-Look-clause-table g c = ap (λ (line : LineState). line.table) (returns-in-Look-clause-ok g c).after_is
-
-pub returns-in-Look-clause-within : goal.returns-in-Look-clause-within
-returns-in-Look-clause-within g c = c.look.ensures.log_after.within
-
-pub returns-after-try_event-clause-monotone : goal.returns-after-try_event-clause-monotone
-returns-after-try_event-clause-monotone g c monotone = rising_acted _ c.args.channel c.args.op _ _ c.load-word.ensures.log_before.within (returns-after-try_event-clause-ok g c) monotone
-
-pub returns-after-try_event-clause-shares : goal.returns-after-try_event-clause-shares
-returns-after-try_event-clause-shares g c = ap (λ (line : LineState). line.view.shares) (returns-after-try_event-clause-ok g c).after_is
-
-pub returns-after-try_event-clause-whole : goal.returns-after-try_event-clause-whole
-returns-after-try_event-clause-whole g c = ap (λ (line : LineState). line.view.whole) (returns-after-try_event-clause-ok g c).after_is
-
-pub returns-after-try_event-clause-table : goal.returns-after-try_event-clause-table
-returns-after-try_event-clause-table g c = ap (λ (line : LineState). line.table) (returns-after-try_event-clause-ok g c).after_is
-
-pub returns-after-try_event-clause-within : goal.returns-after-try_event-clause-within
-returns-after-try_event-clause-within g c = c.try_event.ensures.log_after.within

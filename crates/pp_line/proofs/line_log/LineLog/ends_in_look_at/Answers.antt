@@ -1,6 +1,6 @@
 use Rattle.std.proofs.Common.{arith}
 use Rattle.std.proofs.lemmas.Grind.{common_steps}
-use Rattle.list_facts.specs.LastElements.{last_or_at}
+use Rattle.pp_word.specs.LastElements.{last_or_at}
 use Rattle.pp_line.proofs.line_log.LineLog.ends_in_look_at.Goals as goal
 
 pub get-requires : goal.get-requires

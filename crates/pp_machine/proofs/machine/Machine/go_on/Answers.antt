@@ -13,11 +13,11 @@ use Rattle.pp_machine.specs.declared.answer.Answer.TheVariants as answers
 use Rattle.pp_machine.specs.declared.need.Need.TheVariants.{Local, Channel}
 use Rattle.pp_machine.proofs.MachineStepLemmas.{stepped_alone, outcome_alone}
 use Rattle.pp_machine.proofs.TakenLemmas.{own_processor, taken_by, same_machine}
-use Rattle.pp_machine.proofs.machine.Machine.go_on.Goals.{in-Some+else-run_inner+else-tests_flags, in_default}
+use Rattle.pp_machine.proofs.machine.Machine.go_on.Goals.{in-Some+else-step_internal+else-tests_flags, in_default}
 use Rattle.pp_machine.proofs.machine.Machine.go_on.Goals as goal
 
-pub run_inner-requires : goal.run_inner-requires
-run_inner-requires g c =
+pub step_internal-requires : goal.step_internal-requires
+step_internal-requires g c =
     let within : c.index-i.result < length c.self.inside.processors.items = omega (arith, c.index-i.ensures.below, c.self.invariant.processors) in
     let read = own_processor c.args.n c.self.view_is c.index-i.ensures.place within c.index.ensures in
     let lent = own_processor c.args.n c.self.view_is c.index-i.ensures.place within c.index_mut.ensures.value in
@@ -25,39 +25,39 @@ run_inner-requires g c =
 
 pub invariant_of-self : goal.invariant_of-self
 invariant_of-self g c = record {
-  processors = length-set c.self.inside.processors.items c.index-i.result c.run_inner.new.self ∙ c.self.invariant.processors;
+  processors = length-set c.self.inside.processors.items c.index-i.result c.step_internal.new.self ∙ c.self.invariant.processors;
   channels = c.self.invariant.channels;
   opened = c.self.invariant.opened;
   central = c.self.invariant.central;
   headline = c.self.invariant.headline;
 }
 
-pub returns-then-run_inner-clause-ok : goal.returns-then-run_inner-clause-ok
-returns-then-run_inner-clause-ok g c =
+pub returns-then-step_internal-clause-ok : goal.returns-then-step_internal-clause-ok
+returns-then-step_internal-clause-ok g c =
     let own = own_processor c.args.n c.self.view_is c.index-i.ensures.place (omega (arith, c.index-i.ensures.below, c.self.invariant.processors)) c.index_mut.ensures.value in
-    let local : need (processor_of c.args.n c.args.self.now) ≡ Local = ap need (sym own) ∙ c.if-run_inner.ensures.local in
-    taken_by c.args.n answers.Local c.self.view_is c.index-i.ensures.place own c.if-run_inner.ensures.after c.count_turn.ensures.turn ∙ sym (stepped_alone c.args.n c.args.self.now local)
+    let local : need (processor_of c.args.n c.args.self.now) ≡ Local = ap need (sym own) ∙ c.if-step_internal.ensures.local in
+    taken_by c.args.n answers.Local c.self.view_is c.index-i.ensures.place own c.if-step_internal.ensures.after c.count_turn.ensures.turn ∙ sym (stepped_alone c.args.n c.args.self.now local)
 
-pub returns-then-run_inner-clause-outcome : goal.returns-then-run_inner-clause-outcome
-returns-then-run_inner-clause-outcome g c =
+pub returns-then-step_internal-clause-outcome : goal.returns-then-step_internal-clause-outcome
+returns-then-step_internal-clause-outcome g c =
     let own = own_processor c.args.n c.self.view_is c.index-i.ensures.place (omega (arith, c.index-i.ensures.below, c.self.invariant.processors)) c.index_mut.ensures.value in
-    let local : need (processor_of c.args.n c.args.self.now) ≡ Local = ap need (sym own) ∙ c.if-run_inner.ensures.local in
-    sym (outcome_alone c.args.n c.args.self.now local (ap (λ pp. outcome pp answers.Local) (sym own) ∙ c.if-run_inner.ensures.moved))
+    let local : need (processor_of c.args.n c.args.self.now) ≡ Local = ap need (sym own) ∙ c.if-step_internal.ensures.local in
+    sym (outcome_alone c.args.n c.args.self.now local (ap (λ pp. outcome pp answers.Local) (sym own) ∙ c.if-step_internal.ensures.moved))
 
-pub returns-then-run_inner-clause-no_event : goal.returns-then-run_inner-clause-no_event
-returns-then-run_inner-clause-no_event g c = λ none. refl
+pub returns-then-step_internal-clause-no_event : goal.returns-then-step_internal-clause-no_event
+returns-then-step_internal-clause-no_event g c = λ none. refl
 
 pub tests_flags-requires : goal.tests_flags-requires
 tests_flags-requires g c =
     let within : c.index-i.result < length c.self.inside.processors.items = omega (arith, c.index-i.ensures.below, c.self.invariant.processors) in
     let read = own_processor c.args.n c.self.view_is c.index-i.ensures.place within c.index.ensures in
-    let again = own_processor c.args.n (same_machine c.index-i.result c.self.view_is c.index_mut.ensures.value c.if-run_inner.ensures.otherwise) c.index-i.ensures.place
-    (subst (λ k. c.index-i.result < k) (sym (length-set c.self.inside.processors.items c.index-i.result c.run_inner.new.self)) within) c.index-in-Some.ensures in
+    let again = own_processor c.args.n (same_machine c.index-i.result c.self.view_is c.index_mut.ensures.value c.if-step_internal.ensures.otherwise) c.index-i.ensures.place
+    (subst (λ k. c.index-i.result < k) (sym (length-set c.self.inside.processors.items c.index-i.result c.step_internal.new.self)) within) c.index-in-Some.ensures in
     subst (λ (pp : Processor). IsNext (Some c.in-Some.op) c.next_instruction-next.result.1 pp) (read ∙ sym again) (rw c.in-Some.is at c.next_instruction-next.ensures)
 
 pub invariant_of-self-then-tests_flags : goal.invariant_of-self-then-tests_flags
 invariant_of-self-then-tests_flags g c = record {
-  processors = length-set c.self.inside.processors.items c.index-i.result c.run_inner.new.self ∙ c.self.invariant.processors;
+  processors = length-set c.self.inside.processors.items c.index-i.result c.step_internal.new.self ∙ c.self.invariant.processors;
   channels = c.self.invariant.channels;
   opened = c.self.invariant.opened;
   central = c.self.invariant.central;
@@ -67,47 +67,47 @@ invariant_of-self-then-tests_flags g c = record {
 pub test_flags-requires-clause-next : goal.test_flags-requires-clause-next
 test_flags-requires-clause-next g c =
     let read = own_processor c.args.n c.self.view_is c.index-i.ensures.place (omega (arith, c.index-i.ensures.below, c.self.invariant.processors)) c.index.ensures in
-    subst (λ (m : MachineState). IsNext (Some c.in-Some.op) c.next_instruction-next.result.1 (processor_of c.args.n m)) (sym (same_machine c.index-i.result c.self.view_is c.index_mut.ensures.value c.if-run_inner.ensures.otherwise))
+    subst (λ (m : MachineState). IsNext (Some c.in-Some.op) c.next_instruction-next.result.1 (processor_of c.args.n m)) (sym (same_machine c.index-i.result c.self.view_is c.index_mut.ensures.value c.if-step_internal.ensures.otherwise))
     (subst (λ (pp : Processor). IsNext (Some c.in-Some.op) c.next_instruction-next.result.1 pp) read (rw c.in-Some.is at c.next_instruction-next.ensures))
 
 pub test_flags-requires-clause-probes : goal.test_flags-requires-clause-probes
 test_flags-requires-clause-probes g c =
     let within : c.index-i.result < length c.self.inside.processors.items = omega (arith, c.index-i.ensures.below, c.self.invariant.processors) in
-    let same = same_machine c.index-i.result c.self.view_is c.index_mut.ensures.value c.if-run_inner.ensures.otherwise in
+    let same = same_machine c.index-i.result c.self.view_is c.index_mut.ensures.value c.if-step_internal.ensures.otherwise in
     let again = own_processor c.args.n same c.index-i.ensures.place
-    (subst (λ k. c.index-i.result < k) (sym (length-set c.self.inside.processors.items c.index-i.result c.run_inner.new.self)) within) c.index-in-Some.ensures in
+    (subst (λ k. c.index-i.result < k) (sym (length-set c.self.inside.processors.items c.index-i.result c.step_internal.new.self)) within) c.index-in-Some.ensures in
     let once_more = own_processor c.args.n same c.index-i.ensures.place
-    (subst (λ k. c.index-i.result < k) (sym (length-set c.self.inside.processors.items c.index-i.result c.run_inner.new.self)) within) c.index-then-tests_flags.ensures in
+    (subst (λ k. c.index-i.result < k) (sym (length-set c.self.inside.processors.items c.index-i.result c.step_internal.new.self)) within) c.index-then-tests_flags.ensures in
     ap (λ (m : MachineState). need (processor_of c.args.n m)) same ∙ (ap need (sym again) ∙ c.if-tests_flags.ensures ∙ ap (λ p. if has_channel p c.next_instruction-next.result.1 then Channel c.next_instruction-next.result.1 Probe else Local) (ap (λ (pp : Processor). pp.profile) (again ∙ sym once_more) ∙ sym c.profile-profile.ensures))
 
 pub returns-then-tests_flags-clause-ok : goal.returns-then-tests_flags-clause-ok
-returns-then-tests_flags-clause-ok g c = c.test_flags.ensures.stepped ∙ ap (stepped c.args.n) (same_machine c.index-i.result c.self.view_is c.index_mut.ensures.value c.if-run_inner.ensures.otherwise)
+returns-then-tests_flags-clause-ok g c = c.test_flags.ensures.stepped ∙ ap (stepped c.args.n) (same_machine c.index-i.result c.self.view_is c.index_mut.ensures.value c.if-step_internal.ensures.otherwise)
 
 pub returns-then-tests_flags-clause-outcome : goal.returns-then-tests_flags-clause-outcome
-returns-then-tests_flags-clause-outcome g c = sym c.test_flags.ensures.outcome ∙ ap (step_outcome c.args.n) (same_machine c.index-i.result c.self.view_is c.index_mut.ensures.value c.if-run_inner.ensures.otherwise)
+returns-then-tests_flags-clause-outcome g c = sym c.test_flags.ensures.outcome ∙ ap (step_outcome c.args.n) (same_machine c.index-i.result c.self.view_is c.index_mut.ensures.value c.if-step_internal.ensures.otherwise)
 
 pub invariant_of-self-else-tests_flags : goal.invariant_of-self-else-tests_flags
 invariant_of-self-else-tests_flags g c = record {
-  processors = length-set c.self.inside.processors.items c.index-i.result c.run_inner.new.self ∙ c.self.invariant.processors;
+  processors = length-set c.self.inside.processors.items c.index-i.result c.step_internal.new.self ∙ c.self.invariant.processors;
   channels = c.self.invariant.channels;
   opened = c.self.invariant.opened;
   central = c.self.invariant.central;
   headline = c.self.invariant.headline;
 }
 
-pub step_with_answer-requires-clause-place : goal.step_with_answer-requires-clause-place
-step_with_answer-requires-clause-place g c =
+pub step_external-requires-clause-place : goal.step_external-requires-clause-place
+step_external-requires-clause-place g c =
     let same : c.match-next.self ≡ c.args.self.now = elim c.match-next.branch [
-      | in-Some+else-run_inner+else-tests_flags w ↦ w.self-is ∙ same_machine c.index-i.result c.self.view_is w.index_mut.ensures.value w.if-run_inner.ensures.otherwise
+      | in-Some+else-step_internal+else-tests_flags w ↦ w.self-is ∙ same_machine c.index-i.result c.self.view_is w.index_mut.ensures.value w.if-step_internal.ensures.otherwise
       | in_default w ↦ w.self-is
     ] in
     subst (λ (m : MachineState). processor_index c.args.n < processors_in m.profile) (sym same) c.requires.place
 
-pub step_with_answer-requires-clause-next : goal.step_with_answer-requires-clause-next
-step_with_answer-requires-clause-next g c =
+pub step_external-requires-clause-next : goal.step_external-requires-clause-next
+step_external-requires-clause-next g c =
     let read = own_processor c.args.n c.self.view_is c.index-i.ensures.place (omega (arith, c.index-i.ensures.below, c.self.invariant.processors)) c.index.ensures in
     let same : c.match-next.self ≡ c.args.self.now = elim c.match-next.branch [
-      | in-Some+else-run_inner+else-tests_flags w ↦ w.self-is ∙ same_machine c.index-i.result c.self.view_is w.index_mut.ensures.value w.if-run_inner.ensures.otherwise
+      | in-Some+else-step_internal+else-tests_flags w ↦ w.self-is ∙ same_machine c.index-i.result c.self.view_is w.index_mut.ensures.value w.if-step_internal.ensures.otherwise
       | in_default w ↦ w.self-is
     ] in
     subst (λ (pp : Processor). IsNext c.next_instruction-next.result.0 c.next_instruction-next.result.1 pp) (read ∙ ap (processor_of c.args.n) (sym same)) c.next_instruction-next.ensures
@@ -115,15 +115,15 @@ step_with_answer-requires-clause-next g c =
 pub returns-clause-ok : goal.returns-clause-ok
 returns-clause-ok g c =
     let same : c.match-next.self ≡ c.args.self.now = elim c.match-next.branch [
-      | in-Some+else-run_inner+else-tests_flags w ↦ w.self-is ∙ same_machine c.index-i.result c.self.view_is w.index_mut.ensures.value w.if-run_inner.ensures.otherwise
+      | in-Some+else-step_internal+else-tests_flags w ↦ w.self-is ∙ same_machine c.index-i.result c.self.view_is w.index_mut.ensures.value w.if-step_internal.ensures.otherwise
       | in_default w ↦ w.self-is
     ] in
-    subst (λ (m : MachineState). OnOk c.step_with_answer.result (c.step_with_answer.new.self ≡ stepped c.args.n m)) same c.step_with_answer.ensures.ok
+    subst (λ (m : MachineState). OnOk c.step_external.result (c.step_external.new.self ≡ stepped c.args.n m)) same c.step_external.ensures.ok
 
 pub returns-clause-outcome : goal.returns-clause-outcome
 returns-clause-outcome g c =
     let same : c.match-next.self ≡ c.args.self.now = elim c.match-next.branch [
-      | in-Some+else-run_inner+else-tests_flags w ↦ w.self-is ∙ same_machine c.index-i.result c.self.view_is w.index_mut.ensures.value w.if-run_inner.ensures.otherwise
+      | in-Some+else-step_internal+else-tests_flags w ↦ w.self-is ∙ same_machine c.index-i.result c.self.view_is w.index_mut.ensures.value w.if-step_internal.ensures.otherwise
       | in_default w ↦ w.self-is
     ] in
-    subst (λ (m : MachineState). IfOk c.step_with_answer.result (λ o. o ≡ step_outcome c.args.n m)) same c.step_with_answer.ensures.outcome
+    subst (λ (m : MachineState). IfOk c.step_external.result (λ o. o ≡ step_outcome c.args.n m)) same c.step_external.ensures.outcome

@@ -23,7 +23,7 @@ invariant_of-self-in-Ok g c =
     let history = get_or inside.channels.items i [] in
     let made : event_of c.args.op history ≡ Some c.in-Some.event = grind (arith, common_steps) in
     let entry : Trace = record { turn = inside.turns; pp = c.args.n; channel = c.args.channel; event = c.in-Some.event } in
-    let grown : c.make_on.new.channels.items ≡ slice_set inside.channels.items i (history ++ c.in-Some.event ∷ []) = c.in-Ok.ensures.ok ∙ ap (λ o. slice_set inside.channels.items i (history ++ option_to_list o)) made in
+    let grown : c.apply_event.new.channels.items ≡ slice_set inside.channels.items i (history ++ c.in-Some.event ∷ []) = c.in-Ok.ensures.ok ∙ ap (λ o. slice_set inside.channels.items i (history ++ option_to_list o)) made in
     let traced = c.in_ok-push-in-Some.ensures.items in
     let within : i < length inside.channels.items = omega arith in
     let named : IsTrue (names_channel c.args.channel) = search rules in
@@ -32,19 +32,19 @@ invariant_of-self-in-Ok g c =
       opened = c.self.invariant.opened;
       channels = grind (arith, common_steps, c.self.invariant.channels);
       central = c.self.invariant.central;
-      headline = rw traced (headline_after_event (λ d. opening_history d (record c.args.self.now { opened = inside.opened })) inside.channels.items c.make_on.new.channels.items inside.trace.items entry grown within named (λ d names same. c.index-i.ensures.own d names (same ∙ sym c.index-i.ensures.place)) c.self.invariant.headline c.make_on.ensures.lawful c.make_on.ensures.law);
+      headline = rw traced (headline_after_event (λ d. opening_history d (record c.args.self.now { opened = inside.opened })) inside.channels.items c.apply_event.new.channels.items inside.trace.items entry grown within named (λ d names same. c.index-i.ensures.own d names (same ∙ sym c.index-i.ensures.place)) c.self.invariant.headline c.apply_event.ensures.lawful c.apply_event.ensures.law);
     }
 
-pub make_on-requires-clause-channels : goal.make_on-requires-clause-channels
-make_on-requires-clause-channels g c = omega (arith, c.self.inside.channels.ok.0, c.self.invariant.channels)
+pub apply_event-requires-clause-channels : goal.apply_event-requires-clause-channels
+apply_event-requires-clause-channels g c = omega (arith, c.self.inside.channels.ok.0, c.self.invariant.channels)
 
-pub make_on-requires-clause-event : goal.make_on-requires-clause-event
-make_on-requires-clause-event g c =
+pub apply_event-requires-clause-event : goal.apply_event-requires-clause-event
+apply_event-requires-clause-event g c =
     let made : event_of c.args.op (history_of c.args.channel c.args.self.now) ≡ Some c.in-Some.event = ap (event_of c.args.op) (sym (own_history c.args.channel c.self.view_is c.index-i.ensures.place (omega (arith, c.index-i.ensures.below, c.self.invariant.channels)) c.index.ensures)) ∙ (sym c.next_event-made.ensures.event ∙ c.in-Some.is) in
     ap (λ (m : MachineState). event_of c.args.op (history_of c.args.channel m)) c.self.view_is ∙ made
 
-pub make_on-requires-clause-twelve_bits : goal.make_on-requires-clause-twelve_bits
-make_on-requires-clause-twelve_bits g c = rw c.in-Some.is at c.next_event-made.ensures.twelve_bits
+pub apply_event-requires-clause-twelve_bits : goal.apply_event-requires-clause-twelve_bits
+apply_event-requires-clause-twelve_bits g c = rw c.in-Some.is at c.next_event-made.ensures.twelve_bits
 
 pub returns-in_err-push-in-Some-clause-no_event : goal.returns-in_err-push-in-Some-clause-no_event
 returns-in_err-push-in-Some-clause-no_event g c = λ none.

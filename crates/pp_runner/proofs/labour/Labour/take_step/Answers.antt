@@ -5,7 +5,7 @@ use Rattle.pp_machine.specs.NeedAndEffect.{need}
 use Rattle.pp_machine.specs.Processor.{Processor}
 use Rattle.pp_machine.specs.declared.answer.Answer.{Answer}
 use Rattle.pp_runner.proofs.EndLemmas.{end_memory, end_patience, end_worn}
-use Rattle.pp_runner.proofs.LineLemmas.{same_line_still, same_line_twice, operated_none, operated_again, operated_tries, operated_held}
+use Rattle.pp_runner.proofs.LineLemmas.{same_line_still, same_line_twice, operated_none, operated_again, operated_more, operated_tries, operated_held}
 use Rattle.pp_runner.specs.Labour.{IsAtWork, HasOperated, operations}
 use Rattle.pp_runner.specs.End.{WasHeld}
 use Rattle.pp_runner.proofs.labour.Labour.take_step.Goals as goal
@@ -62,11 +62,8 @@ returns-in-Moved-clause-same_line g c =
 
 pub returns-in-Moved-clause-operated : goal.returns-in-Moved-clause-operated
 returns-in-Moved-clause-operated g c =
-    let each : ℕ = operations (need c.args.self.now.pp) in
-    let again : HasOperated each c.loop-held.self.line c.try_step.new.self.line =
-    subst (λ (pp : Processor). HasOperated (operations (need pp)) c.loop-held.self.line c.try_step.new.self.line) c.loop-held.invariant.same_pp c.try_step.ensures.operated in
-    operated_tries c.args.self.now.tries c.try_step.new.self.tries (c.loop-held.held + 1) each c.args.self.now.line c.try_step.new.self.line
-    (omega (arith, c.try_step.ensures.tries, c.loop-held.invariant.tries)) (operated_again c.loop-held.held each c.args.self.now.line c.loop-held.self.line c.try_step.new.self.line c.loop-held.invariant.operated again)
+    operated_more c.args.self.now.tries c.try_step.new.self.tries c.loop-held.held _ _ c.args.self.now.line c.loop-held.self.line c.try_step.new.self.line
+    (omega (arith, c.try_step.ensures.tries, c.loop-held.invariant.tries)) (ap (λ p. operations (need p)) c.loop-held.invariant.same_pp) c.loop-held.invariant.operated c.try_step.ensures.operated
 
 pub returns-in-Moved-clause-moved : goal.returns-in-Moved-clause-moved
 returns-in-Moved-clause-moved g c =
@@ -81,11 +78,8 @@ returns-in-Worn-clause-same_line g c =
 
 pub returns-in-Worn-clause-operated : goal.returns-in-Worn-clause-operated
 returns-in-Worn-clause-operated g c =
-    let each : ℕ = operations (need c.args.self.now.pp) in
-    let again : HasOperated each c.loop-held.self.line c.try_step.new.self.line =
-    subst (λ (pp : Processor). HasOperated (operations (need pp)) c.loop-held.self.line c.try_step.new.self.line) c.loop-held.invariant.same_pp c.try_step.ensures.operated in
-    operated_tries c.args.self.now.tries c.try_step.new.self.tries (c.loop-held.held + 1) each c.args.self.now.line c.try_step.new.self.line
-    (omega (arith, c.try_step.ensures.tries, c.loop-held.invariant.tries)) (operated_again c.loop-held.held each c.args.self.now.line c.loop-held.self.line c.try_step.new.self.line c.loop-held.invariant.operated again)
+    operated_more c.args.self.now.tries c.try_step.new.self.tries c.loop-held.held _ _ c.args.self.now.line c.loop-held.self.line c.try_step.new.self.line
+    (omega (arith, c.try_step.ensures.tries, c.loop-held.invariant.tries)) (ap (λ p. operations (need p)) c.loop-held.invariant.same_pp) c.loop-held.invariant.operated c.try_step.ensures.operated
 
 pub returns-in-Worn-clause-few : goal.returns-in-Worn-clause-few
 returns-in-Worn-clause-few g c =

@@ -5,46 +5,27 @@ use Rattle.pp_machine.specs.Run.{barrel, run}
 use Rattle.pp_deck.specs.InUse.{in_use}
 use Rattle.pp_draw.specs.DrawingText.{drawing}
 use Rattle.pp_draw.specs.declared.seen_step.SeenStep.{SeenStep}
+use Rattle.pp_sim.proofs.AnswerLemmas.{answers_written}
 use Rattle.pp_sim.proofs.texts.draw_text.write_drawn.Goals as goal
-
-pub returns-in-Ok-write_drawing : goal.returns-in-Ok-write_drawing
-returns-in-Ok-write_drawing g c =
-    let before = c.in_ok-loaded.loaded.machine in
-    let shown = in_use (record { machine = before; named = c.in_ok-loaded.loaded.named }) in
-    let after = c.run_seeing_steps.new.machine in
-    let ran_to : MachineState → MachineState = λ m. run (barrel m.profile c.args.window.to) m in (
-      _,
-      record {
-        deck = _;
-        meant = c.in_ok-loaded.ensures.ok;
-        told = record {
-          told = ap (λ (flags : List Bool). drawing c.args.window flags after c.as_slice.result.now) c.in_use-shown.ensures
-              ∙ ap (λ (steps : List SeenStep). drawing c.args.window shown after steps) c.as_slice.ensures.value
-              ∙ ap (λ (m : MachineState). drawing c.args.window shown m c.in-Ok.steps.items) c.in-Ok.ensures.ran
-              ∙ ap (λ (steps : List SeenStep). drawing c.args.window shown (ran_to before) steps) c.in-Ok.ensures.seen;
-          headline = subst HoldsOnEachChannel c.in-Ok.ensures.ran c.run_seeing_steps.ensures.headline;
-        };
-      },
-      c.in-Ok-write_drawing.ensures,
-    )
+use Rattle.pp_sim.specs.TextAnswer.{NothingPrevents}
+use Rattle.pp_sim.specs.TextOf.{IsDrawing}
 
 pub returns : goal.returns
 returns g c =
     let before = c.in_ok-loaded.loaded.machine in
     let shown = in_use (record { machine = before; named = c.in_ok-loaded.loaded.named }) in
     let after = c.run_seeing_steps.new.machine in
-    let ran_to : MachineState → MachineState = λ m. run (barrel m.profile c.args.window.to) m in (
-      _,
-      record {
-        deck = _;
-        meant = c.in_ok-loaded.ensures.ok;
-        told = record {
-          told = ap (λ (flags : List Bool). drawing c.args.window flags after c.as_slice.result.now) c.in_use-shown.ensures
-              ∙ ap (λ (steps : List SeenStep). drawing c.args.window shown after steps) c.as_slice.ensures.value
-              ∙ ap (λ (m : MachineState). drawing c.args.window shown m c.in-Ok.steps.items) c.in-Ok.ensures.ran
-              ∙ ap (λ (steps : List SeenStep). drawing c.args.window shown (ran_to before) steps) c.in-Ok.ensures.seen;
-          headline = subst HoldsOnEachChannel c.in-Ok.ensures.ran c.run_seeing_steps.ensures.headline;
-        };
-      },
-      c.in-Err.ensures,
-    )
+    let ran_to : MachineState → MachineState = λ m. run (barrel m.profile c.args.window.to) m in
+    rw c.answer_to.ensures (answers_written c.args.deck.now.profile NothingPrevents (IsDrawing c.args.window) c.args.deck.now.bytes.now _ c.write_drawing.result _ _
+    (record {
+      deck = _;
+      meant = c.in_ok-loaded.ensures.ok;
+      told = record {
+        told = ap (λ (flags : List Bool). drawing c.args.window flags after c.as_slice.result.now) c.in_use-shown.ensures
+            ∙ ap (λ (steps : List SeenStep). drawing c.args.window shown after steps) c.as_slice.ensures.value
+            ∙ ap (λ (m : MachineState). drawing c.args.window shown m c.in-Ok.steps.items) c.in-Ok.ensures.ran
+            ∙ ap (λ (steps : List SeenStep). drawing c.args.window shown (ran_to before) steps) c.in-Ok.ensures.seen;
+        headline = subst HoldsOnEachChannel c.in-Ok.ensures.ran c.run_seeing_steps.ensures.headline;
+      };
+    })
+    c.write_drawing.ensures)

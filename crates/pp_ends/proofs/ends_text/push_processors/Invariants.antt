@@ -1,7 +1,0 @@
-use Rattle.std.proofs.Common.{◌≡◌, ◌++◌}
-use Rattle.pp_text.specs.PrintedText.{each_below}
-use Rattle.pp_ends.specs.EndsText.{looping_line}
-use Rattle.pp_ends.proofs.ends_text.push_processors.Given as goal
-
-abbrev pub invariant-loop-number : goal.invariant-loop-number
-invariant-loop-number g l = l.text.items ≡ l.fn.text.items ++ each_below l.number (looping_line l.shown l.machine l.loops)

@@ -1,0 +1,61 @@
+use Rattle.std.proofs.Common.{[], ◌∙◌, sym, refl, arith, subst}
+use Rattle.pp_text.specs.PrintingLaws.{prints_nothing, prints_then}
+use Rattle.pp_text.specs.TextWriter.{Prints}
+use Rattle.pp_listing.proofs.TextLemmas.{before_first, zero_step, one_step, two_step, all_passed}
+use Rattle.pp_listing.proofs.instruction_lines.print_instructions.Goals as goal
+use Rattle.pp_listing.proofs.instruction_lines.print_instructions.Goals.{else-is_long-via-then-is_long+else-place-lt-PLACES, else-is_long-via-else-is_long}
+
+pub loop-place-init : goal.loop-place-init
+loop-place-init g c = record {
+  within = omega arith;
+  long = λ h. absurd (omega (arith, h));
+  printed = ([], prints_nothing _ _, before_first c.args.pp.now.memory);
+}
+
+pub loop-place-preserved-then-place-lt-PLACES : goal.loop-place-preserved-then-place-lt-PLACES
+loop-place-preserved-then-place-lt-PLACES g c =
+    let long = c.get-word.ensures.widths.memory.each_place in
+    let (printed, prints, so_far) = c.loop-place.invariant.printed in
+    record {
+      within = omega (arith, c.if-place-lt-PLACES.true);
+      long = λ h. long;
+      printed = (
+        _,
+        prints_then _ _ _ _ printed _ prints c.print_two_words.ensures,
+        two_step _ printed _ _ _ _ _ _ _ _ long c.if-place-lt-PLACES.true c.truncated-at.ensures c.next.ensures c.get-word.ensures.value c.get-m.ensures.value c.get.ensures.value c.if-get-ne0.true
+            (sym c.is_long.ensures ∙ c.if-is_long.true) refl so_far,
+      );
+    }
+
+pub loop-place-preserved-else-is_long : goal.loop-place-preserved-else-is_long
+loop-place-preserved-else-is_long g c =
+    let long = c.get-word.ensures.widths.memory.each_place in
+    let (printed, prints, so_far) = c.loop-place.invariant.printed in
+    record {
+      within = omega (arith, c.loop-place-test.true);
+      long = λ h. long;
+      printed = (
+        _,
+        prints_then _ _ _ _ printed _ prints c.print_one_word.ensures,
+        one_step _ printed _ _ _ _ _ _ _ _ long c.loop-place-test.true c.truncated-at.ensures c.next.ensures c.get-word.ensures.value c.get-m.ensures.value c.get.ensures.value c.if-get-ne0.true
+            (λ more. elim c.else-is_long.branch [
+              | else-is_long-via-then-is_long+else-place-lt-PLACES w ↦ absurd (omega (arith, more, w.if-place-lt-PLACES.false))
+              | else-is_long-via-else-is_long w ↦ sym c.is_long.ensures ∙ w.if-is_long.false
+            ]) refl so_far,
+      );
+    }
+
+pub loop-place-preserved : goal.loop-place-preserved
+loop-place-preserved g c =
+    let long = c.get-word.ensures.widths.memory.each_place in
+    let (printed, prints, so_far) = c.loop-place.invariant.printed in
+    record {
+      within = omega (arith, c.loop-place-test.true);
+      long = λ h. long;
+      printed = (printed, prints, zero_step _ printed _ _ _ _ _ long c.loop-place-test.true c.truncated-at.ensures c.get-word.ensures.value c.get.ensures.value c.if-get-ne0.false so_far);
+    }
+
+pub returns : goal.returns
+returns g c =
+    let (printed, prints, so_far) = c.loop-place.invariant.printed in
+    subst (Prints _ _ _) (all_passed _ printed c.args.pp.now.memory c.loop-place.place (omega (arith, c.loop-place.invariant.long, c.loop-place.invariant.within, c.loop-place-test.false)) so_far) prints

@@ -1,0 +1,16 @@
+use Rattle.std.proofs.Common.{length, arith}
+use Rattle.pp_text.specs.PrintingLaws.{prints_all, prints_more, prints_nothing}
+use Rattle.pp_listing.specs.ListedLine.{text_line}
+use Rattle.pp_listing.specs.Listing.{central_word_line}
+use Rattle.pp_listing.proofs.listed_deck.print_central.Goals as goal
+
+pub loop-address-init : goal.loop-address-init
+loop-address-init g c = prints_nothing _ _
+
+pub loop-address-preserved : goal.loop-address-preserved
+loop-address-preserved g c =
+    prints_more _ _ _ _ text_line (central_word_line c.args.central.now) c.loop-address.address c.loop-address.invariant c.print_central_word.ensures
+
+pub returns : goal.returns
+returns g c =
+    prints_all _ _ _ text_line (central_word_line c.args.central.now) c.loop-address.address (length c.args.central.now) (omega (arith, c.loop-address.auto.address-end, c.loop-address-test.false, c.size-address-end.ensures)) c.loop-address.invariant

@@ -1,0 +1,150 @@
+use Rattle.std.proofs.Common.{◌≡◌, length, arith, refl, sym, ap, ◌∙◌, subst, slice_set, slice_get}
+use Rattle.std.specs.Prelude.{IsTrue, nat_lt}
+use Rattle.std.proofs.lemmas.List.{length-set}
+use Rattle.pp_machine.specs.NextStep.{IsNext}
+use Rattle.pp_machine.specs.MachineState.{MachineState, processor_of}
+use Rattle.pp_machine.specs.MachineStep.{answer_to, served, taken}
+use Rattle.pp_machine.specs.NeedAndEffect.{need, outcome}
+use Rattle.pp_machine.specs.Processor.{Processor}
+use Rattle.pp_machine.specs.Replay.{fits}
+use Rattle.pp_machine.specs.declared.answer.Answer.{Answer}
+use Rattle.pp_machine.specs.declared.answer.Answer.TheVariants as answers
+use Rattle.pp_machine.specs.declared.need.Need.{Need}
+use Rattle.pp_machine.specs.declared.need.Need.TheVariants.{Channel, Read, Write}
+use Rattle.pp_machine.proofs.TakenLemmas.{own_processor, taken_by, stepped_for, outcome_for}
+use Rattle.pp_machine.proofs.machine.Machine.step_external.Goals as goal
+
+pub wants_next-requires : goal.wants_next-requires
+wants_next-requires g c =
+    subst (λ (pp : Processor). IsNext c.args.next.now c.args.d pp) (sym (own_processor c.args.n c.self.view_is c.index-i.ensures.place (omega (arith, c.index-i.ensures.below, c.self.invariant.processors)) c.index.ensures)) c.requires.next
+
+pub give_local-outcome-requires-clause-next : goal.give_local-outcome-requires-clause-next
+give_local-outcome-requires-clause-next g c = subst (λ (pp : Processor). IsNext c.args.next.now c.args.d pp) (sym (own_processor c.args.n c.self.view_is c.index-i.ensures.place (omega (arith, c.index-i.ensures.below, c.self.invariant.processors)) c.index_mut.ensures.value)) c.requires.next
+
+pub invariant_of-self : goal.invariant_of-self
+invariant_of-self g c = record {
+  processors = length-set c.self.inside.processors.items c.index-i.result c.give_local-outcome.new.self ∙ c.self.invariant.processors;
+  channels = c.self.invariant.channels;
+  opened = c.self.invariant.opened;
+  central = c.self.invariant.central;
+  headline = c.self.invariant.headline;
+}
+
+pub give_reply-outcome-requires-clause-next : goal.give_reply-outcome-requires-clause-next
+give_reply-outcome-requires-clause-next g c = subst (λ (pp : Processor). IsNext c.args.next.now c.args.d pp) (sym (own_processor c.args.n (c.self-in-Channel.view_is ∙ c.in_ok-reply-in-Channel.ensures.ok) c.index-i.ensures.place (omega (arith, c.index-i.ensures.below, c.self-in-Channel.invariant.processors)) c.index_mut-in-Channel.ensures.value)) c.requires.next
+
+pub invariant_of-self-in-Channel : goal.invariant_of-self-in-Channel
+invariant_of-self-in-Channel g c = record {
+  processors = length-set c.self-in-Channel.inside.processors.items c.index-i.result c.give_reply-outcome.new.self ∙ c.self-in-Channel.invariant.processors;
+  channels = c.self-in-Channel.invariant.channels;
+  opened = c.self-in-Channel.invariant.opened;
+  central = c.self-in-Channel.invariant.central;
+  headline = c.self-in-Channel.invariant.headline;
+}
+
+pub give_central-requires-clause-next : goal.give_central-requires-clause-next
+give_central-requires-clause-next g c = subst (λ (pp : Processor). IsNext c.args.next.now c.args.d pp) (sym (own_processor c.args.n c.self.view_is c.index-i.ensures.place (omega (arith, c.index-i.ensures.below, c.self.invariant.processors)) c.index_mut-in-Read.ensures.value)) c.requires.next
+
+pub give_central-requires-clause-fits : goal.give_central-requires-clause-fits
+give_central-requires-clause-fits g c =
+    let needs : need (processor_of c.args.n c.args.self.now) ≡ Read c.in-Read.address = ap need (sym (own_processor c.args.n c.self.view_is c.index-i.ensures.place (omega (arith, c.index-i.ensures.below, c.self.invariant.processors)) c.index.ensures)) ∙ (sym c.wants_next.ensures ∙ c.in-Read.is) in
+    let own = own_processor c.args.n c.self.view_is c.index-i.ensures.place (omega (arith, c.index-i.ensures.below, c.self.invariant.processors)) c.index_mut-in-Read.ensures.value in
+    subst (λ (x : Need). IsTrue (fits x (answers.Read c.read-word.result))) (sym (ap need own ∙ needs)) refl
+
+pub invariant_of-self-in-Read : goal.invariant_of-self-in-Read
+invariant_of-self-in-Read g c = record {
+  processors = length-set c.self.inside.processors.items c.index-i.result c.give_central.new.self ∙ c.self.invariant.processors;
+  channels = c.self.invariant.channels;
+  opened = c.self.invariant.opened;
+  central = c.self.invariant.central;
+  headline = c.self.invariant.headline;
+}
+
+pub give_written-requires-clause-next : goal.give_written-requires-clause-next
+give_written-requires-clause-next g c = subst (λ (pp : Processor). IsNext c.args.next.now c.args.d pp) (sym (own_processor c.args.n c.self.view_is c.index-i.ensures.place (omega (arith, c.index-i.ensures.below, c.self.invariant.processors)) c.index_mut-in-Write.ensures.value)) c.requires.next
+
+pub give_written-requires-clause-fits : goal.give_written-requires-clause-fits
+give_written-requires-clause-fits g c =
+    let needs : need (processor_of c.args.n c.args.self.now) ≡ Write c.in-Write.address c.in-Write.word = ap need (sym (own_processor c.args.n c.self.view_is c.index-i.ensures.place (omega (arith, c.index-i.ensures.below, c.self.invariant.processors)) c.index.ensures)) ∙ (sym c.wants_next.ensures ∙ c.in-Write.is) in
+    let own = own_processor c.args.n c.self.view_is c.index-i.ensures.place (omega (arith, c.index-i.ensures.below, c.self.invariant.processors)) c.index_mut-in-Write.ensures.value in
+    subst (λ (x : Need). IsTrue (fits x (answers.Wrote (nat_lt c.get.result c.size.result)))) (sym (ap need own ∙ needs)) refl
+
+pub invariant_of-self-in-Write : goal.invariant_of-self-in-Write
+invariant_of-self-in-Write g c = record {
+  processors = length-set c.self.inside.processors.items c.index-i.result c.give_written.new.self ∙ c.self.invariant.processors;
+  channels = c.self.invariant.channels;
+  opened = c.self.invariant.opened;
+  central = c.write-written.ensures.sound;
+  headline = c.self.invariant.headline;
+}
+
+pub returns-in_ok-reply-in-Channel-clause-ok : goal.returns-in_ok-reply-in-Channel-clause-ok
+returns-in_ok-reply-in-Channel-clause-ok g c =
+    let n = c.args.n in
+    let m = c.args.self.now in
+    let x : Need = Channel c.in-Channel.channel c.in-Channel.op in
+    let needs : need (processor_of c.args.n c.args.self.now) ≡ x = ap need (sym (own_processor c.args.n c.self.view_is c.index-i.ensures.place (omega (arith, c.index-i.ensures.below, c.self.invariant.processors)) c.index.ensures)) ∙ (sym c.wants_next.ensures ∙ c.in-Channel.is) in
+    let own = own_processor c.args.n (c.self-in-Channel.view_is ∙ c.in_ok-reply-in-Channel.ensures.ok) c.index-i.ensures.place (omega (arith, c.index-i.ensures.below, c.self-in-Channel.invariant.processors)) c.index_mut-in-Channel.ensures.value in
+    taken_by n (answers.Channel c.in_ok-reply-in-Channel.reply) (c.self-in-Channel.view_is ∙ c.in_ok-reply-in-Channel.ensures.ok) c.index-i.ensures.place own c.give_reply-outcome.ensures.after c.count_turn-in-Channel.ensures.turn
+    ∙ (ap (λ (y : Answer). taken n y (served n x m)) c.in_ok-reply-in-Channel.ensures.reply ∙ sym (stepped_for n x m needs))
+
+pub returns-in_ok-reply-in-Channel-clause-outcome : goal.returns-in_ok-reply-in-Channel-clause-outcome
+returns-in_ok-reply-in-Channel-clause-outcome g c =
+    let n = c.args.n in
+    let m = c.args.self.now in
+    let x : Need = Channel c.in-Channel.channel c.in-Channel.op in
+    let needs : need (processor_of c.args.n c.args.self.now) ≡ x = ap need (sym (own_processor c.args.n c.self.view_is c.index-i.ensures.place (omega (arith, c.index-i.ensures.below, c.self.invariant.processors)) c.index.ensures)) ∙ (sym c.wants_next.ensures ∙ c.in-Channel.is) in
+    let own = own_processor c.args.n (c.self-in-Channel.view_is ∙ c.in_ok-reply-in-Channel.ensures.ok) c.index-i.ensures.place (omega (arith, c.index-i.ensures.below, c.self-in-Channel.invariant.processors)) c.index_mut-in-Channel.ensures.value in
+    c.give_reply-outcome.ensures.outcome
+    ∙ (ap (λ (pp : Processor). outcome pp (answers.Channel c.in_ok-reply-in-Channel.reply)) own
+    ∙ (ap (λ (y : Answer). outcome (processor_of n m) y) c.in_ok-reply-in-Channel.ensures.reply ∙ sym (outcome_for n x m needs)))
+
+pub returns-in-Read-clause-ok : goal.returns-in-Read-clause-ok
+returns-in-Read-clause-ok g c =
+    let n = c.args.n in
+    let m = c.args.self.now in
+    let x : Need = Read c.in-Read.address in
+    let needs : need (processor_of c.args.n c.args.self.now) ≡ x = ap need (sym (own_processor c.args.n c.self.view_is c.index-i.ensures.place (omega (arith, c.index-i.ensures.below, c.self.invariant.processors)) c.index.ensures)) ∙ (sym c.wants_next.ensures ∙ c.in-Read.is) in
+    let own = own_processor c.args.n c.self.view_is c.index-i.ensures.place (omega (arith, c.index-i.ensures.below, c.self.invariant.processors)) c.index_mut-in-Read.ensures.value in
+    let word : answers.Read c.read-word.result ≡ answer_to x m = ap answers.Read (c.read-word.ensures ∙ ap (λ (k : MachineState). slice_get k.central c.in-Read.address) c.self.view_is) in
+    taken_by n (answers.Read c.read-word.result) c.self.view_is c.index-i.ensures.place own c.give_central.ensures.after c.count_turn-in-Read.ensures.turn
+    ∙ (ap (λ (y : Answer). taken n y m) word ∙ sym (stepped_for n x m needs))
+
+pub returns-in-Read-clause-outcome : goal.returns-in-Read-clause-outcome
+returns-in-Read-clause-outcome g c =
+    let n = c.args.n in
+    let m = c.args.self.now in
+    let x : Need = Read c.in-Read.address in
+    let needs : need (processor_of c.args.n c.args.self.now) ≡ x = ap need (sym (own_processor c.args.n c.self.view_is c.index-i.ensures.place (omega (arith, c.index-i.ensures.below, c.self.invariant.processors)) c.index.ensures)) ∙ (sym c.wants_next.ensures ∙ c.in-Read.is) in
+    let own = own_processor c.args.n c.self.view_is c.index-i.ensures.place (omega (arith, c.index-i.ensures.below, c.self.invariant.processors)) c.index_mut-in-Read.ensures.value in
+    let word : answers.Read c.read-word.result ≡ answer_to x m = ap answers.Read (c.read-word.ensures ∙ ap (λ (k : MachineState). slice_get k.central c.in-Read.address) c.self.view_is) in
+    sym (outcome_for n x m needs ∙ (ap (λ (y : Answer). outcome (processor_of n m) y) (sym word) ∙ (ap (λ (pp : Processor). outcome pp (answers.Read c.read-word.result)) (sym own) ∙ c.give_central.ensures.moved)))
+
+pub returns-in-Write-clause-ok : goal.returns-in-Write-clause-ok
+returns-in-Write-clause-ok g c =
+    let n = c.args.n in
+    let m = c.args.self.now in
+    let x : Need = Write c.in-Write.address c.in-Write.word in
+    let needs : need (processor_of c.args.n c.args.self.now) ≡ x = ap need (sym (own_processor c.args.n c.self.view_is c.index-i.ensures.place (omega (arith, c.index-i.ensures.below, c.self.invariant.processors)) c.index.ensures)) ∙ (sym c.wants_next.ensures ∙ c.in-Write.is) in
+    let own = own_processor c.args.n c.self.view_is c.index-i.ensures.place (omega (arith, c.index-i.ensures.below, c.self.invariant.processors)) c.index_mut-in-Write.ensures.value in
+    let within : answers.Wrote (nat_lt c.get.result c.size.result) ≡ answer_to x m =
+    ap (λ a. answers.Wrote (nat_lt a c.size.result)) c.get.ensures.value
+    ∙ (ap (λ k. answers.Wrote (nat_lt c.in-Write.address k)) c.size.ensures.value
+    ∙ ap (λ (k : MachineState). answers.Wrote (nat_lt c.in-Write.address (length k.central))) c.self.view_is) in
+    let view = ap (λ (k : MachineState). record k { central = slice_set k.central c.in-Write.address c.in-Write.word }) c.self.view_is in
+    let turn = rw c.write-written.ensures.written at c.count_turn-in-Write.ensures.turn in
+    taken_by n (answers.Wrote (nat_lt c.get.result c.size.result)) view c.index-i.ensures.place own c.give_written.ensures.after turn
+    ∙ (ap (λ (y : Answer). taken n y (served n x m)) within ∙ sym (stepped_for n x m needs))
+
+pub returns-in-Write-clause-outcome : goal.returns-in-Write-clause-outcome
+returns-in-Write-clause-outcome g c =
+    let n = c.args.n in
+    let m = c.args.self.now in
+    let x : Need = Write c.in-Write.address c.in-Write.word in
+    let needs : need (processor_of c.args.n c.args.self.now) ≡ x = ap need (sym (own_processor c.args.n c.self.view_is c.index-i.ensures.place (omega (arith, c.index-i.ensures.below, c.self.invariant.processors)) c.index.ensures)) ∙ (sym c.wants_next.ensures ∙ c.in-Write.is) in
+    let own = own_processor c.args.n c.self.view_is c.index-i.ensures.place (omega (arith, c.index-i.ensures.below, c.self.invariant.processors)) c.index_mut-in-Write.ensures.value in
+    let within : answers.Wrote (nat_lt c.get.result c.size.result) ≡ answer_to x m =
+    ap (λ a. answers.Wrote (nat_lt a c.size.result)) c.get.ensures.value
+    ∙ (ap (λ k. answers.Wrote (nat_lt c.in-Write.address k)) c.size.ensures.value
+    ∙ ap (λ (k : MachineState). answers.Wrote (nat_lt c.in-Write.address (length k.central))) c.self.view_is) in
+    sym (outcome_for n x m needs ∙ (ap (λ (y : Answer). outcome (processor_of n m) y) (sym within) ∙ (ap (λ (pp : Processor). outcome pp (answers.Wrote (nat_lt c.get.result c.size.result))) (sym own) ∙ c.give_written.ensures.moved)))

@@ -1,0 +1,44 @@
+use Rattle.std.proofs.Common.{◌≡◌, Bool, List, ℕ, ap, ◌∙◌, subst}
+use Rattle.std.proofs.lemmas.Result.{err_from_is_err_and}
+use Rattle.pp_machine.specs.Headline.{HoldsOnEachChannel}
+use Rattle.pp_machine.specs.MachineState.{MachineState}
+use Rattle.pp_machine.specs.Run.{barrel, run}
+use Rattle.pp_deck.specs.DeckMeaning.{LoadedDeck, deck_meaning}
+use Rattle.pp_deck.specs.InUse.{in_use}
+use Rattle.pp_run.specs.RunSteps.{run_steps}
+use Rattle.pp_state.specs.HeldSteps.{each_held_steps}
+use Rattle.pp_state.specs.StateText.{state_after, state_text}
+use Rattle.pp_sim.proofs.AnswerLemmas.{answers_written, refused}
+use Rattle.pp_sim.proofs.StateLemmas.{one_deck}
+use Rattle.pp_sim.proofs.texts.state_text.write_state_after.Goals as goal
+use Rattle.pp_sim.specs.TextOf.{IsTextAfter}
+use Rattle.pp_sim.specs.TextAnswer.{NothingPrevents}
+
+pub returns : goal.returns
+returns g c =
+    let turns = c.args.turns in
+    let before = c.in_ok-before.before.machine in
+    let shown = in_use (record { machine = before; named = c.in_ok-before.before.named }) in
+    let ran_on : MachineState → MachineState = λ (m : MachineState). run (barrel m.profile turns) m in
+    let same : c.in_ok-after.after.machine ≡ before =
+    ap (λ (deck : LoadedDeck). deck.machine) (one_deck (deck_meaning c.args.deck.now.profile c.args.deck.now.bytes.now) _ _ c.in_ok-after.ensures.ok c.in_ok-before.ensures.ok) in
+    let ran : c.run_counting_held.new.machine ≡ ran_on before = c.in-Ok.ensures.ran ∙ ap ran_on same in
+    let counted : c.in-Ok.held ≡ each_held_steps (run_steps (barrel before.profile turns) before) =
+    c.in-Ok.ensures.held ∙ ap (λ (m : MachineState). each_held_steps (run_steps (barrel m.profile turns) m)) same in
+    rw c.answer_to.ensures (answers_written c.args.deck.now.profile NothingPrevents (IsTextAfter turns state_after) c.args.deck.now.bytes.now _ c.write_state.result _ _
+    (record {
+      deck = _;
+      meant = c.in_ok-before.ensures.ok;
+      told = record {
+        told = ap (λ (flags : List Bool). state_text flags before c.run_counting_held.new.machine c.in-Ok.held) c.in_use-shown.ensures
+            ∙ ap (λ (m : MachineState). state_text shown before m c.in-Ok.held) ran
+            ∙ ap (λ (held : List ℕ). state_text shown before (ran_on before) held) counted;
+        headline = subst HoldsOnEachChannel ran c.run_counting_held.ensures.headline;
+      };
+    })
+    c.write_state.ensures)
+
+pub returns-in_err-after : goal.returns-in_err-after
+returns-in_err-after g c =
+    let p = err_from_is_err_and c.from_residual-in_err-after.result c.from_residual-in_err-after.ensures.1 in
+    rw (p.1, p.2) (refused c.args.deck.now.profile NothingPrevents (IsTextAfter c.args.turns state_after) _ c.args.deck.now.bytes.now _ c.in_err-after.ensures.fault)

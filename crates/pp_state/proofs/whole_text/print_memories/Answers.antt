@@ -1,0 +1,18 @@
+use Rattle.std.proofs.Common.{arith}
+use Rattle.pp_text.specs.PrintingLaws.{prints_all, prints_more, prints_nothing}
+use Rattle.pp_listing.specs.ListedLine.{deck_line}
+use Rattle.pp_listing.specs.Listing.{numbers}
+use Rattle.pp_state.specs.Changes.{changed_section}
+use Rattle.pp_state.proofs.whole_text.print_memories.Goals as goal
+
+pub loop-number-init : goal.loop-number-init
+loop-number-init g c = prints_nothing _ _
+
+pub loop-number-preserved : goal.loop-number-preserved
+loop-number-preserved g c =
+    prints_more _ _ _ _ deck_line (changed_section c.args.before.now c.args.after.now) c.loop-number.number c.loop-number.invariant c.print_memory.ensures
+
+pub returns : goal.returns
+unfolding numbers
+returns g c =
+    prints_all _ _ _ deck_line (changed_section c.args.before.now c.args.after.now) c.loop-number.number 0o100 (omega (arith, c.loop-number.auto.number-end, c.loop-number-test.false)) c.loop-number.invariant

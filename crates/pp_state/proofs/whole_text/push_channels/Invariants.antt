@@ -1,6 +1,0 @@
-use Rattle.std.proofs.Common.{◌≡◌, ◌++◌}
-use Rattle.pp_text.specs.PrintedText.{each_below, used_channel_line}
-use Rattle.pp_state.proofs.whole_text.push_channels.Given as goal
-
-abbrev pub invariant-loop-number : goal.invariant-loop-number
-invariant-loop-number g l = l.text.items ≡ l.fn.text.items ++ each_below l.number (used_channel_line l.machine.histories)

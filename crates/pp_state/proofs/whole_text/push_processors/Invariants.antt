@@ -1,7 +1,0 @@
-use Rattle.std.proofs.Common.{◌≡◌, ◌++◌}
-use Rattle.pp_text.specs.PrintedText.{each_below}
-use Rattle.pp_state.specs.StateText.{standing_line}
-use Rattle.pp_state.proofs.whole_text.push_processors.Given as goal
-
-abbrev pub invariant-loop-number : goal.invariant-loop-number
-invariant-loop-number g l = l.text.items ≡ l.fn.text.items ++ each_below l.number (standing_line l.shown l.machine l.held)

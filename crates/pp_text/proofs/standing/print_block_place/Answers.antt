@@ -1,0 +1,12 @@
+use Rattle.std.proofs.Common.{◌++◌, Option, ap, codes, sym, ◌∙◌, ℕ}
+use Rattle.pp_machine.specs.declared.block.Block.{Block}
+use Rattle.pp_text.specs.Numeral.{octal}
+use Rattle.pp_text.specs.PrintingLaws.{prints_on}
+use Rattle.pp_text.specs.Standing.{block_place_text}
+use Rattle.pp_text.proofs.standing.print_block_place.Goals as goal
+
+pub returns-in-Some : goal.returns-in-Some
+returns-in-Some g c =
+    prints_on _ _ _ _ (codes " BLOCK ") _ _ c.print.ensures c.print-in-Some.ensures
+    (ap (λ t. codes " BLOCK " ++ t) c.octal4.ensures ∙ ap (λ (n : ℕ). codes " BLOCK " ++ octal 4 n) c.get.ensures.value
+    ∙ ap block_place_text (sym c.in-Some.is))

@@ -1,0 +1,105 @@
+//! How a processor stands: its state, the instruction that runs, and what holds it.
+
+ghost use Rattle.std.specs.Prelude.{◌≡◌, ◌↔◌, IsTrue};
+ghost use Rattle.pp_machine.specs.MachineState.{processor_of};
+ghost use Rattle.pp_machine.specs.MachineStep.{step_outcome};
+ghost use Rattle.pp_machine.specs.NeedAndEffect.{need};
+ghost use Rattle.pp_text.specs.InstructionText.{running_instruction};
+ghost use Rattle.pp_text.specs.PrintedText.{state_text};
+ghost use Rattle.pp_text.specs.Standing.{block_place_text, held_text, standing};
+ghost use Rattle.pp_text.specs.TextWriter.{Prints};
+
+use crate::digits::octal4;
+use crate::held_text::push_held_text;
+use crate::instruction::print_running;
+use crate::state_text::push_state_text;
+use crate::text_writer::TextWriter;
+use pp_channel::{ChanOp, ChannelNo};
+use pp_machine::{Block, Machine, Need, Outcome, Pp, PpNo, PpState};
+use pp_word::next;
+use std::alloc::Allocator;
+use std::io::Write;
+
+/// Prints `RUNNING IAN 01 HELD CH01 ACTIVE EMPTY x376`, what the line of a processor says after its
+/// registers, where this many of its last steps in a row (decimal) were held. A count of 0 is left
+/// out.
+pub fn print_standing<A: Allocator, W: Write>(
+    text: &mut TextWriter<W>,
+    machine: &Machine<A>,
+    n: PpNo,
+    count: u32,
+)
+    ensures { Prints W.contents text.old text.new (standing n machine.now count) }
+{
+    let pp = machine.pp(n);
+    print_state(text, pp.state());
+    text.print(b" ");
+    print_instruction(text, pp);
+    print_block_place(text, pp.block());
+    print_held(text, machine, n, count);
+}
+
+/// Prints `RUNNING`, `STOPPED` or `FAULT 4`.
+fn print_state<W: Write>(text: &mut TextWriter<W>, state: PpState)
+    ensures { Prints W.contents text.old text.new (state_text state) }
+{
+    text.make_room();
+    push_state_text(&mut text.piece, state);
+}
+
+/// Prints the text of the instruction that runs.
+fn print_instruction<W: Write>(text: &mut TextWriter<W>, pp: &Pp)
+    ensures { Prints W.contents text.old text.new (running_instruction pp.now) }
+{
+    let place = pp.p();
+    print_running(text, pp.block(), place, pp.get(place), pp.get(next(place)));
+}
+
+/// Prints ` BLOCK 0302`, if a block is in progress.
+fn print_block_place<W: Write>(text: &mut TextWriter<W>, block: Option<Block>)
+    ensures { Prints W.contents text.old text.new (block_place_text block) }
+{
+    if let Some(block) = block {
+        text.print(b" BLOCK ");
+        text.print(&octal4(block.place.get()));
+    }
+}
+
+/// Prints ` HELD CH01 ACTIVE EMPTY x376`, if the next step of the processor is held.
+fn print_held<A: Allocator, W: Write>(
+    text: &mut TextWriter<W>,
+    machine: &Machine<A>,
+    n: PpNo,
+    count: u32,
+)
+    ensures { Prints W.contents text.old text.new
+        (held_text (need (processor_of n machine.now)) (step_outcome n machine.now)
+        machine.now count) }
+{
+    match machine.pp(n).wants() {
+        Need::Channel(c, operation) if is_held(machine, n, c, operation) => {
+            text.make_room();
+            push_held_text(&mut text.piece, c, machine.channel(c).flags(), count);
+        }
+        _ => {}
+    }
+}
+
+/// Whether a channel holds the operation that the next step of a processor needs: it is not ready,
+/// and does not end a block.
+fn is_held<A: Allocator>(machine: &Machine<A>, n: PpNo, c: ChannelNo, operation: ChanOp) -> bool
+    requires { need (processor_of n machine.now) ≡ Need.Channel c operation }
+    ensures { IsTrue result ↔ (step_outcome n machine.now ≡ Outcome.Held) }
+{
+    let channel = machine.channel(c);
+    if operation.only_looks() {
+        return false;
+    }
+    if channel.next_event(&operation).is_some() {
+        return false;
+    }
+    match machine.pp(n).block() {
+        None => true,
+        Some(_) => channel.flags().active,
+    }
+}

@@ -1,0 +1,14 @@
+//! Calls where a growth is refused, one request after another, and long runs where none is: tests
+//! over the allocator `Rationed`, and of this allocator itself.
+
+mod allocator;
+mod ample_machines;
+mod barrel;
+mod channel;
+mod deck;
+mod lines;
+mod locked;
+mod machine;
+mod no_memory;
+mod refusal;
+mod threads;

@@ -1,0 +1,108 @@
+//! The allocator of the tests: it refuses the request that it is armed for, and that one alone.
+
+use std::alloc::{AllocError, Allocator, Global};
+use std::thread::{self, Threads};
+use test_bench::Rationed;
+
+/// Whether a list grows to the first hundred squares.
+fn has_squares(heap: &Rationed<Global>) -> bool {
+    let mut squares = Vec::new(heap);
+    for number in 0..100u64 {
+        if squares.push(number * number).is_err() {
+            return false;
+        }
+    }
+    squares.len() == 100 && squares.last() == Some(&9801)
+}
+
+#[test]
+fn refuses_nothing_until_armed(rt: HostRuntime) {
+    let heap = Rationed::new(rt.alloc());
+    assert!(rt; has_squares(&heap) && heap.asked() > 0 && !heap.has_refused());
+}
+
+/// Whether a request is refused.
+fn is_refused<A: Allocator>(alloc: A) -> bool {
+    Box::new(alloc, 5u8).is_err()
+}
+
+/// Whether a request is refused, the number of requests up to it, and whether one was refused.
+fn request(heap: &Rationed<Global>) -> (bool, u64, bool) {
+    (is_refused(heap), heap.asked(), heap.has_refused())
+}
+
+#[test]
+fn refuses_that_request_alone(rt: HostRuntime) {
+    let heap = Rationed::new(rt.alloc());
+    for number in 0..6u64 {
+        heap.refuse(number);
+        for turn in 1..5u64 {
+            let expected = (turn == number, turn, number != 0 && number <= turn);
+            assert!(rt; request(&heap) == expected, "request {turn}");
+        }
+    }
+}
+
+/// Whether a list stays as it was when a growth is refused, and grows after that.
+fn grows_after_refusal(heap: &Rationed<Global>) -> Result<bool, AllocError> {
+    let mut list = Vec::with_capacity(heap, 2)?;
+    list.push(7u8)?;
+    list.push(8)?;
+    heap.refuse(1);
+    let is_refused = list.reserve(100).is_err() && heap.has_refused();
+    let is_kept = list.as_slice() == [7, 8].as_slice();
+    list.reserve(100)?;
+    list.push(9)?;
+    Ok(is_refused && is_kept && list.as_slice() == [7, 8, 9].as_slice())
+}
+
+#[test]
+fn a_refused_growth_leaves_the_list(rt: HostRuntime) {
+    let heap = Rationed::new(rt.alloc());
+    assert!(rt; matches!(grows_after_refusal(&heap), Ok(true)) && heap.asked() == 2);
+}
+
+#[test]
+fn counts_requests_and_no_returns(rt: HostRuntime) {
+    let heap = Rationed::new(rt.alloc());
+    assert!(rt; heap.asked() == 0);
+    for _ in 0..3u8 {
+        assert!(rt; !is_refused(&heap));
+    }
+    assert!(rt; heap.asked() == 3);
+    heap.refuse(0);
+    assert!(rt; heap.asked() == 0);
+}
+
+/// Whether a request is made of the inner allocator too, but for one that is refused.
+fn asks_inner(inner: &Rationed<Global>) -> bool {
+    let outer = Rationed::new(inner);
+    let is_passed_on = !is_refused(&outer) && inner.asked() == 1;
+    outer.refuse(1);
+    let is_refused_here = is_refused(&outer) && inner.asked() == 1;
+    inner.refuse(1);
+    let is_refused_there = is_refused(&outer) && inner.has_refused();
+    is_passed_on && is_refused_here && is_refused_there && outer.asked() == 2
+}
+
+#[test]
+fn asks_the_inner_allocator(rt: HostRuntime) {
+    assert!(rt; asks_inner(&Rationed::new(rt.alloc())));
+}
+
+/// Whether requests of two threads are answered. The blocks are given back in this thread,
+/// whichever one took them.
+fn by_two_threads(rt: &impl Threads, heap: &Rationed<Global>) -> (bool, bool) {
+    let (one, other) = thread::join(rt, || Box::new(heap, 5u8), || Box::new(heap, 6u8));
+    (one.is_ok(), other.is_ok())
+}
+
+#[test]
+fn refuses_one_of_two_threads(rt: HostRuntime) {
+    let heap = Rationed::new(rt.alloc());
+    for number in 1..4u64 {
+        heap.refuse(number);
+        let (one, other) = by_two_threads(&rt, &heap);
+        assert!(rt; (one && other) == (number == 3) && (one || other) && heap.asked() == 2);
+    }
+}

@@ -1,0 +1,122 @@
+//! Calls of central memory and of a machine that make no event answer as ever when the first
+//! request would be refused. Words and processors hold no allocator and take none.
+
+use pp_channel::ChannelNo;
+use pp_machine::{Central, CentralFault, Machine, Outcome, PpState, Profile};
+use pp_word::{Word18, Word60};
+use std::alloc::Global;
+use std::test::Fail;
+use test_bench::{Rationed, channel, first, put_program, put_words};
+
+#[test]
+fn central_asks_for_nothing(rt: HostRuntime) -> Result<(), Fail> {
+    let (last, behind) = (Word18::truncated(0o40), Word18::truncated(0o41));
+    let word = Word60::truncated(0o1234);
+    let heap = Rationed::new(rt.alloc());
+    let mut central = Central::new(&heap, 0o41)?;
+    heap.refuse(1);
+    assert!(rt; central.size() == 0o41);
+    assert!(rt; central.write(last, word) && !central.write(behind, word));
+    assert!(rt; central.read(last) == Some(word) && central.read(behind).is_none());
+    assert!(rt; heap.asked() == 0);
+    Ok(())
+}
+
+/// Programs that make no event, with the place where each is loaded and started.
+const PROGRAMS: [(u16, &[u16]); 6] = [
+    (0o100, &[0o3750, 0o0300]),
+    (0o200, &[0o7005, 0o0300]),
+    (0o100, &[0o1405, 0o6100, 0o0300, 0o6060, 0o0300]),
+    (0o100, &[0o6503, 0o0103, 0o2600, 0o0300]),
+    (0o200, &[0o1405, 0o7105, 0o0300, 0o0300]),
+    (0o100, &[0o1403, 0o6260, 0o0300]),
+];
+
+/// Where each of them ends: P, A and the state.
+const ENDS: [(u16, u32, PpState); 6] = [
+    (0o101, 0o777_776, PpState::Stopped),
+    (0o200, 0, PpState::Running),
+    (0o103, 7, PpState::Fault(4)),
+    (0o103, 0, PpState::Stopped),
+    (0o203, 5, PpState::Stopped),
+    (0o102, 3, PpState::Stopped),
+];
+
+/// A machine over an allocator that refuses a request.
+type RationedMachine<'a> = Machine<&'a Rationed<Global>>;
+
+/// A machine with these programs, and two central words at its end.
+fn loaded<'a>(
+    heap: &'a Rationed<Global>,
+    profile: Profile,
+) -> Result<RationedMachine<'a>, CentralFault> {
+    let mut machine = Machine::new(heap, profile, 7)?;
+    let mut n = first();
+    for (start, words) in PROGRAMS {
+        let pp = machine.pp_mut(n);
+        put_words(pp, 0, &[2]);
+        put_words(pp, 0o60, &[1, 2, 3, 4, 5]);
+        put_program(pp, start, words);
+        n = n.next();
+    }
+    Ok(machine)
+}
+
+/// Whether `turns` turns of the barrel are made, and four more steps.
+fn makes_turns(machine: &mut RationedMachine, turns: u32) -> bool {
+    let (zero, one) = (first(), first().next());
+    machine.run_barrel(turns).is_ok()
+        && machine.run_turns(&[one, zero]).is_ok()
+        && machine.step(one) == Ok(Outcome::Held)
+        && machine.step(zero) == Ok(Outcome::AtRest)
+        && machine.turns() == u64::from(turns) + 4
+}
+
+/// Whether each program has ended as it should, without an event.
+fn have_ended(machine: &RationedMachine, five: ChannelNo) -> bool {
+    let mut n = first();
+    for end in ENDS {
+        let pp = machine.pp(n);
+        if (pp.p().get(), pp.a().get(), pp.state()) != end {
+            return false;
+        }
+        n = n.next();
+    }
+    machine.events().is_empty()
+        && machine.channel(five).history().is_empty()
+        && !machine.opened(five)
+}
+
+/// Whether such a machine makes `turns` turns without a request. The words at the end of its
+/// central memory are written, and one of them is copied.
+fn asks_for_nothing(
+    heap: &Rationed<Global>,
+    profile: Profile,
+    turns: u32,
+    five: ChannelNo,
+) -> bool {
+    let words = Word60::truncated(0o0001_0002_0003_0004_0005);
+    let others = Word60::truncated(0o0006_0007_0010_0011_0012);
+    heap.refuse(0);
+    let Ok(mut machine) = loaded(heap, profile) else {
+        return false;
+    };
+    heap.refuse(1);
+    put_words(machine.pp_mut(first().next()), 0o7000, &[1]);
+    machine.write_central(Word18::truncated(5), words)
+        && machine.write_central(Word18::truncated(6), others)
+        && !machine.write_central(Word18::truncated(7), others)
+        && makes_turns(&mut machine, turns)
+        && have_ended(&machine, five)
+        && machine.central().read(Word18::truncated(3)) == Some(words)
+        && heap.asked() == 0
+}
+
+#[test]
+fn machine_asks_for_nothing(rt: HostRuntime) -> Result<(), Fail> {
+    let five = channel(5)?;
+    let heap = Rationed::new(rt.alloc());
+    assert!(rt; asks_for_nothing(&heap, Profile::Ten, 60, five));
+    assert!(rt; asks_for_nothing(&heap, Profile::Twenty, 120, five));
+    Ok(())
+}

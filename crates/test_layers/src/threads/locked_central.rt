@@ -1,0 +1,102 @@
+//! Central memory by calls, alone and behind its locks.
+
+use pp_machine::{Central, CentralFault};
+use pp_runner::LockedCentral;
+use pp_word::{Word18, Word60};
+use std::alloc::Global;
+use std::sync::Wait;
+use std::test::Fail;
+
+#[test]
+fn central_sizes(rt: HostRuntime) {
+    for size in [0, 0o400_001] {
+        let fault = Central::new(rt.alloc(), size).err();
+        assert!(rt; fault == Some(CentralFault::BadSize));
+    }
+}
+
+/// Whether central memory of 33 words, the last but one of them loaded, keeps it and a word after
+/// it, and none after its last.
+fn keeps_words(rt: &impl Wait, shared: &LockedCentral<Global>, loaded: Word60) -> bool {
+    let (last, behind) = (Word18::truncated(0o40), Word18::truncated(0o41));
+    let written = Word60::truncated(0o4321);
+    shared.size() == 33
+        && shared.read(rt, Word18::truncated(0o37)) == Some(loaded)
+        && shared.write(rt, last, written)
+        && shared.read(rt, last) == Some(written)
+        && !shared.write(rt, behind, loaded)
+        && shared.read(rt, behind).is_none()
+        && shared.read(rt, last) == Some(written)
+        && shared.read(rt, Word18::ZERO) == Some(Word60::ZERO)
+}
+
+#[test]
+fn central_by_calls(rt: HostRuntime) -> Result<(), Fail> {
+    let loaded = Word60::truncated(0o1234);
+    let mut central = Central::new(rt.alloc(), 0o41)?;
+    assert!(rt; central.write(Word18::truncated(0o37), loaded));
+    let shared = LockedCentral::new(rt.alloc(), &central)?;
+    assert!(rt; keeps_words(&rt, &shared, loaded));
+    Ok(())
+}
+
+/// Sizes of central memory: the least, 512 words, some more, and the greatest.
+const SIZES: [u32; 4] = [1, 0o1000, 0o2041, 0o400_000];
+
+/// Another number for each address, and for each of two rounds.
+fn number(address: u32, round: u8) -> Word60 {
+    Word60::truncated(u64::from(address) * 4 + u64::from(round))
+}
+
+/// Central memory of this size, each word the number of its address in round 1.
+fn central_of_numbers(alloc: Global, size: u32) -> Result<Central<Global>, CentralFault> {
+    let mut central = Central::new(alloc, size)?;
+    for address in 0..size {
+        central.write(Word18::truncated(address), number(address, 1));
+    }
+    Ok(central)
+}
+
+/// Whether each address below the size gives its number of this round, and no address from there on
+/// gives any.
+fn gives_numbers(rt: &impl Wait, shared: &LockedCentral<Global>, size: u32, round: u8) -> bool {
+    for address in 0..0o1_000_000 {
+        let wanted = if address < size {
+            Some(number(address, round))
+        } else {
+            None
+        };
+        if shared.read(rt, Word18::truncated(address)) != wanted {
+            return false;
+        }
+    }
+    true
+}
+
+/// Writes at each address its number of this round; whether exactly those below the size took it.
+fn takes_numbers(rt: &impl Wait, shared: &LockedCentral<Global>, size: u32, round: u8) -> bool {
+    for address in 0..0o1_000_000 {
+        let word = number(address, round);
+        if shared.write(rt, Word18::truncated(address), word) != (address < size) {
+            return false;
+        }
+    }
+    true
+}
+
+/// Whether words stay as loaded, can all be written, and stay as written.
+fn keeps_all_words(rt: &impl Wait, shared: &LockedCentral<Global>, size: u32) -> bool {
+    gives_numbers(rt, shared, size, 1)
+        && takes_numbers(rt, shared, size, 2)
+        && gives_numbers(rt, shared, size, 2)
+}
+
+#[test]
+fn each_address_has_a_word_of_its_own(rt: HostRuntime) -> Result<(), Fail> {
+    for size in SIZES {
+        let central = central_of_numbers(rt.alloc(), size)?;
+        let shared = LockedCentral::new(rt.alloc(), &central)?;
+        assert!(rt; keeps_all_words(&rt, &shared, size), "{size} words");
+    }
+    Ok(())
+}
