@@ -73,7 +73,7 @@ lane_head top name width =
     ++ codes "</text>\n<rect class='u' y='30' width='" ++ short_decimal width
     ++ codes "' height='1'/>\n"
 
--- how it ends: with how things stand behind the last turn
+-- how it ends: with how things stand after the last turn
 abbrev pub lane_foot : ℕ → List ℕ → List ℕ
 lane_foot width standing =
     text_element (codes "e") (width + 8) 26 standing ++ codes "</g>\n"

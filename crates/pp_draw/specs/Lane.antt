@@ -1,4 +1,4 @@
--- A lane: its phases, part by part, each label only where there is room behind the last.
+-- A lane: its phases, part by part, each label only if there is room after the last.
 use Rattle.std.specs.Prelude.{◌≡◌, ℕ, List, [], ◌∷◌, ◌++◌, Option, None, Some}
 use Rattle.pp_draw.specs.Elements.{free_after, part_elements}
 use Rattle.pp_draw.specs.Part.{part_of}

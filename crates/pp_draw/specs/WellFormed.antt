@@ -1,6 +1,6 @@
 -- When a text is well-formed XML, of printed ASCII characters, with names of letters and values in
 -- single quotes, and without comments and references. Read character by character, it is one
--- element; each tag and each quote ends; each attribute stands behind a space, with a name that no
+-- element; each tag and each quote ends; each attribute stands after a space, with a name that no
 -- other of its tag has, `=` and a value; and each element is closed by its own name, the innermost
 -- first.
 use Rattle.std.specs.Prelude.{◌≡◌, ℕ, ◌==◌, ◌&&◌, ◌||◌, Bool, List, [], ◌∷◌, Option, None, Some, fold, nat_le, if◌then◌else◌}
@@ -44,9 +44,9 @@ pub record Tag : Type 0 where
   pub name : List ℕ
   pub attributes : List (List ℕ)
 
--- where a reader stands: before the first tag; between tags; behind a `<`; in the name of an
--- opening or a closing tag; in an opening tag behind a space, in the name of an attribute, behind
--- its `=`, in its value, or behind its value; behind the slash of a tag without content; behind the
+-- where a reader stands: before the first tag; between tags; after a `<`; in the name of an
+-- opening or a closing tag; in an opening tag after a space, in the name of an attribute, after
+-- its `=`, in its value, or after its value; after the slash of a tag without content; after the
 -- last tag
 pub data Place : Type 0 where
   before : Place
@@ -70,7 +70,7 @@ pub record Reader : Type 0 where
 abbrev pub at : List (List ℕ) → Place → Option Reader
 at within place = Some (record { within = within; place = place })
 
--- behind a tag that closes an element: between tags again, where it was not the last
+-- after a tag that closes an element: between tags again, if it was not the last
 abbrev pub closed : List (List ℕ) → Option Reader
 closed [] = at [] behind
 closed (outer ∷ others) = at (outer ∷ others) between

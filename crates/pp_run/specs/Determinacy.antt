@@ -89,8 +89,8 @@ IsNoRaceAt ns m t c op pp s =
     ⊎ (DoesTheSame op pp (history_at ns m c s) (history_at ns m c t)
     ⊎ ((s < t) × Stays op pp (history_at ns m c s)))
 
--- Step t is timely: if it is on a channel, then on one that exists, and however it may find it, it
--- does not race.
+-- Step t is race-free: if it is on a channel, then on one that exists, and however it may find it,
+-- it does not race.
 pub record IsRaceFreeOn (ns : List ℕ) (m : MachineState) (t c : ℕ) (op : ChanOp) : Type 0 where
   pub exists : IsTrue (names_channel c)
   pub in_time : (s : ℕ) → MayFind ns m (slice_index ns t) c t s
@@ -125,7 +125,7 @@ WritesAt a x = (word : ℕ) × (x ≡ Need.Write a word)
 abbrev pub UsesAt : ℕ → Need → Type 0
 UsesAt a x = (x ≡ Need.Read a) ⊎ WritesAt a x
 
--- ONE LIST OF STEPS DETERMINES THE RESULT OF ALL OTHERS: each of its steps waits or is timely;
+-- ONE LIST OF STEPS DETERMINES THE RESULT OF ALL OTHERS: each of its steps waits or is race-free;
 -- after the last, each processor is settled; and the processor that writes a central word is the
 -- only one that uses it.
 pub record IsDeterminate (ns : List ℕ) (m : MachineState) : Type 0 where
