@@ -2,7 +2,8 @@
 -- number and its place are two things: proofs know of them what ChannelPlaces says.
 -- (Manual 60100000, data channels: twelve, numbered 0 to 13 (octal). A machine of twenty peripheral
 -- processors has twelve more, numbered 20 to 33.)
-use Rattle.std.specs.Prelude.{ℕ, ◌+◌, ◌-◌, ◌&&◌, ◌||◌, Bool, nat_lt, if◌then◌else◌}
+use Rattle.std.specs.Prelude.{ℕ, ◌+◌, ◌-◌, ◌&&◌, ◌||◌, Bool, List, nat_lt, if◌then◌else◌}
+use Rattle.pp_word.specs.Tables.{tabulate}
 
 -- the number of channels
 abbrev pub channel_count : ℕ
@@ -20,3 +21,7 @@ channel_index number =
 -- the number of the channel at a place of that list
 unfoldable pub channel_number : ℕ → ℕ
 channel_number place = if nat_lt place 0o14 then place else place + 4
+
+-- the numbers of all channels, in order
+unfoldable pub all_channels : List ℕ
+all_channels = tabulate channel_count channel_number

@@ -1,9 +1,13 @@
 -- Numbers of channels and their places: all that proofs know of them.
-use Rattle.std.proofs.Common.{◌≡◌, ℕ, ◌<◌, ◌≤◌, arith}
+use Rattle.std.proofs.Common.{◌≡◌, ℕ, ◌+◌, ◌<◌, ◌≤◌, List, [], ◌++◌, ap, sym, ◌∙◌, arith}
 use mathlib.Core.Logic.{dite}
 use native.Mathlib.Decide.{dec_lt}
 use Rattle.std.specs.Prelude.{IsTrue}
-use Rattle.pp_channel.specs.ChannelNo.{channel_count, names_channel, channel_index, channel_number}
+use Rattle.std.proofs.lemmas.Grind.{flat_map-append}
+use Rattle.std.specs.List.{flat_map, range_with_len}
+use Rattle.pp_word.specs.GrowingLists.{flat_map_parts}
+use Rattle.pp_word.specs.Tables.{tabulate}
+use Rattle.pp_channel.specs.ChannelNo.{all_channels, channel_count, names_channel, channel_index, channel_number}
 
 -- the number of a channel gives its place
 pub place_again : (place : ℕ) → IsTrue (names_channel (channel_number place))
@@ -77,6 +81,26 @@ low_number c below = grind (arith, below)
 pub low_place : (c : ℕ) → c < 0o14 → channel_index c < 0o14
 unfolding channel_index
 low_place c below = grind (arith, below)
+
+-- ---- a walk over all channels is one over all numbers of two octal digits
+
+past_low : (c : ℕ) → 0o14 ≤ c → c < 0o20 → IsTrue (names_channel c) → ⊥
+unfolding names_channel
+past_low c past below names = grind (arith, past, below)
+
+past_high : (c : ℕ) → 0o34 ≤ c → IsTrue (names_channel c) → ⊥
+unfolding names_channel
+past_high c past names = grind (arith, past)
+
+pub numbers_of_channels : {X : Type 0} (f : ℕ → List X)
+    → ((c : ℕ) → (IsTrue (names_channel c) → ⊥) → f c ≡ [])
+    → flat_map f all_channels ≡ flat_map f (range_with_len 0 0o100)
+unfolding all_channels tabulate channel_number
+numbers_of_channels f none =
+    flat_map-append f (range_with_len 0 0o14) (range_with_len 0o20 0o14)
+    ∙ flat_map_parts f 0o14 4 0o14 0o44
+    (λ c low high. none c (past_low c low (omega (arith, high))))
+    (λ c low. none c (past_high c low))
 
 pub ruleset places_of_numbers = (one_place, place_below, place_again)
 

@@ -1,15 +1,12 @@
-mod NumeralLemmas
-mod TraceLemmas
 mod FaultLemmas
-mod KeepsLemmas
 mod VerdictLemmas
-mod OpeningLemmas
 mod CheckLemmas
 mod LawLemmas
-mod NumeralTextLemmas
-mod PrintedLineLemmas
-mod PrintedTextLemmas
-mod PrintedLawLemmas
-mod PrintedReportLemmas
 mod RisingTurnLemmas
-mod NumberListLemmas
+-- facts of the definitions, which proofs of other crates cite
+pub mod TraceLemmas
+pub mod KeepsLemmas
+pub mod OpeningLemmas
+pub mod PrintedLineLemmas
+pub mod PrintedTextLemmas
+pub mod PrintedLawLemmas

@@ -12,22 +12,20 @@ use Rattle.pp_channel.specs.declared.channel_state.ChannelState.{ChannelState}
 use Rattle.pp_channel.specs.declared.event.Event.{Event}
 use Rattle.pp_channel.specs.declared.event.Event.TheVariants.{Activate, Disconnect, Put, Take, Function}
 use Rattle.pp_deck.proofs.FieldTextLemmas.{IsField, IsTail, and_both, and_left, and_right, fields_of_plain, is_ink, is_plain, tail_blank, tail_field, tail_last}
+use Rattle.pp_deck.proofs.NumeralFieldLemmas.{decimal_is_field, octal_ink, octal_is_field}
 use Rattle.pp_deck.specs.DeckText.{fields_of}
 use Rattle.pp_machine.specs.ProcessorPlaces as processor_places
-use Rattle.pp_machine.specs.PpNo.{names_processor, processor_number}
+use Rattle.pp_machine.specs.PpNo.{names_processor}
 use Rattle.pp_machine.specs.Processor.{Processor}
 use Rattle.pp_machine.specs.declared.pp_state.PpState.{PpState}
 use Rattle.pp_machine.specs.declared.pp_state.PpState.TheVariants.{Running, Stopped, Fault}
 use Rattle.pp_machine.specs.declared.trace.Trace.{Trace}
-use Rattle.pp_text.specs.Numeral.{decimal, octal}
+use Rattle.pp_word.specs.Numeral.{decimal, is_digit, numeral, octal}
+use Rattle.pp_word.specs.NumeralLaws.{decimal_are, decimal_read, octal_read}
 use Rattle.pp_text.specs.PrintedText.{channel_line as printed_channel_line, channel_text, event_line, event_text, line_end, processor_line, state_text}
-use Rattle.pp_report.specs.PrintedReport.{end_text, line_by as line_by_author}
 use Rattle.pp_text.specs.TextLaw.{EventFits}
-use Rattle.pp_runner.specs.declared.end.End.{End}
-use Rattle.pp_runner.specs.declared.end.End.TheVariants as ends
-use Rattle.pp_check.specs.TraceLine.{channel_in, channel_line, empty, parsed_event, full_with, inactive, is_digit, is_processor, parsed_line, number_after, numbered_line, numeral, parsed_state, turn_line}
+use Rattle.pp_check.specs.TraceLine.{channel_in, channel_line, empty, parsed_event, full_with, inactive, is_processor, parsed_line, number_after, numbered_line, parsed_state, turn_line}
 use Rattle.pp_check.specs.declared.trace_line.TraceLine.TheVariants.{AtTurn, Numbered, Other, Standing}
-use Rattle.pp_check.proofs.NumeralTextLemmas.{decimal_are, decimal_field, decimal_read, octal_field, octal_ink, octal_read}
 
 -- ---- fields of processors and channels
 
@@ -81,7 +79,7 @@ event_fields (Take w) = codes "TAK" ∷ octal 4 w ∷ []
 event_fields (Function w) = codes "FNC" ∷ octal 4 w ∷ []
 
 word_field : (text : List ℕ) → IsField text → (w : ℕ) → IsTail (32 ∷ text ++ 32 ∷ octal 4 w) (text ∷ octal 4 w ∷ [])
-word_field text is w = tail_field text (32 ∷ octal 4 w) (octal 4 w ∷ []) is (tail_last (octal 4 w) (octal_field 4 w (omega arith)))
+word_field text is w = tail_field text (32 ∷ octal 4 w) (octal 4 w ∷ []) is (tail_last (octal 4 w) (octal_is_field 4 w (omega arith)))
 
 event_tail : (e : Event) → IsTail (32 ∷ event_text e) (event_fields e)
 unfolding event_fields
@@ -136,14 +134,14 @@ unfolding event_body
 plain_body e =
     let event = 32 ∷ event_text e.event in
     let channel = 32 ∷ channel_field e.channel in
-    plain_more (decimal e.turn) (32 ∷ processor_field e.pp ++ (channel ++ event)) (ink_plain (decimal e.turn) (decimal_field e.turn).ink)
+    plain_more (decimal e.turn) (32 ∷ processor_field e.pp ++ (channel ++ event)) (ink_plain (decimal e.turn) (decimal_is_field e.turn).ink)
     (plain_more (32 ∷ processor_field e.pp) (channel ++ event) (plain_octal 2 e.pp) (plain_more channel event (plain_octal 2 e.channel) (plain_event e.event)))
 
 body_fields : (e : Trace) → fields_of (event_body e) ≡ decimal e.turn ∷ processor_field e.pp ∷ channel_field e.channel ∷ event_fields e.event
 unfolding event_body
 body_fields e =
     fields_of_plain (event_body e) (plain_body e)
-    ∙ tail_field (processor_field e.pp) _ _ (is_processor_field e.pp) (tail_field (channel_field e.channel) _ _ (is_channel_field e.channel) (event_tail e.event)) (decimal e.turn) (decimal_field e.turn)
+    ∙ tail_field (processor_field e.pp) _ _ (is_processor_field e.pp) (tail_field (channel_field e.channel) _ _ (is_channel_field e.channel) (event_tail e.event)) (decimal e.turn) (decimal_is_field e.turn)
 
 pub event_line_read : (e : Trace) → EventFits e → e.turn < 10 ^ 19 → parsed_line (fields_of (event_body e)) ≡ Some (AtTurn e.turn e.channel e.event)
 unfolding parsed_line turn_line
@@ -165,14 +163,6 @@ pub plain_state : (state : PpState) → list_all is_plain (state_text state) ≡
 plain_state Running = refl
 plain_state Stopped = refl
 plain_state (Fault number) = plain_octal 1 number
-
-pub plain_end : (finish : End) → list_all is_plain (end_text finish) ≡ true
-plain_end ends.Stopped = refl
-plain_end (ends.Fault number) = plain_octal 1 number
-plain_end ends.Steps = refl
-plain_end ends.Patience = refl
-plain_end ends.Memory = refl
-plain_end ends.Worn = refl
 
 pub plain_processor : (n : ℕ) (pp : Processor) (said : List ℕ) → list_all is_plain said ≡ true → list_all is_plain (processor_body n pp said) ≡ true
 unfolding processor_body
@@ -196,27 +186,19 @@ processor_line_read n pp said plain names =
 unfoldable pub numbered_body : ℕ → ℕ → ℕ → Event → List ℕ
 numbered_body c number n e = channel_field c ++ (32 ∷ decimal number ++ (32 ∷ processor_field n ++ (32 ∷ event_text e)))
 
-regrouped : (a b s d p o e l : List ℕ) → (((((((a ++ b) ++ s) ++ d) ++ p) ++ o) ++ s) ++ e) ++ l ≡ ((a ++ b) ++ (s ++ (d ++ (p ++ (o ++ (s ++ e)))))) ++ l
-regrouped a b s d p o e l = simp append_assoc
-
-pub numbered_line_is : (c number place : ℕ) (e : Event) → line_by_author c number e (Some place) ≡ numbered_body c number (processor_number place) e ++ line_end
-unfolding numbered_body
-numbered_line_is c number place e =
-    regrouped (codes "CH") (octal 2 c) (codes " ") (decimal number) (codes " PP") (octal 2 (processor_number place)) (event_text e) line_end
-
 pub plain_numbered : (c number n : ℕ) (e : Event) → list_all is_plain (numbered_body c number n e) ≡ true
 unfolding numbered_body
 plain_numbered c number n e =
     let event = 32 ∷ event_text e in
     let pp = 32 ∷ processor_field n in
     plain_more (channel_field c) (32 ∷ decimal number ++ (pp ++ event)) (plain_octal 2 c)
-    (plain_more (32 ∷ decimal number) (pp ++ event) (ink_plain (decimal number) (decimal_field number).ink) (plain_more pp event (plain_octal 2 n) (plain_event e)))
+    (plain_more (32 ∷ decimal number) (pp ++ event) (ink_plain (decimal number) (decimal_is_field number).ink) (plain_more pp event (plain_octal 2 n) (plain_event e)))
 
 pub numbered_line_read : (c number n : ℕ) (e : Event) → IsTrue (names_channel c) → number < 10 ^ 19 → IsTrue (names_processor n) → HasTwelveBitWord e → parsed_line (fields_of (numbered_body c number n e)) ≡ Some (Numbered number c e)
 unfolding parsed_line channel_line numbered_body numbered_line
 numbered_line_read c number n e names below author bits =
     ap parsed_line (fields_of_plain (numbered_body c number n e) (plain_numbered c number n e)
-    ∙ tail_field (decimal number) (32 ∷ processor_field n ++ (32 ∷ event_text e)) (processor_field n ∷ event_fields e) (decimal_field number) (tail_field (processor_field n) (32 ∷ event_text e) (event_fields e) (is_processor_field n) (event_tail e)) (channel_field c) (is_channel_field c))
+    ∙ tail_field (decimal number) (32 ∷ processor_field n ++ (32 ∷ event_text e)) (processor_field n ∷ event_fields e) (decimal_is_field number) (tail_field (processor_field n) (32 ∷ event_text e) (event_fields e) (is_processor_field n) (event_tail e)) (channel_field c) (is_channel_field c))
     ∙ rw (channel_no_processor c, channel_read c names, decimal_read number below, processor_read n author, event_read e bits) refl
 
 -- ---- the line of a channel

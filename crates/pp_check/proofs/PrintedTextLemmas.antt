@@ -7,16 +7,18 @@ use Rattle.std.proofs.lemmas.List.{append-nil}
 use Rattle.std.proofs.lemmas.List.Elements.{All-cons, All-head, All-nil, All-tail}
 use Rattle.std.proofs.lemmas.List.Splits.{slice_split_at}
 use Rattle.std.proofs.lemmas.List.Sums.{AllPass-from_list_all}
-use Rattle.pp_channel.specs.ChannelNo.{names_channel}
+use Rattle.pp_channel.specs.ChannelNo.{all_channels, names_channel}
 use Rattle.pp_channel.specs.History.{active, waiting, history_on}
 use Rattle.pp_channel.specs.declared.event.Event.{Event}
 use Rattle.pp_deck.proofs.FieldTextLemmas.{is_plain, no_fields, plain_least}
 use Rattle.pp_deck.specs.DeckText.{fields_of, is_line_feed, lines_of}
 use Rattle.pp_machine.specs.MachineState.{MachineState, processor_of}
-use Rattle.pp_machine.specs.PpNo.{names_processor, processor_index, is_named}
+use Rattle.pp_machine.specs.PpNo.{all_processors, names_processor, processor_index, is_named}
 use Rattle.pp_machine.specs.declared.trace.Trace.{Trace}
 use Rattle.pp_text.specs.PrintedText.{each_below, event_line, channel_line, line_end, named_processor_line, printed, state_text, used_channel_line}
+use Rattle.pp_text.specs.PrintingLaws.{channels_by_number, numbered_channel_line, processors_by_number}
 use Rattle.pp_text.specs.TextLaw.{HistoryFits, EventFits}
+use Rattle.pp_text.proofs.TextLawLemmas.{unnamed}
 use Rattle.pp_check.specs.LawfulTrace.{parsed_lines}
 use Rattle.pp_check.specs.PrintedTrace.{IsPrintable}
 use Rattle.pp_check.specs.TraceLine.{parsed_line}
@@ -75,10 +77,17 @@ unfoldable pub lines_below : ℕ → (ℕ → List TraceLine) → List TraceLine
 lines_below zero f = []
 lines_below (suc k) f = lines_below k f ++ f k
 
-pub reads_below : (k : ℕ) (said : ℕ → List ℕ) (f : ℕ → List TraceLine) → ((n : ℕ) → Reads (said n) (f n)) → Reads (each_below k said) (lines_below k f)
+reads_below : (k : ℕ) (said : ℕ → List ℕ) (f : ℕ → List TraceLine) → ((n : ℕ) → Reads (said n) (f n)) → Reads (each_below k said) (lines_below k f)
 unfolding each_below lines_below
 reads_below zero said f each = λ rest. refl
 reads_below (suc k) said f each = reads_both (each_below k said) (said k) (lines_below k f) (f k) (reads_below k said f each) (each k)
+
+-- the lines of all processors, and of all channels, by their numbers
+pub reads_processors : (said : ℕ → List ℕ) (f : ℕ → List TraceLine) → ((n : ℕ) → (IsTrue (names_processor n) → ⊥) → said n ≡ []) → ((n : ℕ) → Reads (said n) (f n)) → Reads (flat_map said all_processors) (lines_below 0o100 f)
+reads_processors said f none each = rw (processors_by_number said none) (reads_below 0o100 said f each)
+
+pub reads_channels : (said : ℕ → List ℕ) (f : ℕ → List TraceLine) → ((c : ℕ) → Reads (if names_channel c then said c else []) (f c)) → Reads (flat_map said all_channels) (lines_below 0o100 f)
+reads_channels said f each = rw (channels_by_number said) (reads_below 0o100 (λ c. if names_channel c then said c else []) f each)
 
 unfoldable pub processor_lines : List Bool → ℕ → List TraceLine
 processor_lines named n = if is_named named n then Other ∷ [] else []
@@ -90,6 +99,9 @@ reads_if false text lines reads = λ rest. refl
 pub left_true : (a b : Bool) → IsTrue (a && b) → IsTrue a
 left_true true b is = refl
 left_true false b is = is
+
+unnamed_line : (named : List Bool) (m : MachineState) (n : ℕ) → (IsTrue (names_processor n) → ⊥) → named_processor_line named m n ≡ []
+unnamed_line named m n none = rw (unnamed (names_processor n) none) refl
 
 reads_processor : (named : List Bool) (m : MachineState) (n : ℕ) → Reads (named_processor_line named m n) (processor_lines named n)
 unfolding processor_lines
@@ -114,7 +126,7 @@ reads_history c (e ∷ h) names fits =
     subst (λ (text : List ℕ). Reads text (state_lines c (e ∷ h))) (sym (channel_line_is c e h))
     (reads_line (channel_body c (active (e ∷ h)) (waiting (e ∷ h))) (Standing c (shown_state (active (e ∷ h)) (waiting (e ∷ h)))) (plain_channel c (active (e ∷ h)) (waiting (e ∷ h))) (channel_line_read c (active (e ∷ h)) (waiting (e ∷ h)) names fits))
 
-pub reads_channel : (histories : List (List Event)) → ((c : ℕ) → IsTrue (names_channel c) → HistoryFits (history_on c histories)) → (c : ℕ) → Reads (used_channel_line histories c) (channel_lines histories c)
+pub reads_channel : (histories : List (List Event)) → ((c : ℕ) → IsTrue (names_channel c) → HistoryFits (history_on c histories)) → (c : ℕ) → Reads (numbered_channel_line histories c) (channel_lines histories c)
 unfolding channel_lines
 reads_channel histories fits c = reads_if (names_channel c) _ (state_lines c (history_on c histories)) (λ is. reads_history c (history_on c histories) is (fits c is))
 
@@ -126,9 +138,9 @@ said_lines named m =
 reads_printed : (named : List Bool) (m : MachineState) → IsPrintable named m → Reads (printed named m) (said_lines named m)
 unfolding printed said_lines
 reads_printed named m is =
-    reads_both (flat_map event_line m.trace ++ each_below 0o100 (named_processor_line named m)) (each_below 0o100 (used_channel_line m.histories)) _ _
-    (reads_both (flat_map event_line m.trace) (each_below 0o100 (named_processor_line named m)) _ _ (reads_trace m.trace is.fits.trace is.few_turns) (reads_below 0o100 (named_processor_line named m) (processor_lines named) (reads_processor named m)))
-    (reads_below 0o100 (used_channel_line m.histories) (channel_lines m.histories) (reads_channel m.histories is.fits.channels))
+    reads_both (flat_map event_line m.trace ++ flat_map (named_processor_line named m) all_processors) (flat_map (used_channel_line m.histories) all_channels) _ _
+    (reads_both (flat_map event_line m.trace) (flat_map (named_processor_line named m) all_processors) _ _ (reads_trace m.trace is.fits.trace is.few_turns) (reads_processors (named_processor_line named m) (processor_lines named) (unnamed_line named m) (reads_processor named m)))
+    (reads_channels (used_channel_line m.histories) (channel_lines m.histories) (reads_channel m.histories is.fits.channels))
 
 -- behind the last line feed stands a line without fields
 pub no_text : map parsed_line (lines_of []) ≡ Some Other ∷ []

@@ -1,8 +1,5 @@
 pub mod TraceLine
 pub mod LawfulTrace
-pub mod NumberList
-pub mod ChannelList
-pub mod ProcessorList
 pub mod TraceFault
 pub mod Verdict
 pub mod PrintedTrace

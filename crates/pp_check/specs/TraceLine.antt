@@ -1,8 +1,7 @@
 -- What a line of a trace says, by its fields: an event of the barrel, an event of threads, the
 -- state of a channel, or nothing that concerns channels. Turns and numbers of events are decimal,
 -- of at most 19 digits; processors, channels and words are octal.
-use Rattle.std.specs.Prelude.{ℕ, ◌+◌, ◌&&◌, Bool, true, false, List, [], ◌∷◌, length, take, drop, codes, nat_le, nat_lt, Option, None, Some, is_some, if◌then◌else◌}
-use Rattle.std.specs.List.{list_all}
+use Rattle.std.specs.Prelude.{ℕ, Bool, true, false, List, [], ◌∷◌, take, drop, codes, Option, None, Some, is_some, if◌then◌else◌}
 use Rattle.std.specs.Option.{option_map}
 use Rattle.std.specs.Str.{bytes_eq}
 use Rattle.pp_channel.specs.ChannelNo.{names_channel}
@@ -11,7 +10,7 @@ use Rattle.pp_channel.specs.declared.event.Event.{Event}
 use Rattle.pp_channel.specs.declared.event.Event.TheVariants.{Activate, Disconnect, Put, Take, Function}
 use Rattle.pp_deck.specs.DeckText.{Field, Fields}
 use Rattle.pp_machine.specs.PpNo.{names_processor}
-use Rattle.pp_text.specs.Numeral.{value_of}
+use Rattle.pp_word.specs.Numeral.{numeral}
 use Rattle.pp_check.specs.declared.trace_line.TraceLine.{TraceLine}
 use Rattle.pp_check.specs.declared.trace_line.TraceLine.TheVariants.{AtTurn, Numbered, Standing, Other}
 
@@ -22,16 +21,6 @@ None >>= next = None
 (Some x) >>= next = next x
 
 -- ---- fields
-
--- the characters of the digits of a base, from 48 (decimal) on
-abbrev pub is_digit : ℕ → ℕ → Bool
-is_digit base character = nat_le 48 character && nat_lt character (48 + base)
-
--- the number that digits of a base spell: at least one digit, and at most `most`
-unfoldable pub numeral : ℕ → ℕ → Field → Option ℕ
-numeral base most field =
-    if nat_le 1 (length field) && nat_le (length field) most && list_all (is_digit base) field
-    then Some (value_of base field) else None
 
 -- the number after two letters, in at most two octal digits
 unfoldable pub number_after : List ℕ → Field → Option ℕ

@@ -4,7 +4,7 @@ use Rattle.std.specs.List.{range_with_len}
 use Rattle.pp_channel.specs.ChannelNo.{channel_count, channel_number}
 use Rattle.pp_channel.specs.declared.event.Event.{Event}
 use Rattle.pp_channel.specs.declared.event.Event.TheVariants.{Activate}
-use Rattle.pp_text.specs.Numeral.{short_decimal}
+use Rattle.pp_word.specs.Numeral.{short_decimal}
 use Rattle.pp_text.specs.PrintedText.{line_end}
 use Rattle.pp_check.specs.LawfulTrace.{events_on, is_opened}
 use Rattle.pp_check.specs.declared.trace_line.TraceLine.{TraceLine}

@@ -1,24 +1,19 @@
 //! Laws of traces. These functions do nothing: their contracts say what is proved of the
 //! definitions.
 
-ghost use Rattle.std.specs.Prelude.{ℕ, ◌≡◌, ◌<◌, ◌≤◌, ◌↔◌, ◌^◌, Bool, IsTrue, List, Ok, length, take};
+ghost use Rattle.std.specs.Prelude.{ℕ, ◌≡◌, ◌<◌, ◌≤◌, ◌↔◌, ◌^◌, Bool, List, Ok, length, take};
 ghost use Rattle.std.specs.List.Sorted.{IsStrictlyIncreasing};
-ghost use Rattle.pp_channel.specs.ChannelNo.{names_channel};
 ghost use Rattle.pp_channel.specs.Law.{KeepsLaw};
-ghost use Rattle.pp_channel.specs.History.{history_on};
 ghost use Rattle.pp_deck.specs.DeckMeaning.{LoadedDeck, deck_meaning};
 ghost use Rattle.pp_deck.specs.DeckText.{Fields, lines_of};
 ghost use Rattle.pp_machine.specs.Headline.{events_on as trace_events_on};
 ghost use Rattle.pp_machine.specs.MachineState.{MachineState};
 ghost use Rattle.pp_machine.specs.Run.{run};
 ghost use Rattle.pp_machine.specs.declared.profile.Profile.{Profile};
-ghost use Rattle.pp_runner.specs.Limits.{RunLimits};
-ghost use Rattle.pp_runner.specs.declared.report.Report.{Report};
-ghost use Rattle.pp_report.specs.PrintedReport.{printed_report};
 ghost use Rattle.pp_text.specs.PrintedText.{printed};
 ghost use Rattle.pp_text.specs.TextLaw.{FitsItsText};
 ghost use Rattle.pp_check.specs.LawfulTrace.{AreLawful, IsLawfulTrace, events_on, history, parsed_lines, turns};
-ghost use Rattle.pp_check.specs.PrintedTrace.{AreOpenedBy, IsPrintable, IsPrintableReport};
+ghost use Rattle.pp_check.specs.PrintedTrace.{AreOpenedBy, IsPrintable};
 ghost use Rattle.pp_check.specs.TraceFault.{IsFault};
 ghost use Rattle.pp_check.specs.declared.trace_fault.TraceFault.{TraceFault};
 ghost use Rattle.pp_check.specs.declared.trace_line.TraceLine.{TraceLine};
@@ -26,7 +21,6 @@ ghost use Rattle.pp_check.specs.declared.trace_line.TraceLine.{TraceLine};
 use pp_channel::session_law;
 use pp_deck::deck_law;
 use pp_machine::run_law;
-use std::alloc::Allocator;
 
 /// The fault of a text is at the first line with which it is no lawful trace: the lines before it
 /// are lawful, and so are all prefixes of these, and no lines that contain it are. A text has at
@@ -79,20 +73,3 @@ pub fn barrel_law()
     deck_law();
     run_law();
 }
-
-/// What threads print is lawful: the text of a report of any run of a machine by threads that fits
-/// its text, as each that is printed does (`write_report`), if no number of an event has more than
-/// 19 decimal digits, and the channels given as open are those that dead start opened. On each
-/// channel the events that are read, after what was open, are the history that the run made.
-pub fn printed_report_law<A: Allocator>()
-    ensures lawful { (named : List Bool) (limits : RunLimits) (m : MachineState)
-        (report : Report A) (opened : List Bool) → IsPrintableReport named limits m report
-        → AreOpenedBy m opened
-        → AreLawful opened (lines_of (printed_report named report)) }
-    ensures histories { (named : List Bool) (limits : RunLimits) (m : MachineState)
-        (report : Report A) (opened : List Bool) → IsPrintableReport named limits m report
-        → AreOpenedBy m opened
-        → (c : ℕ) → IsTrue (names_channel c)
-        → history opened (parsed_lines (lines_of (printed_report named report))) c
-        ≡ history_on c report.channels }
-{}

@@ -3,15 +3,14 @@
 ghost use Rattle.std.specs.Prelude.{◌≡◌, ◌<◌, Some, None, MatchOption, is_some, length, if◌then◌else◌};
 ghost use Rattle.pp_check.specs.TraceLine.{active_said, are_over, after_channel, after_processor, channel_in, channel_line, parsed_event, is_processor, last_word, parsed_line, number_after, numbered_line, parsed_state, turn_line};
 
-use crate::numeral::numeral;
 use pp_channel::{ChannelNo, ChannelState, Event, Flags};
 use pp_deck::Fields;
 use pp_machine::PpNo;
-use pp_word::Word12;
+use pp_word::{Word12, numeral};
 
 /// What one line of a trace says.
 #[derive(Clone, Copy)]
-pub(crate) enum TraceLine {
+pub enum TraceLine {
     /// An event in a turn, on a channel.
     AtTurn(u64, ChannelNo, Event),
     /// An event of a channel with its number.
@@ -156,7 +155,7 @@ fn are_over(fields: &mut Fields) -> bool
 }
 
 /// The word of 12 bits that ends the line.
-#[tactic(auto, unfolding(crate::specs::TraceLine::numeral))]
+#[tactic(auto, unfolding(pp_word::specs::Numeral::numeral))]
 fn last_word(fields: &mut Fields) -> Option<Word12>
     ensures { result ≡ last_word fields.old }
 {

@@ -1,10 +1,11 @@
 //! What is counted in a lawful trace.
 
-ghost use Rattle.std.specs.Prelude.{◌≡◌, ◌++◌};
 ghost use Rattle.pp_check.specs.Verdict.{verdict_line};
-ghost use Rattle.pp_text.specs.Piece.{HasRoom};
+ghost use Rattle.pp_text.specs.TextWriter.{Prints};
+ghost use Rattle.pp_text.specs.Written.{IsWritten};
 
-use pp_text::{Piece, push_short_decimal};
+use pp_text::{TextWriter, WriteFault, print_short_decimal};
+use std::io::Write;
 
 /// The counts of a lawful trace (decimal).
 #[derive(Clone, Copy, Debug, PartialEq, Eq)]
@@ -17,17 +18,25 @@ pub struct Verdict {
     pub sessions: u64,
 }
 
-/// Adds `lawful: 12 events on 3 channels, 4 sessions` and a line feed, in at most 103 characters.
-#[tactic(auto, unfolding(crate::specs::Verdict::verdict_line))]
-pub fn push_verdict(line: &mut Piece, verdict: &Verdict)
-    requires { HasRoom 103 line.old }
-    ensures { line.new ≡ line.old ++ verdict_line verdict.now }
+/// Writes `lawful: 12 events on 3 channels, 4 sessions` and a line feed, and flushes the writer.
+pub fn write_verdict<W: Write>(writer: &mut W, verdict: &Verdict) -> Result<(), WriteFault>
+    ensures { IsWritten (verdict_line verdict.now) result
+        (W.contents writer.old) (W.contents writer.new) }
 {
-    line.push(b"lawful: ");
-    push_short_decimal(line, verdict.events);
-    line.push(b" events on ");
-    push_short_decimal(line, verdict.channels);
-    line.push(b" channels, ");
-    push_short_decimal(line, verdict.sessions);
-    line.push(b" sessions\n");
+    let mut text = TextWriter::new(writer);
+    print_verdict(&mut text, verdict);
+    text.finish()
+}
+
+fn print_verdict<W: Write>(text: &mut TextWriter<W>, verdict: &Verdict)
+    ensures { Prints W.contents text.old text.new (verdict_line verdict.now) }
+{
+    text.print(b"lawful: ");
+    print_short_decimal(text, verdict.events);
+    text.print(b" events on ");
+    print_short_decimal(text, verdict.channels);
+    text.print(b" channels, ");
+    print_short_decimal(text, verdict.sessions);
+    text.print(b" sessions");
+    text.print(b"\n");
 }

@@ -7,8 +7,8 @@ use Rattle.clap.specs.declared.error.Error.{Error}
 use Rattle.clap.specs.declared.error.kind.ErrorKind.TheVariants.{OutOfMemory}
 use Rattle.clap.specs.declared.parser.matches.ArgMatches.{ArgMatches}
 use Rattle.pp_channel.specs.ChannelNo.{channel_count}
-use Rattle.pp_check.specs.ChannelList.{AreListed}
-use Rattle.pp_check.specs.ProcessorList.{AreProcessorsListed}
+use Rattle.pp_command.specs.ChannelList.{AreListed}
+use Rattle.pp_command.specs.ProcessorList.{AreProcessorsListed}
 use Rattle.pp_draw.specs.declared.window.Window.{Window}
 use Rattle.pp_machine.specs.Profile.{has_processor, processors_in}
 use Rattle.pp_state.specs.declared.bounds.Bounds.{Bounds}

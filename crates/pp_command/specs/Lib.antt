@@ -1,1 +1,4 @@
+pub mod NumberList
+pub mod ChannelList
+pub mod ProcessorList
 pub mod CommandLine

@@ -4,15 +4,16 @@ ghost use Rattle.std.specs.Prelude.{◌≡◌, ◌≢◌, ◌-◌, ◌≤◌, �
 ghost use Rattle.pp_runner.specs.Limits.{AreLimits};
 ghost use Rattle.pp_command.specs.CommandLine.{AskFor, AsksForMore, AsksForText, Finds, IsFaultBy, IsRefused, IsWorkOf, Name, ReadsAddress, ReadsBounds, ReadsChannels, ReadsChosen, ReadsEnd, ReadsFile, ReadsNumber, ReadsProcessor, ReadsProcessors, ReadsProfile, ReadsTurn, ReadsFlag, ReadsTurns, ReadsWindow, refusals, value_in};
 
+use crate::channel_list::listed_channels;
 use crate::command::command;
 use crate::line_fault::LineFault;
 use crate::number_range::{FROM, PATIENCE, STEPS, TURNS};
+use crate::processor_list::listed_processors;
 use crate::text_of::{ChosenSteps, TextOf};
 use crate::work::{Asked, Work};
 use clap::error::ErrorKind;
 use clap::{ArgMatches, Error};
 use pp_channel::CHANNELS;
-use pp_check::{listed_channels, listed_processors};
 use pp_draw::{MOST_TURNS, Window};
 use pp_machine::{PROCESSORS, PpNo, Profile};
 use pp_runner::Limits;

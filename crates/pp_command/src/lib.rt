@@ -1,14 +1,18 @@
 //! The command line: what its words ask for, or why they are refused, and its help.
 #![tactic(auto)]
 
+mod channel_list;
 mod command;
 mod command_words;
 mod help;
 mod line_fault;
+mod number_list;
 mod number_range;
+mod processor_list;
 mod text_of;
 mod work;
 
+pub use channel_list::listed_channels;
 pub use command_words::read_words;
 pub use line_fault::LineFault;
 pub use text_of::{ChosenSteps, TextOf};

@@ -1,5 +1,4 @@
 mod DeckLawLemmas
-mod DigitLemmas
 mod HeadlineLemmas
 mod KeywordLemmas
 mod WordsLemmas
@@ -7,6 +6,7 @@ mod WordsLemmas
 pub mod DeadStartLemmas
 pub mod FieldLemmas
 pub mod FieldTextLemmas
+pub mod NumeralFieldLemmas
 pub mod LawLemmas
 pub mod LineParts
 pub mod LinesLemmas

@@ -1,15 +1,17 @@
 -- The numbers that a deck loads are in range.
 use Rattle.std.proofs.Common.{◌≡◌, ℕ, ◌+◌, ◌-◌, ◌*◌, ◌^◌, ◌<◌, ◌≤◌, Bool, true, false, cond, List, [], ◌∷◌, length, fold, Option, Some, None, Result, Ok, Err, refl, arith, ltb, lit<}
-use Rattle.std.specs.Prelude.{nat_le, ◌&&◌, slice_index, All, find, codes}
+use Rattle.std.specs.Prelude.{nat_le, nat_lt, ◌&&◌, slice_index, All, find, codes}
 use Rattle.std.specs.Char.{is_ascii_digit}
 use Rattle.std.specs.Str.{bytes_eq}
 use Rattle.std.specs.List.{list_all}
+use Rattle.std.specs.Option.{ok_or}
 use Rattle.std.proofs.Math.Nat.{mul-le-mul_left, pow-le-pow_right, pow-suc, pow-zero}
-use Rattle.std.proofs.lemmas.Bool.{leb-true}
+use Rattle.std.proofs.lemmas.Bool.{leb-true, ltb-true}
 use Rattle.std.proofs.lemmas.List.Elements.{All-cons, All-nil}
 use Rattle.pp_word.specs.Address.{place_count}
+use Rattle.pp_word.specs.Numeral.{is_digit, numeral, value_of}
 use Rattle.pp_machine.specs.declared.profile.Profile.{Profile}
-use Rattle.pp_deck.specs.OctalNumber.{number, octal_value, is_octal_digit}
+use Rattle.pp_deck.specs.OctalNumber.{number}
 use Rattle.pp_deck.specs.DeckLine.{Line, nothing, central_size, central_words, section, start, words, dead_start, keyword_of, line_by, number_then, ends_with, start_from, words_in, central_line, central_words_line, section_line, start_line, words_line, ◌>>=◌, line_after}
 use Rattle.pp_deck.specs.DeckMeaning.{has_fields, stated_size, size_by, size_in, size_of}
 use Rattle.pp_deck.specs.declared.flaw.Flaw.{Flaw}
@@ -36,21 +38,25 @@ digit_more power value d r le lt =
     let most : value * 8 + d + 1 ≤ value * 8 + 8 = omega (arith, le) in
     omega (arith, lt, mul-le-mul_left power most)
 
-octal_below : (field : List ℕ) (value : ℕ) → list_all is_octal_digit field ≡ true → fold (λ value digit. value * 8 + (digit - 48)) value field < (value + 1) * 8 ^ length field
+octal_below : (field : List ℕ) (value : ℕ) → list_all (is_digit 8) field ≡ true → fold (λ value digit. value * 8 + (digit - 48)) value field < (value + 1) * 8 ^ length field
 octal_below [] value e = rw pow-zero (omega arith)
 octal_below (c ∷ field) value e =
-    let most = leb-true c 55 (and_right (nat_le 48 c) (nat_le c 55) (and_left (is_octal_digit c) (list_all is_octal_digit field) e)) in
-    rw (pow-suc 8 (length field)) (digit_more (8 ^ length field) value (c - 48) _ (omega (arith, most)) (octal_below field (value * 8 + (c - 48)) (and_right (is_octal_digit c) (list_all is_octal_digit field) e)))
+    let most = ltb-true c 56 (and_right (nat_le 48 c) (nat_lt c 56) (and_left (is_digit 8 c) (list_all (is_digit 8) field) e)) in
+    rw (pow-suc 8 (length field)) (digit_more (8 ^ length field) value (c - 48) _ (omega (arith, most)) (octal_below field (value * 8 + (c - 48)) (and_right (is_digit 8 c) (list_all (is_digit 8) field) e)))
 
-value_below : (most : ℕ) (field : List ℕ) → (nat_le 1 (length field) && nat_le (length field) most && list_all is_octal_digit field) ≡ true → octal_value field < 8 ^ most
+value_below : (most : ℕ) (field : List ℕ) → (nat_le 1 (length field) && nat_le (length field) most && list_all (is_digit 8) field) ≡ true → value_of 8 field < 8 ^ most
 value_below most field e =
-    let short = leb-true (length field) most (and_right (nat_le 1 (length field)) (nat_le (length field) most) (and_left (nat_le 1 (length field) && nat_le (length field) most) (list_all is_octal_digit field) e)) in
-    let all = and_right (nat_le 1 (length field) && nat_le (length field) most) (list_all is_octal_digit field) e in
+    let short = leb-true (length field) most (and_right (nat_le 1 (length field)) (nat_le (length field) most) (and_left (nat_le 1 (length field) && nat_le (length field) most) (list_all (is_digit 8) field) e)) in
+    let all = and_right (nat_le 1 (length field) && nat_le (length field) most) (list_all (is_digit 8) field) e in
     omega (arith, octal_below field 0 all, pow-le-pow_right {n = 8} (lit< tt) {i = length field} {j = most} short)
 
+holds_read : {A F : Type 0} (P : A → Type 0) (b : Bool) (x : A) (flaw : F) → (b ≡ true → P x) → Holds P (ok_or (cond b (Some x) None) flaw)
+holds_read P true x flaw h = h refl
+holds_read P false x flaw h = tt
+
 number_holds : (most : ℕ) (field : List ℕ) → Holds (λ n. n < 8 ^ most) (number most field)
-unfolding number
-number_holds most field = holds_if (λ n. n < 8 ^ most) (nat_le 1 (length field) && nat_le (length field) most && list_all is_octal_digit field) (Ok (octal_value field)) _ (value_below most field)
+unfolding number numeral
+number_holds most field = holds_read (λ n. n < 8 ^ most) (nat_le 1 (length field) && nat_le (length field) most && list_all (is_digit 8) field) (value_of 8 field) _ (value_below most field)
 
 words_hold : (most place end : ℕ) (past : _) (fields : List (List ℕ)) → Holds (All (λ w. w < 8 ^ most)) (words_in most place end past fields)
 unfolding words_in

@@ -6,7 +6,7 @@ ghost use Rattle.pp_deck.specs.Flaw.{code_of};
 use crate::deck_fault::DeckCode;
 
 /// What is wrong with a line. No line takes memory.
-#[derive(Clone, Copy, Debug, PartialEq, Eq)]
+#[derive(Clone, Copy)]
 pub(crate) enum Flaw {
     UnknownLine,
     BadDigits,

@@ -4,7 +4,7 @@ ghost use Rattle.std.specs.Prelude.{◌≡◌, ◌<◌, ◌≤◌, ◌^◌, IfOk
 ghost use Rattle.pp_deck.specs.OctalNumber.{number};
 
 use crate::flaw::Flaw;
-use pp_word::{Word12, Word18, Word60};
+use pp_word::{Word12, Word18, Word60, numeral};
 
 /// The number in a field of at most `most` octal digits.
 #[tactic(auto, unfolding(crate::specs::OctalNumber::number))]
@@ -13,17 +13,7 @@ pub(crate) fn number(field: &[u8], most: usize) -> Result<u64, Flaw>
     ensures exact { result ≡ number most field.now }
     ensures small { IfOk result (λ n. n < 8 ^ most) }
 {
-    if field.is_empty() || field.len() > most {
-        return Err(Flaw::BadDigits);
-    }
-    let mut value = 0;
-    for digit in field {
-        if !(b'0' <= *digit && *digit <= b'7') {
-            return Err(Flaw::BadDigits);
-        }
-        value = value * 8 + u64::from(*digit - b'0');
-    }
-    Ok(value)
+    numeral(8, most, field).ok_or(Flaw::BadDigits)
 }
 
 /// The word of 12 bits in a field of at most four digits.

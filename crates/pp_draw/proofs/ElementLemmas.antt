@@ -1,6 +1,6 @@
 -- The elements of a drawing are balanced.
 use Rattle.std.proofs.Common.{◌≡◌, ℕ, ◌+◌, ◌-◌, ◌*◌, ◌&&◌, Bool, true, false, cond, leb, List, [], ◌∷◌, ◌++◌, Option, None, Some, refl, codes}
-use Rattle.pp_text.specs.Numeral.{octal, short_decimal}
+use Rattle.pp_word.specs.Numeral.{octal, short_decimal}
 use Rattle.pp_draw.specs.Elements.{band_element, label_element, label_text, lane_foot, lane_head, lost_text, part_class, rectangle_tag, text_element, text_tag, title_text}
 use Rattle.pp_draw.specs.Frame.{foot_text, head_text, lane_top, legend_text, picture_height, picture_width, style_text, tick_element}
 use Rattle.pp_draw.specs.Condition.{channel_name, face_of, processor_name}

@@ -1,4 +1,3 @@
-mod Printed
 mod RowLemmas
 mod LaneLemmas
 mod BandLemmas

@@ -1,7 +1,7 @@
 -- Reading a drawing.
 use Rattle.std.proofs.Common.{◌≡◌, ℕ, zero, suc, ◌<◌, ◌%◌, ◌/◌, ◌&&◌, Bool, true, false, cond, eqb, List, [], ◌∷◌, ◌++◌, Option, None, Some, refl, ap, ◌∙◌, arith}
 use Rattle.std.proofs.lemmas.List.Sums.{fold-append}
-use Rattle.pp_text.specs.Numeral.{digit, octal, short_decimal, unpadded}
+use Rattle.pp_word.specs.Numeral.{digit, octal, short_decimal, unpadded}
 use Rattle.pp_draw.specs.WellFormed.{Place, Reader, Sign, Tag, at, between, quoted, space, letter, other, read, read_at, read_on, sign_of}
 
 -- ---- plain characters

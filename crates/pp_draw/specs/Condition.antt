@@ -2,7 +2,7 @@
 use Rattle.std.specs.Prelude.{ℕ, Bool, true, false, ◌==◌, List, ◌++◌, Option, None, Some, codes}
 use Rattle.pp_channel.specs.declared.event.Event.{Event}
 use Rattle.pp_channel.specs.declared.event.Event.TheVariants.{Activate, Disconnect, Put, Take, Function}
-use Rattle.pp_text.specs.Numeral.{octal}
+use Rattle.pp_word.specs.Numeral.{octal}
 use Rattle.pp_draw.specs.declared.condition.ChannelCondition.{ChannelCondition}
 use Rattle.pp_draw.specs.declared.condition.ChannelCondition.TheVariants.{Inactive, Active, Full, Sent}
 use Rattle.pp_draw.specs.declared.condition.Condition.{Condition}

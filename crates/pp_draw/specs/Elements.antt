@@ -1,6 +1,6 @@
 -- The elements of the picture. What a run decides stands in them as digits alone.
 use Rattle.std.specs.Prelude.{ℕ, ◌+◌, ◌-◌, Bool, List, [], ◌++◌, Option, None, Some, codes, if◌then◌else◌}
-use Rattle.pp_text.specs.Numeral.{short_decimal}
+use Rattle.pp_word.specs.Numeral.{short_decimal}
 use Rattle.pp_draw.specs.Condition.{face_of}
 use Rattle.pp_draw.specs.Part.{is_visible, label_from}
 use Rattle.pp_draw.specs.declared.part.Part.{Part}

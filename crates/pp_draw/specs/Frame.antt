@@ -1,7 +1,7 @@
 -- What stands round the lanes: the head of the picture with its style sheet, the legend, the scale
 -- of turns.
 use Rattle.std.specs.Prelude.{ℕ, ◌+◌, ◌-◌, ◌*◌, ◌%◌, ◌==◌, List, [], ◌++◌, codes, max, nat_le, if◌then◌else◌}
-use Rattle.pp_text.specs.Numeral.{short_decimal}
+use Rattle.pp_word.specs.Numeral.{short_decimal}
 use Rattle.pp_text.specs.PrintedText.{each_below}
 use Rattle.pp_draw.specs.Elements.{rectangle_tag, text_element}
 use Rattle.pp_draw.specs.Window.{band_width, place}

@@ -9,7 +9,7 @@ use pp_text::{channel_name, octal4};
 use pp_word::Word12;
 
 /// How a channel stands after an event.
-#[derive(Clone, Copy, Debug, PartialEq, Eq)]
+#[derive(Clone, Copy)]
 pub(crate) enum ChannelCondition {
     /// It is inactive.
     Inactive,

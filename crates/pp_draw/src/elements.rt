@@ -5,7 +5,7 @@ ghost use Rattle.pp_text.specs.TextWriter.{Prints};
 ghost use Rattle.pp_draw.specs.Elements.{band_element, label_text, lane_head, lost_text, part_class, rectangle_tag, text_element, text_tag, title_text};
 
 use crate::part::Part;
-use pp_text::TextWriter;
+use pp_text::{TextWriter, print_short_decimal};
 use std::io::Write;
 
 /// Prints the tag of a rectangle of a class, at a place and of a size, without its end.
@@ -22,13 +22,13 @@ pub(crate) fn print_rectangle_tag<W: Write>(
     text.print(b"<rect class='");
     text.print(&class);
     text.print(b"' x='");
-    text.print_short_decimal(x);
+    print_short_decimal(text, x);
     text.print(b"' y='");
-    text.print_short_decimal(y);
+    print_short_decimal(text, y);
     text.print(b"' width='");
-    text.print_short_decimal(width);
+    print_short_decimal(text, width);
     text.print(b"' height='");
-    text.print_short_decimal(height);
+    print_short_decimal(text, height);
     text.print(b"'");
 }
 
@@ -39,9 +39,9 @@ pub(crate) fn print_text_tag<W: Write>(text: &mut TextWriter<W>, class: [u8; 1],
     text.print(b"<text class='");
     text.print(&class);
     text.print(b"' x='");
-    text.print_short_decimal(x);
+    print_short_decimal(text, x);
     text.print(b"' y='");
-    text.print_short_decimal(y);
+    print_short_decimal(text, y);
     text.print(b"'>");
 }
 
@@ -88,9 +88,9 @@ fn print_title<W: Write>(text: &mut TextWriter<W>, name: &[u8; 4], part: &Part)
     print_label_text(text, &face.label);
     print_lost(text, part.is_lost);
     text.print(b" from ");
-    text.print_short_decimal(part.since);
+    print_short_decimal(text, part.since);
     text.print(b" to ");
-    text.print_short_decimal(part.until);
+    print_short_decimal(text, part.until);
 }
 
 fn print_label_text<W: Write>(text: &mut TextWriter<W>, label: &Option<[u8; 4]>)
@@ -119,10 +119,10 @@ pub(crate) fn print_lane_head<W: Write>(
     ensures { Prints W.contents text.old text.new (lane_head top name.now width) }
 {
     text.print(b"<g transform='translate(80,");
-    text.print_short_decimal(top);
+    print_short_decimal(text, top);
     text.print(b")'>\n<text x='-72' y='26'>");
     text.print(name);
     text.print(b"</text>\n<rect class='u' y='30' width='");
-    text.print_short_decimal(width);
+    print_short_decimal(text, width);
     text.print(b"' height='1'/>\n");
 }

@@ -6,7 +6,7 @@ ghost use Rattle.pp_draw.specs.Frame.{foot_text, head_text, lane_top, legend_tex
 
 use crate::elements::{print_rectangle_tag, print_text_tag};
 use crate::window::Window;
-use pp_text::TextWriter;
+use pp_text::{TextWriter, print_short_decimal};
 use std::io::Write;
 
 /// The upper edge of the lane with this many lanes above it.
@@ -25,17 +25,17 @@ pub(crate) fn print_head<W: Write>(text: &mut TextWriter<W>, window: Window, row
     let width = (window.band_width() + 220).max(640);
     let height = lane_top(rows) + 28;
     text.print(b"<svg xmlns='http://www.w3.org/2000/svg' width='");
-    text.print_short_decimal(width);
+    print_short_decimal(text, width);
     text.print(b"' height='");
-    text.print_short_decimal(height);
+    print_short_decimal(text, height);
     text.print(b"' viewBox='0 0 ");
-    text.print_short_decimal(width);
+    print_short_decimal(text, width);
     text.print(b" ");
-    text.print_short_decimal(height);
+    print_short_decimal(text, height);
     text.print(b"'>\n<title>Channels and processors, turns ");
-    text.print_short_decimal(u64::from(window.from));
+    print_short_decimal(text, u64::from(window.from));
     text.print(b" to ");
-    text.print_short_decimal(u64::from(window.to));
+    print_short_decimal(text, u64::from(window.to));
     text.print(b"</title>\n");
 }
 
@@ -108,7 +108,7 @@ fn print_tick<W: Write>(text: &mut TextWriter<W>, window: Window, rows: u64, tur
     print_rectangle_tag(text, *b"g", x, 32, 1, 36 * rows + 8);
     text.print(b"/>\n");
     print_text_tag(text, *b"t", x, lane_top(rows) + 18);
-    text.print_short_decimal(turn);
+    print_short_decimal(text, turn);
     text.print(b"</text>\n");
 }
 

@@ -17,7 +17,7 @@ use crate::seen_step::SeenStep;
 use crate::window::Window;
 use pp_channel::{ChannelNo, Event};
 use pp_machine::{Machine, PROCESSORS, PpNo, Trace};
-use pp_text::{TextWriter, channel_name, processor_name};
+use pp_text::{TextWriter, channel_name, print_channel_text, print_state_text, processor_name};
 use std::alloc::Allocator;
 use std::io::Write;
 
@@ -56,7 +56,7 @@ pub(crate) fn print_channel_lane<A: Allocator, W: Write>(
     }
     lane.finish(text);
     print_text_tag(text, *b"e", width + 8, 26);
-    text.print_channel_text(machine.channel(c));
+    print_channel_text(text, machine.channel(c));
     text.print(b"</text>\n");
     text.print(b"</g>\n");
     row + 1
@@ -119,7 +119,7 @@ pub(crate) fn print_processor_lane<A: Allocator, W: Write>(
     }
     lane.finish(text);
     print_text_tag(text, *b"e", width + 8, 26);
-    text.print_state_text(machine.pp(n).state());
+    print_state_text(text, machine.pp(n).state());
     text.print(b"</text>\n");
     text.print(b"</g>\n");
     row + 1

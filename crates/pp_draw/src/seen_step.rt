@@ -58,7 +58,7 @@ struct ShownSteps<A: Allocator> {
 }
 
 /// What is noted of a machine and a processor before a step.
-#[derive(Clone, Copy, Debug)]
+#[derive(Clone, Copy)]
 struct Found {
     turn: u64,
     state: PpState,

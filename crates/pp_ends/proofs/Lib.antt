@@ -7,4 +7,3 @@ pub mod AlikeLemmas
 pub mod FoundLemmas
 pub mod OneEnding
 pub mod LoopLemmas
-mod EndsTextLemmas

@@ -1,10 +1,12 @@
 -- How a run ends, in text: the ending; for each processor that is shown how it stands, and between
 -- which places it loops; and the channels.
 use Rattle.std.specs.Prelude.{ℕ, Bool, List, [], ◌++◌, Option, None, Some, codes, if◌then◌else◌}
+use Rattle.std.specs.List.{flat_map}
+use Rattle.pp_channel.specs.ChannelNo.{all_channels}
 use Rattle.pp_machine.specs.MachineState.{MachineState, processor_of}
-use Rattle.pp_machine.specs.PpNo.{is_named}
-use Rattle.pp_text.specs.Numeral.{decimal, octal, short_decimal}
-use Rattle.pp_text.specs.PrintedText.{each_below, line_end, processor_line, used_channel_line}
+use Rattle.pp_machine.specs.PpNo.{all_processors, is_named}
+use Rattle.pp_word.specs.Numeral.{decimal, octal, short_decimal}
+use Rattle.pp_text.specs.PrintedText.{line_end, processor_line, used_channel_line}
 use Rattle.pp_text.specs.Standing.{standing}
 use Rattle.pp_ends.specs.Endings.{after_turns}
 use Rattle.pp_ends.specs.Loops.{loop_of}
@@ -32,7 +34,7 @@ abbrev pub loop_text : Option Loop → List ℕ
 loop_text None = []
 loop_text (Some loop) = codes " LOOPS " ++ octal 4 loop.first ++ codes " TO " ++ octal 4 loop.last
 
--- the line of the processor with this number, where it is shown
+-- the line of processor n, if it is shown
 abbrev pub looping_line : List Bool → MachineState → List (Option Loop) → ℕ → List ℕ
 looping_line shown m loops n =
     if is_named shown n
@@ -42,8 +44,8 @@ looping_line shown m loops n =
 unfoldable pub ends_text : List Bool → Ending → ℕ → MachineState → List (Option Loop) → List ℕ
 ends_text shown ending turns m loops =
     ending_text ending turns ++ line_end
-    ++ each_below 0o100 (looping_line shown m loops)
-    ++ each_below 0o100 (used_channel_line m.histories)
+    ++ flat_map (looping_line shown m loops) all_processors
+    ++ flat_map (used_channel_line m.histories) all_channels
 
 -- and of a machine as it was loaded
 abbrev pub ends_text_of : List Bool → Ending → ℕ → MachineState → List (Option Loop) → List ℕ

@@ -1,10 +1,11 @@
 //! The text of how a run ends.
 
-ghost use Rattle.std.specs.Prelude.{◌≡◌, ◌≤◌, ◌+◌, ◌++◌, codes, length};
+ghost use Rattle.std.specs.Prelude.{◌≡◌, ◌++◌, codes};
+ghost use Rattle.std.specs.List.{flat_map};
 ghost use Rattle.pp_machine.specs.MachineState.{processor_of};
-ghost use Rattle.pp_text.specs.Numeral.{octal};
-ghost use Rattle.pp_text.specs.Piece.{HasRoom};
-ghost use Rattle.pp_text.specs.PrintedText.{each_below, line_end, processor_line};
+ghost use Rattle.pp_machine.specs.PpNo.{all_processors};
+ghost use Rattle.pp_word.specs.Numeral.{octal};
+ghost use Rattle.pp_text.specs.PrintedText.{line_end, processor_line};
 ghost use Rattle.pp_text.specs.Standing.{standing};
 ghost use Rattle.pp_text.specs.TextWriter.{Prints};
 ghost use Rattle.pp_text.specs.Written.{IsWritten};
@@ -14,8 +15,8 @@ use crate::ending::Ending;
 use crate::loops::Loop;
 use pp_machine::{Machine, PROCESSORS, PpNo};
 use pp_text::{
-    NUMBERS, Piece, TextWriter, WriteFault, octal4, print_channels, print_standing,
-    processor_heading, push_decimal, push_short_decimal,
+    TextWriter, WriteFault, octal4, print_channels, print_decimal, print_short_decimal,
+    print_standing, processor_heading,
 };
 use std::alloc::Allocator;
 use std::io::Write;
@@ -50,35 +51,24 @@ pub fn write_ends<A: Allocator, W: Write>(
 fn print_ending<W: Write>(text: &mut TextWriter<W>, ending: Ending, turns: u32)
     ensures { Prints W.contents text.old text.new (ending_text ending turns) }
 {
-    let mut line = Piece::new();
-    push_ending(&mut line, ending, turns);
-    text.print(line.as_slice());
-}
-
-/// Adds `REPEATS FROM 000010 EVERY 20`.
-fn push_ending(line: &mut Piece, ending: Ending, turns: u32)
-    requires { HasRoom 60 line.old }
-    ensures text { line.new ≡ line.old ++ ending_text ending turns }
-    ensures room { length line.new ≤ length line.old + 60 }
-{
     match ending {
         Ending::AtRest { from } => {
-            line.push(b"AT REST FROM ");
-            push_decimal(line, u64::from(from));
+            text.print(b"AT REST FROM ");
+            print_decimal(text, u64::from(from));
         }
         Ending::Stuck { from } => {
-            line.push(b"STUCK FROM ");
-            push_decimal(line, u64::from(from));
+            text.print(b"STUCK FROM ");
+            print_decimal(text, u64::from(from));
         }
         Ending::Repeats { from, every } => {
-            line.push(b"REPEATS FROM ");
-            push_decimal(line, u64::from(from));
-            line.push(b" EVERY ");
-            push_short_decimal(line, u64::from(every));
+            text.print(b"REPEATS FROM ");
+            print_decimal(text, u64::from(from));
+            text.print(b" EVERY ");
+            print_short_decimal(text, u64::from(every));
         }
         Ending::GoingOn => {
-            line.push(b"GOING ON AT ");
-            push_decimal(line, u64::from(turns));
+            text.print(b"GOING ON AT ");
+            print_decimal(text, u64::from(turns));
         }
     }
 }
@@ -91,10 +81,10 @@ fn print_processors<A: Allocator, W: Write>(
     loops: &[Option<Loop>; PROCESSORS],
 )
     ensures { Prints W.contents text.old text.new
-        (each_below NUMBERS (looping_line shown.now machine.now loops.now)) }
+        (flat_map (looping_line shown.now machine.now loops.now) all_processors) }
 {
-    for number in 0..NUMBERS {
-        print_shown_processor(text, shown, machine, loops, number);
+    for place in 0..PROCESSORS {
+        print_shown_processor(text, shown, machine, loops, PpNo::at(place));
     }
 }
 
@@ -103,14 +93,13 @@ fn print_shown_processor<A: Allocator, W: Write>(
     shown: &[bool; PROCESSORS],
     machine: &Machine<A>,
     loops: &[Option<Loop>; PROCESSORS],
-    number: u8,
+    n: PpNo,
 )
     ensures { Prints W.contents text.old text.new
-        (looping_line shown.now machine.now loops.now number) }
+        (looping_line shown.now machine.now loops.now n) }
 {
-    match PpNo::new(number) {
-        Some(n) if shown[n.index()] => print_processor(text, machine, n, &loops[n.index()]),
-        _ => {}
+    if shown[n.index()] {
+        print_processor(text, machine, n, &loops[n.index()]);
     }
 }
 

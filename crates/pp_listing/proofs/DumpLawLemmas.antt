@@ -1,28 +1,28 @@
 -- The dump of a deck that has run, read as a deck, is the deck to go on from.
-use Rattle.std.proofs.Common.{◌≡◌, ℕ, ◌^◌, ◌<◌, ◌≤◌, Bool, true, false, cond, List, length, get_or, Option, Some, None, Ok, refl, sym, ap, subst, ◌∙◌, arith}
+use Rattle.std.proofs.Common.{◌≡◌, ℕ, ◌^◌, ◌<◌, ◌≤◌, Bool, true, false, List, length, get_or, Option, Some, None, Ok, refl, sym, ap, subst, ◌∙◌, arith}
 use Rattle.std.specs.Prelude.{IsTrue, ◌&&◌, All, filter_map}
 use Rattle.std.specs.List.{list_any}
 use Rattle.std.proofs.lemmas.Grind.{get_or_default_zero}
 use Rattle.std.proofs.lemmas.List.{get_or-replicate, length-map}
 use Rattle.std.proofs.Math.ListN.{get_or-map}
-use Rattle.pp_channel.specs.ChannelNo.{channel_count, channel_index, names_channel}
+use Rattle.pp_channel.specs.ChannelNo.{all_channels, channel_count, channel_index, names_channel}
 use Rattle.pp_channel.specs.ChannelPlaces as channel_places
 use Rattle.pp_machine.specs.MachineState.{MachineState, processor_of, is_opened}
 use Rattle.pp_machine.specs.Processor.{Processor, IsProcessor, new_processor, no_processor}
-use Rattle.pp_machine.specs.PpNo.{names_processor, processor_count, processor_index, processor_number}
+use Rattle.pp_machine.specs.PpNo.{all_processors, names_processor, processor_count, processor_index, processor_number}
 use Rattle.pp_machine.specs.Run.{run}
 use Rattle.pp_machine.specs.declared.block.Block.{Block}
 use Rattle.pp_machine.specs.declared.pp_state.PpState.{PpState}
 use Rattle.pp_machine.specs.declared.pp_state.PpState.TheVariants.{Running, Stopped, Fault}
 use Rattle.pp_machine.specs.declared.profile.Profile.{Profile}
-use Rattle.pp_machine.specs.ProcessorPlaces.{number_of_place, place_below, number_fits}
+use Rattle.pp_machine.specs.ProcessorPlaces.{number_of_place, place_below}
 use Rattle.pp_deck.specs.DeckLoad.{processor_with}
 use Rattle.pp_deck.specs.DeckMeaning.{LoadedDeck, deck_meaning}
 use Rattle.pp_word.specs.Tables.{length-tabulate, get_or-tabulate}
 use Rattle.pp_deck.proofs.LoadedRangeLemmas.{IsSmall}
 use Rattle.pp_deck.specs.InUse.{is_in_use}
 use Rattle.pp_listing.specs.Dump.{in_processor, busy_processor, busy_channel, all_busy, first_busy, left_of, deck_to_go_on, dump, after, GoesOnFrom}
-use Rattle.pp_listing.specs.Listing.{is_opened_channel, listing, numbers}
+use Rattle.pp_listing.specs.Listing.{listing}
 use Rattle.pp_listing.proofs.FreshDeckLemmas.{IsFresh, fresh_listing}
 use Rattle.pp_listing.proofs.GoingOnLemmas.{none_given}
 use Rattle.pp_listing.proofs.ListingLemmas.{dead_of, names_of, none_opened, numbered, processors_of}
@@ -50,17 +50,13 @@ in_no_block : (n : ℕ) (block : Option Block) (state : PpState) → in_processo
 in_no_block n (Some block) state e = absurd (cc)
 in_no_block n None state e = refl
 
-if_none : {A : Type 0} (b : Bool) (o : Option A) → b ≡ true → cond b o None ≡ None → o ≡ None
-if_none true o is e = e
-if_none false o is e = absurd (cc)
-
 no_block : (m : MachineState) (n : ℕ) → IsTrue (names_processor n) → first_busy m ≡ None → (processor_of n m).block ≡ None
-unfolding all_busy
+unfolding all_busy all_processors
 no_block m n named e =
     let pp = processor_of n m in
     in_no_block n pp.block pp.state
-    (if_none (names_processor n) (in_processor n pp.block pp.state) named
-    (none_given (busy_processor m) n (filter_map (busy_channel m) numbers) (omega (arith, number_fits n named)) e))
+    (subst (λ (k : ℕ). busy_processor m k ≡ None) (number_of_place n named)
+    (none_given (busy_processor m) processor_number (processor_index n) processor_count (filter_map (busy_channel m) all_channels) (place_below n named) e))
 
 -- ---- a processor that is left
 
@@ -98,7 +94,7 @@ module _ (profile : Profile) where
 unopened : (deck : LoadedDeck) (c : ℕ) → IsTrue (names_channel c) → is_opened c (deck_to_go_on deck).machine ≡ false
 unopened deck c named = get_or-replicate channel_count (channel_index c) false false (channel_places.place_below c named)
 
-pub none_open : (deck : LoadedDeck) → list_any (is_opened_channel (deck_to_go_on deck).machine) numbers ≡ false
+pub none_open : (deck : LoadedDeck) → list_any (λ c. is_opened c (deck_to_go_on deck).machine) all_channels ≡ false
 unfolding dead_of
 none_open deck = none_opened (deck_to_go_on deck) (unopened deck)
 

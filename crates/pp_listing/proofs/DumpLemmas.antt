@@ -4,7 +4,7 @@ use Rattle.std.specs.List.{flat_map, range_with_len}
 use Rattle.std.proofs.lemmas.List.{append-nil}
 use Rattle.pp_machine.specs.MachineState.{processor_of}
 use Rattle.pp_machine.specs.Processor.{Processor, word_at}
-use Rattle.pp_machine.specs.PpNo.{is_named}
+use Rattle.pp_machine.specs.PpNo.{all_processors, is_named}
 use Rattle.pp_machine.specs.declared.pp_state.PpState.{PpState}
 use Rattle.pp_machine.specs.declared.pp_state.PpState.TheVariants.{Running, Stopped, Fault}
 use Rattle.pp_deck.specs.DeckLine.{central_size, section, dead_start}
@@ -12,7 +12,7 @@ use Rattle.pp_deck.specs.DeckMeaning.{LoadedDeck}
 use Rattle.pp_deck.specs.InUse.{in_use}
 use Rattle.pp_listing.specs.Dump.{deck_to_go_on, dump, left_of}
 use Rattle.pp_listing.specs.ListedLine.{ListedLine, bare, deck_line, text_line}
-use Rattle.pp_listing.specs.Listing.{central_word_line, dead_start_line, instruction_lines, listing, named_section, numbers, section_lines, start_line}
+use Rattle.pp_listing.specs.Listing.{central_word_line, dead_start_line, instruction_lines, listing, named_section, section_lines, start_line}
 use Rattle.pp_listing.proofs.TextLemmas.{listing_in_parts}
 use Rattle.pp_listing.proofs.DumpLawLemmas.{left_there, none_open}
 
@@ -42,11 +42,11 @@ dump_is deck = refl
 
 pub dump_in_parts : (deck : LoadedDeck) → dump deck
     ≡ deck_line (central_size (length deck.machine.central)) ++ flat_map text_line (flat_map (central_word_line deck.machine.central) (range_with_len 0 (length deck.machine.central)))
-    ++ flat_map text_line (flat_map (named_section (in_use deck) deck.machine) numbers)
+    ++ flat_map text_line (flat_map (named_section (in_use deck) deck.machine) all_processors)
 dump_in_parts deck =
     let to_go_on = deck_to_go_on deck in
     let front : List ℕ = deck_line (central_size (length deck.machine.central)) ++ flat_map text_line (flat_map (central_word_line deck.machine.central) (range_with_len 0 (length deck.machine.central))) in
     dump_is deck ∙ listing_in_parts to_go_on
-    ∙ ap (λ (lines : List ListedLine). (front ++ flat_map text_line lines) ++ flat_map text_line (flat_map (named_section to_go_on.named to_go_on.machine) numbers)) (no_dead_start deck)
-    ∙ ap (λ (text : List ℕ). text ++ flat_map text_line (flat_map (named_section to_go_on.named to_go_on.machine) numbers)) (append-nil front)
-    ∙ ap (λ (lines : List ListedLine). front ++ flat_map text_line lines) (sym (flat_same (named_section to_go_on.named deck.machine) (named_section to_go_on.named to_go_on.machine) numbers (section_left deck)))
+    ∙ ap (λ (lines : List ListedLine). (front ++ flat_map text_line lines) ++ flat_map text_line (flat_map (named_section to_go_on.named to_go_on.machine) all_processors)) (no_dead_start deck)
+    ∙ ap (λ (text : List ℕ). text ++ flat_map text_line (flat_map (named_section to_go_on.named to_go_on.machine) all_processors)) (append-nil front)
+    ∙ ap (λ (lines : List ListedLine). front ++ flat_map text_line lines) (sym (flat_same (named_section to_go_on.named deck.machine) (named_section to_go_on.named to_go_on.machine) all_processors (section_left deck)))

@@ -9,10 +9,10 @@ use Rattle.pp_word.specs.declared.opcode.Opcode.TheVariants.{PSN, LJM, RJM, UJN,
 use Rattle.pp_word.specs.Address.{relative_to}
 use Rattle.pp_deck.proofs.FieldTextLemmas.{is_plain, and_both}
 use Rattle.pp_text.specs.InstructionText.{index_text, instruction_text, operands_of, operands_text}
-use Rattle.pp_text.specs.Numeral.{octal}
+use Rattle.pp_word.specs.Numeral.{octal}
 use Rattle.pp_text.specs.declared.operands.Operands.{Operands}
 use Rattle.pp_text.specs.declared.operands.Operands.TheVariants.{IndexedPlace, JumpPlace, Constant, PlaceAndNumber, Number}
-use Rattle.pp_listing.proofs.OctalDigitLemmas.{octal_plain}
+use Rattle.pp_deck.proofs.NumeralFieldLemmas.{octal_plain}
 
 -- plain text
 abbrev pub IsPlain : List ℕ → Type 0

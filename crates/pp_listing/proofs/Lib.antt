@@ -9,7 +9,6 @@ mod ListedLineLemmas
 mod ListingLemmas
 mod LoadedDeckLemmas
 mod NumberLemmas
-mod OctalDigitLemmas
 mod PrintedLineLemmas
 mod PrintedTextLemmas
 mod ProfileLemmas

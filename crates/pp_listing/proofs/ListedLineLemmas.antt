@@ -8,9 +8,9 @@ use Rattle.pp_deck.specs.DeckText.{fields_in}
 use Rattle.pp_deck.proofs.FieldTextLemmas.{is_ink, IsField, IsTail, tail_none, tail_field, tail_last, tail_comment, no_fields, fields_last}
 use Rattle.pp_text.specs.InstructionText.{instruction_text}
 use Rattle.pp_listing.specs.ListedLine.{ListedLine, bare, one_word, two_words, after_blank, line_text, says, listed_text}
-use Rattle.pp_text.specs.Numeral.{octal, short_octal}
+use Rattle.pp_word.specs.Numeral.{octal, short_octal}
 use Rattle.pp_listing.proofs.InstructionTextLemmas.{IsPlain, plain_append, instruction_plain}
-use Rattle.pp_listing.proofs.OctalDigitLemmas.{octal_is_field, octal_plain, short_is_field, short_plain}
+use Rattle.pp_deck.proofs.NumeralFieldLemmas.{octal_is_field, octal_plain, short_is_field, short_plain}
 
 words_plain : (width : ℕ) (ws : List ℕ) → IsPlain (flat_map (after_blank width) ws)
 words_plain width [] = refl

@@ -4,11 +4,14 @@ use Rattle.std.specs.Prelude.{IsTrue, ◌&&◌, not, All, position, is_some, nat
 use Rattle.std.specs.List.{flat_map, list_any, range_with_len}
 use Rattle.std.proofs.lemmas.List.{map-append}
 use Rattle.std.proofs.lemmas.List.Elements.{All-cons, All-nil}
-use Rattle.pp_channel.specs.ChannelNo.{names_channel}
+use Rattle.std.proofs.lemmas.List.Folds.{list_any_at, list_any_none}
+use Rattle.pp_word.specs.Tables.{tabulate, length-tabulate, get_or-tabulate}
+use Rattle.pp_channel.specs.ChannelNo.{all_channels, channel_count, channel_index, channel_number, names_channel}
+use Rattle.pp_channel.specs.ChannelPlaces as channel_places
 use Rattle.pp_machine.specs.MachineState.{MachineState, processor_of, is_opened}
 use Rattle.pp_machine.specs.DeadStart.{waiting_on}
 use Rattle.pp_machine.specs.Processor.{Processor, word_at}
-use Rattle.pp_machine.specs.PpNo.{names_processor, processor_index, is_named}
+use Rattle.pp_machine.specs.PpNo.{all_processors, names_processor, processor_index, is_named}
 use Rattle.pp_machine.specs.Profile.{has_processor}
 use Rattle.pp_machine.specs.declared.profile.Profile.{Profile}
 use Rattle.pp_deck.specs.DeckLine.{Line, nothing, central_size, central_words, section, start, words, dead_start}
@@ -23,13 +26,13 @@ use Rattle.pp_deck.proofs.LoadedRangeLemmas.{IsSmall, processor_small, central_w
 use Rattle.pp_deck.proofs.MemoryLemmas.{length-central_loaded}
 use Rattle.pp_deck.proofs.NamesLemmas.{named_within}
 use Rattle.pp_deck.proofs.RangeLemmas.{InRange, size_in_range}
-use Rattle.pp_deck.proofs.SectionLinesLemmas.{AllLines, all_append, any_none, any_false, section_if}
+use Rattle.pp_deck.proofs.SectionLinesLemmas.{AllLines, all_append, section_if}
 use Rattle.pp_listing.specs.ListedLine.{ListedLine, bare, says, text_line}
-use Rattle.pp_listing.specs.Listing.{ReadsBackAs, central_word_line, dead_start_line, instruction_lines, is_opened_channel, listed, listing, named_section, numbers, section_lines, start_line}
+use Rattle.pp_listing.specs.Listing.{ReadsBackAs, central_word_line, dead_start_line, instruction_lines, listed, listing, named_section, section_lines, start_line}
 use Rattle.pp_listing.proofs.InstructionLemmas.{word_lines, start_by, says_words, says_start, IsOwn, IsReadInSection, instructions_read, start_is_read}
 use Rattle.pp_listing.proofs.ListedLemmas.{body_of, body_own, word_line, central_lines, dead_line, lines_of_parts, asked_held, set_again}
 use Rattle.pp_listing.proofs.ListedLineLemmas.{fields_said}
-use Rattle.pp_listing.proofs.NumberLemmas.{number_count, numbers_are, channel_counts}
+use Rattle.pp_listing.proofs.NumberLemmas.{number_count, sections_by_number}
 use Rattle.pp_listing.proofs.PrintedLineLemmas.{central_words_read, section_read, dead_start_read}
 use Rattle.pp_listing.proofs.PrintedTextLemmas.{IsReady, meaning_printed, read_lines}
 
@@ -117,8 +120,12 @@ says_section : (n : ℕ) (pp : Processor) (b : Bool) → map says (cond b (secti
 says_section n pp true = ap (λ (ls : List Line). section n ∷ ls) (says_body pp)
 says_section n pp false = refl
 
+left_false : (a b : Bool) → (IsTrue a → ⊥) → (a && b) ≡ false
+left_false true b none = absurd (none refl)
+left_false false b none = refl
+
 unfoldable pub dead_of : LoadedDeck → Bool
-dead_of deck = list_any (is_opened_channel deck.machine) numbers
+dead_of deck = list_any (λ c. is_opened c deck.machine) all_channels
 
 unfoldable pub names_of : LoadedDeck → ℕ → Bool
 names_of deck n = is_named deck.named n
@@ -132,16 +139,16 @@ said deck =
     let central = deck.machine.central in
     let size = bare (central_size (length central)) in
     let words_of = flat_map (central_word_line central) (range_with_len 0 (length central)) in
-    let sections = flat_map (named_section deck.named deck.machine) numbers in
+    let sections = flat_map (named_section deck.named deck.machine) all_processors in
     map-append says ((size ∷ words_of) ++ dead_start_line deck.machine) sections
     ∙ ap (λ (ls : List Line). ls ++ map says sections)
     (map-append says (size ∷ words_of) (dead_start_line deck.machine)
     ∙ ap (λ (ls : List Line). (central_size (length central) ∷ ls) ++ map says (dead_start_line deck.machine))
     (says_each (central_word_line central) (word_line central) (range_with_len 0 (length central)) (λ a. says_central a (get_or central a 0) (eqb (get_or central a 0) 0)))
-    ∙ ap (λ (ls : List Line). (central_size (length central) ∷ central_lines central) ++ ls) (says_dead (list_any (is_opened_channel deck.machine) numbers)))
-    ∙ ap (λ (ls : List Line). ((central_size (length central) ∷ central_lines central) ++ dead_line (list_any (is_opened_channel deck.machine) numbers)) ++ ls)
-    (says_each (named_section deck.named deck.machine) (section_if (λ n. is_named deck.named n) (λ n. body_of (processor_of n deck.machine))) numbers (λ n. says_section n (processor_of n deck.machine) (is_named deck.named n))
-    ∙ ap (flat_map (section_if (λ n. is_named deck.named n) (λ n. body_of (processor_of n deck.machine)))) numbers_are)
+    ∙ ap (λ (ls : List Line). (central_size (length central) ∷ central_lines central) ++ ls) (says_dead (list_any (λ c. is_opened c deck.machine) all_channels)))
+    ∙ ap (λ (ls : List Line). ((central_size (length central) ∷ central_lines central) ++ dead_line (list_any (λ c. is_opened c deck.machine) all_channels)) ++ ls)
+    (says_each (named_section deck.named deck.machine) (section_if (λ n. is_named deck.named n) (λ n. body_of (processor_of n deck.machine))) all_processors (λ n. says_section n (processor_of n deck.machine) (is_named deck.named n))
+    ∙ sections_by_number (λ n. is_named deck.named n) (λ n. body_of (processor_of n deck.machine)) (λ n none. left_false (names_processor n) (get_or deck.named (processor_index n) false) none))
 
 pub listing_is : (deck : LoadedDeck) → listing deck ≡ flat_map text_line (listed deck)
 unfolding listing
@@ -162,21 +169,26 @@ awake_if true true named e = ap not e
 awake_if true false named e = refl
 awake_if false number named e = refl
 
-unopened : (b is_open : Bool) → (b ≡ true → is_open ≡ false) → (b && is_open) ≡ false
-unopened true is_open h = h refl
-unopened false is_open h = refl
+unless : (b any : Bool) → (b ≡ true → any ≡ true) → any ≡ false → b ≡ false
+unless true any h e = sym (h refl) ∙ e
+unless false any h e = refl
 
 pub none_opened : (deck : LoadedDeck) → ((c : ℕ) → IsTrue (names_channel c) → is_opened c deck.machine ≡ false) → dead_of deck ≡ false
-unfolding dead_of
+unfolding dead_of all_channels
 none_opened deck none =
-    ap (list_any (is_opened_channel deck.machine)) numbers_are
-    ∙ any_none (is_opened_channel deck.machine) 0 number_count (λ c le. unopened (names_channel c) (is_opened c deck.machine) (none c))
+    list_any_none (λ (c : ℕ). is_opened c deck.machine) (tabulate channel_count channel_number)
+    (λ k d lt. let below : k < channel_count = omega (arith, lt, length-tabulate channel_count channel_number) in
+    ap (λ (c : ℕ). is_opened c deck.machine) (get_or-tabulate channel_count channel_number k d below)
+    ∙ none (channel_number k) (channel_places.number_named k below))
 
 not_opened : (deck : LoadedDeck) → dead_of deck ≡ false → (c : ℕ) → IsTrue (names_channel c) → is_opened c deck.machine ≡ false
-unfolding dead_of
+unfolding dead_of all_channels
 not_opened deck e c named =
-    sym (ap (λ (b : Bool). b && is_opened c deck.machine) named)
-    ∙ any_false (is_opened_channel deck.machine) c 0 number_count (sym (ap (list_any (is_opened_channel deck.machine)) numbers_are) ∙ e) (omega arith) (omega (arith, channel_counts c named))
+    let below = channel_places.place_below c named in
+    unless (is_opened c deck.machine) (dead_of deck)
+    (λ is. list_any_at (λ (c : ℕ). is_opened c deck.machine) (tabulate channel_count channel_number) (channel_index c) 0 (omega (arith, below, length-tabulate channel_count channel_number))
+    (ap (λ (c : ℕ). is_opened c deck.machine) (get_or-tabulate channel_count channel_number (channel_index c) 0 below ∙ channel_places.number_of_place c named) ∙ is))
+    e
 
 -- ---- the listing of what lines load
 

@@ -9,10 +9,10 @@ use Rattle.pp_machine.specs.declared.profile.Profile.{Profile}
 use Rattle.pp_machine.specs.ProfilePlaces.{processor_named}
 use Rattle.pp_deck.specs.DeckLine.{central_size, central_words, section, start, words, dead_start, keyword_of, words_in, central_line, central_words_line, section_line, start_line, words_line, ◌>>=◌, line_after}
 use Rattle.pp_deck.specs.DeckMeaning.{size_of, stated_size}
-use Rattle.pp_text.specs.Numeral.{octal, short_octal}
+use Rattle.pp_word.specs.Numeral.{octal, short_octal}
 use Rattle.pp_listing.proofs.ListedLineLemmas.{fields_said}
 use Rattle.pp_machine.specs.ProcessorPlaces.{number_fits}
-use Rattle.pp_listing.proofs.OctalDigitLemmas.{octal_field, short_field}
+use Rattle.pp_deck.proofs.NumeralFieldLemmas.{octal_field, short_field}
 
 -- ---- numbers
 

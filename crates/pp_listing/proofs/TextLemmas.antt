@@ -6,15 +6,16 @@ use Rattle.std.proofs.lemmas.Bool.{eq-eqb, ne_eqb, cond-true, cond-false, cases_
 use Rattle.std.proofs.lemmas.List.{append-nil, drop_all, drop_more, length-drop}
 use Rattle.std.proofs.lemmas.List.Concat.{flat_map-append}
 use Rattle.pp_word.specs.Address.{place_count, next_place}
+use Rattle.pp_machine.specs.PpNo.{all_processors}
 use Rattle.pp_machine.specs.declared.pp_state.PpState.{PpState}
 use Rattle.pp_machine.specs.declared.pp_state.PpState.TheVariants.{Running}
 use Rattle.pp_deck.specs.DeckLine.{central_size, central_words, section}
 use Rattle.pp_deck.specs.DeckMeaning.{LoadedDeck}
 use Rattle.pp_text.specs.InstructionText.{instruction_text, is_long}
-use Rattle.pp_text.specs.Numeral.{octal, short_octal}
+use Rattle.pp_word.specs.Numeral.{octal, short_octal}
 use Rattle.pp_text.proofs.TextLemmas.{no_central_word}
 use Rattle.pp_listing.specs.ListedLine.{ListedLine, bare, one_word, two_words, deck_line, text_line}
-use Rattle.pp_listing.specs.Listing.{central_word_line, dead_start_line, instruction_lines, listed, listing, named_section, numbers, start_line}
+use Rattle.pp_listing.specs.Listing.{central_word_line, dead_start_line, instruction_lines, listed, listing, named_section, start_line}
 
 -- ---- the lines of instructions, one by one
 
@@ -168,13 +169,13 @@ central_past central a t lt is e = ap (λ (i : ℕ). get_or central i 0) (sym (a
 
 pub listing_in_parts : (deck : LoadedDeck) → listing deck
     ≡ deck_line (central_size (length deck.machine.central)) ++ flat_map text_line (flat_map (central_word_line deck.machine.central) (range_with_len 0 (length deck.machine.central)))
-    ++ flat_map text_line (dead_start_line deck.machine) ++ flat_map text_line (flat_map (named_section deck.named deck.machine) numbers)
+    ++ flat_map text_line (dead_start_line deck.machine) ++ flat_map text_line (flat_map (named_section deck.named deck.machine) all_processors)
 unfolding listing listed
 listing_in_parts deck =
     let size = bare (central_size (length deck.machine.central)) in
     let central = flat_map (central_word_line deck.machine.central) (range_with_len 0 (length deck.machine.central)) in
     let dead = dead_start_line deck.machine in
-    let sections = flat_map (named_section deck.named deck.machine) numbers in
+    let sections = flat_map (named_section deck.named deck.machine) all_processors in
     flat_map-append text_line ((size ∷ central) ++ dead) sections
     ∙ ap (λ (bytes : List ℕ). bytes ++ flat_map text_line sections) (flat_map-append text_line (size ∷ central) dead)
 

@@ -1,11 +1,11 @@
 -- The dump of a deck that has run: the listing of a deck to go on from.
-use Rattle.std.specs.Prelude.{◌≡◌, ◌≤◌, Result, Ok, Err, ℕ, ◌&&◌, List, ◌++◌, length, map, Option, Some, None, slice_get, filter_map, if◌then◌else◌}
+use Rattle.std.specs.Prelude.{◌≡◌, ◌≤◌, Result, Ok, Err, ℕ, List, ◌++◌, length, map, Option, Some, None, slice_get, filter_map, if◌then◌else◌}
 use Rattle.std.specs.Io.KnownBytes.{Appends, Keeps}
-use Rattle.pp_channel.specs.ChannelNo.{names_channel}
+use Rattle.pp_channel.specs.ChannelNo.{all_channels}
 use Rattle.pp_channel.specs.History.{active}
 use Rattle.pp_machine.specs.MachineState.{MachineState, new_machine, processor_of, history_of}
 use Rattle.pp_machine.specs.Processor.{Processor, new_processor}
-use Rattle.pp_machine.specs.PpNo.{names_processor}
+use Rattle.pp_machine.specs.PpNo.{all_processors}
 use Rattle.pp_machine.specs.Run.{run}
 use Rattle.pp_machine.specs.declared.block.Block.{Block}
 use Rattle.pp_machine.specs.declared.pp_state.PpState.{PpState}
@@ -13,7 +13,7 @@ use Rattle.pp_machine.specs.declared.pp_state.PpState.TheVariants.{Running, Faul
 use Rattle.pp_deck.specs.DeckMeaning.{LoadedDeck, deck_meaning}
 use Rattle.pp_deck.specs.InUse.{in_use}
 use Rattle.pp_text.specs.Written.{AppendsFront}
-use Rattle.pp_listing.specs.Listing.{listing, numbers}
+use Rattle.pp_listing.specs.Listing.{listing}
 use Rattle.pp_listing.specs.declared.dumped_deck.DumpFault.{DumpFault}
 use Rattle.pp_listing.specs.declared.dumped_deck.DumpFault.TheVariants.{NotBetweenPrograms, Write}
 use Rattle.pp_listing.specs.declared.going_on.Busy.{Busy}
@@ -27,20 +27,18 @@ in_processor n (Some block) state = Some (WithinBlock n)
 in_processor n None (Fault number) = Some (AtFault n)
 in_processor n None state = None
 
--- in processor n, if there is one
+-- in processor n
 abbrev pub busy_processor : MachineState → ℕ → Option Busy
-busy_processor m n =
-    if names_processor n then in_processor n (processor_of n m).block (processor_of n m).state
-    else None
+busy_processor m n = let pp = processor_of n m in in_processor n pp.block pp.state
 
--- on channel c, if there is one and it is active
+-- on channel c, if it is active
 abbrev pub busy_channel : MachineState → ℕ → Option Busy
-busy_channel m c = if names_channel c && active (history_of c m) then Some (Active c) else None
+busy_channel m c = if active (history_of c m) then Some (Active c) else None
 
 -- all reasons, by number of processor, and then by number of channel
 unfoldable pub all_busy : MachineState → List Busy
 all_busy m =
-    filter_map (busy_processor m) numbers ++ filter_map (busy_channel m) numbers
+    filter_map (busy_processor m) all_processors ++ filter_map (busy_channel m) all_channels
 
 -- the first reason: a machine is between programs if there is none
 abbrev pub first_busy : MachineState → Option Busy

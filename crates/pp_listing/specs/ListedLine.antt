@@ -4,7 +4,7 @@ use Rattle.std.specs.Prelude.{ℕ, List, [], ◌∷◌, ◌++◌, codes}
 use Rattle.std.specs.List.{flat_map}
 use Rattle.pp_deck.specs.DeckLine.{Line, nothing, central_size, central_words, section, start, words, dead_start}
 use Rattle.pp_text.specs.InstructionText.{instruction_text}
-use Rattle.pp_text.specs.Numeral.{octal, short_octal}
+use Rattle.pp_word.specs.Numeral.{octal, short_octal}
 use Rattle.pp_text.specs.PrintedText.{line_end, padded}
 
 -- a number in exactly `width` digits, after a blank

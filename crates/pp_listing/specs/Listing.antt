@@ -1,20 +1,16 @@
 -- The listing of a deck: the lines that load it, printed.
-use Rattle.std.specs.Prelude.{◌≡◌, ◌≤◌, Ok, ℕ, ◌+◌, ◌==◌, ◌&&◌, Bool, List, [], ◌∷◌, ◌++◌, length, slice_index, if◌then◌else◌}
+use Rattle.std.specs.Prelude.{◌≡◌, ◌≤◌, Ok, ℕ, ◌+◌, ◌==◌, Bool, List, [], ◌∷◌, ◌++◌, length, slice_index, if◌then◌else◌}
 use Rattle.std.specs.List.{flat_map, list_any, range_with_len}
-use Rattle.pp_channel.specs.ChannelNo.{names_channel}
+use Rattle.pp_channel.specs.ChannelNo.{all_channels}
 use Rattle.pp_machine.specs.MachineState.{MachineState, processor_of, is_opened}
 use Rattle.pp_machine.specs.Processor.{Processor, word_at}
-use Rattle.pp_machine.specs.PpNo.{is_named}
+use Rattle.pp_machine.specs.PpNo.{all_processors, is_named}
 use Rattle.pp_machine.specs.declared.pp_state.PpState.{PpState}
 use Rattle.pp_machine.specs.declared.pp_state.PpState.TheVariants.{Running}
 use Rattle.pp_deck.specs.DeckLine.{central_size, central_words, section, start, dead_start}
 use Rattle.pp_deck.specs.DeckMeaning.{LoadedDeck, deck_meaning}
 use Rattle.pp_text.specs.InstructionText.{is_long}
 use Rattle.pp_listing.specs.ListedLine.{ListedLine, bare, one_word, two_words, text_of}
-
--- the numbers of two octal digits, in order
-unfoldable pub numbers : List ℕ
-numbers = range_with_len 0 0o100
 
 -- the instructions in the words from a place on, if the word after the last is `first`, that at
 -- place 0000. A word that is 0 begins no line
@@ -42,7 +38,7 @@ named_section named m n = if is_named named n then section_lines n (processor_of
 
 -- all sections, in order of number
 abbrev pub sections : List Bool → MachineState → List ListedLine
-sections named m = flat_map (named_section named m) numbers
+sections named m = flat_map (named_section named m) all_processors
 
 -- `CM a w`, if the central word is not 0
 abbrev pub central_word_line : List ℕ → ℕ → List ListedLine
@@ -55,13 +51,10 @@ abbrev pub central_word_lines : List ℕ → List ListedLine
 central_word_lines central =
     flat_map (central_word_line central) (range_with_len 0 (length central))
 
--- whether there is a channel with this number and dead start opened it
-abbrev pub is_opened_channel : MachineState → ℕ → Bool
-is_opened_channel m c = names_channel c && is_opened c m
-
 -- `DEAD`, if dead start opened a channel
 abbrev pub dead_start_line : MachineState → List ListedLine
-dead_start_line m = if list_any (is_opened_channel m) numbers then bare dead_start ∷ [] else []
+dead_start_line m =
+    if list_any (λ c. is_opened c m) all_channels then bare dead_start ∷ [] else []
 
 -- the lines of a deck
 unfoldable pub listed : LoadedDeck → List ListedLine

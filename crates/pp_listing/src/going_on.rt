@@ -1,12 +1,12 @@
 //! Why a machine is not between programs.
 
 ghost use Rattle.std.specs.Prelude.{◌≡◌, slice_get, filter_map};
+ghost use Rattle.pp_channel.specs.ChannelNo.{all_channels};
+ghost use Rattle.pp_machine.specs.PpNo.{all_processors};
 ghost use Rattle.pp_listing.specs.Dump.{first_busy, busy_processor, busy_channel, in_processor};
-ghost use Rattle.pp_listing.specs.Listing.{numbers};
 
-use pp_channel::ChannelNo;
-use pp_machine::{Machine, Pp, PpNo, PpState};
-use pp_text::NUMBERS;
+use pp_channel::{CHANNELS, ChannelNo};
+use pp_machine::{Machine, PROCESSORS, Pp, PpNo, PpState};
 use std::alloc::Allocator;
 use thiserror::Error;
 
@@ -35,10 +35,11 @@ pub(crate) fn first_busy<A: Allocator>(machine: &Machine<A>) -> Option<Busy>
 }
 
 fn first_processor<A: Allocator>(machine: &Machine<A>) -> Option<Busy>
-    ensures { result ≡ slice_get (filter_map (busy_processor machine.now) numbers) 0 }
+    ensures { result ≡ slice_get (filter_map (busy_processor machine.now) all_processors) 0 }
 {
-    for number in 0..NUMBERS {
-        if let Some(going_on) = busy_processor(machine, number) {
+    for place in 0..PROCESSORS {
+        let n = PpNo::at(place);
+        if let Some(going_on) = in_processor(n, machine.pp(n)) {
             return Some(going_on);
         }
     }
@@ -46,21 +47,15 @@ fn first_processor<A: Allocator>(machine: &Machine<A>) -> Option<Busy>
 }
 
 fn first_channel<A: Allocator>(machine: &Machine<A>) -> Option<Busy>
-    ensures { result ≡ slice_get (filter_map (busy_channel machine.now) numbers) 0 }
+    ensures { result ≡ slice_get (filter_map (busy_channel machine.now) all_channels) 0 }
 {
-    for number in 0..NUMBERS {
-        if let Some(going_on) = busy_channel(machine, number) {
-            return Some(going_on);
+    for place in 0..CHANNELS {
+        let c = ChannelNo::at(place);
+        if machine.channel(c).flags().active {
+            return Some(Busy::Active(c));
         }
     }
     None
-}
-
-fn busy_processor<A: Allocator>(machine: &Machine<A>, number: u8) -> Option<Busy>
-    ensures { result ≡ busy_processor machine.now number }
-{
-    let n = PpNo::new(number)?;
-    in_processor(n, machine.pp(n))
 }
 
 fn in_processor(n: PpNo, pp: &Pp) -> Option<Busy>
@@ -72,16 +67,5 @@ fn in_processor(n: PpNo, pp: &Pp) -> Option<Busy>
     match pp.state() {
         PpState::Fault(_) => Some(Busy::AtFault(n)),
         PpState::Running | PpState::Stopped => None,
-    }
-}
-
-fn busy_channel<A: Allocator>(machine: &Machine<A>, number: u8) -> Option<Busy>
-    ensures { result ≡ busy_channel machine.now number }
-{
-    let c = ChannelNo::new(number)?;
-    if machine.channel(c).flags().active {
-        Some(Busy::Active(c))
-    } else {
-        None
     }
 }

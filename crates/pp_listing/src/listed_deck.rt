@@ -2,17 +2,19 @@
 
 ghost use Rattle.std.specs.Prelude.{◌≡◌, ◌<◌, ◌^◌};
 ghost use Rattle.std.specs.List.{list_any};
+ghost use Rattle.pp_channel.specs.ChannelNo.{all_channels};
+ghost use Rattle.pp_machine.specs.MachineState.{is_opened};
 ghost use Rattle.pp_text.specs.TextWriter.{Prints};
 ghost use Rattle.pp_text.specs.Written.{IsWritten};
 ghost use Rattle.pp_listing.specs.ListedLine.{text_of};
-ghost use Rattle.pp_listing.specs.Listing.{ReadsBackAs, central_word_line, central_word_lines, dead_start_line, is_opened_channel, listing, numbers};
+ghost use Rattle.pp_listing.specs.Listing.{ReadsBackAs, central_word_line, central_word_lines, dead_start_line, listing};
 
 use crate::deck_lines::{print_central_line, print_size};
 use crate::sections::print_sections;
-use pp_channel::ChannelNo;
+use pp_channel::{CHANNELS, ChannelNo};
 use pp_deck::Deck;
 use pp_machine::{Central, Machine};
-use pp_text::{NUMBERS, TextWriter, WriteFault};
+use pp_text::{TextWriter, WriteFault};
 use pp_word::Word18;
 use std::alloc::Allocator;
 use std::io::Write;
@@ -77,15 +79,8 @@ fn print_dead_start<A: Allocator, W: Write>(text: &mut TextWriter<W>, machine: &
     }
 }
 
-#[tactic(auto, unfolding(crate::specs::Listing::numbers))]
 fn has_opened_channel<A: Allocator>(machine: &Machine<A>) -> bool
-    ensures { result ≡ list_any (is_opened_channel machine.now) numbers }
+    ensures { result ≡ list_any (λ c. is_opened c machine.now) all_channels }
 {
-    (0..NUMBERS).any(|number| is_opened_channel(machine, number))
-}
-
-fn is_opened_channel<A: Allocator>(machine: &Machine<A>, number: u8) -> bool
-    ensures { result ≡ is_opened_channel machine.now number }
-{
-    ChannelNo::new(number).is_some_and(|c| machine.opened(c))
+    (0..CHANNELS).any(|place| machine.opened(ChannelNo::at(place)))
 }

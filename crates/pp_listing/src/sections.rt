@@ -7,7 +7,7 @@ ghost use Rattle.pp_listing.specs.Listing.{named_section, section_lines, section
 use crate::deck_lines::print_section_line;
 use crate::instruction_lines::print_instructions;
 use pp_machine::{Machine, PROCESSORS, Pp, PpNo, PpState};
-use pp_text::{NUMBERS, TextWriter, octal4, octal6};
+use pp_text::{TextWriter, octal4, octal6};
 use std::alloc::Allocator;
 use std::io::Write;
 
@@ -19,8 +19,8 @@ pub(crate) fn print_sections<A: Allocator, W: Write>(
 )
     ensures { Prints W.contents text.old text.new (text_of (sections named.now machine.now)) }
 {
-    for number in 0..NUMBERS {
-        print_named_section(text, machine, named, number);
+    for place in 0..PROCESSORS {
+        print_named_section(text, machine, named, PpNo::at(place));
     }
 }
 
@@ -28,14 +28,13 @@ fn print_named_section<A: Allocator, W: Write>(
     text: &mut TextWriter<W>,
     machine: &Machine<A>,
     named: &[bool; PROCESSORS],
-    number: u8,
+    n: PpNo,
 )
     ensures { Prints W.contents text.old text.new
-        (text_of (named_section named.now machine.now number)) }
+        (text_of (named_section named.now machine.now n)) }
 {
-    match PpNo::new(number) {
-        Some(n) if named[n.index()] => print_section(text, n, machine.pp(n)),
-        _ => {}
+    if named[n.index()] {
+        print_section(text, n, machine.pp(n));
     }
 }
 

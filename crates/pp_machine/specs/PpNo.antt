@@ -27,6 +27,10 @@ processor_number place = if nat_lt place 0o12 then place else place + 6
 abbrev pub each_processor : {A : Type 0} → (ℕ → A) → List A
 each_processor of = tabulate processor_count (λ place. of (processor_number place))
 
+-- the numbers of all processors, in order
+unfoldable pub all_processors : List ℕ
+all_processors = each_processor (λ n. n)
+
 -- whether there is a processor with this number, and flags for all places name it
 abbrev pub is_named : List Bool → ℕ → Bool
 is_named named n = names_processor n && slice_index_or named (processor_index n) false

@@ -1,12 +1,16 @@
 -- Numbers of processors and their places: all that proofs know of them.
-use Rattle.std.proofs.Common.{◌≡◌, ◌≢◌, ℕ, ◌<◌, eqb, ⊎_elim, sym, ap, ◌∙◌, arith}
+use Rattle.std.proofs.Common.{◌≡◌, ◌≢◌, ℕ, ◌<◌, eqb, ⊎_elim, sym, ap, ◌∙◌, arith, ◌+◌, ◌≤◌, List, [], ◌++◌}
 use mathlib.Core.Logic.{dite}
 use native.Mathlib.Decide.{dec_lt}
 use Rattle.std.specs.Prelude.{IsTrue}
 use Rattle.std.proofs.lemmas.Bool.{cases_eq, eq-eqb, ne_eqb}
 use Rattle.pp_channel.specs.ChannelNo.{names_channel}
 use Rattle.pp_channel.specs.ChannelPlaces as channel_places
-use Rattle.pp_machine.specs.PpNo.{processor_count, names_processor, processor_index, processor_number}
+use Rattle.std.proofs.lemmas.Grind.{flat_map-append}
+use Rattle.std.specs.List.{flat_map, range_with_len}
+use Rattle.pp_word.specs.GrowingLists.{flat_map_parts}
+use Rattle.pp_word.specs.Tables.{tabulate}
+use Rattle.pp_machine.specs.PpNo.{all_processors, processor_count, names_processor, processor_index, processor_number}
 
 -- the number of a processor gives its place
 pub place_again : (place : ℕ) → IsTrue (names_processor (processor_number place))
@@ -78,6 +82,26 @@ channel_of_processor n names =
     dite (dec_lt n 0o14)
     (λ low. channel_places.named_low n low)
     (λ no. channel_places.named_high n (grind (arith, no, names)) (grind (arith, names)))
+
+-- ---- a walk over all processors is one over all numbers of two octal digits
+
+past_low : (n : ℕ) → 0o12 ≤ n → n < 0o20 → IsTrue (names_processor n) → ⊥
+unfolding names_processor
+past_low n past below names = grind (arith, past, below)
+
+past_high : (n : ℕ) → 0o32 ≤ n → IsTrue (names_processor n) → ⊥
+unfolding names_processor
+past_high n past names = grind (arith, past)
+
+pub numbers_of_processors : {X : Type 0} (f : ℕ → List X)
+    → ((n : ℕ) → (IsTrue (names_processor n) → ⊥) → f n ≡ [])
+    → flat_map f all_processors ≡ flat_map f (range_with_len 0 0o100)
+unfolding all_processors tabulate processor_number
+numbers_of_processors f none =
+    flat_map-append f (range_with_len 0 0o12) (range_with_len 0o20 0o12)
+    ∙ flat_map_parts f 0o12 6 0o12 0o46
+    (λ n low high. none n (past_low n low (omega (arith, high))))
+    (λ n low. none n (past_high n low))
 
 pub ruleset places_of_numbers = (one_place, place_below, place_again)
 

@@ -1,20 +1,16 @@
 -- Where an operation that makes no event leaves a processor in the same position, it leaves it the
 -- same.
-use Rattle.std.proofs.Common.{◌≡◌, ◌≢◌, ℕ, List, Bool, true, false, Option, Some, None, refl, sym, ap, ◌∙◌, inl, inr}
-use Rattle.std.specs.Prelude.{◌==◌, ◌&&◌, ◌||◌, not, is_some, is_none, if◌then◌else◌, option_map}
-use Rattle.std.proofs.lemmas.Bool.{and_parts, and_from, cases_eq, eq-eqb, ne_eqb}
-use Rattle.pp_channel.specs.Answer.{event_by, event_of, event_with, flags_of, only_looks, ready_at}
-use Rattle.pp_channel.specs.History.{IsLawful, HasTwelveBitWords, full, waiting}
+use Rattle.std.proofs.Common.{◌≡◌, ℕ, List, Bool, true, false, Option, Some, None, refl, ◌∙◌}
+use Rattle.std.specs.Prelude.{◌==◌, not, is_some, if◌then◌else◌, option_map}
+use Rattle.std.proofs.lemmas.Bool.{and_parts, and_from, eq-eqb}
+use Rattle.pp_channel.specs.Answer.{event_of, flags_of, ready_at}
+use Rattle.pp_channel.specs.History.{IsLawful, HasTwelveBitWords, waiting}
 use Rattle.pp_channel.specs.declared.chan_op.ChanOp.{ChanOp}
 use Rattle.pp_channel.specs.declared.event.Event.{Event}
 use Rattle.pp_channel.specs.declared.flags.Flags.{Flags}
 use Rattle.pp_channel.proofs.AnswerLemmas.{full_register}
-use Rattle.pp_machine.specs.NeedAndEffect.{need}
 use Rattle.pp_machine.specs.Processor.{Processor}
-use Rattle.pp_machine.specs.declared.need.Need.TheVariants.{Channel}
-use Rattle.pp_races.specs.OtherFlags.{found_at, is_alike, is_race, is_same, makes_none, position_at, position_of, shown_to, waits_at}
-use Rattle.pp_races.specs.OnePass.{DoesAsAt, WaitsAt}
-use Rattle.pp_races.specs.declared.found.Found.{Found}
+use Rattle.pp_races.specs.OtherFlags.{found_at, is_alike, is_race, is_same, makes_none, position_at, position_of}
 use Rattle.pp_races.specs.declared.found.Found.TheVariants.{Alike, Waits, Races}
 use Rattle.pp_races.specs.declared.position.Position.{Position}
 use Rattle.pp_races.proofs.EntryLemmas.{is_equal}

@@ -1,13 +1,12 @@
 -- The tables before the first step.
-use Rattle.std.proofs.Common.{◌≡◌, ℕ, ◌+◌, ◌*◌, ◌%◌, ◌<◌, ◌≤◌, Bool, true, false, IsTrue, List, [], length, get_or, None, refl, sym, ap, ◌∙◌, subst, arith}
+use Rattle.std.proofs.Common.{◌≡◌, ℕ, ◌%◌, ◌<◌, Bool, true, false, List, [], length, get_or, None, refl, sym, ap, ◌∙◌, subst, arith}
 use Rattle.std.specs.Prelude.{replicate}
 use Rattle.std.proofs.lemmas.List.{get_or-replicate}
 use Rattle.pp_channel.specs.Answer.{flags_of}
-use Rattle.pp_channel.specs.ChannelNo.{channel_count, channel_index, channel_number, names_channel}
+use Rattle.pp_channel.specs.ChannelNo.{channel_count, channel_index, channel_number}
 use Rattle.pp_channel.specs.ChannelPlaces as channel_places
-use Rattle.pp_channel.specs.declared.flags.Flags.{Flags}
 use Rattle.pp_machine.specs.MachineState.{MachineState, history_of}
-use Rattle.pp_machine.specs.PpNo.{names_processor, processor_count, processor_index}
+use Rattle.pp_machine.specs.PpNo.{processor_index}
 use Rattle.pp_machine.specs.ProcessorPlaces as processor_places
 use Rattle.pp_races.specs.FlagSets.{look_at, no_looks}
 use Rattle.pp_races.specs.Tables.{AreLow, AreLooks, AreNoLooks, IsLow, entry_count, entry_place, no_low}

@@ -1,31 +1,29 @@
 -- Where nothing is found of a run, it tells the result of every order.
-use Rattle.std.proofs.Common.{◌≡◌, ◌≢◌, ℕ, zero, suc, ◌+◌, ◌-◌, ◌<◌, ◌≤◌, Bool, true, false, IsTrue, List, [], ◌∷◌, ◌++◌, length, take, get_or, Option, Some, None, refl, sym, ap, ◌∙◌, subst, inl, inr, arith}
-use Rattle.std.specs.Prelude.{◌==◌, ◌&&◌, ◌⊎◌, not, count_by, nat_lt, if◌then◌else◌}
+use Rattle.std.proofs.Common.{◌≡◌, ◌≢◌, ℕ, zero, suc, ◌+◌, ◌-◌, ◌<◌, ◌≤◌, Bool, true, false, IsTrue, List, [], ◌∷◌, length, take, get_or, Option, Some, None, refl, sym, ap, ◌∙◌, inl, inr, arith}
+use Rattle.std.specs.Prelude.{not, count_by, nat_lt, if◌then◌else◌}
 use Rattle.std.proofs.lemmas.Bool.{and_from, cases_eq, cases_lt, lt-ltb}
 use Rattle.std.proofs.lemmas.List.{get_or_past, take_all}
 use Rattle.std.proofs.lemmas.List.Sums.{sum_by-cons}
-use Rattle.pp_word.specs.Tables.{get_or-tabulate, tabulate}
+use Rattle.pp_word.specs.Tables.{get_or-tabulate}
 use Rattle.pp_channel.specs.Answer.{flags_of}
 use Rattle.pp_channel.specs.ChannelNo.{channel_count}
 use Rattle.pp_channel.specs.declared.chan_op.ChanOp.{ChanOp}
 use Rattle.pp_channel.specs.declared.event.Event.{Event}
-use Rattle.pp_channel.specs.declared.flags.Flags.{Flags}
 use Rattle.pp_machine.specs.MachineState.{MachineState, processor_of, history_of}
 use Rattle.pp_machine.specs.NeedAndEffect.{need}
 use Rattle.pp_machine.specs.PpNo.{each_processor, names_processor, processor_count, processor_index, processor_number}
-use Rattle.pp_machine.specs.Processor.{Processor, no_processor, IsAtRest}
+use Rattle.pp_machine.specs.Processor.{no_processor}
 use Rattle.pp_machine.specs.ProcessorPlaces as processor_places
 use Rattle.pp_machine.specs.Run.{run}
 use Rattle.pp_machine.specs.declared.need.Need.{Need}
 use Rattle.pp_machine.specs.declared.need.Need.TheVariants.{Channel}
-use Rattle.pp_machine.specs.declared.pp_state.PpState.TheVariants.{Running, Stopped}
 use Rattle.pp_machine.specs.declared.trace.Trace.{Trace}
 use Rattle.pp_machine.proofs.StepLemmas.{nothing_at_rest}
-use Rattle.pp_run.specs.Determinacy.{IsDeterminate, IsSettled, UsesAt, WritesAt, at_moment, history_at, need_at, processor_at}
+use Rattle.pp_run.specs.Determinacy.{IsDeterminate, IsSettled, UsesAt, at_moment, history_at, need_at}
 use Rattle.pp_run.proofs.Moments.{moment_past, run_central}
 use Rattle.pp_races.specs.Findings.{end_by_need, end_of, held_before, is_shared, sharing_of, turns_in_place}
-use Rattle.pp_races.specs.OtherFlags.{is_same, makes_none, position_at, position_of, waits_at}
-use Rattle.pp_races.specs.OnePass.{WaitsAt, flags_at}
+use Rattle.pp_races.specs.OtherFlags.{waits_at}
+use Rattle.pp_races.specs.OnePass.{WaitsAt}
 use Rattle.pp_races.specs.Soundness.{AreLastOf, IsSound, TurnTestIsExact, least_of, open_of}
 use Rattle.pp_races.specs.Watch.{Missed, Watch, asking_step, each_below, each_number, entry_of, first_race, missed_event}
 use Rattle.pp_races.specs.declared.asking_step.AskingStep.{AskingStep}

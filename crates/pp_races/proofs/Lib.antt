@@ -1,6 +1,5 @@
 pub mod Watching
 pub mod VerdictLemmas
-mod HeldLemmas
 mod PrintingLemmas
 mod TextLemmas
 mod GrowLemmas

@@ -1,5 +1,5 @@
 -- Where an operation that makes no event leaves a processor, by its registers alone.
-use Rattle.std.proofs.Common.{◌≡◌, ℕ, ◌<◌, Bool, true, false, List, length, get_or, inl, inr, Option, Some, None, refl, sym, ap, ◌∙◌, subst}
+use Rattle.std.proofs.Common.{◌≡◌, ℕ, Bool, true, false, List, length, get_or, inl, inr, Option, Some, None, refl, sym, ap, ◌∙◌, subst}
 use Rattle.std.specs.Prelude.{◌&&◌, ◌==◌, ◌⊎◌, not, is_some, slice_index, slice_set, if◌then◌else◌}
 use Rattle.std.proofs.lemmas.Bool.{cases_eq, cases_lt, ne_eqb}
 use Rattle.std.proofs.lemmas.List.{get_or-set_other, get_or-set_same, get_or_past, set_past}
@@ -12,7 +12,7 @@ use Rattle.pp_word.specs.declared.opcode.Opcode.{Opcode}
 use Rattle.pp_word.specs.declared.opcode.Opcode.TheVariants.{AJM, IJM, FJM, EJM, OAN, ACN, DCN, FAN, FNC}
 use Rattle.pp_machine.specs.Block.{block_word, cut_short, held}
 use Rattle.pp_machine.specs.Effect.{branches_where}
-use Rattle.pp_machine.specs.InstructionTable.{instruction, table, works_on_channel}
+use Rattle.pp_machine.specs.InstructionTable.{table, works_on_channel}
 use Rattle.pp_machine.specs.NeedAndEffect.{answered, if_running, need, next_step, processor_after, step_of}
 use Rattle.pp_machine.specs.Operand.{lower_six, operation, second_word}
 use Rattle.pp_machine.specs.Processor.{Processor, word_at}
@@ -26,8 +26,8 @@ use Rattle.pp_machine.specs.declared.need.Need.{Need}
 use Rattle.pp_machine.specs.declared.need.Need.TheVariants.{Channel}
 use Rattle.pp_machine.specs.declared.pp_state.PpState.{PpState}
 use Rattle.pp_machine.specs.declared.pp_state.PpState.TheVariants.{Running, Stopped, Fault}
-use Rattle.pp_races.specs.OtherFlags.{position_at, position_of, shown_to}
-use Rattle.pp_races.specs.Positions.{branch_position, cut_position, held_position, position_shown, tests_flags}
+use Rattle.pp_races.specs.OtherFlags.{position_at, position_of}
+use Rattle.pp_races.specs.Positions.{cut_position, held_position, position_shown, tests_flags}
 use Rattle.pp_races.specs.declared.position.Position.{Position}
 
 cut_is : (kind : BlockKind) (place : ℕ) (pp : Processor) → cut_position kind place pp ≡ position_of (cut_short kind place pp)

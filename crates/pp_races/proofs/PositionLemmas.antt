@@ -9,7 +9,7 @@ use Rattle.pp_word.specs.declared.opcode.Opcode.{Opcode}
 use Rattle.pp_word.specs.declared.opcode.Opcode.TheVariants.{AJM, IJM, FJM, EJM}
 use Rattle.pp_machine.specs.Block.{block_word, cut_short, held}
 use Rattle.pp_machine.specs.Effect.{branches_where}
-use Rattle.pp_machine.specs.InstructionTable.{instruction, table, works_on_channel}
+use Rattle.pp_machine.specs.InstructionTable.{table, works_on_channel}
 use Rattle.pp_machine.specs.NeedAndEffect.{answered, if_running, need, next_step, processor_after, step_of}
 use Rattle.pp_machine.specs.Operand.{lower_six, operation}
 use Rattle.pp_machine.specs.Processor.{Processor}
@@ -23,7 +23,7 @@ use Rattle.pp_machine.specs.declared.need.Need.{Need}
 use Rattle.pp_machine.specs.declared.need.Need.TheVariants.{Channel}
 use Rattle.pp_machine.specs.declared.pp_state.PpState.{PpState}
 use Rattle.pp_machine.specs.declared.pp_state.PpState.TheVariants.{Running, Stopped, Fault}
-use Rattle.pp_races.specs.OtherFlags.{is_same, position_at, position_of, shown_to}
+use Rattle.pp_races.specs.OtherFlags.{is_same, position_of, shown_to}
 use Rattle.pp_races.proofs.AlikeLemmas.{position_same}
 
 -- what flags leave a processor, where its position tells it all

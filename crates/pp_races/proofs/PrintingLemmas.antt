@@ -1,8 +1,9 @@
--- Findings that are printed one after another.
+-- Texts and findings that are printed one after another.
 use Rattle.std.proofs.Common.{◌≡◌, ℕ, ◌≤◌, List, [], ◌++◌, Option, sym, ap, ◌∙◌, subst, append-nil, append_assoc}
 use Rattle.std.specs.Prelude.{flat_map}
 use Rattle.std.proofs.lemmas.Grind.{flat_map-append}
 use Rattle.pp_text.specs.PrintingLaws.{prints_nothing, prints_on}
+use Rattle.pp_text.specs.TextWriter.{Prints}
 use Rattle.pp_text.specs.declared.text_writer.TextWriter.{TextWriter}
 use Rattle.pp_machine.specs.MachineState.{MachineState}
 use Rattle.pp_machine.specs.Run.{barrel}
@@ -17,6 +18,10 @@ use Rattle.pp_races.specs.declared.verdict.Verdict.TheVariants.{Same}
 use Rattle.pp_races.proofs.GrowLemmas.{begins_so_far}
 
 module _ {W : Type 0} (contents : W → Option (List ℕ)) where
+  -- a text, and then one of two parts
+  pub prints_parts : (a b c : TextWriter W) (xs ys zs : List ℕ) → Prints contents a b xs → Prints contents b c (ys ++ zs) → Prints contents a c (xs ++ ys ++ zs)
+  prints_parts a b c xs ys zs first next = prints_on contents a b c xs (ys ++ zs) _ first next (sym (append_assoc xs ys zs))
+
   pub findings_none : (text : TextWriter W) (verdict : Verdict) → PrintsFindings contents text text verdict verdict []
   findings_none text verdict = record {
     lines = prints_nothing contents text;

@@ -1,6 +1,6 @@
 -- Where a step adds no finding, it is checked, and the watch stays sound.
-use Rattle.std.proofs.Common.{◌≡◌, ◌≢◌, ℕ, zero, suc, ◌+◌, ◌-◌, ◌<◌, ◌≤◌, Bool, true, false, IsTrue, List, [], ◌∷◌, ◌++◌, length, take, get_or, Option, Some, None, refl, sym, ap, ◌∙◌, subst, inl, inr, arith}
-use Rattle.std.specs.Prelude.{◌==◌, ◌&&◌, ◌||◌, ◌⊎◌, not, is_some, is_none, if◌then◌else◌}
+use Rattle.std.proofs.Common.{◌≡◌, ◌≢◌, ℕ, zero, suc, ◌+◌, ◌-◌, ◌<◌, ◌≤◌, Bool, true, false, IsTrue, List, [], ◌∷◌, ◌++◌, length, get_or, Option, Some, None, refl, sym, ap, ◌∙◌, subst, inl, inr, arith}
+use Rattle.std.specs.Prelude.{◌==◌, ◌||◌, ◌⊎◌, not, is_some, is_none, if◌then◌else◌}
 use Rattle.std.specs.Option.{option_or, option_to_list}
 use Rattle.std.proofs.lemmas.Bool.{and_parts, and_from, cases_eq, cases_lt, eq-eqb, ne_eqb}
 use Rattle.std.proofs.lemmas.List.{length_push}
@@ -26,9 +26,8 @@ use Rattle.pp_races.specs.OtherFlags.{found_at, is_alike, is_race, is_same, make
 use Rattle.pp_races.specs.OnePass.{DoesAsAt, IsChecked, WaitsAt, flags_at}
 use Rattle.pp_races.specs.OnePass.IsChecked.{step_waits, step_elsewhere, step_looks, step_makes}
 use Rattle.pp_races.specs.Soundness.{AreLastOf, AsksLawfulChannel, least_of, open_of}
-use Rattle.pp_races.specs.Watch.{Missed, Watch, asked, asking_step, each_below, each_number, entry_of, first_race, from_alike, looked, made, missed_event, put, race_after, race_before, watched_need}
+use Rattle.pp_races.specs.Watch.{Missed, Watch, asked, asking_step, each_below, each_number, entry_of, first_race, from_alike, looked, made, missed_event, race_after, race_before, watched_need}
 use Rattle.pp_races.specs.declared.asking_step.AskingStep.{AskingStep}
-use Rattle.pp_races.specs.declared.finding.Finding.{Finding}
 use Rattle.pp_races.proofs.AlikeLemmas.{alike_is, alike_parts, none_made_makes_none, race_none, race_waits, same_itself}
 use Rattle.pp_races.proofs.EntryLemmas.{here_or_not, put_here, put_other}
 use Rattle.pp_races.proofs.EventLemmas.{looks_elsewhere, looks_there, missed_elsewhere, missed_others, missed_own}

@@ -1,17 +1,17 @@
 -- The bits of processors, and the central words that they use.
-use Rattle.std.proofs.Common.{◌≡◌, ℕ, ◌+◌, ◌*◌, ◌%◌, ◌^◌, ◌<◌, Bool, true, false, IsTrue, List, length, get_or, Option, Some, None, refl, sym, ap, ◌∙◌, inl, inr, arith}
+use Rattle.std.proofs.Common.{◌≡◌, ℕ, ◌*◌, ◌%◌, ◌^◌, ◌<◌, Bool, true, false, IsTrue, List, length, get_or, Option, Some, None, refl, sym, ap, ◌∙◌, inl, inr, arith}
 use Rattle.std.specs.Prelude.{◌==◌, ◌||◌, nat_eq, bit_or, replicate, if◌then◌else◌}
 use Rattle.std.specs.Int.{bit_at, w32}
-use Rattle.std.proofs.lemmas.Bool.{cases_eq, cases_lt, eq-eqb, ne_eqb}
+use Rattle.std.proofs.lemmas.Bool.{cases_eq, eq-eqb, ne_eqb}
 use Rattle.std.proofs.lemmas.List.{get_or-replicate, length-replicate}
 use Rattle.std.proofs.lemmas.Nat.Bits.{bit_at_set_same, bit_at_set_other, bit_at-zero}
 use Rattle.pp_channel.specs.Answer.{flags_of}
 use Rattle.pp_channel.specs.declared.chan_op.ChanOp.{ChanOp}
 use Rattle.pp_channel.specs.declared.event.Event.{Event}
 use Rattle.pp_machine.specs.MachineState.{MachineState, processor_of, history_of}
-use Rattle.pp_machine.specs.PpNo.{names_processor, processor_count, processor_index}
+use Rattle.pp_machine.specs.PpNo.{names_processor, processor_index}
 use Rattle.pp_machine.specs.ProcessorPlaces as processor_places
-use Rattle.pp_races.specs.Tables.{AreUses, IsUseOf, has_bit, unused}
+use Rattle.pp_races.specs.Tables.{AreUses, has_bit, unused}
 use Rattle.pp_races.specs.OtherFlags.{waits_at}
 use Rattle.pp_races.specs.Watch.{Watch, asked, looked, unwatched}
 use Rattle.pp_races.specs.declared.word_use.WordUse.{WordUse}

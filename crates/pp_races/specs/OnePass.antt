@@ -1,15 +1,14 @@
 -- A run that is watched as it goes: what is kept of it after each step, so that at its end it is
 -- known whether it determines the result of every order. (Private contracts alone cite this.)
-use Rattle.std.specs.Prelude.{◌≡◌, ℕ, suc, ◌+◌, ◌<◌, ◌≤◌, Bool, true, not, ◌||◌, IsTrue, List, length, take, None, Some, ◌++◌, ◌∷◌, [], ◌⊎◌, slice_index, ◌≢◌}
-use Rattle.pp_channel.specs.Answer.{event_of, flags_of, ready_at, only_looks, reply_shown}
+use Rattle.std.specs.Prelude.{◌≡◌, ℕ, suc, ◌+◌, ◌<◌, ◌≤◌, Bool, true, IsTrue, List, length, take, Some, ◌++◌, ◌∷◌, [], ◌⊎◌, slice_index, ◌≢◌}
+use Rattle.pp_channel.specs.Answer.{event_of, flags_of}
 use Rattle.pp_channel.specs.ChannelNo.{names_channel}
 use Rattle.pp_channel.specs.declared.chan_op.ChanOp.{ChanOp}
 use Rattle.pp_channel.specs.declared.event.Event.{Event}
 use Rattle.pp_channel.specs.declared.flags.Flags.{Flags}
 use Rattle.pp_machine.specs.MachineState.{MachineState, processor_of, history_of}
-use Rattle.pp_machine.specs.NeedAndEffect.{need, processor_after}
-use Rattle.pp_machine.specs.Processor.{Processor, IsAtRest}
-use Rattle.pp_machine.specs.declared.answer.Answer.{Answer}
+use Rattle.pp_machine.specs.NeedAndEffect.{need}
+use Rattle.pp_machine.specs.Processor.{Processor}
 use Rattle.pp_machine.specs.declared.need.Need.{Need}
 use Rattle.pp_run.specs.Determinacy.{Waits, Stays, DoesTheSame, MayFind, at_moment, processor_at, history_at, need_at}
 use Rattle.pp_races.specs.OtherFlags.{makes_none, shown_to}

@@ -1,6 +1,6 @@
 -- What an operation would have done on a channel that stood otherwise.
 -- (Manual 60100000, data channels: a channel is inactive, or active and empty, or active and full.)
-use Rattle.std.specs.Prelude.{ℕ, Bool, true, false, not, ◌||◌, ◌&&◌, ◌==◌, None, is_some, is_none, if◌then◌else◌}
+use Rattle.std.specs.Prelude.{Bool, true, false, not, ◌||◌, ◌&&◌, ◌==◌, None, is_some, if◌then◌else◌}
 use Rattle.pp_channel.specs.Answer.{only_looks, ready_at, reply_shown}
 use Rattle.pp_channel.specs.declared.chan_op.ChanOp.{ChanOp}
 use Rattle.pp_channel.specs.declared.flags.Flags.{Flags}

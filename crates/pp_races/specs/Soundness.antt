@@ -1,5 +1,5 @@
 -- What a watch in which nothing is found says of the run. (Private contracts alone cite this.)
-use Rattle.std.specs.Prelude.{◌≡◌, ℕ, ◌+◌, ◌-◌, ◌<◌, ◌≤◌, Bool, true, IsTrue, List, [], is_none, length, slice_index, slice_index_or, take, if◌then◌else◌}
+use Rattle.std.specs.Prelude.{◌≡◌, ℕ, ◌+◌, ◌-◌, ◌<◌, ◌≤◌, Bool, true, IsTrue, List, is_none, length, slice_index, slice_index_or, take, if◌then◌else◌}
 use Rattle.pp_channel.specs.Answer.{flags_of}
 use Rattle.pp_channel.specs.ChannelNo.{names_channel}
 use Rattle.pp_channel.specs.History.{IsLawful, HasTwelveBitWords}

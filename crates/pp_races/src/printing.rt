@@ -1,38 +1,30 @@
 //! Findings, printed as they come.
 
-ghost use Rattle.std.specs.Prelude.{◌≡◌, ◌++◌, ◌∷◌, ◌<◌, ◌^◌, [], length};
+ghost use Rattle.std.specs.Prelude.{◌∷◌, ◌<◌, ◌^◌, [], length};
 ghost use Rattle.pp_races.specs.Findings.{sharing_of};
 ghost use Rattle.pp_races.specs.Printing.{PrintsFindings};
 ghost use Rattle.pp_races.specs.Tables.{AreUses};
 ghost use Rattle.pp_races.specs.Watch.{Watch, each_below};
 
 use crate::finding::Finding;
-use crate::lines::push_finding;
+use crate::lines::print_finding_line;
 use crate::sharing::sharing;
 use crate::verdict::Verdict;
 use crate::word_use::WordUse;
-use pp_text::{Piece, TextWriter};
+use pp_text::TextWriter;
 use std::io::Write;
 
 /// Prints the line of a finding, and answers what it comes to with those before it.
-fn print_finding<W: Write>(
-    text: &mut TextWriter<W>,
-    line: &mut Piece,
-    verdict: Verdict,
-    finding: &Finding,
-) -> Verdict
+fn print_finding<W: Write>(text: &mut TextWriter<W>, verdict: Verdict, finding: &Finding) -> Verdict
     ensures { PrintsFindings W.contents text.old text.new verdict result (finding.now ∷ []) }
 {
-    line.clear();
-    push_finding(line, finding);
-    text.print(line.as_slice());
+    print_finding_line(text, finding);
     verdict.with(finding)
 }
 
 /// Prints the lines of findings.
 pub(crate) fn print_findings<W: Write>(
     text: &mut TextWriter<W>,
-    line: &mut Piece,
     verdict: Verdict,
     findings: &[Finding],
 ) -> Verdict
@@ -40,7 +32,7 @@ pub(crate) fn print_findings<W: Write>(
 {
     let mut after = verdict;
     for finding in findings {
-        after = print_finding(text, line, after, finding);
+        after = print_finding(text, after, finding);
     }
     after
 }
@@ -48,7 +40,6 @@ pub(crate) fn print_findings<W: Write>(
 /// Prints the lines of the central words that are shared.
 pub(crate) fn print_shared<W: Write>(
     text: &mut TextWriter<W>,
-    line: &mut Piece,
     verdict: Verdict,
     uses: &[WordUse],
 ) -> Verdict
@@ -59,7 +50,7 @@ pub(crate) fn print_shared<W: Write>(
     let mut after = verdict;
     for place in 0..uses.len() {
         if let Some(finding) = sharing(place as u32, uses[place]) {
-            after = print_finding(text, line, after, &finding);
+            after = print_finding(text, after, &finding);
         }
     }
     after

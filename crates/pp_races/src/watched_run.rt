@@ -15,7 +15,7 @@ use crate::verdict::Verdict;
 use crate::watch::{take_step, take_use};
 use crate::watch_tables::WatchTables;
 use pp_machine::{Machine, PpNo};
-use pp_text::{Piece, TextWriter};
+use pp_text::TextWriter;
 use std::alloc::Allocator;
 use std::io::Write;
 
@@ -42,7 +42,6 @@ pub(crate) fn print_run<A: Allocator, W: Write>(
     // The call says to the proof that the machine is sound.
     let _sound = machine.turns();
     let round = machine.profile().processors() as u32;
-    let mut line = Piece::new();
     let mut verdict = Verdict::Same;
     for turn in 0..turns {
         let n = PpNo::at((turn % round) as usize);
@@ -62,12 +61,12 @@ pub(crate) fn print_run<A: Allocator, W: Write>(
         let Ok(_outcome) = machine.step(n) else {
             return Err(verdict);
         };
-        verdict = print_findings(text, &mut line, verdict, &tables.found);
+        verdict = print_findings(text, verdict, &tables.found);
         tables.found.clear();
     }
     let Ok(()) = find_unsettled(machine, &tables.index, &tables.low, &mut tables.found) else {
         return Err(verdict);
     };
-    verdict = print_findings(text, &mut line, verdict, &tables.found);
-    Ok(print_shared(text, &mut line, verdict, &tables.uses))
+    verdict = print_findings(text, verdict, &tables.found);
+    Ok(print_shared(text, verdict, &tables.uses))
 }

@@ -1,8 +1,8 @@
 -- Authors of events, log after log, and the lines that name them.
 use Rattle.std.proofs.Common.{◌≡◌, ◌∙◌, ℕ, ◌+◌, ◌<◌, ◌≤◌, Bool, true, false, cond, List, [], ◌∷◌, ◌++◌, length, take, Option, Some, None, option_map, slice_index_or, refl, sym, ap, subst, arith, add-one}
 use Rattle.pp_line.specs.Merge.{times_logged}
-use Rattle.std.specs.Prelude.{IsTrue, Result, Ok, Err, OnOk, if◌then◌else◌, nat_lt}
-use Rattle.std.specs.List.{enumerate_from, flat_map, position, position_from}
+use Rattle.std.specs.Prelude.{IsTrue, Result, Ok, Err, OnOk, nat_lt}
+use Rattle.std.specs.List.{position, position_from}
 use Rattle.std.proofs.Math.Seq.{take-suc}
 use Rattle.std.proofs.lemmas.Iterator.Adapters.{position_from-zero}
 use Rattle.std.proofs.lemmas.List.{get_or_default, length-take-le}
@@ -12,7 +12,7 @@ use Rattle.pp_channel.specs.declared.event.Event.{Event}
 use Rattle.pp_machine.specs.PpNo.{processor_count, processor_number}
 use Rattle.pp_runner.specs.declared.worker.Worker.{Worker}
 use Rattle.pp_report.specs.Authors.{AreAuthors, AreAuthorsOn, or_known}
-use Rattle.pp_report.specs.PrintedReport.{author_place, channel_events, numbered_event_line}
+use Rattle.pp_report.specs.PrintedReport.{author_place}
 
 -- where the first does not pass, the search goes on behind it
 seek_on : (passes : Bool) (i j : ℕ) (more rest : Option ℕ) (last : Bool) → more ≡ or_known rest last j
@@ -56,13 +56,6 @@ author_push {Z} c number place workers worker before after author l few at by wa
     let same : author ≡ processor_number place = by in
     now ∙ (ap (λ known. or_known known (test worker) author) was ∙ (ap (or_known (option_map processor_number (author_place c (take place workers) number)) (test worker)) same
     ∙ (sym (or_told_map processor_number (author_place c (take place workers) number) (test worker) place) ∙ sym (ap (option_map processor_number) found))))
-
--- the lines of one channel's events, where it is the channel of this number
-pub named_events : {Z : Type 0} (c number : ℕ) (workers : List (Worker Z)) (histories : List (List Event)) (h : List Event) → IsTrue (names_channel number) → c ≡ number → h ≡ history_on c histories
-    → flat_map (numbered_event_line c workers) (enumerate_from 0 h) ≡ channel_events workers histories number
-named_events {Z} c number workers histories h names is same =
-    ap (λ l. flat_map (numbered_event_line c workers) (enumerate_from 0 l)) same ∙ (ap (λ k. flat_map (numbered_event_line k workers) (enumerate_from 0 (history_on k histories))) is
-    ∙ sym (ap (λ b. if b then flat_map (numbered_event_line number workers) (enumerate_from 0 (history_on number histories)) else []) names))
 
 -- the authors on one channel, of those on all
 pub authors_here : {Z : Type 0} (c place : ℕ) (workers : List (Worker Z)) (histories : List (List Event)) (all : List (List (Option ℕ))) (h : List Event) (here : List (Option ℕ)) → IsTrue (names_channel c)

@@ -11,5 +11,6 @@ mod AuthorLemmas
 mod EventLineLemmas
 mod LineLemmas
 mod ReportLawLemmas
+mod PrintedReportLemmas
 -- facts of the definitions, which proofs of other crates cite
 pub mod AuthorLawLemmas

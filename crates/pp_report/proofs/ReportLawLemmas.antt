@@ -16,7 +16,7 @@ use Rattle.pp_channel.specs.declared.event.Event.{Event}
 use Rattle.pp_channel.proofs.EachHistory.{lawful_on}
 use Rattle.pp_machine.specs.Headline.{opening_history}
 use Rattle.pp_machine.specs.MachineState.{MachineState, is_opened}
-use Rattle.pp_machine.specs.PpNo.{processor_index, processor_number, is_named}
+use Rattle.pp_machine.specs.PpNo.{names_processor, processor_index, processor_number, is_named}
 use Rattle.pp_machine.specs.ProcessorPlaces as processor_places
 use Rattle.pp_runner.specs.End.{HasEndNumber}
 use Rattle.pp_runner.specs.declared.end.End.{End}
@@ -24,9 +24,10 @@ use Rattle.pp_runner.specs.declared.end.End.TheVariants.{Stopped, Fault, Steps, 
 use Rattle.pp_runner.specs.declared.report.Report.{Report}
 use Rattle.pp_runner.specs.WorkerReport.{logs_of}
 use Rattle.pp_runner.specs.declared.worker.Worker.{Worker}
-use Rattle.pp_text.specs.Numeral.{decimal, digits, octal, unpadded}
+use Rattle.pp_word.specs.Numeral.{decimal, digits, octal, unpadded}
 use Rattle.pp_report.specs.PrintedReport.{author_place, channel_events, end_text, line_by, named_worker_line, numbered_event_line, printed_report, worker_line}
-use Rattle.pp_text.specs.PrintedText.{channel_text, each_below, event_text, line_end, processor_line, used_channel_line}
+use Rattle.pp_text.specs.PrintedText.{channel_text, event_text, line_end, processor_line, used_channel_line}
+use Rattle.pp_text.specs.PrintingLaws.{channels_by_number, numbered_channel_line, processors_by_number}
 use Rattle.pp_report.specs.ReportLaw.{AgreeOnReport, FitsItsEnd, FitsItsLine, FitsItsReport, ShownEnd, PrintedEvent, end_of, shown_end, shown_of, printed_by, told_events, printed_on}
 use Rattle.pp_text.specs.TextLaw.{HistoryFits, ShowSameChannel}
 use Rattle.pp_report.proofs.AuthorLawLemmas.{only_openings}
@@ -150,7 +151,11 @@ of_no_letter letter other m l first apart = ap (λ (x : Bool). x && (heading l =
 events_lines : {Z : Type 0} → List (Worker Z) → List (List Event) → ℕ → List (List ℕ)
 events_lines {Z} workers histories c = if names_channel c then map (told_body c) (told_events c workers (history_on c histories)) else []
 
-events_said : {Z : Type 0} (workers : List (Worker Z)) (histories : List (List Event)) (c : ℕ) → channel_events workers histories c ≡ unlines (events_lines workers histories c)
+-- the lines of the channel with this number, if there is one
+abbrev pub numbered_channel_events : {Z : Type 0} → List (Worker Z) → List (List Event) → ℕ → List ℕ
+numbered_channel_events workers histories c = if names_channel c then channel_events workers histories c else []
+
+events_said : {Z : Type 0} (workers : List (Worker Z)) (histories : List (List Event)) (c : ℕ) → numbered_channel_events workers histories c ≡ unlines (events_lines workers histories c)
 unfolding events_lines in_lines
 events_said {Z} workers histories c = by_case (names_channel c) (events_in_lines c workers (enumerate_from 0 (history_on c histories)))
   where
@@ -381,20 +386,20 @@ plain_ends {Z} named report n = by_case (is_named named n) (end_of n report)
 lines_of : {Z : Type 0} → List Bool → Report Z → List (List ℕ)
 lines_of named report = lines_below 0o100 (events_lines report.ends.items report.channels) ++ (lines_below 0o100 (ends named report) ++ lines_below 0o100 (channels report.channels))
 
+pub unnamed_line : {Z : Type 0} (named : List Bool) (workers : List (Worker Z)) (n : ℕ) → (IsTrue (names_processor n) → ⊥) → named_worker_line named workers n ≡ []
+unnamed_line named workers n none = rw (unnamed (names_processor n) none) refl
+
 text_in_lines : {Z : Type 0} (named : List Bool) (report : Report Z) → printed_report named report ≡ unlines (lines_of named report)
 unfolding lines_of printed_report
 text_in_lines {Z} named report =
     let es = lines_below 0o100 (events_lines report.ends.items report.channels) in
     let ws = lines_below 0o100 (ends named report) in
     let cs = lines_below 0o100 (channels report.channels) in
-    let first = said_in_lines 0o100 (channel_events report.ends.items report.channels) (events_lines report.ends.items report.channels) (events_said report.ends.items report.channels) in
-    let second = said_in_lines 0o100 (named_worker_line named report.ends.items) (ends named report) (ends_said named report) in
-    let third = said_in_lines 0o100 (used_channel_line report.channels) (channels report.channels) (channel_in_lines report.channels) in
-    ap (λ t. (t ++ each_below 0o100 (named_worker_line named report.ends.items)) ++ each_below 0o100 (used_channel_line report.channels)) first
-    ∙ (ap (λ t. (unlines es ++ t) ++ each_below 0o100 (used_channel_line report.channels)) second
-    ∙ (ap (λ t. (unlines es ++ unlines ws) ++ t) third
-    ∙ (append_assoc (unlines es) (unlines ws) (unlines cs)
-    ∙ (ap (λ t. unlines es ++ t) (sym (unlines-append ws cs)) ∙ sym (unlines-append es (ws ++ cs))))))
+    let first = channels_by_number (channel_events report.ends.items report.channels) ∙ said_in_lines 0o100 (numbered_channel_events report.ends.items report.channels) (events_lines report.ends.items report.channels) (events_said report.ends.items report.channels) in
+    let second = processors_by_number (named_worker_line named report.ends.items) (unnamed_line named report.ends.items) ∙ said_in_lines 0o100 (named_worker_line named report.ends.items) (ends named report) (ends_said named report) in
+    let third = channels_by_number (used_channel_line report.channels) ∙ said_in_lines 0o100 (numbered_channel_line report.channels) (channels report.channels) (channel_in_lines report.channels) in
+    rw (first, second, third) (append_assoc (unlines es) (unlines ws) (unlines cs)
+    ∙ (ap (λ t. unlines es ++ t) (sym (unlines-append ws cs)) ∙ sym (unlines-append es (ws ++ cs))))
 
 plain_lines : {Z : Type 0} (named : List Bool) (report : Report Z) → AreLines (lines_of named report)
 unfolding lines_of

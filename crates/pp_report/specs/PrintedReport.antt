@@ -2,16 +2,16 @@
 -- line for each processor that the deck names, and for each channel that has a history.
 use Rattle.std.specs.Prelude.{ℕ, Bool, List, [], ◌++◌, Option, Some, None, codes, nat_lt, position, slice_get, if◌then◌else◌}
 use Rattle.std.specs.List.{enumerate_from, flat_map}
-use Rattle.pp_channel.specs.ChannelNo.{names_channel}
+use Rattle.pp_channel.specs.ChannelNo.{all_channels}
 use Rattle.pp_line.specs.Merge.{times_logged}
 use Rattle.pp_channel.specs.History.{history_on}
 use Rattle.pp_channel.specs.declared.event.Event.{Event}
-use Rattle.pp_machine.specs.PpNo.{processor_index, processor_number, is_named}
+use Rattle.pp_machine.specs.PpNo.{all_processors, processor_index, processor_number, is_named}
 use Rattle.pp_runner.specs.declared.end.End.{End}
 use Rattle.pp_runner.specs.declared.report.Report.{Report}
 use Rattle.pp_runner.specs.declared.worker.Worker.{Worker}
-use Rattle.pp_text.specs.Numeral.{decimal, octal}
-use Rattle.pp_text.specs.PrintedText.{each_below, event_text, line_end, processor_line, used_channel_line}
+use Rattle.pp_word.specs.Numeral.{decimal, octal}
+use Rattle.pp_text.specs.PrintedText.{event_text, line_end, processor_line, used_channel_line}
 
 -- ---- events, each with its number in the history of its channel
 
@@ -32,11 +32,10 @@ unfoldable pub numbered_event_line : {Z : Type 0} → ℕ → List (Worker Z) �
 numbered_event_line c workers (number, event) =
     line_by c number event (author_place c workers number)
 
--- the lines of the events of the channel with this number, if there is one
+-- the lines of the events of channel c
 abbrev pub channel_events : {Z : Type 0} → List (Worker Z) → List (List Event) → ℕ → List ℕ
 channel_events workers histories c =
-    if names_channel c then flat_map (numbered_event_line c workers)
-    (enumerate_from 0 (history_on c histories)) else []
+    flat_map (numbered_event_line c workers) (enumerate_from 0 (history_on c histories))
 
 -- ---- processors
 
@@ -52,7 +51,7 @@ abbrev pub worker_line : {Z : Type 0} → ℕ → Option (Worker Z) → List ℕ
 worker_line n None = []
 worker_line n (Some worker) = processor_line n worker.pp (end_text worker.finish)
 
--- the line of the processor with this number, if the deck names it
+-- the line of processor n, if the deck names it
 abbrev pub named_worker_line : {Z : Type 0} → List Bool → List (Worker Z) → ℕ → List ℕ
 named_worker_line named workers n =
     if is_named named n then worker_line n (slice_get workers (processor_index n)) else []
@@ -60,6 +59,6 @@ named_worker_line named workers n =
 -- the text of a report
 unfoldable pub printed_report : {Z : Type 0} → List Bool → Report Z → List ℕ
 printed_report named report =
-    each_below 0o100 (channel_events report.ends.items report.channels)
-    ++ each_below 0o100 (named_worker_line named report.ends.items)
-    ++ each_below 0o100 (used_channel_line report.channels)
+    flat_map (channel_events report.ends.items report.channels) all_channels
+    ++ flat_map (named_worker_line named report.ends.items) all_processors
+    ++ flat_map (used_channel_line report.channels) all_channels

@@ -1,10 +1,10 @@
 //! The lines of a report's text.
 
-ghost use Rattle.std.specs.Prelude.{◌≡◌, ◌+◌, ◌<◌, ◌≤◌, ◌^◌, ◌++◌, IsTrue, Some, codes, length};
+ghost use Rattle.std.specs.Prelude.{◌≡◌, ◌<◌, ◌^◌, ◌++◌, IsTrue, Some, codes};
 ghost use Rattle.pp_machine.specs.PpNo.{names_processor};
-ghost use Rattle.pp_text.specs.Numeral.{decimal, digits, octal};
-ghost use Rattle.pp_text.specs.Piece.{HasRoom, longest_line};
+ghost use Rattle.pp_word.specs.Numeral.{decimal, digits, octal};
 ghost use Rattle.pp_text.specs.PrintedText.{event_text, line_end};
+ghost use Rattle.pp_text.specs.TextWriter.{Prints};
 ghost use Rattle.pp_report.specs.PrintedReport.{end_text, worker_line};
 ghost use Rattle.pp_report.specs.ReportLaw.{FitsItsEnd, FitsItsLine, shown_end};
 
@@ -12,29 +12,30 @@ use pp_channel::{ChannelNo, Event};
 use pp_machine::PpNo;
 use pp_runner::{End, Worker};
 use pp_text::{
-    Piece, decimal6, octal2, processor_heading, push_event_end, push_fault_text, push_upper_digits,
+    TextWriter, channel_name, decimal6, octal2, print_event_end, print_fault_text,
+    print_upper_digits, processor_heading,
 };
 use std::alloc::Allocator;
+use std::io::Write;
 
-/// Adds `CH05 000001 PP00 PUT 0007` and a line feed.
-#[tactic(auto, using(crate::proofs::LineLemmas::numbered_line_in_pieces))]
-pub(crate) fn push_numbered_event(
-    piece: &mut Piece,
+/// Prints `CH05 000001 PP00 PUT 0007` and a line feed.
+pub(crate) fn print_numbered_event<W: Write>(
+    text: &mut TextWriter<W>,
     c: ChannelNo,
     number: u64,
     author: PpNo,
     event: Event,
 )
-    requires { HasRoom longest_line piece.old }
-    ensures text { piece.new ≡ piece.old ++ (codes "CH" ++ octal 2 c ++ codes " " ++ decimal number
-        ++ codes " PP" ++ octal 2 author ++ codes " " ++ event_text event ++ line_end) }
+    ensures text { Prints W.contents text.old text.new (codes "CH" ++ octal 2 c ++ codes " "
+        ++ decimal number ++ codes " PP" ++ octal 2 author ++ codes " " ++ event_text event
+        ++ line_end) }
     ensures fits { FitsItsLine (record { number = number; author = author; event = event }) }
 {
-    let [c0, c1] = octal2(c.get());
-    piece.push(&[b'C', b'H', c0, c1, b' ']);
-    let lower = push_upper_digits(piece, number);
-    piece.push(&author_heading(lower, author));
-    push_event_end(piece, event);
+    text.print(&channel_name(c));
+    text.print(b" ");
+    let lower = print_upper_digits(text, number);
+    text.print(&author_heading(lower, author));
+    print_event_end(text, event);
 }
 
 /// `000001 PP00 `
@@ -48,30 +49,30 @@ fn author_heading(number: u32, author: PpNo) -> [u8; 12]
     [n0, n1, n2, n3, n4, n5, b' ', b'P', b'P', p0, p1, b' ']
 }
 
-/// Adds `PP00 P=0103 A=000007 PATIENCE` and a line feed.
-#[tactic(auto, using(pp_text::proofs::TextLemmas::processor_line_in_pieces))]
-pub(crate) fn push_worker<A: Allocator>(piece: &mut Piece, n: PpNo, worker: &Worker<A>)
-    requires { HasRoom longest_line piece.old }
-    ensures text { piece.new ≡ piece.old ++ worker_line n (Some worker.now) }
+/// Prints `PP00 P=0103 A=000007 PATIENCE` and a line feed.
+pub(crate) fn print_worker_line<A: Allocator, W: Write>(
+    text: &mut TextWriter<W>,
+    n: PpNo,
+    worker: &Worker<A>,
+)
+    ensures text { Prints W.contents text.old text.new (worker_line n (Some worker.now)) }
     ensures fits { FitsItsEnd (shown_end worker.now) }
 {
-    piece.push(&processor_heading(n, &worker.pp));
-    push_end(piece, worker.finish);
-    piece.push(b"\n");
+    text.print(&processor_heading(n, &worker.pp));
+    print_end(text, worker.finish);
+    text.print(b"\n");
 }
 
-/// Adds `PATIENCE`.
-fn push_end(piece: &mut Piece, finish: End)
-    requires { HasRoom 8 piece.old }
-    ensures text { piece.new ≡ piece.old ++ end_text finish }
-    ensures room { length piece.new ≤ length piece.old + 8 }
+/// Prints `PATIENCE`.
+fn print_end<W: Write>(text: &mut TextWriter<W>, finish: End)
+    ensures { Prints W.contents text.old text.new (end_text finish) }
 {
     match finish {
-        End::Stopped => piece.push(b"STOPPED"),
-        End::Fault(number) => push_fault_text(piece, number),
-        End::Steps => piece.push(b"STEPS"),
-        End::Patience => piece.push(b"PATIENCE"),
-        End::Memory => piece.push(b"MEMORY"),
-        End::Worn => piece.push(b"WORN"),
+        End::Stopped => text.print(b"STOPPED"),
+        End::Fault(number) => print_fault_text(text, number),
+        End::Steps => text.print(b"STEPS"),
+        End::Patience => text.print(b"PATIENCE"),
+        End::Memory => text.print(b"MEMORY"),
+        End::Worn => text.print(b"WORN"),
     }
 }

@@ -1,26 +1,25 @@
 //! The whole printed text of a report.
 
-ghost use Rattle.std.specs.Prelude.{◌≡◌, ◌≢◌, ◌≤◌, ◌++◌, ℕ, All, List, Option, Err, length, slice_get, IfSome, IsTrue, option_map};
+ghost use Rattle.std.specs.Prelude.{◌≡◌, ◌≢◌, ◌≤◌, ℕ, All, List, Option, Err, length, slice_get, IfSome, IsTrue, option_map};
 ghost use Rattle.std.specs.List.{enumerate_from, flat_map};
-ghost use Rattle.pp_channel.specs.ChannelNo.{channel_count, names_channel};
+ghost use Rattle.pp_channel.specs.ChannelNo.{all_channels, channel_count, names_channel};
 ghost use Rattle.pp_channel.specs.History.{history_on};
-ghost use Rattle.pp_machine.specs.PpNo.{processor_count, processor_index, processor_number, is_named};
+ghost use Rattle.pp_machine.specs.PpNo.{all_processors, processor_count, processor_index, processor_number, is_named};
 ghost use Rattle.pp_runner.specs.declared.worker.Worker.{Worker};
 ghost use Rattle.pp_report.specs.Authors.{AreAuthors, AreAuthorsOn};
 ghost use Rattle.pp_text.specs.TextWriter.{Prints};
-ghost use Rattle.pp_text.specs.Piece.{HasRoom, longest_line};
-ghost use Rattle.pp_text.specs.PrintedText.{each_below, used_channel_line};
+ghost use Rattle.pp_text.specs.PrintedText.{used_channel_line};
 ghost use Rattle.pp_report.specs.PrintedReport.{channel_events, line_by, named_worker_line, numbered_event_line, printed_report, worker_line};
 ghost use Rattle.pp_report.specs.ReportLaw.{FitsItsEnd, FitsItsLine, FitsItsReport, shown_end, printed_by, told_events};
 ghost use Rattle.pp_text.specs.TextLaw.{HistoryFits};
 ghost use Rattle.pp_text.specs.Written.{IsReportWritten, IsWritten};
 
 use crate::authors::{ChannelAuthors, authors};
-use crate::report_line::{push_numbered_event, push_worker};
+use crate::report_line::{print_numbered_event, print_worker_line};
 use pp_channel::{CHANNELS, Channel, ChannelNo, Event};
 use pp_machine::{PROCESSORS, PpNo};
 use pp_runner::{Report, Worker};
-use pp_text::{NUMBERS, Piece, ReportFault, TextWriter, WriteFault, push_channel_line};
+use pp_text::{ReportFault, TextWriter, WriteFault, print_channel_line};
 use std::alloc::Allocator;
 use std::io::Write;
 
@@ -73,30 +72,13 @@ fn print_events<A: Allocator, W: Write>(
     requires { length authors.now ≡ channel_count }
     ensures text { (workers : List (Worker A)) → AreAuthors workers channels.now authors.now
         → Prints W.contents text.old text.new
-        (each_below NUMBERS (channel_events workers channels.now)) }
+        (flat_map (channel_events workers channels.now) all_channels) }
     ensures fits { (workers : List (Worker A)) → AreAuthors workers channels.now authors.now
         → (c : ℕ) → IsTrue (names_channel c)
         → All FitsItsLine (told_events c workers (history_on c channels.now)) }
 {
-    for number in 0..NUMBERS {
-        print_channel_events(text, channels, authors, number);
-    }
-}
-
-fn print_channel_events<A: Allocator, W: Write>(
-    text: &mut TextWriter<W>,
-    channels: &[Channel<A>; CHANNELS],
-    authors: &[ChannelAuthors<A>],
-    number: u8,
-)
-    requires { length authors.now ≡ channel_count }
-    ensures text { (workers : List (Worker A)) → AreAuthors workers channels.now authors.now
-        → Prints W.contents text.old text.new (channel_events workers channels.now number) }
-    ensures fits { (workers : List (Worker A)) → AreAuthors workers channels.now authors.now
-        → IsTrue (names_channel number)
-        → All FitsItsLine (told_events number workers (history_on number channels.now)) }
-{
-    if let Some(c) = ChannelNo::new(number) {
+    for place in 0..CHANNELS {
+        let c = ChannelNo::at(place);
         print_history(text, c, channel_of(channels, c), &authors[c.index()]);
     }
 }
@@ -113,30 +95,26 @@ fn print_history<A: Allocator, W: Write>(
     ensures fits { (workers : List (Worker A)) → AreAuthorsOn c workers channel.now authors.now
         → All FitsItsLine (told_events c workers channel.now) }
 {
-    let mut line = Piece::new();
     for (number, event) in channel.history().iter().enumerate() {
-        line.clear();
-        push_event_by(&mut line, c, number, &authors.of(number), event);
-        text.print(line.as_slice());
+        print_event_by(text, c, number, &authors.of(number), event);
     }
 }
 
-/// Adds the line of an event, if it has an author.
-fn push_event_by(
-    piece: &mut Piece,
+/// Prints the line of an event, if it has an author.
+fn print_event_by<W: Write>(
+    text: &mut TextWriter<W>,
     c: ChannelNo,
     number: usize,
     author: &Option<PpNo>,
     event: &Event,
 )
-    requires { HasRoom longest_line piece.old }
     ensures text { (place : Option ℕ) → author.now ≡ option_map processor_number place
-        → piece.new ≡ piece.old ++ line_by c number event.now place }
+        → Prints W.contents text.old text.new (line_by c number event.now place) }
     ensures fits { (place : Option ℕ) → author.now ≡ option_map processor_number place
         → IfSome (printed_by number event.now place) FitsItsLine }
 {
     match author {
-        Some(author) => push_numbered_event(piece, c, number as u64, *author, *event),
+        Some(author) => print_numbered_event(text, c, number as u64, *author, *event),
         None => {}
     }
 }
@@ -147,12 +125,12 @@ fn print_workers<A: Allocator, W: Write>(
     named: &[bool; PROCESSORS],
 )
     ensures text { Prints W.contents text.old text.new
-        (each_below NUMBERS (named_worker_line named.now workers.now)) }
+        (flat_map (named_worker_line named.now workers.now) all_processors) }
     ensures fits { (n : ℕ) → IsTrue (is_named named.now n)
         → IfSome (option_map shown_end (slice_get workers.now (processor_index n))) FitsItsEnd }
 {
-    for number in 0..NUMBERS {
-        print_named_worker(text, workers, named, number);
+    for place in 0..PROCESSORS {
+        print_named_worker(text, workers, named, PpNo::at(place));
     }
 }
 
@@ -160,17 +138,15 @@ fn print_named_worker<A: Allocator, W: Write>(
     text: &mut TextWriter<W>,
     workers: &[Worker<A>],
     named: &[bool; PROCESSORS],
-    number: u8,
+    n: PpNo,
 )
     ensures text { Prints W.contents text.old text.new
-        (named_worker_line named.now workers.now number) }
-    ensures fits { IsTrue (is_named named.now number)
-        → IfSome (option_map shown_end (slice_get workers.now (processor_index number)))
-        FitsItsEnd }
+        (named_worker_line named.now workers.now n) }
+    ensures fits { IsTrue (is_named named.now n)
+        → IfSome (option_map shown_end (slice_get workers.now (processor_index n))) FitsItsEnd }
 {
-    match PpNo::new(number) {
-        Some(n) if named[n.index()] => print_worker(text, workers, n),
-        _ => {}
+    if named[n.index()] {
+        print_worker(text, workers, n);
     }
 }
 
@@ -182,9 +158,7 @@ fn print_worker<A: Allocator, W: Write>(text: &mut TextWriter<W>, workers: &[Wor
         FitsItsEnd }
 {
     if let Some(worker) = workers.get(n.index()) {
-        let mut line = Piece::new();
-        push_worker(&mut line, n, worker);
-        text.print(line.as_slice());
+        print_worker_line(text, n, worker);
     }
 }
 
@@ -193,26 +167,12 @@ fn print_channels<A: Allocator, W: Write>(
     channels: &[Channel<A>; CHANNELS],
 )
     ensures text { Prints W.contents text.old text.new
-        (each_below NUMBERS (used_channel_line channels.now)) }
+        (flat_map (used_channel_line channels.now) all_channels) }
     ensures fits { (c : ℕ) → IsTrue (names_channel c) → HistoryFits (history_on c channels.now) }
 {
-    for number in 0..NUMBERS {
-        print_used_channel(text, channels, number);
-    }
-}
-
-fn print_used_channel<A: Allocator, W: Write>(
-    text: &mut TextWriter<W>,
-    channels: &[Channel<A>; CHANNELS],
-    number: u8,
-)
-    ensures text { Prints W.contents text.old text.new (used_channel_line channels.now number) }
-    ensures fits { IsTrue (names_channel number) → HistoryFits (history_on number channels.now) }
-{
-    if let Some(c) = ChannelNo::new(number) {
-        let mut line = Piece::new();
-        push_channel_line(&mut line, c, channel_of(channels, c));
-        text.print(line.as_slice());
+    for place in 0..CHANNELS {
+        let c = ChannelNo::at(place);
+        print_channel_line(text, c, channel_of(channels, c));
     }
 }
 

@@ -44,13 +44,7 @@ none_mapped [] is = refl
 none_mapped (e ∷ events) is = absurd (cc)
 
 pub lines_of_none : (w : Bool) (m : MachineState) (c : ℕ) (h : List Event) → h ≡ [] → h ≡ opening_history c m ++ events_on c m.trace → channel_lines w m c ≡ []
-unfolding channel_lines
 lines_of_none w m c h none is =
-    ap (λ (events : List TimedEvent). cond (names_channel c) (lines_from w c 1 (stretches events)) []) (none_mapped (timed_events c m) (timed_history c m ∙ sym is ∙ none))
-    ∙ ap (λ (parts : List (List TimedEvent)). cond (names_channel c) (lines_from w c 1 parts) []) (cut-nil are_parted)
-    ∙ ap (λ (text : List ℕ). cond (names_channel c) text []) (no_lines w c 1)
-    ∙ either (names_channel c)
-  where
-    either : (b : Bool) → cond b (let text : List ℕ = [] in text) [] ≡ []
-    either true = refl
-    either false = refl
+    ap (λ (events : List TimedEvent). lines_from w c 1 (stretches events)) (none_mapped (timed_events c m) (timed_history c m ∙ sym is ∙ none))
+    ∙ ap (lines_from w c 1) (cut-nil are_parted)
+    ∙ no_lines w c 1

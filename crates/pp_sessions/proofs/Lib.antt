@@ -1,5 +1,4 @@
 mod TallyLemmas
-mod LineLemmas
 mod CutLemmas
 mod TakeInLemmas
 mod WordLemmas

@@ -2,14 +2,15 @@
 -- it the words of the stretch if they are asked for; and for each processor that is shown a line
 -- with the counts of its steps.
 use Rattle.std.specs.Prelude.{ℕ, ◌+◌, ◌%◌, ◌==◌, Bool, List, [], ◌∷◌, ◌++◌, Option, None, Some, codes, slice_index_or, if◌then◌else◌}
-use Rattle.pp_channel.specs.ChannelNo.{names_channel}
+use Rattle.std.specs.List.{flat_map}
+use Rattle.pp_channel.specs.ChannelNo.{all_channels}
 use Rattle.pp_machine.specs.MachineState.{MachineState}
-use Rattle.pp_machine.specs.PpNo.{processor_index, is_named}
+use Rattle.pp_machine.specs.PpNo.{all_processors, processor_index, is_named}
 use Rattle.pp_machine.specs.Run.{run}
 use Rattle.pp_deck.specs.DeckMeaning.{LoadedDeck}
 use Rattle.pp_deck.specs.InUse.{in_use}
-use Rattle.pp_text.specs.Numeral.{decimal, octal, short_decimal}
-use Rattle.pp_text.specs.PrintedText.{each_below, line_end}
+use Rattle.pp_word.specs.Numeral.{decimal, octal, short_decimal}
+use Rattle.pp_text.specs.PrintedText.{line_end}
 use Rattle.pp_run.specs.RunSteps.{run_steps}
 use Rattle.pp_sessions.specs.StepCounts.{each_step_counts, no_steps}
 use Rattle.pp_sessions.specs.Stretches.{is_session, stretches, tally_of, words_in}
@@ -90,10 +91,9 @@ lines_from with_words c number (stretch ∷ others) =
     stretch_text with_words c number stretch
     ++ lines_from with_words c (next_number number stretch) others
 
--- the lines of the channel with this number, if there is one
-unfoldable pub channel_lines : Bool → MachineState → ℕ → List ℕ
-channel_lines with_words m c =
-    if names_channel c then lines_from with_words c 1 (stretches (timed_events c m)) else []
+-- the lines of channel c
+abbrev pub channel_lines : Bool → MachineState → ℕ → List ℕ
+channel_lines with_words m c = lines_from with_words c 1 (stretches (timed_events c m))
 
 -- ---- processors
 
@@ -104,8 +104,8 @@ counts_line n counts =
     ++ codes " HELD " ++ short_decimal counts.held ++ codes " REST " ++ short_decimal counts.at_rest
     ++ line_end
 
--- the line of the processor with this number, if it is shown; `counts` has the counts of each
--- processor, in the order of the barrel
+-- the line of processor n, if it is shown; `counts` has the counts of each processor, in the order
+-- of the barrel
 abbrev pub shown_counts_line : List Bool → List StepCounts → ℕ → List ℕ
 shown_counts_line shown counts n =
     if is_named shown n
@@ -117,8 +117,8 @@ shown_counts_line shown counts n =
 -- digits.
 unfoldable pub sessions_text : Bool → List Bool → MachineState → List StepCounts → List ℕ
 sessions_text with_words shown m counts =
-    each_below 0o100 (channel_lines with_words m)
-    ++ each_below 0o100 (shown_counts_line shown counts)
+    flat_map (channel_lines with_words m) all_channels
+    ++ flat_map (shown_counts_line shown counts) all_processors
 
 -- the text of a loaded deck after these steps
 abbrev pub sessions_after : Bool → List ℕ → LoadedDeck → List ℕ

@@ -8,13 +8,13 @@ ghost use Rattle.pp_sessions.specs.Stretches.{words_in};
 ghost use Rattle.pp_sessions.specs.TimedEvents.{opening_events, timed_on};
 ghost use Rattle.pp_machine.specs.declared.trace.Trace.{Trace};
 
-use crate::lines::push_stretch;
+use crate::lines::print_stretch_line;
 use crate::moment::{Moment, TimedEvent};
 use crate::tally::Tally;
 use crate::words::print_words;
 use pp_channel::{ChannelNo, Event};
 use pp_machine::{Machine, Trace};
-use pp_text::{Piece, TextWriter};
+use pp_text::TextWriter;
 use std::alloc::Allocator;
 use std::io::Write;
 
@@ -60,7 +60,6 @@ impl OpenStretch {
 /// entry in, if it is on this channel.
 pub(crate) fn take_in_entry<W: Write>(
     text: &mut TextWriter<W>,
-    line: &mut Piece,
     c: ChannelNo,
     with_words: bool,
     current: &mut OpenStretch,
@@ -80,13 +79,12 @@ pub(crate) fn take_in_entry<W: Write>(
             moment: Moment::Turn(entry.turn),
             event: entry.event,
         };
-        take_in(text, line, c, with_words, current, past, &event);
+        take_in(text, c, with_words, current, past, &event);
     }
 }
 
 fn take_in<W: Write>(
     text: &mut TextWriter<W>,
-    line: &mut Piece,
     c: ChannelNo,
     with_words: bool,
     current: &mut OpenStretch,
@@ -112,7 +110,7 @@ fn take_in<W: Write>(
         return;
     }
     let entries = &past[current.start..];
-    print_stretch(text, line, c, with_words, current.number, &tally, entries);
+    print_stretch(text, c, with_words, current.number, &tally, entries);
     current.number = next_number(current.number, &tally);
     current.tally = Some(Tally::of(event));
     current.start = past.len();
@@ -122,7 +120,6 @@ fn take_in<W: Write>(
 /// the trace; if it is a session, it has this number.
 pub(crate) fn print_stretch<W: Write>(
     text: &mut TextWriter<W>,
-    line: &mut Piece,
     c: ChannelNo,
     with_words: bool,
     number: u64,
@@ -132,11 +129,9 @@ pub(crate) fn print_stretch<W: Write>(
     ensures { Prints W.contents text.old text.new
         (line_and_words with_words c number stretch.now (words_in (timed_on c entries.now))) }
 {
-    line.clear();
-    push_stretch(line, c, number, stretch);
-    text.print(line.as_slice());
+    print_stretch_line(text, c, number, stretch);
     if with_words {
-        print_words(text, line, c, entries);
+        print_words(text, c, entries);
     }
 }
 

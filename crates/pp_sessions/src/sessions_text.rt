@@ -1,17 +1,17 @@
 //! The text of the sessions of a run.
-ghost use Rattle.pp_text.specs.PrintedText.{each_below};
+ghost use Rattle.std.specs.List.{flat_map};
+ghost use Rattle.pp_channel.specs.ChannelNo.{all_channels};
+ghost use Rattle.pp_machine.specs.PpNo.{all_processors};
 ghost use Rattle.pp_text.specs.TextWriter.{Prints};
 ghost use Rattle.pp_text.specs.Written.{IsWritten};
-ghost use Rattle.pp_sessions.specs.SessionsText.{channel_lines, lines_from, sessions_text, shown_counts_line};
-ghost use Rattle.pp_sessions.specs.Stretches.{stretches};
-ghost use Rattle.pp_sessions.specs.TimedEvents.{timed_events};
+ghost use Rattle.pp_sessions.specs.SessionsText.{channel_lines, sessions_text, shown_counts_line};
 
-use crate::lines::push_counts;
+use crate::lines::print_counts;
 use crate::open_stretch::{OpenStretch, print_stretch, take_in_entry};
 use crate::step_counts::StepCounts;
-use pp_channel::ChannelNo;
+use pp_channel::{CHANNELS, ChannelNo};
 use pp_machine::{Machine, PROCESSORS, PpNo};
-use pp_text::{NUMBERS, Piece, TextWriter, WriteFault};
+use pp_text::{TextWriter, WriteFault};
 use std::alloc::Allocator;
 use std::io::Write;
 
@@ -32,105 +32,80 @@ pub fn write_sessions<A: Allocator, W: Write>(
         (W.contents writer.old) (W.contents writer.new) }
 {
     let mut text = TextWriter::new(writer);
-    let mut line = Piece::new();
-    print_channels(&mut text, &mut line, with_words, machine);
-    print_processors(&mut text, &mut line, shown, counts);
+    print_channels(&mut text, with_words, machine);
+    print_processors(&mut text, shown, counts);
     text.finish()
 }
 
 fn print_channels<A: Allocator, W: Write>(
     text: &mut TextWriter<W>,
-    line: &mut Piece,
     with_words: bool,
     machine: &Machine<A>,
 )
     ensures { Prints W.contents text.old text.new
-        (each_below NUMBERS (channel_lines with_words machine.now)) }
+        (flat_map (channel_lines with_words machine.now) all_channels) }
 {
-    for number in 0..NUMBERS {
-        print_numbered_channel(text, line, with_words, machine, number);
+    for place in 0..CHANNELS {
+        print_used_channel(text, with_words, machine, ChannelNo::at(place));
     }
 }
 
-#[tactic(auto, unfolding(crate::specs::SessionsText::channel_lines))]
-fn print_numbered_channel<A: Allocator, W: Write>(
+fn print_used_channel<A: Allocator, W: Write>(
     text: &mut TextWriter<W>,
-    line: &mut Piece,
     with_words: bool,
     machine: &Machine<A>,
-    number: u8,
+    c: ChannelNo,
 )
-    ensures { Prints W.contents text.old text.new (channel_lines with_words machine.now number) }
+    ensures { Prints W.contents text.old text.new (channel_lines with_words machine.now c) }
 {
-    match ChannelNo::new(number) {
-        Some(c) if !machine.channel(c).history().is_empty() => {
-            print_channel(text, line, with_words, machine, c);
-        }
-        _ => {}
+    if !machine.channel(c).history().is_empty() {
+        print_channel(text, with_words, machine, c);
     }
 }
 
 /// Prints a line for each stretch of a channel.
 fn print_channel<A: Allocator, W: Write>(
     text: &mut TextWriter<W>,
-    line: &mut Piece,
     with_words: bool,
     machine: &Machine<A>,
     c: ChannelNo,
 )
-    ensures { Prints W.contents text.old text.new
-        (lines_from with_words c 1 (stretches (timed_events c machine.now))) }
+    ensures { Prints W.contents text.old text.new (channel_lines with_words machine.now c) }
 {
     let mut current = OpenStretch::opening(machine, c);
     let entries = machine.events();
     for index in 0..entries.len() {
         let past = &entries[..index];
-        take_in_entry(
-            text,
-            line,
-            c,
-            with_words,
-            &mut current,
-            past,
-            &entries[index],
-        );
+        take_in_entry(text, c, with_words, &mut current, past, &entries[index]);
     }
     if let Some(last) = &current.tally {
         let entries = &entries[current.start..];
-        print_stretch(text, line, c, with_words, current.number, last, entries);
+        print_stretch(text, c, with_words, current.number, last, entries);
     }
 }
 
 fn print_processors<W: Write>(
     text: &mut TextWriter<W>,
-    line: &mut Piece,
     shown: &[bool; PROCESSORS],
     counts: &[StepCounts; PROCESSORS],
 )
     ensures { Prints W.contents text.old text.new
-        (each_below NUMBERS (shown_counts_line shown.now counts.now)) }
+        (flat_map (shown_counts_line shown.now counts.now) all_processors) }
 {
-    for number in 0..NUMBERS {
-        print_shown_processor(text, line, shown, counts, number);
+    for place in 0..PROCESSORS {
+        print_shown_processor(text, shown, counts, PpNo::at(place));
     }
 }
 
 fn print_shown_processor<W: Write>(
     text: &mut TextWriter<W>,
-    line: &mut Piece,
     shown: &[bool; PROCESSORS],
     counts: &[StepCounts; PROCESSORS],
-    number: u8,
+    n: PpNo,
 )
-    ensures { Prints W.contents text.old text.new
-        (shown_counts_line shown.now counts.now number) }
+    ensures { Prints W.contents text.old text.new (shown_counts_line shown.now counts.now n) }
 {
-    match PpNo::new(number) {
-        Some(n) if shown[n.index()] => {
-            line.clear();
-            push_counts(line, n, &counts[n.index()]);
-            text.print(line.as_slice());
-        }
-        _ => {}
+    if shown[n.index()] {
+        print_counts(text, n, &counts[n.index()]);
     }
 }

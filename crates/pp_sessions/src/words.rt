@@ -1,8 +1,6 @@
 //! The words of a stretch.
 
-ghost use Rattle.std.specs.Prelude.{◌≡◌, ◌+◌, ◌%◌, ◌<◌, ◌≤◌, ◌++◌, ◌==◌, [], ◌∷◌, ℕ, List, codes, length, if◌then◌else◌};
-ghost use Rattle.pp_channel.specs.declared.event.Event.{Event};
-ghost use Rattle.pp_text.specs.Piece.{HasRoom};
+ghost use Rattle.std.specs.Prelude.{◌≡◌, ◌<◌, ◌++◌, [], ◌∷◌, ℕ, List};
 ghost use Rattle.pp_text.specs.TextWriter.{Prints};
 ghost use Rattle.pp_sessions.specs.SessionsText.{one_word, words_from};
 ghost use Rattle.pp_sessions.specs.Stretches.{word_of, words_in};
@@ -10,7 +8,7 @@ ghost use Rattle.pp_sessions.specs.TimedEvents.{timed_on};
 
 use pp_channel::{ChannelNo, Event};
 use pp_machine::Trace;
-use pp_text::{Piece, TextWriter, octal4};
+use pp_text::{TextWriter, octal4};
 use pp_word::Word12;
 use std::io::Write;
 
@@ -19,18 +17,13 @@ const WORDS_ON_A_LINE: u32 = 8;
 
 /// Prints the words that are put or sent on a channel by these entries of the trace, in order,
 /// eight a line.
-pub(crate) fn print_words<W: Write>(
-    text: &mut TextWriter<W>,
-    line: &mut Piece,
-    c: ChannelNo,
-    entries: &[Trace],
-)
+pub(crate) fn print_words<W: Write>(text: &mut TextWriter<W>, c: ChannelNo, entries: &[Trace])
     ensures { Prints W.contents text.old text.new
         (words_from 0 (words_in (timed_on c entries.now))) }
 {
     let mut count: u32 = 0;
     for entry in entries {
-        count = print_entry(text, line, c, entry, count);
+        count = print_entry(text, c, entry, count);
     }
     if count > 0 {
         text.print(b"\n");
@@ -39,13 +32,7 @@ pub(crate) fn print_words<W: Write>(
 
 /// Prints the word of an entry, if it has one on this channel, on a line that has `count` words,
 /// and gives how many it has then.
-fn print_entry<W: Write>(
-    text: &mut TextWriter<W>,
-    line: &mut Piece,
-    c: ChannelNo,
-    entry: &Trace,
-    count: u32,
-) -> u32
+fn print_entry<W: Write>(text: &mut TextWriter<W>, c: ChannelNo, entry: &Trace, count: u32) -> u32
     requires { count < 8 }
     ensures words { (printed : List ℕ) × Prints W.contents text.old text.new printed
         × ((rest : List ℕ) → words_from count (words_in (timed_on c (entry.now ∷ [])) ++ rest)
@@ -58,22 +45,19 @@ fn print_entry<W: Write>(
     let Some(word) = word_of(&entry.event) else {
         return count;
     };
-    line.clear();
-    push_word(line, count, word);
-    text.print(line.as_slice());
+    print_word(text, count, word);
     (count + 1) % WORDS_ON_A_LINE
 }
 
-/// Adds ` 0033`, with another space before the first word of a line, and a line feed after the
+/// Prints ` 0033`, with another space before the first word of a line, and a line feed after the
 /// eighth.
-fn push_word(line: &mut Piece, count: u32, word: Word12)
-    requires { HasRoom 8 line.old }
-    ensures { line.new ≡ line.old ++ one_word count word }
+fn print_word<W: Write>(text: &mut TextWriter<W>, count: u32, word: Word12)
+    ensures { Prints W.contents text.old text.new (one_word count word) }
 {
-    line.push(if count == 0 { b"  " } else { b" " });
-    line.push(&octal4(word.get()));
+    text.print(if count == 0 { b"  " } else { b" " });
+    text.print(&octal4(word.get()));
     if count == WORDS_ON_A_LINE - 1 {
-        line.push(b"\n");
+        text.print(b"\n");
     }
 }
 

@@ -1,7 +1,6 @@
 mod AnswerLemmas
 mod ByteLemmas
 mod DumpTextLemmas
-mod NumeralLemmas
 mod ReportLemmas
 mod StateLemmas
 mod PrintedLemmas

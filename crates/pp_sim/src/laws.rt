@@ -23,8 +23,8 @@ ghost use Rattle.pp_sim.specs.ThreadsText.{IsThreadsText};
 ghost use Rattle.pp_report.specs.ReportLaw.{AgreeOnReport};
 ghost use Rattle.pp_text.specs.TextLaw.{AgreeOnText, AreSameHistories, NameAlike};
 
-use pp_check::{barrel_law, printed_report_law};
-use pp_report::{one_run_law, report_law};
+use pp_check::barrel_law;
+use pp_report::{one_run_law, printed_report_law, report_law};
 use pp_run::determinacy_law;
 use pp_text::text_law;
 use std::alloc::Allocator;

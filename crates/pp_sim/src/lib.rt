@@ -4,7 +4,6 @@
 mod deck_bytes;
 mod entry;
 mod laws;
-mod numeral;
 mod program;
 mod streams;
 mod text_fault;
@@ -15,19 +14,18 @@ pub use entry::run_main;
 pub use laws::{
     barrel_text_law, checked_text_law, races_report_law, races_text_law, threads_text_law,
 };
-pub use numeral::numeral_law;
 pub use pp_check::{
-    ChannelState, TraceFault, TraceFlaw, Verdict, barrel_law, check_trace, fault_law,
-    listed_channels, printed_law, printed_report_law, push_verdict, trace_law,
+    ChannelState, TraceFault, TraceFlaw, Verdict, barrel_law, check_trace, fault_law, printed_law,
+    trace_law, write_verdict,
 };
-pub use pp_command::{Asked, ChosenSteps, LineFault, TextOf, Work, read_words};
+pub use pp_command::{Asked, ChosenSteps, LineFault, TextOf, Work, listed_channels, read_words};
 pub use pp_deck::{Deck, DeckCode, DeckFault, deck_law, read_deck, reading_law};
 pub use pp_draw::{
     Condition, MOST_TURNS, SeenStep, Window, drawing_law, run_seeing_steps, write_drawing,
 };
 pub use pp_listing::{Busy, DumpFault, dump_law, listing_law, write_dump, write_listing};
 pub use pp_races::write_races;
-pub use pp_report::{headline_law, one_run_law};
+pub use pp_report::{headline_law, one_run_law, printed_report_law};
 pub use pp_run::determinacy_law;
 pub use pp_sessions::{
     StepCounts, counts_law, course_law, run_counting_steps, sessions_law, write_sessions,

@@ -355,13 +355,10 @@ pub section_words : (n : ℕ) (before after : MachineState) → AreMemories n be
 unfolding places
 section_words n before after m = by (cases (has_changes (processor_of n before).memory (processor_of n after).memory))
   where
-    here : changed_section before after n ≡ cond (true && has_changes (processor_of n before).memory (processor_of n after).memory) (section n ∷ changed_lines (processor_of n before).memory (processor_of n after).memory) []
-    here = ap (λ (b : Bool). cond (b && has_changes (processor_of n before).memory (processor_of n after).memory) (section n ∷ changed_lines (processor_of n before).memory (processor_of n after).memory) []) m.named
-
     by : (has_changes (processor_of n before).memory (processor_of n after).memory ≡ true) ⊎ (has_changes (processor_of n before).memory (processor_of n after).memory ≡ false) → flat_map words_set (changed_section before after n) ≡ changes (processor_of n before).memory (processor_of n after).memory place_count
     by (inl some) =
-        ap (flat_map words_set) (here ∙ cond-true (has_changes (processor_of n before).memory (processor_of n after).memory) _ _ some)
+        ap (flat_map words_set) (cond-true (has_changes (processor_of n before).memory (processor_of n after).memory) (section n ∷ changed_lines (processor_of n before).memory (processor_of n after).memory) [] some)
         ∙ words_on_lines (processor_of n before).memory (processor_of n after).memory m.old m.new
     by (inr none) =
-        ap (flat_map words_set) (here ∙ cond-false (has_changes (processor_of n before).memory (processor_of n after).memory) _ _ none)
+        ap (flat_map words_set) (cond-false (has_changes (processor_of n before).memory (processor_of n after).memory) (section n ∷ changed_lines (processor_of n before).memory (processor_of n after).memory) [] none)
         ∙ sym (none_changed (processor_of n before).memory (processor_of n after).memory (range_with_len 0 place_count) none)

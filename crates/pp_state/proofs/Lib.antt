@@ -1,7 +1,7 @@
 mod NeighbourLemmas
 mod ChangeLemmas
 mod WaitLemmas
-mod MemoryTextLemmas
 mod MemoryLineLemmas
 mod MemoryReadingLemmas
+mod MemoryTextLemmas
 mod MemoryLawLemmas

@@ -12,7 +12,7 @@ use Rattle.pp_word.specs.Address.{place_count}
 use Rattle.pp_machine.specs.Central.{IsCentral}
 use Rattle.pp_machine.specs.PpMemory.{IsMemory}
 use Rattle.pp_machine.specs.Processor.{Processor, word_at}
-use Rattle.pp_text.specs.Numeral.{digit, octal}
+use Rattle.pp_word.specs.Numeral.{digit, octal}
 use Rattle.pp_text.specs.PrintedText.{each_below}
 use Rattle.pp_state.specs.CentralText.{central_line, central_text, shown_word}
 use Rattle.pp_state.specs.DisplayCode.{display_character, display_characters, displayed}

@@ -4,7 +4,7 @@ use Rattle.std.specs.List.{flat_map}
 use Rattle.std.proofs.lemmas.Bool.{cond-true, cond-false, eq-eqb, ne_eqb}
 use Rattle.std.proofs.lemmas.List.{append-nil}
 use Rattle.pp_deck.specs.DeckLine.{central_words, words}
-use Rattle.pp_text.specs.Numeral.{octal}
+use Rattle.pp_word.specs.Numeral.{octal}
 use Rattle.pp_listing.specs.ListedLine.{after_blank, deck_line}
 use Rattle.pp_text.specs.Differences.{differs}
 use Rattle.pp_state.specs.Changes.{begins_line, central_line, line_from, neighbours, position_on_line}

@@ -1,6 +1,6 @@
 -- The central words that are not 0, in octal and in display code.
 use Rattle.std.specs.Prelude.{ℕ, ◌==◌, ◌&&◌, not, List, [], ◌++◌, codes, length, slice_index, if◌then◌else◌}
-use Rattle.pp_text.specs.Numeral.{octal}
+use Rattle.pp_word.specs.Numeral.{octal}
 use Rattle.pp_text.specs.PrintedText.{each_below, line_end}
 use Rattle.pp_state.specs.DisplayCode.{displayed}
 use Rattle.pp_state.specs.MemoryText.{meets}

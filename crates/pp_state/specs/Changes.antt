@@ -1,12 +1,11 @@
 -- What differs from the load, as lines of a deck that set it: words of processors and central
 -- words.
-use Rattle.std.specs.Prelude.{ℕ, zero, suc, ◌+◌, ◌%◌, ◌==◌, ◌&&◌, Bool, not, List, [], ◌∷◌, length, slice_index, if◌then◌else◌}
+use Rattle.std.specs.Prelude.{ℕ, zero, suc, ◌+◌, ◌%◌, ◌==◌, ◌&&◌, Bool, List, [], ◌∷◌, length, slice_index, if◌then◌else◌}
 use Rattle.std.specs.List.{flat_map, list_any, range_with_len}
 use Rattle.pp_machine.specs.MachineState.{MachineState, processor_of}
-use Rattle.pp_machine.specs.PpNo.{names_processor}
+use Rattle.pp_machine.specs.PpNo.{all_processors}
 use Rattle.pp_deck.specs.DeckLine.{Line, central_words, section, words}
 use Rattle.pp_text.specs.Differences.{differs, places}
-use Rattle.pp_listing.specs.Listing.{numbers}
 
 -- how many words are on a line before the one at a place: none after a word that does not
 -- differ, and none after eight
@@ -42,16 +41,16 @@ changed_lines before after = flat_map (line_from before after) places
 abbrev pub has_changes : List ℕ → List ℕ → Bool
 has_changes before after = list_any (differs before after) places
 
--- `PP n` and the lines of its memory, where there is such a processor and a word of it differs
+-- `PP n` and the lines of its memory, where a word of it differs
 abbrev pub changed_section : MachineState → MachineState → ℕ → List Line
 changed_section before after n =
     let old = (processor_of n before).memory in
     let new = (processor_of n after).memory in
-    if names_processor n && has_changes old new then section n ∷ changed_lines old new else []
+    if has_changes old new then section n ∷ changed_lines old new else []
 
 -- the lines of all processors, in order of number
 abbrev pub changed_sections : MachineState → MachineState → List Line
-changed_sections before after = flat_map (changed_section before after) numbers
+changed_sections before after = flat_map (changed_section before after) all_processors
 
 -- the line of a central word, where it differs
 abbrev pub central_line : List ℕ → List ℕ → ℕ → List Line

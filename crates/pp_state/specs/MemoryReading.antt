@@ -2,7 +2,7 @@
 use Rattle.std.specs.Prelude.{ℕ, ◌+◌, ◌-◌, ◌*◌, ◌%◌, ◌==◌, List, [], ◌∷◌, drop, take}
 use Rattle.std.specs.List.{filter}
 use Rattle.std.specs.Str.Lines.{lines}
-use Rattle.pp_text.specs.Numeral.{value_of}
+use Rattle.pp_word.specs.Numeral.{value_of}
 
 -- the octal number in some columns of a line, counted from 0
 abbrev pub number_in : ℕ → ℕ → List ℕ → ℕ

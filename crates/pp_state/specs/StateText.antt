@@ -2,20 +2,21 @@
 -- runs, what differs from the load, and the channels.
 use Rattle.std.specs.Prelude.{ℕ, Bool, List, [], ◌++◌, slice_index, if◌then◌else◌}
 use Rattle.std.specs.List.{flat_map}
+use Rattle.pp_channel.specs.ChannelNo.{all_channels}
 use Rattle.pp_machine.specs.MachineState.{MachineState, processor_of}
-use Rattle.pp_machine.specs.PpNo.{processor_index, is_named}
+use Rattle.pp_machine.specs.PpNo.{all_processors, processor_index, is_named}
 use Rattle.pp_machine.specs.Run.{run}
 use Rattle.pp_deck.specs.DeckMeaning.{LoadedDeck}
 use Rattle.pp_deck.specs.InUse.{in_use}
-use Rattle.pp_text.specs.PrintedText.{each_below, processor_line, used_channel_line}
+use Rattle.pp_text.specs.PrintedText.{processor_line, used_channel_line}
 use Rattle.pp_text.specs.Standing.{standing}
 use Rattle.pp_listing.specs.ListedLine.{deck_line}
 use Rattle.pp_run.specs.RunSteps.{run_steps}
 use Rattle.pp_state.specs.Changes.{changed_central, changed_sections}
 use Rattle.pp_state.specs.HeldSteps.{each_held_steps}
 
--- the line of the processor with this number, if it is shown; `held` has the count of held
--- steps of each processor, in the order of the barrel
+-- the line of processor n, if it is shown; `held` has the count of held steps of each processor,
+-- in the order of the barrel
 abbrev pub standing_line : List Bool → MachineState → List ℕ → ℕ → List ℕ
 standing_line shown m held n =
     if is_named shown n
@@ -25,10 +26,10 @@ standing_line shown m held n =
 -- the text of two machines, before and after a run. Numbers have two octal digits
 unfoldable pub state_text : List Bool → MachineState → MachineState → List ℕ → List ℕ
 state_text shown before after held =
-    each_below 0o100 (standing_line shown after held)
+    flat_map (standing_line shown after held) all_processors
     ++ flat_map deck_line (changed_sections before after)
     ++ flat_map deck_line (changed_central before.central after.central)
-    ++ each_below 0o100 (used_channel_line after.histories)
+    ++ flat_map (used_channel_line after.histories) all_channels
 
 -- the text of a loaded deck after these steps
 abbrev pub state_after : List ℕ → LoadedDeck → List ℕ

@@ -1,22 +1,31 @@
 //! Words in display code.
 
-ghost use Rattle.std.specs.Prelude.{◌≡◌, ◌+◌, ◌<◌, ◌++◌, length};
-ghost use Rattle.pp_text.specs.Piece.{HasRoom};
+ghost use Rattle.std.specs.Prelude.{◌≡◌, ◌<◌};
+ghost use Rattle.pp_text.specs.TextWriter.{Prints};
 ghost use Rattle.pp_state.specs.DisplayCode.{display_character, display_characters, displayed};
 
-use pp_text::Piece;
+use pp_text::TextWriter;
+use std::io::Write;
 
-/// Adds the last characters of a word in display code, as many as asked for.
-pub(crate) fn push_displayed(line: &mut Piece, width: u32, word: u64)
-    requires { HasRoom width line.old }
-    ensures text { line.new ≡ line.old ++ displayed width word }
-    ensures room { length line.new ≡ length line.old + width }
+/// Prints the last characters of a word in display code, as many as asked for.
+pub(crate) fn print_displayed<W: Write>(text: &mut TextWriter<W>, width: u32, word: u64)
+    ensures { Prints W.contents text.old text.new (displayed width word) }
 {
     if width == 0 {
         return;
     }
-    push_displayed(line, width - 1, word / 0o100);
-    line.push(&[display_character((word % 0o100) as usize)]);
+    print_displayed(text, width - 1, word / 0o100);
+    text.print(&[display_character((word % 0o100) as usize)]);
+}
+
+/// The last two characters of a word in display code.
+pub(crate) fn displayed2(word: u64) -> [u8; 2]
+    ensures { result ≡ displayed 2 word }
+{
+    [
+        display_character((word / 0o100 % 0o100) as usize),
+        display_character((word % 0o100) as usize),
+    ]
 }
 
 /// The character of a code.

@@ -10,7 +10,6 @@ mod held_steps;
 mod laws;
 mod memory_laws;
 mod memory_text;
-mod octal_field;
 mod whole_text;
 
 pub use bounds::Bounds;

@@ -1,18 +1,16 @@
 //! The text of a processor's memory.
 
-ghost use Rattle.std.specs.Prelude.{◌≡◌, ◌+◌, ◌*◌, ◌<◌, ◌≤◌, ◌++◌, length};
+ghost use Rattle.std.specs.Prelude.{◌≡◌, ◌+◌, ◌<◌, ◌≤◌, ◌++◌, codes, length};
 ghost use Rattle.pp_word.specs.Address.{place_count};
 ghost use Rattle.pp_machine.specs.Processor.{word_at};
-ghost use Rattle.pp_text.specs.Piece.{HasRoom};
 ghost use Rattle.pp_text.specs.TextWriter.{Prints};
 ghost use Rattle.pp_text.specs.Written.{IsWritten};
-ghost use Rattle.pp_state.specs.MemoryText.{displayed_words, has_words, memory_line, memory_text, octal_words, padded_line, shown_line, trimmed};
+ghost use Rattle.pp_state.specs.MemoryText.{displayed_words, has_words, memory_line, memory_text, octal_words, shown_line, trimmed};
 
 use crate::bounds::Bounds;
-use crate::display_code::push_displayed;
-use crate::octal_field::push_octal;
+use crate::display_code::displayed2;
 use pp_machine::Pp;
-use pp_text::{Piece, TextWriter, WriteFault};
+use pp_text::{TextWriter, WriteFault, print_octal};
 use pp_word::Word12;
 use std::io::Write;
 
@@ -31,45 +29,28 @@ pub fn write_memory<W: Write>(writer: &mut W, pp: &Pp, bounds: Bounds) -> Result
         (W.contents writer.old) (W.contents writer.new) }
 {
     let mut text = TextWriter::new(writer);
-    let mut line = Piece::new();
-    print_memory(&mut text, &mut line, pp, bounds);
+    print_memory(&mut text, pp, bounds);
     text.finish()
 }
 
 #[tactic(auto, unfolding(crate::specs::MemoryText::memory_text))]
-fn print_memory<W: Write>(text: &mut TextWriter<W>, line: &mut Piece, pp: &Pp, bounds: Bounds)
+fn print_memory<W: Write>(text: &mut TextWriter<W>, pp: &Pp, bounds: Bounds)
     ensures { Prints W.contents text.old text.new (memory_text bounds pp.now) }
 {
     for number in 0..LINES {
-        print_shown_line(text, line, pp, bounds, number * WORDS_ON_A_LINE);
+        print_shown_line(text, pp, bounds, number * WORDS_ON_A_LINE);
     }
 }
 
 #[tactic(auto, unfolding(crate::specs::MemoryText::shown_line))]
-fn print_shown_line<W: Write>(
-    text: &mut TextWriter<W>,
-    line: &mut Piece,
-    pp: &Pp,
-    bounds: Bounds,
-    place: u32,
-)
+fn print_shown_line<W: Write>(text: &mut TextWriter<W>, pp: &Pp, bounds: Bounds, place: u32)
     requires { place + 8 ≤ place_count }
     ensures { Prints W.contents text.old text.new (shown_line bounds pp.now place) }
 {
     if bounds.meets(place, place + 7) && has_words(pp, place) {
-        line.clear();
-        push_line(line, pp, place);
-        text.print(trimmed(line.as_slice()));
+        print_line(text, pp, place);
         text.print(b"\n");
     }
-}
-
-/// A line without the spaces at its end.
-fn trimmed(line: &[u8]) -> &[u8]
-    ensures text { result.now ≡ trimmed line.now }
-    ensures fits { length result.now ≤ length line.now }
-{
-    line.trim_ascii_end()
 }
 
 /// Whether one of eight words from a place on is not 0.
@@ -88,42 +69,51 @@ fn word_at(pp: &Pp, place: u32) -> u64
     u64::from(pp.get(Word12::truncated(place)).get())
 }
 
-/// Adds `0020  0004 0000 0017 0000 0000 0000 0000 0000   D   O`, with the spaces at its end.
-#[tactic(auto, unfolding(crate::specs::MemoryText::padded_line))]
-fn push_line(line: &mut Piece, pp: &Pp, place: u32)
-    requires places { place + 8 ≤ place_count }
-    requires room { HasRoom 63 line.old }
-    ensures text { line.new ≡ line.old ++ padded_line pp.now place }
-    ensures room { length line.new ≡ length line.old + 63 }
+/// Prints `0020  0004 0000 0017 0000 0000 0000 0000 0000   D   O`.
+fn print_line<W: Write>(text: &mut TextWriter<W>, pp: &Pp, place: u32)
+    requires { place + 8 ≤ place_count }
+    ensures { Prints W.contents text.old text.new (memory_line pp.now place) }
 {
-    push_octal(line, 4, u64::from(place));
-    line.push(b" ");
-    push_octal_words(line, pp, place);
-    line.push(b"  ");
-    push_displayed_words(line, pp, place);
+    print_octal(text, 4, u64::from(place));
+    text.print(b" ");
+    print_octal_words(text, pp, place);
+    let characters = displayed_field(pp, place);
+    text.print(trimmed(&characters));
 }
 
-/// Adds eight words in octal digits, with a space before each.
-fn push_octal_words(line: &mut Piece, pp: &Pp, place: u32)
-    requires places { place + 8 ≤ place_count }
-    requires room { HasRoom 40 line.old }
-    ensures text { line.new ≡ line.old ++ octal_words pp.now place }
-    ensures room { length line.new ≡ length line.old + 40 }
+/// Prints eight words in octal digits, with a space before each.
+fn print_octal_words<W: Write>(text: &mut TextWriter<W>, pp: &Pp, place: u32)
+    requires { place + 8 ≤ place_count }
+    ensures { Prints W.contents text.old text.new (octal_words pp.now place) }
 {
     for k in 0..WORDS_ON_A_LINE {
-        line.push(b" ");
-        push_octal(line, 4, word_at(pp, place + k));
+        text.print(b" ");
+        print_octal(text, 4, word_at(pp, place + k));
     }
 }
 
-/// Adds the same words in display code, two characters each.
-fn push_displayed_words(line: &mut Piece, pp: &Pp, place: u32)
-    requires places { place + 8 ≤ place_count }
-    requires room { HasRoom 16 line.old }
-    ensures text { line.new ≡ line.old ++ displayed_words pp.now place }
-    ensures room { length line.new ≡ length line.old + 16 }
+/// Two spaces, and the same words in display code, two characters each.
+fn displayed_field(pp: &Pp, place: u32) -> [u8; 18]
+    requires { place + 8 ≤ place_count }
+    ensures { result ≡ codes "  " ++ displayed_words pp.now place }
 {
-    for k in 0..WORDS_ON_A_LINE {
-        push_displayed(line, 2, word_at(pp, place + k));
-    }
+    let [a0, a1] = displayed2(word_at(pp, place));
+    let [b0, b1] = displayed2(word_at(pp, place + 1));
+    let [c0, c1] = displayed2(word_at(pp, place + 2));
+    let [d0, d1] = displayed2(word_at(pp, place + 3));
+    let [e0, e1] = displayed2(word_at(pp, place + 4));
+    let [f0, f1] = displayed2(word_at(pp, place + 5));
+    let [g0, g1] = displayed2(word_at(pp, place + 6));
+    let [h0, h1] = displayed2(word_at(pp, place + 7));
+    [
+        b' ', b' ', a0, a1, b0, b1, c0, c1, d0, d1, e0, e1, f0, f1, g0, g1, h0, h1,
+    ]
+}
+
+/// A text without the spaces at its end.
+fn trimmed(text: &[u8]) -> &[u8]
+    ensures text { result.now ≡ trimmed text.now }
+    ensures fits { length result.now ≤ length text.now }
+{
+    text.trim_ascii_end()
 }

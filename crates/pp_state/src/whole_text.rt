@@ -2,7 +2,8 @@
 
 ghost use Rattle.std.specs.List.{flat_map};
 ghost use Rattle.pp_machine.specs.MachineState.{processor_of};
-ghost use Rattle.pp_text.specs.PrintedText.{each_below, processor_line};
+ghost use Rattle.pp_machine.specs.PpNo.{all_processors};
+ghost use Rattle.pp_text.specs.PrintedText.{processor_line};
 ghost use Rattle.pp_text.specs.Standing.{standing};
 ghost use Rattle.pp_text.specs.TextWriter.{Prints};
 ghost use Rattle.pp_text.specs.Written.{IsWritten};
@@ -12,7 +13,7 @@ ghost use Rattle.pp_state.specs.StateText.{standing_line, state_text};
 
 use crate::changes::{has_changes, print_changed_central, print_section};
 use pp_machine::{Machine, PROCESSORS, PpNo};
-use pp_text::{NUMBERS, TextWriter, WriteFault, print_channels, print_standing, processor_heading};
+use pp_text::{TextWriter, WriteFault, print_channels, print_standing, processor_heading};
 use std::alloc::Allocator;
 use std::io::Write;
 
@@ -49,10 +50,10 @@ fn print_processors<A: Allocator, W: Write>(
     held: &[u32; PROCESSORS],
 )
     ensures { Prints W.contents text.old text.new
-        (each_below NUMBERS (standing_line shown.now machine.now held.now)) }
+        (flat_map (standing_line shown.now machine.now held.now) all_processors) }
 {
-    for number in 0..NUMBERS {
-        print_shown_processor(text, shown, machine, held, number);
+    for place in 0..PROCESSORS {
+        print_shown_processor(text, shown, machine, held, PpNo::at(place));
     }
 }
 
@@ -61,14 +62,12 @@ fn print_shown_processor<A: Allocator, W: Write>(
     shown: &[bool; PROCESSORS],
     machine: &Machine<A>,
     held: &[u32; PROCESSORS],
-    number: u8,
+    n: PpNo,
 )
-    ensures { Prints W.contents text.old text.new
-        (standing_line shown.now machine.now held.now number) }
+    ensures { Prints W.contents text.old text.new (standing_line shown.now machine.now held.now n) }
 {
-    match PpNo::new(number) {
-        Some(n) if shown[n.index()] => print_processor(text, machine, n, held[n.index()]),
-        _ => {}
+    if shown[n.index()] {
+        print_processor(text, machine, n, held[n.index()]);
     }
 }
 
@@ -96,8 +95,8 @@ fn print_memories<A: Allocator, W: Write>(
     ensures { Prints W.contents text.old text.new
         (flat_map deck_line (changed_sections before.now after.now)) }
 {
-    for number in 0..NUMBERS {
-        print_memory(text, before, after, number);
+    for place in 0..PROCESSORS {
+        print_memory(text, before, after, PpNo::at(place));
     }
 }
 
@@ -105,15 +104,12 @@ fn print_memory<A: Allocator, W: Write>(
     text: &mut TextWriter<W>,
     before: &Machine<A>,
     after: &Machine<A>,
-    number: u8,
+    n: PpNo,
 )
     ensures { Prints W.contents text.old text.new
-        (flat_map deck_line (changed_section before.now after.now number)) }
+        (flat_map deck_line (changed_section before.now after.now n)) }
 {
-    match PpNo::new(number) {
-        Some(n) if has_changes(before.pp(n), after.pp(n)) => {
-            print_section(text, n, before.pp(n), after.pp(n));
-        }
-        _ => {}
+    if has_changes(before.pp(n), after.pp(n)) {
+        print_section(text, n, before.pp(n), after.pp(n));
     }
 }

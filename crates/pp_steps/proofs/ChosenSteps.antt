@@ -1,15 +1,18 @@
 -- The steps chosen of a run, turn by turn of the barrel.
-use Rattle.std.proofs.Common.{◌≡◌, ℕ, ◌+◌, ◌-◌, ◌<◌, zero, suc, add-one, Bool, true, false, cond, List, [], ◌∷◌, ◌++◌, refl, sym, ap, ◌∙◌, append-nil, append_assoc, arith}
+use Rattle.std.proofs.Common.{◌≡◌, ℕ, ◌+◌, ◌-◌, ◌%◌, ◌<◌, ◌≤◌, length, zero, suc, add-one, Bool, true, false, cond, List, [], ◌∷◌, ◌++◌, refl, sym, ap, ◌∙◌, append-nil, append_assoc, arith}
 use Rattle.std.specs.List.{filter}
 use Rattle.std.proofs.lemmas.List.Elements.{filter-append}
+use Rattle.std.proofs.lemmas.List.Sums.{count_by-le-length, length-filter}
 use Rattle.pp_machine.specs.MachineState.{MachineState}
 use Rattle.pp_machine.specs.MachineStep.{stepped}
-use Rattle.pp_machine.specs.Profile.{processor_in_turn}
+use Rattle.pp_machine.specs.Profile.{processor_in_turn, processors_in}
+use Rattle.pp_machine.specs.PpNo.{processor_count}
+use Rattle.pp_machine.specs.ProfilePlaces.{most_processors, rest_within}
 use Rattle.pp_machine.specs.Run.{barrel, run}
 use Rattle.pp_machine.specs.declared.profile.Profile.{Profile}
 use Rattle.pp_machine.specs.RunLaws.{barrel_more}
 use Rattle.pp_run.specs.RunSteps.{RunStep, run_steps}
-use Rattle.pp_run.specs.RunStepLaws.{barrel_steps_more}
+use Rattle.pp_run.specs.RunStepLaws.{barrel_steps_more, length-barrel_steps, run_steps-both}
 use Rattle.pp_steps.specs.Choice.{chosen_steps, is_chosen}
 use Rattle.pp_steps.specs.declared.choice.Choice.{Choice}
 
@@ -20,6 +23,10 @@ step_in p turn m k = record { processor = k; before = run (barrel p turn) m }
 pub none_chosen : (choice : Choice) (p : Profile) (m : MachineState) → chosen_steps choice (barrel p 0) m ≡ []
 unfolding chosen_steps
 none_chosen choice p m = refl
+
+-- the place of a processor in turn
+pub place_low : (p : Profile) (turn place round : ℕ) → round ≡ processors_in p → place ≡ turn % round → place < processor_count
+place_low p turn place round is at = omega (arith, at ∙ ap (λ (r : ℕ). turn % r) is, rest_within p turn, most_processors p)
 
 -- with one turn more
 pub chosen_more : (choice : Choice) (p : Profile) (turn : ℕ) (m : MachineState) (k : ℕ) → k ≡ processor_in_turn p turn
@@ -35,6 +42,12 @@ chosen_more choice p turn m k is =
     at_the_end : (b : Bool) (past : List RunStep) (step : RunStep) → cond b (past ++ step ∷ []) past ≡ past ++ cond b (step ∷ []) []
     at_the_end true past step = refl
     at_the_end false past step = sym (append-nil past)
+
+-- no more than turns
+pub few_chosen : (choice : Choice) (p : Profile) (turns : ℕ) (m : MachineState) → length (chosen_steps choice (barrel p turns) m) ≤ turns
+unfolding chosen_steps
+few_chosen choice p turns m =
+    omega (arith, length-filter (is_chosen choice) (run_steps (barrel p turns) m), count_by-le-length (is_chosen choice) (run_steps (barrel p turns) m), length-barrel_steps p turns m)
 
 -- ---- the turns to come
 
@@ -58,11 +71,19 @@ come_to p turn (suc more) =
 unfoldable pub chosen_from : Choice → Profile → ℕ → ℕ → MachineState → List RunStep
 chosen_from choice p turn turns m = filter (is_chosen choice) (run_steps (to_come p turn (turns - turn)) (run (barrel p turn) m))
 
-pub all_chosen : (choice : Choice) (p : Profile) (turns : ℕ) (m : MachineState) → chosen_from choice p 0 turns m ≡ chosen_steps choice (barrel p turns) m
+-- those so far and those to come
+pub chosen_parts : (choice : Choice) (p : Profile) (turn turns : ℕ) (m : MachineState) → turn ≤ turns → chosen_steps choice (barrel p turn) m ++ chosen_from choice p turn turns m ≡ chosen_steps choice (barrel p turns) m
 unfolding chosen_from chosen_steps
-all_chosen choice p turns m =
-    let same : 0 + (turns - 0) ≡ turns = omega arith in
-    ap (λ (ks : List ℕ). filter (is_chosen choice) (run_steps ks m)) (come_to p 0 (turns - 0) ∙ ap (barrel p) same)
+chosen_parts choice p turn turns m within =
+    let rest = to_come p turn (turns - turn) in
+    let same : turn + (turns - turn) ≡ turns = omega (arith, within) in
+    sym (filter-append (is_chosen choice) (run_steps (barrel p turn) m) (run_steps rest (run (barrel p turn) m)))
+    ∙ ap (filter (is_chosen choice)) (sym (run_steps-both (barrel p turn) rest m))
+    ∙ ap (λ (ks : List ℕ). filter (is_chosen choice) (run_steps ks m)) (come_to p turn (turns - turn) ∙ ap (barrel p) same)
+
+pub all_chosen : (choice : Choice) (p : Profile) (turns : ℕ) (m : MachineState) → chosen_from choice p 0 turns m ≡ chosen_steps choice (barrel p turns) m
+unfolding chosen_steps
+all_chosen choice p turns m = chosen_parts choice p 0 turns m (omega arith)
 
 pub none_left : (choice : Choice) (p : Profile) (turns : ℕ) (m : MachineState) → chosen_from choice p turns turns m ≡ []
 unfolding chosen_from

@@ -4,6 +4,7 @@ use Rattle.std.specs.Prelude.{Option, Some, None, map}
 use Rattle.std.specs.List.{filter, flat_map}
 use Rattle.std.specs.Option.{option_to_list}
 use Rattle.std.proofs.lemmas.List.{append-nil}
+use Rattle.std.proofs.Math.Seq.{drop-append_seam}
 use Rattle.std.proofs.lemmas.List.Elements.{filter-append}
 use Rattle.pp_channel.specs.Answer.{event_of}
 use Rattle.pp_channel.specs.declared.chan_op.ChanOp.{ChanOp}
@@ -105,10 +106,6 @@ traced (n ∷ steps) load =
     ∙ ap (λ (ts : List Trace). ts ++ rest) (trace_more n load)
     ∙ append_assoc load.trace (entry_of n (need (processor_of n load)) load) rest
 
-past_first : (xs ys : List Trace) → drop (length xs) (xs ++ ys) ≡ ys
-past_first [] ys = refl
-past_first (x ∷ xs) ys = past_first xs ys
-
 -- ---- the events of the steps chosen
 
 all_or_none : (test : Trace → Bool) (b : Bool) (n c : ℕ) (m : MachineState) (o : Option Event) → ((e : Event) → test (record { turn = m.turns; pp = n; channel = c; event = e }) ≡ b)
@@ -153,4 +150,4 @@ unfolding chosen_steps with_lines
 events_told choice steps load =
     lines_events [] (filter (is_chosen choice) (run_steps steps load))
     ∙ sym (chosen_events choice (run_steps steps load))
-    ∙ ap (filter (is_chosen_event choice)) (sym (ap (drop (length load.trace)) (traced steps load) ∙ past_first load.trace (flat_map entries_of (run_steps steps load))))
+    ∙ ap (filter (is_chosen_event choice)) (sym (ap (drop (length load.trace)) (traced steps load) ∙ drop-append_seam load.trace (flat_map entries_of (run_steps steps load))))

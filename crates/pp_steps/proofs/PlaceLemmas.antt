@@ -1,5 +1,5 @@
 -- What has changed in a memory, looked for at some places alone.
-use Rattle.std.proofs.Common.{get_or-set_other, ◌≡◌, ◌≢◌, ℕ, zero, suc, ◌+◌, ◌-◌, ◌<◌, ◌≤◌, true, false, eqb, List, [], ◌∷◌, ◌++◌, length, slice_index, slice_set, get_or, refl, sym, ap, ◌∙◌, subst, append_assoc, arith}
+use Rattle.std.proofs.Common.{get_or-set_other, ◌≡◌, ◌≢◌, ℕ, zero, suc, ◌+◌, ◌-◌, ◌<◌, ◌≤◌, true, false, eqb, List, [], ◌∷◌, ◌++◌, length, slice_index, slice_set, get_or, refl, sym, ap, ◌∙◌, subst, arith}
 use Rattle.std.specs.Prelude.{Some, None, codes}
 use Rattle.std.specs.List.{flat_map, range_with_len}
 use Rattle.std.proofs.lemmas.Bool.{eq-eqb, ne_eqb}
@@ -13,7 +13,7 @@ use Rattle.pp_machine.specs.MachineState.{MachineState}
 use Rattle.pp_machine.specs.MachineStep.{central_after}
 use Rattle.pp_machine.specs.declared.need.Need.{Need}
 use Rattle.pp_machine.specs.declared.need.Need.TheVariants.{Nothing, Local, Channel, Read, Write}
-use Rattle.pp_text.specs.Numeral.{octal}
+use Rattle.pp_word.specs.Numeral.{octal}
 use Rattle.pp_text.specs.Differences.{places}
 use Rattle.pp_steps.specs.StepLine.{central_text, centrals_text, place_text, places_text, written_address}
 use Rattle.pp_steps.specs.Stores.{IsApart}
@@ -27,14 +27,12 @@ nothing f a (suc n) none =
     ∙ nothing f (a + 1) n (λ k below. subst (λ (i : ℕ). f i ≡ []) (omega arith) (none (suc k) (omega (arith, below))))
 
 -- what is said of one number more
-pub one_more : (f : ℕ → List ℕ) (first so_far next : List ℕ) (a k place : ℕ) → place ≡ a + k → so_far ≡ first ++ flat_map f (range_with_len a k) → next ≡ so_far ++ f place → next ≡ first ++ flat_map f (range_with_len a (k + 1))
-one_more f first so_far next a k place is h step =
-    step ∙ ap (λ (text : List ℕ). text ++ f place) h ∙ append_assoc first (flat_map f (range_with_len a k)) (f place)
-    ∙ ap (λ (text : List ℕ). first ++ text)
-    (ap (λ (i : ℕ). flat_map f (range_with_len a k) ++ f i) is
+pub one_more : (f : ℕ → List ℕ) (a k place : ℕ) → place ≡ a + k → flat_map f (range_with_len a k) ++ f place ≡ flat_map f (range_with_len a (k + 1))
+one_more f a k place is =
+    ap (λ (i : ℕ). flat_map f (range_with_len a k) ++ f i) is
     ∙ ap (λ (text : List ℕ). flat_map f (range_with_len a k) ++ text) (sym (append-nil (f (a + k))))
     ∙ sym (flat_map-append f (range_with_len a k) ((a + k) ∷ []))
-    ∙ ap (flat_map f) (sym (range_more a k)))
+    ∙ ap (flat_map f) (sym (range_more a k))
 
 -- three stretches, one behind another
 three_stretches : (f : ℕ → List ℕ) (a b c : ℕ) → flat_map f (range_with_len 0 (a + (b + c))) ≡ flat_map f (range_with_len 0 a) ++ (flat_map f (range_with_len a b) ++ flat_map f (range_with_len (a + b) c))
@@ -121,12 +119,12 @@ central_one central a w = dite (dec_lt a (length central)) inside outside
         ∙ sym (ap (λ (words : List ℕ). central_text central words a) same ∙ same_central central central a refl)
 
 -- a step that writes no central word leaves them all
-pub centrals_stay : (x : Need) (m : MachineState) (before after text : List ℕ) → None ≡ written_address x → before ≡ m.central → after ≡ central_after x m → text ≡ text ++ centrals_text before after
-centrals_stay Nothing m before after text none old new = rw (new, old, centrals_same m.central) (sym (append-nil text))
-centrals_stay Local m before after text none old new = rw (new, old, centrals_same m.central) (sym (append-nil text))
-centrals_stay (Channel c op) m before after text none old new = rw (new, old, centrals_same m.central) (sym (append-nil text))
-centrals_stay (Read a) m before after text none old new = rw (new, old, centrals_same m.central) (sym (append-nil text))
-centrals_stay (Write a w) m before after text none old new = absurd (cc)
+pub centrals_stay : (x : Need) (m : MachineState) (before after : List ℕ) → None ≡ written_address x → before ≡ m.central → after ≡ central_after x m → centrals_text before after ≡ []
+centrals_stay Nothing m before after none old new = rw (new, old) (centrals_same m.central)
+centrals_stay Local m before after none old new = rw (new, old) (centrals_same m.central)
+centrals_stay (Channel c op) m before after none old new = rw (new, old) (centrals_same m.central)
+centrals_stay (Read a) m before after none old new = rw (new, old) (centrals_same m.central)
+centrals_stay (Write a w) m before after none old new = absurd (cc)
 
 -- and one that writes changes one at most
 pub centrals_go : (x : Need) (m : MachineState) (before after : List ℕ) (a : ℕ) → Some a ≡ written_address x → before ≡ m.central → after ≡ central_after x m → centrals_text before after ≡ central_text before after a
@@ -137,7 +135,7 @@ centrals_go (Read b) m before after a some old new = absurd (cc)
 centrals_go (Write b w) m before after a some old new = let is : a ≡ b = cc in rw (new, old, is) (central_one m.central b w)
 
 -- a central word that differs
-pub central_changed : (text heading before after : List ℕ) (a word old : ℕ) → heading ≡ codes " CM " ++ octal 6 a ++ codes "=" → word ≡ slice_index after a → old ≡ slice_index before a → word ≢ old → (text ++ heading) ++ octal 20 word ≡ text ++ central_text before after a
-central_changed text heading before after a word old h is was differ =
+pub central_changed : (before after : List ℕ) (a word old : ℕ) → word ≡ slice_index after a → old ≡ slice_index before a → word ≢ old → codes " CM " ++ octal 6 a ++ codes "=" ++ octal 20 word ≡ central_text before after a
+central_changed before after a word old is was differ =
     let no : eqb (get_or before a 0) (get_or after a 0) ≡ false = ne_eqb (get_or before a 0) (get_or after a 0) (λ e. differ (is ∙ sym e ∙ sym was)) in
-    rw (no, h, is) (simp append_assoc)
+    rw (no, is) refl

@@ -1,27 +1,34 @@
 -- How far a processor has come in the times that it is held, which were counted before.
 -- (Private contracts alone cite this.)
-use Rattle.std.specs.Prelude.{◌≡◌, ℕ, ◌+◌, ◌≤◌, List, ◌∷◌, drop}
-use Rattle.pp_steps.specs.HeldRuns.{held_counts}
-use Rattle.pp_steps.specs.StepsText.{line_kind}
+use Rattle.std.specs.Prelude.{◌+◌, List, slice_index_or, if◌then◌else◌}
+use Rattle.pp_run.specs.RunSteps.{RunStep}
+use Rattle.pp_steps.specs.HeldRuns.{HeldSpells, each_after, is_held_with}
 use Rattle.pp_steps.specs.declared.cursor.Cursor.{Cursor}
 use Rattle.pp_steps.specs.declared.line_kind.LineKind.{LineKind}
+use Rattle.pp_steps.specs.declared.line_kind.LineKind.TheVariants.{NoLine, OneStep, HeldSteps}
 use Rattle.pp_run.specs.declared.progress.Progress.{Progress}
-use Rattle.pp_run.specs.declared.progress.Progress.TheVariants.{AtRest}
+use Rattle.pp_run.specs.declared.progress.Progress.TheVariants.{AtRest, Moved, Held}
 
 -- before the first step
 abbrev pub no_cursor : Cursor
 no_cursor = record { times = 0; last = AtRest }
 
--- the times from the cursor on are those of the steps to come
-abbrev pub CountsOf : List ℕ → Cursor → List Progress → Type 0
-CountsOf counts cursor steps = drop cursor.times counts ≡ held_counts cursor.last steps
+-- past a step
+abbrev pub past_step : Cursor → Progress → Cursor
+past_step cursor (Held flags) = record {
+  times = if is_held_with flags cursor.last then cursor.times else cursor.times + 1;
+  last = Held flags;
+}
+past_step cursor step = record { times = cursor.times; last = step }
 
--- a cursor goes past a step, which has this line
-pub record Passes (counts : List ℕ) (step : Progress) (old new : Cursor) (kind : LineKind)
-    : Type 0 where
-  pub last : new.last ≡ step
-  pub most : new.times ≤ old.times + 1
-  pub rest : (steps : List Progress) → CountsOf counts old (step ∷ steps)
-      → CountsOf counts new steps
-  pub line : (steps : List Progress) → CountsOf counts old (step ∷ steps)
-      → kind ≡ line_kind old.last step steps
+-- each processor's past some steps
+abbrev pub each_cursor : List RunStep → List Cursor
+each_cursor steps = each_after past_step no_cursor steps
+
+-- the line of a step at a cursor, by the times of the whole run
+abbrev pub line_at : HeldSpells → Cursor → Progress → LineKind
+line_at spells cursor AtRest = NoLine
+line_at spells cursor Moved = OneStep
+line_at spells cursor (Held flags) =
+    if is_held_with flags cursor.last then NoLine
+    else HeldSteps (slice_index_or spells.counts cursor.times spells.current)

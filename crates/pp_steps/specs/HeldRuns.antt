@@ -1,8 +1,8 @@
 -- How long a processor is held each time.
-use Rattle.std.specs.Prelude.{◌≡◌, ℕ, ◌+◌, Bool, true, false, ◌&&◌, IsTrue, List, [], ◌∷◌, ◌++◌, length, slice_index_or, if◌then◌else◌}
+use Rattle.std.specs.Prelude.{ℕ, ◌+◌, Bool, true, false, ◌&&◌, List, [], ◌∷◌, ◌++◌, if◌then◌else◌}
 use Rattle.std.specs.List.{fold, prefix_len}
 use Rattle.pp_channel.specs.declared.flags.Flags.{Flags}
-use Rattle.pp_machine.specs.PpNo.{names_processor, processor_count, processor_index}
+use Rattle.pp_machine.specs.PpNo.{each_processor}
 use Rattle.pp_run.specs.RunSteps.{RunStep, seen_of}
 use Rattle.pp_run.specs.BareMachine.{progress}
 use Rattle.pp_run.specs.declared.progress.Progress.{Progress}
@@ -33,39 +33,36 @@ goes_on last step = false
 abbrev pub last_of : List Progress → Progress
 last_of steps = fold (λ last step. step) AtRest steps
 
--- the lengths of the stretches of equally held steps, where `last` is the step before them: a step
--- that is held like it begins no stretch of its own
-abbrev pub held_counts : Progress → List Progress → List ℕ
-held_counts last [] = []
-held_counts last (Held flags ∷ steps) =
-    if is_held_with flags last then held_counts (Held flags) steps
-    else prefix_len (is_held_with flags) (Held flags ∷ steps) ∷ held_counts (Held flags) steps
-held_counts last (step ∷ steps) = held_counts step steps
-
--- the times of one processor so far: how many steps each took that is over, how many the one that
--- may go on, and the last step
+-- the times of one processor so far: how many steps each took that is over, how many the last one,
+-- and the last step
 pub record HeldSpells : Type 0 where
   pub counts : List ℕ
   pub current : ℕ
   pub last : Progress
 
--- the time that may go on, with what follows
+-- the last time, with the steps that follow
 abbrev pub current_spell : Progress → ℕ → List Progress → List ℕ
 current_spell (Held flags) current steps = (current + prefix_len (is_held_with flags) steps) ∷ []
 current_spell step current steps = []
 
--- all times, with the steps that follow
-abbrev pub all_spells : HeldSpells → List Progress → List ℕ
-all_spells times steps =
-    times.counts ++ (current_spell times.last times.current steps ++ held_counts times.last steps)
+-- with one step more
+abbrev pub with_step : HeldSpells → Progress → HeldSpells
+with_step spells step = record {
+  counts =
+      if goes_on spells.last step then spells.counts
+      else spells.counts ++ current_spell spells.last spells.current [];
+  current = if goes_on spells.last step then spells.current + 1 else 1;
+  last = step;
+}
 
 -- a processor without steps
 abbrev pub no_spells : HeldSpells
 no_spells = record { counts = []; current = 0; last = AtRest }
 
--- how long each processor is held each time in some steps
-pub record AreCounted (steps : List RunStep) (runs : List HeldSpells) : Type 0 where
-  pub as_many : length runs ≡ processor_count
-  pub counts : (n : ℕ) → IsTrue (names_processor n)
-      → (slice_index_or runs (processor_index n) no_spells).counts
-      ≡ held_counts AtRest (seen_of progress_of n steps)
+-- what some steps make of each processor, in the order of the barrel, if one makes this of it
+abbrev pub each_after : {X : Type 0} → (X → Progress → X) → X → List RunStep → List X
+each_after next first steps = each_processor (λ n. fold next first (seen_of progress_of n steps))
+
+-- the times of each processor in some steps
+abbrev pub each_spells : List RunStep → List HeldSpells
+each_spells steps = each_after with_step no_spells steps

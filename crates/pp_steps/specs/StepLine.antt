@@ -16,7 +16,7 @@ use Rattle.pp_machine.specs.declared.pp_state.PpState.{PpState}
 use Rattle.pp_machine.specs.declared.pp_state.PpState.TheVariants.{Running}
 use Rattle.pp_text.specs.InstructionText.{is_long, running_instruction}
 use Rattle.pp_text.specs.PrintedText.{padded}
-use Rattle.pp_text.specs.Numeral.{decimal, octal}
+use Rattle.pp_word.specs.Numeral.{decimal, octal}
 use Rattle.pp_text.specs.PrintedText.{event_text, line_end, state_text}
 use Rattle.pp_text.specs.Differences.{differs, places}
 use Rattle.pp_text.specs.Standing.{flags_text, held_text}
@@ -92,7 +92,3 @@ unfoldable pub held_line : ℕ → MachineState → ℕ → List ℕ
 held_line n m count =
     let pp = processor_of n m in
     heading m.turns n pp pp.a ++ held_text (need pp) Held m count ++ line_end
-
--- a bound on the length of a line (decimal)
-abbrev pub longest_line : ℕ
-longest_line = 200

@@ -1,8 +1,8 @@
 //! How far a processor has come in the times that it is held.
 
-ghost use Rattle.std.specs.Prelude.{◌≡◌, ◌≢◌, ℕ, ◌+◌, ◌<◌, ◌≤◌, ◌^◌, IsTrue, false, length, slice_index_or};
+ghost use Rattle.std.specs.Prelude.{◌≡◌, ◌+◌, ◌<◌, ◌^◌, length, slice_index_or, slice_set, if◌then◌else◌};
 ghost use Rattle.pp_machine.specs.PpNo.{processor_count, processor_index};
-ghost use Rattle.pp_steps.specs.Cursor.{Passes, no_cursor};
+ghost use Rattle.pp_steps.specs.Cursor.{line_at, no_cursor, past_step};
 ghost use Rattle.pp_steps.specs.HeldRuns.{no_spells};
 ghost use Rattle.pp_steps.specs.declared.line_kind.LineKind.TheVariants.{NoLine};
 
@@ -34,7 +34,8 @@ impl Cursor {
     /// was counted before.
     pub(crate) fn pass<A: Allocator>(&mut self, runs: &HeldRuns<A>, step: Progress) -> LineKind
         requires { self.old.times + 1 < 2 ^ 64 }
-        ensures { Passes runs.now.counts step self.old self.new result }
+        ensures cursor { self.new ≡ past_step self.old step }
+        ensures line { result ≡ line_at runs.now self.old step }
     {
         let goes_on = goes_on(&self.last, &step);
         self.last = step;
@@ -61,15 +62,13 @@ pub(crate) fn pass_step<A: Allocator>(
 ) -> LineKind
     requires as_many { length runs.now.items ≡ processor_count }
     requires low { (slice_index_or cursors.old (processor_index n) no_cursor).times + 1 < 2 ^ 64 }
-    ensures others { (k : ℕ) → k ≢ processor_index n
-        → slice_index_or cursors.new k no_cursor ≡ slice_index_or cursors.old k no_cursor }
-    ensures own { IsTrue is_chosen
-        → Passes (slice_index_or runs.now.items (processor_index n) no_spells).counts step
-        (slice_index_or cursors.old (processor_index n) no_cursor)
-        (slice_index_or cursors.new (processor_index n) no_cursor) result }
-    ensures unchosen { is_chosen ≡ false → (result ≡ NoLine) × (cursors.new ≡ cursors.old) }
-    ensures most { (slice_index_or cursors.new (processor_index n) no_cursor).times
-        ≤ (slice_index_or cursors.old (processor_index n) no_cursor).times + 1 }
+    ensures cursors { cursors.new ≡ if is_chosen then slice_set cursors.old (processor_index n)
+        (past_step (slice_index_or cursors.old (processor_index n) no_cursor) step)
+        else cursors.old }
+    ensures line { result ≡ if is_chosen then
+        line_at (slice_index_or runs.now.items (processor_index n) no_spells)
+        (slice_index_or cursors.old (processor_index n) no_cursor) step
+        else NoLine }
 {
     if !is_chosen {
         return LineKind::NoLine;

@@ -1,9 +1,7 @@
 //! How long processors are held each time.
 
-ghost use Rattle.std.specs.Prelude.{◌≡◌, ◌+◌, ◌<◌, ◌≤◌, ◌^◌, ◌∷◌, ◌++◌, [], slice_index, List, OnOk};
-ghost use Rattle.pp_steps.specs.HeldRuns.{all_spells, goes_on, is_held_with, current_spell};
-ghost use Rattle.pp_run.specs.declared.progress.Progress.{Progress};
-ghost use Rattle.pp_run.specs.declared.progress.Progress.TheVariants.{AtRest};
+ghost use Rattle.std.specs.Prelude.{◌≡◌, ◌+◌, ◌<◌, ◌^◌, ◌++◌, [], slice_index_or, OnOk};
+ghost use Rattle.pp_steps.specs.HeldRuns.{current_spell, goes_on, is_held_with, no_spells, with_step};
 
 use pp_channel::{Flags, Memory};
 use pp_run::Progress;
@@ -29,7 +27,7 @@ impl<A: Allocator> Model for HeldRuns<A> {
 impl<A: Allocator> HeldRuns<A> {
     /// Those of a processor without steps.
     pub(crate) fn new(alloc: A) -> HeldRuns<A>
-        ensures { result ≡ record { counts = []; current = 0; last = AtRest } }
+        ensures { result ≡ no_spells }
     {
         HeldRuns {
             counts: Vec::new(alloc),
@@ -41,10 +39,7 @@ impl<A: Allocator> HeldRuns<A> {
     /// Counts one step more.
     pub(crate) fn note(&mut self, step: Progress) -> Result<(), Memory>
         requires { self.old.current + 1 < 2 ^ 32 }
-        ensures times { OnOk result ((steps : List Progress)
-            → all_spells self.new steps ≡ all_spells self.old (step ∷ steps)) }
-        ensures most { OnOk result (self.new.current ≤ self.old.current + 1) }
-        ensures last { OnOk result (self.new.last ≡ step) }
+        ensures { OnOk result (self.new ≡ with_step self.old step) }
     {
         if goes_on(&self.last, &step) {
             self.current += 1;
@@ -58,7 +53,7 @@ impl<A: Allocator> HeldRuns<A> {
     }
 
     /// The last time is over, if the last step was held.
-    pub(crate) fn end(&mut self) -> Result<(), Memory>
+    fn end(&mut self) -> Result<(), Memory>
         ensures { OnOk result (self.new ≡ record self.old {
           counts = self.old.counts ++ current_spell self.old.last self.old.current [];
         }) }
@@ -72,11 +67,11 @@ impl<A: Allocator> HeldRuns<A> {
 
     /// How many steps in a row it was held one time.
     pub(crate) fn count(&self, time: usize) -> u32
-        ensures { result ≡ slice_index self.now.counts time }
+        ensures { result ≡ slice_index_or self.now.counts time self.now.current }
     {
         match self.counts.get(time) {
             Some(count) => *count,
-            None => 0,
+            None => self.current,
         }
     }
 }

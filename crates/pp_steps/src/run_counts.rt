@@ -1,11 +1,10 @@
 //! The held steps of a run, counted.
 
-ghost use Rattle.std.specs.Prelude.{◌≡◌, ◌≢◌, ℕ, ◌+◌, ◌<◌, ◌≤◌, ◌^◌, ◌∷◌, [], false, length, List, IfOk, OnOk, IsTrue, replicate, slice_index_or};
+ghost use Rattle.std.specs.Prelude.{◌≡◌, ◌+◌, ◌<◌, ◌^◌, length, IfOk, OnOk, replicate, slice_index_or, slice_set, if◌then◌else◌};
 ghost use Rattle.pp_machine.specs.PpNo.{processor_count, processor_index};
 ghost use Rattle.pp_machine.specs.Run.{barrel};
 ghost use Rattle.pp_steps.specs.Choice.{chosen_steps};
-ghost use Rattle.pp_steps.specs.HeldRuns.{AreCounted, all_spells, no_spells};
-ghost use Rattle.pp_run.specs.declared.progress.Progress.{Progress};
+ghost use Rattle.pp_steps.specs.HeldRuns.{each_spells, no_spells, with_step};
 
 use crate::choice::Choice;
 use crate::held_runs::HeldRuns;
@@ -22,9 +21,8 @@ pub(crate) fn counted_runs<A: Allocator + Copy>(
     choice: &Choice,
     turns: u32,
 ) -> Result<Vec<HeldRuns<A>, A>, Memory>
-    ensures { IfOk result (λ runs.
-        AreCounted (chosen_steps choice.now (barrel machine.now.profile turns) machine.now)
-        runs.items) }
+    ensures { IfOk result (λ runs. runs.items
+        ≡ each_spells (chosen_steps choice.now (barrel machine.now.profile turns) machine.now)) }
 {
     let mut runs = no_runs(alloc)?;
     let mut bare = BareMachine::of(alloc, machine)?;
@@ -35,7 +33,6 @@ pub(crate) fn counted_runs<A: Allocator + Copy>(
         let step = bare.step(n);
         note_step(&mut runs, is_chosen, n, step)?;
     }
-    end_runs(&mut runs)?;
     Ok(runs)
 }
 
@@ -49,34 +46,15 @@ fn note_step<A: Allocator>(
     requires as_many { length runs.old.items ≡ processor_count }
     requires low { (slice_index_or runs.old.items (processor_index n) no_spells).current + 1
         < 2 ^ 32 }
-    ensures as_many { OnOk result (length runs.new.items ≡ processor_count) }
-    ensures others { OnOk result ((k : ℕ) → k ≢ processor_index n
-        → slice_index_or runs.new.items k no_spells ≡ slice_index_or runs.old.items k no_spells) }
-    ensures own { OnOk result (IsTrue is_chosen → (steps : List Progress)
-        → all_spells (slice_index_or runs.new.items (processor_index n) no_spells) steps
-        ≡ all_spells (slice_index_or runs.old.items (processor_index n) no_spells) (step ∷ steps)) }
-    ensures unchosen { OnOk result (is_chosen ≡ false → runs.new.items ≡ runs.old.items) }
-    ensures low { OnOk result ((slice_index_or runs.new.items (processor_index n) no_spells).current
-        ≤ (slice_index_or runs.old.items (processor_index n) no_spells).current + 1) }
+    ensures { OnOk result (runs.new.items ≡ if is_chosen then
+        slice_set runs.old.items (processor_index n)
+        (with_step (slice_index_or runs.old.items (processor_index n) no_spells) step)
+        else runs.old.items) }
 {
     if !is_chosen {
         return Ok(());
     }
     runs[n.index()].note(step)
-}
-
-/// Counts the times that may go on as over.
-fn end_runs<A: Allocator>(runs: &mut Vec<HeldRuns<A>, A>) -> Result<(), Memory>
-    requires { length runs.old.items ≡ processor_count }
-    ensures as_many { OnOk result (length runs.new.items ≡ processor_count) }
-    ensures counts { OnOk result ((k : ℕ) → k < processor_count
-        → (slice_index_or runs.new.items k no_spells).counts
-        ≡ all_spells (slice_index_or runs.old.items k no_spells) []) }
-{
-    for place in 0..PROCESSORS {
-        runs[place].end()?;
-    }
-    Ok(())
 }
 
 /// Those of processors without steps.

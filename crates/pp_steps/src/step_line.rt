@@ -1,6 +1,6 @@
 //! The line of a step.
 
-ghost use Rattle.std.specs.Prelude.{◌≡◌, ◌+◌, ◌-◌, ◌*◌, ◌<◌, ◌≤◌, ◌^◌, ◌++◌, codes, length};
+ghost use Rattle.std.specs.Prelude.{◌≡◌, ◌+◌, ◌<◌, ◌≤◌, ◌^◌, ◌++◌, codes};
 ghost use Rattle.std.specs.List.{flat_map, range_with_len};
 ghost use Rattle.pp_word.specs.Address.{place_count};
 ghost use Rattle.pp_machine.specs.MachineState.{MachineState};
@@ -9,12 +9,12 @@ ghost use Rattle.pp_machine.specs.NeedAndEffect.{processor_after};
 ghost use Rattle.pp_machine.specs.declared.answer.Answer.{Answer};
 ghost use Rattle.pp_machine.specs.declared.need.Need.{Need};
 ghost use Rattle.pp_machine.specs.declared.outcome.Outcome.TheVariants.{Held};
-ghost use Rattle.pp_text.specs.Numeral.{digits, octal};
-ghost use Rattle.pp_text.specs.Piece.{HasRoom};
+ghost use Rattle.pp_word.specs.Numeral.{digits, octal};
 ghost use Rattle.pp_text.specs.PrintedText.{event_text};
 ghost use Rattle.pp_text.specs.Standing.{held_text};
+ghost use Rattle.pp_text.specs.TextWriter.{Prints};
 ghost use Rattle.pp_run.specs.BareMachine.{StandsFor};
-ghost use Rattle.pp_steps.specs.StepLine.{longest_line, central_text, centrals_text, channel_text, end_text, event_or_flags, heading, held_line, place_text, places_text, step_line, written_address};
+ghost use Rattle.pp_steps.specs.StepLine.{central_text, centrals_text, channel_text, end_text, event_or_flags, heading, held_line, place_text, places_text, step_line, written_address};
 ghost use Rattle.pp_steps.specs.Stores.{KeepsOthers};
 
 use crate::stores::Stores;
@@ -23,75 +23,72 @@ use pp_channel::{ChannelNo, Event, Flags};
 use pp_machine::{Central, Need, Pp, PpNo, PpState};
 use pp_run::BareMachine;
 use pp_text::{
-    Piece, central_word, channel_name, decimal6, octal2, octal4, octal6, push_flags_text,
-    push_held_text, push_state_text, push_upper_digits, running_field,
+    TextWriter, central_word, channel_name, decimal6, octal2, octal4, octal6, print_flags_text,
+    print_held_text, print_octal, print_state_text, print_upper_digits, running_field,
 };
 use pp_word::{Word12, Word18, next};
 use std::alloc::Allocator;
+use std::io::Write;
 
 /// How many places a processor's memory has.
 const PLACES: u32 = 0o10000;
 
-/// Adds the line of a step of a processor from one machine to another:
+/// Prints the line of a step of a processor from one machine to another:
 /// `000020 PP00 0102 7205       OAN 05        A=000001 CH05 PUT 0001` and a line feed.
-pub(crate) fn push_step_line<A: Allocator>(
-    line: &mut Piece,
+pub(crate) fn print_step_line<A: Allocator, W: Write>(
+    text: &mut TextWriter<W>,
     n: PpNo,
     before: &BareMachine<A>,
     after: &BareMachine<A>,
 )
-    requires { HasRoom longest_line line.old }
     ensures { (m : MachineState) → StandsFor before.now m → StandsFor after.now (stepped n m)
-        → line.new ≡ line.old ++ step_line n m (stepped n m) }
+        → Prints W.contents text.old text.new (step_line n m (stepped n m)) }
 {
     let old = before.pp(n);
     let new = after.pp(n);
     let need = old.wants();
-    push_heading(line, before.turns(), n, old, new.a());
-    push_places(line, old, new, Stores::of(old));
-    push_central(
-        line,
+    print_heading(text, before.turns(), n, old, new.a());
+    print_places(text, old, new, Stores::of(old));
+    print_central(
+        text,
         written_address(&need),
         before.central(),
         after.central(),
     );
-    push_channel(line, &need, before);
-    push_end(line, new.state());
-    line.push(b"\n");
+    print_channel(text, &need, before);
+    print_end(text, new.state());
+    text.print(b"\n");
 }
 
-/// Adds the line of so many held steps in a row of a processor:
+/// Prints the line of so many held steps in a row of a processor:
 /// `000031 PP01 0201 7105 0300  IAM 0300,05   A=000004 HELD CH05 ACTIVE EMPTY x1` and a line feed.
-pub(crate) fn push_held_line<A: Allocator>(
-    line: &mut Piece,
+pub(crate) fn print_held_line<A: Allocator, W: Write>(
+    text: &mut TextWriter<W>,
     n: PpNo,
     machine: &BareMachine<A>,
     count: u32,
 )
-    requires { HasRoom longest_line line.old }
     ensures { (m : MachineState) → StandsFor machine.now m
-        → line.new ≡ line.old ++ held_line n m count }
+        → Prints W.contents text.old text.new (held_line n m count) }
 {
     let pp = machine.pp(n);
-    push_heading(line, machine.turns(), n, pp, pp.a());
-    push_held(line, &pp.wants(), machine, count);
-    line.push(b"\n");
+    print_heading(text, machine.turns(), n, pp, pp.a());
+    print_held(text, &pp.wants(), machine, count);
+    text.print(b"\n");
 }
 
-/// Adds `000031 PP01 0201 7105 0300  IAM 0300,05   A=000004`, with this value of A.
-fn push_heading(line: &mut Piece, turn: u64, n: PpNo, pp: &Pp, a: Word18)
-    requires { HasRoom 64 line.old }
-    ensures text { line.new ≡ line.old ++ heading turn n pp.now a }
-    ensures room { length line.new ≤ length line.old + 64 }
+/// Prints `000031 PP01 0201 7105 0300  IAM 0300,05   A=000004`, with this value of A.
+fn print_heading<W: Write>(text: &mut TextWriter<W>, turn: u64, n: PpNo, pp: &Pp, a: Word18)
+    ensures { Prints W.contents text.old text.new (heading turn n pp.now a) }
 {
     let place = pp.p();
     let word = pp.get(place);
     let m = pp.get(next(place));
-    let lower = push_upper_digits(line, turn);
-    line.push(&turn_and_place(lower, n, place));
-    line.push(&words_field(pp.block(), word, m));
-    line.push(&running_field(pp.block(), place, word, m));
-    line.push(&accumulator_field(a));
+    let lower = print_upper_digits(text, turn);
+    text.print(&turn_and_place(lower, n, place));
+    text.print(&words_field(pp.block(), word, m));
+    text.print(&running_field(pp.block(), place, word, m));
+    text.print(&accumulator_field(a));
 }
 
 /// ` A=000004`
@@ -116,43 +113,38 @@ fn turn_and_place(turn: u32, n: PpNo, place: Word12) -> [u8; 17]
     ]
 }
 
-/// Adds ` (0300)=0001` for each of some places whose word differs, in order of place.
-fn push_places(line: &mut Piece, old: &Pp, new: &Pp, stores: Stores)
-    requires room { HasRoom 60 line.old }
+/// Prints ` (0300)=0001` for each of some places whose word differs, in order of place.
+fn print_places<W: Write>(text: &mut TextWriter<W>, old: &Pp, new: &Pp, stores: Stores)
     requires few { stores.count ≤ 5 }
     requires within { stores.first < place_count }
-    ensures text { (answer : Answer) → KeepsOthers old.now stores
+    ensures { (answer : Answer) → KeepsOthers old.now stores
         → new.now ≡ processor_after old.now answer
-        → line.new ≡ line.old ++ places_text old.now.memory new.now.memory }
-    ensures room { length line.new ≤ length line.old + 60 }
+        → Prints W.contents text.old text.new (places_text old.now.memory new.now.memory) }
 {
     let Stores { first, count } = stores;
     if first + count <= PLACES {
-        push_range(line, old, new, first, count);
+        print_range(text, old, new, first, count);
     } else {
-        push_range(line, old, new, 0, first + count - PLACES);
-        push_range(line, old, new, first, PLACES - first);
+        print_range(text, old, new, 0, first + count - PLACES);
+        print_range(text, old, new, first, PLACES - first);
     }
 }
 
 /// The same for so many places from a first on.
-fn push_range(line: &mut Piece, old: &Pp, new: &Pp, first: u32, count: u32)
-    requires within { first + count ≤ place_count }
-    requires room { HasRoom (12 * count) line.old }
-    ensures text { line.new ≡ line.old
-        ++ flat_map (place_text old.now.memory new.now.memory) (range_with_len first count) }
-    ensures room { length line.new ≤ length line.old + 12 * count }
+fn print_range<W: Write>(text: &mut TextWriter<W>, old: &Pp, new: &Pp, first: u32, count: u32)
+    requires { first + count ≤ place_count }
+    ensures { Prints W.contents text.old text.new
+        (flat_map (place_text old.now.memory new.now.memory) (range_with_len first count)) }
 {
     for i in 0..count {
-        push_place(line, old, new, Word12::truncated(first + i));
+        print_place(text, old, new, Word12::truncated(first + i));
     }
 }
 
-/// Adds ` (0300)=0001`, where the word at a place differs.
-fn push_place(line: &mut Piece, old: &Pp, new: &Pp, place: Word12)
-    requires { HasRoom 12 line.old }
-    ensures text { line.new ≡ line.old ++ place_text old.now.memory new.now.memory place }
-    ensures room { length line.new ≤ length line.old + 12 }
+/// Prints ` (0300)=0001`, where the word at a place differs.
+fn print_place<W: Write>(text: &mut TextWriter<W>, old: &Pp, new: &Pp, place: Word12)
+    ensures { Prints W.contents text.old text.new
+        (place_text old.now.memory new.now.memory place) }
 {
     let word = new.get(place);
     if old.get(place).get() == word.get() {
@@ -160,7 +152,7 @@ fn push_place(line: &mut Piece, old: &Pp, new: &Pp, place: Word12)
     }
     let [p0, p1, p2, p3] = octal4(place.get());
     let [w0, w1, w2, w3] = octal4(word.get());
-    line.push(&[b' ', b'(', p0, p1, p2, p3, b')', b'=', w0, w1, w2, w3]);
+    text.print(&[b' ', b'(', p0, p1, p2, p3, b')', b'=', w0, w1, w2, w3]);
 }
 
 /// The address that a step writes to, if it does.
@@ -173,104 +165,79 @@ fn written_address(need: &Need) -> Option<Word18>
     }
 }
 
-/// Adds ` CM 000100=00060007001000110012`, where the step wrote a central word that differs.
-fn push_central<A: Allocator>(
-    line: &mut Piece,
+/// Prints ` CM 000100=00060007001000110012`, where the step wrote a central word that differs.
+fn print_central<A: Allocator, W: Write>(
+    text: &mut TextWriter<W>,
     address: Option<Word18>,
     before: &Central<A>,
     after: &Central<A>,
 )
-    requires { HasRoom 31 line.old }
-    ensures text { (need : Need) (m : MachineState) → address ≡ written_address need
+    ensures { (need : Need) (m : MachineState) → address ≡ written_address need
         → before.now ≡ m.central → after.now ≡ central_after need m
-        → line.new ≡ line.old ++ centrals_text before.now after.now }
-    ensures room { length line.new ≤ length line.old + 31 }
+        → Prints W.contents text.old text.new (centrals_text before.now after.now) }
 {
     match address {
-        Some(address) => push_central_word(line, address, before, after),
+        Some(address) => print_central_word(text, address, before, after),
         None => {}
     }
 }
 
-fn push_central_word<A: Allocator>(
-    line: &mut Piece,
+fn print_central_word<A: Allocator, W: Write>(
+    text: &mut TextWriter<W>,
     address: Word18,
     before: &Central<A>,
     after: &Central<A>,
 )
-    requires { HasRoom 31 line.old }
-    ensures text { line.new ≡ line.old ++ central_text before.now after.now address }
-    ensures room { length line.new ≤ length line.old + 31 }
+    ensures { Prints W.contents text.old text.new (central_text before.now after.now address) }
 {
     let word = central_word(after, address);
     if word == central_word(before, address) {
         return;
     }
-    line.push(&address_field(address));
-    push_octal(line, 20, word);
+    text.print(b" CM ");
+    text.print(&octal6(address.get()));
+    text.print(b"=");
+    print_octal(text, 20, word);
 }
 
-/// ` CM 000100=`
-fn address_field(address: Word18) -> [u8; 11]
-    ensures { result ≡ codes " CM " ++ octal 6 address ++ codes "=" }
-{
-    let [a0, a1, a2, a3, a4, a5] = octal6(address.get());
-    [b' ', b'C', b'M', b' ', a0, a1, a2, a3, a4, a5, b'=']
-}
-
-/// Adds a number in just so many octal digits.
-fn push_octal(line: &mut Piece, width: u32, n: u64)
-    requires { HasRoom width line.old }
-    ensures text { line.new ≡ line.old ++ octal width n }
-    ensures room { length line.new ≡ length line.old + width }
-{
-    if width == 0 {
-        return;
-    }
-    push_octal(line, width - 1, n / 8);
-    line.push(&[b'0' + (n % 8) as u8]);
-}
-
-/// Adds ` CH05 PUT 0007`, or ` CH05 ACTIVE EMPTY` where no event was made, where a channel was
+/// Prints ` CH05 PUT 0007`, or ` CH05 ACTIVE EMPTY` where no event was made, where a channel was
 /// needed.
-fn push_channel<A: Allocator>(line: &mut Piece, need: &Need, before: &BareMachine<A>)
-    requires { HasRoom 18 line.old }
-    ensures text { (m : MachineState) → StandsFor before.now m
-        → line.new ≡ line.old ++ channel_text need.now m }
-    ensures room { length line.new ≤ length line.old + 18 }
+fn print_channel<A: Allocator, W: Write>(
+    text: &mut TextWriter<W>,
+    need: &Need,
+    before: &BareMachine<A>,
+)
+    ensures { (m : MachineState) → StandsFor before.now m
+        → Prints W.contents text.old text.new (channel_text need.now m) }
 {
     if let Need::Channel(c, op) = need {
         let state = before.channel(*c);
-        line.push(b" ");
-        line.push(&channel_name(*c));
-        line.push(b" ");
-        push_event_or_flags(line, state.next_event(op), state.flags);
+        text.print(b" ");
+        text.print(&channel_name(*c));
+        text.print(b" ");
+        print_event_or_flags(text, state.next_event(op), state.flags);
     }
 }
 
-fn push_event_or_flags(line: &mut Piece, event: Option<Event>, flags: Flags)
-    requires { HasRoom 12 line.old }
-    ensures text { line.new ≡ line.old ++ event_or_flags event flags }
-    ensures room { length line.new ≤ length line.old + 12 }
+fn print_event_or_flags<W: Write>(text: &mut TextWriter<W>, event: Option<Event>, flags: Flags)
+    ensures { Prints W.contents text.old text.new (event_or_flags event flags) }
 {
     match event {
-        Some(event) => push_event(line, event),
-        None => push_flags_text(line, flags),
+        Some(event) => print_event(text, event),
+        None => print_flags_text(text, flags),
     }
 }
 
-/// Adds `PUT 0007`.
-fn push_event(line: &mut Piece, event: Event)
-    requires { HasRoom 8 line.old }
-    ensures text { line.new ≡ line.old ++ event_text event }
-    ensures room { length line.new ≤ length line.old + 8 }
+/// Prints `PUT 0007`.
+fn print_event<W: Write>(text: &mut TextWriter<W>, event: Event)
+    ensures { Prints W.contents text.old text.new (event_text event) }
 {
     match event {
-        Event::Activate => line.push(b"ACN"),
-        Event::Disconnect => line.push(b"DCN"),
-        Event::Put(word) => line.push(&name_and_word(*b"PUT", word)),
-        Event::Take(word) => line.push(&name_and_word(*b"TAK", word)),
-        Event::Function(word) => line.push(&name_and_word(*b"FNC", word)),
+        Event::Activate => text.print(b"ACN"),
+        Event::Disconnect => text.print(b"DCN"),
+        Event::Put(word) => text.print(&name_and_word(*b"PUT", word)),
+        Event::Take(word) => text.print(&name_and_word(*b"TAK", word)),
+        Event::Function(word) => text.print(&name_and_word(*b"FNC", word)),
     }
 }
 
@@ -283,29 +250,30 @@ fn name_and_word(name: [u8; 3], word: Word12) -> [u8; 8]
     [n0, n1, n2, b' ', w0, w1, w2, w3]
 }
 
-/// Adds ` HELD CH05 ACTIVE EMPTY x1`, where a channel was needed.
-fn push_held<A: Allocator>(line: &mut Piece, need: &Need, machine: &BareMachine<A>, count: u32)
-    requires { HasRoom 35 line.old }
-    ensures text { (m : MachineState) → StandsFor machine.now m
-        → line.new ≡ line.old ++ held_text need.now Held m count }
-    ensures room { length line.new ≤ length line.old + 35 }
+/// Prints ` HELD CH05 ACTIVE EMPTY x1`, where a channel was needed.
+fn print_held<A: Allocator, W: Write>(
+    text: &mut TextWriter<W>,
+    need: &Need,
+    machine: &BareMachine<A>,
+    count: u32,
+)
+    ensures { (m : MachineState) → StandsFor machine.now m
+        → Prints W.contents text.old text.new (held_text need.now Held m count) }
 {
     if let Need::Channel(c, _) = need {
-        push_held_text(line, *c, machine.channel(*c).flags, count);
+        print_held_text(text, *c, machine.channel(*c).flags, count);
     }
 }
 
-/// Adds ` STOPPED`, where the processor goes on no more.
-fn push_end(line: &mut Piece, state: PpState)
-    requires { HasRoom 8 line.old }
-    ensures text { line.new ≡ line.old ++ end_text state }
-    ensures room { length line.new ≤ length line.old + 8 }
+/// Prints ` STOPPED`, where the processor goes on no more.
+fn print_end<W: Write>(text: &mut TextWriter<W>, state: PpState)
+    ensures { Prints W.contents text.old text.new (end_text state) }
 {
     match state {
         PpState::Running => {}
         PpState::Stopped | PpState::Fault(_) => {
-            line.push(b" ");
-            push_state_text(line, state);
+            text.print(b" ");
+            print_state_text(text, state);
         }
     }
 }

@@ -8,7 +8,7 @@ ghost use Rattle.pp_text.specs.TextWriter.{Prints};
 ghost use Rattle.pp_text.specs.Written.{IsReportWritten};
 ghost use Rattle.pp_run.specs.BareMachine.{StandsFor};
 ghost use Rattle.pp_steps.specs.Choice.{chosen_steps};
-ghost use Rattle.pp_steps.specs.HeldRuns.{AreCounted};
+ghost use Rattle.pp_steps.specs.HeldRuns.{each_spells};
 ghost use Rattle.pp_steps.specs.StepsText.{kind_text, steps_text};
 
 use crate::choice::Choice;
@@ -16,10 +16,10 @@ use crate::cursor::{Cursor, pass_step};
 use crate::held_runs::HeldRuns;
 use crate::line_kind::LineKind;
 use crate::run_counts::counted_runs;
-use crate::step_line::{push_held_line, push_step_line};
+use crate::step_line::{print_held_line, print_step_line};
 use pp_machine::{Machine, PROCESSORS, PpNo};
 use pp_run::BareMachine;
-use pp_text::{Piece, ReportFault, TextWriter};
+use pp_text::{ReportFault, TextWriter};
 use std::alloc::Allocator;
 use std::io::Write;
 
@@ -72,20 +72,19 @@ fn print_steps<A: Allocator, W: Write>(
 )
     requires before { StandsFor before.old machine.now }
     requires after { StandsFor after.old machine.now }
-    requires counted { AreCounted
-        (chosen_steps choice.now (barrel machine.now.profile turns) machine.now) runs.now.items }
+    requires counted { runs.now.items
+        ≡ each_spells (chosen_steps choice.now (barrel machine.now.profile turns) machine.now) }
     ensures { Prints W.contents text.old text.new
         (steps_text choice.now (barrel machine.now.profile turns) machine.now) }
 {
     let round = machine.profile().processors() as u32;
-    let mut line = Piece::new();
     let mut cursors = [Cursor::new(); PROCESSORS];
     for turn in 0..turns {
         let n = PpNo::at((turn % round) as usize);
         let is_chosen = choice.has(after, n);
         let step = after.step(n);
         let kind = pass_step(&mut cursors, runs, is_chosen, n, step);
-        print_line(text, &mut line, n, before, after, kind);
+        print_line(text, n, before, after, kind);
         let _same = before.step(n);
     }
 }
@@ -93,7 +92,6 @@ fn print_steps<A: Allocator, W: Write>(
 /// Prints the line of a step of a processor from one machine to another, where it has one.
 fn print_line<A: Allocator, W: Write>(
     text: &mut TextWriter<W>,
-    line: &mut Piece,
     n: PpNo,
     before: &BareMachine<A>,
     after: &BareMachine<A>,
@@ -102,11 +100,9 @@ fn print_line<A: Allocator, W: Write>(
     ensures { (m : MachineState) → StandsFor before.now m → StandsFor after.now (stepped n m)
         → Prints W.contents text.old text.new (kind_text kind n m) }
 {
-    line.clear();
     match kind {
-        LineKind::NoLine => return,
-        LineKind::OneStep => push_step_line(line, n, before, after),
-        LineKind::HeldSteps(count) => push_held_line(line, n, before, count),
+        LineKind::NoLine => {}
+        LineKind::OneStep => print_step_line(text, n, before, after),
+        LineKind::HeldSteps(count) => print_held_line(text, n, before, count),
     }
-    text.print(line.as_slice());
 }

@@ -2,7 +2,7 @@
 use Rattle.std.proofs.Common.{◌≡◌, ℕ, zero, suc, ◌-◌, ◌/◌, ◌%◌, ◌^◌, ◌<◌, ◌≤◌, ◌++◌, refl, sym, ap, ◌∙◌, arith, ltb, lt-ltb, le-ltb}
 use Rattle.std.proofs.Math.Nat.{pow-suc, pow-zero}
 use Rattle.std.proofs.lemmas.Bool.{cond-true, cond-false}
-use Rattle.pp_text.specs.Numeral.{digit, octal, short_octal}
+use Rattle.pp_word.specs.Numeral.{digit, octal, short_octal}
 
 less : (width : ℕ) → width ≡ suc width - 1
 less width = omega arith

@@ -22,8 +22,9 @@ use Rattle.pp_machine.specs.ProcessorPlaces as processor_places
 use Rattle.pp_machine.specs.declared.pp_state.PpState.{PpState}
 use Rattle.pp_machine.specs.declared.pp_state.PpState.TheVariants.{Running, Stopped, Fault}
 use Rattle.pp_machine.specs.declared.trace.Trace.{Trace}
-use Rattle.pp_text.specs.Numeral.{decimal, digit, digits, octal, unpadded}
+use Rattle.pp_word.specs.Numeral.{decimal, digit, digits, octal, unpadded}
 use Rattle.pp_text.specs.TextLaw.{EventFits, ProcessorFits, HistoryFits, ShowSameProcessor, ShowSameChannel, FitsItsText, AgreeOnText}
+use Rattle.pp_text.specs.PrintingLaws.{channels_by_number, numbered_channel_line, processors_by_number}
 use Rattle.pp_text.specs.PrintedText.{channel_line, channel_text, each_below, event_line, event_text, line_end, named_processor_line, printed, processor_line, state_text, used_channel_line}
 
 -- ---- lists of characters
@@ -403,7 +404,7 @@ unfolding channel_body
 channel_line_is c [] = refl
 channel_line_is c (e ∷ h) = simp (append_assoc, append-nil)
 
-pub channel_in_lines : (histories : List (List Event)) (c : ℕ) → used_channel_line histories c ≡ unlines (channels histories c)
+pub channel_in_lines : (histories : List (List Event)) (c : ℕ) → numbered_channel_line histories c ≡ unlines (channels histories c)
 unfolding channels
 channel_in_lines histories c = by_case (names_channel c) (history_on c histories) (channel_line_is c (history_on c histories))
   where
@@ -466,18 +467,22 @@ plain_channels histories c =
 lines_of : List Bool → MachineState → List (List ℕ)
 lines_of named m = bodies m.trace ++ (lines_below 0o100 (processors named m) ++ lines_below 0o100 (channels m.histories))
 
+pub unnamed : (b : Bool) → (IsTrue b → ⊥) → b ≡ false
+unnamed true none = absurd (none refl)
+unnamed false none = refl
+
+unnamed_line : (named : List Bool) (m : MachineState) (n : ℕ) → (IsTrue (names_processor n) → ⊥) → named_processor_line named m n ≡ []
+unnamed_line named m n none = rw (unnamed (names_processor n) none) refl
+
 text_in_lines : (named : List Bool) (m : MachineState) → printed named m ≡ unlines (lines_of named m)
 unfolding lines_of printed
 text_in_lines named m =
     let first = trace_in_lines m.trace in
-    let second = said_in_lines 0o100 (named_processor_line named m) (processors named m) (processor_in_lines named m) in
-    let third = said_in_lines 0o100 (used_channel_line m.histories) (channels m.histories) (channel_in_lines m.histories) in
-    append_assoc (flat_map event_line m.trace) (each_below 0o100 (named_processor_line named m)) (each_below 0o100 (used_channel_line m.histories))
-    ∙ (ap (λ t. t ++ (each_below 0o100 (named_processor_line named m) ++ each_below 0o100 (used_channel_line m.histories))) first
-    ∙ (ap (λ t. unlines (bodies m.trace) ++ (t ++ each_below 0o100 (used_channel_line m.histories))) second
-    ∙ (ap (λ t. unlines (bodies m.trace) ++ (unlines (lines_below 0o100 (processors named m)) ++ t)) third
+    let second = processors_by_number (named_processor_line named m) (unnamed_line named m) ∙ said_in_lines 0o100 (named_processor_line named m) (processors named m) (processor_in_lines named m) in
+    let third = channels_by_number (used_channel_line m.histories) ∙ said_in_lines 0o100 (numbered_channel_line m.histories) (channels m.histories) (channel_in_lines m.histories) in
+    rw (first, second, third) (append_assoc (unlines (bodies m.trace)) (unlines (lines_below 0o100 (processors named m))) (unlines (lines_below 0o100 (channels m.histories)))
     ∙ (ap (λ t. unlines (bodies m.trace) ++ t) (sym (unlines-append (lines_below 0o100 (processors named m)) (lines_below 0o100 (channels m.histories))))
-    ∙ sym (unlines-append (bodies m.trace) (lines_below 0o100 (processors named m) ++ lines_below 0o100 (channels m.histories)))))))
+    ∙ sym (unlines-append (bodies m.trace) (lines_below 0o100 (processors named m) ++ lines_below 0o100 (channels m.histories)))))
 
 plain_lines : (named : List Bool) (m : MachineState) → AreLines (lines_of named m)
 unfolding lines_of
@@ -660,10 +665,6 @@ same_name true true l k e = refl
 same_name true false l k e = absurd cc
 same_name false true l k e = absurd cc
 same_name false false l k e = refl
-
-pub unnamed : (b : Bool) → (IsTrue b → ⊥) → b ≡ false
-unnamed true none = absurd (none refl)
-unnamed false none = refl
 
 tells_names : (named others : List Bool) (one other : MachineState) → printed named one ≡ printed others other → (n : ℕ) → is_named named n ≡ is_named others n
 unfolding processors

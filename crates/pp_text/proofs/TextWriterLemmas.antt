@@ -62,7 +62,3 @@ pub prints_sent : {W E : Type 0} (contents : W → Option (List ℕ)) (a b : Tex
     → IsWritten a.piece r (contents a.writer.now) (contents b.writer.now) → Prints contents a b []
 prints_sent contents a b (Ok done) going same goes empty out = prints_out contents a b going same goes empty out
 prints_sent contents a b (Err fault) going same fails empty out = prints_front contents a b going same fails out
-
--- a line that is held back, once there is room
-pub prints_line : {W : Type 0} (contents : W → Option (List ℕ)) (a b c : TextWriter W) (line : List ℕ) → Prints contents a b [] → c.writer ≡ b.writer → c.failed ≡ b.failed → c.piece ≡ b.piece ++ line → Prints contents a c line
-prints_line contents a b c line room same failed held = prints_then contents a b c [] line room (prints_held contents b c line same failed held)

@@ -1,4 +1,3 @@
-pub mod Numeral
 pub mod PrintedText
 pub mod InstructionText
 pub mod Standing

@@ -1,15 +1,15 @@
 -- The text of a run: a line for each event, each processor named, and each channel with a history.
 -- A text is a list of ASCII codes, and every line ends with a line feed.
 use Rattle.std.specs.Prelude.{ℕ, zero, suc, ◌-◌, Bool, List, [], ◌∷◌, ◌++◌, Option, Some, None, codes, length, replicate, if◌then◌else◌, flat_map}
-use Rattle.pp_channel.specs.ChannelNo.{names_channel}
+use Rattle.pp_channel.specs.ChannelNo.{all_channels}
 use Rattle.pp_channel.specs.History.{active, waiting, history_on}
 use Rattle.pp_channel.specs.declared.event.Event.{Event}
 use Rattle.pp_machine.specs.MachineState.{MachineState, processor_of}
 use Rattle.pp_machine.specs.Processor.{Processor}
-use Rattle.pp_machine.specs.PpNo.{is_named}
+use Rattle.pp_machine.specs.PpNo.{all_processors, is_named}
 use Rattle.pp_machine.specs.declared.pp_state.PpState.{PpState}
 use Rattle.pp_machine.specs.declared.trace.Trace.{Trace}
-use Rattle.pp_text.specs.Numeral.{decimal, octal}
+use Rattle.pp_word.specs.Numeral.{decimal, octal}
 
 -- ---- lines
 
@@ -64,19 +64,18 @@ unfoldable pub each_below : ℕ → (ℕ → List ℕ) → List ℕ
 each_below zero said = []
 each_below (suc k) said = each_below k said ++ said k
 
--- the line of the processor with this number, if the deck names it
+-- the line of processor n, if the deck names it
 abbrev pub named_processor_line : List Bool → MachineState → ℕ → List ℕ
 named_processor_line named m n = if is_named named n
     then (let pp = processor_of n m in processor_line n pp (state_text pp.state)) else []
 
--- the line of the channel with this number, if there is one and it has a history
+-- the line of channel c, if it has a history
 abbrev pub used_channel_line : List (List Event) → ℕ → List ℕ
-used_channel_line histories c =
-    if names_channel c then channel_line c (history_on c histories) else []
+used_channel_line histories c = channel_line c (history_on c histories)
 
 -- the text of a machine: its events in order, then the processors named and the channels used, in
 -- order of number. Numbers have two octal digits.
 unfoldable pub printed : List Bool → MachineState → List ℕ
 printed named m =
-    flat_map event_line m.trace ++ each_below 0o100 (named_processor_line named m)
-    ++ each_below 0o100 (used_channel_line m.histories)
+    flat_map event_line m.trace ++ flat_map (named_processor_line named m) all_processors
+    ++ flat_map (used_channel_line m.histories) all_channels

@@ -1,10 +1,17 @@
 -- Texts that are printed one after another.
-use Rattle.std.proofs.Common.{◌≡◌, ℕ, ◌+◌, List, [], ◌∷◌, ◌++◌, Option, refl, sym, ap, ◌∙◌, add-one, append_assoc, arith, subst}
+use Rattle.std.proofs.Common.{◌≡◌, ℕ, zero, suc, ◌+◌, Bool, true, false, List, [], ◌∷◌, ◌++◌, Option, refl, sym, ap, ◌∙◌, add-one, append_assoc, arith, subst}
+use Rattle.std.specs.Prelude.{IsTrue, if◌then◌else◌}
 use Rattle.std.specs.List.{flat_map, range_with_len}
 use Rattle.std.proofs.lemmas.List.{append-nil}
 use Rattle.std.proofs.lemmas.List.Concat.{flat_map-append}
-use Rattle.pp_word.specs.GrowingLists.{range_more}
-use Rattle.pp_text.specs.PrintedText.{each_below}
+use Rattle.pp_word.specs.GrowingLists.{range_more, tabulate_more}
+use Rattle.pp_word.specs.Tables.{tabulate}
+use Rattle.pp_channel.specs.ChannelNo.{all_channels, channel_number, names_channel}
+use Rattle.pp_channel.specs.ChannelPlaces as channel_places
+use Rattle.pp_channel.specs.declared.event.Event.{Event}
+use Rattle.pp_machine.specs.PpNo.{all_processors, names_processor}
+use Rattle.pp_machine.specs.ProcessorPlaces as processor_places
+use Rattle.pp_text.specs.PrintedText.{each_below, used_channel_line}
 use Rattle.pp_text.specs.TextWriter.{Prints}
 use Rattle.pp_text.specs.declared.text_writer.TextWriter.{TextWriter}
 
@@ -23,6 +30,12 @@ prints_then contents a b c xs ys h k = record {
   goes_on = λ start before so_far. rw (← append_assoc before xs ys)
       (k.goes_on start (before ++ xs) (h.goes_on start before so_far));
 }
+
+-- the same, between the two
+infixl 10 ◌▹◌
+pub ◌▹◌ : {W : Type 0} {contents : W → Option (List ℕ)} {a b c : TextWriter W} {xs ys : List ℕ}
+    → Prints contents a b xs → Prints contents b c ys → Prints contents a c (xs ++ ys)
+first ▹ second = prints_then _ _ _ _ _ _ first second
 
 -- some of a text, and then what makes it this text
 pub prints_on : {W : Type 0} (contents : W → Option (List ℕ)) (a b c : TextWriter W)
@@ -72,3 +85,54 @@ pub prints_all : {W X : Type 0} (contents : W → Option (List ℕ)) (a b : Text
     → Prints contents a b (flat_map line (flat_map f (range_with_len 0 count)))
 prints_all contents a b line f k count is h =
     subst (λ n. Prints contents a b (flat_map line (flat_map f (range_with_len 0 n)))) is h
+
+-- ---- what is printed of all channels, of all processors
+
+-- of none yet, and of one more
+pub walk_zero : {X : Type 0} (line : ℕ → List X) (number : ℕ → ℕ)
+    → flat_map line (tabulate 0 number) ≡ []
+unfolding tabulate
+walk_zero line number = refl
+
+pub walk_more : {X : Type 0} (line : ℕ → List X) (number : ℕ → ℕ) (k : ℕ)
+    → flat_map line (tabulate k number) ++ line (number k)
+    ≡ flat_map line (tabulate (k + 1) number)
+walk_more {X} line number k =
+    sym (ap (flat_map line) (tabulate_more k number)
+    ∙ flat_map-append line (tabulate k number) (number k ∷ [])
+    ∙ ap (λ (xs : List X). flat_map line (tabulate k number) ++ xs) (append-nil (line (number k))))
+
+each_is_flat : (k : ℕ) (f : ℕ → List ℕ) → each_below k f ≡ flat_map f (range_with_len 0 k)
+unfolding each_below
+each_is_flat zero f = refl
+each_is_flat (suc k) f =
+    ap (λ (t : List ℕ). t ++ f k) (each_is_flat k f)
+    ∙ sym (ap (λ (n : ℕ). flat_map f (range_with_len 0 n)) (sym (add-one k)) ∙ range_flat f k)
+
+-- the line of the channel with this number, if there is one
+abbrev pub numbered_channel_line : List (List Event) → ℕ → List ℕ
+numbered_channel_line histories c =
+    if names_channel c then used_channel_line histories c else []
+
+where_named : (f : ℕ → List ℕ)
+    → flat_map f all_channels ≡ flat_map (λ c. if names_channel c then f c else []) all_channels
+unfolding all_channels tabulate channel_number names_channel
+where_named f = refl
+
+not_named : (b : Bool) (xs : List ℕ) → (IsTrue b → ⊥) → (if b then xs else []) ≡ []
+not_named true xs none = absurd (none refl)
+not_named false xs none = refl
+
+pub channels_by_number : (f : ℕ → List ℕ)
+    → flat_map f all_channels ≡ each_below 0o100 (λ c. if names_channel c then f c else [])
+channels_by_number f =
+    where_named f
+    ∙ channel_places.numbers_of_channels (λ c. if names_channel c then f c else [])
+    (λ c none. not_named (names_channel c) (f c) none)
+    ∙ sym (each_is_flat 0o100 (λ c. if names_channel c then f c else []))
+
+pub processors_by_number : (f : ℕ → List ℕ)
+    → ((n : ℕ) → (IsTrue (names_processor n) → ⊥) → f n ≡ [])
+    → flat_map f all_processors ≡ each_below 0o100 f
+processors_by_number f none =
+    processor_places.numbers_of_processors f none ∙ sym (each_is_flat 0o100 f)

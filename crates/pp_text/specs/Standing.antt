@@ -11,7 +11,7 @@ use Rattle.pp_machine.specs.declared.need.Need.TheVariants.{Channel}
 use Rattle.pp_machine.specs.declared.outcome.Outcome.{Outcome}
 use Rattle.pp_machine.specs.declared.outcome.Outcome.TheVariants.{Held}
 use Rattle.pp_text.specs.InstructionText.{running_instruction}
-use Rattle.pp_text.specs.Numeral.{octal, unpadded}
+use Rattle.pp_word.specs.Numeral.{octal, unpadded}
 use Rattle.pp_text.specs.PrintedText.{state_text}
 
 -- ` BLOCK 0302`: the next place of a block in progress. Only a running processor is in a block

@@ -1,13 +1,7 @@
 //! Numbers in octal and decimal digits.
 
-ghost use Rattle.std.specs.Prelude.{◌≡◌, ◌+◌, ◌<◌, ◌≤◌, ◌/◌, ◌%◌, ◌^◌, ◌++◌, length};
-ghost use Rattle.pp_text.specs.Numeral.{decimal_pairs, decimal, digits, octal, short_decimal, unpadded};
-ghost use Rattle.pp_text.specs.Piece.{HasRoom};
-
-use crate::piece::Piece;
-
-/// The least count that has more than six decimal digits.
-const SEVEN_DIGITS: u64 = 1_000_000;
+ghost use Rattle.std.specs.Prelude.{◌≡◌, ◌<◌, ◌^◌};
+ghost use Rattle.pp_word.specs.Numeral.{decimal_pairs, digits, octal};
 
 /// The last octal digit of a number.
 pub fn octal1(n: u8) -> [u8; 1]
@@ -71,60 +65,8 @@ pub fn decimal6(n: u32) -> [u8; 6]
     [n0, n1, n2, n3, n4, n5]
 }
 
-/// Adds the decimal digits of a count before its last six, and returns the number that these six
-/// make.
-#[inline]
-pub fn push_upper_digits(piece: &mut Piece, n: u64) -> u32
-    requires { HasRoom 14 piece.old }
-    ensures text { piece.new ≡ piece.old ++ unpadded 14 (n / 10 ^ 6) }
-    ensures room { length piece.new ≤ length piece.old + 14 }
-    ensures rest { result ≡ n % 10 ^ 6 }
-{
-    if n < SEVEN_DIGITS {
-        return n as u32;
-    }
-    push_unpadded(piece, n / SEVEN_DIGITS, 14);
-    (n % SEVEN_DIGITS) as u32
-}
-
-/// Adds a count in decimal: six digits, with leading zeros, and more only if it needs more.
-#[tactic(auto, unfolding(crate::specs::Numeral::decimal))]
-pub fn push_decimal(piece: &mut Piece, n: u64)
-    requires { HasRoom 20 piece.old }
-    ensures text { piece.new ≡ piece.old ++ decimal n }
-    ensures room { length piece.new ≤ length piece.old + 20 }
-{
-    let lower = push_upper_digits(piece, n);
-    piece.push(&decimal6(lower));
-}
-
-/// Adds a number in decimal digits, without leading zeros, but at most `most` digits.
-#[tactic(auto, using(crate::proofs::TextLemmas::unpadded_more))]
-pub fn push_unpadded(piece: &mut Piece, n: u64, most: u32)
-    requires { HasRoom most piece.old }
-    ensures text { piece.new ≡ piece.old ++ unpadded most n }
-    ensures room { length piece.new ≤ length piece.old + most }
-{
-    if n == 0 || most == 0 {
-        return;
-    }
-    push_unpadded(piece, n / 10, most - 1);
-    piece.push(&[b'0' + (n % 10) as u8]);
-}
-
-/// Adds a count in decimal digits, without leading zeros, but at least one digit.
-#[tactic(auto, unfolding(crate::specs::Numeral::short_decimal))]
-pub fn push_short_decimal(piece: &mut Piece, n: u64)
-    requires { HasRoom 20 piece.old }
-    ensures text { piece.new ≡ piece.old ++ short_decimal n }
-    ensures room { length piece.new ≤ length piece.old + 20 }
-{
-    push_unpadded(piece, n / 10, 19);
-    piece.push(&[b'0' + (n % 10) as u8]);
-}
-
 /// The two decimal digits of each number below 100 (decimal), one number after another.
-#[tactic(auto, unfolding(crate::specs::Numeral::decimal_pairs))]
+#[tactic(auto, unfolding(pp_word::specs::Numeral::decimal_pairs))]
 fn decimal_pairs() -> [u8; 200]
     ensures { result ≡ decimal_pairs }
 {

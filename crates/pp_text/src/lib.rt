@@ -7,7 +7,7 @@ mod held_text;
 mod instruction;
 mod laws;
 mod machine_text;
-mod octal_text;
+mod numbers;
 mod operands;
 mod piece;
 mod printed_line;
@@ -16,25 +16,23 @@ mod standing;
 mod state_text;
 mod text_writer;
 mod write_fault;
-mod writer_fields;
 
 pub use central_words::central_word;
-pub use digits::{
-    decimal6, octal1, octal2, octal4, octal6, push_decimal, push_short_decimal, push_unpadded,
-    push_upper_digits,
-};
-pub use held_text::{push_flags_text, push_held_text};
+pub use digits::{decimal6, octal1, octal2, octal4, octal6};
+pub use held_text::{print_flags_text, print_held_text};
 pub use instruction::{print_running, running_field};
 pub use laws::text_law;
 pub use machine_text::{print_channels, write_text};
-pub use octal_text::{print_octal, print_short_octal};
-pub use piece::Piece;
-pub use printed_line::push_event_end;
+pub use numbers::{
+    print_decimal, print_octal, print_short_decimal, print_short_octal, print_unpadded,
+    print_upper_digits,
+};
+pub use printed_line::print_event_end;
 pub use report_fault::ReportFault;
 pub use standing::print_standing;
 pub use state_text::{
-    NUMBERS, channel_name, processor_heading, processor_name, push_channel_line, push_channel_text,
-    push_fault_text, push_state_text,
+    channel_name, print_channel_line, print_channel_text, print_fault_text, print_state_text,
+    processor_heading, processor_name,
 };
 pub use text_writer::TextWriter;
 pub use write_fault::{WriteFault, write_bytes};

@@ -2,17 +2,17 @@
 
 ghost use Rattle.std.specs.Prelude.{ℕ, All, IsTrue};
 ghost use Rattle.std.specs.List.{flat_map};
-ghost use Rattle.pp_channel.specs.ChannelNo.{names_channel};
+ghost use Rattle.pp_channel.specs.ChannelNo.{all_channels, names_channel};
 ghost use Rattle.pp_channel.specs.History.{history_on};
 ghost use Rattle.pp_machine.specs.MachineState.{processor_of};
 ghost use Rattle.pp_text.specs.TextWriter.{Prints};
-ghost use Rattle.pp_machine.specs.PpNo.{is_named};
-ghost use Rattle.pp_text.specs.PrintedText.{each_below, event_line, named_processor_line, printed, used_channel_line};
+ghost use Rattle.pp_machine.specs.PpNo.{all_processors, is_named};
+ghost use Rattle.pp_text.specs.PrintedText.{event_line, named_processor_line, printed, used_channel_line};
 ghost use Rattle.pp_text.specs.TextLaw.{FitsItsText, HistoryFits, ProcessorFits, EventFits};
 ghost use Rattle.pp_text.specs.Written.{IsWritten};
 
-use crate::printed_line::{push_event, push_processor};
-use crate::state_text::{NUMBERS, push_channel_line};
+use crate::printed_line::{print_event, print_processor};
+use crate::state_text::print_channel_line;
 use crate::text_writer::TextWriter;
 use crate::write_fault::WriteFault;
 use pp_channel::{CHANNELS, ChannelNo};
@@ -45,8 +45,7 @@ fn print_events<W: Write>(text: &mut TextWriter<W>, events: &[Trace])
     ensures fits { All EventFits events.now }
 {
     for entry in events {
-        text.make_room();
-        push_event(&mut text.piece, entry);
+        print_event(text, entry);
     }
 }
 
@@ -56,12 +55,12 @@ fn print_processors<A: Allocator, W: Write>(
     named: &[bool; PROCESSORS],
 )
     ensures text { Prints W.contents text.old text.new
-        (each_below NUMBERS (named_processor_line named.now machine.now)) }
+        (flat_map (named_processor_line named.now machine.now) all_processors) }
     ensures fits { (n : ℕ) → IsTrue (is_named named.now n)
         → ProcessorFits (processor_of n machine.now) }
 {
-    for number in 0..NUMBERS {
-        print_named_processor(text, machine, named, number);
+    for place in 0..PROCESSORS {
+        print_named_processor(text, machine, named, PpNo::at(place));
     }
 }
 
@@ -69,46 +68,26 @@ fn print_named_processor<A: Allocator, W: Write>(
     text: &mut TextWriter<W>,
     machine: &Machine<A>,
     named: &[bool; PROCESSORS],
-    number: u8,
+    n: PpNo,
 )
     ensures text { Prints W.contents text.old text.new
-        (named_processor_line named.now machine.now number) }
-    ensures fits { IsTrue (is_named named.now number)
-        → ProcessorFits (processor_of number machine.now) }
+        (named_processor_line named.now machine.now n) }
+    ensures fits { IsTrue (is_named named.now n) → ProcessorFits (processor_of n machine.now) }
 {
-    match PpNo::new(number) {
-        Some(n) if named[n.index()] => {
-            text.make_room();
-            push_processor(&mut text.piece, n, machine.pp(n));
-        }
-        _ => {}
+    if named[n.index()] {
+        print_processor(text, n, machine.pp(n));
     }
 }
 
 /// Prints the lines of all channels that have a history, in order of number.
 pub fn print_channels<A: Allocator, W: Write>(text: &mut TextWriter<W>, machine: &Machine<A>)
     ensures text { Prints W.contents text.old text.new
-        (each_below NUMBERS (used_channel_line machine.now.histories)) }
+        (flat_map (used_channel_line machine.now.histories) all_channels) }
     ensures fits { (c : ℕ) → IsTrue (names_channel c)
         → HistoryFits (history_on c machine.now.histories) }
 {
-    for number in 0..NUMBERS {
-        print_used_channel(text, machine, number);
-    }
-}
-
-fn print_used_channel<A: Allocator, W: Write>(
-    text: &mut TextWriter<W>,
-    machine: &Machine<A>,
-    number: u8,
-)
-    ensures text { Prints W.contents text.old text.new
-        (used_channel_line machine.now.histories number) }
-    ensures fits { IsTrue (names_channel number)
-        → HistoryFits (history_on number machine.now.histories) }
-{
-    if let Some(c) = ChannelNo::new(number) {
-        text.make_room();
-        push_channel_line(&mut text.piece, c, machine.channel(c));
+    for place in 0..CHANNELS {
+        let c = ChannelNo::at(place);
+        print_channel_line(text, c, machine.channel(c));
     }
 }

@@ -7,7 +7,7 @@ use pp_word::Opcode;
 
 /// What comes after the mnemonic of an instruction, whose lower six bits are d and whose second
 /// word is m.
-#[derive(Clone, Copy, Debug, PartialEq, Eq)]
+#[derive(Clone, Copy)]
 pub enum Operands {
     /// `mmmm`, and `,dd` if d is not 00: a place, and the place of its index.
     IndexedPlace,

@@ -1,7 +1,7 @@
 //! A piece of a text.
 
-ghost use Rattle.std.specs.Prelude.{◌≡◌, ◌-◌, ◌≤◌, [], ◌++◌, length};
-ghost use Rattle.pp_text.specs.Piece.{HasRoom, piece_length};
+ghost use Rattle.std.specs.Prelude.{◌≡◌, ◌+◌, ◌-◌, ◌≤◌, [], ◌++◌, length};
+ghost use Rattle.pp_text.specs.Piece.{piece_length};
 
 use std::marker::Model;
 
@@ -11,7 +11,7 @@ const PIECE_LENGTH: usize = 8192;
 /// The bytes of a text that are held back, to be written at once. It takes no memory. Contracts see
 /// the list of its bytes.
 #[derive(Drop)]
-pub struct Piece {
+pub(crate) struct Piece {
     bytes: [u8; PIECE_LENGTH],
     filled: usize,
 }
@@ -29,7 +29,7 @@ impl Model for Piece {
 
 impl Piece {
     /// A piece without bytes.
-    pub fn new() -> Piece
+    pub(crate) fn new() -> Piece
         ensures { result ≡ [] }
     {
         Piece {
@@ -39,7 +39,7 @@ impl Piece {
     }
 
     /// The bytes.
-    pub fn as_slice(&self) -> &[u8]
+    pub(crate) fn as_slice(&self) -> &[u8]
         ensures bytes { result.now ≡ self.now }
         ensures fits { length result.now ≤ piece_length }
     {
@@ -48,7 +48,7 @@ impl Piece {
 
     /// How many more bytes it can hold.
     #[inline]
-    pub fn room(&self) -> usize
+    pub(crate) fn room(&self) -> usize
         ensures room { result ≡ piece_length - length self.now }
         ensures fits { length self.now ≤ piece_length }
     {
@@ -57,8 +57,8 @@ impl Piece {
 
     /// Adds these bytes.
     #[inline]
-    pub fn push(&mut self, bytes: &[u8])
-        requires { HasRoom (length bytes.now) self.old }
+    pub(crate) fn push(&mut self, bytes: &[u8])
+        requires { length self.old + length bytes.now ≤ piece_length }
         ensures { self.new ≡ self.old ++ bytes.now }
     {
         let end = self.filled + bytes.len();
@@ -67,7 +67,7 @@ impl Piece {
     }
 
     /// Drops all bytes.
-    pub fn clear(&mut self)
+    pub(crate) fn clear(&mut self)
         ensures { self.new ≡ [] }
     {
         self.filled = 0;

@@ -4,43 +4,42 @@ ghost use Rattle.std.specs.Prelude.{◌≡◌, ◌<◌, ◌^◌, ◌++◌, IsTru
 ghost use Rattle.pp_channel.specs.ChannelNo.{names_channel};
 ghost use Rattle.pp_channel.specs.History.{HasTwelveBitWord};
 ghost use Rattle.pp_machine.specs.PpNo.{names_processor};
-ghost use Rattle.pp_text.specs.Numeral.{digits, octal};
-ghost use Rattle.pp_text.specs.Piece.{HasRoom, longest_line};
+ghost use Rattle.pp_word.specs.Numeral.{digits, octal};
 ghost use Rattle.pp_text.specs.PrintedText.{event_line, event_text, line_end, processor_line, state_text};
 ghost use Rattle.pp_text.specs.TextLaw.{ProcessorFits, EventFits};
+ghost use Rattle.pp_text.specs.TextWriter.{Prints};
 
-use crate::digits::{decimal6, octal2, octal4, push_upper_digits};
-use crate::piece::Piece;
-use crate::state_text::{processor_heading, push_state_text};
+use crate::digits::{decimal6, octal2, octal4};
+use crate::numbers::print_upper_digits;
+use crate::state_text::{print_state_text, processor_heading};
+use crate::text_writer::TextWriter;
 use pp_channel::{ChannelNo, Event};
 use pp_machine::{Pp, PpNo, Trace};
 use pp_word::Word12;
+use std::io::Write;
 
-/// Adds `000020 PP00 CH05 PUT 0007` and a line feed.
-#[tactic(auto, using(crate::proofs::TextLemmas::event_line_in_pieces))]
-pub(crate) fn push_event(piece: &mut Piece, entry: &Trace)
-    requires { HasRoom longest_line piece.old }
-    ensures text { piece.new ≡ piece.old ++ event_line entry.now }
+/// Prints `000020 PP00 CH05 PUT 0007` and a line feed.
+pub(crate) fn print_event<W: Write>(text: &mut TextWriter<W>, entry: &Trace)
+    ensures text { Prints W.contents text.old text.new (event_line entry.now) }
     ensures fits { EventFits entry.now }
 {
-    let turn = push_upper_digits(piece, entry.turn);
-    piece.push(&event_heading(turn, entry.pp, entry.channel));
-    push_event_end(piece, entry.event);
+    let turn = print_upper_digits(text, entry.turn);
+    text.print(&event_heading(turn, entry.pp, entry.channel));
+    print_event_end(text, entry.event);
 }
 
-/// Adds `PUT 0007` and a line feed.
+/// Prints `PUT 0007` and a line feed.
 #[inline(always)]
-pub fn push_event_end(piece: &mut Piece, event: Event)
-    requires { HasRoom 9 piece.old }
-    ensures text { piece.new ≡ piece.old ++ (event_text event ++ line_end) }
+pub fn print_event_end<W: Write>(text: &mut TextWriter<W>, event: Event)
+    ensures text { Prints W.contents text.old text.new (event_text event ++ line_end) }
     ensures fits { HasTwelveBitWord event }
 {
     match event {
-        Event::Activate => piece.push(b"ACN\n"),
-        Event::Disconnect => piece.push(b"DCN\n"),
-        Event::Put(word) => piece.push(&line_with_word(*b"PUT", word)),
-        Event::Take(word) => piece.push(&line_with_word(*b"TAK", word)),
-        Event::Function(word) => piece.push(&line_with_word(*b"FNC", word)),
+        Event::Activate => text.print(b"ACN\n"),
+        Event::Disconnect => text.print(b"DCN\n"),
+        Event::Put(word) => text.print(&line_with_word(*b"PUT", word)),
+        Event::Take(word) => text.print(&line_with_word(*b"TAK", word)),
+        Event::Function(word) => text.print(&line_with_word(*b"FNC", word)),
     }
 }
 
@@ -70,14 +69,14 @@ fn line_with_word(name: [u8; 3], word: Word12) -> [u8; 9]
     [n0, n1, n2, b' ', w0, w1, w2, w3, b'\n']
 }
 
-/// Adds `PP00 P=0103 A=000007 STOPPED` and a line feed.
-#[tactic(auto, using(crate::proofs::TextLemmas::processor_line_in_pieces))]
-pub(crate) fn push_processor(piece: &mut Piece, n: PpNo, pp: &Pp)
-    requires { HasRoom longest_line piece.old }
-    ensures text { piece.new ≡ piece.old ++ processor_line n pp.now (state_text pp.now.state) }
+/// Prints `PP00 P=0103 A=000007 STOPPED` and a line feed.
+#[tactic(auto, unfolding(crate::specs::PrintedText::processor_line))]
+pub(crate) fn print_processor<W: Write>(text: &mut TextWriter<W>, n: PpNo, pp: &Pp)
+    ensures text { Prints W.contents text.old text.new
+        (processor_line n pp.now (state_text pp.now.state)) }
     ensures fits { ProcessorFits pp.now }
 {
-    piece.push(&processor_heading(n, pp));
-    push_state_text(piece, pp.state());
-    piece.push(b"\n");
+    text.print(&processor_heading(n, pp));
+    print_state_text(text, pp.state());
+    text.print(b"\n");
 }

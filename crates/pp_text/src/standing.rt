@@ -5,17 +5,16 @@ ghost use Rattle.pp_machine.specs.MachineState.{processor_of};
 ghost use Rattle.pp_machine.specs.MachineStep.{step_outcome};
 ghost use Rattle.pp_machine.specs.NeedAndEffect.{need};
 ghost use Rattle.pp_text.specs.InstructionText.{running_instruction};
-ghost use Rattle.pp_text.specs.PrintedText.{state_text};
 ghost use Rattle.pp_text.specs.Standing.{block_place_text, held_text, standing};
 ghost use Rattle.pp_text.specs.TextWriter.{Prints};
 
 use crate::digits::octal4;
-use crate::held_text::push_held_text;
+use crate::held_text::print_held_text;
 use crate::instruction::print_running;
-use crate::state_text::push_state_text;
+use crate::state_text::print_state_text;
 use crate::text_writer::TextWriter;
 use pp_channel::{ChanOp, ChannelNo};
-use pp_machine::{Block, Machine, Need, Outcome, Pp, PpNo, PpState};
+use pp_machine::{Block, Machine, Need, Outcome, Pp, PpNo};
 use pp_word::next;
 use std::alloc::Allocator;
 use std::io::Write;
@@ -32,19 +31,11 @@ pub fn print_standing<A: Allocator, W: Write>(
     ensures { Prints W.contents text.old text.new (standing n machine.now count) }
 {
     let pp = machine.pp(n);
-    print_state(text, pp.state());
+    print_state_text(text, pp.state());
     text.print(b" ");
     print_instruction(text, pp);
     print_block_place(text, pp.block());
     print_held(text, machine, n, count);
-}
-
-/// Prints `RUNNING`, `STOPPED` or `FAULT 4`.
-fn print_state<W: Write>(text: &mut TextWriter<W>, state: PpState)
-    ensures { Prints W.contents text.old text.new (state_text state) }
-{
-    text.make_room();
-    push_state_text(&mut text.piece, state);
 }
 
 /// Prints the text of the instruction that runs.
@@ -78,8 +69,7 @@ fn print_held<A: Allocator, W: Write>(
 {
     match machine.pp(n).wants() {
         Need::Channel(c, operation) if is_held(machine, n, c, operation) => {
-            text.make_room();
-            push_held_text(&mut text.piece, c, machine.channel(c).flags(), count);
+            print_held_text(text, c, machine.channel(c).flags(), count);
         }
         _ => {}
     }

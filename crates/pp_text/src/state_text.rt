@@ -1,20 +1,18 @@
 //! The states of processors and channels, in words.
 
-ghost use Rattle.std.specs.Prelude.{◌≡◌, ◌+◌, ◌≤◌, ◌<◌, ◌^◌, ◌++◌, codes, length};
+ghost use Rattle.std.specs.Prelude.{◌≡◌, ◌<◌, ◌^◌, ◌++◌, codes};
 ghost use Rattle.pp_channel.specs.History.{active, waiting};
-ghost use Rattle.pp_text.specs.Numeral.{octal};
-ghost use Rattle.pp_text.specs.Piece.{HasRoom};
+ghost use Rattle.pp_word.specs.Numeral.{octal};
 ghost use Rattle.pp_text.specs.PrintedText.{channel_line, channel_text, state_text};
 ghost use Rattle.pp_text.specs.TextLaw.{HistoryFits};
+ghost use Rattle.pp_text.specs.TextWriter.{Prints};
 
 use crate::digits::{octal1, octal2, octal4, octal6};
-use crate::piece::Piece;
+use crate::text_writer::TextWriter;
 use pp_channel::{Channel, ChannelNo};
 use pp_machine::{Pp, PpNo, PpState};
 use std::alloc::Allocator;
-
-/// The number of values of two octal digits.
-pub const NUMBERS: u8 = 0o100;
+use std::io::Write;
 
 /// `PP00`
 pub fn processor_name(n: PpNo) -> [u8; 4]
@@ -48,59 +46,55 @@ pub fn processor_heading(n: PpNo, pp: &Pp) -> [u8; 21]
     ]
 }
 
-/// Adds `RUNNING`, `STOPPED` or `FAULT 4`.
-pub fn push_state_text(piece: &mut Piece, state: PpState)
-    requires { HasRoom 7 piece.old }
-    ensures text { piece.new ≡ piece.old ++ state_text state }
-    ensures room { length piece.new ≤ length piece.old + 7 }
+/// Prints `RUNNING`, `STOPPED` or `FAULT 4`.
+pub fn print_state_text<W: Write>(text: &mut TextWriter<W>, state: PpState)
+    ensures { Prints W.contents text.old text.new (state_text state) }
 {
     match state {
-        PpState::Running => piece.push(b"RUNNING"),
-        PpState::Stopped => piece.push(b"STOPPED"),
-        PpState::Fault(number) => push_fault_text(piece, number),
+        PpState::Running => text.print(b"RUNNING"),
+        PpState::Stopped => text.print(b"STOPPED"),
+        PpState::Fault(number) => print_fault_text(text, number),
     }
 }
 
-/// Adds `FAULT 4`.
-pub fn push_fault_text(piece: &mut Piece, number: u8)
-    requires { HasRoom 7 piece.old }
-    ensures text { piece.new ≡ piece.old ++ (codes "FAULT " ++ octal 1 number) }
-    ensures room { length piece.new ≤ length piece.old + 7 }
+/// Prints `FAULT 4`.
+pub fn print_fault_text<W: Write>(text: &mut TextWriter<W>, number: u8)
+    ensures { Prints W.contents text.old text.new (codes "FAULT " ++ octal 1 number) }
 {
-    let [f0] = octal1(number);
-    piece.push(&[b'F', b'A', b'U', b'L', b'T', b' ', f0]);
+    text.print(b"FAULT ");
+    text.print(&octal1(number));
 }
 
-/// Adds `ACTIVE FULL 0007`, `ACTIVE EMPTY` or `INACTIVE`.
-pub fn push_channel_text<A: Allocator>(piece: &mut Piece, channel: &Channel<A>)
-    requires { HasRoom 16 piece.old }
-    ensures text { piece.new
-        ≡ piece.old ++ channel_text (active channel.now) (waiting channel.now) }
-    ensures room { length piece.new ≤ length piece.old + 16 }
+/// Prints `ACTIVE FULL 0007`, `ACTIVE EMPTY` or `INACTIVE`.
+pub fn print_channel_text<A: Allocator, W: Write>(text: &mut TextWriter<W>, channel: &Channel<A>)
+    ensures text { Prints W.contents text.old text.new
+        (channel_text (active channel.now) (waiting channel.now)) }
     ensures fits { HistoryFits channel.now }
 {
     match channel.waiting() {
         Some(word) => {
-            piece.push(b"ACTIVE FULL ");
-            piece.push(&octal4(word.get()));
+            text.print(b"ACTIVE FULL ");
+            text.print(&octal4(word.get()));
         }
-        None if channel.flags().active => piece.push(b"ACTIVE EMPTY"),
-        None => piece.push(b"INACTIVE"),
+        None if channel.flags().active => text.print(b"ACTIVE EMPTY"),
+        None => text.print(b"INACTIVE"),
     }
 }
 
-/// Adds `CH05 ACTIVE FULL 0007` and a line feed, if the channel has a history.
-pub fn push_channel_line<A: Allocator>(piece: &mut Piece, c: ChannelNo, channel: &Channel<A>)
-    requires { HasRoom 22 piece.old }
-    ensures text { piece.new ≡ piece.old ++ channel_line c channel.now }
-    ensures room { length piece.new ≤ length piece.old + 22 }
+/// Prints `CH05 ACTIVE FULL 0007` and a line feed, if the channel has a history.
+pub fn print_channel_line<A: Allocator, W: Write>(
+    text: &mut TextWriter<W>,
+    c: ChannelNo,
+    channel: &Channel<A>,
+)
+    ensures text { Prints W.contents text.old text.new (channel_line c channel.now) }
     ensures fits { HistoryFits channel.now }
 {
     if channel.history().is_empty() {
         return;
     }
-    piece.push(&channel_name(c));
-    piece.push(b" ");
-    push_channel_text(piece, channel);
-    piece.push(b"\n");
+    text.print(&channel_name(c));
+    text.print(b" ");
+    print_channel_text(text, channel);
+    text.print(b"\n");
 }

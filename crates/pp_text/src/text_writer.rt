@@ -6,21 +6,18 @@ use crate::piece::Piece;
 use crate::write_fault::{WriteFault, write_bytes};
 use std::io::Write;
 
-/// The length of the longest line (decimal).
-const LONGEST_LINE: usize = 40;
-
 /// Holds back what is printed until a piece is full, and then writes it. A writer that has failed
 /// is not written to again, and what is printed then is lost.
 #[derive(Drop)]
 pub struct TextWriter<'a, W> {
     writer: &'a mut W,
-    pub(crate) piece: Piece,
+    piece: Piece,
     failed: bool,
 }
 
 impl<'a, W: Write> TextWriter<'a, W> {
     ghost use Rattle.pp_text.specs.TextWriter.{HasPrinted, Prints};
-    ghost use Rattle.pp_text.specs.Piece.{HasRoom, longest_line, piece_length};
+    ghost use Rattle.pp_text.specs.Piece.{piece_length};
     ghost use Rattle.pp_text.specs.Written.{IsWritten};
 
     /// Prints to this writer. Nothing is printed yet.
@@ -32,17 +29,6 @@ impl<'a, W: Write> TextWriter<'a, W> {
             writer,
             piece: Piece::new(),
             failed: false,
-        }
-    }
-
-    /// Makes room for any line.
-    #[inline]
-    pub(crate) fn make_room(&mut self)
-        ensures nothing_more { Prints W.contents self.old self.new [] }
-        ensures room { HasRoom longest_line self.new.piece }
-    {
-        if self.piece.room() < LONGEST_LINE {
-            self.write_piece();
         }
     }
 

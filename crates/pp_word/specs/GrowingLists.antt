@@ -1,10 +1,12 @@
 -- Lists that grow at the end, and their last elements.
-use Rattle.std.proofs.Common.{◌≡◌, ℕ, zero, suc, ◌+◌, ◌<◌, ◌≤◌, List, [], ◌∷◌, ◌++◌, Option, Some, None, refl, sym, ap, ◌∙◌, arith, add-zero}
+use Rattle.std.proofs.Common.{◌≡◌, ℕ, zero, suc, ◌+◌, ◌<◌, ◌≤◌, List, [], ◌∷◌, ◌++◌, map, Option, Some, None, refl, sym, ap, ◌∙◌, arith, add-zero}
 use Rattle.std.specs.Prelude.{filter_map, option_to_list}
-use Rattle.std.specs.List.{range_with_len, cons_option, last_or}
-use Rattle.std.proofs.lemmas.List.{append-nil}
+use Rattle.std.specs.List.{range_with_len, cons_option, flat_map, last_or}
+use Rattle.std.proofs.lemmas.Grind.{flat_map-append}
+use Rattle.std.proofs.lemmas.List.{append-nil, map-append}
 use Rattle.std.proofs.lemmas.List.Elements.{filter_map-append}
 use Rattle.pp_word.specs.LastElements.{last_or-push}
+use Rattle.pp_word.specs.Tables.{tabulate}
 
 pub range_more : (a n : ℕ) → range_with_len a (n + 1) ≡ range_with_len a n ++ (a + n) ∷ []
 range_more a n = ap (range_with_len a) (one n) ∙ from a n
@@ -40,6 +42,57 @@ range_append a (suc m) n =
 
     next : (a m : ℕ) → (a + 1) + m ≡ a + suc m
     next a m = omega arith
+
+-- nothing comes of numbers of which none gives anything
+pub flat_map_none : {X : Type 0} (f : ℕ → List X) (a n : ℕ)
+    → ((k : ℕ) → a ≤ k → k < a + n → f k ≡ []) → flat_map f (range_with_len a n) ≡ []
+flat_map_none f a zero none = refl
+flat_map_none {X} f a (suc n) none =
+    ap (λ (xs : List X). xs ++ flat_map f (range_with_len (a + 1) n))
+    (none a (omega arith) (omega arith))
+    ∙ flat_map_none f (a + 1) n (λ k low high. none k (omega (arith, low)) (omega (arith, high)))
+
+-- what comes of all numbers below a bound, where only two ranges of them give anything
+pub flat_map_parts : {X : Type 0} (f : ℕ → List X) (first gap second past : ℕ)
+    → ((k : ℕ) → first ≤ k → k < first + gap → f k ≡ [])
+    → ((k : ℕ) → (first + gap) + second ≤ k → f k ≡ [])
+    → flat_map f (range_with_len 0 first) ++ flat_map f (range_with_len (first + gap) second)
+    ≡ flat_map f (range_with_len 0 (first + (gap + (second + past))))
+flat_map_parts {X} f first gap second past none_between none_past = sym (
+    ap (flat_map f) (range_append 0 first (gap + (second + past))
+    ∙ ap (λ (k : ℕ). range_with_len 0 first ++ range_with_len k (gap + (second + past)))
+    (from_zero first))
+    ∙ flat_map-append f (range_with_len 0 first) (range_with_len first (gap + (second + past)))
+    ∙ ap (λ (xs : List X). flat_map f (range_with_len 0 first) ++ xs) upper)
+  where
+    from_zero : (n : ℕ) → 0 + n ≡ n
+    from_zero n = omega arith
+
+    upper : flat_map f (range_with_len first (gap + (second + past)))
+        ≡ flat_map f (range_with_len (first + gap) second)
+    upper =
+        ap (flat_map f) (range_append first gap (second + past))
+        ∙ flat_map-append f (range_with_len first gap)
+        (range_with_len (first + gap) (second + past))
+        ∙ ap (λ (xs : List X). xs ++ flat_map f (range_with_len (first + gap) (second + past)))
+        (flat_map_none f first gap none_between)
+        ∙ ap (flat_map f) (range_append (first + gap) second past)
+        ∙ flat_map-append f (range_with_len (first + gap) second)
+        (range_with_len ((first + gap) + second) past)
+        ∙ ap (λ (xs : List X). flat_map f (range_with_len (first + gap) second) ++ xs)
+        (flat_map_none f ((first + gap) + second) past (λ k low high. none_past k low))
+        ∙ append-nil (flat_map f (range_with_len (first + gap) second))
+
+-- a table, and one entry more
+pub tabulate_more : {A : Type 0} (n : ℕ) (f : ℕ → A) → tabulate (n + 1) f ≡ tabulate n f ++ f n ∷ []
+unfolding tabulate
+tabulate_more {A} n f =
+    ap (map f) (range_more 0 n)
+    ∙ map-append f (range_with_len 0 n) ((0 + n) ∷ [])
+    ∙ ap (λ (k : ℕ). map f (range_with_len 0 n) ++ f k ∷ []) (from_zero n)
+  where
+    from_zero : (n : ℕ) → 0 + n ≡ n
+    from_zero n = omega arith
 
 pub filter_map_one : {A : Type 0} (o : Option A) → cons_option o [] ≡ option_to_list o
 filter_map_one None = refl

@@ -1,10 +1,12 @@
 //! The words of a peripheral processor and of central memory: their ranges, ones' complement
-//! arithmetic, shifts and logic, addresses, operation codes, and the five parts of a central word.
+//! arithmetic, shifts and logic, addresses, operation codes, the five parts of a central word, and
+//! numbers in digits.
 #![tactic(auto)]
 
 mod address;
 mod bits;
 mod central_word;
+mod digits;
 mod ones_complement;
 mod opcode;
 mod word12;
@@ -15,6 +17,7 @@ mod word60;
 pub use address::{index_address, next, relative};
 pub use bits::{and18, clear18, complement18, shift18, xor18};
 pub use central_word::{join60, split60};
+pub use digits::{numeral, numeral_law};
 pub use ones_complement::{add18, sub18};
 pub use opcode::{Opcode, decode};
 pub use word6::Word6;

@@ -4,7 +4,7 @@ ghost use Rattle.std.specs.Prelude.{◌≡◌, Bool, List, MatchOption};
 ghost use Rattle.ppsim_library.specs.Numbers.{AreChannels, only_of, profile_of, window_of};
 
 use pp_channel::CHANNELS;
-use pp_check::listed_channels;
+use pp_command::listed_channels;
 use pp_draw::{MOST_TURNS, Window};
 use pp_machine::{PROCESSORS, Profile};
 

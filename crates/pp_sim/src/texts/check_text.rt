@@ -2,11 +2,10 @@
 
 ghost use Rattle.pp_sim.specs.CheckText.{AnswersTrace, IsCheck};
 
-use crate::streams::{read_all, write_whole};
-use crate::text_fault::TextFault;
+use crate::streams::read_all;
+use crate::text_fault::{TextFault, answer_to};
 use pp_channel::CHANNELS;
-use pp_check::{check_trace, push_verdict};
-use pp_text::Piece;
+use pp_check::{check_trace, write_verdict};
 use std::alloc::Allocator;
 use std::io::{Read, Write};
 
@@ -23,11 +22,11 @@ pub fn check_text<A: Allocator, R: Read, W: Write>(
         (W.contents writer.old) (W.contents writer.new) }
 {
     let trace = read_all(alloc, reader)?;
-    write_verdict(trace.as_slice(), opened, writer)
+    write_judged(trace.as_slice(), opened, writer)
 }
 
 /// Writes what is counted in a trace, if it is lawful.
-fn write_verdict<W: Write>(
+fn write_judged<W: Write>(
     trace: &[u8],
     opened: &[bool; CHANNELS],
     writer: &mut W,
@@ -36,11 +35,7 @@ fn write_verdict<W: Write>(
         (W.contents writer.old) (W.contents writer.new) }
 {
     match check_trace(trace, opened) {
-        Ok(verdict) => {
-            let mut line = Piece::new();
-            push_verdict(&mut line, &verdict);
-            write_whole(writer, line.as_slice())
-        }
+        Ok(verdict) => answer_to(write_verdict(writer, &verdict)),
         Err(fault) => Err(TextFault::Trace(fault)),
     }
 }

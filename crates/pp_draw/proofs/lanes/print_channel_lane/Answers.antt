@@ -10,7 +10,7 @@ use Rattle.pp_draw.specs.DrawingText.{channel_lane, is_used, lane_text, used_amo
 use Rattle.pp_draw.specs.Lane.{new_lane}
 use Rattle.pp_draw.specs.Phases.{channel_phases, opening_phases, phase_on, phases_on}
 use Rattle.pp_draw.proofs.LaneLemmas.{comes_first, comes_more, comes_on, comes_to_end}
-use Rattle.pp_draw.proofs.Printed.{◌▹◌}
+use Rattle.pp_text.specs.PrintingLaws.{◌▹◌}
 use Rattle.pp_draw.proofs.lanes.print_channel_lane.Goals as goal
 
 pub loop-entry-init : goal.loop-entry-init
@@ -34,4 +34,4 @@ returns-clause-lane g c =
     let used : is_used m n ≡ true = cc in
     subst (Prints _ _ _) (ap lane c.requires.row ∙ sym (cond-true (is_used m n) (lane (used_among (channel_index n) m)) [] used))
     (comes_to_end _ _ _ _ _ _ (phase_on n) c.events-entry-items.result.now c.loop-entry.entry-index (omega arith) c.loop-entry.invariant c.finish.ensures
-    ▹ ((rw c.band_width-width.ensures.width at c.print_text_tag.ensures) ▹ (rw c.channel.ensures.value at c.print_channel_text.ensures) ▹ c.print.ensures ▹ c.print-2.ensures))
+    ▹ ((rw c.band_width-width.ensures.width at c.print_text_tag.ensures) ▹ (rw c.channel.ensures.value at c.print_channel_text.ensures.text) ▹ c.print.ensures ▹ c.print-2.ensures))

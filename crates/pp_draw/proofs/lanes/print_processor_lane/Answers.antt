@@ -9,7 +9,7 @@ use Rattle.pp_draw.specs.DrawingText.{is_flagged, lane_text, lanes_above, proces
 use Rattle.pp_draw.specs.Lane.{new_lane}
 use Rattle.pp_draw.specs.Phases.{phase_for, processor_phases}
 use Rattle.pp_draw.proofs.LaneLemmas.{comes_first, comes_more, comes_to_end}
-use Rattle.pp_draw.proofs.Printed.{◌▹◌}
+use Rattle.pp_text.specs.PrintingLaws.{◌▹◌}
 use Rattle.pp_draw.proofs.lanes.print_processor_lane.Goals as goal
 
 pub loop-step-init : goal.loop-step-init

@@ -1,17 +1,23 @@
-use Rattle.std.proofs.Common.{sym, arith}
+use Rattle.std.proofs.Common.{arith}
+use Rattle.pp_channel.specs.ChannelNo.{all_channels, channel_count, channel_number}
 use Rattle.pp_listing.specs.Dump.{busy_channel}
-use Rattle.pp_listing.proofs.GoingOnLemmas.{none_before, none_more, first_found, none_found}
+use Rattle.pp_listing.proofs.GoingOnLemmas.{none_before, none_more, first_found, none_found, on_channel_there}
 use Rattle.pp_listing.proofs.going_on.first_channel.Goals as goal
 
-pub loop-number-init : goal.loop-number-init
-loop-number-init g c = none_before (busy_channel c.args.machine.now)
+pub loop-place-init : goal.loop-place-init
+loop-place-init g c = none_before (busy_channel c.args.machine.now) channel_number
 
-pub returns-in-Some : goal.returns-in-Some
-returns-in-Some g c =
-    first_found (busy_channel c.args.machine.now) c.loop-number.number c.in-Some.going_on (omega (arith, c.loop-number-test.true)) c.loop-number.invariant (sym c.in-Some.ensures)
+pub returns-then-flags : goal.returns-then-flags
+unfolding all_channels
+returns-then-flags g c =
+    first_found (busy_channel c.args.machine.now) channel_number c.loop-place.place channel_count _ (omega (arith, c.loop-place-test.true)) c.loop-place.invariant
+    (on_channel_there c.args.machine.now _ c.at-c.result c.channel.result.now c.flags.result _ c.at-c.ensures.number c.channel.ensures.value c.flags.ensures c.if-flags.true)
 
-pub loop-number-preserved : goal.loop-number-preserved
-loop-number-preserved g c = none_more (busy_channel c.args.machine.now) c.loop-number.number c.loop-number.invariant (sym c.in_default.ensures)
+pub loop-place-preserved : goal.loop-place-preserved
+loop-place-preserved g c =
+    none_more (busy_channel c.args.machine.now) channel_number c.loop-place.place c.loop-place.invariant
+    (on_channel_there c.args.machine.now _ c.at-c.result c.channel.result.now c.flags.result _ c.at-c.ensures.number c.channel.ensures.value c.flags.ensures c.if-flags.false)
 
 pub returns : goal.returns
-returns g c = none_found (busy_channel c.args.machine.now) c.loop-number.number (omega (arith, c.loop-number.auto.number-end, c.loop-number-test.false)) c.loop-number.invariant
+unfolding all_channels
+returns g c = none_found (busy_channel c.args.machine.now) channel_number c.loop-place.place channel_count (omega arith) c.loop-place.invariant

@@ -1,17 +1,23 @@
-use Rattle.std.proofs.Common.{sym, arith}
+use Rattle.std.proofs.Common.{arith}
+use Rattle.pp_machine.specs.PpNo.{all_processors, processor_count, processor_number}
 use Rattle.pp_listing.specs.Dump.{busy_processor}
-use Rattle.pp_listing.proofs.GoingOnLemmas.{none_before, none_more, first_found, none_found}
+use Rattle.pp_listing.proofs.GoingOnLemmas.{none_before, none_more, first_found, none_found, in_processor_there}
 use Rattle.pp_listing.proofs.going_on.first_processor.Goals as goal
 
-pub loop-number-init : goal.loop-number-init
-loop-number-init g c = none_before (busy_processor c.args.machine.now)
+pub loop-place-init : goal.loop-place-init
+loop-place-init g c = none_before (busy_processor c.args.machine.now) processor_number
 
 pub returns-in-Some : goal.returns-in-Some
+unfolding all_processors
 returns-in-Some g c =
-    first_found (busy_processor c.args.machine.now) c.loop-number.number c.in-Some.going_on (omega (arith, c.loop-number-test.true)) c.loop-number.invariant (sym c.in-Some.ensures)
+    first_found (busy_processor c.args.machine.now) processor_number c.loop-place.place processor_count c.in-Some.going_on (omega (arith, c.loop-place-test.true)) c.loop-place.invariant
+    (in_processor_there c.args.machine.now _ c.at-n.result c.pp.result.now _ c.at-n.ensures.number c.pp.ensures c.in-Some.ensures)
 
-pub loop-number-preserved : goal.loop-number-preserved
-loop-number-preserved g c = none_more (busy_processor c.args.machine.now) c.loop-number.number c.loop-number.invariant (sym c.in_default.ensures)
+pub loop-place-preserved : goal.loop-place-preserved
+loop-place-preserved g c =
+    none_more (busy_processor c.args.machine.now) processor_number c.loop-place.place c.loop-place.invariant
+    (in_processor_there c.args.machine.now _ c.at-n.result c.pp.result.now _ c.at-n.ensures.number c.pp.ensures c.in_default.ensures)
 
 pub returns : goal.returns
-returns g c = none_found (busy_processor c.args.machine.now) c.loop-number.number (omega (arith, c.loop-number.auto.number-end, c.loop-number-test.false)) c.loop-number.invariant
+unfolding all_processors
+returns g c = none_found (busy_processor c.args.machine.now) processor_number c.loop-place.place processor_count (omega arith) c.loop-place.invariant

@@ -1,6 +1,7 @@
+use Rattle.pp_machine.specs.PpNo.{processor_number}
 use Rattle.pp_listing.specs.Dump.{busy_processor}
 use Rattle.pp_listing.proofs.GoingOnLemmas.{IsNoneBefore}
 use Rattle.pp_listing.proofs.going_on.first_processor.Given as goal
 
-abbrev pub invariant-loop-number : goal.invariant-loop-number
-invariant-loop-number g l = IsNoneBefore (busy_processor l.machine) l.number
+abbrev pub invariant-loop-place : goal.invariant-loop-place
+invariant-loop-place g l = IsNoneBefore (busy_processor l.machine) processor_number l.place

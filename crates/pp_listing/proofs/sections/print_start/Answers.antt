@@ -1,4 +1,4 @@
-use Rattle.std.proofs.Common.{sym, rules, ◌∙◌, ◌≡◌}
+use Rattle.std.proofs.Common.{rules, ◌∙◌, ◌≡◌}
 use Rattle.pp_machine.specs.declared.pp_state.PpState.TheVariants.{Running}
 use Rattle.pp_text.specs.PrintingLaws.{prints_on, prints_then}
 use Rattle.pp_listing.proofs.TextLemmas.{start_pieces}

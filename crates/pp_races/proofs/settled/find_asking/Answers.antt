@@ -1,7 +1,4 @@
-use Rattle.std.proofs.Common.{◌≡◌, ◌++◌, true, Some, None, sym, ap, ◌∙◌, append-nil}
-use Rattle.pp_channel.specs.Answer.{flags_of}
-use Rattle.pp_machine.specs.MachineState.{processor_of}
-use Rattle.pp_races.specs.OtherFlags.{waits_at}
+use Rattle.std.proofs.Common.{Some, sym, ◌∙◌}
 use Rattle.pp_races.proofs.EndLemmas.{held_found, none_held_found}
 use Rattle.pp_races.proofs.settled.find_asking.Goals as goal
 

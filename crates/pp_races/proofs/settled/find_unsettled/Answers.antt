@@ -1,4 +1,4 @@
-use Rattle.std.proofs.Common.{◌≡◌, ℕ, ◌<◌, IsTrue, subst, sym, ap, ◌∙◌, ◌++◌, inl, inr, arith}
+use Rattle.std.proofs.Common.{◌≡◌, ℕ, subst, ap, ◌∙◌, ◌++◌, inl, inr, arith}
 use Rattle.std.proofs.lemmas.Bool.{cases_lt}
 use Rattle.pp_machine.specs.PpNo.{processor_count, processor_index, processor_number}
 use Rattle.pp_machine.specs.ProcessorPlaces as processor_places

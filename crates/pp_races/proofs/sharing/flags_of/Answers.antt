@@ -1,4 +1,4 @@
-use Rattle.std.proofs.Common.{◌≡◌, false, arith}
+use Rattle.std.proofs.Common.{false, arith}
 use Rattle.pp_word.specs.Tables.{tabulate_is}
 use Rattle.pp_machine.specs.PpNo.{processor_count, processor_number}
 use Rattle.pp_races.specs.Tables.{has_bit}

@@ -1,9 +1,8 @@
-use Rattle.std.proofs.Common.{◌≡◌, ℕ, IsTrue, subst, ap, ◌∙◌, ◌++◌, length, arith}
+use Rattle.std.proofs.Common.{ℕ, IsTrue, subst}
 use Rattle.pp_channel.specs.ChannelNo.{names_channel}
-use Rattle.pp_machine.specs.PpNo.{processor_count, processor_number}
+use Rattle.pp_machine.specs.PpNo.{processor_number}
 use Rattle.pp_races.specs.Tables.{closing_findings}
-use Rattle.pp_races.specs.Watch.{each_below}
-use Rattle.pp_races.proofs.CloseLemmas.{all_closed, closed_more, closed_none, found_more}
+use Rattle.pp_races.proofs.CloseLemmas.{closed_more, closed_none, found_more}
 use Rattle.pp_races.proofs.EndLemmas.{each_none}
 use Rattle.pp_races.proofs.watch.close_all.Goals as goal
 

@@ -1,30 +1,43 @@
-use Rattle.std.proofs.Common.{ℕ, All, arith, subst}
+use Rattle.std.proofs.Common.{◌≡◌, ℕ, ◌<◌, All, arith, subst}
 use Rattle.std.specs.Prelude.{IsTrue}
-use Rattle.pp_channel.specs.ChannelNo.{names_channel}
+use Rattle.std.specs.List.{flat_map}
+use Rattle.pp_word.specs.Tables.{tabulate}
+use Rattle.pp_channel.specs.ChannelNo.{all_channels, channel_count, channel_index, channel_number, names_channel}
+use Rattle.pp_channel.specs.ChannelPlaces.{number_named, number_of_place, place_below}
 use Rattle.pp_channel.specs.History.{history_on}
 use Rattle.pp_text.specs.TextWriter.{Prints}
-use Rattle.pp_text.specs.PrintedText.{each_below}
 use Rattle.pp_report.specs.PrintedReport.{channel_events}
 use Rattle.pp_report.specs.ReportLaw.{FitsItsLine, told_events}
-use Rattle.pp_text.specs.PrintingLaws.{prints_nothing, prints_on, each_below_zero, each_below_suc}
-use Rattle.pp_channel.specs.ChannelPlaces.{number_fits}
+use Rattle.pp_text.specs.PrintingLaws.{prints_nothing, prints_on, walk_zero, walk_more}
 use Rattle.pp_text.proofs.TextLawLemmas.{below_goes_on}
+use Rattle.pp_report.proofs.AuthorLemmas.{authors_here}
 use Rattle.pp_report.proofs.report_text.print_events.Goals as goal
 
-pub loop-number-init : goal.loop-number-init
-loop-number-init g c workers are = (rw (each_below_zero (channel_events workers c.args.channels.now)) (prints_nothing _ _), λ n within. absurd (omega (arith, within)))
+pub loop-place-init : goal.loop-place-init
+loop-place-init g c workers are = (rw (walk_zero (channel_events workers c.args.channels.now) channel_number) (prints_nothing _ _), λ k within. absurd (omega (arith, within)))
 
-pub loop-number-preserved : goal.loop-number-preserved
-loop-number-preserved g c workers are =
-    let so_far = c.loop-number.invariant workers are in (
-      prints_on _ _ _ _ _ _ _ so_far.0 (c.print_channel_events.ensures.text workers are) (each_below_suc c.loop-number.number _),
-      below_goes_on (λ (n : ℕ). IsTrue (names_channel n) → All FitsItsLine (told_events n workers (history_on n c.args.channels.now)))
-          c.loop-number.number so_far.1 (c.print_channel_events.ensures.fits workers are),
+pub loop-place-preserved : goal.loop-place-preserved
+loop-place-preserved g c workers are =
+    let number = c.at-c.ensures.number in
+    let so_far = c.loop-place.invariant workers are in
+    let below : c.loop-place.place < channel_count = omega arith in
+    let names : IsTrue (names_channel c.at-c.result) = rw number (number_named c.loop-place.place below) in
+    let here = authors_here c.at-c.result c.index.result workers c.args.channels.now c.args.authors.now c.channel_of.result.now c.index-authors-index.result names
+    c.index.ensures.place (omega (arith, c.index.ensures.below, c.requires)) c.index-authors-index.is c.channel_of.ensures are in (
+      prints_on _ _ _ _ _ _ _ so_far.0 (rw (c.channel_of.ensures, number) at (c.print_history.ensures.text workers here))
+          (walk_more (channel_events workers c.args.channels.now) channel_number c.loop-place.place),
+      below_goes_on (λ (k : ℕ). All FitsItsLine (told_events (channel_number k) workers (history_on (channel_number k) c.args.channels.now)))
+          c.loop-place.place so_far.1 (rw (c.channel_of.ensures, number) at (c.print_history.ensures.fits workers here)),
     )
 
 pub returns-clause-text : goal.returns-clause-text
+unfolding all_channels
 returns-clause-text g c workers are =
-    subst (λ (k : ℕ). Prints g.W.Write.contents c.args.text.now c.loop-number.text (each_below k (channel_events workers c.args.channels.now))) (omega (arith, c.loop-number-test.false, c.loop-number.auto.number-end)) (c.loop-number.invariant workers are).0
+    let all : c.loop-place.place ≡ channel_count = omega arith in
+    subst (λ (k : ℕ). Prints g.W.Write.contents c.args.text.now c.loop-place.text (flat_map (channel_events workers c.args.channels.now) (tabulate k channel_number))) all (c.loop-place.invariant workers are).0
 
 pub returns-clause-fits : goal.returns-clause-fits
-returns-clause-fits g c workers are = λ n is. let low = number_fits n is in (c.loop-number.invariant workers are).1 n (omega (arith, low)) is
+returns-clause-fits g c workers are = λ n is.
+    let within : channel_index n < c.loop-place.place = omega (arith, place_below n is) in
+    subst (λ (k : ℕ). All FitsItsLine (told_events k workers (history_on k c.args.channels.now))) (number_of_place n is)
+    ((c.loop-place.invariant workers are).1 (channel_index n) within)

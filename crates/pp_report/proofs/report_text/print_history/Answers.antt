@@ -1,11 +1,10 @@
-use Rattle.std.proofs.Common.{◌<◌, ◌∙◌, ◌++◌, ℕ, List, All, ap, length, rules, subst}
+use Rattle.std.proofs.Common.{◌<◌, ◌∙◌, List, All, length, rules, subst}
 use Rattle.std.proofs.lemmas.List.{take_all}
 use Rattle.pp_channel.specs.declared.event.Event.{Event}
 use Rattle.pp_text.specs.PrintingLaws.{prints_nothing, prints_on}
 use Rattle.pp_report.proofs.EventLineLemmas.{lines_go_on}
 use Rattle.pp_report.proofs.ReportLawLemmas.{tellings_go_on}
-use Rattle.pp_report.specs.PrintedReport.{author_place, line_by}
-use Rattle.pp_text.specs.TextWriter.{Prints}
+use Rattle.pp_report.specs.PrintedReport.{author_place}
 use Rattle.pp_report.specs.ReportLaw.{FitsItsLine, told_events}
 use Rattle.pp_report.proofs.report_text.print_history.Goals as goal
 
@@ -20,13 +19,11 @@ loop-number-preserved g c workers are =
     let below : number < length c.args.channel.now = rw c.history-event-items.ensures.value at listed in
     let event = rw c.history-event-items.ensures.value at c.event-item.is in
     let by : _ = c.of.ensures ∙ are number below in
-    let place = author_place c.args.c workers number in
-    let printed : Prints _ c.loop-number.text c.print.new.self (line_by c.args.c number c.event-item.result place) =
-    subst (Prints _ _ _) (c.as_slice.ensures.bytes ∙ c.push_event_by.ensures.text place by ∙ ap (λ (start : List ℕ). start ++ line_by c.args.c number c.event-item.result place) c.clear.ensures) c.print.ensures in (
-      prints_on _ _ _ _ _ _ _ so_far.0 printed
+    let place = author_place c.args.c workers number in (
+      prints_on _ _ _ _ _ _ _ so_far.0 (c.print_event_by.ensures.text place by)
           (lines_go_on c.args.c number workers c.args.channel.now c.event-item.result below event),
       tellings_go_on c.args.c number workers c.args.channel.now c.event-item.result below event
-          so_far.1 (c.push_event_by.ensures.fits (author_place c.args.c workers number) by),
+          so_far.1 (c.print_event_by.ensures.fits place by),
     )
 
 pub returns-clause-fits : goal.returns-clause-fits

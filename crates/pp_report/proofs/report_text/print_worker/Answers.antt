@@ -1,13 +1,12 @@
-use Rattle.std.proofs.Common.{◌≡◌, ◌∙◌, ◌++◌, ℕ, List, Some, None, sym, ap}
+use Rattle.std.proofs.Common.{◌≡◌, Some, None, sym, ap}
 use Rattle.std.specs.Prelude.{slice_get}
 use Rattle.std.proofs.lemmas.Option.{slice_get-get_or, slice_get_past}
 use Rattle.pp_machine.specs.PpNo.{processor_index}
-use Rattle.pp_report.specs.PrintedReport.{worker_line}
-use Rattle.pp_text.specs.PrintingLaws.{prints_nothing, prints_on}
+use Rattle.pp_text.specs.PrintingLaws.{prints_nothing}
 use Rattle.pp_report.proofs.report_text.print_worker.Goals as goal
 
 -- the worker that was found is the processor's
-found : (g : _) (c : goal.After-print g) → slice_get c.args.workers.now (processor_index c.args.n) ≡ Some c.in-Some.worker.now
+found : (g : _) (c : goal.After-print_worker_line g) → slice_get c.args.workers.now (processor_index c.args.n) ≡ Some c.in-Some.worker.now
 found g c =
     rw (← c.index.ensures.place, slice_get-get_or c.args.workers.now c.index.result c.in-Some.worker.now c.in-Some.ensures.lookup.3.0) (ap Some (sym c.in-Some.ensures.lookup.1))
 
@@ -16,11 +15,10 @@ missing g c = rw (← c.index.ensures.place) (slice_get_past c.args.workers.now 
 
 pub returns-in-Some-clause-text : goal.returns-in-Some-clause-text
 returns-in-Some-clause-text g c =
-    prints_on _ _ _ _ _ _ _ (prints_nothing _ _) c.print.ensures
-    (c.as_slice.ensures.bytes ∙ c.push_worker.ensures.text ∙ ap (λ (start : List ℕ). start ++ worker_line c.args.n (Some c.in-Some.worker.now)) c.new-line.ensures ∙ ap (worker_line c.args.n) (sym (found g c)))
+    rw (found g c) c.print_worker_line.ensures.text
 
 pub returns-in-Some-clause-fits : goal.returns-in-Some-clause-fits
-returns-in-Some-clause-fits g c = rw (found g c) c.push_worker.ensures.fits
+returns-in-Some-clause-fits g c = rw (found g c) c.print_worker_line.ensures.fits
 
 pub returns-in_default-clause-text : goal.returns-in_default-clause-text
 returns-in_default-clause-text g c = rw (missing g c) (prints_nothing _ _)

@@ -1,5 +1,4 @@
-use Rattle.std.proofs.Common.{◌≡◌, ℕ, List, ◌++◌, Some, sym, ap, subst, ◌∙◌}
-use Rattle.pp_text.specs.TextWriter.{Prints}
+use Rattle.std.proofs.Common.{◌≡◌, Some, sym, ◌∙◌}
 use Rattle.pp_sessions.specs.SessionsText.{one_word}
 use Rattle.pp_sessions.specs.Stretches.{word_of}
 use Rattle.pp_sessions.proofs.WordLemmas.{one_entry}
@@ -11,5 +10,4 @@ returns-clause-words g c =
     let word = c.in-Some.word in
     let here : entry.channel ≡ c.args.c = sym c.get.ensures.value ∙ c.if-get.false ∙ c.get-2.ensures.value in
     let made : word_of entry.event ≡ Some word = sym c.word_of.ensures ∙ c.in-Some.is in
-    let text : c.as_slice.result.now ≡ one_word c.args.count word = c.as_slice.ensures.bytes ∙ c.push_word.ensures ∙ ap (λ (xs : List ℕ). xs ++ one_word c.args.count word) c.clear.ensures in
-    (one_word c.args.count word, subst (Prints _ _ _) text c.print.ensures, λ rest. one_entry c.args.c entry c.args.count word rest here made)
+    (one_word c.args.count word, c.print_word.ensures, λ rest. one_entry c.args.c entry c.args.count word rest here made)

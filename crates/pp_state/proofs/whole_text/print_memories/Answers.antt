@@ -1,18 +1,27 @@
-use Rattle.std.proofs.Common.{arith}
-use Rattle.pp_text.specs.PrintingLaws.{prints_all, prints_more, prints_nothing}
+use Rattle.std.proofs.Common.{◌≡◌, ℕ, sym, ap, ◌∙◌, subst, arith}
+use Rattle.std.specs.List.{flat_map}
+use Rattle.std.proofs.lemmas.List.Concat.{flat_map-append}
+use Rattle.pp_word.specs.Tables.{tabulate}
+use Rattle.pp_machine.specs.PpNo.{all_processors, processor_count, processor_number}
+use Rattle.pp_text.specs.TextWriter.{Prints}
+use Rattle.pp_text.specs.PrintingLaws.{prints_nothing, prints_on, walk_zero, walk_more}
 use Rattle.pp_listing.specs.ListedLine.{deck_line}
-use Rattle.pp_listing.specs.Listing.{numbers}
 use Rattle.pp_state.specs.Changes.{changed_section}
 use Rattle.pp_state.proofs.whole_text.print_memories.Goals as goal
 
-pub loop-number-init : goal.loop-number-init
-loop-number-init g c = prints_nothing _ _
+pub loop-place-init : goal.loop-place-init
+loop-place-init g c = rw (walk_zero (changed_section c.args.before.now c.args.after.now) processor_number) (prints_nothing _ _)
 
-pub loop-number-preserved : goal.loop-number-preserved
-loop-number-preserved g c =
-    prints_more _ _ _ _ deck_line (changed_section c.args.before.now c.args.after.now) c.loop-number.number c.loop-number.invariant c.print_memory.ensures
+pub loop-place-preserved : goal.loop-place-preserved
+loop-place-preserved g c =
+    let section = changed_section c.args.before.now c.args.after.now in
+    let place = c.loop-place.place in
+    prints_on _ _ _ _ _ _ _ c.loop-place.invariant (rw c.at.ensures.number at c.print_memory.ensures)
+    (sym (flat_map-append deck_line (flat_map section (tabulate place processor_number)) (section (processor_number place)))
+    ∙ ap (flat_map deck_line) (walk_more section processor_number place))
 
 pub returns : goal.returns
-unfolding numbers
+unfolding all_processors
 returns g c =
-    prints_all _ _ _ deck_line (changed_section c.args.before.now c.args.after.now) c.loop-number.number 0o100 (omega (arith, c.loop-number.auto.number-end, c.loop-number-test.false)) c.loop-number.invariant
+    let all : c.loop-place.place ≡ processor_count = omega arith in
+    subst (λ (k : ℕ). Prints g.W.Write.contents c.args.text.now c.loop-place.text (flat_map deck_line (flat_map (changed_section c.args.before.now c.args.after.now) (tabulate k processor_number)))) all c.loop-place.invariant

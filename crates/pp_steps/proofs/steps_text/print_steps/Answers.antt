@@ -1,22 +1,24 @@
-use Rattle.std.proofs.Common.{◌≡◌, ◌<◌, ◌+◌, ◌%◌, ◌++◌, ℕ, [], ◌∷◌, List, sym, subst, ap, ◌∙◌, cond, arith}
-use Rattle.std.specs.Prelude.{Bool, IsTrue, replicate}
+use Rattle.std.proofs.Common.{◌≡◌, ◌<◌, ◌+◌, ◌%◌, ◌++◌, ℕ, [], ◌∷◌, List, length, sym, subst, ap, ◌∙◌, cond, arith}
+use Rattle.std.specs.Prelude.{Bool, replicate}
 use Rattle.pp_machine.specs.MachineState.{MachineState}
 use Rattle.pp_machine.specs.MachineStep.{stepped}
-use Rattle.pp_machine.specs.PpNo.{names_processor, processor_count, processor_number}
+use Rattle.pp_machine.specs.PpNo.{processor_count, processor_index, processor_number}
 use Rattle.pp_machine.specs.Profile.{processor_in_turn, processors_in}
 use Rattle.pp_machine.specs.Run.{barrel, run}
-use Rattle.pp_machine.specs.ProcessorPlaces.{number_named}
-use Rattle.pp_machine.specs.ProfilePlaces.{most_processors, rest_within}
 use Rattle.pp_machine.specs.RunLaws.{barrel_more}
 use Rattle.pp_run.specs.RunSteps.{RunStep}
 use Rattle.pp_text.specs.TextWriter.{Prints}
 use Rattle.pp_text.specs.PrintingLaws.{prints_nothing, prints_then}
 use Rattle.pp_run.specs.BareMachine.{StandsFor, progress}
 use Rattle.pp_steps.specs.Choice.{chosen_steps, is_chosen}
+use Rattle.pp_steps.specs.Cursor.{each_cursor, no_cursor, past_step}
 use Rattle.pp_steps.specs.declared.cursor.Cursor.{Cursor}
+use Rattle.pp_word.specs.Tables.{length-tabulate}
 use Rattle.pp_steps.specs.StepsText.{kind_text, steps_text}
-use Rattle.pp_steps.proofs.ChosenSteps.{all_chosen, chosen_from, chosen_more, next_chosen, none_chosen, none_left, step_in}
-use Rattle.pp_steps.proofs.TextOfSteps.{AreFollowed, IsSoFar, everything, none_followed, nothing_so_far, turn_followed, turn_told}
+use Rattle.pp_steps.proofs.ChosenSteps.{all_chosen, chosen_from, chosen_more, chosen_parts, few_chosen, next_chosen, none_chosen, none_left, place_low, step_in}
+use Rattle.pp_steps.proofs.TextOfSteps.{IsSoFar, everything, nothing_so_far, turn_told}
+use Rattle.pp_steps.proofs.CountedRuns.{made_few, made_more, none_made}
+use Rattle.pp_steps.proofs.RunCountLemmas.{times_grow}
 use Rattle.pp_steps.proofs.steps_text.print_steps.Goals as goal
 
 pub loop-turn-init : goal.loop-turn-init
@@ -27,14 +29,10 @@ loop-turn-init g c =
     let all = chosen_steps choice (barrel p c.args.turns) m in
     let none = sym (none_chosen choice p m) in
     let come = sym (all_chosen choice p c.args.turns m) in
-    let runs = c.args.runs.now.items in
-    let cursors : List Cursor = replicate processor_count c.new-cursors.result in
     record {
       before = c.requires.before;
       after = c.requires.after;
-      followed = subst (λ (past : List RunStep). AreFollowed 0 past (chosen_from choice p 0 c.args.turns m) runs cursors) none
-          (subst (λ (future : List RunStep). AreFollowed 0 [] future runs cursors) come
-          (none_followed all runs cursors c.requires.counted (ap (replicate processor_count) c.new-cursors.ensures)));
+      followed = ap (replicate processor_count) c.new-cursors.ensures ∙ none_made past_step no_cursor ∙ ap each_cursor none;
       printed = (
         [],
         prints_nothing _ _,
@@ -42,6 +40,24 @@ loop-turn-init g c =
             (subst (λ (future : List RunStep). IsSoFar all [] future []) come (nothing_so_far all)),
       );
     }
+
+pub pass_step-kind-requires-clause-as_many : goal.pass_step-kind-requires-clause-as_many
+pass_step-kind-requires-clause-as_many g c = ap length c.requires.counted ∙ length-tabulate processor_count _
+
+pub pass_step-kind-requires-clause-low : goal.pass_step-kind-requires-clause-low
+pass_step-kind-requires-clause-low g c =
+    let p = c.args.machine.now.profile in
+    let m = c.args.machine.now in
+    let t = c.loop-turn.turn in
+    let n = c.at-n.result in
+    let round : c.processors-round.result ≡ processors_in p = c.processors-round.ensures ∙ ap processors_in c.profile.ensures in
+    let place : processor_index n < processor_count = place_low p t _ _ round c.at-n.ensures.place in
+    omega (
+      arith,
+      made_few past_step no_cursor (λ (x : Cursor). x.times) times_grow c.loop-turn.cursors (chosen_steps c.args.choice.now (barrel p t) m) n place c.loop-turn.invariant.followed,
+      few_chosen c.args.choice.now p t m,
+      c.loop-turn-test.true,
+    )
 
 pub loop-turn-preserved : goal.loop-turn-preserved
 loop-turn-preserved g c =
@@ -54,8 +70,7 @@ loop-turn-preserved g c =
     let low : t < c.args.turns = omega (arith, c.loop-turn-test.true) in
     let round : c.processors-round.result ≡ processors_in p = c.processors-round.ensures ∙ ap processors_in c.profile.ensures in
     let is : n ≡ processor_in_turn p t = c.at-n.ensures.number ∙ ap (λ (r : ℕ). processor_number (t % r)) round in
-    let within : t % processors_in p < processor_count = omega (arith, rest_within p t, most_processors p) in
-    let names : IsTrue (names_processor n) = subst (λ (k : ℕ). IsTrue (names_processor k)) (sym is) (number_named (t % processors_in p) within) in
+    let place : processor_index n < processor_count = place_low p t _ _ round c.at-n.ensures.place in
     let after : run (barrel p (t + 1)) m ≡ stepped n old = barrel_more p t m ∙ ap (λ (k : ℕ). stepped k old) (sym is) in
     let stands = c.step-step.ensures.stepped old c.loop-turn.invariant.after in
     let made : c.step-step.result ≡ progress n old = c.step-step.ensures.progress old c.loop-turn.invariant.after in
@@ -69,23 +84,18 @@ loop-turn-preserved g c =
     next_chosen choice p t c.args.turns m n is low ∙ ap (λ (x : Bool). cond x (step ∷ future) future) (sym chosen) in
     let gone : cond b (past ++ step ∷ []) past ≡ chosen_steps choice (barrel p (t + 1)) m =
     ap (λ (x : Bool). cond x (past ++ step ∷ []) past) chosen ∙ chosen_more choice p t m n is in
-    let runs = c.args.runs.now.items in
-    let cursors = c.loop-turn.cursors in
-    let new = c.pass_step-kind.new.cursors in
+    let parts : past ++ cond b (step ∷ future) future ≡ all = ap (λ (steps : List RunStep). past ++ steps) (sym come) ∙ chosen_parts choice p t c.args.turns m (omega (arith, low)) in
     let kind = c.pass_step-kind.result in
     let (text, prints, so_far) = c.loop-turn.invariant.printed in
-    let followed : AreFollowed t past (cond b (step ∷ future) future) runs cursors = subst (λ (steps : List RunStep). AreFollowed t past steps runs cursors) come c.loop-turn.invariant.followed in
     record {
       before = subst (λ (x : MachineState). StandsFor c.step-same.new.self x) (sym after) (c.step-same.ensures.stepped old c.loop-turn.invariant.before);
       after = subst (λ (x : MachineState). StandsFor c.step-step.new.self x) (sym after) stands;
-      followed = subst (λ (steps : List RunStep). AreFollowed (t + 1) steps future runs new) gone
-          (turn_followed b t past future runs cursors new step c.step-step.result kind names made followed
-          c.pass_step-kind.ensures.others c.pass_step-kind.ensures.own c.pass_step-kind.ensures.unchosen c.pass_step-kind.ensures.most);
+      followed = c.pass_step-kind.ensures.cursors ∙ made_more past_step no_cursor c.loop-turn.cursors b past step c.step-step.result place made c.loop-turn.invariant.followed ∙ ap each_cursor gone;
       printed = (
         text ++ kind_text kind n old,
         prints_then _ _ _ _ text _ prints (c.print_line.ensures old c.loop-turn.invariant.before stands),
         subst (λ (steps : List RunStep). IsSoFar all steps future (text ++ kind_text kind n old)) gone
-            (turn_told b all t past future runs cursors new step c.step-step.result kind text names made followed c.pass_step-kind.ensures.own c.pass_step-kind.ensures.unchosen
+            (turn_told b all past future c.args.runs.now.items c.loop-turn.cursors step c.step-step.result kind text place made c.requires.counted c.loop-turn.invariant.followed parts c.pass_step-kind.ensures.line
             (subst (λ (steps : List RunStep). IsSoFar all past steps text) come so_far)),
       );
     }

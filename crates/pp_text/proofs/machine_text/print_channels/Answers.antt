@@ -1,22 +1,35 @@
-use Rattle.std.proofs.Common.{ℕ, arith}
-use Rattle.std.specs.Prelude.{IsTrue}
-use Rattle.pp_channel.specs.ChannelNo.{names_channel}
+use Rattle.std.proofs.Common.{◌≡◌, ℕ, ◌<◌, subst, arith}
+use Rattle.std.specs.List.{flat_map}
+use Rattle.pp_word.specs.Tables.{tabulate}
+use Rattle.pp_channel.specs.ChannelNo.{all_channels, channel_count, channel_index, channel_number}
+use Rattle.pp_channel.specs.ChannelPlaces.{number_of_place, place_below}
 use Rattle.pp_channel.specs.History.{history_on}
 use Rattle.pp_text.specs.TextLaw.{HistoryFits}
+use Rattle.pp_text.specs.TextWriter.{Prints}
 use Rattle.pp_text.specs.PrintedText.{used_channel_line}
-use Rattle.pp_text.specs.PrintingLaws.{prints_nothing, prints_on, each_below_zero, each_below_suc}
-use Rattle.pp_channel.specs.ChannelPlaces.{number_fits}
+use Rattle.pp_text.specs.PrintingLaws.{prints_nothing, prints_on, walk_zero, walk_more}
 use Rattle.pp_text.proofs.TextLawLemmas.{below_goes_on}
 use Rattle.pp_text.proofs.machine_text.print_channels.Goals as goal
 
-pub loop-number-init : goal.loop-number-init
-loop-number-init g c = (rw (each_below_zero (used_channel_line c.args.machine.now.histories)) (prints_nothing _ _), λ n within. absurd (omega (arith, within)))
+pub loop-place-init : goal.loop-place-init
+loop-place-init g c = (rw (walk_zero (used_channel_line c.args.machine.now.histories) channel_number) (prints_nothing _ _), λ k within. absurd (omega (arith, within)))
 
-pub loop-number-preserved : goal.loop-number-preserved
-loop-number-preserved g c = (
-  prints_on _ _ _ _ _ _ _ c.loop-number.invariant.0 c.print_used_channel.ensures.text (each_below_suc c.loop-number.number _),
-  below_goes_on (λ (n : ℕ). IsTrue (names_channel n) → HistoryFits (history_on n c.args.machine.now.histories)) c.loop-number.number c.loop-number.invariant.1 c.print_used_channel.ensures.fits,
-)
+pub loop-place-preserved : goal.loop-place-preserved
+loop-place-preserved g c =
+    let number = c.at-c.ensures.number in (
+      prints_on _ _ _ _ _ _ _ c.loop-place.invariant.0 (rw (c.channel.ensures.value, number) at c.print_channel_line.ensures.text)
+          (walk_more (used_channel_line c.args.machine.now.histories) channel_number c.loop-place.place),
+      below_goes_on (λ (k : ℕ). HistoryFits (history_on (channel_number k) c.args.machine.now.histories)) c.loop-place.place c.loop-place.invariant.1
+          (rw (c.channel.ensures.value, number) at c.print_channel_line.ensures.fits),
+    )
+
+pub returns-clause-text : goal.returns-clause-text
+unfolding all_channels
+returns-clause-text g c =
+    let all : c.loop-place.place ≡ channel_count = omega arith in
+    subst (λ (k : ℕ). Prints g.W.Write.contents c.args.text.now c.loop-place.text (flat_map (used_channel_line c.args.machine.now.histories) (tabulate k channel_number))) all c.loop-place.invariant.0
 
 pub returns-clause-fits : goal.returns-clause-fits
-returns-clause-fits g c = λ n is. let low = number_fits n is in c.loop-number.invariant.1 n (omega (arith, low)) is
+returns-clause-fits g c = λ n is.
+    let within : channel_index n < c.loop-place.place = omega (arith, place_below n is) in
+    subst (λ (k : ℕ). HistoryFits (history_on k c.args.machine.now.histories)) (number_of_place n is) (c.loop-place.invariant.1 (channel_index n) within)

@@ -1,6 +1,5 @@
 use Rattle.std.proofs.Common.{◌<◌, length, arith, refl, rules}
 use Rattle.pp_text.specs.PrintingLaws.{prints_nothing, prints_on}
-use Rattle.pp_text.proofs.TextWriterLemmas.{prints_line}
 use Rattle.pp_text.proofs.TextLawLemmas.{events_go_on, told_so_far}
 use Rattle.pp_text.proofs.machine_text.print_events.Goals as goal
 
@@ -10,7 +9,7 @@ loop-entry-init g c = (prints_nothing _ _, search rules)
 pub loop-entry-preserved : goal.loop-entry-preserved
 loop-entry-preserved g c =
     let within : c.loop-entry.entry-index < length c.args.events.now = omega arith in (
-      prints_on _ _ _ _ _ _ _ c.loop-entry.invariant.0 (prints_line _ _ _ _ _ c.make_room.ensures.nothing_more refl refl c.push_event.ensures.text)
+      prints_on _ _ _ _ _ _ _ c.loop-entry.invariant.0 c.print_event.ensures.text
           (events_go_on c.args.events.now c.loop-entry.entry-index c.entry-item.result within c.entry-item.is),
-      told_so_far c.args.events.now c.loop-entry.entry-index c.entry-item.result within c.entry-item.is c.loop-entry.invariant.1 c.push_event.ensures.fits,
+      told_so_far c.args.events.now c.loop-entry.entry-index c.entry-item.result within c.entry-item.is c.loop-entry.invariant.1 c.print_event.ensures.fits,
     )

@@ -1,21 +1,38 @@
-use Rattle.std.proofs.Common.{ℕ, arith}
-use Rattle.std.specs.Prelude.{IsTrue}
+use Rattle.std.proofs.Common.{◌≡◌, ℕ, ◌<◌, subst, sym, arith}
+use Rattle.std.specs.Prelude.{IsTrue, slice_index_or}
+use Rattle.std.specs.List.{flat_map}
+use Rattle.pp_word.specs.Tables.{tabulate}
 use Rattle.pp_machine.specs.MachineState.{processor_of}
-use Rattle.pp_machine.specs.PpNo.{is_named}
-use Rattle.pp_text.specs.PrintedText.{named_processor_line}
+use Rattle.pp_machine.specs.PpNo.{all_processors, is_named, names_processor, processor_count, processor_index, processor_number}
+use Rattle.pp_machine.specs.ProcessorPlaces.{number_of_place, place_below}
 use Rattle.pp_text.specs.TextLaw.{ProcessorFits}
-use Rattle.pp_text.specs.PrintingLaws.{prints_nothing, prints_on, each_below_zero, each_below_suc}
-use Rattle.pp_text.proofs.TextLawLemmas.{below_goes_on, named_digits}
+use Rattle.pp_text.specs.TextWriter.{Prints}
+use Rattle.pp_text.specs.PrintedText.{named_processor_line}
+use Rattle.pp_text.specs.PrintingLaws.{prints_nothing, prints_on, walk_zero, walk_more}
+use Rattle.pp_text.proofs.TextLawLemmas.{below_goes_on, left_true}
 use Rattle.pp_text.proofs.machine_text.print_processors.Goals as goal
 
-pub loop-number-init : goal.loop-number-init
-loop-number-init g c = (rw (each_below_zero (named_processor_line c.args.named.now c.args.machine.now)) (prints_nothing _ _), λ n within. absurd (omega (arith, within)))
+pub loop-place-init : goal.loop-place-init
+loop-place-init g c = (rw (walk_zero (named_processor_line c.args.named.now c.args.machine.now) processor_number) (prints_nothing _ _), λ k within. absurd (omega (arith, within)))
 
-pub loop-number-preserved : goal.loop-number-preserved
-loop-number-preserved g c = (
-  prints_on _ _ _ _ _ _ _ c.loop-number.invariant.0 c.print_named_processor.ensures.text (each_below_suc c.loop-number.number _),
-  below_goes_on (λ (n : ℕ). IsTrue (is_named c.args.named.now n) → ProcessorFits (processor_of n c.args.machine.now)) c.loop-number.number c.loop-number.invariant.1 c.print_named_processor.ensures.fits,
+pub loop-place-preserved : goal.loop-place-preserved
+loop-place-preserved g c = (
+  prints_on _ _ _ _ _ _ _ c.loop-place.invariant.0 (rw c.at.ensures.number at c.print_named_processor.ensures.text)
+      (walk_more (named_processor_line c.args.named.now c.args.machine.now) processor_number c.loop-place.place),
+  below_goes_on (λ (k : ℕ). IsTrue (is_named c.args.named.now (processor_number k)) → ProcessorFits (processor_of (processor_number k) c.args.machine.now)) c.loop-place.place c.loop-place.invariant.1
+      (rw c.at.ensures.number at c.print_named_processor.ensures.fits),
 )
 
+pub returns-clause-text : goal.returns-clause-text
+unfolding all_processors
+returns-clause-text g c =
+    let all : c.loop-place.place ≡ processor_count = omega arith in
+    subst (λ (k : ℕ). Prints g.W.Write.contents c.args.text.now c.loop-place.text (flat_map (named_processor_line c.args.named.now c.args.machine.now) (tabulate k processor_number))) all c.loop-place.invariant.0
+
 pub returns-clause-fits : goal.returns-clause-fits
-returns-clause-fits g c = λ n is. let low = named_digits c.args.named.now n is in c.loop-number.invariant.1 n (omega (arith, low)) is
+returns-clause-fits g c = λ n is.
+    let names = left_true (names_processor n) _ is in
+    let again = number_of_place n names in
+    let within : processor_index n < c.loop-place.place = omega (arith, place_below n names) in
+    subst (λ (k : ℕ). ProcessorFits (processor_of k c.args.machine.now)) again
+    (c.loop-place.invariant.1 (processor_index n) within (subst (λ (k : ℕ). IsTrue (is_named c.args.named.now k)) (sym again) is))

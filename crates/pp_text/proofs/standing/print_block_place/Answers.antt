@@ -1,6 +1,6 @@
 use Rattle.std.proofs.Common.{◌++◌, Option, ap, codes, sym, ◌∙◌, ℕ}
 use Rattle.pp_machine.specs.declared.block.Block.{Block}
-use Rattle.pp_text.specs.Numeral.{octal}
+use Rattle.pp_word.specs.Numeral.{octal}
 use Rattle.pp_text.specs.PrintingLaws.{prints_on}
 use Rattle.pp_text.specs.Standing.{block_place_text}
 use Rattle.pp_text.proofs.standing.print_block_place.Goals as goal

@@ -2,11 +2,10 @@ use Rattle.std.proofs.Common.{refl, rules, ap, subst, ◌∙◌}
 use Rattle.pp_channel.specs.Answer.{flags_of}
 use Rattle.pp_text.specs.TextWriter.{Prints}
 use Rattle.pp_text.proofs.TextLemmas.{held_is}
-use Rattle.pp_text.proofs.TextWriterLemmas.{prints_line}
 use Rattle.pp_text.proofs.standing.print_held.Goals as goal
 
 pub returns-in-Channel : goal.returns-in-Channel
 returns-in-Channel g c =
     subst (Prints _ _ _) (held_is c.args.n c.in-Channel.c c.in-Channel.operation c.args.machine.now c.args.count c.flags.result (search rules) (c.is_held.ensures.0 c.if-is_held.true)
     (c.flags.ensures ∙ ap flags_of c.channel.ensures.value))
-    (prints_line _ _ _ _ _ c.make_room.ensures.nothing_more refl refl c.push_held_text.ensures.text)
+    c.print_held_text.ensures

@@ -1,0 +1,160 @@
+-- Lists of numbers, number by number.
+use Rattle.std.proofs.Common.{◌≡◌, ℕ, ◌+◌, ◌==◌, ◌<◌, Bool, true, false, List, [], ◌∷◌, length, take, drop, replicate, Option, Some, None, refl, sym, ap, ◌∙◌, subst, arith, inl, inr}
+use Rattle.std.specs.Prelude.{◌&&◌, ◌||◌, All, IsSome, IsTrue, position, slice_index_or, slice_set}
+use Rattle.std.specs.List.{slice_split}
+use Rattle.std.proofs.lemmas.Bool.{cases_eq, eq-eqb, false≢true, ne_eqb}
+use Rattle.std.proofs.lemmas.List.{get_or_past, get_or-replicate, get_or-set_other, get_or-set_same, length-replicate, length-set}
+use Rattle.std.proofs.lemmas.List.Elements.{All-cons, All-head, All-nil, All-tail}
+use Rattle.std.proofs.lemmas.List.Quantifiers.{position-Some}
+use Rattle.std.proofs.lemmas.List.Splits.{slice_split_first, slice_split_none}
+use Rattle.std.proofs.lemmas.List.Sums.{fails_before_first}
+use mathlib.Core.Logic.{dite}
+use native.Mathlib.Decide.{dec_lt}
+use Rattle.pp_channel.specs.ChannelNo.{channel_count, channel_index, names_channel}
+use Rattle.pp_channel.specs.ChannelPlaces as channel_places
+use Rattle.pp_deck.proofs.FieldLemmas.{at_position, no_position}
+use Rattle.pp_deck.specs.DeckText.{Field, Fields}
+use Rattle.pp_machine.specs.PpNo.{is_named, names_processor, processor_count, processor_index}
+use Rattle.pp_machine.specs.ProcessorPlaces as processor_places
+use Rattle.pp_command.specs.ChannelList.{is_flagged_channel}
+use Rattle.pp_command.specs.NumberList.{AreFlagged, is_among, is_comma, numbered, numbers_of}
+
+-- ---- the numbers of a list, from left to right
+
+pub numbers_first : (text rest : List ℕ) (i : ℕ) → Some i ≡ position is_comma text → rest ≡ drop (i + 1) text → numbers_of text ≡ take i text ∷ numbers_of rest
+unfolding numbers_of
+numbers_first text rest i e h =
+    let here = at_position is_comma text _ i (sym e) in
+    let there = position-Some is_comma text i 0 (sym e) in
+    slice_split_first is_comma text 0 (omega (arith, here, there.0))
+    ∙ ap (λ (k : ℕ). take k text ∷ slice_split is_comma (drop (k + 1) text)) (sym here)
+    ∙ ap (λ (l : List ℕ). take i text ∷ slice_split is_comma l) (sym h)
+
+pub numbers_last : (text : List ℕ) → None ≡ position is_comma text → numbers_of text ≡ text ∷ []
+unfolding numbers_of
+numbers_last text e =
+    let past = no_position is_comma text _ refl (sym e) in
+    slice_split_none is_comma text (λ k d lt. fails_before_first is_comma text k d (omega (arith, lt, past)))
+
+-- ---- flags of the numbers so far
+
+abbrev pub IsNumber : (ℕ → Bool) → Field → Type 0
+IsNumber names number = IsSome (numbered names number)
+
+-- of a list of numbers all but some more are flagged
+pub record HasFlagged (names : ℕ → Bool) (places : ℕ) (is_flagged : List Bool → ℕ → Bool) (numbers : Fields) (flags : List Bool) (more : Fields) : Type 0 where
+  pub each_place : length flags ≡ places
+  pub all_if_more : All (IsNumber names) more → All (IsNumber names) numbers
+  pub more_if_all : All (IsNumber names) numbers → All (IsNumber names) more
+  pub flagged : (n : ℕ) → (is_flagged flags n || is_among names n more) ≡ is_among names n numbers
+
+-- at first none is
+pub none_flagged : (names : ℕ → Bool) (places : ℕ) (is_flagged : List Bool → ℕ → Bool) (numbers : Fields) → ((n : ℕ) → is_flagged (replicate places false) n ≡ false) → HasFlagged names places is_flagged numbers (replicate places false) numbers
+none_flagged names places is_flagged numbers none = record {
+  each_place = length-replicate places false;
+  all_if_more = λ all. all;
+  more_if_all = λ all. all;
+  flagged = λ n. ap (λ (b : Bool). b || is_among names n numbers) (none n);
+}
+
+or_assoc : (a b c : Bool) → ((a || b) || c) ≡ (a || (b || c))
+or_assoc true b c = refl
+or_assoc false b c = refl
+
+or_true : (b : Bool) → (b || true) ≡ true
+or_true true = refl
+or_true false = refl
+
+or_false : (b : Bool) → (b || false) ≡ b
+or_false true = refl
+or_false false = refl
+
+and_false : (b : Bool) → (b && false) ≡ false
+and_false true = refl
+and_false false = refl
+
+among_more : (names : ℕ → Bool) (n m : ℕ) (number : Field) (more : Fields) → numbered names number ≡ Some m → is_among names n (number ∷ more) ≡ ((m == n) || is_among names n more)
+among_more names n m number more is = rw is refl
+
+some : (names : ℕ → Bool) (number : Field) (m : ℕ) → numbered names number ≡ Some m → IsNumber names number
+some names number m is = rw is refl
+
+-- the next number is flagged
+pub flag_more : (names : ℕ → Bool) (places : ℕ) (is_flagged : List Bool → ℕ → Bool) (numbers : Fields) (flags : List Bool) (place : ℕ) (number : Field) (more : Fields) (m : ℕ) → HasFlagged names places is_flagged numbers flags (number ∷ more) → numbered names number ≡ Some m → ((n : ℕ) → is_flagged (slice_set flags place true) n ≡ (is_flagged flags n || (m == n))) → HasFlagged names places is_flagged numbers (slice_set flags place true) more
+flag_more names places is_flagged numbers flags place number more m has is one_more = record {
+  each_place = length-set flags place true ∙ has.each_place;
+  all_if_more = λ all. has.all_if_more (All-cons (IsNumber names) number more (some names number m is) all);
+  more_if_all = λ all. All-tail (IsNumber names) number more (has.more_if_all all);
+  flagged = λ n.
+      ap (λ (b : Bool). b || is_among names n more) (one_more n)
+      ∙ or_assoc (is_flagged flags n) (m == n) (is_among names n more)
+      ∙ ap (λ (b : Bool). is_flagged flags n || b) (sym (among_more names n m number more is))
+      ∙ has.flagged n;
+}
+
+-- all are
+pub all_flagged : (names : ℕ → Bool) (places : ℕ) (is_flagged : List Bool → ℕ → Bool) (text : List ℕ) (flags : List Bool) → HasFlagged names places is_flagged (numbers_of text) flags [] → AreFlagged names places is_flagged text flags
+all_flagged names places is_flagged text flags has = record {
+  numbers = has.all_if_more (All-nil (IsNumber names));
+  each_place = has.each_place;
+  flagged = λ n. sym (or_false (is_flagged flags n)) ∙ has.flagged n;
+}
+
+-- the next names nothing
+pub not_listed : (names : ℕ → Bool) (places : ℕ) (is_flagged : List Bool → ℕ → Bool) (text : List ℕ) (flags : List Bool) (number : Field) (more : Fields) → HasFlagged names places is_flagged (numbers_of text) flags (number ∷ more) → numbered names number ≡ None → (listed : List Bool) → AreFlagged names places is_flagged text listed → ⊥
+not_listed names places is_flagged text flags number more has none listed are =
+    let there : IsNumber names number = All-head (IsNumber names) number more (has.more_if_all are.numbers) in
+    false≢true (subst (λ (o : Option ℕ). IsSome o) none there)
+
+-- ---- flags in the order of places
+
+-- where none is set, none is found
+none_set : (places place : ℕ) → slice_index_or (replicate places false) place false ≡ false
+none_set places place =
+    dite (dec_lt place places) (λ below. get_or-replicate places place false false below)
+    (λ no. let long = length-replicate places false in get_or_past (replicate places false) place false (omega (arith, long, no)))
+
+-- one more is set
+one_set : (index : ℕ → ℕ) (flags : List Bool) (m n : ℕ) → index m < length flags → (index n ≡ index m → n ≡ m) → slice_index_or (slice_set flags (index m) true) (index n) false ≡ (slice_index_or flags (index n) false || (m == n))
+one_set index flags m n below own = elim (cases_eq n m) [
+  | inl same ↦
+      ap (λ (k : ℕ). slice_index_or (slice_set flags (index m) true) (index k) false) same
+      ∙ get_or-set_same flags (index m) true false below
+      ∙ sym (ap (λ (b : Bool). slice_index_or flags (index n) false || b) (eq-eqb m n (sym same)) ∙ or_true (slice_index_or flags (index n) false))
+  | inr other ↦
+      get_or-set_other flags (index m) (index n) true false (λ same_place. other (own same_place))
+      ∙ sym (ap (λ (b : Bool). slice_index_or flags (index n) false || b) (ne_eqb m n (λ same. other (sym same))) ∙ or_false (slice_index_or flags (index n) false))
+]
+
+-- ---- channels
+
+pub no_channel : (c : ℕ) → is_flagged_channel (replicate channel_count false) c ≡ false
+no_channel c = none_set channel_count (channel_index c)
+
+pub one_channel : (flags : List Bool) (d : ℕ) → length flags ≡ channel_count → IsTrue (names_channel d) → (c : ℕ) → is_flagged_channel (slice_set flags (channel_index d) true) c ≡ (is_flagged_channel flags c || (d == c))
+one_channel flags d all names c =
+    let below = channel_places.place_below d names in
+    one_set channel_index flags d c (omega (arith, all, below)) (channel_places.one_place d c names)
+
+-- ---- processors
+
+pub no_processor : (n : ℕ) → is_named (replicate processor_count false) n ≡ false
+no_processor n = ap (λ (b : Bool). names_processor n && b) (none_set processor_count (processor_index n)) ∙ and_false (names_processor n)
+
+-- a number that names none is not the one that names one
+and_own : (a b c : Bool) → (c ≡ true → a ≡ true) → (a && (b || c)) ≡ ((a && b) || c)
+and_own true b c own = refl
+and_own false b false own = refl
+and_own false b true own = absurd (false≢true (own refl))
+
+pub one_processor : (flags : List Bool) (m : ℕ) → length flags ≡ processor_count → IsTrue (names_processor m) → (n : ℕ) → is_named (slice_set flags (processor_index m) true) n ≡ (is_named flags n || (m == n))
+one_processor flags m all names n =
+    let below = processor_places.place_below m names in
+    ap (λ (b : Bool). names_processor n && b) (one_set processor_index flags m n (omega (arith, all, below)) (processor_places.one_place m n names))
+    ∙ and_own (names_processor n) (slice_index_or flags (processor_index n) false) (m == n) (own m n names)
+  where
+    own : (m n : ℕ) → IsTrue (names_processor m) → (m == n) ≡ true → names_processor n ≡ true
+    own m n names same = elim (cases_eq m n) [
+      | inl e ↦ subst (λ (k : ℕ). names_processor k ≡ true) e names
+      | inr other ↦ absurd (false≢true (sym (ne_eqb m n other) ∙ same))
+    ]

@@ -1,0 +1,38 @@
+//! Lists of channels.
+
+ghost use Rattle.std.specs.Prelude.{◌≡◌, Bool, List, MatchOption};
+ghost use Rattle.pp_channel.specs.ChannelNo.{names_channel};
+ghost use Rattle.pp_command.specs.ChannelList.{AreListed};
+ghost use Rattle.pp_command.specs.NumberList.{numbered};
+
+use crate::number_list::first_number;
+use pp_channel::{CHANNELS, ChannelNo};
+use pp_word::numeral;
+
+/// The channels of a list like `1,5,13`, by flags in the order of their places. The numbers have
+/// one or two octal digits, with a comma between them; any other text lists no channels.
+pub fn listed_channels(text: &[u8]) -> Option<[bool; CHANNELS]>
+    ensures { MatchOption result ((flags : List Bool) → ¬ AreListed text.now flags)
+        (AreListed text.now) }
+{
+    let mut flags = [false; CHANNELS];
+    let mut left = text;
+    'numbers: loop {
+        let (number, rest) = first_number(left);
+        let channel = channel_numbered(number)?;
+        flags[channel.index()] = true;
+        let Some(rest) = rest else {
+            return Some(flags);
+        };
+        left = rest;
+    }
+}
+
+/// The channel of a number.
+#[tactic(auto, unfolding(crate::specs::NumberList::numbered))]
+fn channel_numbered(number: &[u8]) -> Option<ChannelNo>
+    ensures { result ≡ numbered names_channel number.now }
+{
+    let value = numeral(8, 2, number)?;
+    ChannelNo::new(value as u8)
+}

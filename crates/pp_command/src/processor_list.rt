@@ -1,0 +1,40 @@
+//! Lists of processors.
+
+ghost use Rattle.std.specs.Prelude.{◌≡◌, Bool, List, MatchOption};
+ghost use Rattle.pp_machine.specs.Profile.{has_processor};
+ghost use Rattle.pp_command.specs.NumberList.{numbered};
+ghost use Rattle.pp_command.specs.ProcessorList.{AreProcessorsListed};
+
+use crate::number_list::first_number;
+use pp_machine::{PROCESSORS, PpNo, Profile};
+use pp_word::numeral;
+
+/// The processors of a list like `0,1,11`, by flags in the barrel's order. The numbers have one or
+/// two octal digits, with a comma between them, and name processors of this profile; any other
+/// text lists none.
+pub fn listed_processors(profile: Profile, text: &[u8]) -> Option<[bool; PROCESSORS]>
+    ensures { MatchOption result
+        ((flags : List Bool) → ¬ AreProcessorsListed profile text.now flags)
+        (AreProcessorsListed profile text.now) }
+{
+    let mut flags = [false; PROCESSORS];
+    let mut left = text;
+    'numbers: loop {
+        let (number, rest) = first_number(left);
+        let processor = processor_numbered(profile, number)?;
+        flags[processor.index()] = true;
+        let Some(rest) = rest else {
+            return Some(flags);
+        };
+        left = rest;
+    }
+}
+
+/// The processor of a number.
+#[tactic(auto, unfolding(crate::specs::NumberList::numbered))]
+fn processor_numbered(profile: Profile, number: &[u8]) -> Option<PpNo>
+    ensures { result ≡ numbered (has_processor profile) number.now }
+{
+    let value = numeral(8, 2, number)?;
+    profile.processor(value as u8)
+}

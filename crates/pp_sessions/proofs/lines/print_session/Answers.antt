@@ -1,0 +1,9 @@
+use Rattle.pp_text.specs.PrintingLaws.{◌▹◌}
+use Rattle.pp_sessions.specs.SessionsText.{session_line}
+use Rattle.pp_sessions.proofs.lines.print_session.Goals as goal
+
+pub returns : goal.returns
+unfolding session_line
+returns g c =
+    (rw c.channel_name.ensures at c.print.ensures) ▹ c.print-2.ensures ▹ c.print_short_decimal.ensures ▹ c.print-3.ensures ▹ c.print_moment.ensures ▹ c.print_end.ensures
+    ▹ c.print-4.ensures ▹ c.print_short_decimal-2.ensures ▹ c.print-5.ensures ▹ c.print_short_decimal-3.ensures ▹ c.print_word.ensures ▹ c.print-6.ensures

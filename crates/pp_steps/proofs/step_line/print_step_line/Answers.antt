@@ -1,0 +1,34 @@
+use Rattle.std.proofs.Common.{◌≡◌, ◌<◌, length, ap, ◌∙◌, sym, arith}
+use Rattle.pp_machine.specs.MachineState.{processor_of}
+use Rattle.pp_machine.specs.MachineStep.{answer_to, central_after, stepped}
+use Rattle.pp_machine.specs.NeedAndEffect.{need, processor_after}
+use Rattle.pp_machine.specs.Processor.{Processor}
+use Rattle.pp_machine.specs.PpNo.{processor_index}
+use Rattle.pp_machine.specs.declared.need.Need.{Need}
+use Rattle.pp_text.specs.PrintingLaws.{◌▹◌}
+use Rattle.pp_steps.specs.StepLine.{step_line}
+use Rattle.pp_steps.proofs.LineLemmas.{stepped_central, stepped_processor}
+use Rattle.pp_steps.proofs.step_line.print_step_line.Goals as goal
+
+pub returns : goal.returns
+unfolding step_line
+returns g c = λ m stands further.
+    let n = c.args.n in
+    let after = stepped n m in
+    let x = need (processor_of n m) in
+    let old : c.pp-old.result.now ≡ processor_of n m = c.pp-old.ensures.value m stands in
+    let new : c.pp-new.result.now ≡ processor_of n after = c.pp-new.ensures.value after further in
+    let within : processor_index n < length m.processors = omega (arith, c.pp-old.ensures.within, stands.as_many) in
+    let is : c.pp-new.result.now ≡ processor_after c.pp-old.result.now (answer_to x m) =
+    new ∙ stepped_processor n m within ∙ ap (λ (pp : Processor). processor_after pp (answer_to x m)) (sym old) in
+    let needs : c.wants-need.result ≡ x = c.wants-need.ensures.need ∙ ap need old in
+    let central = c.central.ensures m stands in
+    let later = c.central-2.ensures after further in
+    let written : c.central-2.result.now ≡ central_after c.wants-need.result m =
+    later ∙ stepped_central n m ∙ ap (λ (y : Need). central_after y m) (sym needs) in
+    (rw (c.turns.ensures m stands, c.a.ensures, new, old) at c.print_heading.ensures)
+    ▹ (rw (new, old) at (c.print_places.ensures (answer_to x m) c.of.ensures.others is))
+    ▹ (rw (central, later) at (c.print_central.ensures c.wants-need.result m c.written_address.ensures central written))
+    ▹ (rw needs at (c.print_channel.ensures m stands))
+    ▹ (rw (c.state.ensures.value, new) at c.print_end.ensures)
+    ▹ c.print.ensures

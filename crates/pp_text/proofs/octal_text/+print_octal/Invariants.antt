@@ -1,4 +1,0 @@
-use Rattle.pp_text.proofs.octal_text.+print_octal.Given as goal
-
-abbrev pub decreases-print_octal : goal.decreases-print_octal
-decreases-print_octal g l = l.width

@@ -1,0 +1,10 @@
+use Rattle.std.proofs.Common.{append_assoc}
+use Rattle.pp_text.specs.PrintedText.{processor_line, state_text}
+use Rattle.pp_text.specs.PrintingLaws.{◌▹◌, prints_on}
+use Rattle.pp_text.proofs.printed_line.print_processor.Goals as goal
+
+pub returns-clause-text : goal.returns-clause-text
+unfolding processor_line
+returns-clause-text g c =
+    prints_on _ _ _ _ _ _ _ (c.print.ensures ▹ c.print_state_text.ensures) c.print-2.ensures
+    (rw (c.processor_heading.ensures.text, c.state.ensures.value) (simp append_assoc))

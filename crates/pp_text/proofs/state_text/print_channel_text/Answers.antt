@@ -1,0 +1,12 @@
+use Rattle.std.proofs.Common.{ℕ, ◌++◌, codes, sym, ap, ◌∙◌, Option}
+use Rattle.pp_channel.specs.History.{active}
+use Rattle.pp_word.specs.Numeral.{octal}
+use Rattle.pp_text.specs.PrintedText.{channel_text}
+use Rattle.pp_text.specs.PrintingLaws.{prints_on}
+use Rattle.pp_text.proofs.state_text.print_channel_text.Goals as goal
+
+pub returns-in-Some-clause-text : goal.returns-in-Some-clause-text
+returns-in-Some-clause-text g c =
+    prints_on _ _ _ _ _ _ _ c.print.ensures c.print-in-Some.ensures
+    (ap (λ t. codes "ACTIVE FULL " ++ t) c.octal4.ensures ∙ ap (λ (n : ℕ). codes "ACTIVE FULL " ++ octal 4 n) c.get.ensures.value
+    ∙ ap (channel_text (active c.args.channel.now)) (sym c.in-Some.is ∙ c.waiting.ensures.word))
