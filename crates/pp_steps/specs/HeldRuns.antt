@@ -59,7 +59,8 @@ with_step spells step = record {
 abbrev pub no_spells : HeldSpells
 no_spells = record { counts = []; current = 0; last = AtRest }
 
--- what some steps make of each processor, in the order of the barrel, if one makes this of it
+-- the steps of each processor, folded by `next` from `first`, in the order of the barrel. (Private
+-- contracts alone cite this and what follows.)
 abbrev pub each_after : {X : Type 0} → (X → Progress → X) → X → List RunStep → List X
 each_after next first steps = each_processor (λ n. fold next first (seen_of progress_of n steps))
 
