@@ -7,7 +7,7 @@ ghost use Rattle.pp_channel.specs.declared.event.Event.{Event};
 use pp_word::Word12;
 
 /// One operation on a channel.
-#[derive(Clone, Copy, Debug, PartialEq, Eq)]
+#[derive(Clone, Copy, PartialEq, Eq)]
 pub enum ChanOp {
     /// Looks at the flags.
     Probe,

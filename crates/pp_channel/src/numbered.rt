@@ -3,7 +3,7 @@
 use crate::reply::Reply;
 
 /// An answer, and its place in the history of its channel.
-#[derive(Clone, Copy, Debug, PartialEq, Eq)]
+#[derive(Clone, Copy, PartialEq, Eq)]
 pub struct Numbered {
     /// The answer.
     pub reply: Reply,

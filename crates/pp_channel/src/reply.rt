@@ -4,7 +4,7 @@ use crate::flags::Flags;
 use pp_word::Word12;
 
 /// The answer to one operation.
-#[derive(Clone, Copy, Debug, PartialEq, Eq)]
+#[derive(Clone, Copy, PartialEq, Eq)]
 pub enum Reply {
     /// The flags, for an operation that only looks.
     Flags(Flags),

@@ -4,7 +4,7 @@ use crate::event::Event;
 use crate::flags::Flags;
 
 /// What was done or seen.
-#[derive(Clone, Copy, Debug, PartialEq, Eq)]
+#[derive(Clone, Copy, PartialEq, Eq)]
 pub enum Seen {
     /// An event, which the writer of the log made.
     Did(Event),

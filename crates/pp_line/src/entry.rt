@@ -3,7 +3,7 @@
 use pp_channel::{ChannelNo, Seen};
 
 /// An entry of a log.
-#[derive(Clone, Copy, Debug, PartialEq, Eq)]
+#[derive(Clone, Copy, PartialEq, Eq)]
 pub struct Entry {
     /// For an event its place in the channel's history, counted from 0; for a look how many events
     /// the channel had had.

@@ -22,7 +22,7 @@ const EVENT: u64 = 1 << 14;
 const GREATEST_NUMBER: u64 = (1 << 50) - 1;
 
 /// What an operation does to a channel word.
-#[derive(Clone, Copy, Debug, PartialEq, Eq)]
+#[derive(Clone, Copy, PartialEq, Eq)]
 pub enum WordStep {
     /// The word becomes this one, this is the reply to the operation, and this event is made.
     Next(u64, Reply, Event),

@@ -4,7 +4,7 @@ use pp_channel::ChannelNo;
 use pp_word::Word12;
 
 /// What a block instruction moves, one word a step.
-#[derive(Clone, Copy, Debug, PartialEq, Eq)]
+#[derive(Clone, Copy, PartialEq, Eq)]
 pub enum BlockKind {
     /// CRM: central words go to the processor's memory, and `left` of them remain.
     CentralIn { left: Word12 },
@@ -17,7 +17,7 @@ pub enum BlockKind {
 }
 
 /// A block transfer, and the place in the processor's memory that comes next.
-#[derive(Clone, Copy, Debug, PartialEq, Eq)]
+#[derive(Clone, Copy, PartialEq, Eq)]
 pub struct Block {
     pub kind: BlockKind,
     pub place: Word12,

@@ -4,7 +4,7 @@ use pp_channel::{ChanOp, ChannelNo};
 use pp_word::{Word18, Word60};
 
 /// The need of a next step.
-#[derive(Clone, Copy, Debug, PartialEq, Eq)]
+#[derive(Clone, Copy, PartialEq, Eq)]
 pub enum Need {
     /// The processor is at rest and has no next step.
     Nothing,

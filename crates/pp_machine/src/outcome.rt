@@ -1,7 +1,7 @@
 //! What a step did to its processor.
 
 /// The outcome of one step.
-#[derive(Clone, Copy, Debug, PartialEq, Eq)]
+#[derive(Clone, Copy, PartialEq, Eq)]
 pub enum Outcome {
     /// The processor went on, stopped, or ended in a fault.
     Moved,

@@ -1,7 +1,7 @@
 //! Whether a processor is running.
 
 /// The state of a peripheral processor.
-#[derive(Clone, Copy, Debug, PartialEq, Eq)]
+#[derive(Clone, Copy, PartialEq, Eq)]
 pub enum PpState {
     /// Its next step is the instruction at P, or the next word of a block.
     Running,

@@ -4,7 +4,7 @@ use crate::pp_no::PpNo;
 use pp_channel::{ChannelNo, Event};
 
 /// One event of a machine.
-#[derive(Clone, Copy, Debug, PartialEq, Eq)]
+#[derive(Clone, Copy, PartialEq, Eq)]
 pub struct Trace {
     /// How many turns the machine had counted before the step that made it (decimal).
     pub turn: u64,

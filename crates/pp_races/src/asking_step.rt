@@ -9,7 +9,7 @@ use pp_word::{Word12, next};
 use std::alloc::Allocator;
 
 /// A step that asks a channel.
-#[derive(Clone, Copy, Debug)]
+#[derive(Clone, Copy)]
 pub struct AskingStep {
     /// How many turns the machine had counted before it (decimal).
     pub turn: u64,

@@ -4,7 +4,7 @@ use crate::asking_step::AskingStep;
 use pp_machine::{PROCESSORS, PpNo, Trace};
 
 /// One finding: a step that races with another, or what leaves it open how a run ends.
-#[derive(Clone, Copy, Debug)]
+#[derive(Clone, Copy)]
 pub enum Finding {
     /// The step would have done otherwise before this event, which was made before it.
     Before(AskingStep, Trace),

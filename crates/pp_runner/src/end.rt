@@ -1,7 +1,7 @@
 //! How a worker ends.
 
 /// Why a worker made no further step.
-#[derive(Clone, Copy, Debug, PartialEq, Eq)]
+#[derive(Clone, Copy, PartialEq, Eq)]
 pub enum End {
     /// Its processor has stopped.
     Stopped,

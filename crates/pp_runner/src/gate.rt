@@ -9,7 +9,7 @@ pub trait Gate {
 }
 
 /// A gate that never waits.
-#[derive(Clone, Copy, Debug, PartialEq, Eq)]
+#[derive(Clone, Copy, PartialEq, Eq)]
 pub struct NoGate;
 
 impl Gate for NoGate {

@@ -13,7 +13,7 @@ use pp_run::Progress;
 use std::alloc::Allocator;
 
 /// How many times a processor has been held, and its last step.
-#[derive(Clone, Copy, Debug)]
+#[derive(Clone, Copy)]
 pub(crate) struct Cursor {
     pub(crate) times: usize,
     pub(crate) last: Progress,

@@ -1,7 +1,7 @@
 //! Which line a step has.
 
 /// The line of a step.
-#[derive(Clone, Copy, Debug, PartialEq, Eq)]
+#[derive(Clone, Copy, PartialEq, Eq)]
 pub(crate) enum LineKind {
     /// None: the processor was at rest, or held as before.
     NoLine,

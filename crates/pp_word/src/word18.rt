@@ -7,7 +7,7 @@ use crate::word12::Word12;
 use std::marker::Model;
 
 /// A word of 18 bits, 0 to 777777 (octal). Contracts see it as that number.
-#[derive(Clone, Copy, Debug, PartialEq, Eq)]
+#[derive(Clone, Copy, PartialEq, Eq)]
 pub struct Word18 {
     value: u32,
 }

@@ -5,7 +5,7 @@ ghost use Rattle.std.specs.Prelude.{◌≡◌, ◌%◌, ◌^◌, ◌<◌, ◌↔
 use std::marker::Model;
 
 /// A word of 60 bits, 0 to 2^60 - 1, twenty octal digits. Contracts see it as that number.
-#[derive(Clone, Copy, Debug, PartialEq, Eq)]
+#[derive(Clone, Copy, PartialEq, Eq)]
 pub struct Word60 {
     // In halves, so that a type that holds a word is aligned to 4 bytes, not 8: an answer to a
     // processor, one of which is kept for each step of a run by threads, takes 16 bytes, not 24.

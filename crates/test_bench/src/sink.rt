@@ -4,7 +4,7 @@ use std::alloc::Global;
 use std::io::{self, ErrorKind, Write};
 
 /// How a writer gives up.
-#[derive(Clone, Copy, Debug)]
+#[derive(Clone, Copy)]
 pub enum Failure {
     /// It gives errors of this kind.
     Error(ErrorKind),

@@ -59,7 +59,7 @@ fn a_copy(rt: HostRuntime) -> Result<(), Fail> {
     let mut copy = channel.copy()?;
     assert!(rt; waits_alike(&channel, &copy) && answers(&mut copy, &calls));
     let lengths = (copy.history().len(), channel.history().len());
-    assert_eq!(rt; (copy.flags(), lengths), (INACTIVE, (4, 2)));
+    assert!(rt; copy.flags() == INACTIVE && lengths == (4, 2));
     Ok(())
 }
 

@@ -8,7 +8,7 @@ pub(crate) const NUMBERS: [u8; 4] = [0o5, 0o13, 0o20, 0o33];
 
 /// A line of a trace: its turn, the place of its channel among `NUMBERS`, the number of the event
 /// on the channel, and the event.
-#[derive(Clone, Copy, Debug)]
+#[derive(Clone, Copy)]
 pub(crate) struct Told {
     pub(crate) turn: u32,
     pub(crate) place: usize,
@@ -17,7 +17,7 @@ pub(crate) struct Told {
 }
 
 /// How a channel stands.
-#[derive(Clone, Copy, Debug, PartialEq, Eq)]
+#[derive(Clone, Copy, PartialEq, Eq)]
 pub(crate) enum Stand {
     Idle,
     Ready,
@@ -38,7 +38,7 @@ pub(crate) fn after(stand: Stand, event: &Event) -> Option<Stand> {
 }
 
 /// In which form a trace is printed.
-#[derive(Clone, Copy, Debug, PartialEq, Eq)]
+#[derive(Clone, Copy, PartialEq, Eq)]
 pub(crate) enum Form {
     ByTurn,
     ByNumber,
