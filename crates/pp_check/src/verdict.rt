@@ -8,7 +8,7 @@ use pp_text::{TextWriter, WriteFault, print_short_decimal};
 use std::io::Write;
 
 /// The counts of a lawful trace (decimal).
-#[derive(Clone, Copy, PartialEq, Eq)]
+#[derive(Clone, Copy)]
 pub struct Verdict {
     /// Its events.
     pub events: u64,

@@ -6,7 +6,7 @@ use pp_machine::{PROCESSORS, PpNo};
 use pp_state::Bounds;
 
 /// Which steps of a run are chosen: those that all four fields choose.
-#[derive(Clone, Copy, PartialEq, Eq)]
+#[derive(Clone, Copy)]
 pub struct ChosenSteps {
     /// The processors, in the barrel's order; those in use if none are given.
     pub processors: Option<[bool; PROCESSORS]>,
@@ -21,7 +21,7 @@ pub struct ChosenSteps {
 
 /// A text of a deck. Each run is one in the barrel. How many turns and which turn are decimal
 /// numbers: a command line gives 0 to 999,999, and every `u32` is taken.
-#[derive(Clone, Copy, PartialEq, Eq)]
+#[derive(Clone, Copy)]
 pub enum TextOf {
     /// The text of a run of this many turns.
     Barrel(u32),

@@ -6,7 +6,7 @@ use pp_machine::Profile;
 use pp_runner::Limits;
 
 /// The work that a command line asks for.
-#[derive(Clone, Copy, PartialEq, Eq)]
+#[derive(Clone, Copy)]
 pub enum Work {
     /// This text of a deck, for a machine of this profile.
     Deck { profile: Profile, text: TextOf },

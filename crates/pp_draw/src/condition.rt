@@ -22,7 +22,7 @@ pub(crate) enum ChannelCondition {
 }
 
 /// How a step finds its processor.
-#[derive(Clone, Copy, PartialEq, Eq)]
+#[derive(Clone, Copy)]
 pub enum Condition {
     /// It goes on.
     Running,

@@ -15,7 +15,7 @@ use pp_run::{Observer, run_observed};
 use std::alloc::Allocator;
 
 /// A step of a run.
-#[derive(Clone, Copy, PartialEq, Eq)]
+#[derive(Clone, Copy)]
 pub struct SeenStep {
     /// How many turns the machine had counted before it (decimal).
     pub turn: u64,

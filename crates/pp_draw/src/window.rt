@@ -7,7 +7,7 @@ ghost use Rattle.pp_draw.specs.Window.{band_width, place, turn_width};
 pub const MOST_TURNS: u32 = 2000;
 
 /// The turns that are drawn (decimal): from one on, and before another.
-#[derive(Clone, Copy, PartialEq, Eq)]
+#[derive(Clone, Copy)]
 pub struct Window {
     pub from: u32,
     pub to: u32,

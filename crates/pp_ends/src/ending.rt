@@ -4,7 +4,7 @@ ghost use Rattle.std.specs.Prelude.{◌≡◌};
 ghost use Rattle.pp_ends.specs.EndsText.{ends_turn};
 
 /// How a run in the barrel ends, as far as its turns tell. Turns are decimal.
-#[derive(Clone, Copy, PartialEq, Eq)]
+#[derive(Clone, Copy)]
 pub enum Ending {
     /// Every processor is stopped or at fault, and no step moves from this turn on.
     AtRest { from: u32 },

@@ -14,7 +14,7 @@ use pp_word::Word12;
 use std::alloc::Allocator;
 
 /// The lowest and the highest P of the steps of a processor that move.
-#[derive(Clone, Copy, PartialEq, Eq)]
+#[derive(Clone, Copy)]
 pub struct Loop {
     pub first: Word12,
     pub last: Word12,

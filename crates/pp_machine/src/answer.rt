@@ -4,7 +4,7 @@ use pp_channel::Reply;
 use pp_word::Word60;
 
 /// The answer to a need.
-#[derive(Clone, Copy, PartialEq, Eq)]
+#[derive(Clone, Copy)]
 pub enum Answer {
     /// Nothing was needed from outside.
     Local,

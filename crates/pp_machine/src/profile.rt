@@ -8,7 +8,7 @@ use pp_channel::{CHANNELS, ChannelNo};
 
 /// How many processors and channels a machine has. The first have the same numbers in both
 /// profiles.
-#[derive(Clone, Copy, PartialEq, Eq)]
+#[derive(Clone, Copy)]
 pub enum Profile {
     /// The 6600: ten processors, 0 to 11 (octal), and twelve channels, 0 to 13.
     Ten,

@@ -3,7 +3,7 @@
 use pp_channel::Flags;
 
 /// What a step did to its processor, and what held it.
-#[derive(Clone, Copy, PartialEq, Eq)]
+#[derive(Clone, Copy)]
 pub enum Progress {
     /// The processor was stopped or at fault already.
     AtRest,

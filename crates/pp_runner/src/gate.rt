@@ -9,7 +9,7 @@ pub trait Gate {
 }
 
 /// A gate that never waits.
-#[derive(Clone, Copy, PartialEq, Eq)]
+#[derive(Clone, Copy)]
 pub struct NoGate;
 
 impl Gate for NoGate {

@@ -30,7 +30,7 @@ pub struct Labour<A: Allocator> {
 }
 
 /// What one try of a step did.
-#[derive(Clone, Copy, PartialEq, Eq)]
+#[derive(Clone, Copy)]
 enum Try {
     Moved,
     Held,

@@ -9,7 +9,7 @@ use std::marker::Model;
 const MOST_STEPS: u32 = 100_000;
 
 /// How many steps a worker makes at most, and how often in a row it tries one at which it is held.
-#[derive(Clone, Copy, PartialEq, Eq)]
+#[derive(Clone, Copy)]
 pub struct Limits {
     steps: u32,
     patience: u32,

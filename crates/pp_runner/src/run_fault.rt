@@ -6,7 +6,7 @@ use std::thread::SpawnError;
 use thiserror::Error;
 
 /// Why a run left no report.
-#[derive(Clone, Copy, Debug, PartialEq, Eq, Error)]
+#[derive(Clone, Copy, Debug, Error)]
 pub enum RunFault {
     /// An allocation was refused, or the system could not start a worker.
     #[error("out of memory")]

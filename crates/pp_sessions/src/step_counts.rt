@@ -15,7 +15,7 @@ use pp_run::{Observer, run_observed};
 use std::alloc::Allocator;
 
 /// How many steps of a processor did what (decimal).
-#[derive(Clone, Copy, PartialEq, Eq)]
+#[derive(Clone, Copy)]
 pub struct StepCounts {
     /// Steps in which it went on, stopped, or ended in a fault.
     pub moved: u32,

@@ -12,7 +12,7 @@ use pp_run::BareMachine;
 use std::alloc::Allocator;
 
 /// Which steps of a run are chosen: those that all four fields choose.
-#[derive(Clone, Copy, PartialEq, Eq)]
+#[derive(Clone, Copy)]
 pub struct Choice {
     /// The processors, in the barrel's order.
     pub processors: [bool; PROCESSORS],

@@ -1,7 +1,7 @@
 //! Which line a step has.
 
 /// The line of a step.
-#[derive(Clone, Copy, PartialEq, Eq)]
+#[derive(Clone, Copy)]
 pub(crate) enum LineKind {
     /// None: the processor was at rest, or held as before.
     NoLine,

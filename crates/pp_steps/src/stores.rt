@@ -9,7 +9,7 @@ use pp_machine::{Block, BlockKind, Pp};
 use pp_word::{Opcode, Word6, Word12, decode, index_address, next};
 
 /// Some places of a processor's memory, one behind another; 0000 follows 7777 (octal).
-#[derive(Clone, Copy, PartialEq, Eq)]
+#[derive(Clone, Copy)]
 pub(crate) struct Stores {
     pub(crate) first: u32,
     pub(crate) count: u32,

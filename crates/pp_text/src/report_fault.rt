@@ -3,7 +3,7 @@
 use thiserror::Error;
 
 /// Why the text of a report was not written. `Memory` comes before the first byte is written.
-#[derive(Clone, Copy, Debug, PartialEq, Eq, Error)]
+#[derive(Clone, Copy, Debug, Error)]
 pub enum ReportFault {
     /// An allocation was refused.
     #[error("out of memory")]

@@ -5,7 +5,7 @@ use std::io::Write;
 use thiserror::Error;
 
 /// The writer failed, or took nothing.
-#[derive(Clone, Copy, Debug, PartialEq, Eq, Error)]
+#[derive(Clone, Copy, Debug, Error)]
 #[error("write fault")]
 pub struct WriteFault;
 

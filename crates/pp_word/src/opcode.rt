@@ -7,7 +7,7 @@ use crate::word6::Word6;
 use crate::word12::Word12;
 
 /// An operation code, named by the manual's mnemonic. Codes 24 and 25 do nothing, as PSN.
-#[derive(Clone, Copy, PartialEq, Eq)]
+#[derive(Clone, Copy)]
 pub enum Opcode {
     PSN,
     LJM,

@@ -8,7 +8,7 @@ use std::alloc::Allocator;
 
 /// The outcome of a call.
 #[repr(C)]
-#[derive(Clone, Copy, PartialEq, Eq)]
+#[derive(Clone, Copy)]
 pub struct Answer {
     /// 0: the text is written. 1: the deck or the trace is refused, or the deck can't be dumped as
     /// it stands. 2: a number is out of its range, or a list is no list of channels. 4: memory was

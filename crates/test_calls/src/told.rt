@@ -38,7 +38,7 @@ pub(crate) fn after(stand: Stand, event: &Event) -> Option<Stand> {
 }
 
 /// In which form a trace is printed.
-#[derive(Clone, Copy, PartialEq, Eq)]
+#[derive(Clone, Copy)]
 pub(crate) enum Form {
     ByTurn,
     ByNumber,
