@@ -13,7 +13,7 @@ use Rattle.clap.proofs.OnLiterals.{clap_on_literals}
 use Rattle.pp_draw.specs.declared.window.Window.{Window}
 use Rattle.pp_machine.specs.Profile.{processors_in}
 use Rattle.pp_machine.specs.declared.profile.Profile.{Profile}
-use Rattle.pp_command.specs.CommandLine.{IsFaultBy, IsRefused, AsksForMore, AsksForText, ReadsEnd, ReadsNumber, ReadsProfile, ReadsTurn, ReadsWindow, ppsim, refusals}
+use Rattle.pp_command.specs.CommandLine.{IsFaultBy, IsRefused, AsksForMore, AsksForText, ReadsEnd, ReadsNumber, ReadsProfile, ReadsTurn, ReadsTurns, ReadsWindow, ppsim, refusals}
 use Rattle.pp_command.specs.declared.line_fault.LineFault.{LineFault}
 use Rattle.pp_command.specs.declared.line_fault.LineFault.TheVariants.{Memory, Refused, Number, Picture}
 use Rattle.pp_command.specs.declared.text_of.TextOf.{TextOf}
@@ -123,6 +123,21 @@ no_picture name value_of profile w draw reads long (texts.Steps turns chosen) k 
     let bad : 115 ≡ 100 = ap (λ (t : Text). slice_index t 0) (sym k.0 ∙ draw) in absurd (omega (arith, bad))
 no_picture name value_of profile w draw reads long (texts.Draw window) k =
     omega (arith, long, k.2, one_length value_of w window reads k.1)
+
+-- without a number of turns there is no text but a listing
+pub no_turns : (name : Text) (value_of : Text → Option Text) (profile : Profile) → name ≢ codes "list" → ((turns : ℕ) → ReadsTurns value_of turns → ⊥) → (text : TextOf) → AsksForText name value_of profile text → ⊥
+unfolding ReadsWindow
+no_turns name value_of profile other none (texts.Barrel turns) k = none turns k.1
+no_turns name value_of profile other none texts.List k = other k
+no_turns name value_of profile other none (texts.Dump turns) k = none turns k.1
+no_turns name value_of profile other none (texts.State turns) k = none turns k.1
+no_turns name value_of profile other none (texts.Sessions turns words) k = none turns k.1
+no_turns name value_of profile other none (texts.Races turns) k = none turns k.1
+no_turns name value_of profile other none (texts.Ends turns) k = none turns k.1
+no_turns name value_of profile other none (texts.Memory turns n bounds) k = none turns k.1
+no_turns name value_of profile other none (texts.Central turns bounds) k = none turns k.1
+no_turns name value_of profile other none (texts.Steps turns chosen) k = none turns k.1
+no_turns name value_of profile other none (texts.Draw window) k = none k.1.0 k.1.1
 
 -- where the text of an option is there, and is no number, it says no profile
 pub no_profile : {B : Type 0} (of : B → Text) (o : Option B) (text : Option Text) → is_some o ≡ true → option_map of o ≡ text → ((n : ℕ) → ReadsNumber text n → ⊥) → (profile : Profile) → ReadsProfile text profile → ⊥

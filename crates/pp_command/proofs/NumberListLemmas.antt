@@ -48,13 +48,6 @@ pub record HasFlagged (names : ℕ → Bool) (places : ℕ) (is_flagged : List B
   pub more_if_all : All (IsNumber names) numbers → All (IsNumber names) more
   pub flagged : (n : ℕ) → (is_flagged flags n || is_among names n more) ≡ is_among names n numbers
 
--- at first none is
-pub none_flagged : (names : ℕ → Bool) (places : ℕ) (is_flagged : List Bool → ℕ → Bool) (numbers : Fields) → ((n : ℕ) → is_flagged (replicate places false) n ≡ false) → HasFlagged names places is_flagged numbers (replicate places false) numbers
-none_flagged names places is_flagged numbers none = record {
-  each_place = length-replicate places false;
-  all_if_more = λ all. all;
-  more_if_all = λ all. all;
-  flagged = λ n. ap (λ (b : Bool). b || is_among names n numbers) (none n);
 }
 
 or_assoc : (a b c : Bool) → ((a || b) || c) ≡ (a || (b || c))
@@ -100,12 +93,6 @@ all_flagged names places is_flagged text flags has = record {
   flagged = λ n. sym (or_false (is_flagged flags n)) ∙ has.flagged n;
 }
 
--- the next names nothing
-pub not_listed : (names : ℕ → Bool) (places : ℕ) (is_flagged : List Bool → ℕ → Bool) (text : List ℕ) (flags : List Bool) (number : Field) (more : Fields) → HasFlagged names places is_flagged (numbers_of text) flags (number ∷ more) → numbered names number ≡ None → (listed : List Bool) → AreFlagged names places is_flagged text listed → ⊥
-not_listed names places is_flagged text flags number more has none listed are =
-    let there : IsNumber names number = All-head (IsNumber names) number more (has.more_if_all are.numbers) in
-    false≢true (subst (λ (o : Option ℕ). IsSome o) none there)
-
 -- ---- flags in the order of places
 
 -- where none is set, none is found
@@ -127,9 +114,6 @@ one_set index flags m n below own = elim (cases_eq n m) [
 ]
 
 -- ---- channels
-
-pub no_channel : (c : ℕ) → is_flagged_channel (replicate channel_count false) c ≡ false
-no_channel c = none_set channel_count (channel_index c)
 
 pub one_channel : (flags : List Bool) (d : ℕ) → length flags ≡ channel_count → IsTrue (names_channel d) → (c : ℕ) → is_flagged_channel (slice_set flags (channel_index d) true) c ≡ (is_flagged_channel flags c || (d == c))
 one_channel flags d all names c =

@@ -216,11 +216,11 @@ fn threads_work(matches: &ArgMatches<'_>) -> Option<Work>
     Some(Work::Threads { profile, limits })
 }
 
-/// The text of a deck that `steps` asks for.
-fn steps_text_of(matches: &ArgMatches<'_>, profile: Profile) -> Option<TextOf>
+/// The text of a deck that `steps` asks for, of a run of this many turns.
+fn steps_text_of(matches: &ArgMatches<'_>, profile: Profile, turns: u32) -> Option<TextOf>
+    requires { ReadsTurns (value_in matches.now) turns }
     ensures { Finds (AsksForText (codes "steps") (value_in matches.now) profile) result }
 {
-    let turns = turns_of(matches)?;
     let processors = processors_of(matches, profile)?;
     let channels = channels_of(matches)?;
     let from = turn_of(matches, "from", 0)?;
@@ -244,20 +244,11 @@ fn is_flagged(matches: &ArgMatches<'_>, id: &str) -> bool
     }
 }
 
-/// The text of a deck that `sessions` asks for.
-fn sessions_text_of(matches: &ArgMatches<'_>, profile: Profile) -> Option<TextOf>
-    ensures { Finds (AsksForText (codes "sessions") (value_in matches.now) profile) result }
-{
-    let turns = turns_of(matches)?;
-    let words = is_flagged(matches, "words");
-    Some(TextOf::Sessions { turns, words })
-}
-
-/// The text of a deck that `memory` asks for.
-fn memory_text_of(matches: &ArgMatches<'_>, profile: Profile) -> Option<TextOf>
+/// The text of a deck that `memory` asks for, after this many turns.
+fn memory_text_of(matches: &ArgMatches<'_>, profile: Profile, turns: u32) -> Option<TextOf>
+    requires { ReadsTurns (value_in matches.now) turns }
     ensures { Finds (AsksForText (codes "memory") (value_in matches.now) profile) result }
 {
-    let turns = turns_of(matches)?;
     let processor = processor_of(matches, profile)?;
     let bounds = bounds_of(matches, PLACES)?;
     Some(TextOf::Memory {
@@ -267,11 +258,11 @@ fn memory_text_of(matches: &ArgMatches<'_>, profile: Profile) -> Option<TextOf>
     })
 }
 
-/// The text of a deck that `central` asks for.
-fn central_text_of(matches: &ArgMatches<'_>, profile: Profile) -> Option<TextOf>
+/// The text of a deck that `central` asks for, after this many turns.
+fn central_text_of(matches: &ArgMatches<'_>, profile: Profile, turns: u32) -> Option<TextOf>
+    requires { ReadsTurns (value_in matches.now) turns }
     ensures { Finds (AsksForText (codes "central") (value_in matches.now) profile) result }
 {
-    let turns = turns_of(matches)?;
     let bounds = bounds_of(matches, MOST_CENTRAL_WORDS)?;
     Some(TextOf::Central { turns, bounds })
 }
@@ -287,21 +278,29 @@ fn drawn_text_of(matches: &ArgMatches<'_>, profile: Profile) -> Option<TextOf>
     Some(TextOf::Draw(window))
 }
 
-/// The text of a deck that a command asks for, if its numbers are in range.
+/// The text of a deck that a command asks for, if its numbers are in range: but for `list`, of a run
+/// of some turns.
+#[tactic(auto, using(crate::proofs::CommandLemmas::no_turns))]
 fn text_of(name: &str, matches: &ArgMatches<'_>, profile: Profile) -> Option<TextOf>
     ensures { Finds (AsksForText name.now (value_in matches.now) profile) result }
 {
+    if name == "list" {
+        return Some(TextOf::List);
+    }
+    let turns = turns_of(matches)?;
     match name {
-        "barrel" => Some(TextOf::Barrel(turns_of(matches)?)),
-        "list" => Some(TextOf::List),
-        "dump" => Some(TextOf::Dump(turns_of(matches)?)),
-        "state" => Some(TextOf::State(turns_of(matches)?)),
-        "sessions" => sessions_text_of(matches, profile),
-        "races" => Some(TextOf::Races(turns_of(matches)?)),
-        "ends" => Some(TextOf::Ends(turns_of(matches)?)),
-        "memory" => memory_text_of(matches, profile),
-        "central" => central_text_of(matches, profile),
-        "steps" => steps_text_of(matches, profile),
+        "barrel" => Some(TextOf::Barrel(turns)),
+        "dump" => Some(TextOf::Dump(turns)),
+        "state" => Some(TextOf::State(turns)),
+        "sessions" => Some(TextOf::Sessions {
+            turns,
+            words: is_flagged(matches, "words"),
+        }),
+        "races" => Some(TextOf::Races(turns)),
+        "ends" => Some(TextOf::Ends(turns)),
+        "memory" => memory_text_of(matches, profile, turns),
+        "central" => central_text_of(matches, profile, turns),
+        "steps" => steps_text_of(matches, profile, turns),
         "draw" => drawn_text_of(matches, profile),
         _ => None,
     }

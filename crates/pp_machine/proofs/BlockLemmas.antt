@@ -36,9 +36,6 @@ sum-sum a n h k =
     let joined : ((a + 1) % all_ones + n) % all_ones ≡ (a + (n + 1)) % all_ones = omega arith in
     second ∙ ap (λ x. (x + n) % all_ones) first ∙ joined ∙ sym both
 
-pub address_of-zero : (a : ℕ) → address_of a 0 ≡ a
-address_of-zero a = refl
-
 pub address_of-some : (a n : ℕ) → 0 < n → address_of a n ≡ sum a n
 address_of-some a n h = let some : (n == 0) ≡ false = grind (arith, common_steps) in rw some refl
 

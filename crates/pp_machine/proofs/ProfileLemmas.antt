@@ -78,9 +78,4 @@ pub rounds_and_rest : (p : Profile) (turns : ℕ) → turns / processors_in p * 
 rounds_and_rest Ten turns = omega arith
 rounds_and_rest Twenty turns = omega arith
 
--- no more turns than twenty a round
-pub rounds_bound : (p : Profile) (rounds : ℕ) → rounds * processors_in p ≤ 20 * rounds
-rounds_bound Ten rounds = omega arith
-rounds_bound Twenty rounds = omega arith
-
 pub ruleset channels_of_profiles = (channels_of_ten, channels_of_twenty, small_channels)

@@ -41,13 +41,4 @@ pub given_count_end : (pp : Processor) (xs : List Answer) (i : ℕ) → length x
 unfolding given_count
 given_count_end pp xs i h = rw (drop_all i xs h) refl
 
--- a processor at rest stays as it is through all answers
-pub replayed-at_rest : (pp : Processor) (xs : List Answer) → IsAtRest pp → replayed pp xs ≡ pp
-unfolding replayed
-replayed-at_rest pp [] h = refl
-replayed-at_rest pp (x ∷ xs) h =
-    let same : processor_after pp x ≡ pp = rest_changes_nothing pp x h in
-    let more : replayed (processor_after pp x) xs ≡ pp = rw same (replayed-at_rest pp xs h) in
-    elim (fits (need pp) x) as (λ b. (if b then replayed (processor_after pp x) xs else pp) ≡ pp) [ true ↦ more | false ↦ refl ]
-
 pub ruleset replays = (replayed_more, replayed_stops, given_count_more, given_count_stops, replayed_end, given_count_end)

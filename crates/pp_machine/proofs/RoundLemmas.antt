@@ -182,14 +182,6 @@ pub whole_so_far : (p : Profile) (done rounds turns : ℕ) → done < rounds →
 whole_so_far p zero rounds turns within whole = omega arith
 whole_so_far p (suc done) rounds turns within whole = ap (λ k. suc done * k) (whole (omega (arith, within)))
 
--- one round more
-pub round_after : (rounds turns : ℕ) (m n o : MachineState) → n ≡ run (whole_rounds m.profile rounds) m → turns ≡ processors_in m.profile → o ≡ run (barrel n.profile turns) n
-    → o ≡ run (whole_rounds m.profile (rounds + 1)) m
-round_after rounds turns m n o before round after =
-    let p = m.profile in
-    let next : rounds * processors_in p + turns ≡ (rounds + 1) * processors_in p = omega (arith, more_rounds p rounds 1, one_round p, round) in
-    turns_after rounds turns (rounds * processors_in p) m n o before refl after ∙ ap (λ k. run (barrel p k) m) next
-
 -- fewer turns than are asked for
 pub within_after : (rounds more all turns done : ℕ) (m n : MachineState) → n ≡ run (whole_rounds m.profile rounds) m → done ≡ rounds * processors_in m.profile
     → turns < more * processors_in n.profile → rounds + more ≤ all → done + turns < all * processors_in m.profile

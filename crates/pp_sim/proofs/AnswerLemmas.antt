@@ -102,25 +102,4 @@ unread profile Prevents IsDeckText (fault.Deck f) bytes kept is keeps = absurd i
 unread profile Prevents IsDeckText (fault.NotBetweenPrograms going_on) bytes kept is keeps = absurd is
 unread profile Prevents IsDeckText (fault.Trace f) bytes kept is keeps = absurd is
 
-told_unread : (profile : Profile) (before kept : Option (List ℕ)) (Prevents : LoadedDeck → Busy → Type 0) (IsDeckText : LoadedDeck → List ℕ → Type 0) (f : TextFault) (most : ℕ)
-    → IsReadFault f → IfSome before (λ bytes. IsAnswerUnless profile Prevents IsDeckText (Err f) (take most bytes) kept kept)
-told_unread profile None kept Prevents IsDeckText f most is = tt
-told_unread profile (Some bytes) kept Prevents IsDeckText f most is =
-    unread profile Prevents IsDeckText f (take most bytes) kept is (kept_as_it_was kept)
-
-pub unread_deck : (profile : Profile) (before after kept : Option (List ℕ)) (Prevents : LoadedDeck → Busy → Type 0) (IsDeckText : LoadedDeck → List ℕ → Type 0) (f : TextFault)
-    → IsReadFault f → ((bytes : List ℕ) × Consumes before after bytes × (length bytes ≤ most_bytes))
-    → AnswersDeckUnless profile Prevents IsDeckText (Err f) before after kept kept
-unread_deck profile before after kept Prevents IsDeckText f is (bytes, consumed, le) = record {
-  every_reader = (
-    bytes,
-    record {
-      consumed = consumed;
-      bounded = le;
-      answered = unread profile Prevents IsDeckText f bytes kept is (kept_as_it_was kept);
-      whole = tt;
-    },
-  );
-  known_reader = told_unread profile before kept Prevents IsDeckText f most_bytes is;
-  unwritten = λ _. kept_as_it_was kept;
 }

@@ -64,13 +64,6 @@ parts a b r s long e =
 
 -- ---- numbers
 
-length-digits : (base width n : ℕ) → length (digits base width n) ≡ width
-length-digits base zero n = refl
-length-digits base (suc width) n =
-    let all = length-append (digits base width (n / base)) (digit (n % base)) in
-    let most = length-digits base width (n / base) in
-    omega (arith, all, most)
-
 above_digits : (base width n : ℕ) → Above 47 (digits base width n)
 above_digits base zero n = tt
 above_digits base (suc width) n = above-append 47 (digits base width (n / base)) (digit (n % base)) (above_digits base width (n / base)) (omega arith, tt)

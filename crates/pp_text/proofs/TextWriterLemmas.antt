@@ -1,25 +1,12 @@
 -- What a text writer has printed.
-use Rattle.std.proofs.Common.{◌≡◌, ℕ, true, false, List, [], ◌++◌, Option, Result, Ok, Err, sym, ◌∙◌, ap, append_assoc}
+use Rattle.std.proofs.Common.{◌≡◌, ℕ, true, false, List, [], ◌++◌, Option, Result, Ok, Err, ap}
 use Rattle.std.proofs.lemmas.List.{append-nil}
 use Rattle.std.specs.Io.KnownBytes.{Appends}
 use Rattle.std.specs.Result.{is_err}
-use Rattle.pp_text.specs.PrintingLaws.{prints_then}
 use Rattle.pp_text.specs.TextWriter.{Prints}
 use Rattle.pp_text.specs.Written.{AppendsFront, IsWritten}
 use Rattle.pp_text.specs.declared.text_writer.TextWriter.{TextWriter}
-use Rattle.pp_text.proofs.WriteLemmas.{appends_then, front_longer, front_then}
-
--- what a piece takes in is printed
-pub prints_held : {W : Type 0} (contents : W → Option (List ℕ)) (a b : TextWriter W) (text : List ℕ) → b.writer ≡ a.writer → b.failed ≡ a.failed → b.piece ≡ a.piece ++ text → Prints contents a b text
-prints_held contents a b text same failed held = record {
-  same_writer = ap (λ w. w.ghost_name) same;
-  goes_on = λ start before so_far. record {
-    whole = λ not.
-        let (written, all, out) = so_far.whole (sym failed ∙ not) in
-        (written, rw (held, all) (append_assoc written a.piece text), rw same out);
-    front = λ is. rw same (front_longer start (contents a.writer.now) before text (so_far.front (sym failed ∙ is)));
-  };
-}
+use Rattle.pp_text.proofs.WriteLemmas.{appends_then, front_then}
 
 -- a writer that failed stays as it is
 pub prints_lost : {W : Type 0} (contents : W → Option (List ℕ)) (a b : TextWriter W) → a.failed ≡ true → b.failed ≡ true → b.writer ≡ a.writer → Prints contents a b []

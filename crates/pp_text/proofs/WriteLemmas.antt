@@ -1,6 +1,6 @@
 -- What successive writes do to known bytes.
 use Rattle.std.proofs.Common.{ℕ, ◌+◌, List, ◌++◌, length, take, drop, Option, Some, None, ap, ◌∙◌, append_assoc, length-append, arith}
-use Rattle.std.specs.Io.KnownBytes.{Appends, Keeps}
+use Rattle.std.specs.Io.KnownBytes.{Appends}
 use Rattle.std.proofs.Math.Seq.{take-add, take-append-add}
 use Rattle.std.proofs.lemmas.List.{take-append-le, take_all}
 use Rattle.pp_text.specs.Written.{AppendsFront}
@@ -15,13 +15,6 @@ appends_then (Some ws) (Some bs) (Some cs) xs ys h k = k ∙ ap (λ (l : List �
 -- a front of a text was written, and then a front of the rest
 pub appends_more : (a b c : Option (List ℕ)) (text : List ℕ) (done count : ℕ) → Appends a b (take done text) → Appends b c (take count (drop done text)) → Appends a c (take (done + count) text)
 appends_more a b c text done count h k = rw (take-add done count text) (appends_then a b c (take done text) (take count (drop done text)) h k)
-
--- some bytes were written, and then known bytes stay
-pub appends_kept : (a b c : Option (List ℕ)) (xs : List ℕ) → Appends a b xs → Keeps b c → Appends a c xs
-appends_kept None b c xs h k = tt
-appends_kept (Some ws) None c xs h k = absurd h
-appends_kept (Some ws) (Some bs) None xs h k = absurd k
-appends_kept (Some ws) (Some bs) (Some cs) xs h k = k ∙ h
 
 -- all of a text is a front of it
 pub whole_front : (a b : Option (List ℕ)) (xs : List ℕ) → Appends a b xs → AppendsFront a b xs

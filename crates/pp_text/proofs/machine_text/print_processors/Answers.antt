@@ -1,5 +1,5 @@
 use Rattle.std.proofs.Common.{◌≡◌, ℕ, ◌<◌, subst, sym, arith}
-use Rattle.std.specs.Prelude.{IsTrue, slice_index_or}
+use Rattle.std.specs.Prelude.{IsTrue}
 use Rattle.std.specs.List.{flat_map}
 use Rattle.pp_word.specs.Tables.{tabulate}
 use Rattle.pp_machine.specs.MachineState.{processor_of}

@@ -1,5 +1,5 @@
 use Rattle.std.proofs.Common.{append_assoc}
-use Rattle.pp_text.specs.PrintedText.{processor_line, state_text}
+use Rattle.pp_text.specs.PrintedText.{processor_line}
 use Rattle.pp_text.specs.PrintingLaws.{◌▹◌, prints_on}
 use Rattle.pp_text.proofs.printed_line.print_processor.Goals as goal
 

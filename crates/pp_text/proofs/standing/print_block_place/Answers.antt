@@ -1,5 +1,4 @@
-use Rattle.std.proofs.Common.{◌++◌, Option, ap, codes, sym, ◌∙◌, ℕ}
-use Rattle.pp_machine.specs.declared.block.Block.{Block}
+use Rattle.std.proofs.Common.{◌++◌, ap, codes, sym, ◌∙◌, ℕ}
 use Rattle.pp_word.specs.Numeral.{octal}
 use Rattle.pp_text.specs.PrintingLaws.{prints_on}
 use Rattle.pp_text.specs.Standing.{block_place_text}

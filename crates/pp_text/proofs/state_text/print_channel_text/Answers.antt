@@ -1,4 +1,4 @@
-use Rattle.std.proofs.Common.{ℕ, ◌++◌, codes, sym, ap, ◌∙◌, Option}
+use Rattle.std.proofs.Common.{ℕ, ◌++◌, codes, sym, ap, ◌∙◌}
 use Rattle.pp_channel.specs.History.{active}
 use Rattle.pp_word.specs.Numeral.{octal}
 use Rattle.pp_text.specs.PrintedText.{channel_text}
