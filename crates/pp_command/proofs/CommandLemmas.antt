@@ -2,7 +2,7 @@
 use Rattle.std.proofs.Common.{◌≡◌, ◌∙◌, ℕ, ◌-◌, ◌<◌, ◌≤◌, ap, ap₂, arith, slice_index, Bool, true, false, not, IsTrue, List, [], Option, Some, None, option_map, sym, subst, refl, inl, inr, codes}
 use Rattle.std.specs.Prelude.{Box, ◌≢◌, is_some}
 use Rattle.std.specs.Box.{box_value}
-use Rattle.clap.specs.Words.{App, HasKind, IsAmong, Kinds, Text, Row, HasMatchesOf, fault_of, is_simple, is_simple_and_free, first_value, first_of, found_of, kind_of, rows_of, subcommand_of, subcommand_rows, subcommand_rows_of, subcommand_name_of}
+use Rattle.clap.specs.Words.{App, HasKind, IsAmong, Kinds, Text, Row, HasMatchesOf, fault_of, is_simple, is_simple_and_free, found_of, kind_of, rows_of, subcommand_of, subcommand_rows, subcommand_rows_of, subcommand_name_of}
 use Rattle.clap.specs.declared.error.Error.{Error}
 use Rattle.clap.specs.declared.error.kind.ErrorKind.TheVariants.{OutOfMemory}
 use Rattle.clap.specs.declared.parser.matches.Found.{Found}

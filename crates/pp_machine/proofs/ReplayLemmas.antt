@@ -1,10 +1,9 @@
 -- Replays, an answer at a time.
-use Rattle.std.proofs.Common.{◌≡◌, ℕ, ◌+◌, ◌<◌, ◌≤◌, refl, true, false, List, [], ◌∷◌, drop, length, get_or, ap, ◌∙◌, if◌then◌else◌}
+use Rattle.std.proofs.Common.{◌≡◌, ℕ, ◌+◌, ◌<◌, ◌≤◌, refl, true, false, List, ◌∷◌, drop, length, get_or, ap, ◌∙◌}
 use Rattle.std.proofs.lemmas.List.{drop_more, drop_all}
 use Rattle.pp_machine.specs.NeedAndEffect.{need, processor_after}
-use Rattle.pp_machine.specs.Processor.{Processor, IsAtRest}
+use Rattle.pp_machine.specs.Processor.{Processor}
 use Rattle.pp_machine.specs.Replay.{fits, replayed, given_count}
-use Rattle.pp_machine.proofs.StepLemmas.{rest_changes_nothing}
 use Rattle.pp_machine.specs.declared.answer.Answer.{Answer}
 
 -- the answers from i on are the one at i and the rest

@@ -12,7 +12,7 @@ use Rattle.pp_machine.specs.declared.profile.Profile.{Profile}
 use Rattle.pp_machine.specs.Rounds.{RestBetween, PassesOverRest, whole_rounds}
 use Rattle.pp_machine.specs.Run.{run, barrel}
 use Rattle.pp_machine.proofs.MachineStepLemmas.{stepped_at_rest}
-use Rattle.pp_machine.proofs.ProfileLemmas.{index_in_turn, in_round, more_rounds, fewer_rounds, one_round}
+use Rattle.pp_machine.proofs.ProfileLemmas.{index_in_turn, in_round, more_rounds, fewer_rounds}
 use Rattle.pp_machine.specs.RunLaws.{run-append, run_profile, barrel_more}
 
 -- a step changes no other processor

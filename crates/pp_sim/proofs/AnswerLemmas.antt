@@ -1,15 +1,19 @@
 -- From what was read, and the answer to it, to what a call promises of every reader.
-use Rattle.std.proofs.Common.{◌≡◌, ◌≢◌, refl, ℕ, ◌≤◌, ◌<◌, Bool, true, false, cond, List, length, take, inl, inr, Option, Some, None, Result, Ok, Err}
-use Rattle.std.specs.Prelude.{◌⊎◌, IfErr, IfSome, OnErr, OnOk}
-use Rattle.std.specs.Io.KnownBytes.{Appends, Consumes, IsAtEnd, Keeps}
+use Rattle.std.proofs.Common.{◌≡◌, ◌≢◌, refl, ℕ, ◌≤◌, ◌<◌, Bool, true, false, cond, List, length, take, inl, inr, Option, Some, None, Result, Ok, Err, subst}
+use Rattle.std.specs.Prelude.{◌⊎◌, IfErr, IfSome, OnOk}
+use Rattle.std.specs.Io.KnownBytes.{Consumes, IsAtEnd, Keeps}
 use Rattle.std.proofs.lemmas.Bool.{cases_lt, lt-ltb}
 use Rattle.pp_sim.proofs.ByteLemmas.{read_front}
+use Rattle.pp_machine.specs.Headline.{HoldsOnEachChannel}
+use Rattle.pp_machine.specs.MachineState.{MachineState}
+use Rattle.pp_machine.specs.Run.{barrel, run}
 use Rattle.pp_machine.specs.declared.profile.Profile.{Profile}
 use Rattle.pp_deck.specs.DeckMeaning.{LoadedDeck, deck_meaning}
 use Rattle.pp_deck.specs.declared.deck_fault.DeckFault.{DeckFault}
-use Rattle.pp_text.specs.Written.{AppendsFront, IsWritten}
+use Rattle.pp_text.specs.Written.{IsWritten}
 use Rattle.pp_text.specs.declared.write_fault.WriteFault.{WriteFault}
-use Rattle.pp_sim.specs.TextAnswer.{AnswersDeckUnless, IsAnswerUnless, answer_to, IsOfDeck, IsLoadFault, IsReadFault, most_bytes}
+use Rattle.pp_sim.specs.TextAnswer.{AnswersDeckUnless, IsAnswerUnless, answer_to, IsOfDeck, IsLoadFault, NothingPrevents, most_bytes}
+use Rattle.pp_sim.specs.TextOf.{IsTextAfter}
 use Rattle.pp_listing.specs.declared.going_on.Busy.{Busy}
 use Rattle.pp_sim.specs.declared.text_fault.TextFault.{TextFault}
 use Rattle.pp_sim.specs.declared.text_fault.TextFault.TheVariants as fault
@@ -19,6 +23,14 @@ pub answers_written : (profile : Profile) (Prevents : LoadedDeck → Busy → Ty
     → IsOfDeck profile IsDeckText bytes text → IsWritten text written old new → IsAnswerUnless profile Prevents IsDeckText (answer_to written) bytes old new
 answers_written profile Prevents IsDeckText bytes text (Ok done) old new is whole = (text, is, whole)
 answers_written profile Prevents IsDeckText bytes text (Err fault) old new is front = (text, is, front)
+
+-- the same of a text of the run of some turns
+pub answers_after : (profile : Profile) (turns : ℕ) (text_after : List ℕ → LoadedDeck → List ℕ) (bytes text : List ℕ) (deck : LoadedDeck) (after : MachineState) (written : Result (Unit {0}) WriteFault) (old new : Option (List ℕ))
+    → deck_meaning profile bytes ≡ Ok deck → after ≡ run (barrel deck.machine.profile turns) deck.machine → HoldsOnEachChannel after → text ≡ text_after (barrel deck.machine.profile turns) deck
+    → IsWritten text written old new → IsAnswerUnless profile NothingPrevents (IsTextAfter turns text_after) (answer_to written) bytes old new
+answers_after profile turns text_after bytes text deck after written old new meant ran holds is whole =
+    answers_written profile NothingPrevents (IsTextAfter turns text_after) bytes text written old new
+    (record { deck = deck; meant = meant; told = record { told = is; headline = subst HoldsOnEachChannel ran holds } }) whole
 
 -- the answer to the bytes that were read is that to the first bytes that the reader had
 told_answer : (profile : Profile) (before after old new : Option (List ℕ)) (Prevents : LoadedDeck → Busy → Type 0) (IsDeckText : LoadedDeck → List ℕ → Type 0) (front : List ℕ) (most : ℕ) (answer : Result (Unit {0}) TextFault)
@@ -91,15 +103,3 @@ refused profile Prevents IsDeckText fault.Memory bytes kept is = kept_as_it_was 
 refused profile Prevents IsDeckText fault.Read bytes kept is = absurd is
 refused profile Prevents IsDeckText fault.Write bytes kept is = absurd is
 refused profile Prevents IsDeckText (fault.Trace f) bytes kept is = absurd is
-
--- where reading failed, the answer to all bytes is that nothing was written
-unread : (profile : Profile) (Prevents : LoadedDeck → Busy → Type 0) (IsDeckText : LoadedDeck → List ℕ → Type 0) (f : TextFault) (bytes : List ℕ) (kept : Option (List ℕ))
-    → IsReadFault f → Keeps kept kept → IsAnswerUnless profile Prevents IsDeckText (Err f) bytes kept kept
-unread profile Prevents IsDeckText fault.Read bytes kept is keeps = keeps
-unread profile Prevents IsDeckText fault.Memory bytes kept is keeps = keeps
-unread profile Prevents IsDeckText fault.Write bytes kept is keeps = absurd is
-unread profile Prevents IsDeckText (fault.Deck f) bytes kept is keeps = absurd is
-unread profile Prevents IsDeckText (fault.NotBetweenPrograms going_on) bytes kept is keeps = absurd is
-unread profile Prevents IsDeckText (fault.Trace f) bytes kept is keeps = absurd is
-
-}

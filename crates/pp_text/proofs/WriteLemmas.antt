@@ -2,7 +2,7 @@
 use Rattle.std.proofs.Common.{ℕ, ◌+◌, List, ◌++◌, length, take, drop, Option, Some, None, ap, ◌∙◌, append_assoc, length-append, arith}
 use Rattle.std.specs.Io.KnownBytes.{Appends}
 use Rattle.std.proofs.Math.Seq.{take-add, take-append-add}
-use Rattle.std.proofs.lemmas.List.{take-append-le, take_all}
+use Rattle.std.proofs.lemmas.List.{take_all}
 use Rattle.pp_text.specs.Written.{AppendsFront}
 
 -- some bytes were written, and then some more
@@ -19,10 +19,6 @@ appends_more a b c text done count h k = rw (take-add done count text) (appends_
 -- all of a text is a front of it
 pub whole_front : (a b : Option (List ℕ)) (xs : List ℕ) → Appends a b xs → AppendsFront a b xs
 whole_front a b xs h = (length xs, omega arith, rw (take_all (length xs) xs (omega arith)) h)
-
--- a front of a text is one of a longer text
-pub front_longer : (a b : Option (List ℕ)) (xs ys : List ℕ) → AppendsFront a b xs → AppendsFront a b (xs ++ ys)
-front_longer a b xs ys (count, within, h) = (count, omega (arith, within, length-append xs ys), rw (take-append-le count xs ys within) h)
 
 -- some bytes were written, and then a front of some more
 pub front_then : (a b c : Option (List ℕ)) (xs ys : List ℕ) → Appends a b xs → AppendsFront b c ys → AppendsFront a c (xs ++ ys)

@@ -4,7 +4,7 @@ ghost use Rattle.pp_sim.specs.BarrelText.{IsBarrelText};
 ghost use Rattle.pp_sim.specs.TextAnswer.{AnswersDeck, IsAnswer};
 
 use crate::deck_bytes::DeckBytes;
-use crate::text_fault::TextFault;
+use crate::text_fault::{TextFault, answer_to};
 use crate::texts::deck_text::deck_text;
 use pp_command::TextOf;
 use pp_machine::Profile;
@@ -41,8 +41,5 @@ pub(crate) fn write_barrel<A: Allocator + Copy, W: Write>(
     let Ok(()) = loaded.machine.run_barrel(turns) else {
         return Err(TextFault::Memory);
     };
-    match write_text(writer, &loaded.machine, &loaded.named) {
-        Ok(()) => Ok(()),
-        Err(_) => Err(TextFault::Write),
-    }
+    answer_to(write_text(writer, &loaded.machine, &loaded.named))
 }

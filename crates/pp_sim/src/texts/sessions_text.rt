@@ -5,7 +5,7 @@ ghost use Rattle.pp_sim.specs.TextAnswer.{IsAnswer};
 ghost use Rattle.pp_sim.specs.TextOf.{IsTextAfter};
 
 use crate::deck_bytes::DeckBytes;
-use crate::text_fault::TextFault;
+use crate::text_fault::{TextFault, answer_to};
 use pp_sessions::{run_counting_steps, write_sessions};
 use std::alloc::Allocator;
 use std::io::Write;
@@ -25,8 +25,5 @@ pub(crate) fn write_sessions_after<A: Allocator + Copy, W: Write>(
     let Ok(counts) = run_counting_steps(&mut loaded.machine, turns) else {
         return Err(TextFault::Memory);
     };
-    match write_sessions(writer, &loaded.machine, &shown, &counts, words) {
-        Ok(()) => Ok(()),
-        Err(_) => Err(TextFault::Write),
-    }
+    answer_to(write_sessions(writer, &loaded.machine, &shown, &counts, words))
 }

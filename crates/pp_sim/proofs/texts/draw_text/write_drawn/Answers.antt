@@ -1,14 +1,11 @@
-use Rattle.std.proofs.Common.{Bool, List, ap, ◌∙◌, subst}
-use Rattle.pp_machine.specs.Headline.{HoldsOnEachChannel}
+use Rattle.std.proofs.Common.{Bool, List, ap, ◌∙◌}
 use Rattle.pp_machine.specs.MachineState.{MachineState}
 use Rattle.pp_machine.specs.Run.{barrel, run}
 use Rattle.pp_deck.specs.InUse.{in_use}
-use Rattle.pp_draw.specs.DrawingText.{drawing}
+use Rattle.pp_draw.specs.DrawingText.{drawing, drawing_of_run}
 use Rattle.pp_draw.specs.declared.seen_step.SeenStep.{SeenStep}
-use Rattle.pp_sim.proofs.AnswerLemmas.{answers_written}
+use Rattle.pp_sim.proofs.AnswerLemmas.{answers_after}
 use Rattle.pp_sim.proofs.texts.draw_text.write_drawn.Goals as goal
-use Rattle.pp_sim.specs.TextAnswer.{NothingPrevents}
-use Rattle.pp_sim.specs.TextOf.{IsDrawing}
 
 pub returns : goal.returns
 returns g c =
@@ -16,16 +13,10 @@ returns g c =
     let shown = in_use (record { machine = before; named = c.in_ok-loaded.loaded.named }) in
     let after = c.run_seeing_steps.new.machine in
     let ran_to : MachineState → MachineState = λ m. run (barrel m.profile c.args.window.to) m in
-    rw c.answer_to.ensures (answers_written c.args.deck.now.profile NothingPrevents (IsDrawing c.args.window) c.args.deck.now.bytes.now _ c.write_drawing.result _ _
-    (record {
-      deck = _;
-      meant = c.in_ok-loaded.ensures.ok;
-      told = record {
-        told = ap (λ (flags : List Bool). drawing c.args.window flags after c.as_slice.result.now) c.in_use-shown.ensures
-            ∙ ap (λ (steps : List SeenStep). drawing c.args.window shown after steps) c.as_slice.ensures.value
-            ∙ ap (λ (m : MachineState). drawing c.args.window shown m c.in-Ok.steps.items) c.in-Ok.ensures.ran
-            ∙ ap (λ (steps : List SeenStep). drawing c.args.window shown (ran_to before) steps) c.in-Ok.ensures.seen;
-        headline = subst HoldsOnEachChannel c.in-Ok.ensures.ran c.run_seeing_steps.ensures.headline;
-      };
-    })
-    c.write_drawing.ensures)
+    let told =
+    ap (λ (flags : List Bool). drawing c.args.window flags after c.as_slice.result.now) c.in_use-shown.ensures
+    ∙ ap (λ (steps : List SeenStep). drawing c.args.window shown after steps) c.as_slice.ensures.value
+    ∙ ap (λ (m : MachineState). drawing c.args.window shown m c.in-Ok.steps.items) c.in-Ok.ensures.ran
+    ∙ ap (λ (steps : List SeenStep). drawing c.args.window shown (ran_to before) steps) c.in-Ok.ensures.seen in
+    rw c.answer_to.ensures (answers_after c.args.deck.now.profile c.args.window.to (λ turns. drawing_of_run c.args.window) c.args.deck.now.bytes.now _ _ after c.write_drawing.result _ _
+    c.in_ok-loaded.ensures.ok c.in-Ok.ensures.ran c.run_seeing_steps.ensures.headline told c.write_drawing.ensures)

@@ -1,6 +1,5 @@
-use Rattle.std.proofs.Common.{◌≡◌, Bool, List, ℕ, ap, ◌∙◌, subst}
+use Rattle.std.proofs.Common.{◌≡◌, Bool, List, ℕ, ap, ◌∙◌}
 use Rattle.std.proofs.lemmas.Result.{err_from_is_err_and}
-use Rattle.pp_machine.specs.Headline.{HoldsOnEachChannel}
 use Rattle.pp_machine.specs.MachineState.{MachineState}
 use Rattle.pp_machine.specs.Run.{barrel, run}
 use Rattle.pp_deck.specs.DeckMeaning.{LoadedDeck, deck_meaning}
@@ -8,7 +7,7 @@ use Rattle.pp_deck.specs.InUse.{in_use}
 use Rattle.pp_run.specs.RunSteps.{run_steps}
 use Rattle.pp_state.specs.HeldSteps.{each_held_steps}
 use Rattle.pp_state.specs.StateText.{state_after, state_text}
-use Rattle.pp_sim.proofs.AnswerLemmas.{answers_written, refused}
+use Rattle.pp_sim.proofs.AnswerLemmas.{answers_after, refused}
 use Rattle.pp_sim.proofs.StateLemmas.{one_deck}
 use Rattle.pp_sim.proofs.texts.state_text.write_state_after.Goals as goal
 use Rattle.pp_sim.specs.TextOf.{IsTextAfter}
@@ -25,18 +24,12 @@ returns g c =
     let ran : c.run_counting_held.new.machine ≡ ran_on before = c.in-Ok.ensures.ran ∙ ap ran_on same in
     let counted : c.in-Ok.held ≡ each_held_steps (run_steps (barrel before.profile turns) before) =
     c.in-Ok.ensures.held ∙ ap (λ (m : MachineState). each_held_steps (run_steps (barrel m.profile turns) m)) same in
-    rw c.answer_to.ensures (answers_written c.args.deck.now.profile NothingPrevents (IsTextAfter turns state_after) c.args.deck.now.bytes.now _ c.write_state.result _ _
-    (record {
-      deck = _;
-      meant = c.in_ok-before.ensures.ok;
-      told = record {
-        told = ap (λ (flags : List Bool). state_text flags before c.run_counting_held.new.machine c.in-Ok.held) c.in_use-shown.ensures
-            ∙ ap (λ (m : MachineState). state_text shown before m c.in-Ok.held) ran
-            ∙ ap (λ (held : List ℕ). state_text shown before (ran_on before) held) counted;
-        headline = subst HoldsOnEachChannel ran c.run_counting_held.ensures.headline;
-      };
-    })
-    c.write_state.ensures)
+    let told =
+    ap (λ (flags : List Bool). state_text flags before c.run_counting_held.new.machine c.in-Ok.held) c.in_use-shown.ensures
+    ∙ ap (λ (m : MachineState). state_text shown before m c.in-Ok.held) ran
+    ∙ ap (λ (held : List ℕ). state_text shown before (ran_on before) held) counted in
+    rw c.answer_to.ensures (answers_after c.args.deck.now.profile turns state_after c.args.deck.now.bytes.now _ _ c.run_counting_held.new.machine c.write_state.result _ _
+    c.in_ok-before.ensures.ok ran c.run_counting_held.ensures.headline told c.write_state.ensures)
 
 pub returns-in_err-after : goal.returns-in_err-after
 returns-in_err-after g c =

@@ -1,0 +1,14 @@
+use Rattle.std.proofs.Common.{ap, ◌∙◌}
+use Rattle.pp_machine.specs.MachineState.{MachineState, processor_of}
+use Rattle.pp_state.specs.MemoryText.{memory_text}
+use Rattle.pp_sim.proofs.AnswerLemmas.{answers_after}
+use Rattle.pp_sim.proofs.texts.memory_text.write_memory_after.Goals as goal
+use Rattle.pp_sim.specs.TextOf.{memory_after}
+
+pub returns : goal.returns
+returns g c =
+    let n = c.args.processor in
+    let bounds = c.args.bounds in
+    let told = ap (memory_text bounds) c.pp.ensures ∙ ap (λ (m : MachineState). memory_text bounds (processor_of n m)) c.in-Ok.ensures.ok in
+    rw c.answer_to.ensures (answers_after c.args.deck.now.profile c.args.turns (memory_after n bounds) c.args.deck.now.bytes.now _ _ c.run_barrel.new.self c.write_memory.result _ _
+    c.in_ok-loaded.ensures.ok c.in-Ok.ensures.ok c.run_barrel.ensures.headline told c.write_memory.ensures)

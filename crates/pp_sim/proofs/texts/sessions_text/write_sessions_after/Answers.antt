@@ -1,0 +1,21 @@
+use Rattle.std.proofs.Common.{Bool, List, ap, ◌∙◌}
+use Rattle.pp_machine.specs.MachineState.{MachineState}
+use Rattle.pp_machine.specs.Run.{barrel, run}
+use Rattle.pp_deck.specs.InUse.{in_use}
+use Rattle.pp_sessions.specs.SessionsText.{sessions_after, sessions_text}
+use Rattle.pp_sessions.specs.declared.step_counts.StepCounts.{StepCounts}
+use Rattle.pp_sim.proofs.AnswerLemmas.{answers_after}
+use Rattle.pp_sim.proofs.texts.sessions_text.write_sessions_after.Goals as goal
+
+pub returns : goal.returns
+returns g c =
+    let words = c.args.words in
+    let before = c.in_ok-loaded.loaded.machine in
+    let shown = in_use (record { machine = before; named = c.in_ok-loaded.loaded.named }) in
+    let after = c.run_counting_steps.new.machine in
+    let told =
+    ap (λ (flags : List Bool). sessions_text words flags after c.in-Ok.counts) c.in_use-shown.ensures
+    ∙ ap (λ (m : MachineState). sessions_text words shown m c.in-Ok.counts) c.in-Ok.ensures.ran
+    ∙ ap (λ (counts : List StepCounts). sessions_text words shown (run (barrel before.profile c.args.turns) before) counts) c.in-Ok.ensures.counts in
+    rw c.answer_to.ensures (answers_after c.args.deck.now.profile c.args.turns (sessions_after words) c.args.deck.now.bytes.now _ _ after c.write_sessions.result _ _
+    c.in_ok-loaded.ensures.ok c.in-Ok.ensures.ran c.run_counting_steps.ensures.headline told c.write_sessions.ensures)
