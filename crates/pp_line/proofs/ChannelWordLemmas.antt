@@ -96,65 +96,30 @@ word_after_event h e l bits more =
     ∙ (ap (λ g. packed (length (h ++ e ∷ [])) g (unwrap_or (word_put e) 0)) (sym (flags_by_table h e l more))
     ∙ ap (λ w. packed (length (h ++ e ∷ [])) (flags_of (h ++ e ∷ [])) (unwrap_or w 0)) (sym (word_by_table h e l more)))
 
--- an operation that does more than look, on a word that can count no more
-worn_if : (look most : Bool) → (not look && most) ≡ true → (look ≡ false) × (most ≡ true)
-worn_if true most is = absurd cc
-worn_if false most is = (refl, is)
+-- the step of an operation that only looks or not, on a word that can count no more or not, by the event that it would make
+abbrev step_shown : ℕ → Bool → Option Event → WordStep
+step_shown word looks None = if looks then WordStep.Look (flags_in word) else WordStep.Held (flags_in word)
+step_shown word looks (Some e) = WordStep.Next (word_with word e) (reply_made e) e
 
-not_worn_if : (look most : Bool) → (not look && most) ≡ false → look ≡ false → most ≡ false
-not_worn_if true most is acts = absurd cc
-not_worn_if false most is acts = is
+abbrev step_if : ℕ → Bool → Bool → Option Event → WordStep
+step_if word looks most o = if not looks && most then WordStep.Worn else step_shown word looks o
 
-room_if : (look most : Bool) → (look ≡ false → most ≡ false) → (not look && most) ≡ false
+step_is : (op : ChanOp) (word : ℕ) → step_from op word ≡ step_if word (only_looks op) (number_in word == greatest_number) (event_by op (flags_in word) (waiting_in word))
+step_is op word = by_event (event_by op (flags_in word) (waiting_in word))
+  where
+    by_event : (o : Option Event) → (if not (only_looks op) && (number_in word == greatest_number) then WordStep.Worn else step_by op word o) ≡ step_if word (only_looks op) (number_in word == greatest_number) o
+    by_event None = refl
+    by_event (Some e) = refl
+
+room_if : (looks most : Bool) → (looks ≡ false → most ≡ false) → (not looks && most) ≡ false
 room_if true most room = refl
 room_if false most room = room refl
 
-abbrev step_if : ChanOp → ℕ → Bool → WordStep
-step_if op word worn = if worn then WordStep.Worn else step_by op word (event_by op (flags_in word) (waiting_in word))
-
-abbrev shown_if : Bool → Flags → WordStep
-shown_if look f = if look then WordStep.Look f else WordStep.Held f
-
-steps_below : (op : ChanOp) (word : ℕ) (o : Option Event) → (only_looks op ≡ false → number_in word ≢ greatest_number) → event_by op (flags_in word) (waiting_in word) ≡ o → step_from op word ≡ step_by op word o
+steps_below : (op : ChanOp) (word : ℕ) (o : Option Event) → (only_looks op ≡ false → number_in word ≢ greatest_number) → event_by op (flags_in word) (waiting_in word) ≡ o → step_from op word ≡ step_shown word (only_looks op) o
 steps_below op word o room is =
-    ap (step_if op word) (room_if (only_looks op) (number_in word == greatest_number) (λ acts. ne_eqb (number_in word) greatest_number (room acts)))
-    ∙ ap (λ x. step_by op word x) is
-
-steps_worn : (op : ChanOp) (word : ℕ) → only_looks op ≡ false → number_in word ≡ greatest_number → step_from op word ≡ WordStep.Worn
-steps_worn op word acts most =
-    ap (λ look. step_if op word (not look && (number_in word == greatest_number))) acts ∙ ap (step_if op word) (eq-eqb (number_in word) greatest_number most)
-
--- what a step can be: an operation finds the channel worn, or is shown how it stands, or makes its event
-abbrev FindsWorn : ChanOp → ℕ → WordStep → Type 0
-FindsWorn op word step = (only_looks op ≡ false) × (number_in word ≡ greatest_number) × (step ≡ WordStep.Worn)
-
-abbrev Shows : ChanOp → ℕ → WordStep → Type 0
-Shows op word step = (only_looks op ≡ false → number_in word ≢ greatest_number) × (event_by op (flags_in word) (waiting_in word) ≡ None) × (step ≡ step_by op word None)
-
-abbrev Makes : ChanOp → ℕ → WordStep → Type 0
-Makes op word step = (only_looks op ≡ false) × (number_in word ≢ greatest_number)
-    × ((e : Event) × (event_by op (flags_in word) (waiting_in word) ≡ Some e) × (step ≡ WordStep.Next (word_with word e) (reply_made e) e))
-
-abbrev Kind : ChanOp → ℕ → WordStep → Type 0
-Kind op word step = FindsWorn op word step ⊎ (Shows op word step ⊎ Makes op word step)
-
-kind_below : (op : ChanOp) (word : ℕ) (step : WordStep) → (only_looks op ≡ false → number_in word ≢ greatest_number) → step ≡ step_from op word → (o : Option Event) → event_by op (flags_in word) (waiting_in word) ≡ o → Kind op word step
-kind_below op word step room is None at = inr (inl (room, at, is ∙ steps_below op word None room at))
-kind_below op word step room is (Some e) at =
-    let acts = acts_where_made op (flags_in word) (waiting_in word) e at in
-    inr (inr (acts, room acts, (e, at, is ∙ steps_below op word (Some e) room at)))
-
-kind_by : (op : ChanOp) (word : ℕ) (step : WordStep) → step ≡ step_from op word → (worn : Bool) → (not (only_looks op) && (number_in word == greatest_number)) ≡ worn → Kind op word step
-kind_by op word step is true at =
-    let worn = worn_if (only_looks op) (number_in word == greatest_number) at in
-    inl (worn.0, eqb-true (number_in word) greatest_number worn.1, is ∙ ap (step_if op word) at)
-kind_by op word step is false at =
-    kind_below op word step
-    (λ acts most. let less = not_worn_if (only_looks op) (number_in word == greatest_number) at acts in let same = eq-eqb (number_in word) greatest_number most in let both : true ≡ false = sym same ∙ less in cc)
-    is (event_by op (flags_in word) (waiting_in word)) refl
-
-kind_of : (op : ChanOp) (word : ℕ) (step : WordStep) → step ≡ step_from op word → Kind op word step
-kind_of op word step is = kind_by op word step is (not (only_looks op) && (number_in word == greatest_number)) refl
+    step_is op word
+    ∙ (ap (λ worn. if worn then WordStep.Worn else step_shown word (only_looks op) (event_by op (flags_in word) (waiting_in word))) (room_if (only_looks op) (number_in word == greatest_number) (λ acts. ne_eqb (number_in word) greatest_number (room acts)))
+    ∙ ap (step_shown word (only_looks op)) is)
 
 -- a step that leaves the word as it is
 abbrev pub Stays : WordStep → Type 0
@@ -163,54 +128,68 @@ Stays (WordStep.Held f) = Unit {0}
 Stays (WordStep.Next next reply e) = ⊥
 Stays WordStep.Worn = ⊥
 
-stays_if : (look : Bool) (f : Flags) → Stays (shown_if look f)
-stays_if true f = tt
-stays_if false f = tt
-
 pub stays_where_shown : (op : ChanOp) (word : ℕ) (step : WordStep) → step ≡ step_by op word None → Stays step
-stays_where_shown op word step is = subst Stays (sym is) (stays_if (only_looks op) (flags_in word))
+stays_where_shown op word step is = subst Stays (sym is) (either_stays (only_looks op))
+  where
+    either_stays : (looks : Bool) → Stays (if looks then WordStep.Look (flags_in word) else WordStep.Held (flags_in word))
+    either_stays true = tt
+    either_stays false = tt
 
 pub stays_either : (step : WordStep) → ((f : Flags) × (step ≡ WordStep.Look f)) ⊎ ((f : Flags) × (step ≡ WordStep.Held f)) → Stays step
 stays_either step (inl (f, is)) = subst Stays (sym is) tt
 stays_either step (inr (f, is)) = subst Stays (sym is) tt
 
-worn_by_kind : (word : ℕ) (op : ChanOp) → Kind op word WordStep.Worn → (only_looks op ≡ false) × (number_in word ≡ greatest_number)
-worn_by_kind word op (inl k) = (k.0, k.1)
-worn_by_kind word op (inr (inl k)) = absurd (stays_where_shown op word WordStep.Worn k.2)
-worn_by_kind word op (inr (inr k)) = absurd (let is = k.2.2 in cc)
+-- what each step says of the word
+below : (m n : ℕ) → (m == n) ≡ false → m ≢ n
+below m n differ same = let equal = eq-eqb m n same in let both : true ≡ false = sym equal ∙ differ in cc
 
-shown_by_kind : (word : ℕ) (op : ChanOp) (step : WordStep) → Stays step → Kind op word step → (only_looks op ≡ false → number_in word ≢ greatest_number) × (event_by op (flags_in word) (waiting_in word) ≡ None)
-shown_by_kind word op (WordStep.Look f) stays (inl k) = absurd cc
-shown_by_kind word op (WordStep.Look f) stays (inr (inl k)) = (k.0, k.1)
-shown_by_kind word op (WordStep.Look f) stays (inr (inr k)) = absurd (let is = k.2.2 in cc)
-shown_by_kind word op (WordStep.Held f) stays (inl k) = absurd cc
-shown_by_kind word op (WordStep.Held f) stays (inr (inl k)) = (k.0, k.1)
-shown_by_kind word op (WordStep.Held f) stays (inr (inr k)) = absurd (let is = k.2.2 in cc)
-shown_by_kind word op (WordStep.Next next reply e) stays kind = absurd stays
-shown_by_kind word op WordStep.Worn stays kind = absurd stays
+pub worn_by_table : (word : ℕ) (op : ChanOp) → WordStep.Worn ≡ step_from op word → (only_looks op ≡ false) × (number_in word ≡ greatest_number)
+worn_by_table word op is =
+    let worn = by_step (only_looks op) (number_in word == greatest_number) (event_by op (flags_in word) (waiting_in word)) (is ∙ step_is op word) in (worn.0, eqb-true (number_in word) greatest_number worn.1)
+  where
+    by_step : (looks most : Bool) (o : Option Event) → WordStep.Worn ≡ step_if word looks most o → (looks ≡ false) × (most ≡ true)
+    by_step false true o is = (refl, refl)
+    by_step true most None is = absurd cc
+    by_step true most (Some e) is = absurd cc
+    by_step false false None is = absurd cc
+    by_step false false (Some e) is = absurd cc
+
+pub shown_by_table : (word : ℕ) (op : ChanOp) (step : WordStep) → Stays step → step ≡ step_from op word
+    → (only_looks op ≡ false → number_in word ≢ greatest_number) × (event_by op (flags_in word) (waiting_in word) ≡ None)
+shown_by_table word op step stays is =
+    let shown = by_step (only_looks op) (number_in word == greatest_number) (event_by op (flags_in word) (waiting_in word)) (subst Stays (is ∙ step_is op word) stays) in
+    (λ acts. below (number_in word) greatest_number (shown.0 acts), shown.1)
+  where
+    by_step : (looks most : Bool) (o : Option Event) → Stays (step_if word looks most o) → (looks ≡ false → most ≡ false) × (o ≡ None)
+    by_step true most None stays = (λ none. absurd cc, refl)
+    by_step true most (Some e) stays = absurd stays
+    by_step false true o stays = absurd stays
+    by_step false false None stays = (λ _. refl, refl)
+    by_step false false (Some e) stays = absurd stays
 
 -- what a step that makes an event says of the word
 abbrev pub MakesNext : ChanOp → ℕ → ℕ → Reply → Event → Type 0
 MakesNext op word next reply e = (only_looks op ≡ false) × (number_in word ≢ greatest_number) × (event_by op (flags_in word) (waiting_in word) ≡ Some e) × (next ≡ word_with word e) × (reply ≡ reply_made e)
 
-next_by_kind : (word : ℕ) (op : ChanOp) (next : ℕ) (reply : Reply) (e : Event) → Kind op word (WordStep.Next next reply e) → MakesNext op word next reply e
-next_by_kind word op next reply e (inl k) = absurd cc
-next_by_kind word op next reply e (inr (inl k)) = absurd (stays_where_shown op word (WordStep.Next next reply e) k.2)
-next_by_kind word op next reply e (inr (inr k)) =
-    let is = k.2.2 in
-    let same : k.2.0 ≡ e = cc in
-    (k.0, k.1, k.2.1 ∙ ap Some same, (let at : next ≡ word_with word k.2.0 = cc in at ∙ ap (word_with word) same), (let at : reply ≡ reply_made k.2.0 = cc in at ∙ ap reply_made same))
-
--- what each step says of the word
-pub worn_by_table : (word : ℕ) (op : ChanOp) → WordStep.Worn ≡ step_from op word → (only_looks op ≡ false) × (number_in word ≡ greatest_number)
-worn_by_table word op is = worn_by_kind word op (kind_of op word WordStep.Worn is)
-
-pub shown_by_table : (word : ℕ) (op : ChanOp) (step : WordStep) → Stays step → step ≡ step_from op word
-    → (only_looks op ≡ false → number_in word ≢ greatest_number) × (event_by op (flags_in word) (waiting_in word) ≡ None)
-shown_by_table word op step stays is = shown_by_kind word op step stays (kind_of op word step is)
-
 pub next_by_table : (word : ℕ) (op : ChanOp) (next : ℕ) (reply : Reply) (e : Event) → WordStep.Next next reply e ≡ step_from op word → MakesNext op word next reply e
-next_by_table word op next reply e is = next_by_kind word op next reply e (kind_of op word (WordStep.Next next reply e) is)
+next_by_table word op next reply e is =
+    let made = by_step (only_looks op) (number_in word == greatest_number) (event_by op (flags_in word) (waiting_in word)) (is ∙ step_is op word) in
+    let acts = acts_where_made op (flags_in word) (waiting_in word) e made.1 in
+    (acts, below (number_in word) greatest_number (made.0 acts), made.1, made.2, made.3)
+  where
+    made_by : (d : Event) → WordStep.Next next reply e ≡ step_shown word true (Some d) → (Some d ≡ Some e) × (next ≡ word_with word e) × (reply ≡ reply_made e)
+    made_by d is =
+        let same : d ≡ e = cc in
+        let word_is : next ≡ word_with word d = cc in
+        let reply_is : reply ≡ reply_made d = cc in
+        (ap Some same, word_is ∙ ap (word_with word) same, reply_is ∙ ap reply_made same)
+
+    by_step : (looks most : Bool) (o : Option Event) → WordStep.Next next reply e ≡ step_if word looks most o → (looks ≡ false → most ≡ false) × (o ≡ Some e) × (next ≡ word_with word e) × (reply ≡ reply_made e)
+    by_step false true o is = absurd cc
+    by_step true most None is = absurd cc
+    by_step false false None is = absurd cc
+    by_step true most (Some d) is = let by = made_by d is in (λ none. absurd cc, by.0, by.1, by.2)
+    by_step false false (Some d) is = let by = made_by d is in (λ _. refl, by.0, by.1, by.2)
 
 -- each history of the word goes on with the event to one of the next word
 pub next_word : (word : ℕ) (op : ChanOp) (e : Event) (next : ℕ) (reply : Reply) → WordStep.Next next reply e ≡ step_from op word → HasTwelveBitWord e
@@ -243,16 +222,18 @@ steps_from_word h op l bits =
     record {
       looks = λ looks.
           steps_below op (history_word h) None (λ acts most. let both : true ≡ false = sym looks ∙ acts in cc) (event_of_word op h bits ∙ look_makes_none op (flags_of h) (waiting h) looks)
-          ∙ ap (λ look. shown_if look (flags_in (history_word h))) looks
+          ∙ ap (λ look. step_shown (history_word h) look None) looks
           ∙ ap (λ f. WordStep.Look f) (flags_of_word h bits);
       ready = λ e room r.
           steps_below op (history_word h) (Some e) (λ acts most. omega arith) (event_of_word op h bits ∙ table_of_ready h l op e r)
           ∙ ap (λ w. WordStep.Next w (reply_made e) e) (word_after_event h e l bits r.lawful);
       not_ready = λ acts room never.
           steps_below op (history_word h) None (λ acts most. omega arith) (event_of_word op h bits ∙ none_without_ready h l op never (event_of op h) refl)
-          ∙ ap (λ look. shown_if look (flags_in (history_word h))) acts
+          ∙ ap (λ look. step_shown (history_word h) look None) acts
           ∙ ap (λ f. WordStep.Held f) (flags_of_word h bits);
-      worn = λ acts most. steps_worn op (history_word h) acts (n ∙ most);
+      worn = λ acts most.
+          step_is op (history_word h) ∙ ap (λ look. step_if (history_word h) look (number_in (history_word h) == greatest_number) (event_by op (flags_in (history_word h)) (waiting_in (history_word h)))) acts
+          ∙ ap (λ worn. if worn then WordStep.Worn else step_shown (history_word h) false (event_by op (flags_in (history_word h)) (waiting_in (history_word h)))) (eq-eqb (number_in (history_word h)) greatest_number (n ∙ most));
     }
 
 pub steps_as_histories : (word : ℕ) (op : ChanOp) (step : WordStep) → step ≡ step_from op word → (h : List Event) → IsLawful h → HasTwelveBitWords h → history_word h ≡ word → StepsFrom h op step

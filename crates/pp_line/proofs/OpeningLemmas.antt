@@ -6,7 +6,7 @@ use Rattle.std.specs.Prelude.{Some, ◌&&◌, slice_get, slice_set}
 use Rattle.std.specs.List.{All}
 use Rattle.std.proofs.lemmas.Bool.{cases_lt, cases_Bool, eqb-true, and_parts, false≢true}
 use Rattle.std.proofs.lemmas.List.{append-nil, nil_from_length, get_or-set_same}
-use Rattle.std.proofs.lemmas.List.Elements.{All-head, All-tail, All-nil, All-push, All-weaker}
+use Rattle.std.proofs.lemmas.List.Elements.{All-head, All-tail, All-push, All-weaker}
 use Rattle.std.proofs.lemmas.List.Sums.{sum_by-cons}
 use Rattle.std.proofs.lemmas.Option.{slice_get_within}
 use Rattle.pp_channel.specs.declared.chan_op.ChanOp.{ChanOp}
@@ -140,12 +140,6 @@ opening_more before after c log none one same is =
 -- histories that are the same
 pub opening_same : (before after : ℕ → List Event) (log : List Entry) → ((d : ℕ) → before d ≡ after d) → IsOpeningLog before log → IsOpeningLog after log
 opening_same before after log same is = subst (λ (h : ℕ → List Event). IsOpeningLog h log) (λ i d. same d i) is
-
--- an empty log is that of no histories
-pub opening_none : (opening : ℕ → List Event) (log : List Entry) → ((d : ℕ) → opening d ≡ []) → log ≡ [] → IsOpeningLog opening log
-opening_none opening log none is =
-    let empty : IsOpeningLog no_opening [] = record { once = λ c number below. absurd (omega arith); no_other = λ c number from. refl; entries_true = All-nil (IsTrueIn no_opening) } in
-    opening_same no_opening opening log (λ d. sym (none d)) (subst (λ (l : List Entry). IsOpeningLog no_opening l) (sym is) empty)
 
 -- the first Activate on channel c, by a line that holds every share: it is made, and written at number 0
 pub record HasActivated (line : LineState) (c : ℕ) (r : Numbered) (after : LineState) : Type 0 where

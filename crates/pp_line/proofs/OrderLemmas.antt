@@ -5,7 +5,7 @@ use Rattle.std.specs.List.{All, cons_option, filter, flat_map}
 use Rattle.std.proofs.lemmas.Bool.{cases_eq, cases_lt, eq-eqb, ne_eqb, lt-ltb, le-ltb}
 use Rattle.std.proofs.lemmas.List.{append-nil, length-append, drop_all, drop-append-le, take_at, take-append-le, take-append-drop}
 use Rattle.std.proofs.lemmas.List.Concat.{flat_map-append}
-use Rattle.std.proofs.lemmas.List.Elements.{All-head, All-weaker, All-map, filter_map-append}
+use Rattle.std.proofs.lemmas.List.Elements.{All-weaker, All-map, filter_map-append}
 use Rattle.pp_word.specs.Subsequence.{IsSubsequence}
 use Rattle.pp_word.specs.Subsequences.{stands_after, stands_passed, stands_more, stands_push, stands_append, stands_through, stands_whole}
 use Rattle.pp_line.specs.declared.access.Access.{Access}
@@ -131,7 +131,7 @@ stands_with_last program_orders log entry some h =
 pub stands_joined : (program_orders others : List (List Access)) (log other : List Entry) → IsDrawnFrom program_orders log → IsDrawnFrom others other → IsDrawnFrom (program_orders ++ others) (log ++ other)
 stands_joined program_orders others log other h k = subst (λ (l : List Entry). IsSubsequence (log ++ other) l) (sym (flat_map-append entries_among program_orders others)) (stands_append log (all_of program_orders) other (all_of others) h k)
 
--- a log drawn from one program order is a subsequence of what extends that
+-- the entries of what stands in a list stand among those of the list
 pub entries_stand : (xs ys : List Access) → IsSubsequence xs ys → IsSubsequence (entries_among xs) (entries_among ys)
 entries_stand [] ys h = tt
 entries_stand (x ∷ xs) [] h = absurd h
@@ -146,12 +146,6 @@ entries_stand (x ∷ xs) (y ∷ ys) (inr q) = passed_over (entry_of y) (entries_
     passed_over : (o : Option Entry) (us vs : List Entry) → IsSubsequence us vs → IsSubsequence us (cons_option o vs)
     passed_over None us vs h = h
     passed_over (Some e) us vs h = stands_after us e vs h
-
-pub one_program_order : (program_orders : List (List Access)) (order : List Access) (log : List Entry) → length program_orders ≡ 1 → ExtendsEach order program_orders → IsDrawnFrom program_orders log → IsSubsequence log (entries_among order)
-one_program_order [] order log one all h = absurd (omega (arith, one))
-one_program_order (t ∷ []) order log one all h =
-    stands_through log (entries_among t) (entries_among order) (subst (IsSubsequence log) (append-nil (entries_among t)) h) (entries_stand t order (All-head (λ (x : List Access). IsSubsequence x order) t [] all))
-one_program_order (t ∷ u ∷ program_orders) order log one all h = absurd (omega (arith, one))
 
 -- an entry of another channel makes nothing on this one, and each makes one event at most
 made_elsewhere : (c channel : ℕ) (what : Seen) → channel ≢ c → made_at c channel what ≡ None

@@ -27,7 +27,7 @@ use Rattle.pp_line.proofs.ListFacts.{All-read, All-part, flat_map-set_same, coun
 use Rattle.pp_line.proofs.ChannelWordLemmas.{number_at_word, flags_of_word}
 use Rattle.pp_line.proofs.OrderLemmas.{order_look, extends_more, extends_push}
 use Rattle.pp_line.proofs.MergeLemmas.{once_inside, TellsOnce, tells_once, merges_by, times_within}
-use Rattle.pp_line.proofs.ViewLemmas.{view_finds, view_checks}
+use Rattle.pp_line.proofs.ViewLemmas.{view_finds, view_beside}
 
 -- the events of all views, how often they tell one, and the shares
 abbrev pub events_in : LineView → List Entry
@@ -141,5 +141,5 @@ module _ (whole : ℕ) (words : List ℕ) (views : List LineView) (histories : L
 
   -- the view of a line that checked its shares
   abbrev pub check_kept : (id : ℕ) (v : LineView) → get_elem? views id ≡ some v → KeepsRule whole words (set views id (with_unrecorded_load v)) histories
-  check_kept id v at = rewritten id v (with_unrecorded_load v) at refl refl (view_checks histories whole v (view_at id v at)) []
+  check_kept id v at = rewritten id v (with_unrecorded_load v) at refl refl (view_beside histories whole v (v.unrecorded_loads + 1) v.written v.program_orders (view_at id v at)) []
       (subst (λ (order : List Access). IsTotalOrderOf no_opening histories (entries_among order)) (sym (append-nil k.order)) k.total) (extends_more k.order [] v.program_orders (extends_at id v at))

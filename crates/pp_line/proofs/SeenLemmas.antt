@@ -15,36 +15,23 @@ within_more xs ys more log p =
     All-weaker P Q (λ (entry : Entry) q. let m = more (channel_index entry.channel) in omega arith) log p
 
 -- the greater number for each channel
-pub greater_left : (xs ys : List ℕ) (d : ℕ) → length xs ≡ length ys → get_or xs d 0 ≤ get_or (greater_of_each xs ys) d 0
-greater_left [] ys d e = omega arith
-greater_left (x ∷ xs) [] d e = absurd (omega arith)
-greater_left (x ∷ xs) (y ∷ ys) zero e = omega arith
-greater_left (x ∷ xs) (y ∷ ys) (suc d) e = greater_left xs ys d (omega arith)
-
-pub greater_right : (xs ys : List ℕ) (d : ℕ) → length xs ≡ length ys → get_or ys d 0 ≤ get_or (greater_of_each xs ys) d 0
-greater_right [] [] d e = omega arith
-greater_right [] (y ∷ ys) d e = absurd (omega arith)
-greater_right (x ∷ xs) [] d e = omega arith
-greater_right (x ∷ xs) (y ∷ ys) zero e = omega arith
-greater_right (x ∷ xs) (y ∷ ys) (suc d) e = greater_right xs ys d (omega arith)
-
-pub greater_at_most : (xs ys : List ℕ) (d m : ℕ) → get_or xs d 0 ≤ m → get_or ys d 0 ≤ m → get_or (greater_of_each xs ys) d 0 ≤ m
-greater_at_most [] ys d m a b = omega arith
-greater_at_most (x ∷ xs) [] d m a b = omega arith
-greater_at_most (x ∷ xs) (y ∷ ys) zero m a b = omega arith
-greater_at_most (x ∷ xs) (y ∷ ys) (suc d) m a b = greater_at_most xs ys d m a b
-
-pub length-greater : (xs ys : List ℕ) → length xs ≡ length ys → length (greater_of_each xs ys) ≡ length xs
-length-greater [] ys e = refl
-length-greater (x ∷ xs) [] e = absurd (omega arith)
-length-greater (x ∷ xs) (y ∷ ys) e = let r = length-greater xs ys (omega arith) in omega arith
-
-greater_at : (xs ys : List ℕ) → length xs ≡ length ys → (k : ℕ) → get_or (greater_of_each xs ys) k 0 ≡ max (get_or xs k 0) (get_or ys k 0)
+pub greater_at : (xs ys : List ℕ) → length xs ≡ length ys → (k : ℕ) → get_or (greater_of_each xs ys) k 0 ≡ max (get_or xs k 0) (get_or ys k 0)
 greater_at [] [] same k = omega arith
 greater_at [] (y ∷ ys) same k = absurd (omega arith)
 greater_at (x ∷ xs) [] same k = absurd (omega arith)
 greater_at (x ∷ xs) (y ∷ ys) same zero = refl
 greater_at (x ∷ xs) (y ∷ ys) same (suc k) = greater_at xs ys (omega arith) k
+
+pub greater_left : (xs ys : List ℕ) (d : ℕ) → length xs ≡ length ys → get_or xs d 0 ≤ get_or (greater_of_each xs ys) d 0
+greater_left xs ys d e = omega (arith, greater_at xs ys e d)
+
+pub greater_right : (xs ys : List ℕ) (d : ℕ) → length xs ≡ length ys → get_or ys d 0 ≤ get_or (greater_of_each xs ys) d 0
+greater_right xs ys d e = omega (arith, greater_at xs ys e d)
+
+pub length-greater : (xs ys : List ℕ) → length xs ≡ length ys → length (greater_of_each xs ys) ≡ length xs
+length-greater [] ys e = refl
+length-greater (x ∷ xs) [] e = absurd (omega arith)
+length-greater (x ∷ xs) (y ∷ ys) e = let r = length-greater xs ys (omega arith) in omega arith
 
 pub greater_is : (xs ys zs : List ℕ) → length xs ≡ length ys → length zs ≡ length xs → ((k : ℕ) → k < length zs → get_or zs k 0 ≡ max (get_or xs k 0) (get_or ys k 0)) → zs ≡ greater_of_each xs ys
 greater_is xs ys zs same each numbers =

@@ -23,8 +23,8 @@ use Rattle.pp_line.specs.LineView.{finds, makes, reads, writes, look_by, with_un
 use Rattle.pp_line.specs.Merge.{IsTrueOf}
 use Rattle.pp_line.specs.Order.{ExtendsEach, AreMade, writes_among}
 use Rattle.pp_line.specs.LineLog.{seen_on, event_entry}
-use Rattle.pp_line.specs.SharedWords.{word_place, place_count, central_place, IsFound, IsViewOf, KeepsRule, KeepsCentral, Rule}
-use Rattle.pp_channel.specs.ChannelPlaces.{place_below, named_below, one_place}
+use Rattle.pp_line.specs.SharedWords.{word_place, central_place, IsFound, IsViewOf, KeepsRule, KeepsCentral, Rule}
+use Rattle.pp_channel.specs.ChannelPlaces.{place_below, one_place}
 use Rattle.pp_line.proofs.ListFacts.{read_written, All-parts_set, sum_by-write, read-le-sum_by}
 use Rattle.pp_line.proofs.MergeLemmas.{once_below, TellsOnce, tells_once, merges_by, times_told_push, told_elsewhere, told_next, Grow, slice_get_last, true_later, with_more, more_is, more_here, same_elsewhere, more_grow, length-with_more, All-with_more}
 use Rattle.pp_line.proofs.ViewLemmas.{view_later, view_makes, view_beside, later_found}
@@ -42,10 +42,6 @@ KeepsBoth whole opening words views histories = (kept : KeepsRule whole words vi
 -- a step on the word of one channel is on that of no other
 one_channel : (c d : ℕ) → IsTrue (names_channel c) → word_place c ≡ word_place d → c ≡ d
 one_channel c d names e = sym (one_place c d names (omega arith))
-
--- a word among the words is that of a channel
-named_word : (c i : ℕ) → i ≡ word_place c → i < place_count → IsTrue (names_channel c)
-named_word c i place low = named_below c (omega arith)
 
 one_address : (a b : ℕ) → central_place a ≡ central_place b → a ≡ b
 one_address a b e = omega arith
@@ -87,8 +83,8 @@ found_both whole words views histories k opening kc id v c names at =
     (found_kept whole words views histories k id v c names at, look_goes_on opening words views k.order id v (finds v c n) (look_by c n) at refl refl refl kc)
 
 -- a load
-load_at : (whole : ℕ) (opening : List ℕ) (slots id : ℕ) (me : M) (c : ℕ) → IsTrue (names_channel c) → Allows (Rule whole opening) slots id me (word_place c) (λ n. n) (steps.OnChannel IsLoad (step slots (word_place c) 0 0 none) me)
-load_at whole opening slots id me c names s r _ at _ =
+pub load_allowed : (whole : ℕ) (opening : List ℕ) (slots id : ℕ) (me : M) (c : ℕ) → IsTrue (names_channel c) → Allows (Rule whole opening) slots id me (word_place c) (λ n. n) (steps.OnChannel IsLoad (step slots (word_place c) 0 0 none) me)
+load_allowed whole opening slots id me c names s r _ at _ =
     let n : ℕ = get_or s.words (word_place c) 0 in
     let k = r.1 in
     let kc = r.2 in
@@ -100,13 +96,9 @@ load_at whole opening slots id me c names s r _ at _ =
       (refl, λ d _ place live. subst (λ t. IsLoad t me.0 n w) (one_channel c d names place) (loaded whole s.words s.views r.0 k opening kc id me.0 c names at live)),
     )
 
-pub load_allowed : (whole : ℕ) (opening : List ℕ) (slots id : ℕ) (me : M) (c i : ℕ) → i ≡ word_place c → i < place_count → Allows (Rule whole opening) slots id me i (λ n. n) (steps.OnChannel IsLoad (step slots i 0 0 none) me)
-load_allowed whole opening slots id me c i place low =
-    subst (λ (j : ℕ). Allows (Rule whole opening) slots id me j (λ n. n) (steps.OnChannel IsLoad (step slots j 0 0 none) me)) (sym place) (load_at whole opening slots id me c (named_word c i place low))
-
 -- a load that is counted alone
-share_check_at : (whole : ℕ) (opening : List ℕ) (slots id : ℕ) (me : M) (c : ℕ) → IsTrue (names_channel c) → Allows (Rule whole opening) slots id me (word_place c) (λ n. n) (steps.OnChannel IsShareCheck (step slots (word_place c) 0 0 none) me)
-share_check_at whole opening slots id me c names s r _ at _ =
+pub share_check_allowed : (whole : ℕ) (opening : List ℕ) (slots id : ℕ) (me : M) (c : ℕ) → IsTrue (names_channel c) → Allows (Rule whole opening) slots id me (word_place c) (λ n. n) (steps.OnChannel IsShareCheck (step slots (word_place c) 0 0 none) me)
+share_check_allowed whole opening slots id me c names s r _ at _ =
     let n : ℕ = get_or s.words (word_place c) 0 in
     let k = r.1 in
     let kc = r.2 in
@@ -126,10 +118,6 @@ share_check_at whole opening slots id me c names s r _ at _ =
         }),
       ),
     )
-
-pub share_check_allowed : (whole : ℕ) (opening : List ℕ) (slots id : ℕ) (me : M) (c i : ℕ) → i ≡ word_place c → i < place_count → Allows (Rule whole opening) slots id me i (λ n. n) (steps.OnChannel IsShareCheck (step slots i 0 0 none) me)
-share_check_allowed whole opening slots id me c i place low =
-    subst (λ (j : ℕ). Allows (Rule whole opening) slots id me j (λ n. n) (steps.OnChannel IsShareCheck (step slots j 0 0 none) me)) (sym place) (share_check_at whole opening slots id me c (named_word c i place low))
 
 -- an event e on channel c
 module _ (whole : ℕ) (words : List ℕ) (views : List LineView) (histories : List (List Event)) (k : KeepsRule whole words views histories) (opening : List ℕ) (kc : KeepsCentral opening words views k.order) (c : ℕ) (names : IsTrue (names_channel c)) (e : Event) (new : ℕ)
@@ -247,10 +235,10 @@ lost whole words views histories k opening kc id v was c before names at live fr
     }
 
 -- an exchange for any event that the history takes
-exchange_at : (whole : ℕ) (opening : List ℕ) (slots id : ℕ) (me : M) (c expected new : ℕ) (e : Event) (was : LineView) → IsTrue (names_channel c) → 0 < me.0.shares → me.0 ≡ finds was c expected
+pub exchange_allowed : (whole : ℕ) (opening : List ℕ) (slots id : ℕ) (me : M) (c expected new : ℕ) (e : Event) (was : LineView) → IsTrue (names_channel c) → 0 < me.0.shares → me.0 ≡ finds was c expected
     → ((h : List Event) → IsLawful h → HasTwelveBitWords h → history_word h ≡ expected → IsLawful (h ++ e ∷ []) × HasTwelveBitWord e × (history_word (h ++ e ∷ []) ≡ new))
     → Allows (Rule whole opening) slots id me (word_place c) (λ n. either (eqb n expected) new n) (exchanges (step slots (word_place c) expected new (some e)) me)
-exchange_at whole opening slots id me c expected new e was names live from next s r _ at _ =
+exchange_allowed whole opening slots id me c expected new e was names live from next s r _ at _ =
     let n : ℕ = get_or s.words (word_place c) 0 in
     let h = r.0 in
     let k = r.1 in
@@ -275,23 +263,16 @@ exchange_at whole opening slots id me c expected new e was names live from next 
       (refl, λ d _ place _. subst (Told w (eqb n expected)) (one_channel c d names place) (subst (λ b. Told w b c) (sym (ne_eqb n expected miss)) (lost whole s.words s.views h k opening kc id me.0 was c expected names at live from miss))),
     ))
 
-pub exchange_allowed : (whole : ℕ) (opening : List ℕ) (slots id : ℕ) (me : M) (c i expected new : ℕ) (e : Event) (was : LineView) → i ≡ word_place c → i < place_count → 0 < me.0.shares → me.0 ≡ finds was c expected
-    → ((h : List Event) → IsLawful h → HasTwelveBitWords h → history_word h ≡ expected → IsLawful (h ++ e ∷ []) × HasTwelveBitWord e × (history_word (h ++ e ∷ []) ≡ new))
-    → Allows (Rule whole opening) slots id me i (λ n. either (eqb n expected) new n) (exchanges (step slots i expected new (some e)) me)
-exchange_allowed whole opening slots id me c i expected new e was place low live from next =
-    subst (λ (j : ℕ). Allows (Rule whole opening) slots id me j (λ n. either (eqb n expected) new n) (exchanges (step slots j expected new (some e)) me)) (sym place)
-    (exchange_at whole opening slots id me c expected new e was (named_word c i place low) live from next)
-
 -- a read
-read_at : (whole : ℕ) (opening : List ℕ) (slots id : ℕ) (me : M) (address : ℕ) → 0 < me.0.shares → address < length me.0.central → Allows (Rule whole opening) slots id me (central_place address) (λ n. n) (OnCentral IsRead (step slots (central_place address) 0 0 none) me)
-read_at whole opening slots id me address live low s r _ at _ =
+pub read_allowed : (whole : ℕ) (opening : List ℕ) (slots id : ℕ) (me : M) (address : ℕ) → 0 < me.0.shares → address < length me.0.central → Allows (Rule whole opening) slots id me (central_place address) (λ n. n) (OnCentral IsRead (step slots (central_place address) 0 0 none) me)
+read_allowed whole opening slots id me address live low s r _ at _ =
     let h = r.0 in
     let k = r.1 in
     let kc = r.2 in
     let n : ℕ = get_or s.words (central_place address) 0 in
     let w : LineView = reads me.0 address n in
     let within : address < length opening = subst (λ (ws : List ℕ). address < length ws) (opened_at opening s.words s.views k.order id me.0 at live kc) low in
-    let kept = rewritten whole s.words s.views h k id me.0 w at refl refl (view_beside h whole me.0 w.written w.program_orders (view_at whole s.words s.views h k id me.0 at)) (Read address n ∷ [])
+    let kept = rewritten whole s.words s.views h k id me.0 w at refl refl (view_beside h whole me.0 w.unrecorded_loads w.written w.program_orders (view_at whole s.words s.views h k id me.0 at)) (Read address n ∷ [])
     (order_beside h k.order (Read address n) refl k.total) (extends_push k.order (Read address n) me.0.program_orders (extends_at whole s.words s.views h k id me.0 at)) in (
       w,
       keeps,
@@ -300,21 +281,17 @@ read_at whole opening slots id me address live low s r _ at _ =
       (refl, λ d place. subst (λ t. IsRead t me.0 n w) (one_address address d place) (record { after_is = refl; small = subst (λ (x : ℕ). x < 2 ^ 60) (sym (kc.words_are address within)) (kc.small address) })),
     )
 
-pub read_allowed : (whole : ℕ) (opening : List ℕ) (slots id : ℕ) (me : M) (address i : ℕ) → i ≡ central_place address → 0 < me.0.shares → address < length me.0.central → Allows (Rule whole opening) slots id me i (λ n. n) (OnCentral IsRead (step slots i 0 0 none) me)
-read_allowed whole opening slots id me address i place live low =
-    subst (λ (j : ℕ). Allows (Rule whole opening) slots id me j (λ n. n) (OnCentral IsRead (step slots j 0 0 none) me)) (sym place) (read_at whole opening slots id me address live low)
-
 -- a write
-write_at : (whole : ℕ) (opening : List ℕ) (slots id : ℕ) (me : M) (address word : ℕ) → 0 < me.0.shares → address < length me.0.central → word < 2 ^ 60
+pub write_allowed : (whole : ℕ) (opening : List ℕ) (slots id : ℕ) (me : M) (address word : ℕ) → 0 < me.0.shares → address < length me.0.central → word < 2 ^ 60
     → Allows (Rule whole opening) slots id me (central_place address) (λ _. word) (λ _. OnCentral IsWrite (step slots (central_place address) word 0 none) me word)
-write_at whole opening slots id me address word live low small s r _ at _ =
+write_allowed whole opening slots id me address word live low small s r _ at _ =
     let h = r.0 in
     let k = r.1 in
     let kc = r.2 in
     let number : ℕ = length (writes_among k.order) in
     let w : LineView = writes me.0 address word number in
     let within : address < length opening = subst (λ (ws : List ℕ). address < length ws) (opened_at opening s.words s.views k.order id me.0 at live kc) low in
-    let kept = rewritten whole s.words s.views h k id me.0 w at refl refl (view_beside h whole me.0 w.written w.program_orders (view_at whole s.words s.views h k id me.0 at)) (Write address word number ∷ [])
+    let kept = rewritten whole s.words s.views h k id me.0 w at refl refl (view_beside h whole me.0 w.unrecorded_loads w.written w.program_orders (view_at whole s.words s.views h k id me.0 at)) (Write address word number ∷ [])
     (order_beside h k.order (Write address word number) refl k.total) (extends_push k.order (Write address word number) me.0.program_orders (extends_at whole s.words s.views h k id me.0 at)) in (
       w,
       keeps,
@@ -322,8 +299,3 @@ write_at whole opening slots id me address word live low small s r _ at _ =
       (h, central_written whole s.words (set s.views id w) h kept address word, write_goes_on opening s.words s.views k.order id me.0 w address word within small at refl refl live refl kc),
       (refl, λ d place. subst (λ t. IsWrite t me.0 word w) (one_address address d place) (number, refl)),
     )
-
-pub write_allowed : (whole : ℕ) (opening : List ℕ) (slots id : ℕ) (me : M) (address word i : ℕ) → i ≡ central_place address → 0 < me.0.shares → address < length me.0.central → word < 2 ^ 60
-    → Allows (Rule whole opening) slots id me i (λ _. word) (λ _. OnCentral IsWrite (step slots i word 0 none) me word)
-write_allowed whole opening slots id me address word i place live low small =
-    subst (λ (j : ℕ). Allows (Rule whole opening) slots id me j (λ _. word) (λ _. OnCentral IsWrite (step slots j word 0 none) me word)) (sym place) (write_at whole opening slots id me address word live low small)

@@ -14,7 +14,7 @@ use Rattle.pp_line.specs.declared.rule.LineView.{LineView}
 use Rattle.pp_channel.specs.ChannelNo.{channel_count, channel_index, names_channel}
 use Rattle.pp_line.specs.ChannelWord.{history_word, number_in}
 use Rattle.pp_channel.specs.History.{HasTwelveBitWords, history_on}
-use Rattle.pp_line.specs.LineView.{blank_view, parent_view, child_view, greater_of_each, joined_view, finds, makes, with_unrecorded_load}
+use Rattle.pp_line.specs.LineView.{blank_view, parent_view, child_view, greater_of_each, joined_view, finds, makes}
 use Rattle.pp_line.specs.LineLog.{known_after, seen_on, event_entry}
 use Rattle.pp_line.specs.SharedWords.{IsFound, IsViewOf}
 use Rattle.pp_channel.specs.ChannelPlaces.{place_below}
@@ -22,7 +22,7 @@ use Rattle.pp_channel.proofs.FrontLemmas.{twelve_bits_take}
 use Rattle.pp_line.proofs.ChannelWordLemmas.{number_at_word}
 use Rattle.pp_line.proofs.MergeLemmas.{Grow}
 use Rattle.pp_word.specs.WrittenNumbers.{set_at_each, set_raises}
-use Rattle.pp_line.proofs.SeenLemmas.{within_more, greater_left, greater_right, greater_at_most, length-greater}
+use Rattle.pp_line.proofs.SeenLemmas.{within_more, greater_left, greater_right, greater_at, length-greater}
 
 -- the histories grow
 pub length_later : (before after : List (List Event)) → Grow before after → (c : ℕ) → length (history_on c before) ≤ length (history_on c after)
@@ -66,20 +66,9 @@ view_finds histories whole v c word is number f =
       spent = f.spent;
     }
 
--- a word is loaded, and counted alone
-pub view_checks : (histories : List (List Event)) (whole : ℕ) (v : LineView) → IsViewOf histories whole v → IsViewOf histories whole (with_unrecorded_load v)
-view_checks histories whole v f = record {
-  events_seen = f.events_seen;
-  seen_happened = f.seen_happened;
-  words_found = f.words_found;
-  whole_is = f.whole_is;
-  each_channel = f.each_channel;
-  spent = f.spent;
-}
-
--- its program_orders go on, and perhaps it wrote
-pub view_beside : (histories : List (List Event)) (whole : ℕ) (v : LineView) (written : List ℕ) (program_orders : List (List Access)) → IsViewOf histories whole v → IsViewOf histories whole (record v { written = written; program_orders = program_orders })
-view_beside histories whole v written program_orders f = record {
+-- its program orders go on, perhaps it wrote, and loads are counted
+pub view_beside : (histories : List (List Event)) (whole : ℕ) (v : LineView) (loads : ℕ) (written : List ℕ) (program_orders : List (List Access)) → IsViewOf histories whole v → IsViewOf histories whole (record v { unrecorded_loads = loads; written = written; program_orders = program_orders })
+view_beside histories whole v loads written program_orders f = record {
   events_seen = f.events_seen;
   seen_happened = f.seen_happened;
   words_found = f.words_found;
@@ -139,7 +128,7 @@ view_joined histories whole v w live other f g =
     record {
       events_seen = All-append Q v.events w.events (within_more v.seen seen (λ d. greater_left v.seen w.seen d (a ∙ sym b)) v.events f.events_seen)
           (within_more w.seen seen (λ d. greater_right v.seen w.seen d (a ∙ sym b)) w.events g.events_seen);
-      seen_happened = λ c. greater_at_most v.seen w.seen (channel_index c) (length (history_on c histories)) (f.seen_happened c) (g.seen_happened c);
+      seen_happened = λ c. let here = f.seen_happened c in let there = g.seen_happened c in omega (arith, greater_at v.seen w.seen (a ∙ sym b) (channel_index c), here, there);
       words_found = All-append (IsFound histories) v.found w.found f.words_found g.words_found;
       whole_is = λ _. f.whole_is live;
       each_channel = λ _. length-greater v.seen w.seen (a ∙ sym b) ∙ a;

@@ -99,6 +99,7 @@ impl<A: Allocator> LineLog<A> {
     }
 
     /// Logs a look at the flags.
+    #[tactic(auto, using(std::proofs::lemmas::Grind::common_steps))]
     pub fn saw(&mut self, channel: ChannelNo, number: u64, flags: Flags)
         requires { 0 < self.old.room }
         ensures { self.new ≡ looked self.old (look_entry channel number flags) }
@@ -122,7 +123,7 @@ impl<A: Allocator> LineLog<A> {
     }
 
     /// Whether the last entry is a look at the channel that need not stay.
-    #[tactic(auto, using(pp_word::specs::LastElements::last_or_at))]
+    #[tactic(auto, using(std::proofs::lemmas::Grind::common_steps, pp_word::specs::LastElements::last_or_at))]
     fn ends_in_look_at(&self, channel: ChannelNo) -> bool
         ensures { result ≡ ends_in_look_at channel self.now }
     {

@@ -7,5 +7,5 @@ compare_exchange_with-requires g c =
     let loaded = c.requires.loaded in (
       search rules,
       search rules,
-      exchange_allowed _ _ _ _ _ c.args.channel _ _ _ c.args.event.now loaded.0 c.place.ensures.place c.place.ensures.below c.args.self.now.unspent loaded.1 c.requires.next,
+      rw c.place.ensures.place (exchange_allowed _ _ _ _ _ c.args.channel _ _ c.args.event.now loaded.0 (search rules) c.args.self.now.unspent loaded.1 c.requires.next),
     )

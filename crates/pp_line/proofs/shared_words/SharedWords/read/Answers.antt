@@ -12,7 +12,7 @@ returns-then-place-word_count-clause-outside g c =
 pub load-word-requires : goal.load-word-requires
 load-word-requires g c =
     let words : c.word_count.result ≡ place_count + length c.args.self.now.seat.me.0.central = c.word_count.ensures ∙ (ap (λ t. t.shared.table_id.words) c.deref.ensures ∙ c.args.self.now.places) in
-    (search rules, search rules, read_allowed _ _ _ _ _ c.args.address _ c.central_place-place.ensures c.args.self.now.unspent (omega (arith, c.if-place-word_count.false, words, c.central_place-place.ensures)))
+    (search rules, search rules, rw c.central_place-place.ensures (read_allowed _ _ _ _ _ c.args.address c.args.self.now.unspent (omega (arith, c.if-place-word_count.false, words, c.central_place-place.ensures))))
 
 pub invariant_of-self-2 : goal.invariant_of-self-2
 invariant_of-self-2 g c =

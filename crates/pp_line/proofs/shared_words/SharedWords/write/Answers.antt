@@ -8,7 +8,7 @@ use Rattle.pp_line.proofs.shared_words.SharedWords.write.Goals as goal
 pub store-requires : goal.store-requires
 store-requires g c =
     let words : c.word_count.result ≡ place_count + length c.args.self.now.seat.me.0.central = c.word_count.ensures ∙ (ap (λ t. t.shared.table_id.words) c.deref.ensures ∙ c.args.self.now.places) in
-    (search rules, search rules, write_allowed _ _ _ _ _ c.args.address _ _ c.central_place-place.ensures c.args.self.now.unspent (omega (arith, c.if-place-word_count.false, words, c.central_place-place.ensures)) (search rules))
+    (search rules, search rules, rw c.central_place-place.ensures (write_allowed _ _ _ _ _ c.args.address _ c.args.self.now.unspent (omega (arith, c.if-place-word_count.false, words, c.central_place-place.ensures)) (search rules)))
 
 pub invariant_of-self-2 : goal.invariant_of-self-2
 invariant_of-self-2 g c =
