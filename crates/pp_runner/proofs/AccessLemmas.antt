@@ -6,7 +6,7 @@ use Rattle.std.proofs.lemmas.Bool.{cases_eq, eq-eqb, ne_eqb}
 use Rattle.std.proofs.lemmas.List.{append-nil, length-take-le, map-append, take_all}
 use Rattle.std.proofs.lemmas.List.Elements.{All-pop, filter_map-append}
 use Rattle.pp_word.specs.Subsequence.{IsSubsequence}
-use Rattle.pp_word.specs.Subsequences.{stands_append, stands_later, stands_more}
+use Rattle.pp_word.specs.Subsequences.{stands_append, stands_later, stands_more, stands_whole}
 use Rattle.pp_line.proofs.ChannelWordLemmas.{number_of_word, flags_of_word}
 use Rattle.pp_channel.proofs.FrontLemmas.{twelve_bits_take}
 use Rattle.pp_channel.proofs.EachHistory.{bits_on}
@@ -15,34 +15,30 @@ use Rattle.pp_channel.specs.Answer.{IsAnswer, channel_state, event_answered, fla
 use Rattle.pp_channel.specs.AnswerLaws.{shows_flags}
 use Rattle.pp_line.specs.ChannelWord.{number_in, flags_in}
 use Rattle.pp_channel.specs.History.{HasTwelveBitWords, history_on}
-use Rattle.pp_line.specs.LineLog.{event_entry, look_entry}
+use Rattle.pp_line.specs.LineLog.{LogState, IsMonotone, event_entry, look_entry}
 use Rattle.pp_line.specs.LineState.{LineState, IsActed, IsAnsweredBy, number_after}
 use Rattle.pp_line.specs.LineView.{look_by, reads, writes}
 use Rattle.pp_line.specs.Order.{entries_among, extended, on_channels, write_number, writes_among}
 use Rattle.pp_line.specs.SharedWords.{IsFound}
 use Rattle.pp_line.specs.declared.access.Access.{Access}
-use Rattle.pp_line.specs.declared.access.Access.TheVariants as accesses
 use Rattle.pp_channel.specs.declared.chan_op.ChanOp.{ChanOp}
 use Rattle.pp_line.specs.declared.entry.Entry.{Entry}
 use Rattle.pp_channel.specs.declared.seen.Seen.{Seen}
 use Rattle.pp_channel.specs.declared.seen.Seen.TheVariants.{Did, Saw}
 use Rattle.pp_channel.specs.declared.event.Event.{Event}
-use Rattle.pp_channel.specs.declared.event.Event.TheVariants as events
 use Rattle.pp_channel.specs.declared.flags.Flags.{Flags}
 use Rattle.pp_channel.specs.declared.numbered.Numbered.{Numbered}
 use Rattle.pp_channel.specs.declared.reply.Reply.{Reply}
-use Rattle.pp_channel.specs.declared.reply.Reply.TheVariants as replies
 use Rattle.pp_line.specs.declared.rule.FoundWord.{FoundWord}
 use Rattle.pp_machine.specs.NeedAndEffect.{need, processor_after}
 use Rattle.pp_machine.specs.Processor.{Processor}
-use Rattle.pp_machine.specs.Replay.{OfChannel, contribution, given_count, replayed}
+use Rattle.pp_machine.specs.Replay.{OfChannel, contribution, fits, given_count, replayed}
 use Rattle.pp_machine.specs.ReplayLaws.{Gives, Gives-counted}
 use Rattle.pp_machine.specs.declared.answer.Answer.{Answer}
-use Rattle.pp_machine.specs.declared.answer.Answer.TheVariants as answers
 use Rattle.pp_machine.specs.declared.need.Need.{Need}
-use Rattle.pp_machine.specs.declared.need.Need.TheVariants as needs
 use Rattle.pp_runner.specs.Accesses.{accesses_by, AreAccessesOf}
-use Rattle.pp_runner.specs.Labour.{HasMade, HasLooked, IsAnswered}
+use Rattle.pp_runner.specs.Labour.{HasMade, HasLooked, IsAnswered, IsNoted}
+use Rattle.pp_runner.specs.WorkerReport.{IsBySize}
 
 -- the word that an operation found last has the number of its answer
 record HasLast (number : ℕ) (words : List ℕ) : Type 0 where
@@ -70,11 +66,11 @@ last_word r words is =
 
 -- the flags that an answer shows are those after its number of events
 none_shown : (e : Event) → flags_shown (reply_made e) ≡ None
-none_shown events.Activate = refl
-none_shown events.Disconnect = refl
-none_shown (events.Put w) = refl
-none_shown (events.Take w) = refl
-none_shown (events.Function w) = refl
+none_shown Event.Activate = refl
+none_shown Event.Disconnect = refl
+none_shown (Event.Put w) = refl
+none_shown (Event.Take w) = refl
+none_shown (Event.Function w) = refl
 
 some_flags : (f g : Flags) → Some f ≡ Some g → f ≡ g
 some_flags f g is = cc
@@ -91,7 +87,7 @@ shown_flags h op r f by shows =
       | inl same ↦ shown_at_once (take r.loaded h) h op r.reply f (by.at_once same) shows ∙ ap (λ n. flags_of (take n h)) (sym same)
       | inr other ↦
           let held = (by.lost other).held in
-          let many : length h ≡ number_after r.number (replies.Held (flags_of h)) = by.now ∙ ap (number_after r.number) held in
+          let many : length h ≡ number_after r.number (Reply.Held (flags_of h)) = by.now ∙ ap (number_after r.number) held in
           some_flags f (flags_of h) (sym shows ∙ ap flags_shown held) ∙ ap flags_of (sym (take_all r.number h (omega (arith, many))))
     ]
 
@@ -129,137 +125,109 @@ module _ (line after : LineState) (c : ℕ) (op : ChanOp) (r : Numbered) (acted 
   all_made = on_channels (looks ++ event_made)
 
   abbrev on_channel : Option Seen → List Access
-  on_channel o = map (λ what. accesses.OnChannel (record { channel = c; number = r.number; what = what })) (option_to_list o)
+  on_channel o = map (λ what. Access.OnChannel (record { channel = c; number = r.number; what = what })) (option_to_list o)
 
   by_event : (made : Option Event) → event_answered op r.reply ≡ made → IsSubsequence (on_channel (option_map (λ e. Did e) made)) all_made
   by_event None is = tt
   by_event (Some e) is =
-      let last : all_made ≡ on_channels looks ++ accesses.OnChannel (event_entry c r.number e) ∷ [] =
-      ap (λ (o : Option Event). on_channels (looks ++ option_to_list (option_map (event_entry c r.number) o))) is ∙ map-append accesses.OnChannel looks (event_entry c r.number e ∷ []) in
-      subst (IsSubsequence (on_channel (Some (Did e)))) (sym last) (stands_later (on_channel (Some (Did e))) (on_channels looks) (accesses.OnChannel (event_entry c r.number e) ∷ []) (inl (refl, tt)))
+      let last : all_made ≡ on_channels looks ++ Access.OnChannel (event_entry c r.number e) ∷ [] =
+      ap (λ (o : Option Event). on_channels (looks ++ option_to_list (option_map (event_entry c r.number) o))) is ∙ map-append Access.OnChannel looks (event_entry c r.number e ∷ []) in
+      subst (IsSubsequence (on_channel (Some (Did e)))) (sym last) (stands_later (on_channel (Some (Did e))) (on_channels looks) (Access.OnChannel (event_entry c r.number e) ∷ []) (inl (refl, tt)))
 
   by_flags : (shown : Option Flags) → flags_shown r.reply ≡ shown → IsSubsequence (on_channel (option_or (option_map (λ f. Saw f) shown) (option_map (λ e. Did e) (event_answered op r.reply)))) all_made
   by_flags None shows = by_event (event_answered op r.reply) refl
   by_flags (Some f) shows =
       let last = last_word r acted.words acted.words_found in
-      let look : accesses.OnChannel (look_entry c r.number f) ≡ accesses.OnChannel (look_by c last.word) = ap (λ e. accesses.OnChannel e) (sym (last_look f last shows)) in
-      let all : all_made ≡ on_channels (map (look_by c) last.front) ++ accesses.OnChannel (look_by c last.word) ∷ on_channels event_made =
+      let look : Access.OnChannel (look_entry c r.number f) ≡ Access.OnChannel (look_by c last.word) = ap (λ e. Access.OnChannel e) (sym (last_look f last shows)) in
+      let all : all_made ≡ on_channels (map (look_by c) last.front) ++ Access.OnChannel (look_by c last.word) ∷ on_channels event_made =
       ap (λ ws. on_channels (map (look_by c) ws ++ event_made)) last.words_are
       ∙ (ap (λ l. on_channels (l ++ event_made)) (map-append (look_by c) last.front (last.word ∷ []))
       ∙ (ap on_channels (append_assoc (map (look_by c) last.front) (look_by c last.word ∷ []) event_made)
-      ∙ map-append accesses.OnChannel (map (look_by c) last.front) (look_by c last.word ∷ event_made))) in
+      ∙ map-append Access.OnChannel (map (look_by c) last.front) (look_by c last.word ∷ event_made))) in
       subst (IsSubsequence (on_channel (Some (Saw f)))) (sym all)
-      (stands_later (on_channel (Some (Saw f))) (on_channels (map (look_by c) last.front)) (accesses.OnChannel (look_by c last.word) ∷ on_channels event_made) (inl (look, tt)))
+      (stands_later (on_channel (Some (Saw f))) (on_channels (map (look_by c) last.front)) (Access.OnChannel (look_by c last.word) ∷ on_channels event_made) (inl (look, tt)))
 
-  pub channel_accessed : IsSubsequence (accesses_by r.number (needs.Channel c op) (answers.Channel r.reply)) all_made
+  pub channel_accessed : IsSubsequence (accesses_by r.number (Need.Channel c op) (Answer.Channel r.reply)) all_made
   channel_accessed = by_flags (flags_shown r.reply) refl
 
 -- an operation writes no central word
-none_written : (c number : ℕ) (o : Option Seen) → writes_among (map (λ what. accesses.OnChannel (record { channel = c; number = number; what = what })) (option_to_list o)) ≡ []
+none_written : (c number : ℕ) (o : Option Seen) → writes_among (map (λ what. Access.OnChannel (record { channel = c; number = number; what = what })) (option_to_list o)) ≡ []
 none_written c number None = refl
 none_written c number (Some what) = refl
 
-pub no_writes : (number c : ℕ) (op : ChanOp) (x : Answer) → writes_among (accesses_by number (needs.Channel c op) x) ≡ []
-no_writes number c op (answers.Channel reply) = none_written c number (seen_answered op reply)
-no_writes number c op answers.Local = refl
-no_writes number c op (answers.Read word) = refl
-no_writes number c op (answers.Wrote written) = refl
+pub no_writes : (number c : ℕ) (op : ChanOp) (x : Answer) → writes_among (accesses_by number (Need.Channel c op) x) ≡ []
+no_writes number c op (Answer.Channel reply) = none_written c number (seen_answered op reply)
+no_writes number c op Answer.Local = refl
+no_writes number c op (Answer.Read word) = refl
+no_writes number c op (Answer.Wrote written) = refl
 
 -- the entries of an answer's accesses are its sights, numbered
 abbrev pub numbered : ℕ → List (OfChannel Seen) → List Entry
 numbered number ss = map (λ s. record { channel = s.channel; number = number; what = s.what }) ss
 
-entries_on : (c number : ℕ) (o : Option Seen) → entries_among (map (λ what. accesses.OnChannel (record { channel = c; number = number; what = what })) (option_to_list o))
+entries_on : (c number : ℕ) (o : Option Seen) → entries_among (map (λ what. Access.OnChannel (record { channel = c; number = number; what = what })) (option_to_list o))
     ≡ numbered number (map (λ what. record { channel = c; what = what }) (option_to_list o))
 entries_on c number None = refl
 entries_on c number (Some what) = refl
 
 pub entries_by : (number : ℕ) (n : Need) (x : Answer) → entries_among (accesses_by number n x) ≡ numbered number (contribution seen_answered n x)
-entries_by number (needs.Channel c op) (answers.Channel reply) = entries_on c number (seen_answered op reply)
-entries_by number (needs.Channel c op) answers.Local = refl
-entries_by number (needs.Channel c op) (answers.Read word) = refl
-entries_by number (needs.Channel c op) (answers.Wrote written) = refl
-entries_by number needs.Nothing x = refl
-entries_by number needs.Local x = refl
-entries_by number (needs.Read a) (answers.Read (Some w)) = refl
-entries_by number (needs.Read a) (answers.Read None) = refl
-entries_by number (needs.Read a) answers.Local = refl
-entries_by number (needs.Read a) (answers.Channel reply) = refl
-entries_by number (needs.Read a) (answers.Wrote written) = refl
-entries_by number (needs.Write a w) (answers.Wrote true) = refl
-entries_by number (needs.Write a w) (answers.Wrote false) = refl
-entries_by number (needs.Write a w) answers.Local = refl
-entries_by number (needs.Write a w) (answers.Channel reply) = refl
-entries_by number (needs.Write a w) (answers.Read word) = refl
+entries_by number (Need.Channel c op) (Answer.Channel reply) = entries_on c number (seen_answered op reply)
+entries_by number (Need.Channel c op) Answer.Local = refl
+entries_by number (Need.Channel c op) (Answer.Read word) = refl
+entries_by number (Need.Channel c op) (Answer.Wrote written) = refl
+entries_by number Need.Nothing x = refl
+entries_by number Need.Local x = refl
+entries_by number (Need.Read a) (Answer.Read (Some w)) = refl
+entries_by number (Need.Read a) (Answer.Read None) = refl
+entries_by number (Need.Read a) Answer.Local = refl
+entries_by number (Need.Read a) (Answer.Channel reply) = refl
+entries_by number (Need.Read a) (Answer.Wrote written) = refl
+entries_by number (Need.Write a w) (Answer.Wrote true) = refl
+entries_by number (Need.Write a w) (Answer.Wrote false) = refl
+entries_by number (Need.Write a w) Answer.Local = refl
+entries_by number (Need.Write a w) (Answer.Channel reply) = refl
+entries_by number (Need.Write a w) (Answer.Read word) = refl
 
 extended_none : (program_orders : List (List Access)) → extended program_orders [] ≡ program_orders
 extended_none [] = refl
 extended_none (t ∷ program_orders) = λ j. append-nil t j ∷ extended_none program_orders j
 
+-- an answer that did or saw nothing on a channel, with its accesses
+beside : {size : ℕ} {n : Need} {x : Answer} {before after : LineState} (number : ℕ) (more : List Access) → fits n x ≡ true → IsBySize size n x → contribution seen_answered n x ≡ [] → accesses_by number n x ≡ more → after.log ≡ before.log
+    → after.view.program_orders ≡ extended before.view.program_orders more → after.view.written ≡ before.view.written ++ writes_among more → IsAnswered size n x before after
+beside {before = before} {after = after} number more fit by_size none accessed log program_orders written = record {
+  fits = fit;
+  by_size = by_size;
+  number = number;
+  noted = subst (λ (ss : List (OfChannel Seen)). IsNoted number ss before.log after.log) (sym none) log;
+  more = more;
+  program_orders = program_orders;
+  accessed = subst (λ (xs : List Access). IsSubsequence xs more) (sym accessed) (stands_whole more);
+  written = written ∙ ap (λ xs. before.view.written ++ writes_among xs) (sym accessed);
+  monotone = λ m. subst (λ (l : LogState). IsMonotone l.entries) (sym log) m;
+}
+
+still : {size : ℕ} {n : Need} {x : Answer} {before after : LineState} → fits n x ≡ true → IsBySize size n x → contribution seen_answered n x ≡ [] → accesses_by 0 n x ≡ [] → after ≡ before → IsAnswered size n x before after
+still {before = before} fit by_size none accessed is =
+    beside 0 [] fit by_size none accessed (ap (λ l. l.log) is) (ap (λ l. l.view.program_orders) is ∙ sym (extended_none before.view.program_orders)) (ap (λ l. l.view.written) is ∙ sym (append-nil before.view.written))
+
 -- central memory answers
 pub read_answer : (size a : ℕ) (found : Option ℕ) (before after : LineState) → IfSome found (λ word. after ≡ record before { view = reads before.view a word }) → IfSome found (λ word. a < size)
-    → IfNone found (size ≤ a) → IfNone found (after ≡ before) → IsAnswered size (needs.Read a) (answers.Read found) before after
-read_answer size a (Some word) before after is inside outside same = record {
-  fits = refl;
-  by_size = (λ none. absurd cc, λ past. absurd (omega (arith, past, inside)));
-  number = 0;
-  noted = ap (λ l. l.log) is;
-  more = accesses.Read a word ∷ [];
-  program_orders = ap (λ l. l.view.program_orders) is;
-  accessed = inl (refl, tt);
-  written = ap (λ l. l.view.written) is ∙ sym (append-nil before.view.written);
-  monotone = λ m. rw is m;
-}
-read_answer size a None before after is inside outside same = record {
-  fits = refl;
-  by_size = (λ none. outside, λ past. refl);
-  number = 0;
-  noted = ap (λ l. l.log) same;
-  more = [];
-  program_orders = ap (λ l. l.view.program_orders) same ∙ sym (extended_none before.view.program_orders);
-  accessed = tt;
-  written = ap (λ l. l.view.written) same ∙ sym (append-nil before.view.written);
-  monotone = λ m. rw same m;
-}
+    → IfNone found (size ≤ a) → IfNone found (after ≡ before) → IsAnswered size (Need.Read a) (Answer.Read found) before after
+read_answer size a (Some word) before after is inside outside same =
+    beside 0 (Access.Read a word ∷ []) refl (λ none. absurd cc, λ past. absurd (omega (arith, past, inside))) refl refl (ap (λ l. l.log) is) (ap (λ l. l.view.program_orders) is) (ap (λ l. l.view.written) is ∙ sym (append-nil before.view.written))
+read_answer size a None before after is inside outside same = still refl (λ none. outside, λ past. refl) refl refl same
 
 pub write_answer : (size a w : ℕ) (written : Bool) (before after : LineState) → IsTrue written ↔ (a < size)
-    → MatchBool written ((number : ℕ) × (after ≡ record before { view = writes before.view a w number })) (after ≡ before) → IsAnswered size (needs.Write a w) (answers.Wrote written) before after
-write_answer size a w true before after by_size is = record {
-  fits = refl;
-  by_size = by_size;
-  number = is.0;
-  noted = ap (λ l. l.log) is.1;
-  more = accesses.Write a w is.0 ∷ [];
-  program_orders = ap (λ l. l.view.program_orders) is.1;
-  accessed = inl (refl, tt);
-  written = ap (λ l. l.view.written) is.1;
-  monotone = λ m. rw is.1 m;
-}
-write_answer size a w false before after by_size is = record {
-  fits = refl;
-  by_size = by_size;
-  number = 0;
-  noted = ap (λ l. l.log) is;
-  more = [];
-  program_orders = ap (λ l. l.view.program_orders) is ∙ sym (extended_none before.view.program_orders);
-  accessed = tt;
-  written = ap (λ l. l.view.written) is ∙ sym (append-nil before.view.written);
-  monotone = λ m. rw is m;
-}
+    → MatchBool written ((number : ℕ) × (after ≡ record before { view = writes before.view a w number })) (after ≡ before) → IsAnswered size (Need.Write a w) (Answer.Wrote written) before after
+write_answer size a w true before after by_size is =
+    beside is.0 (Access.Write a w is.0 ∷ []) refl by_size refl refl (ap (λ l. l.log) is.1) (ap (λ l. l.view.program_orders) is.1) (ap (λ l. l.view.written) is.1)
+write_answer size a w false before after by_size is = still refl by_size refl refl is
 
 -- nothing was asked
-pub local_answer : (size : ℕ) (n : Need) (line : LineState) → (n ≡ needs.Nothing) ⊎ (n ≡ needs.Local) → IsAnswered size n answers.Local line line
-local_answer size n line asks = record {
-  fits = elim asks [ inl is ↦ rw is refl | inr is ↦ rw is refl ];
-  by_size = elim asks [ inl is ↦ rw is tt | inr is ↦ rw is tt ];
-  number = 0;
-  noted = elim asks [ inl is ↦ rw is refl | inr is ↦ rw is refl ];
-  more = [];
-  program_orders = sym (extended_none line.view.program_orders);
-  accessed = elim asks [ inl is ↦ rw is tt | inr is ↦ rw is tt ];
-  written = sym (elim asks [ inl is ↦ rw is (append-nil line.view.written) | inr is ↦ rw is (append-nil line.view.written) ]);
-  monotone = λ m. m;
-}
+pub local_answer : (size : ℕ) (n : Need) (line : LineState) → (n ≡ Need.Nothing) ⊎ (n ≡ Need.Local) → IsAnswered size n Answer.Local line line
+local_answer size n line (inl is) = rw is (still refl tt refl refl refl)
+local_answer size n line (inr is) = rw is (still refl tt refl refl refl)
 
 -- the accesses of answers, with those of one more
 given_to : (xs : List Answer) (pp new : Processor) (made : List Access) (x : Answer) (number : ℕ) → Gives pp xs new → AreAccessesOf pp xs made → AreAccessesOf pp (xs ++ x ∷ []) (made ++ accesses_by number (need new) x)

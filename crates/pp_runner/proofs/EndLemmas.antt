@@ -1,16 +1,15 @@
 -- Each end, by what the processor, the answers and the log are.
+use Rattle.pp_machine.specs.declared.pp_state.PpState.{PpState}
 use Rattle.std.proofs.Common.{◌≡◌, ℕ, ◌<◌, ◌≤◌, List, [], Option, None, Some, length, arith}
 use Rattle.std.specs.Prelude.{IfNone, IfSome, unwrap_or}
 use Rattle.pp_line.specs.declared.entry.Entry.{Entry}
 use Rattle.pp_machine.specs.NeedAndEffect.{need}
 use Rattle.pp_machine.specs.Processor.{Processor}
 use Rattle.pp_machine.specs.declared.answer.Answer.{Answer}
-use Rattle.pp_machine.specs.declared.pp_state.PpState.TheVariants as states
 use Rattle.pp_runner.specs.End.{IsEnd, NeedsWornChannel, WornWithCause, WasHeld}
 use Rattle.pp_runner.specs.declared.end.End.{End}
-use Rattle.pp_runner.specs.declared.end.End.TheVariants as ends
 
-pub end_steps : (steps : ℕ) (pp : Processor) (xs : List Answer) (log : List Entry) → pp.state ≡ states.Running → length xs ≡ steps → IsEnd steps ends.Steps pp xs log
+pub end_steps : (steps : ℕ) (pp : Processor) (xs : List Answer) (log : List Entry) → pp.state ≡ PpState.Running → length xs ≡ steps → IsEnd steps End.Steps pp xs log
 end_steps steps pp xs log running all = record {
   stopped = (λ e. absurd cc, λ s. absurd cc);
   fault = λ n. (λ e. absurd cc, λ s. absurd cc);
@@ -21,7 +20,7 @@ end_steps steps pp xs log running all = record {
   worn = λ e. absurd cc;
 }
 
-pub end_patience : (steps : ℕ) (pp : Processor) (xs : List Answer) (log : List Entry) → pp.state ≡ states.Running → length xs < steps → WasHeld pp log → IsEnd steps ends.Patience pp xs log
+pub end_patience : (steps : ℕ) (pp : Processor) (xs : List Answer) (log : List Entry) → pp.state ≡ PpState.Running → length xs < steps → WasHeld pp log → IsEnd steps End.Patience pp xs log
 end_patience steps pp xs log running fewer held = record {
   stopped = (λ e. absurd cc, λ s. absurd cc);
   fault = λ n. (λ e. absurd cc, λ s. absurd cc);
@@ -32,7 +31,7 @@ end_patience steps pp xs log running fewer held = record {
   worn = λ e. absurd cc;
 }
 
-pub end_memory : (steps : ℕ) (pp : Processor) (xs : List Answer) (log : List Entry) → pp.state ≡ states.Running → length xs < steps → IsEnd steps ends.Memory pp xs log
+pub end_memory : (steps : ℕ) (pp : Processor) (xs : List Answer) (log : List Entry) → pp.state ≡ PpState.Running → length xs < steps → IsEnd steps End.Memory pp xs log
 end_memory steps pp xs log running fewer = record {
   stopped = (λ e. absurd cc, λ s. absurd cc);
   fault = λ n. (λ e. absurd cc, λ s. absurd cc);
@@ -43,7 +42,7 @@ end_memory steps pp xs log running fewer = record {
   worn = λ e. absurd cc;
 }
 
-pub end_worn : (steps : ℕ) (pp : Processor) (xs : List Answer) (log : List Entry) (happened : ℕ → ℕ) → pp.state ≡ states.Running → length xs < steps → NeedsWornChannel happened (need pp) → IsEnd steps ends.Worn pp xs log
+pub end_worn : (steps : ℕ) (pp : Processor) (xs : List Answer) (log : List Entry) (happened : ℕ → ℕ) → pp.state ≡ PpState.Running → length xs < steps → NeedsWornChannel happened (need pp) → IsEnd steps End.Worn pp xs log
 end_worn steps pp xs log happened running fewer needs = record {
   stopped = (λ e. absurd cc, λ s. absurd cc);
   fault = λ n. (λ e. absurd cc, λ s. absurd cc);
@@ -55,8 +54,8 @@ end_worn steps pp xs log happened running fewer needs = record {
 }
 
 -- the end after the last step of the limit: that of a processor at rest, if it is
-pub end_at_last : (steps : ℕ) (pp : Processor) (xs : List Answer) (log : List Entry) (rest : Option End) → IfNone rest (pp.state ≡ states.Running)
-    → IfSome rest (λ finish. (n : ℕ) (ys : List Answer) (other : List Entry) → IsEnd n finish pp ys other) → length xs ≡ steps → IsEnd steps (unwrap_or rest ends.Steps) pp xs log
+pub end_at_last : (steps : ℕ) (pp : Processor) (xs : List Answer) (log : List Entry) (rest : Option End) → IfNone rest (pp.state ≡ PpState.Running)
+    → IfSome rest (λ finish. (n : ℕ) (ys : List Answer) (other : List Entry) → IsEnd n finish pp ys other) → length xs ≡ steps → IsEnd steps (unwrap_or rest End.Steps) pp xs log
 end_at_last steps pp xs log None running ended all = end_steps steps pp xs log running all
 end_at_last steps pp xs log (Some finish) running ended all = ended steps xs log
 
@@ -71,15 +70,15 @@ pub worn_at_rest : (happened : ℕ → ℕ) (finish : End) (pp : Processor) → 
 worn_at_rest happened finish pp ended is = absurd (omega (arith, ((ended 0 [] []).worn is).0.fewer))
 
 pub worn_at_last : (happened : ℕ → ℕ) (pp : Processor) (rest : Option End) → IfSome rest (λ finish. (n : ℕ) (ys : List Answer) (other : List Entry) → IsEnd n finish pp ys other)
-    → WornWithCause happened (unwrap_or rest ends.Steps) pp
+    → WornWithCause happened (unwrap_or rest End.Steps) pp
 worn_at_last happened pp None ended = λ is. absurd cc
 worn_at_last happened pp (Some finish) ended = worn_at_rest happened finish pp ended
 
 -- nor has it given up
-pub patience_at_rest : (finish : End) (pp : Processor) → ((n : ℕ) (ys : List Answer) (other : List Entry) → IsEnd n finish pp ys other) → finish ≡ ends.Patience → ⊥
+pub patience_at_rest : (finish : End) (pp : Processor) → ((n : ℕ) (ys : List Answer) (other : List Entry) → IsEnd n finish pp ys other) → finish ≡ End.Patience → ⊥
 patience_at_rest finish pp ended is = absurd (omega (arith, ((ended 0 [] []).patience is).0.fewer))
 
 pub patience_at_last : (pp : Processor) (rest : Option End) → IfSome rest (λ finish. (n : ℕ) (ys : List Answer) (other : List Entry) → IsEnd n finish pp ys other)
-    → unwrap_or rest ends.Steps ≡ ends.Patience → ⊥
+    → unwrap_or rest End.Steps ≡ End.Patience → ⊥
 patience_at_last pp None ended = λ is. absurd cc
 patience_at_last pp (Some finish) ended = patience_at_rest finish pp ended

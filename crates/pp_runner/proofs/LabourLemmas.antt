@@ -1,7 +1,7 @@
 -- What a try of a step keeps of what a worker has.
 use Rattle.std.proofs.Common.{◌≡◌, ℕ, ◌+◌, ◌-◌, ◌*◌, ◌<◌, ◌≤◌, true, false, List, [], ◌∷◌, ◌++◌, length, map, take, Option, None, Some, refl, sym, ap, ◌∙◌, subst, inl, inr, arith}
 use Rattle.std.specs.Prelude.{IsTrue, slice_get}
-use Rattle.std.specs.List.{last_or, filter_map}
+use Rattle.std.specs.List.{cons_option, last_or, filter_map}
 use Rattle.std.specs.Option.{option_map, option_or, option_to_list}
 use Rattle.std.proofs.lemmas.Bool.{both_ways, eq-eqb, cases_lt}
 use Rattle.std.proofs.lemmas.List.{append-nil, length-append, take-append-le}
@@ -19,16 +19,13 @@ use Rattle.pp_channel.specs.declared.seen.Seen.TheVariants.{Did, Saw}
 use Rattle.pp_channel.specs.declared.event.Event.{Event}
 use Rattle.pp_channel.specs.declared.flags.Flags.{Flags}
 use Rattle.pp_channel.specs.declared.reply.Reply.{Reply}
-use Rattle.pp_channel.specs.declared.reply.Reply.TheVariants as replies
 use Rattle.pp_machine.specs.FitLaws.{acts_where_held}
 use Rattle.pp_machine.specs.ReplayLaws.{replayed-push, given_count-push, collected_along-push}
 use Rattle.pp_machine.specs.NeedAndEffect.{need, processor_after, outcome, IsHeldAnswer}
 use Rattle.pp_machine.specs.Processor.{Processor}
 use Rattle.pp_machine.specs.Replay.{OfChannel, fits, replayed, given_count, collected_along, events_given, looks_and_events, contribution}
 use Rattle.pp_machine.specs.declared.answer.Answer.{Answer}
-use Rattle.pp_machine.specs.declared.answer.Answer.TheVariants as answers
 use Rattle.pp_machine.specs.declared.need.Need.{Need}
-use Rattle.pp_machine.specs.declared.need.Need.TheVariants as needs
 use Rattle.pp_machine.specs.declared.outcome.Outcome.TheVariants.{Moved}
 use Rattle.pp_runner.proofs.LogLemmas.{looked_at, BeginsWith, begins_with, events_done, events_in-push, sights_in-push, stands_done}
 use Rattle.pp_runner.proofs.ReplyLemmas.{sight_of, reply_to_channel}
@@ -36,9 +33,9 @@ use Rattle.pp_runner.specs.WorkerReport.{OfEachAnswer, IsBySize, event_in, event
 use Rattle.pp_word.specs.Subsequence.{IsSubsequence}
 use Rattle.pp_word.specs.Subsequences.{stands_more, stands_push}
 use Rattle.pp_line.specs.LineState.{LineState}
-use Rattle.pp_line.specs.Order.{writes_among}
+use Rattle.pp_line.specs.Order.{entries_among, writes_among}
 use Rattle.pp_line.specs.declared.rule.LineView.{LineView}
-use Rattle.pp_runner.proofs.AccessLemmas.{made_more, made_still, no_writes, numbered}
+use Rattle.pp_runner.proofs.AccessLemmas.{entries_by, made_more, made_still, no_writes, numbered}
 use Rattle.pp_runner.specs.Accesses.{accesses_by}
 use Rattle.pp_runner.specs.Labour.{HasEntries, HasLooked, HasMade, IsAtWork, IsAnswered, IsNoted, IsUnused}
 use Rattle.pp_runner.specs.End.{WasHeld, NeedsChannel}
@@ -79,23 +76,31 @@ among_event c None = refl
 among_event c (Some e) = refl
 
 among_shown : (c : ℕ) (operation : ChanOp) (reply : Reply) (shown : Option Flags) → flags_shown reply ≡ shown →
-    events_among (map (λ what. record { channel = c; what = what }) (option_to_list (option_or (option_map (λ f. Saw f) shown) (option_map (λ e. Did e) (event_answered operation reply))))) ≡ contribution event_answered (needs.Channel c operation) (answers.Channel reply)
+    events_among (map (λ what. record { channel = c; what = what }) (option_to_list (option_or (option_map (λ f. Saw f) shown) (option_map (λ e. Did e) (event_answered operation reply))))) ≡ contribution event_answered (Need.Channel c operation) (Answer.Channel reply)
 among_shown c operation reply (Some f) shows = rw (shown_makes_none operation reply f shows) refl
 among_shown c operation reply None shows = among_event c (event_answered operation reply)
 
 among_seen : (c : ℕ) (operation : ChanOp) (reply : Reply) →
-    events_among (contribution seen_answered (needs.Channel c operation) (answers.Channel reply)) ≡ contribution event_answered (needs.Channel c operation) (answers.Channel reply)
+    events_among (contribution seen_answered (Need.Channel c operation) (Answer.Channel reply)) ≡ contribution event_answered (Need.Channel c operation) (Answer.Channel reply)
 among_seen c operation reply = among_shown c operation reply (flags_shown reply) refl
 
 among_sights : (n : Need) (x : Answer) → events_among (contribution seen_answered n x) ≡ contribution event_answered n x
-among_sights (needs.Channel c operation) (answers.Channel reply) = among_seen c operation reply
-among_sights (needs.Channel c operation) answers.Local = refl
-among_sights (needs.Channel c operation) (answers.Read word) = refl
-among_sights (needs.Channel c operation) (answers.Wrote written) = refl
-among_sights needs.Nothing x = refl
-among_sights needs.Local x = refl
-among_sights (needs.Read a) x = refl
-among_sights (needs.Write a w) x = refl
+among_sights (Need.Channel c operation) (Answer.Channel reply) = among_seen c operation reply
+among_sights (Need.Channel c operation) Answer.Local = refl
+among_sights (Need.Channel c operation) (Answer.Read word) = refl
+among_sights (Need.Channel c operation) (Answer.Wrote written) = refl
+among_sights Need.Nothing x = refl
+among_sights Need.Local x = refl
+among_sights (Need.Read a) x = refl
+among_sights (Need.Write a w) x = refl
+
+-- the events among the accesses of an answer
+events_numbered : (number : ℕ) (ss : List (OfChannel Seen)) → events_in (numbered number ss) ≡ events_among ss
+events_numbered number [] = refl
+events_numbered number (s ∷ ss) = ap (λ more. cons_option (event_in s.channel s.what) more) (events_numbered number ss)
+
+pub events_by : (number : ℕ) (n : Need) (x : Answer) → events_in (entries_among (accesses_by number n x)) ≡ contribution event_answered n x
+events_by number n x = ap events_in (entries_by number n x) ∙ (events_numbered number (contribution seen_answered n x) ∙ among_sights n x)
 
 -- a log after the sights of an answer, where the steps before it have these entries
 record IsLogged (number : ℕ) (ss : List (OfChannel Seen)) (done : List Entry) (before after : LogState) : Type 0 where
@@ -185,25 +190,25 @@ logged number (s ∷ t ∷ more) done look before after room b held is = absurd 
 -- where the processor was held and the answer fits, the only sight is at the channel at which it was held
 held_sight : (pp : Processor) (x : Answer) (log : LogState) → WasHeld pp log.entries → fits (need pp) x ≡ true → IsHeldAt (contribution seen_answered (need pp) x) log
 held_sight pp x log h fit =
-    let n : need pp ≡ needs.Channel h.channel h.needs.operation = h.needs.is in
+    let n : need pp ≡ Need.Channel h.channel h.needs.operation = h.needs.is in
     let r = reply_to_channel h.channel h.needs.operation x (ap (λ m. fits m x) (sym n) ∙ fit) in
     let s = sight_of h.channel h.needs.operation r.reply r.fits in record {
       channel = h.channel;
       what = s.what;
-      only = ap (λ m. contribution seen_answered m x) n ∙ (ap (λ y. contribution seen_answered (needs.Channel h.channel h.needs.operation) y) r.is ∙ s.is);
+      only = ap (λ m. contribution seen_answered m x) n ∙ (ap (λ y. contribution seen_answered (Need.Channel h.channel h.needs.operation) y) r.is ∙ s.is);
       looked = h.looked;
     }
 
 -- an answer that fits is one event or one look at most
 one_sight : (n : Need) (x : Answer) → fits n x ≡ true → length (contribution seen_answered n x) ≤ 1
-one_sight needs.Nothing x fit = omega arith
-one_sight needs.Local x fit = omega arith
-one_sight (needs.Channel c operation) x fit =
+one_sight Need.Nothing x fit = omega arith
+one_sight Need.Local x fit = omega arith
+one_sight (Need.Channel c operation) x fit =
     let r = reply_to_channel c operation x fit in
     let s = sight_of c operation r.reply r.fits in
-    omega (arith, ap (λ y. length (contribution seen_answered (needs.Channel c operation) y)) r.is, ap length s.is)
-one_sight (needs.Read a) x fit = omega arith
-one_sight (needs.Write a w) x fit = omega arith
+    omega (arith, ap (λ y. length (contribution seen_answered (Need.Channel c operation) y)) r.is, ap length s.is)
+one_sight (Need.Read a) x fit = omega arith
+one_sight (Need.Write a w) x fit = omega arith
 
 -- the log of a worker begins with the entries of its steps
 pub work_begun : {load pp : Processor} {size steps : ℕ} {xs : List Answer} {line : LineState} → (work : IsAtWork load size steps pp xs line) → BeginsWith work.done line.log
@@ -258,12 +263,12 @@ record IsHold (pp : Processor) (x : Answer) : Type 0 where
   pub flags : Flags
   pub only : contribution seen_answered (need pp) x ≡ record { channel = channel; what = Saw flags } ∷ []
 
-hold_of : (n : Need) (pp : Processor) (f : Flags) → need pp ≡ n → fits n (answers.Channel (replies.Held f)) ≡ true → IsHold pp (answers.Channel (replies.Held f))
-hold_of (needs.Channel c operation) pp f n fit = record { channel = c; needs = record { operation = operation; is = n; acts = acts_where_held operation f fit }; flags = f; only = rw n refl }
-hold_of needs.Nothing pp f n fit = absurd cc
-hold_of needs.Local pp f n fit = absurd cc
-hold_of (needs.Read a) pp f n fit = absurd cc
-hold_of (needs.Write a w) pp f n fit = absurd cc
+hold_of : (n : Need) (pp : Processor) (f : Flags) → need pp ≡ n → fits n (Answer.Channel (Reply.Held f)) ≡ true → IsHold pp (Answer.Channel (Reply.Held f))
+hold_of (Need.Channel c operation) pp f n fit = record { channel = c; needs = record { operation = operation; is = n; acts = acts_where_held operation f fit }; flags = f; only = rw n refl }
+hold_of Need.Nothing pp f n fit = absurd cc
+hold_of Need.Local pp f n fit = absurd cc
+hold_of (Need.Read a) pp f n fit = absurd cc
+hold_of (Need.Write a w) pp f n fit = absurd cc
 
 hold : (pp : Processor) (x : Answer) → IsHeldAnswer x → fits (need pp) x ≡ true → IsHold pp x
 hold pp x held fit =

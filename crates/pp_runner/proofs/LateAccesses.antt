@@ -5,8 +5,8 @@ use Rattle.std.proofs.lemmas.Bool.{le-ltb}
 use Rattle.std.proofs.lemmas.List.{append-nil}
 use Rattle.std.proofs.lemmas.List.Elements.{All-cons, All-head, All-nil, All-tail}
 use Rattle.pp_word.specs.Subsequence.{IsSubsequence}
-use Rattle.pp_word.specs.Subsequences.{stands_after, stands_passed, stands_through}
-use Rattle.pp_line.proofs.OrderLemmas.{is_later, stands_later_in}
+use Rattle.pp_word.specs.Subsequences.{stands_passed, stands_through}
+use Rattle.pp_line.proofs.OrderLemmas.{entries_stand, is_later, stands_later_in}
 use Rattle.pp_channel.specs.History.{history_on}
 use Rattle.pp_channel.specs.Law.{IsPrefix}
 use Rattle.pp_line.specs.LineState.{LineState}
@@ -19,24 +19,6 @@ use Rattle.pp_machine.specs.Processor.{Processor}
 use Rattle.pp_runner.specs.Accesses.{HasAccessed}
 use Rattle.pp_runner.specs.Labour.{HasMade, NoneOlder}
 use Rattle.pp_runner.specs.declared.worker.Worker.{Worker}
-
--- the entries of what stands in a list stand among those of the list
-entries_stand : (xs ys : List Access) → IsSubsequence xs ys → IsSubsequence (entries_among xs) (entries_among ys)
-entries_stand [] ys h = tt
-entries_stand (x ∷ xs) [] h = absurd h
-entries_stand (x ∷ xs) (y ∷ ys) (inl same) =
-    subst (λ (z : Access). IsSubsequence (entries_among (x ∷ xs)) (entries_among (z ∷ ys))) same.0 (both x xs ys (entries_stand xs ys same.1))
-  where
-    both : (x : Access) (xs ys : List Access) → IsSubsequence (entries_among xs) (entries_among ys) → IsSubsequence (entries_among (x ∷ xs)) (entries_among (x ∷ ys))
-    both (OnChannel entry) xs ys h = inl (refl, h)
-    both (Read address word) xs ys h = h
-    both (Write address word number) xs ys h = h
-entries_stand (x ∷ xs) (y ∷ ys) (inr rest) = behind y ys (entries_among (x ∷ xs)) (entries_stand (x ∷ xs) ys rest)
-  where
-    behind : (y : Access) (ys : List Access) (es : List Entry) → IsSubsequence es (entries_among ys) → IsSubsequence es (entries_among (y ∷ ys))
-    behind (OnChannel entry) ys es h = stands_after es entry (entries_among ys) h
-    behind (Read address word) ys es h = h
-    behind (Write address word number) ys es h = h
 
 module _ {X : Type 0} where
   -- what holds of each item holds of each that stands among them

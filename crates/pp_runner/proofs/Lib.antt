@@ -3,8 +3,9 @@ mod AccessLemmas
 mod LateAccesses
 mod ReplyLemmas
 mod LineLemmas
-mod LabourLemmas
 mod EndLemmas
 mod CrewLemmas
 mod OpeningLemmas
 mod ReportLemmas
+-- facts of the definitions, which proofs of other crates cite
+pub mod LabourLemmas

@@ -1,4 +1,5 @@
 -- Replies of a line: each goes with its operation, and the log tells what it did or saw.
+use Rattle.pp_machine.specs.declared.need.Need.{Need}
 use Rattle.std.proofs.Common.{◌≡◌, ℕ, true, List, [], ◌∷◌, ◌++◌, map, Some, refl, sym, ap, ◌∙◌, subst, inl, inr}
 use Rattle.std.specs.Prelude.{take}
 use Rattle.std.specs.Option.{option_to_list}
@@ -16,8 +17,6 @@ use Rattle.pp_channel.specs.declared.reply.Reply.{Reply}
 use Rattle.pp_machine.specs.FitLaws.{held_fits, made_fits, shown_fits, tells_where_fits}
 use Rattle.pp_machine.specs.Replay.{OfChannel, fits, reply_fits, contribution}
 use Rattle.pp_machine.specs.declared.answer.Answer.{Answer}
-use Rattle.pp_machine.specs.declared.answer.Answer.TheVariants as answers
-use Rattle.pp_machine.specs.declared.need.Need.TheVariants as needs
 use Rattle.pp_runner.proofs.AccessLemmas.{all_made, channel_accessed, no_writes}
 use Rattle.pp_runner.specs.Labour.{IsAnswered, IsNoted}
 
@@ -42,7 +41,7 @@ line_reply_fits h op r by =
 -- what a reply did or saw on channel c, and how the log takes it
 pub record IsSight (c : ℕ) (op : ChanOp) (reply : Reply) : Type 0 where
   pub what : Seen
-  pub is : contribution seen_answered (needs.Channel c op) (answers.Channel reply) ≡ record { channel = c; what = what } ∷ []
+  pub is : contribution seen_answered (Need.Channel c op) (Answer.Channel reply) ≡ record { channel = c; what = what } ∷ []
   pub noted : (log : LogState) (number : ℕ) → with_seen log c number (seen_answered op reply) ≡ with_seen log c number (Some what)
 
 pub sight_of : (c : ℕ) (op : ChanOp) (reply : Reply) → reply_fits op reply ≡ true → IsSight c op reply
@@ -56,18 +55,18 @@ sight_of c op reply fit =
 -- an answer to an operation is a reply that goes with it
 pub record IsReplyTo (op : ChanOp) (x : Answer) : Type 0 where
   pub reply : Reply
-  pub is : x ≡ answers.Channel reply
+  pub is : x ≡ Answer.Channel reply
   pub fits : reply_fits op reply ≡ true
 
-pub reply_to_channel : (c : ℕ) (op : ChanOp) (x : Answer) → fits (needs.Channel c op) x ≡ true → IsReplyTo op x
-reply_to_channel c op (answers.Channel reply) fit = record { reply = reply; is = refl; fits = fit }
-reply_to_channel c op answers.Local fit = absurd cc
-reply_to_channel c op (answers.Read word) fit = absurd cc
-reply_to_channel c op (answers.Wrote written) fit = absurd cc
+pub reply_to_channel : (c : ℕ) (op : ChanOp) (x : Answer) → fits (Need.Channel c op) x ≡ true → IsReplyTo op x
+reply_to_channel c op (Answer.Channel reply) fit = record { reply = reply; is = refl; fits = fit }
+reply_to_channel c op Answer.Local fit = absurd cc
+reply_to_channel c op (Answer.Read word) fit = absurd cc
+reply_to_channel c op (Answer.Wrote written) fit = absurd cc
 
 -- what a line answers, as the answer to the need
 pub acted_answer : (size c : ℕ) (op : ChanOp) (r : Numbered) (before after : LineState) → IsActed before c op r after → (IsMonotone before.log.entries → IsMonotone after.log.entries)
-    → IsAnswered size (needs.Channel c op) (answers.Channel r.reply) before after
+    → IsAnswered size (Need.Channel c op) (Answer.Channel r.reply) before after
 acted_answer size c op r before after acted monotone =
     let fit : reply_fits op r.reply ≡ true = line_reply_fits (history_on c acted.histories) op r acted.answer in
     let s = sight_of c op r.reply fit in
@@ -79,6 +78,6 @@ acted_answer size c op r before after acted monotone =
       more = all_made before after c op r acted;
       program_orders = ap (λ l. l.view.program_orders) acted.after_is;
       accessed = channel_accessed before after c op r acted;
-      written = ap (λ l. l.view.written) acted.after_is ∙ sym (ap (λ ws. before.view.written ++ ws) (no_writes r.number c op (answers.Channel r.reply)) ∙ append-nil before.view.written);
+      written = ap (λ l. l.view.written) acted.after_is ∙ sym (ap (λ ws. before.view.written ++ ws) (no_writes r.number c op (Answer.Channel r.reply)) ∙ append-nil before.view.written);
       monotone = monotone;
     }
