@@ -7,16 +7,13 @@ use Rattle.pp_channel.specs.Answer.{event_of, event_with, flags_of, channel_stat
 use Rattle.pp_channel.specs.AnswerLaws.{held_at}
 use Rattle.pp_channel.specs.History.{IsLawful, waiting}
 use Rattle.pp_channel.specs.declared.chan_op.ChanOp.{ChanOp}
-use Rattle.pp_channel.specs.declared.chan_op.ChanOp.TheVariants as operations
 use Rattle.pp_line.specs.declared.access.Access.{Access}
 use Rattle.pp_line.specs.declared.entry.Entry.{Entry}
 use Rattle.pp_channel.specs.declared.seen.Seen.{Seen}
 use Rattle.pp_channel.specs.declared.seen.Seen.TheVariants.{Did, Saw}
 use Rattle.pp_channel.specs.declared.event.Event.{Event}
-use Rattle.pp_channel.specs.declared.event.Event.TheVariants as events
 use Rattle.pp_channel.specs.declared.flags.Flags.{Flags}
 use Rattle.pp_channel.specs.declared.reply.Reply.{Reply}
-use Rattle.pp_channel.specs.declared.reply.Reply.TheVariants as replies
 use Rattle.pp_channel.proofs.AnswerLemmas.{table_of_ready}
 use Rattle.pp_machine.specs.Block.{block_word}
 use Rattle.pp_machine.specs.FitLaws.{acts_where_held, tells_where_fits}
@@ -25,13 +22,11 @@ use Rattle.pp_machine.specs.Processor.{Processor, word_at}
 use Rattle.pp_machine.specs.Replay.{fits, reply_fits}
 use Rattle.pp_machine.specs.Step.{need_of}
 use Rattle.pp_machine.specs.declared.answer.Answer.{Answer}
-use Rattle.pp_machine.specs.declared.answer.Answer.TheVariants as answers
 use Rattle.pp_machine.specs.declared.block.Block.{Block}
 use Rattle.pp_machine.specs.declared.block.BlockKind.{BlockKind}
 use Rattle.pp_machine.specs.declared.block.BlockKind.TheVariants.{CentralIn, CentralOut, Input, Output}
 use Rattle.pp_machine.specs.declared.need.Need.{Need}
-use Rattle.pp_machine.specs.declared.need.Need.TheVariants as needs
-use Rattle.pp_machine.specs.declared.outcome.Outcome.TheVariants as outcomes
+use Rattle.pp_machine.specs.declared.outcome.Outcome.{Outcome}
 use Rattle.pp_machine.specs.declared.pp_state.PpState.{PpState}
 use Rattle.pp_machine.specs.declared.pp_state.PpState.TheVariants.{Running, Stopped, Fault}
 use Rattle.pp_machine.proofs.StepLemmas.{at_rest, nothing_at_rest}
@@ -42,7 +37,7 @@ use Rattle.pp_report.proofs.MachineLemmas.{Past, Serves, serves_local, serves_no
 -- an answer that fits, moves its processor, and goes by the size of central memory
 pub record GoesOn (size : ℕ) (pp : Processor) (x : Answer) : Type 0 where
   pub fit : fits (need pp) x ≡ true
-  pub moved : outcome pp x ≡ outcomes.Moved
+  pub moved : outcome pp x ≡ Outcome.Moved
   pub by_size : IsBySize size (need pp) x
 
 -- the answer of a channel, and what it did or saw
@@ -50,8 +45,8 @@ pub record IsOfChannel (needed : Need) (x : Answer) : Type 0 where
   pub c : ℕ
   pub op : ChanOp
   pub reply : Reply
-  pub needs_it : needed ≡ needs.Channel c op
-  pub is : x ≡ answers.Channel reply
+  pub needs_it : needed ≡ Need.Channel c op
+  pub is : x ≡ Answer.Channel reply
   pub fit : reply_fits op reply ≡ true
   pub what : Seen
   pub tells : seen_answered op reply ≡ Some what
@@ -73,29 +68,29 @@ not_inside a size not = elim (cases_lt a size) [ inl less ↦ absurd (not less) 
 on_channel : ℕ → ℕ → Seen → Access
 on_channel c number what = Access.OnChannel (record { channel = c; number = number; what = what })
 
-accessed_on : (c number : ℕ) (op : ChanOp) (reply : Reply) (what : Seen) → seen_answered op reply ≡ Some what → accesses_by number (needs.Channel c op) (answers.Channel reply) ≡ on_channel c number what ∷ []
+accessed_on : (c number : ℕ) (op : ChanOp) (reply : Reply) (what : Seen) → seen_answered op reply ≡ Some what → accesses_by number (Need.Channel c op) (Answer.Channel reply) ≡ on_channel c number what ∷ []
 unfolding on_channel
 accessed_on c number op reply what tells = ap (λ o. map (λ what. Access.OnChannel (record { channel = c; number = number; what = what })) (option_to_list o)) tells
 
-kinds : (size : ℕ) (needed : Need) (x : Answer) → fits needed x ≡ true → needed ≢ needs.Nothing → IsBySize size needed x → IsAside size needed x ⊎ IsAccess needed x
-kinds size needs.Nothing x fit some by_size = absurd (some refl)
-kinds size needs.Local answers.Local fit some by_size = inl (record { serves = serves_local size; given = λ number. refl })
-kinds size needs.Local x fit some by_size = absurd cc
-kinds size (needs.Channel c op) (answers.Channel reply) fit some by_size =
+kinds : (size : ℕ) (needed : Need) (x : Answer) → fits needed x ≡ true → needed ≢ Need.Nothing → IsBySize size needed x → IsAside size needed x ⊎ IsAccess needed x
+kinds size Need.Nothing x fit some by_size = absurd (some refl)
+kinds size Need.Local Answer.Local fit some by_size = inl (record { serves = serves_local size; given = λ number. refl })
+kinds size Need.Local x fit some by_size = absurd cc
+kinds size (Need.Channel c op) (Answer.Channel reply) fit some by_size =
     let tells = tells_where_fits op reply fit in
     inr (record { access = λ number. on_channel c number tells.0; given = λ number. accessed_on c number op reply tells.0 tells.1 })
-kinds size (needs.Channel c op) x fit some by_size = absurd cc
-kinds size (needs.Read a) (answers.Read None) fit some by_size = inl (record { serves = λ past. serves_no_word size a past (by_size.0 refl); given = λ number. refl })
-kinds size (needs.Read a) (answers.Read (Some w)) fit some by_size = inr (record { access = λ number. Access.Read a w; given = λ number. refl })
-kinds size (needs.Read a) x fit some by_size = absurd cc
-kinds size (needs.Write a w) (answers.Wrote false) fit some by_size =
+kinds size (Need.Channel c op) x fit some by_size = absurd cc
+kinds size (Need.Read a) (Answer.Read None) fit some by_size = inl (record { serves = λ past. serves_no_word size a past (by_size.0 refl); given = λ number. refl })
+kinds size (Need.Read a) (Answer.Read (Some w)) fit some by_size = inr (record { access = λ number. Access.Read a w; given = λ number. refl })
+kinds size (Need.Read a) x fit some by_size = absurd cc
+kinds size (Need.Write a w) (Answer.Wrote false) fit some by_size =
     inl (record { serves = λ past. serves_no_write size a w past (not_inside a size (λ less. let no = by_size.1 less in absurd cc)); given = λ number. refl })
-kinds size (needs.Write a w) (answers.Wrote true) fit some by_size = inr (record { access = λ number. Access.Write a w number; given = λ number. refl })
-kinds size (needs.Write a w) x fit some by_size = absurd cc
+kinds size (Need.Write a w) (Answer.Wrote true) fit some by_size = inr (record { access = λ number. Access.Write a w number; given = λ number. refl })
+kinds size (Need.Write a w) x fit some by_size = absurd cc
 
 pub kind_of : (size : ℕ) (pp : Processor) (x : Answer) → GoesOn size pp x → IsAside size (need pp) x ⊎ IsAccess (need pp) x
 kind_of size pp x goes =
-    kinds size (need pp) x goes.fit (λ nothing. let rest : outcome pp x ≡ outcomes.AtRest = (at_rest pp x).1 ((nothing_at_rest pp).0 nothing) in let moved = goes.moved in absurd cc) goes.by_size
+    kinds size (need pp) x goes.fit (λ nothing. let rest : outcome pp x ≡ Outcome.AtRest = (at_rest pp x).1 ((nothing_at_rest pp).0 nothing) in let moved = goes.moved in absurd cc) goes.by_size
 
 -- one entry with this sight
 pub record IsSightOf (c : ℕ) (what : Seen) (entry : Entry) : Type 0 where
@@ -107,82 +102,51 @@ pub record IsOnChannel (needed : Need) (x : Answer) (entry : Entry) : Type 0 whe
   pub of : IsOfChannel needed x
   pub sight : IsSightOf of.c of.what entry
 
-same_entry : (e f : Entry) → (Access.OnChannel e ∷ []) ≡ (Access.OnChannel f ∷ []) → e ≡ f
-same_entry e f is = cc
+abbrev pub MadeBy : Access → Need → Answer → Type 0
+MadeBy (Access.OnChannel entry) needed x = IsOnChannel needed x entry
+MadeBy (Access.Read a w) needed x = (needed ≡ Need.Read a) × (x ≡ Answer.Read (Some w))
+MadeBy (Access.Write a w number) needed x = (needed ≡ Need.Write a w) × (x ≡ Answer.Wrote true)
 
-pub channel_of : (needed : Need) (x : Answer) (number : ℕ) (entry : Entry) → fits needed x ≡ true → accesses_by number needed x ≡ Access.OnChannel entry ∷ [] → IsOnChannel needed x entry
+only : (one access : Access) → one ∷ [] ≡ access ∷ [] → one ≡ access
+only one access is = cc
+
+pub made_by : (needed : Need) (x : Answer) (number : ℕ) (access : Access) → fits needed x ≡ true → accesses_by number needed x ≡ access ∷ [] → MadeBy access needed x
 unfolding on_channel
-channel_of (needs.Channel c op) (answers.Channel reply) number entry fit is =
+made_by (Need.Channel c op) (Answer.Channel reply) number access fit is =
     let tells = tells_where_fits op reply fit in
-    let e = same_entry (record { channel = c; number = number; what = tells.0 }) entry (sym (accessed_on c number op reply tells.0 tells.1) ∙ is) in record {
+    subst (λ (a : Access). MadeBy a (Need.Channel c op) (Answer.Channel reply)) (only (on_channel c number tells.0) access (sym (accessed_on c number op reply tells.0 tells.1) ∙ is)) (record {
       of = record { c = c; op = op; reply = reply; needs_it = refl; is = refl; fit = fit; what = tells.0; tells = tells.1 };
-      sight = record { channel = ap (λ (y : Entry). y.channel) e; seen = ap (λ (y : Entry). y.what) e };
-    }
-channel_of (needs.Channel c op) x number entry fit is = absurd cc
-channel_of needs.Nothing x number entry fit is = absurd cc
-channel_of needs.Local x number entry fit is = absurd cc
-channel_of (needs.Read a) (answers.Read None) number entry fit is = absurd cc
-channel_of (needs.Read a) (answers.Read (Some w)) number entry fit is = absurd cc
-channel_of (needs.Read a) x number entry fit is = absurd cc
-channel_of (needs.Write a w) (answers.Wrote false) number entry fit is = absurd cc
-channel_of (needs.Write a w) (answers.Wrote true) number entry fit is = absurd cc
-channel_of (needs.Write a w) x number entry fit is = absurd cc
-
-pub read_of : (needed : Need) (x : Answer) (number a w : ℕ) → fits needed x ≡ true → accesses_by number needed x ≡ Access.Read a w ∷ [] → (needed ≡ needs.Read a) × (x ≡ answers.Read (Some w))
-unfolding on_channel
-read_of (needs.Channel c op) (answers.Channel reply) number a w fit is =
-    let tells = tells_where_fits op reply fit in
-    let no : on_channel c number tells.0 ∷ [] ≡ Access.Read a w ∷ [] = sym (accessed_on c number op reply tells.0 tells.1) ∙ is in absurd cc
-read_of (needs.Channel c op) x number a w fit is = absurd cc
-read_of needs.Nothing x number a w fit is = absurd cc
-read_of needs.Local x number a w fit is = absurd cc
-read_of (needs.Read b) (answers.Read None) number a w fit is = absurd cc
-read_of (needs.Read b) (answers.Read (Some v)) number a w fit is =
-    let address : b ≡ a = cc in
-    let word : v ≡ w = cc in
-    (ap (λ k. needs.Read k) address, ap (λ k. answers.Read (Some k)) word)
-read_of (needs.Read b) x number a w fit is = absurd cc
-read_of (needs.Write b v) (answers.Wrote false) number a w fit is = absurd cc
-read_of (needs.Write b v) (answers.Wrote true) number a w fit is = absurd cc
-read_of (needs.Write b v) x number a w fit is = absurd cc
-
-pub write_of : (needed : Need) (x : Answer) (number a w k : ℕ) → fits needed x ≡ true → accesses_by number needed x ≡ Access.Write a w k ∷ [] → (needed ≡ needs.Write a w) × (x ≡ answers.Wrote true)
-unfolding on_channel
-write_of (needs.Channel c op) (answers.Channel reply) number a w k fit is =
-    let tells = tells_where_fits op reply fit in
-    let no : on_channel c number tells.0 ∷ [] ≡ Access.Write a w k ∷ [] = sym (accessed_on c number op reply tells.0 tells.1) ∙ is in absurd cc
-write_of (needs.Channel c op) x number a w k fit is = absurd cc
-write_of needs.Nothing x number a w k fit is = absurd cc
-write_of needs.Local x number a w k fit is = absurd cc
-write_of (needs.Read b) (answers.Read None) number a w k fit is = absurd cc
-write_of (needs.Read b) (answers.Read (Some v)) number a w k fit is = absurd cc
-write_of (needs.Read b) x number a w k fit is = absurd cc
-write_of (needs.Write b v) (answers.Wrote false) number a w k fit is = absurd cc
-write_of (needs.Write b v) (answers.Wrote true) number a w k fit is =
-    let address : b ≡ a = cc in
-    let word : v ≡ w = cc in
-    (λ j. needs.Write (address j) (word j), refl)
-write_of (needs.Write b v) x number a w k fit is = absurd cc
+      sight = record { channel = refl; seen = refl };
+    })
+made_by (Need.Channel c op) x number access fit is = absurd cc
+made_by Need.Nothing x number access fit is = absurd cc
+made_by Need.Local x number access fit is = absurd cc
+made_by (Need.Read a) (Answer.Read None) number access fit is = absurd cc
+made_by (Need.Read a) (Answer.Read (Some w)) number access fit is = subst (λ (b : Access). MadeBy b (Need.Read a) (Answer.Read (Some w))) (only (Access.Read a w) access is) (refl, refl)
+made_by (Need.Read a) x number access fit is = absurd cc
+made_by (Need.Write a w) (Answer.Wrote false) number access fit is = absurd cc
+made_by (Need.Write a w) (Answer.Wrote true) number access fit is = subst (λ (b : Access). MadeBy b (Need.Write a w) (Answer.Wrote true)) (only (Access.Write a w number) access is) (refl, refl)
+made_by (Need.Write a w) x number access fit is = absurd cc
 
 -- a block that a channel ended by being inactive: its operation was not ready
-inactive : (kind : BlockKind) (place : ℕ) (pp : Processor) (c : ℕ) (op : ChanOp) (f : Flags) → need_of (block_word kind place pp) ≡ needs.Channel c op → f.active ≡ false → ready_at op f ≡ false
+inactive : (kind : BlockKind) (place : ℕ) (pp : Processor) (c : ℕ) (op : ChanOp) (f : Flags) → need_of (block_word kind place pp) ≡ Need.Channel c op → f.active ≡ false → ready_at op f ≡ false
 inactive (CentralIn left) place pp c op f is none = absurd cc
 inactive (CentralOut left) place pp c op f is none = absurd cc
-inactive (Input channel) place pp c op f is none = let take : operations.Take ≡ op = cc in subst (λ (o : ChanOp). ready_at o f ≡ false) take (rw none refl)
-inactive (Output channel) place pp c op f is none = let put : operations.Put (word_at pp place) ≡ op = cc in subst (λ (o : ChanOp). ready_at o f ≡ false) put (rw none refl)
+inactive (Input channel) place pp c op f is none = let take : ChanOp.Take ≡ op = cc in subst (λ (o : ChanOp). ready_at o f ≡ false) take (rw none refl)
+inactive (Output channel) place pp c op f is none = let put : ChanOp.Put (word_at pp place) ≡ op = cc in subst (λ (o : ChanOp). ready_at o f ≡ false) put (rw none refl)
 
-not_ready_in : (state : PpState) (block : Option Block) (pp : Processor) (c : ℕ) (op : ChanOp) (f : Flags) → if_running state (need_of (step_of block pp)) needs.Nothing ≡ needs.Channel c op
-    → if_running state (if is_held block (answers.Channel (replies.Held f)) then outcomes.Held else outcomes.Moved) outcomes.AtRest ≡ outcomes.Moved → ready_at op f ≡ false
+not_ready_in : (state : PpState) (block : Option Block) (pp : Processor) (c : ℕ) (op : ChanOp) (f : Flags) → if_running state (need_of (step_of block pp)) Need.Nothing ≡ Need.Channel c op
+    → if_running state (if is_held block (Answer.Channel (Reply.Held f)) then Outcome.Held else Outcome.Moved) Outcome.AtRest ≡ Outcome.Moved → ready_at op f ≡ false
 not_ready_in Stopped block pp c op f needed moved = absurd cc
 not_ready_in (Fault number) block pp c op f needed moved = absurd cc
 not_ready_in Running None pp c op f needed moved = absurd cc
 not_ready_in Running (Some block) pp c op f needed moved = inactive block.kind block.place pp c op f needed (ended f.active moved)
   where
-    ended : (b : Bool) → (if b then outcomes.Held else outcomes.Moved) ≡ outcomes.Moved → b ≡ false
+    ended : (b : Bool) → (if b then Outcome.Held else Outcome.Moved) ≡ Outcome.Moved → b ≡ false
     ended true is = absurd cc
     ended false is = refl
 
-pub held_not_ready : (pp : Processor) (c : ℕ) (op : ChanOp) (f : Flags) → need pp ≡ needs.Channel c op → outcome pp (answers.Channel (replies.Held f)) ≡ outcomes.Moved → ready_at op f ≡ false
+pub held_not_ready : (pp : Processor) (c : ℕ) (op : ChanOp) (f : Flags) → need pp ≡ Need.Channel c op → outcome pp (Answer.Channel (Reply.Held f)) ≡ Outcome.Moved → ready_at op f ≡ false
 unfolding need outcome
 held_not_ready pp c op f needed moved = not_ready_in pp.state pp.block pp c op f needed moved
 
@@ -194,27 +158,27 @@ pub record IsLookAnswer (h : List Event) (op : ChanOp) (reply : Reply) : Type 0 
 same_look : (f g : Flags) → Some (Saw g) ≡ Some (Saw f) → g ≡ f
 same_look f g is = cc
 
-look_reply : (h : List Event) (op : ChanOp) (reply : Reply) (f : Flags) → reply_fits op reply ≡ true → seen_answered op reply ≡ Some (Saw f) → f ≡ flags_of h → ((g : Flags) → reply ≡ replies.Held g → ready_at op g ≡ false) → IsLookAnswer h op reply
-look_reply h operations.Probe (replies.Flags g) f fit told now held = record { is = ap (λ x. replies.Flags x) (sym (same_look f g told ∙ now)); none = refl }
-look_reply h op (replies.Flags g) f fit told now held = absurd cc
-look_reply h op (replies.Held g) f fit told now held =
+look_reply : (h : List Event) (op : ChanOp) (reply : Reply) (f : Flags) → reply_fits op reply ≡ true → seen_answered op reply ≡ Some (Saw f) → f ≡ flags_of h → ((g : Flags) → reply ≡ Reply.Held g → ready_at op g ≡ false) → IsLookAnswer h op reply
+look_reply h ChanOp.Probe (Reply.Flags g) f fit told now held = record { is = ap (λ x. Reply.Flags x) (sym (same_look f g told ∙ now)); none = refl }
+look_reply h op (Reply.Flags g) f fit told now held = absurd cc
+look_reply h op (Reply.Held g) f fit told now held =
     let same : g ≡ flags_of h = same_look f g told ∙ now in
     let none : event_of op h ≡ None = ap (λ b. if b then event_with op (waiting h) else None) (subst (λ (x : Flags). ready_at op x ≡ false) same (held g refl)) in record {
-      is = ap (reply_by op (channel_state h)) none ∙ (held_at op (channel_state h) (acts_where_held op g fit) ∙ ap (λ x. replies.Held x) (sym same));
+      is = ap (reply_by op (channel_state h)) none ∙ (held_at op (channel_state h) (acts_where_held op g fit) ∙ ap (λ x. Reply.Held x) (sym same));
       none = none;
     }
-look_reply h operations.Probe replies.Done f fit told now held = absurd cc
-look_reply h operations.Activate replies.Done f fit told now held = absurd cc
-look_reply h operations.Disconnect replies.Done f fit told now held = absurd cc
-look_reply h (operations.Put w) replies.Done f fit told now held = absurd cc
-look_reply h operations.Take replies.Done f fit told now held = absurd cc
-look_reply h (operations.Function w) replies.Done f fit told now held = absurd cc
-look_reply h operations.Take (replies.Word w) f fit told now held = absurd cc
-look_reply h op (replies.Word w) f fit told now held = absurd cc
+look_reply h ChanOp.Probe Reply.Done f fit told now held = absurd cc
+look_reply h ChanOp.Activate Reply.Done f fit told now held = absurd cc
+look_reply h ChanOp.Disconnect Reply.Done f fit told now held = absurd cc
+look_reply h (ChanOp.Put w) Reply.Done f fit told now held = absurd cc
+look_reply h ChanOp.Take Reply.Done f fit told now held = absurd cc
+look_reply h (ChanOp.Function w) Reply.Done f fit told now held = absurd cc
+look_reply h ChanOp.Take (Reply.Word w) f fit told now held = absurd cc
+look_reply h op (Reply.Word w) f fit told now held = absurd cc
 
 pub look_answer : (size : ℕ) (pp : Processor) (x : Answer) (h : List Event) (f : Flags) (goes : GoesOn size pp x) (of : IsOfChannel (need pp) x) → of.what ≡ Saw f → f ≡ flags_of h → IsLookAnswer h of.op of.reply
 look_answer size pp x h f goes of look now =
-    look_reply h of.op of.reply f of.fit (of.tells ∙ ap (λ w. Some w) look) now (λ g held. held_not_ready pp of.c of.op g of.needs_it (ap (outcome pp) (sym (of.is ∙ ap (λ r. answers.Channel r) held)) ∙ goes.moved))
+    look_reply h of.op of.reply f of.fit (of.tells ∙ ap (λ w. Some w) look) now (λ g held. held_not_ready pp of.c of.op g of.needs_it (ap (outcome pp) (sym (of.is ∙ ap (λ r. Answer.Channel r) held)) ∙ goes.moved))
 
 -- and where it is the next event
 pub record IsEventAnswer (h : List Event) (op : ChanOp) (reply : Reply) (e : Event) : Type 0 where
@@ -225,16 +189,16 @@ same_event : (e d : Event) → Some (Did d) ≡ Some (Did e) → d ≡ e
 same_event e d is = cc
 
 event_made : (op : ChanOp) (reply : Reply) (e : Event) → reply_fits op reply ≡ true → seen_answered op reply ≡ Some (Did e) → (operation_of e ≡ op) × (reply_made e ≡ reply)
-event_made op (replies.Flags g) e fit told = absurd cc
-event_made op (replies.Held g) e fit told = absurd cc
-event_made operations.Probe replies.Done e fit told = absurd cc
-event_made operations.Take replies.Done e fit told = absurd cc
-event_made operations.Activate replies.Done e fit told = subst (λ (d : Event). (operation_of d ≡ operations.Activate) × (reply_made d ≡ replies.Done)) (same_event e events.Activate told) (refl, refl)
-event_made operations.Disconnect replies.Done e fit told = subst (λ (d : Event). (operation_of d ≡ operations.Disconnect) × (reply_made d ≡ replies.Done)) (same_event e events.Disconnect told) (refl, refl)
-event_made (operations.Put w) replies.Done e fit told = subst (λ (d : Event). (operation_of d ≡ operations.Put w) × (reply_made d ≡ replies.Done)) (same_event e (events.Put w) told) (refl, refl)
-event_made (operations.Function w) replies.Done e fit told = subst (λ (d : Event). (operation_of d ≡ operations.Function w) × (reply_made d ≡ replies.Done)) (same_event e (events.Function w) told) (refl, refl)
-event_made operations.Take (replies.Word w) e fit told = subst (λ (d : Event). (operation_of d ≡ operations.Take) × (reply_made d ≡ replies.Word w)) (same_event e (events.Take w) told) (refl, refl)
-event_made op (replies.Word w) e fit told = absurd cc
+event_made op (Reply.Flags g) e fit told = absurd cc
+event_made op (Reply.Held g) e fit told = absurd cc
+event_made ChanOp.Probe Reply.Done e fit told = absurd cc
+event_made ChanOp.Take Reply.Done e fit told = absurd cc
+event_made ChanOp.Activate Reply.Done e fit told = subst (λ (d : Event). (operation_of d ≡ ChanOp.Activate) × (reply_made d ≡ Reply.Done)) (same_event e Event.Activate told) (refl, refl)
+event_made ChanOp.Disconnect Reply.Done e fit told = subst (λ (d : Event). (operation_of d ≡ ChanOp.Disconnect) × (reply_made d ≡ Reply.Done)) (same_event e Event.Disconnect told) (refl, refl)
+event_made (ChanOp.Put w) Reply.Done e fit told = subst (λ (d : Event). (operation_of d ≡ ChanOp.Put w) × (reply_made d ≡ Reply.Done)) (same_event e (Event.Put w) told) (refl, refl)
+event_made (ChanOp.Function w) Reply.Done e fit told = subst (λ (d : Event). (operation_of d ≡ ChanOp.Function w) × (reply_made d ≡ Reply.Done)) (same_event e (Event.Function w) told) (refl, refl)
+event_made ChanOp.Take (Reply.Word w) e fit told = subst (λ (d : Event). (operation_of d ≡ ChanOp.Take) × (reply_made d ≡ Reply.Word w)) (same_event e (Event.Take w) told) (refl, refl)
+event_made op (Reply.Word w) e fit told = absurd cc
 
 pub event_answer : (pp : Processor) (x : Answer) (h : List Event) (e : Event) (of : IsOfChannel (need pp) x) → of.what ≡ Did e → IsLawful h → IsLawful (h ++ e ∷ []) → IsEventAnswer h of.op of.reply e
 event_answer pp x h e of did lawful next =

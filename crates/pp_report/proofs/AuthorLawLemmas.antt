@@ -1,13 +1,12 @@
 -- Only opening events have no author.
-use Rattle.std.proofs.Common.{◌≡◌, ◌∙◌, ℕ, zero, suc, ◌+◌, ◌<◌, ◌≤◌, ◌⊎◌, Bool, true, cond, List, [], ◌∷◌, length, Option, Some, None, refl, sym, ap, arith, inl, inr, lt-ltb, ◌++◌}
+use Rattle.std.proofs.Common.{◌≡◌, ◌∙◌, ℕ, zero, suc, ◌+◌, ◌<◌, ◌≤◌, ◌⊎◌, Bool, true, cond, List, [], ◌∷◌, length, Option, Some, None, refl, sym, ap, arith, inl, inr, lt-ltb}
 use Rattle.std.specs.Prelude.{◌↔◌, nat_lt}
 use Rattle.std.specs.List.{position_from}
 use Rattle.std.proofs.lemmas.Bool.{cases_lt}
 use Rattle.std.proofs.lemmas.Iterator.Adapters.{position_from-zero}
-use Rattle.std.proofs.lemmas.List.Sums.{sum_by-append}
-use Rattle.pp_line.specs.Merge.{Merges, times_logged, logs_event}
+use Rattle.pp_line.proofs.MergeLemmas.{times_told-append}
+use Rattle.pp_line.specs.Merge.{Merges, times_logged}
 use Rattle.pp_channel.specs.History.{history_on}
-use Rattle.pp_line.specs.declared.entry.Entry.{Entry}
 use Rattle.pp_channel.specs.declared.event.Event.{Event}
 use Rattle.pp_runner.specs.WorkerReport.{logs_of}
 use Rattle.pp_runner.specs.declared.worker.Worker.{Worker}
@@ -21,15 +20,11 @@ untold (suc n) i more e =
     let found : Some i ≡ None = sym (ap (λ (b : Bool). cond b (Some i) more) some) ∙ e in
     absurd (cc)
 
--- two logs tell it as often as the first and then the second
-logged_parts : (c number : ℕ) (log more : List Entry) → times_logged c number (log ++ more) ≡ times_logged c number log + times_logged c number more
-logged_parts c number log more = sum_by-append (λ (entry : Entry). cond (logs_event c number entry) 1 0) log more
-
 module _ {Z : Type 0} (c number : ℕ) where
   from_none : (i : ℕ) (ws : List (Worker Z)) → times_logged c number (logs_of ws) ≡ 0 → position_from (λ (w : Worker Z). nat_lt 0 (times_logged c number w.log.items)) i ws ≡ None
   from_none i [] none = refl
   from_none i (w ∷ ws) none =
-      let both = logged_parts c number w.log.items (logs_of ws) in
+      let both = times_told-append c number w.log.items (logs_of ws) in
       let own : times_logged c number w.log.items ≡ 0 = omega (arith, none, both) in
       let rest : times_logged c number (logs_of ws) ≡ 0 = omega (arith, none, both) in
       ap (λ (n : ℕ). cond (nat_lt 0 n) (Some i) (position_from (λ (v : Worker Z). nat_lt 0 (times_logged c number v.log.items)) (i + 1) ws)) own ∙ from_none (i + 1) ws rest
@@ -37,7 +32,7 @@ module _ {Z : Type 0} (c number : ℕ) where
   to_none : (i : ℕ) (ws : List (Worker Z)) → position_from (λ (w : Worker Z). nat_lt 0 (times_logged c number w.log.items)) i ws ≡ None → times_logged c number (logs_of ws) ≡ 0
   to_none i [] none = refl
   to_none i (w ∷ ws) none =
-      let both = logged_parts c number w.log.items (logs_of ws) in
+      let both = times_told-append c number w.log.items (logs_of ws) in
       let parts = untold (times_logged c number w.log.items) i _ none in
       let rest = to_none (i + 1) ws parts.1 in
       omega (arith, both, parts.0, rest)

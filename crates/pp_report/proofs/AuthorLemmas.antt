@@ -1,7 +1,7 @@
 -- Authors of events, log after log, and the lines that name them.
 use Rattle.std.proofs.Common.{◌≡◌, ◌∙◌, ℕ, ◌+◌, ◌<◌, ◌≤◌, Bool, true, false, cond, List, [], ◌∷◌, ◌++◌, length, take, Option, Some, None, option_map, slice_index_or, refl, sym, ap, subst, arith, add-one}
 use Rattle.pp_line.specs.Merge.{times_logged}
-use Rattle.std.specs.Prelude.{IsTrue, Result, Ok, Err, OnOk, nat_lt}
+use Rattle.std.specs.Prelude.{IsTrue, nat_lt}
 use Rattle.std.specs.List.{position, position_from}
 use Rattle.std.proofs.Math.Seq.{take-suc}
 use Rattle.std.proofs.lemmas.Iterator.Adapters.{position_from-zero}
@@ -63,8 +63,3 @@ pub authors_here : {Z : Type 0} (c place : ℕ) (workers : List (Worker Z)) (his
 authors_here {Z} c place workers histories all h here names at within is same are number below =
     ap (λ l. slice_index_or l number None) (is ∙ (get_or_default all place here [] within ∙ ap (λ i. slice_index_or all i []) at))
     ∙ are c names number (subst (λ (l : List Event). number < length l) same below)
-
--- what follows where a call answers Ok
-pub ok_then : {T E : Type 0} (r : Result T E) (X Y : Type 0) → (X → Y) → OnOk r X → OnOk r Y
-ok_then (Ok t) X Y f x = f x
-ok_then (Err e) X Y f x = x

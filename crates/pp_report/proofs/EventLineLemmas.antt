@@ -14,22 +14,19 @@ module _ {X : Type 0} where
   enumerate_push n (x ∷ xs) y = ap (λ more. (n, x) ∷ more)
       (enumerate_push (n + 1) xs y ∙ ap (λ k. enumerate_from (n + 1) xs ++ (k, y) ∷ []) (omega arith))
 
-line_of : {Z : Type 0} (c : ℕ) (workers : List (Worker Z)) (number : ℕ) (event : Event)
-    → flat_map (numbered_event_line c workers) ((number, event) ∷ []) ≡ line_by c number event (author_place c workers number)
-unfolding numbered_event_line
-line_of c workers number event = append-nil (line_by c number event (author_place c workers number))
+-- the first events, each with its number, and one event more
+pub enumerate_more : (h : List Event) (i : ℕ) (e : Event) → i < length h → e ≡ slice_index_or h i e → enumerate_from 0 (take (i + 1) h) ≡ enumerate_from 0 (take i h) ++ (i, e) ∷ []
+enumerate_more h i e l at =
+    ap (enumerate_from 0) (ap (λ n. take n h) (add-one i) ∙ take-suc h i e l ∙ ap (λ x. take i h ++ x ∷ []) (sym at))
+    ∙ (enumerate_push 0 (take i h) e ∙ ap (λ k. enumerate_from 0 (take i h) ++ (k, e) ∷ []) (let n = length-take-le i h (omega arith) in omega arith))
 
 -- the lines of the first events, with one event more
 pub lines_go_on : {Z : Type 0} (c i : ℕ) (workers : List (Worker Z)) (h : List Event) (e : Event)
     → i < length h → e ≡ slice_index_or h i e
     → flat_map (numbered_event_line c workers) (enumerate_from 0 (take i h)) ++ line_by c i e (author_place c workers i)
     ≡ flat_map (numbered_event_line c workers) (enumerate_from 0 (take (i + 1) h))
+unfolding numbered_event_line
 lines_go_on {Z} c i workers h e l at =
     let f : ℕ × Event → List ℕ = numbered_event_line c workers in
-    let more : take (i + 1) h ≡ take i h ++ e ∷ [] =
-    ap (λ n. take n h) (add-one i) ∙ take-suc h i e l ∙ ap (λ x. take i h ++ x ∷ []) (sym at) in
-    let numbered : enumerate_from 0 (take (i + 1) h) ≡ enumerate_from 0 (take i h) ++ (i, e) ∷ [] =
-    ap (enumerate_from 0) more ∙ (enumerate_push 0 (take i h) e
-    ∙ ap (λ k. enumerate_from 0 (take i h) ++ (k, e) ∷ []) (let n = length-take-le i h (omega arith) in omega arith)) in
-    sym (ap (flat_map f) numbered ∙ (flat_map-append f (enumerate_from 0 (take i h)) ((i, e) ∷ [])
-    ∙ ap (λ line. flat_map f (enumerate_from 0 (take i h)) ++ line) (line_of c workers i e)))
+    sym (ap (flat_map f) (enumerate_more h i e l at) ∙ (flat_map-append f (enumerate_from 0 (take i h)) ((i, e) ∷ [])
+    ∙ ap (λ line. flat_map f (enumerate_from 0 (take i h)) ++ line) (append-nil (line_by c i e (author_place c workers i)))))

@@ -5,7 +5,6 @@ mod WorkingLemmas
 mod ServeLemmas
 mod ReportLemmas
 mod LoadedLemmas
-mod ThreadsLemmas
 mod OneRunLemmas
 mod AuthorLemmas
 mod EventLineLemmas

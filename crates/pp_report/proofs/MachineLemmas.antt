@@ -25,9 +25,7 @@ use Rattle.pp_machine.specs.Profile.{has_processor, processors_in}
 use Rattle.pp_machine.specs.ProfilePlaces.{has_at, most_processors}
 use Rattle.pp_machine.specs.Run.{run}
 use Rattle.pp_machine.specs.declared.answer.Answer.{Answer}
-use Rattle.pp_machine.specs.declared.answer.Answer.TheVariants as answers
 use Rattle.pp_machine.specs.declared.need.Need.{Need}
-use Rattle.pp_machine.specs.declared.need.Need.TheVariants as needs
 use Rattle.pp_machine.specs.declared.profile.Profile.{Profile}
 use Rattle.pp_report.specs.Serial.{answers_along}
 
@@ -117,22 +115,6 @@ leads_on size p k n one two three first second third a b m stands =
       },
     )
 
-stepped_processors : (n : ℕ) (m : MachineState) → (stepped n m).processors ≡ set m.processors (processor_index n) (processor_after (processor_of n m) (answer_to (need (processor_of n m)) m))
-unfolding stepped
-stepped_processors n m = refl
-
-stepped_histories : (n : ℕ) (m : MachineState) → (stepped n m).histories ≡ histories_after (need (processor_of n m)) m
-unfolding stepped
-stepped_histories n m = refl
-
-stepped_central : (n : ℕ) (m : MachineState) → (stepped n m).central ≡ central_after (need (processor_of n m)) m
-unfolding stepped
-stepped_central n m = refl
-
-moves : (n : ℕ) (m : MachineState) (pp : Processor) (x : Answer) → processor_of n m ≡ pp → answer_to (need (processor_of n m)) m ≡ x → outcome pp x ≡ Moved → step_outcome n m ≡ Moved
-unfolding step_outcome
-moves n m pp x is answer moved = (λ j. outcome (is j) (answer j)) ∙ moved
-
 -- what a need does to channels and central memory
 pub record Serves (size : ℕ) (needed : Need) (x : Answer) (past later : Past) : Type 0 where
   pub answers_so : (m : MachineState) (pps : List Processor) → Stands size m pps past → answer_to needed m ≡ x
@@ -148,6 +130,7 @@ serves_by size n k x y past later needed answered serves = rw (needed, answered)
 pub leads_step : (size : ℕ) (p : Profile) (one two : Group) (place : ℕ) (x : Answer) (past later : Past) → place < processors_in p → outcome (get_or one.pps place no_processor) x ≡ Moved
     → Serves size (need (get_or one.pps place no_processor)) x past later → two.pps ≡ set one.pps place (processor_after (get_or one.pps place no_processor) x)
     → ((other : ℕ) → cond (eqb other place) (x ∷ []) [] ++ get_or two.left other [] ≡ get_or one.left other []) → Leads size p 1 one past two later
+unfolding stepped step_outcome
 leads_step size p one two place x past later inside moved serves next given m stands =
     let pps = one.pps in
     let most = most_processors p in
@@ -159,51 +142,51 @@ leads_step size p one two place x past later inside moved serves next given m st
       record {
         count = refl;
         named = All-cons (λ k. IsTrue (has_processor p k)) n [] (has_at p place (omega (arith, inside, most)) ∙ lt-ltb place (processors_in p) inside) (All-nil (λ k. IsTrue (has_processor p k)));
-        moved = (moves n m (get_or pps place no_processor) x pp answer moved, tt);
+        moved = ((λ j. outcome (pp j) (answer j)) ∙ moved, tt);
         answers = λ other within.
             let same : eqb (processor_number other) n ≡ eqb other place = number_at other n (omega (arith, within, most)) ∙ ap (eqb other) at in
             ap (λ l. l ++ get_or two.left other []) ((λ j. cond (same j) (answer j ∷ []) [] ++ []) ∙ append-nil (cond (eqb other place) (x ∷ []) [])) ∙ given other;
         stands = record {
-          processors = stepped_processors n m ∙ ((λ j. set (stands.processors j) (at j) (processor_after (pp j) (answer j))) ∙ sym next);
-          channels = ap length (stepped_histories n m) ∙ (ap (λ q. length (histories_after (need q) m)) pp ∙ serves.channels m pps stands);
-          histories = λ c. ap (history_on c) (stepped_histories n m) ∙ (ap (λ q. history_on c (histories_after (need q) m)) pp ∙ serves.histories m pps stands c);
-          central = stepped_central n m ∙ (ap (λ q. central_after (need q) m) pp ∙ serves.central m pps stands);
+          processors = (λ j. set (stands.processors j) (at j) (processor_after (pp j) (answer j))) ∙ sym next;
+          channels = ap (λ q. length (histories_after (need q) m)) pp ∙ serves.channels m pps stands;
+          histories = λ c. ap (λ q. history_on c (histories_after (need q) m)) pp ∙ serves.histories m pps stands c;
+          central = ap (λ q. central_after (need q) m) pp ∙ serves.central m pps stands;
           sized = serves.sized stands.sized;
         };
       },
     )
 
--- nothing from outside
-pub serves_local : (size : ℕ) (past : Past) → Serves size needs.Local answers.Local past past
-serves_local size past = record {
-  answers_so = λ m pps stands. refl;
-  channels = λ m pps stands. stands.channels;
-  histories = λ m pps stands. stands.histories;
-  central = λ m pps stands. stands.central;
+-- what changes nothing
+serves_same : (size : ℕ) (needed : Need) (x : Answer) (past : Past) → ((m : MachineState) (pps : List Processor) → Stands size m pps past → (answer_to needed m ≡ x) × (histories_after needed m ≡ m.histories) × (central_after needed m ≡ m.central))
+    → Serves size needed x past past
+serves_same size needed x past same = record {
+  answers_so = λ m pps stands. (same m pps stands).0;
+  channels = λ m pps stands. ap length (same m pps stands).1 ∙ stands.channels;
+  histories = λ m pps stands c. ap (history_on c) (same m pps stands).1 ∙ stands.histories c;
+  central = λ m pps stands. (same m pps stands).2 ∙ stands.central;
   sized = λ is. is;
 }
 
--- an operation that makes no event
-pub serves_look : (size c : ℕ) (op : ChanOp) (reply : Reply) (past : Past) → reply_to op (past.happened c) ≡ reply → event_of op (past.happened c) ≡ None → Serves size (needs.Channel c op) (answers.Channel reply) past past
-serves_look size c op reply past replied none =
-    let same : (m : MachineState) (pps : List Processor) → Stands size m pps past → histories_after (needs.Channel c op) m ≡ m.histories = λ m pps stands.
-    ap (λ (o : Option Event). set m.histories (channel_index c) (history_of c m ++ option_to_list o)) (ap (event_of op) (stands.histories c) ∙ none)
-    ∙ (ap (λ h. set m.histories (channel_index c) h) (append-nil (history_of c m)) ∙ set-get_or m.histories (channel_index c) []) in record {
-      answers_so = λ m pps stands. ap (λ h. answers.Channel (reply_to op h)) (stands.histories c) ∙ ap (λ r. answers.Channel r) replied;
-      channels = λ m pps stands. ap length (same m pps stands) ∙ stands.channels;
-      histories = λ m pps stands d. ap (history_on d) (same m pps stands) ∙ stands.histories d;
-      central = λ m pps stands. stands.central;
-      sized = λ is. is;
-    }
+-- nothing from outside
+pub serves_local : (size : ℕ) (past : Past) → Serves size Need.Local Answer.Local past past
+serves_local size past = serves_same size Need.Local Answer.Local past (λ m pps stands. (refl, refl, refl))
 
--- one that makes an event
+-- an operation that makes no event
+pub serves_look : (size c : ℕ) (op : ChanOp) (reply : Reply) (past : Past) → reply_to op (past.happened c) ≡ reply → event_of op (past.happened c) ≡ None → Serves size (Need.Channel c op) (Answer.Channel reply) past past
+serves_look size c op reply past replied none = serves_same size (Need.Channel c op) (Answer.Channel reply) past (λ m pps stands. (
+  ap (λ h. Answer.Channel (reply_to op h)) (stands.histories c) ∙ ap (λ r. Answer.Channel r) replied,
+  ap (λ (o : Option Event). set m.histories (channel_index c) (history_of c m ++ option_to_list o)) (ap (event_of op) (stands.histories c) ∙ none)
+      ∙ (ap (λ h. set m.histories (channel_index c) h) (append-nil (history_of c m)) ∙ set-get_or m.histories (channel_index c) []),
+  refl,
+))
+
 pub serves_event : (size c : ℕ) (op : ChanOp) (reply : Reply) (e : Event) (past later : Past) → IsTrue (names_channel c) → reply_to op (past.happened c) ≡ reply → event_of op (past.happened c) ≡ Some e
-    → (later.happened c ≡ past.happened c ++ e ∷ []) → ((d : ℕ) → c ≢ d → later.happened d ≡ past.happened d) → past.words ≡ later.words → Serves size (needs.Channel c op) (answers.Channel reply) past later
+    → (later.happened c ≡ past.happened c ++ e ∷ []) → ((d : ℕ) → c ≢ d → later.happened d ≡ past.happened d) → past.words ≡ later.words → Serves size (Need.Channel c op) (Answer.Channel reply) past later
 serves_event size c op reply e past later names replied made here elsewhere words =
-    let after : (m : MachineState) (pps : List Processor) → Stands size m pps past → histories_after (needs.Channel c op) m ≡ set m.histories (channel_index c) (past.happened c ++ e ∷ []) = λ m pps stands.
+    let after : (m : MachineState) (pps : List Processor) → Stands size m pps past → histories_after (Need.Channel c op) m ≡ set m.histories (channel_index c) (past.happened c ++ e ∷ []) = λ m pps stands.
     (λ j. set m.histories (channel_index c) (stands.histories c j ++ option_to_list (event_of op (stands.histories c j))))
     ∙ ap (λ (o : Option Event). set m.histories (channel_index c) (past.happened c ++ option_to_list o)) made in record {
-      answers_so = λ m pps stands. ap (λ h. answers.Channel (reply_to op h)) (stands.histories c) ∙ ap (λ r. answers.Channel r) replied;
+      answers_so = λ m pps stands. ap (λ h. Answer.Channel (reply_to op h)) (stands.histories c) ∙ ap (λ r. Answer.Channel r) replied;
       channels = λ m pps stands. ap length (after m pps stands) ∙ (length-set m.histories (channel_index c) (past.happened c ++ e ∷ []) ∙ stands.channels);
       histories = λ m pps stands d. ap (history_on d) (after m pps stands) ∙ elim (cases_eq c d) [
         | inl same ↦
@@ -219,19 +202,16 @@ serves_event size c op reply e past later names replied made here elsewhere word
     }
 
 -- central memory: a word is found, and one is written
-pub serves_read : (size a w : ℕ) (past : Past) → slice_index past.words a ≡ w → a < size → Serves size (needs.Read a) (answers.Read (Some w)) past past
-serves_read size a w past found inside = record {
-  answers_so = λ m pps stands.
-      ap (λ (words : List ℕ). answers.Read (slice_get words a)) stands.central ∙ (ap (λ o. answers.Read o) (slice_get-get_or past.words a 0 (omega (arith, inside, stands.sized))) ∙ ap (λ k. answers.Read (Some k)) found);
-  channels = λ m pps stands. stands.channels;
-  histories = λ m pps stands. stands.histories;
-  central = λ m pps stands. stands.central;
-  sized = λ is. is;
-}
+pub serves_read : (size a w : ℕ) (past : Past) → slice_index past.words a ≡ w → a < size → Serves size (Need.Read a) (Answer.Read (Some w)) past past
+serves_read size a w past found inside = serves_same size (Need.Read a) (Answer.Read (Some w)) past (λ m pps stands. (
+  ap (λ (words : List ℕ). Answer.Read (slice_get words a)) stands.central ∙ (ap (λ o. Answer.Read o) (slice_get-get_or past.words a 0 (omega (arith, inside, stands.sized))) ∙ ap (λ k. Answer.Read (Some k)) found),
+  refl,
+  refl,
+))
 
-pub serves_write : (size a w : ℕ) (past later : Past) → a < size → ((c : ℕ) → past.happened c ≡ later.happened c) → slice_set past.words a w ≡ later.words → Serves size (needs.Write a w) (answers.Wrote true) past later
+pub serves_write : (size a w : ℕ) (past later : Past) → a < size → ((c : ℕ) → past.happened c ≡ later.happened c) → slice_set past.words a w ≡ later.words → Serves size (Need.Write a w) (Answer.Wrote true) past later
 serves_write size a w past later inside same words = record {
-  answers_so = λ m pps stands. ap (λ b. answers.Wrote b) (lt-ltb a (length m.central) (omega (arith, inside, ap length stands.central, stands.sized)));
+  answers_so = λ m pps stands. ap (λ b. Answer.Wrote b) (lt-ltb a (length m.central) (omega (arith, inside, ap length stands.central, stands.sized)));
   channels = λ m pps stands. stands.channels;
   histories = λ m pps stands c. stands.histories c ∙ same c;
   central = λ m pps stands. ap (λ (ws : List ℕ). slice_set ws a w) stands.central ∙ words;
@@ -239,20 +219,11 @@ serves_write size a w past later inside same words = record {
 }
 
 -- past its size none is found, and none is written
-pub serves_no_word : (size a : ℕ) (past : Past) → size ≤ a → Serves size (needs.Read a) (answers.Read None) past past
-serves_no_word size a past behind = record {
-  answers_so = λ m pps stands. ap (λ o. answers.Read o) (slice_get_past m.central a (omega (arith, behind, ap length stands.central, stands.sized)));
-  channels = λ m pps stands. stands.channels;
-  histories = λ m pps stands. stands.histories;
-  central = λ m pps stands. stands.central;
-  sized = λ is. is;
-}
+pub serves_no_word : (size a : ℕ) (past : Past) → size ≤ a → Serves size (Need.Read a) (Answer.Read None) past past
+serves_no_word size a past behind = serves_same size (Need.Read a) (Answer.Read None) past (λ m pps stands.
+    (ap (λ o. Answer.Read o) (slice_get_past m.central a (omega (arith, behind, ap length stands.central, stands.sized))), refl, refl))
 
-pub serves_no_write : (size a w : ℕ) (past : Past) → size ≤ a → Serves size (needs.Write a w) (answers.Wrote false) past past
-serves_no_write size a w past behind = record {
-  answers_so = λ m pps stands. ap (λ b. answers.Wrote b) (le-ltb a (length m.central) (omega (arith, behind, ap length stands.central, stands.sized)));
-  channels = λ m pps stands. stands.channels;
-  histories = λ m pps stands. stands.histories;
-  central = λ m pps stands. set_past m.central a w (omega (arith, behind, ap length stands.central, stands.sized)) ∙ stands.central;
-  sized = λ is. is;
-}
+pub serves_no_write : (size a w : ℕ) (past : Past) → size ≤ a → Serves size (Need.Write a w) (Answer.Wrote false) past past
+serves_no_write size a w past behind = serves_same size (Need.Write a w) (Answer.Wrote false) past (λ m pps stands.
+    let out : length m.central ≤ a = omega (arith, behind, ap length stands.central, stands.sized) in
+    (ap (λ b. Answer.Wrote b) (le-ltb a (length m.central) out), refl, set_past m.central a w out))

@@ -21,8 +21,8 @@ use Rattle.pp_machine.specs.Profile.{processors_in}
 use Rattle.pp_machine.specs.Run.{run}
 use Rattle.pp_machine.specs.declared.answer.Answer.{Answer}
 use Rattle.pp_machine.specs.declared.need.Need.{Need}
-use Rattle.pp_machine.specs.declared.pp_state.PpState.TheVariants as states
 use Rattle.pp_machine.proofs.MachineStepLemmas.{event_at_rest, stepped_at_rest}
+use Rattle.pp_machine.specs.declared.pp_state.PpState.{PpState}
 use Rattle.pp_run.specs.Determinacy.{AreAlike, IsQuiet, ShowsParts, Stays, TurnsInPlace, Waits}
 use Rattle.pp_run.proofs.StepFacts.{central_by, event_by, event_by_need, length_histories, length_processors, own_step}
 use Rattle.pp_runner.specs.End.{IsEnd}
@@ -30,7 +30,6 @@ use Rattle.pp_runner.specs.Limits.{RunLimits}
 use Rattle.pp_runner.specs.Report.{IsReportOf}
 use Rattle.pp_runner.specs.WorkerReport.{AreWorkers}
 use Rattle.pp_runner.specs.declared.end.End.{End}
-use Rattle.pp_runner.specs.declared.end.End.TheVariants as ends
 use Rattle.pp_runner.specs.declared.report.Report.{Report}
 use Rattle.pp_runner.specs.declared.worker.Worker.{Worker}
 use Rattle.pp_report.specs.Serial.{LeadsTo, processors_left}
@@ -136,18 +135,18 @@ module _ {A : Type 0} (others : List ℕ) (m : MachineState) (report : Report A)
 
 -- a worker that ended at rest
 rests_by : (steps : ℕ) (finish : End) (pp : Processor) (answers : List Answer) (log : List Entry) → IsEnd steps finish pp answers log → EndsAtRest finish → IsAtRest pp
-rests_by steps ends.Stopped pp answers log is rests running =
+rests_by steps End.Stopped pp answers log is rests running =
     let stopped = is.stopped.0 refl in
-    let bad : states.Stopped ≡ states.Running = sym stopped ∙ running in
+    let bad : PpState.Stopped ≡ PpState.Running = sym stopped ∙ running in
     cc
-rests_by steps (ends.Fault number) pp answers log is rests running =
+rests_by steps (End.Fault number) pp answers log is rests running =
     let fault = (is.fault number).0 refl in
-    let bad : states.Fault number ≡ states.Running = sym fault ∙ running in
+    let bad : PpState.Fault number ≡ PpState.Running = sym fault ∙ running in
     cc
-rests_by steps ends.Steps pp answers log is rests running = rests
-rests_by steps ends.Patience pp answers log is rests running = rests
-rests_by steps ends.Memory pp answers log is rests running = rests
-rests_by steps ends.Worn pp answers log is rests running = rests
+rests_by steps End.Steps pp answers log is rests running = rests
+rests_by steps End.Patience pp answers log is rests running = rests
+rests_by steps End.Memory pp answers log is rests running = rests
+rests_by steps End.Worn pp answers log is rests running = rests
 
 all_rest : {A : Type 0} (P : Worker A → Type 0) (size steps : ℕ) (loads : List Processor) (ws : List (Worker A)) → ((w : Worker A) → IsAtRest w.pp → P w) → AreWorkers loads size steps ws
     → All (λ w. EndsAtRest w.finish) ws → All P ws

@@ -20,7 +20,6 @@ use Rattle.pp_machine.specs.PpNo.{all_processors, names_processor, processor_ind
 use Rattle.pp_runner.specs.Limits.{RunLimits}
 use Rattle.pp_runner.specs.WorkerReport.{logs_of}
 use Rattle.pp_runner.specs.declared.end.End.{End}
-use Rattle.pp_runner.specs.declared.end.End.TheVariants as ends
 use Rattle.pp_runner.specs.declared.report.Report.{Report}
 use Rattle.pp_runner.specs.declared.worker.Worker.{Worker}
 use Rattle.pp_report.proofs.AuthorLawLemmas.{only_openings}
@@ -45,12 +44,12 @@ use Rattle.pp_check.proofs.TraceLemmas.{history_more, history_same, lawful_push}
 -- ---- lines
 
 plain_end : (finish : End) → list_all is_plain (end_text finish) ≡ true
-plain_end ends.Stopped = refl
-plain_end (ends.Fault number) = plain_octal 1 number
-plain_end ends.Steps = refl
-plain_end ends.Patience = refl
-plain_end ends.Memory = refl
-plain_end ends.Worn = refl
+plain_end End.Stopped = refl
+plain_end (End.Fault number) = plain_octal 1 number
+plain_end End.Steps = refl
+plain_end End.Patience = refl
+plain_end End.Memory = refl
+plain_end End.Worn = refl
 
 regrouped : (a b s d p o e l : List ℕ) → (((((((a ++ b) ++ s) ++ d) ++ p) ++ o) ++ s) ++ e) ++ l ≡ ((a ++ b) ++ (s ++ (d ++ (p ++ (o ++ (s ++ e)))))) ++ l
 regrouped a b s d p o e l = simp append_assoc

@@ -1,5 +1,5 @@
 -- A report of threads is what one list of steps leaves.
-use Rattle.std.proofs.Common.{◌≡◌, ℕ, zero, suc, ◌+◌, ◌<◌, ◌≤◌, Bool, true, false, cond, ◌&&◌, None, List, [], ◌∷◌, ◌++◌, length, take, drop, get_or, map, Option, refl, sym, ap, ◌∙◌, subst, inl, inr, ⊎_elim, arith}
+use Rattle.std.proofs.Common.{◌≡◌, ℕ, zero, suc, ◌+◌, ◌<◌, ◌≤◌, Bool, true, cond, ◌&&◌, List, [], ◌∷◌, ◌++◌, length, take, drop, get_or, map, Option, refl, sym, ap, ◌∙◌, subst, inl, inr, ⊎_elim, arith}
 use Rattle.std.specs.Prelude.{◌==◌, slice_get, Some, IsTrue, All}
 use Rattle.std.specs.List.{cons_option, flat_map, range_with_len, sum_by}
 use Rattle.std.proofs.lemmas.Bool.{cases_lt}
@@ -20,13 +20,11 @@ use Rattle.pp_line.specs.declared.access.Access.TheVariants.{OnChannel, Read, Wr
 use Rattle.pp_line.proofs.OrderLemmas.{entries_more}
 use Rattle.pp_line.specs.Merge.{times_logged}
 use Rattle.pp_channel.specs.declared.chan_op.ChanOp.{ChanOp}
-use Rattle.pp_channel.specs.declared.chan_op.ChanOp.TheVariants as operations
 use Rattle.pp_line.specs.declared.entry.Entry.{Entry}
 use Rattle.pp_channel.specs.declared.seen.Seen.{Seen}
 use Rattle.pp_channel.specs.declared.seen.Seen.TheVariants.{Did, Saw}
 use Rattle.pp_channel.specs.declared.event.Event.{Event}
 use Rattle.pp_channel.specs.declared.reply.Reply.{Reply}
-use Rattle.pp_channel.specs.declared.reply.Reply.TheVariants as replies
 use Rattle.pp_channel.proofs.EachHistory.{lawful_on}
 use Rattle.pp_line.proofs.MergeLemmas.{told_by, times_told-append}
 use Rattle.pp_machine.specs.Headline.{opening_history}
@@ -40,11 +38,9 @@ use Rattle.pp_machine.specs.Run.{run}
 use Rattle.pp_machine.specs.Replay.{OfChannel, fits, contribution, replayed, collected_along, events_given}
 use Rattle.pp_machine.specs.ReplayLaws.{Gives, Gives-counted, Gives-to}
 use Rattle.pp_machine.specs.declared.answer.Answer.{Answer}
-use Rattle.pp_machine.specs.declared.answer.Answer.TheVariants as answers
-use Rattle.pp_machine.specs.declared.need.Need.{Need}
-use Rattle.pp_machine.specs.declared.need.Need.TheVariants as needs
 use Rattle.pp_machine.specs.declared.outcome.Outcome.TheVariants.{Moved}
 use Rattle.pp_machine.specs.declared.profile.Profile.{Profile}
+use Rattle.pp_runner.proofs.LabourLemmas.{events_by}
 use Rattle.pp_runner.specs.Accesses.{accesses_by, AreAccessesOf, HasAccessed, HaveAccessed}
 use Rattle.pp_runner.specs.Limits.{RunLimits}
 use Rattle.pp_runner.specs.Report.{IsReportOf}
@@ -54,7 +50,7 @@ use Rattle.pp_runner.specs.declared.worker.Worker.{Worker}
 use Rattle.pp_report.specs.Serial.{HasNotRun, IsSerialRunOf, answers_along}
 use Rattle.pp_report.proofs.MachineLemmas.{Past, Stands, AllMove}
 use Rattle.pp_machine.specs.MachineStep.{stepped, step_outcome}
-use Rattle.pp_report.proofs.ServeLemmas.{HasNoneLeft, answers_left, event_times, tells_event, tells_write, times_left, times_cons, NumberedFrom, Ready, Once, Written, serve}
+use Rattle.pp_report.proofs.ServeLemmas.{HasNoneLeft, answers_left, event_times, tells_event, tells_write, times_left, sum_stands, times_cons, NumberedFrom, Ready, Once, Written, serve}
 use Rattle.pp_report.proofs.WorkingLemmas.{Working, Does, all_of}
 
 -- an answer, and those behind it
@@ -87,30 +83,6 @@ does size (x ∷ xs) pp after made gives moved by_size are =
     )
 
 -- the events among accesses are those that the answers made
-did_by : (number c : ℕ) (op : ChanOp) (reply : Reply) → events_in (entries_among (accesses_by number (needs.Channel c op) (answers.Channel reply))) ≡ contribution event_answered (needs.Channel c op) (answers.Channel reply)
-did_by number c op (replies.Flags f) = refl
-did_by number c op (replies.Held f) = refl
-did_by number c operations.Probe replies.Done = refl
-did_by number c operations.Activate replies.Done = refl
-did_by number c operations.Disconnect replies.Done = refl
-did_by number c (operations.Put w) replies.Done = refl
-did_by number c operations.Take replies.Done = refl
-did_by number c (operations.Function w) replies.Done = refl
-did_by number c operations.Take (replies.Word w) = refl
-did_by number c op (replies.Word w) = refl
-
-did_given : (number : ℕ) (needed : Need) (x : Answer) → fits needed x ≡ true → events_in (entries_among (accesses_by number needed x)) ≡ contribution event_answered needed x
-did_given number (needs.Channel c op) (answers.Channel reply) fit = did_by number c op reply
-did_given number (needs.Channel c op) x fit = absurd cc
-did_given number needs.Nothing x fit = refl
-did_given number needs.Local x fit = refl
-did_given number (needs.Read a) (answers.Read None) fit = refl
-did_given number (needs.Read a) (answers.Read (Some w)) fit = refl
-did_given number (needs.Read a) x fit = absurd cc
-did_given number (needs.Write a w) (answers.Wrote false) fit = refl
-did_given number (needs.Write a w) (answers.Wrote true) fit = refl
-did_given number (needs.Write a w) x fit = absurd cc
-
 did_along : (xs : List Answer) (pp after : Processor) (made : List Access) → Gives pp xs after → AreAccessesOf pp xs made → events_in (entries_among made) ≡ events_given pp xs
 did_along [] pp after made gives are = ap (λ l. events_in (entries_among l)) are ∙ sym (told_none event_answered pp)
 did_along (x ∷ xs) pp after made gives are =
@@ -118,7 +90,7 @@ did_along (x ∷ xs) pp after made gives are =
     ap (λ l. events_in (entries_among l)) are.2
     ∙ (ap events_in (entries_more first are.1)
     ∙ (filter_map-append (λ entry. event_in entry.channel entry.what) (entries_among first) (entries_among are.1)
-    ∙ ((λ j. did_given are.0 (need pp) x gives.0 j ++ did_along xs (processor_after pp x) after are.1 gives.1 are.3 j)
+    ∙ ((λ j. events_by are.0 (need pp) x j ++ did_along xs (processor_after pp x) after are.1 gives.1 are.3 j)
     ∙ sym (told_cons event_answered pp x xs gives.0))))
 
 -- entries that stand in a log and tell as many events tell each event as often
@@ -134,28 +106,17 @@ unfolding weight
 count_events [] = refl
 count_events (entry ∷ log) = omega (arith, weighed entry.channel entry.what (events_in log), count_events log, sum_by-cons (λ (x : Entry). cond (is_event x.what) 1 0) entry log)
 
-weight_stands : (xs ys : List Entry) → IsSubsequence xs ys → sum_by weight xs ≤ sum_by weight ys
-weight_stands [] ys h = omega arith
-weight_stands (x ∷ xs) [] h = absurd h
-weight_stands (x ∷ xs) (y ∷ ys) h =
-    let left = sum_by-cons weight x xs in
-    let right = sum_by-cons weight y ys in
-    elim h [
-      | inl p ↦ let same : weight x ≡ weight y = ap weight p.0 in let rest = weight_stands xs ys p.1 in omega (arith, left, right, same, rest)
-      | inr q ↦ let rest = weight_stands (x ∷ xs) ys q in omega (arith, right, rest)
-    ]
-
 one_if : Bool → ℕ
 one_if b = cond b 1 0
 
-no_weight : (b r s : Bool) → one_if b ≡ 0 → one_if (b && r && s) ≡ 0
+light : (c number d n : ℕ) (what : Seen) → one_if (is_event what) ≡ 0 → one_if (is_event what && (d == c) && (n == number)) ≡ 0
 unfolding one_if
-no_weight true r s none = absurd (omega (arith, none))
-no_weight false r s none = refl
+light c number d n (Did e) none = absurd (omega (arith, none))
+light c number d n (Saw f) none = refl
 
 told_weight : (c number : ℕ) (entry : Entry) → weight entry ≡ 0 → told_by c number entry ≡ 0
 unfolding weight one_if
-told_weight c number entry none = no_weight (is_event entry.what) _ _ none
+told_weight c number entry none = light c number entry.channel entry.number entry.what none
 
 times_weight : (c number : ℕ) (log : List Entry) → sum_by weight log ≡ 0 → times_logged c number log ≡ 0
 times_weight c number [] none = refl
@@ -177,7 +138,7 @@ times_same c number (x ∷ xs) (y ∷ ys) h most =
           let rest = times_same c number xs ys p.1 (omega (arith, left, right, same, most)) in
           times_cons c number x xs ∙ ((λ j. told_by c number (p.0 j) + rest j) ∙ sym (times_cons c number y ys))
       | inr q ↦
-          let less = weight_stands (x ∷ xs) ys q in
+          let less = sum_stands weight (x ∷ xs) ys q in
           let none = told_weight c number y (omega (arith, less, most, right)) in
           let rest = times_same c number (x ∷ xs) ys q (omega (arith, most, right)) in
           omega (arith, rest, none, times_cons c number y ys)

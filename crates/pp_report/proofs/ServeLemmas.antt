@@ -27,12 +27,10 @@ use Rattle.pp_machine.specs.NeedAndEffect.{need}
 use Rattle.pp_machine.specs.Processor.{Processor}
 use Rattle.pp_machine.specs.Profile.{processors_in}
 use Rattle.pp_machine.specs.declared.answer.Answer.{Answer}
-use Rattle.pp_machine.specs.declared.answer.Answer.TheVariants as answers
 use Rattle.pp_machine.specs.declared.need.Need.{Need}
-use Rattle.pp_machine.specs.declared.need.Need.TheVariants as needs
 use Rattle.pp_machine.specs.declared.profile.Profile.{Profile}
 use Rattle.pp_runner.specs.WorkerReport.{IsBySize}
-use Rattle.pp_report.proofs.AnswerLemmas.{channel_of, event_answer, look_answer, read_of, write_of}
+use Rattle.pp_report.proofs.AnswerLemmas.{event_answer, look_answer, made_by}
 use Rattle.pp_report.proofs.MachineLemmas.{Past, Leads, leads_none, leads_by, leads_on, serves_by, serves_look, serves_event, serves_read, serves_write}
 use Rattle.pp_report.proofs.WorkingLemmas.{Working, IsWorking, all_of, ServesAccess, next, rest_done}
 
@@ -70,8 +68,8 @@ event_times c number (Write a w n ∷ xs) = omega (arith, sum_by-cons (tells_eve
 abbrev pub times_left : (Access → ℕ) → Working → ℕ
 times_left tells w = sum_by tells w.accesses
 
--- what stands among accesses tells no more
-sum_stands : (tells : Access → ℕ) (xs ys : List Access) → IsSubsequence xs ys → sum_by tells xs ≤ sum_by tells ys
+-- what stands among others tells no more
+pub sum_stands : {X : Type 0} (tells : X → ℕ) (xs ys : List X) → IsSubsequence xs ys → sum_by tells xs ≤ sum_by tells ys
 sum_stands tells [] ys h = omega arith
 sum_stands tells (x ∷ xs) [] h = absurd h
 sum_stands tells (x ∷ xs) (y ∷ ys) h =
@@ -345,24 +343,24 @@ module _ (size : ℕ) (p : Profile) (others : List Processor) where
   -- a read and a write of central memory
   reads : (a w : ℕ) (past : Past) → slice_index past.words a ≡ w → ServesAccess size (Read a w) past past
   reads a w past found pp x number goes given =
-      let is = read_of (need pp) x number a w goes.fit given in
-      let by_size : IsBySize size (needs.Read a) (answers.Read (Some w)) = subst (λ (n : Need). IsBySize size n (answers.Read (Some w))) is.0 (subst (λ (y : Answer). IsBySize size (need pp) y) is.1 goes.by_size) in
+      let is = made_by (need pp) x number (Read a w) goes.fit given in
+      let by_size : IsBySize size (Need.Read a) (Answer.Read (Some w)) = subst (λ (n : Need). IsBySize size n (Answer.Read (Some w))) is.0 (subst (λ (y : Answer). IsBySize size (need pp) y) is.1 goes.by_size) in
       let inside : a < size = elim (cases_lt a size) [ inl less ↦ less | inr behind ↦ let no = by_size.1 behind in absurd cc ] in
-      serves_by size (need pp) (needs.Read a) x (answers.Read (Some w)) past past is.0 is.1 (serves_read size a w past found inside)
+      serves_by size (need pp) (Need.Read a) x (Answer.Read (Some w)) past past is.0 is.1 (serves_read size a w past found inside)
 
   writes : (a w n : ℕ) (past : Past) → ServesAccess size (Write a w n) past (With past (Write a w n))
   writes a w n past pp x number goes given =
-      let is = write_of (need pp) x number a w n goes.fit given in
-      let by_size : IsBySize size (needs.Write a w) (answers.Wrote true) = subst (λ (m : Need). IsBySize size m (answers.Wrote true)) is.0 (subst (λ (y : Answer). IsBySize size (need pp) y) is.1 goes.by_size) in
-      serves_by size (need pp) (needs.Write a w) x (answers.Wrote true) past (With past (Write a w n)) is.0 is.1 (serves_write size a w past (With past (Write a w n)) (by_size.0 refl) (λ c. refl) refl)
+      let is = made_by (need pp) x number (Write a w n) goes.fit given in
+      let by_size : IsBySize size (Need.Write a w) (Answer.Wrote true) = subst (λ (m : Need). IsBySize size m (Answer.Wrote true)) is.0 (subst (λ (y : Answer). IsBySize size (need pp) y) is.1 goes.by_size) in
+      serves_by size (need pp) (Need.Write a w) x (Answer.Wrote true) past (With past (Write a w n)) is.0 is.1 (serves_write size a w past (With past (Write a w n)) (by_size.0 refl) (λ c. refl) refl)
 
   module _ (history : ℕ → List Event) (lawful : (c : ℕ) → IsLawful (history c)) (named : (c : ℕ) → 0 < length (history c) → IsTrue (names_channel c)) where
     looks : (entry : Entry) (f : Flags) (past : Past) → entry.what ≡ Saw f → f ≡ flags_of (past.happened entry.channel) → ServesAccess size (OnChannel entry) past past
     looks entry f past is now pp x number goes given =
-        let on = channel_of (need pp) x number entry goes.fit given in
+        let on = made_by (need pp) x number (OnChannel entry) goes.fit given in
         let of = on.of in
         let answer = look_answer size pp x (past.happened of.c) f goes of (on.sight.seen ∙ is) (now ∙ ap (λ c. flags_of (past.happened c)) (sym on.sight.channel)) in
-        serves_by size (need pp) (needs.Channel of.c of.op) x (answers.Channel of.reply) past past of.needs_it of.is (serves_look size of.c of.op of.reply past answer.is answer.none)
+        serves_by size (need pp) (Need.Channel of.c of.op) x (Answer.Channel of.reply) past past of.needs_it of.is (serves_look size of.c of.op of.reply past answer.is answer.none)
 
     made_none : (c : ℕ) (entry : Entry) (f : Flags) → entry.what ≡ Saw f → made_on c (entry ∷ []) ≡ []
     made_none c entry f is = ap (λ what. cons_option (made_at c entry.channel what) []) is
@@ -375,7 +373,7 @@ module _ (size : ℕ) (p : Profile) (others : List Processor) where
 
     makes : (entry : Entry) (e : Event) (es : List Entry) (past : Past) → entry.what ≡ Did e → ((c : ℕ) → past.happened c ++ made_on c (entry ∷ es) ≡ history c) → ServesAccess size (OnChannel entry) past (With past (OnChannel entry))
     makes entry e es past is ends pp x number goes given =
-        let on = channel_of (need pp) x number entry goes.fit given in
+        let on = made_by (need pp) x number (OnChannel entry) goes.fit given in
         let of = on.of in
         let c = of.c in
         let happened = past.happened in
@@ -385,7 +383,7 @@ module _ (size : ℕ) (p : Profile) (others : List Processor) where
         let next : IsLawful (happened c ++ e ∷ []) = lawful_front (happened c ++ e ∷ []) (made_on c es) (subst IsLawful (sym whole) (lawful c)) in
         let some : 0 < length (history c) = omega (arith, ap length whole, length-append (happened c ++ e ∷ []) (made_on c es), length-append (happened c) (e ∷ [])) in
         let answer = event_answer pp x (happened c) e of (on.sight.seen ∙ is) (lawful_front (happened c) (e ∷ []) next) next in
-        serves_by size (need pp) (needs.Channel of.c of.op) x (answers.Channel of.reply) past (With past (OnChannel entry)) of.needs_it of.is (serves_event size c of.op of.reply e past (With past (OnChannel entry)) (named c some) answer.is answer.made here
+        serves_by size (need pp) (Need.Channel of.c of.op) x (Answer.Channel of.reply) past (With past (OnChannel entry)) of.needs_it of.is (serves_event size c of.op of.reply e past (With past (OnChannel entry)) (named c some) answer.is answer.made here
         (λ d other. ap (λ l. happened d ++ l) (made_elsewhere d entry e is (λ same. other (on.sight.channel ∙ same))) ∙ append-nil (happened d)) refl)
 
     -- each event that is still to come is left to one worker, and so is each write

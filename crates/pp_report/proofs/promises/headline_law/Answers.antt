@@ -1,5 +1,7 @@
+use Rattle.std.proofs.Common.{sym}
+use Rattle.pp_channel.specs.History.{history_on}
+use Rattle.pp_channel.proofs.EachHistory.{lawful_on}
 use Rattle.pp_report.proofs.LoadedLemmas.{not_run}
-use Rattle.pp_report.proofs.ThreadsLemmas.{channels_hold}
 use Rattle.pp_report.proofs.promises.headline_law.Goals as goal
 
 pub returns : goal.returns
@@ -9,7 +11,9 @@ returns g c profile text deck is =
     record {
       steps = λ ns. c.run_law.ensures ns m holds.each_channel (c.deck_law.ensures.channels profile text deck is);
       threads = λ limits report said. record {
-        channels = λ n names. channels_hold c.session_law.ensures limits m report said n;
+        channels = λ n names.
+            let lawful = lawful_on report.channels n said.lawful in
+            record { traced = sym (said.total.each_history n); lawful = lawful; law = c.session_law.ensures (history_on n report.channels) lawful };
         steps = c.serial_law.ensures limits m report (not_run _ deck holds) said;
       };
     }
