@@ -1,6 +1,7 @@
 -- Steps of a machine, by its processors and its histories.
 use Rattle.std.proofs.Common.{append_assoc, cond, eqb, false, true, ◌≤◌, ◌≡◌, ◌≢◌, ℕ, ◌+◌, ◌<◌, List, [], ◌∷◌, ◌++◌, length, get_or, set, Option, Some, None, refl, sym, ap, ◌∙◌, subst, inl, inr, arith}
 use Rattle.std.specs.Prelude.{IsTrue, All, slice_get, slice_index, slice_set}
+use Rattle.std.specs.List.{sum_by}
 use Rattle.std.specs.Option.{option_to_list}
 use Rattle.std.proofs.lemmas.Bool.{le-ltb, cases_eq, lt-ltb}
 use Rattle.std.proofs.lemmas.Option.{slice_get_past, slice_get-get_or}
@@ -56,6 +57,10 @@ pub record Group : Type 0 where
   pub pps : List Processor
   pub left : List (List Answer)
 
+-- how many answers they are still to get
+abbrev pub all_left : Group → ℕ
+all_left group = sum_by (λ (xs : List Answer). length xs) group.left
+
 along_more : (n : ℕ) (m : MachineState) (ks ns : List ℕ) → answers_along n (ks ++ ns) m ≡ answers_along n ks m ++ answers_along n ns (run ks m)
 along_more n m [] ns = refl
 along_more n m (k ∷ ks) ns =
@@ -64,25 +69,22 @@ along_more n m (k ∷ ks) ns =
 
 -- steps of processors of the profile, each of which moves its processor, lead a machine to one that stands so,
 -- and the processors get these answers
-pub record IsLed (size : ℕ) (p : Profile) (m : MachineState) (before after : Group) (later : Past) (ns : List ℕ) (steps : ℕ) : Type 0 where
-  pub count : length ns ≡ steps
+pub record IsLed (size : ℕ) (p : Profile) (m : MachineState) (before after : Group) (later : Past) (ns : List ℕ) : Type 0 where
+  pub count : length ns + all_left after ≡ all_left before
   pub named : All (λ n. IsTrue (has_processor p n)) ns
   pub moved : AllMove m ns
   pub stands : Stands size (run ns m) after.pps later
   pub answers : (place : ℕ) → place < processors_in p → answers_along (processor_number place) ns m ++ get_or after.left place [] ≡ get_or before.left place []
 
--- so many steps lead each machine that stands so to one that stands so
-abbrev pub Leads : ℕ → Profile → ℕ → Group → Past → Group → Past → Type 0
-Leads size p steps before past after later = (m : MachineState) → Stands size m before.pps past → (ns : List ℕ) × IsLed size p m before after later ns steps
+-- some steps lead each machine that stands so to one that stands so
+abbrev pub Leads : ℕ → Profile → Group → Past → Group → Past → Type 0
+Leads size p before past after later = (m : MachineState) → Stands size m before.pps past → (ns : List ℕ) × IsLed size p m before after later ns
 
-pub leads_by : (size : ℕ) (p : Profile) (one two : Group) (first second : Past) (k n : ℕ) → k ≡ n → Leads size p k one first two second → Leads size p n one first two second
-leads_by size p one two first second k n is leads = subst (λ (j : ℕ). Leads size p j one first two second) is leads
-
-pub leads_none : (size : ℕ) (p : Profile) (one : Group) (past later : Past) → ((c : ℕ) → past.happened c ≡ later.happened c) → past.words ≡ later.words → Leads size p 0 one past one later
+pub leads_none : (size : ℕ) (p : Profile) (one : Group) (past later : Past) → ((c : ℕ) → past.happened c ≡ later.happened c) → past.words ≡ later.words → Leads size p one past one later
 leads_none size p one past later same words m stands = (
   [],
   record {
-    count = refl;
+    count = omega arith;
     named = All-nil (λ n. IsTrue (has_processor p n));
     moved = tt;
     answers = λ place _. refl;
@@ -96,14 +98,14 @@ leads_none size p one past later same words m stands = (
   },
 )
 
-pub leads_on : (size : ℕ) (p : Profile) (k n : ℕ) (one two three : Group) (first second third : Past) → Leads size p k one first two second → Leads size p n two second three third → Leads size p (k + n) one first three third
-leads_on size p k n one two three first second third a b m stands =
+pub leads_on : (size : ℕ) (p : Profile) (one two three : Group) (first second third : Past) → Leads size p one first two second → Leads size p two second three third → Leads size p one first three third
+leads_on size p one two three first second third a b m stands =
     let s = a m stands in
     let t = b (run s.0 m) s.1.stands in
     let both : run t.0 (run s.0 m) ≡ run (s.0 ++ t.0) m = sym (fold-append (λ k n. stepped n k) m s.0 t.0) in (
       s.0 ++ t.0,
       record {
-        count = length-append s.0 t.0 ∙ (λ j. s.1.count j + t.1.count j);
+        count = omega (arith, length-append s.0 t.0, s.1.count, t.1.count);
         named = All-append (λ n. IsTrue (has_processor p n)) s.0 t.0 s.1.named t.1.named;
         moved = all_move m s.0 t.0 s.1.moved t.1.moved;
         stands = subst (λ (k : MachineState). Stands size k three.pps third) both t.1.stands;
@@ -129,9 +131,9 @@ serves_by size n k x y past later needed answered serves = rw (needed, answered)
 -- one step of the processor at a place
 pub leads_step : (size : ℕ) (p : Profile) (one two : Group) (place : ℕ) (x : Answer) (past later : Past) → place < processors_in p → outcome (get_or one.pps place no_processor) x ≡ Moved
     → Serves size (need (get_or one.pps place no_processor)) x past later → two.pps ≡ set one.pps place (processor_after (get_or one.pps place no_processor) x)
-    → ((other : ℕ) → cond (eqb other place) (x ∷ []) [] ++ get_or two.left other [] ≡ get_or one.left other []) → Leads size p 1 one past two later
+    → ((other : ℕ) → cond (eqb other place) (x ∷ []) [] ++ get_or two.left other [] ≡ get_or one.left other []) → 1 + all_left two ≡ all_left one → Leads size p one past two later
 unfolding stepped step_outcome
-leads_step size p one two place x past later inside moved serves next given m stands =
+leads_step size p one two place x past later inside moved serves next given fewer m stands =
     let pps = one.pps in
     let most = most_processors p in
     let n = processor_number place in
@@ -140,7 +142,7 @@ leads_step size p one two place x past later inside moved serves next given m st
     let answer : answer_to (need (processor_of n m)) m ≡ x = ap (λ q. answer_to (need q) m) pp ∙ serves.answers_so m pps stands in (
       n ∷ [],
       record {
-        count = refl;
+        count = omega (arith, fewer);
         named = All-cons (λ k. IsTrue (has_processor p k)) n [] (has_at p place (omega (arith, inside, most)) ∙ lt-ltb place (processors_in p) inside) (All-nil (λ k. IsTrue (has_processor p k)));
         moved = ((λ j. outcome (pp j) (answer j)) ∙ moved, tt);
         answers = λ other within.

@@ -48,10 +48,10 @@ use Rattle.pp_runner.specs.WorkerReport.{OfEachAnswer, AllMoved, AllBySize, IsBy
 use Rattle.pp_runner.specs.declared.report.Report.{Report}
 use Rattle.pp_runner.specs.declared.worker.Worker.{Worker}
 use Rattle.pp_report.specs.Serial.{HasNotRun, IsSerialRunOf, answers_along}
-use Rattle.pp_report.proofs.MachineLemmas.{Past, Stands, AllMove}
+use Rattle.pp_report.proofs.MachineLemmas.{Past, Stands, AllMove, all_left}
 use Rattle.pp_machine.specs.MachineStep.{stepped, step_outcome}
-use Rattle.pp_report.proofs.ServeLemmas.{HasNoneLeft, answers_left, event_times, tells_event, tells_write, times_left, sum_stands, times_cons, NumberedFrom, Ready, Once, Written, serve}
-use Rattle.pp_report.proofs.WorkingLemmas.{Working, Does, all_of}
+use Rattle.pp_report.proofs.ServeLemmas.{HasNoneLeft, event_times, tells_event, tells_write, times_left, sum_stands, times_cons, NumberedFrom, Ready, Once, Written, serve}
+use Rattle.pp_report.proofs.WorkingLemmas.{Working, Does, all_of, left_cons}
 
 -- an answer, and those behind it
 each_first : (P : Processor → Answer → Type 0) (load : Processor) (x : Answer) (xs : List Answer) → OfEachAnswer P load (x ∷ xs) → P load x
@@ -172,7 +172,7 @@ pub record AreWorkings {A : Type 0} (size : ℕ) (p : Profile) (others loads : L
   pub ready : All (Ready size p others order) ws
   pub counts : (c number : ℕ) → sum_by (times_left (tells_event c number)) ws ≡ sum_by (λ w. times_logged c number w.log.items) ends
   pub writes : (n : ℕ) → sum_by (times_left (tells_write n)) ws ≡ times n (flat_map writes_among accesses)
-  pub steps : sum_by answers_left ws ≡ sum_by (λ w. length w.answers.items) ends
+  pub steps : all_left (all_of others ws) ≡ sum_by (λ w. length w.answers.items) ends
   pub answers : map (λ w. w.answers) ws ≡ map (λ w. w.answers.items) ends
 
 pub record IsOneWorking {A : Type 0} (size : ℕ) (p : Profile) (others : List Processor) (load : Processor) (order : List Access) (end : Worker A) (made : List Access) : Type 0 where
@@ -217,7 +217,7 @@ workings {A} p others size steps order (load ∷ loads) (end ∷ ends) (made ∷
       afters = λ j. one.after j ∷ more.afters j;
       answers = λ j. one.answers j ∷ more.answers j;
       ready = All-cons (Ready size p others order) one.now more.ws one.ready more.ready;
-      steps = sum_by-cons answers_left one.now more.ws ∙ ((λ j. length (one.answers j) + more.steps j) ∙ sym (sum_by-cons (λ (w : Worker A). length w.answers.items) end ends));
+      steps = left_cons others one.now more.ws ∙ ((λ j. length (one.answers j) + more.steps j) ∙ sym (sum_by-cons (λ (w : Worker A). length w.answers.items) end ends));
       counts = λ c number. sum_by-cons (times_left (tells_event c number)) one.now more.ws ∙ ((λ j. one.count c number j + more.counts c number j) ∙ sym (sum_by-cons (λ (w : Worker A). times_logged c number w.log.items) end ends));
       writes = λ n. sum_by-cons (times_left (tells_write n)) one.now more.ws ∙ ((λ j. one.writes n j + more.writes n j) ∙ sym (times_more n (writes_among made) (flat_map writes_among accesses)));
     }
@@ -258,6 +258,10 @@ none_at [] none place = refl
 none_at (w ∷ ws) none zero = All-head HasNoneLeft w ws none
 none_at (w ∷ ws) none (suc place) = none_at ws (All-tail HasNoneLeft w ws none) place
 
+none_left : (others : List Processor) (ws : List Working) → All HasNoneLeft ws → all_left (all_of others ws) ≡ 0
+none_left others [] none = refl
+none_left others (w ∷ ws) none = omega (arith, left_cons others w ws, ap length (All-head HasNoneLeft w ws none), none_left others ws (All-tail HasNoneLeft w ws none))
+
 same_histories : (hs gs : List (List Event)) → length hs ≡ channel_count → length gs ≡ channel_count → ((c : ℕ) → history_on c hs ≡ history_on c gs) → hs ≡ gs
 same_histories hs gs many each same = ext_get_or [] hs gs (many ∙ sym each) (λ k inside.
     let at : channel_index (channel_number k) ≡ k = place_of_number k (omega (arith, inside, many)) in
@@ -296,7 +300,7 @@ report_leaves limits m report new said =
       led.0,
       record {
         named = led.1.named;
-        steps = led.1.count ∙ w.steps;
+        steps = omega (arith, led.1.count, none_left others finished.now finished.none, w.steps);
         moved = moved_at m led.0 led.1.moved;
         answers = λ place end at.
             let got = answers_along (processor_number place) led.0 m in

@@ -31,7 +31,7 @@ use Rattle.pp_machine.specs.declared.need.Need.{Need}
 use Rattle.pp_machine.specs.declared.profile.Profile.{Profile}
 use Rattle.pp_runner.specs.WorkerReport.{IsBySize}
 use Rattle.pp_report.proofs.AnswerLemmas.{event_answer, look_answer, made_by}
-use Rattle.pp_report.proofs.MachineLemmas.{Past, Leads, leads_none, leads_by, leads_on, serves_by, serves_look, serves_event, serves_read, serves_write}
+use Rattle.pp_report.proofs.MachineLemmas.{Past, Leads, leads_none, leads_on, serves_by, serves_look, serves_event, serves_read, serves_write}
 use Rattle.pp_report.proofs.WorkingLemmas.{Working, IsWorking, all_of, ServesAccess, next, rest_done}
 
 -- what an entry tells
@@ -131,10 +131,6 @@ sum_at f front ws w = sum_by-append f front (w ∷ ws) ∙ ap (λ n. sum_by f fr
 push_front : (front ws : List Working) (w : Working) → (front ++ w ∷ []) ++ ws ≡ front ++ w ∷ ws
 push_front front ws w = append_assoc front (w ∷ []) ws
 
--- how many answers a worker has left
-abbrev pub answers_left : Working → ℕ
-answers_left w = length w.answers
-
 -- a worker with no answers left
 abbrev pub HasNoneLeft : Working → Type 0
 HasNoneLeft w = w.answers ≡ []
@@ -154,9 +150,7 @@ module _ (size : ℕ) (p : Profile) (others : List Processor) where
     pub ready : All (Ready os) now
     pub afters : map (λ w. w.after) now ≡ map (λ w. w.after) ws
     pub counts : (tells : Access → ℕ) → tells access ≡ 0 → sum_by (times_left tells) now ≡ sum_by (times_left tells) ws
-    pub steps : ℕ
-    pub left : steps + sum_by answers_left now ≡ sum_by answers_left ws
-    pub leads : Leads size p steps (all_of others ws) past (all_of others now) later
+    pub leads : Leads size p (all_of others ws) past (all_of others now) later
 
   -- a worker between others has made the step of the access
   pub record HasMoved (front ws : List Working) (w : Working) (rest : List Access) (past later : Past) : Type 0 where
@@ -164,9 +158,7 @@ module _ (size : ℕ) (p : Profile) (others : List Processor) where
     pub working : IsWorking size now
     pub accesses : now.accesses ≡ rest
     pub after_is : now.after ≡ w.after
-    pub steps : ℕ
-    pub left : steps + length now.answers ≡ length w.answers
-    pub leads : Leads size p steps (all_of others (front ++ w ∷ ws)) past (all_of others (front ++ now ∷ ws)) later
+    pub leads : Leads size p (all_of others (front ++ w ∷ ws)) past (all_of others (front ++ now ∷ ws)) later
 
   move : (front ws : List Working) (w : Working) (access : Access) (rest : List Access) (past later : Past) → length front < processors_in p → IsWorking size w → w.accesses ≡ access ∷ rest
       → ServesAccess size access past later → HasMoved front ws w rest past later
@@ -176,9 +168,7 @@ module _ (size : ℕ) (p : Profile) (others : List Processor) where
         working = more.working;
         accesses = more.accesses;
         after_is = more.after_is;
-        steps = more.steps;
-        left = more.left;
-        leads = subst (λ (us : List Working). Leads size p more.steps (all_of others (front ++ w ∷ ws)) past (all_of others us) later) (set-append_seam front w ws more.now) more.leads;
+        leads = subst (λ (us : List Working). Leads size p (all_of others (front ++ w ∷ ws)) past (all_of others us) later) (set-append_seam front w ws more.now) more.leads;
       }
 
   module _ (front ws : List Working) (w : Working) (access : Access) (rest : List Access) (past later : Past) (is : w.accesses ≡ access ∷ rest) (moved : HasMoved front ws w rest past later) where
@@ -189,9 +179,6 @@ module _ (size : ℕ) (p : Profile) (others : List Processor) where
         let was : sum_by tells w.accesses ≡ tells access + sum_by tells rest = ap (sum_by tells) is ∙ sum_by-cons tells access rest in
         let one : f moved.now ≡ f w = omega (arith, now, was, none) in
         sum_at f front ws moved.now ∙ (ap (λ n. sum_by f front + (n + sum_by f ws)) one ∙ sym (sum_at f front ws w))
-
-    moved_left : moved.steps + sum_by answers_left (front ++ moved.now ∷ ws) ≡ sum_by answers_left (front ++ w ∷ ws)
-    moved_left = omega (arith, moved.left, sum_at answers_left front ws moved.now, sum_at answers_left front ws w)
 
     moved_afters : map after_of (front ++ moved.now ∷ ws) ≡ map after_of (front ++ w ∷ ws)
     moved_afters = map-append after_of front (moved.now ∷ ws) ∙ (ap (λ q. map after_of front ++ q ∷ map after_of ws) moved.after_is ∙ sym (map-append after_of front (w ∷ ws)))
@@ -210,9 +197,7 @@ module _ (size : ℕ) (p : Profile) (others : List Processor) where
     ready = done;
     afters = ap (map after_of) (sym (append-nil front));
     counts = λ tells _. ap (sum_by (times_left tells)) (sym (append-nil front));
-    steps = 0;
-    left = omega (arith, ap (sum_by answers_left) (append-nil front));
-    leads = subst (λ (us : List Working). Leads size p 0 (all_of others us) past (all_of others front) past) (sym (append-nil front)) (leads_none size p (all_of others front) past past (λ c. refl) refl);
+    leads = subst (λ (us : List Working). Leads size p (all_of others us) past (all_of others front) past) (sym (append-nil front)) (leads_none size p (all_of others front) past past (λ c. refl) refl);
   }
   look_each access os past serves front (w ∷ ws) few done left =
       let here = All-head (Ready (access ∷ os)) w ws left in
@@ -230,9 +215,7 @@ module _ (size : ℕ) (p : Profile) (others : List Processor) where
               ready = served.ready;
               afters = served.afters ∙ moved_afters front ws w access first.0 past past first.1 moved;
               counts = λ tells none. served.counts tells none ∙ moved_counts front ws w access first.0 past past first.1 moved tells none;
-              steps = moved.steps + served.steps;
-              left = omega (arith, served.left, moved_left front ws w access first.0 past past first.1 moved);
-              leads = leads_on size p moved.steps served.steps (all_of others (front ++ w ∷ ws)) (all_of others (front ++ moved.now ∷ ws)) (all_of others served.now) past past past moved.leads served.leads;
+              leads = leads_on size p (all_of others (front ++ w ∷ ws)) (all_of others (front ++ moved.now ∷ ws)) (all_of others served.now) past past past moved.leads served.leads;
             }
       ]
 
@@ -273,18 +256,16 @@ module _ (size : ℕ) (p : Profile) (others : List Processor) where
               ready = All-append (Ready os) front (moved.now ∷ ws) done (All-cons (Ready os) moved.now ws ready (none_moves access os tells one ws more (omega (arith, sum, parts, was, one))));
               afters = moved_afters front ws w access first.0 past later first.1 moved;
               counts = moved_counts front ws w access first.0 past later first.1 moved;
-              steps = moved.steps;
-              left = moved_left front ws w access first.0 past later first.1 moved;
               leads = moved.leads;
             }
       ]
 
   -- all make the steps that are left, once no accesses are
-  pub record Ended (was : List Working) (before : List Working) (steps : ℕ) (past : Past) : Type 0 where
+  pub record Ended (was : List Working) (before : List Working) (past : Past) : Type 0 where
     pub now : List Working
     pub processors : map (λ w. w.pp) now ≡ map (λ w. w.after) was
     pub none : All HasNoneLeft now
-    pub leads : Leads size p steps (all_of others before) past (all_of others now) past
+    pub leads : Leads size p (all_of others before) past (all_of others now) past
 
   none_stand : (xs : List Access) → IsSubsequence xs [] → xs ≡ []
   none_stand [] h = refl
@@ -293,25 +274,24 @@ module _ (size : ℕ) (p : Profile) (others : List Processor) where
   abbrev pp_of : Working → Processor
   pp_of w = w.pp
 
-  end_each : (was front ws : List Working) (past : Past) → map pp_of front ≡ map after_of was → All HasNoneLeft front → length (front ++ ws) ≤ processors_in p → All (Ready []) ws → Ended (was ++ ws) (front ++ ws) (sum_by answers_left ws) past
+  end_each : (was front ws : List Working) (past : Past) → map pp_of front ≡ map after_of was → All HasNoneLeft front → length (front ++ ws) ≤ processors_in p → All (Ready []) ws → Ended (was ++ ws) (front ++ ws) past
   end_each was front [] past same none few left = record {
     now = front;
     none = none;
     processors = same ∙ ap (map after_of) (sym (append-nil was));
-    leads = subst (λ (us : List Working). Leads size p 0 (all_of others us) past (all_of others front) past) (sym (append-nil front)) (leads_none size p (all_of others front) past past (λ c. refl) refl);
+    leads = subst (λ (us : List Working). Leads size p (all_of others us) past (all_of others front) past) (sym (append-nil front)) (leads_none size p (all_of others front) past past (λ c. refl) refl);
   }
   end_each was front (w ∷ ws) past same none few left =
       let here = All-head (Ready []) w ws left in
       let done = rest_done size p others (length front) (front_inside front ws w few) w.answers w.pp w.accesses w.after (front ++ w ∷ ws) past (get_at front ws w) here.working (none_stand w.accesses here.stands) in
-      let leads = subst (λ (us : List Working). Leads size p (length w.answers) (all_of others (front ++ w ∷ ws)) past (all_of others us) past) (set-append_seam front w ws done.now) done.leads in
+      let leads = subst (λ (us : List Working). Leads size p (all_of others (front ++ w ∷ ws)) past (all_of others us) past) (set-append_seam front w ws done.now) done.leads in
       let pushed : map pp_of (front ++ done.now ∷ []) ≡ map after_of (was ++ w ∷ []) = map-append pp_of front (done.now ∷ []) ∙ ((λ j. same j ++ done.done j ∷ []) ∙ sym (map-append after_of was (w ∷ []))) in
       let more = end_each (was ++ w ∷ []) (front ++ done.now ∷ []) ws past pushed (All-push HasNoneLeft front done.now none done.none) (few_pushed front ws w done.now few) (All-tail (Ready []) w ws left) in record {
         now = more.now;
         processors = more.processors ∙ ap (map after_of) (push_front was ws w);
         none = more.none;
-        leads = leads_by size p (all_of others (front ++ w ∷ ws)) (all_of others more.now) past past (length w.answers + sum_by answers_left ws) (sum_by answers_left (w ∷ ws)) (sym (sum_by-cons answers_left w ws))
-            (leads_on size p (length w.answers) (sum_by answers_left ws) (all_of others (front ++ w ∷ ws)) (all_of others (front ++ done.now ∷ ws)) (all_of others more.now) past past past leads
-            (subst (λ (us : List Working). Leads size p (sum_by answers_left ws) (all_of others us) past (all_of others more.now) past) (push_front front ws done.now) more.leads));
+        leads = leads_on size p (all_of others (front ++ w ∷ ws)) (all_of others (front ++ done.now ∷ ws)) (all_of others more.now) past past past leads
+            (subst (λ (us : List Working). Leads size p (all_of others us) past (all_of others more.now) past) (push_front front ws done.now) more.leads);
       }
 
   -- Along a whole order, to the histories and the words that it ends in.
@@ -319,15 +299,14 @@ module _ (size : ℕ) (p : Profile) (others : List Processor) where
     pub now : List Working
     pub processors : map (λ w. w.pp) now ≡ map (λ w. w.after) ws
     pub none : All HasNoneLeft now
-    pub leads : Leads size p (sum_by answers_left ws) (all_of others ws) past (all_of others now) end
+    pub leads : Leads size p (all_of others ws) past (all_of others now) end
 
   go_on : (access : Access) (os : List Access) (ws : List Working) (past later end : Past) → (served : Served ws past later access os) → Finished served.now later end → Finished ws past end
   go_on access os ws past later end served rest = record {
     now = rest.now;
     processors = rest.processors ∙ served.afters;
     none = rest.none;
-    leads = leads_by size p (all_of others ws) (all_of others rest.now) past end (served.steps + sum_by answers_left served.now) (sum_by answers_left ws) served.left
-        (leads_on size p served.steps (sum_by answers_left served.now) (all_of others ws) (all_of others served.now) (all_of others rest.now) past later end served.leads rest.leads);
+    leads = leads_on size p (all_of others ws) (all_of others served.now) (all_of others rest.now) past later end served.leads rest.leads;
   }
 
   still_few : (access : Access) (os : List Access) (ws : List Working) (past later : Past) → (served : Served ws past later access os) → length ws ≤ processors_in p → length served.now ≤ processors_in p
@@ -403,11 +382,8 @@ module _ (size : ℕ) (p : Profile) (others : List Processor) where
           ready = served.ready;
           afters = served.afters;
           counts = served.counts;
-          steps = served.steps;
-          left = served.left;
-          leads = leads_by size p (all_of others ws) (all_of others served.now) past later (served.steps + 0) served.steps (omega arith)
-              (leads_on size p served.steps 0 (all_of others ws) (all_of others served.now) (all_of others served.now) past past later served.leads
-              (leads_none size p (all_of others served.now) past later (λ c. sym (ap (λ es. past.happened c ++ es) (made_none c entry f is) ∙ append-nil (past.happened c))) refl));
+          leads = leads_on size p (all_of others ws) (all_of others served.now) (all_of others served.now) past past later served.leads
+              (leads_none size p (all_of others served.now) past later (λ c. sym (ap (λ es. past.happened c ++ es) (made_none c entry f is) ∙ append-nil (past.happened c))) refl);
         }
     by_what entry os ws past (Did e) is few ready comes places ends once =
         let c = entry.channel in
@@ -451,9 +427,8 @@ module _ (size : ℕ) (p : Profile) (others : List Processor) where
           now = ended.now;
           processors = ended.processors;
           none = ended.none;
-          leads = leads_by size p (all_of others ws) (all_of others ended.now) past end (sum_by answers_left ws + 0) (sum_by answers_left ws) (omega arith)
-              (leads_on size p (sum_by answers_left ws) 0 (all_of others ws) (all_of others ended.now) (all_of others ended.now) past past end ended.leads
-              (leads_none size p (all_of others ended.now) past end (λ c. sym (append-nil (past.happened c)) ∙ ends c) refl));
+          leads = leads_on size p (all_of others ws) (all_of others ended.now) (all_of others ended.now) past past end ended.leads
+              (leads_none size p (all_of others ended.now) past end (λ c. sym (append-nil (past.happened c)) ∙ ends c) refl);
         }
     serve (OnChannel entry ∷ os) ws past k few ready places ends once finds numbered written =
         let later = With past (OnChannel entry) in
