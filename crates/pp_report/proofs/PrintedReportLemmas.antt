@@ -1,6 +1,6 @@
 -- What threads print is read as a lawful trace.
 use Rattle.std.proofs.Common.{All, codes, ◌≡◌, ◌≢◌, ◌∙◌, ℕ, zero, suc, ◌+◌, ◌^◌, ◌<◌, ◌≤◌, Bool, true, false, List, [], ◌∷◌, ◌++◌, length, map, Option, Some, None, refl, sym, ap, subst, append_assoc, arith, inl, inr}
-use Rattle.std.specs.Prelude.{IfSome, IsTrue, if◌then◌else◌, slice_get, slice_index_or}
+use Rattle.std.specs.Prelude.{IsTrue, if◌then◌else◌, slice_get, slice_index_or}
 use Rattle.std.specs.List.{AllByRecursion, cons_option, enumerate_from, filter_map, flat_map, list_all}
 use Rattle.std.proofs.lemmas.Bool.{cases_eq}
 use Rattle.std.proofs.lemmas.List.{append-nil, length_push}
@@ -22,14 +22,13 @@ use Rattle.pp_runner.specs.WorkerReport.{logs_of}
 use Rattle.pp_runner.specs.declared.end.End.{End}
 use Rattle.pp_runner.specs.declared.report.Report.{Report}
 use Rattle.pp_runner.specs.declared.worker.Worker.{Worker}
-use Rattle.pp_report.proofs.AuthorLawLemmas.{only_openings}
-use Rattle.pp_report.proofs.ReportLawLemmas.{numbered_channel_events, unnamed_line}
+use Rattle.pp_report.proofs.ReportLawLemmas.{numbered_channel_events, told_after, unnamed_line, with_number}
 use Rattle.pp_report.specs.PrintedReport.{author_place, channel_events, end_text, line_by, named_worker_line, numbered_event_line, printed_report, worker_line}
 use Rattle.pp_deck.proofs.FieldTextLemmas.{is_plain}
 use Rattle.pp_word.specs.Numeral.{decimal, octal}
 use Rattle.pp_text.specs.PrintedText.{event_text, line_end, used_channel_line}
-use Rattle.pp_report.specs.ReportLaw.{FitsItsLine, FitsItsReport, IsPrintableReport, printed_by}
-use Rattle.pp_check.specs.LawfulTrace.{AreLawful, IsLawfulTrace, event_on, events_on, history, is_opened, parsed_lines, opening}
+use Rattle.pp_report.specs.ReportLaw.{FitsItsLine, FitsItsReport, IsPrintableReport, PrintedEvent, printed_by, printed_on}
+use Rattle.pp_check.specs.LawfulTrace.{AreLawful, IsLawfulTrace, event_on, events_on, history, parsed_lines, opening}
 use Rattle.pp_check.specs.PrintedTrace.{AreOpenedBy}
 use Rattle.pp_check.specs.TraceLine.{parsed_line}
 use Rattle.pp_check.specs.declared.trace_line.TraceLine.{TraceLine}
@@ -61,104 +60,50 @@ numbered_line_is c number place e =
 
 -- ---- the events of a channel
 
--- an event with its number, if it has an author
-told_line : ℕ → ℕ → Event → Option ℕ → List TraceLine
-told_line c number e None = []
-told_line c number e (Some place) = Numbered number c e ∷ []
+-- events with their numbers
+unfoldable pub numbered : ℕ → List (ℕ × Event) → List TraceLine
+numbered c events = map (λ ((number, event) : ℕ × Event). Numbered number c event) events
 
-reads_event : (c number : ℕ) (e : Event) (author : Option ℕ) → IsTrue (names_channel c) → number < 10 ^ 19 → IfSome (printed_by number e author) FitsItsLine → Reads (line_by c number e author) (told_line c number e author)
-unfolding told_line
-reads_event c number e None names below fits = λ rest. refl
-reads_event c number e (Some place) names below fits =
-    subst (λ (text : List ℕ). Reads text (Numbered number c e ∷ [])) (sym (numbered_line_is c number place e))
-    (reads_line (numbered_body c number (processor_number place) e) (Numbered number c e) (plain_numbered c number (processor_number place) e) (numbered_line_read c number (processor_number place) e names below fits.author fits.word))
-
-first_fits : {X : Type 0} (P : X → Type 0) (o : Option X) (rest : List X) → All P (cons_option o rest) → IfSome o P
-first_fits P None rest all = tt
-first_fits P (Some x) rest all = All-head P x rest all
-
-rest_fits : {X : Type 0} (P : X → Type 0) (o : Option X) (rest : List X) → All P (cons_option o rest) → All P rest
-rest_fits P None rest all = all
-rest_fits P (Some x) rest all = All-tail P x rest all
-
--- events one after another, from a number on
-unfoldable pub numbered : ℕ → ℕ → List Event → List TraceLine
-numbered c k [] = []
-numbered c k (e ∷ es) = Numbered k c e ∷ numbered c (k + 1) es
-
-unfoldable told_from : {Z : Type 0} → List (Worker Z) → ℕ → ℕ → List Event → List TraceLine
-told_from workers c k [] = []
-told_from workers c k (e ∷ es) =
-    told_line c k e (author_place c workers k) ++ told_from workers c (k + 1) es
+-- what is read of one event more before others, if it has an author
+reads_event : (c number : ℕ) (e : Event) (author : Option ℕ) (text : List ℕ) (more : List PrintedEvent) → IsTrue (names_channel c) → number < 10 ^ 19 → All FitsItsLine (cons_option (printed_by number e author) more)
+    → (All FitsItsLine more → Reads text (numbered c (map with_number more))) → Reads (line_by c number e author ++ text) (numbered c (map with_number (cons_option (printed_by number e author) more)))
+unfolding numbered
+reads_event c number e None text more names below fits rest = rest fits
+reads_event c number e (Some place) text more names below fits rest =
+    let told : PrintedEvent = record { number = number; author = processor_number place; event = e } in
+    let here = All-head FitsItsLine told more fits in
+    reads_both (line_by c number e (Some place)) text (Numbered number c e ∷ []) (numbered c (map with_number more))
+    (subst (λ (l : List ℕ). Reads l (Numbered number c e ∷ [])) (sym (numbered_line_is c number place e))
+    (reads_line (numbered_body c number (processor_number place) e) (Numbered number c e) (plain_numbered c number (processor_number place) e) (numbered_line_read c number (processor_number place) e names below here.author here.word)))
+    (rest (All-tail FitsItsLine told more fits))
 
 reads_from : {Z : Type 0} (workers : List (Worker Z)) (c : ℕ) → IsTrue (names_channel c) → (k : ℕ) (es : List Event)
     → All FitsItsLine (filter_map (λ ((number, event) : ℕ × Event). printed_by number event (author_place c workers number)) (enumerate_from k es))
-    → k + length es < 10 ^ 19 → Reads (flat_map (numbered_event_line c workers) (enumerate_from k es)) (told_from workers c k es)
-unfolding told_from numbered_event_line
+    → k + length es < 10 ^ 19 → Reads (flat_map (numbered_event_line c workers) (enumerate_from k es)) (numbered c (map with_number (filter_map (λ ((number, event) : ℕ × Event). printed_by number event (author_place c workers number)) (enumerate_from k es))))
+unfolding numbered numbered_event_line
 reads_from workers c names k [] fits few = λ rest. refl
 reads_from {Z} workers c names k (e ∷ es) fits few =
-    let author = author_place c workers k in
-    let more = filter_map (λ ((number, event) : ℕ × Event). printed_by number event (author_place c workers number)) (enumerate_from (k + 1) es) in
-    reads_both (line_by c k e author) (flat_map (numbered_event_line c workers) (enumerate_from (k + 1) es)) (told_line c k e author) (told_from workers c (k + 1) es)
-    (reads_event c k e author names (omega (arith, few)) (first_fits FitsItsLine (printed_by k e author) more fits))
-    (reads_from workers c names (k + 1) es (rest_fits FitsItsLine (printed_by k e author) more fits) (omega (arith, few)))
-
-by_author : (c k : ℕ) (e : Event) (o : Option ℕ) → (o ≡ None → ⊥) → told_line c k e o ≡ Numbered k c e ∷ []
-unfolding told_line
-by_author c k e None some = absurd (some refl)
-by_author c k e (Some place) some = refl
-
-all_told : {Z : Type 0} (workers : List (Worker Z)) (c k : ℕ) (es : List Event) → ((n : ℕ) → k ≤ n → n < k + length es → author_place c workers n ≡ None → ⊥) → told_from workers c k es ≡ numbered c k es
-unfolding told_from numbered
-all_told workers c k [] authors = refl
-all_told workers c k (e ∷ es) authors =
-    ap (λ (lines : List TraceLine). lines ++ told_from workers c (k + 1) es) (by_author c k e (author_place c workers k) (authors k (omega arith) (omega arith)))
-    ∙ ap (λ (lines : List TraceLine). Numbered k c e ∷ lines) (all_told workers c (k + 1) es (λ n le lt. authors n (omega (arith, le)) (omega (arith, lt))))
-
--- all events but the opening are told
-module _ {Z : Type 0} (opened : List Bool) (openings : ℕ → List Event) (histories : List (List Event)) (workers : List (Worker Z)) (merged : Merges openings histories (logs_of workers)) (c : ℕ) (alike : openings c ≡ opening opened c) where
-  authors_of : (k : ℕ) (es : List Event) → k ≡ length (opening opened c) → length (history_on c histories) ≡ k + length es → (n : ℕ) → k ≤ n → n < k + length es → author_place c workers n ≡ None → ⊥
-  authors_of k es at long n le lt none =
-      let early = (only_openings openings histories workers merged c n (omega (arith, long, lt))).0 none in
-      omega (arith, early, le, at, ap length alike)
-
-  told_by_opening : (b : Bool) → is_opened opened c ≡ b → (es : List Event) → opening opened c ++ es ≡ history_on c histories → told_from workers c 0 (history_on c histories) ≡ numbered c (length (opening opened c)) es
-  unfolding told_from told_line
-  told_by_opening false is es whole =
-      let none : opening opened c ≡ [] = ap (λ (b : Bool). if b then Activate ∷ [] else []) is in
-      let all : es ≡ history_on c histories = ap (λ (first : List Event). first ++ es) (sym none) ∙ whole in
-      let long : length (history_on c histories) ≡ length es = ap length (sym all) in
-      let at : 0 ≡ length (opening opened c) = ap length (sym none) in
-      ap (told_from workers c 0) (sym all) ∙ all_told workers c 0 es (authors_of 0 es at (omega (arith, long))) ∙ ap (λ (k : ℕ). numbered c k es) at
-  told_by_opening true is es whole =
-      let one : opening opened c ≡ Activate ∷ [] = ap (λ (b : Bool). if b then Activate ∷ [] else []) is in
-      let all : Activate ∷ es ≡ history_on c histories = ap (λ (first : List Event). first ++ es) (sym one) ∙ whole in
-      let long : length (history_on c histories) ≡ length (Activate ∷ es) = ap length (sym all) in
-      let at : 1 ≡ length (opening opened c) = ap length (sym one) in
-      let none : author_place c workers 0 ≡ None = (only_openings openings histories workers merged c 0 (omega (arith, long))).1 (omega (arith, at, ap length alike)) in
-      ap (told_from workers c 0) (sym all)
-      ∙ ap (λ (o : Option ℕ). told_line c 0 Activate o ++ told_from workers c 1 es) none
-      ∙ all_told workers c 1 es (authors_of 1 es at (omega (arith, long)))
-      ∙ ap (λ (k : ℕ). numbered c k es) at
+    reads_event c k e (author_place c workers k) (flat_map (numbered_event_line c workers) (enumerate_from (k + 1) es)) (filter_map (λ ((number, event) : ℕ × Event). printed_by number event (author_place c workers number)) (enumerate_from (k + 1) es))
+    names (omega (arith, few)) fits (λ rest. reads_from workers c names (k + 1) es rest (omega (arith, few)))
 
 -- ---- the lines of a channel among others
 
 elsewhere : (d c number : ℕ) (e : Event) → d ≢ c → event_on d (Numbered number c e) ≡ None
 elsewhere d c number e other = (event_line c e (Numbered number c e) (numbered_here number c e)).elsewhere d other
 
-block_elsewhere : (d c : ℕ) → d ≢ c → (k : ℕ) (es : List Event) → events_on d (numbered c k es) ≡ []
+block_elsewhere : (d c : ℕ) → d ≢ c → (k : ℕ) (es : List Event) → events_on d (numbered c (enumerate_from k es)) ≡ []
 unfolding events_on numbered
 block_elsewhere d c other k [] = refl
 block_elsewhere d c other k (e ∷ es) =
-    ap (λ (o : Option Event). cons_option o (filter_map (event_on d) (numbered c (k + 1) es))) (elsewhere d c k e other) ∙ block_elsewhere d c other (k + 1) es
+    ap (λ (o : Option Event). cons_option o (filter_map (event_on d) (numbered c (enumerate_from (k + 1) es)))) (elsewhere d c k e other) ∙ block_elsewhere d c other (k + 1) es
 
-block_here : (c k : ℕ) (es : List Event) → events_on c (numbered c k es) ≡ es
+block_here : (c k : ℕ) (es : List Event) → events_on c (numbered c (enumerate_from k es)) ≡ es
 unfolding events_on numbered
 block_here c k [] = refl
 block_here c k (e ∷ es) =
-    ap (λ (o : Option Event). cons_option o (filter_map (event_on c) (numbered c (k + 1) es))) (numbered_here k c e) ∙ ap (λ (more : List Event). e ∷ more) (block_here c (k + 1) es)
+    ap (λ (o : Option Event). cons_option o (filter_map (event_on c) (numbered c (enumerate_from (k + 1) es)))) (numbered_here k c e) ∙ ap (λ (more : List Event). e ∷ more) (block_here c (k + 1) es)
 
-lawful_block : (opened : List Bool) (lines : List TraceLine) (c k : ℕ) (h es : List Event) → IsLawfulTrace opened lines → history opened lines c ≡ h → k ≡ length h → IsLawful (h ++ es) → IsLawfulTrace opened (lines ++ numbered c k es)
+lawful_block : (opened : List Bool) (lines : List TraceLine) (c k : ℕ) (h es : List Event) → IsLawfulTrace opened lines → history opened lines c ≡ h → k ≡ length h → IsLawful (h ++ es) → IsLawfulTrace opened (lines ++ numbered c (enumerate_from k es))
 unfolding numbered
 lawful_block opened lines c k h [] lawful same at more = subst (IsLawfulTrace opened) (sym (append-nil lines)) lawful
 lawful_block opened lines c k h (e ∷ es) lawful same at more =
@@ -170,7 +115,7 @@ lawful_block opened lines c k h (e ∷ es) lawful same at more =
       | inl here ↦ subst P (sym next ∙ ap (history opened (lines ++ line ∷ [])) (sym here)) (lawful_front (h ++ e ∷ []) es longer)
       | inr other ↦ subst P (sym (history_same opened lines line d (elsewhere d c k e other))) (lawful.histories d)
     ]) in
-    subst (IsLawfulTrace opened) (append_assoc lines (line ∷ []) (numbered c (k + 1) es))
+    subst (IsLawfulTrace opened) (append_assoc lines (line ∷ []) (numbered c (enumerate_from (k + 1) es)))
     (lawful_block opened (lines ++ line ∷ []) c (k + 1) (h ++ e ∷ []) es pushed next (omega (arith, at, length_push h e)) longer)
 
 -- ---- one channel after another
@@ -193,9 +138,9 @@ module _ (opened : List Bool) (histories : List (List Event)) where
     untold = λ c less. no_events c;
   }
 
-  events_past : (c n k : ℕ) (lines : List TraceLine) (es : List Event) → c ≢ n → events_on c (lines ++ numbered n k es) ≡ events_on c lines
+  events_past : (c n k : ℕ) (lines : List TraceLine) (es : List Event) → c ≢ n → events_on c (lines ++ numbered n (enumerate_from k es)) ≡ events_on c lines
   events_past c n k lines es other =
-      events_both c lines (numbered n k es) ∙ ap (λ (more : List Event). events_on c lines ++ more) (block_elsewhere c n other k es) ∙ append-nil (events_on c lines)
+      events_both c lines (numbered n (enumerate_from k es)) ∙ ap (λ (more : List Event). events_on c lines ++ more) (block_elsewhere c n other k es) ∙ append-nil (events_on c lines)
 
   tell_unnamed : (n : ℕ) (lines : List TraceLine) → names_channel n ≡ false → Tell n lines → Tell (suc n) lines
   tell_unnamed n lines unnamed tell = record {
@@ -207,7 +152,7 @@ module _ (opened : List Bool) (histories : List (List Event)) where
     untold = λ c less. tell.untold c (omega (arith, less));
   }
 
-  tell_named : (n : ℕ) (lines : List TraceLine) (es : List Event) → opening opened n ++ es ≡ history_on n histories → IsLawful (history_on n histories) → Tell n lines → Tell (suc n) (lines ++ numbered n (length (opening opened n)) es)
+  tell_named : (n : ℕ) (lines : List TraceLine) (es : List Event) → opening opened n ++ es ≡ history_on n histories → IsLawful (history_on n histories) → Tell n lines → Tell (suc n) (lines ++ numbered n (enumerate_from (length (opening opened n)) es))
   tell_named n lines es whole lawful tell =
       let P : List Event → Type 0 = λ g. IsLawful g in
       let start : history opened lines n ≡ opening opened n = ap (λ (more : List Event). opening opened n ++ more) (tell.untold n (omega arith)) ∙ append-nil (opening opened n) in
@@ -216,8 +161,8 @@ module _ (opened : List Bool) (histories : List (List Event)) where
         lawful = lawful_block opened lines n k (opening opened n) es tell.lawful start refl (subst P (sym whole) lawful);
         told = λ c less names. elim (cases_eq c n) [
           | inl same ↦
-              ap (history opened (lines ++ numbered n k es)) same
-              ∙ ap (λ (more : List Event). opening opened n ++ more) (events_both n lines (numbered n k es) ∙ ap (λ (first : List Event). first ++ events_on n (numbered n k es)) (tell.untold n (omega arith)) ∙ block_here n k es)
+              ap (history opened (lines ++ numbered n (enumerate_from k es))) same
+              ∙ ap (λ (more : List Event). opening opened n ++ more) (events_both n lines (numbered n (enumerate_from k es)) ∙ ap (λ (first : List Event). first ++ events_on n (numbered n (enumerate_from k es))) (tell.untold n (omega arith)) ∙ block_here n k es)
               ∙ whole
               ∙ ap (λ (d : ℕ). history_on d histories) (sym same)
           | inr other ↦
@@ -261,7 +206,7 @@ pub record StandsOver {Z : Type 0} (named : List Bool) (report : Report Z) (open
 module _ {Z : Type 0} (named : List Bool) (report : Report Z) (opened : List Bool) (is : StandsOver named report opened) where
   event_lines : ℕ → List TraceLine
   event_lines c =
-      if names_channel c then told_from report.ends.items c 0 (history_on c report.channels) else []
+      if names_channel c then numbered c (map with_number (printed_on c report)) else []
 
   worker_lines : ℕ → List TraceLine
   worker_lines n =
@@ -276,7 +221,7 @@ module _ {Z : Type 0} (named : List Bool) (report : Report Z) (opened : List Boo
 
   reads_events : (c : ℕ) → Reads (numbered_channel_events report.ends.items report.channels c) (event_lines c)
   unfolding event_lines
-  reads_events c = reads_if (names_channel c) _ (told_from report.ends.items c 0 (history_on c report.channels)) (λ names. reads_from report.ends.items c names 0 (history_on c report.channels) (is.fits.events c names) (omega (arith, is.few_events c names)))
+  reads_events c = reads_if (names_channel c) _ (numbered c (map with_number (printed_on c report))) (λ names. reads_from report.ends.items c names 0 (history_on c report.channels) (is.fits.events c names) (omega (arith, is.few_events c names)))
 
   reads_workers : (n : ℕ) → Reads (named_worker_line named report.ends.items n) (worker_lines n)
   unfolding worker_lines
@@ -297,13 +242,13 @@ module _ {Z : Type 0} (named : List Bool) (report : Report Z) (opened : List Boo
   text_says = said_is (lines_of (printed_report named report)) _ said ∙ simp append_assoc
 
   -- the lines of the events tell all histories
-  tell_next : (n : ℕ) (lines : List TraceLine) → Tell opened report.channels n lines → (b : Bool) → names_channel n ≡ b → Tell opened report.channels (suc n) (lines ++ (if b then told_from report.ends.items n 0 (history_on n report.channels) else []))
+  tell_next : (n : ℕ) (lines : List TraceLine) → Tell opened report.channels n lines → (b : Bool) → names_channel n ≡ b → Tell opened report.channels (suc n) (lines ++ (if b then numbered n (map with_number (printed_on n report)) else []))
   tell_next n lines tell false unnamed = subst (Tell opened report.channels (suc n)) (sym (append-nil lines)) (tell_unnamed opened report.channels n lines unnamed tell)
   tell_next n lines tell true names =
       let begins = is.merged.begins n in
       let alike = is.opened_alike n names in
       let whole : opening opened n ++ begins.0 ≡ history_on n report.channels = ap (λ (first : List Event). first ++ begins.0) (sym alike) ∙ begins.1 in
-      let as_numbered = told_by_opening opened is.openings report.channels report.ends.items is.merged n alike (is_opened opened n) refl begins.0 whole in
+      let as_numbered = ap (numbered n) (told_after is.openings report.channels report.ends.items n is.merged ∙ ap (λ (first : List Event). enumerate_from (length first) begins.0) alike) in
       subst (λ (block : List TraceLine). Tell opened report.channels (suc n) (lines ++ block)) (sym as_numbered)
       (tell_named opened report.channels n lines begins.0 whole (is.lawful n names) tell)
 

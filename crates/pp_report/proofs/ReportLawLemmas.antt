@@ -434,39 +434,65 @@ report_tells {Y} {Z} named others one other fits also numbered told e = record {
 
 -- ---- and the histories, where both began alike
 
+-- an event that is told, with its number
+abbrev pub with_number : PrintedEvent → ℕ × Event
+with_number t = (t.number, t.event)
+
 -- the events that are told from a number on, where the first of all have no author and the rest have one
-rest_told : {Z : Type 0} (c first n : ℕ) (workers : List (Worker Z)) (h : List Event) → ((i : ℕ) → i < length h → (author_place c workers (n + i) ≡ None) ↔ (n + i < first))
-    → map (λ (t : PrintedEvent). t.event) (filter_map (λ ((number, event) : ℕ × Event). printed_by number event (author_place c workers number)) (enumerate_from n h)) ≡ drop (first - n) h
-rest_told {Z} c first n workers [] authors = sym (drop-nil (first - n))
-rest_told {Z} c first n workers (e ∷ h) authors =
+told_later : {Z : Type 0} (c first n : ℕ) (workers : List (Worker Z)) (h : List Event) → ((i : ℕ) → i < length h → (author_place c workers (n + i) ≡ None) ↔ (n + i < first))
+    → map with_number (filter_map (λ ((number, event) : ℕ × Event). printed_by number event (author_place c workers number)) (enumerate_from n h)) ≡ enumerate_from (n + (first - n)) (drop (first - n) h)
+told_later {Z} c first n workers [] authors = ap (enumerate_from (n + (first - n))) (sym (drop-nil (first - n)))
+told_later {Z} c first n workers (e ∷ h) authors =
     by_author (author_place c workers n) (subst (λ k. (author_place c workers k ≡ None) ↔ (k < first)) (omega arith) (authors 0 (omega arith)))
-    (rest_told c first (n + 1) workers h (λ i within. subst (λ k. (author_place c workers k ≡ None) ↔ (k < first)) (omega arith) (authors (i + 1) (omega (arith, within)))))
+    (told_later c first (n + 1) workers h (λ i within. subst (λ k. (author_place c workers k ≡ None) ↔ (k < first)) (omega arith) (authors (i + 1) (omega (arith, within)))))
   where
     more : List PrintedEvent
     more = filter_map (λ ((number, event) : ℕ × Event). printed_by number event (author_place c workers number)) (enumerate_from (n + 1) h)
 
-    by_author : (author : Option ℕ) → (author ≡ None) ↔ (n < first) → map (λ (t : PrintedEvent). t.event) more ≡ drop (first - (n + 1)) h
-        → map (λ (t : PrintedEvent). t.event) (cons_option (printed_by n e author) more) ≡ drop (first - n) (e ∷ h)
+    by_author : (author : Option ℕ) → (author ≡ None) ↔ (n < first) → map with_number more ≡ enumerate_from (n + 1 + (first - (n + 1))) (drop (first - (n + 1)) h)
+        → map with_number (cons_option (printed_by n e author) more) ≡ enumerate_from (n + (first - n)) (drop (first - n) (e ∷ h))
     by_author None is rest =
         let early = is.0 refl in
-        rest ∙ ap (λ k. drop k (e ∷ h)) (let one_more : suc (first - (n + 1)) ≡ first - n = omega (arith, early) in one_more)
+        let one_more : suc (first - (n + 1)) ≡ first - n = omega (arith, early) in
+        let same : n + 1 + (first - (n + 1)) ≡ n + (first - n) = omega (arith, early) in
+        rest ∙ (λ j. enumerate_from (same j) (drop (one_more j) (e ∷ h)))
     by_author (Some place) is rest = by_order (cases_lt n first)
       where
-        by_order : (n < first) ⊎ (first ≤ n) → e ∷ map (λ (t : PrintedEvent). t.event) more ≡ drop (first - n) (e ∷ h)
+        by_order : (n < first) ⊎ (first ≤ n) → (n, e) ∷ map with_number more ≡ enumerate_from (n + (first - n)) (drop (first - n) (e ∷ h))
         by_order (inl early) = let none : Some place ≡ None = is.1 early in absurd cc
         by_order (inr late) =
-            ap (λ es. e ∷ es) (rest ∙ ap (λ k. drop k h) (let none : first - (n + 1) ≡ 0 = omega (arith, late) in none)) ∙ ap (λ k. drop k (e ∷ h)) (let none : 0 ≡ first - n = omega (arith, late) in none)
+            let next : n + 1 + (first - (n + 1)) ≡ n + 1 = omega (arith, late) in
+            let least : first - (n + 1) ≡ 0 = omega (arith, late) in
+            let here : n ≡ n + (first - n) = omega (arith, late) in
+            let none : 0 ≡ first - n = omega (arith, late) in
+            ap (λ es. (n, e) ∷ es) (rest ∙ (λ j. enumerate_from (next j) (drop (least j) h))) ∙ (λ j. enumerate_from (here j) (drop (none j) (e ∷ h)))
+
+-- they are all events after the opening, each with its number
+pub told_after : {Z : Type 0} (opening : ℕ → List Event) (histories : List (List Event)) (workers : List (Worker Z)) (c : ℕ) → (merged : Merges opening histories (logs_of workers))
+    → map with_number (told_events c workers (history_on c histories)) ≡ enumerate_from (length (opening c)) (merged.begins c).0
+told_after {Z} opening histories workers c merged =
+    let h = history_on c histories in
+    let begins = merged.begins c in
+    let first = length (opening c) in
+    let same : 0 + (first - 0) ≡ first = omega arith in
+    let behind : first - 0 ≡ first = omega arith in
+    told_later c first 0 workers h (λ i within.
+    subst (λ k. (author_place c workers k ≡ None) ↔ (k < first)) (omega arith) (only_openings opening histories workers merged c i within))
+    ∙ ((λ j. enumerate_from (same j) (drop (behind j) (sym begins.1 j))) ∙ ap (enumerate_from first) (drop-append_seam (opening c) begins.0))
+
+events_told : (k : ℕ) (ts : List PrintedEvent) (es : List Event) → map with_number ts ≡ enumerate_from k es → map (λ (t : PrintedEvent). t.event) ts ≡ es
+events_told k [] [] is = refl
+events_told k [] (e ∷ es) is = absurd cc
+events_told k (t ∷ ts) [] is = absurd cc
+events_told k (t ∷ ts) (e ∷ es) is =
+    let first : with_number t ≡ (k, e) = cc in
+    let rest : map with_number ts ≡ enumerate_from (k + 1) es = cc in
+    (λ j. (first j).1 ∷ events_told (k + 1) ts es rest j)
 
 whole_history : {Z : Type 0} (opening : ℕ → List Event) (report : Report Z) (c : ℕ) → Merges opening report.channels (logs_of report.ends.items)
     → history_on c report.channels ≡ opening c ++ map (λ (t : PrintedEvent). t.event) (printed_on c report)
 whole_history {Z} opening report c merged =
-    let h = history_on c report.channels in
-    let begins = merged.begins c in
-    let rest = rest_told c (length (opening c)) 0 report.ends.items h (λ i within.
-    subst (λ k. (author_place c report.ends.items k ≡ None) ↔ (k < length (opening c))) (omega arith) (only_openings opening report.channels report.ends.items merged c i within)) in
-    let none_less : length (opening c) ≡ length (opening c) - 0 = omega arith in
-    sym begins.1
-    ∙ ap (λ others. opening c ++ others) (sym (drop-append_seam (opening c) begins.0) ∙ (ap (drop (length (opening c))) begins.1 ∙ (ap (λ k. drop k h) none_less ∙ sym rest)))
+    sym (merged.begins c).1 ∙ ap (λ es. opening c ++ es) (sym (events_told (length (opening c)) (printed_on c report) (merged.begins c).0 (told_after opening report.channels report.ends.items c merged)))
 
 pub histories_told : {Y Z : Type 0} (opening : ℕ → List Event) (one : Report Y) (other : Report Z) (c : ℕ) → Merges opening one.channels (logs_of one.ends.items) → Merges opening other.channels (logs_of other.ends.items)
     → printed_on c one ≡ printed_on c other → history_on c one.channels ≡ history_on c other.channels
