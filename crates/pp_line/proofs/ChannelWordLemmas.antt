@@ -2,7 +2,7 @@
 use Rattle.std.proofs.Common.{◌≡◌, ◌≢◌, ℕ, ◌+◌, ◌/◌, ◌%◌, ◌^◌, ◌<◌, ◌==◌, ◌&&◌, Bool, true, false, List, [], ◌∷◌, ◌++◌, length, Option, Some, None, refl, sym, ap, ◌∙◌, subst, inl, inr, arith}
 use Rattle.std.specs.Prelude.{if◌then◌else◌, not, unwrap_or, ◌⊎◌}
 use Rattle.std.specs.List.{last_or}
-use Rattle.std.proofs.lemmas.Bool.{eq-eqb, ne_eqb, eqb-true}
+use Rattle.std.proofs.lemmas.Bool.{eq-eqb, ne_eqb, eqb-false, eqb-true}
 use Rattle.std.proofs.lemmas.List.{length_push}
 use Rattle.pp_channel.specs.declared.event.Event.{Event}
 use Rattle.pp_channel.specs.declared.chan_op.ChanOp.{ChanOp}
@@ -18,43 +18,27 @@ use Rattle.pp_channel.proofs.HistoryLemmas.{waiting_small}
 use Rattle.pp_channel.proofs.AnswerLemmas.{answered_where_none, ready_of_table, table_of_ready, none_without_ready, lawful_with_event, flags_by_table, word_by_table}
 
 -- what was packed is read again
-number_packed : (n : ℕ) (a f : Bool) (r : ℕ) → r < 2 ^ 12 → number_in (packed n (record { active = a; full = f }) r) ≡ n
-number_packed n true true r low = omega arith
-number_packed n true false r low = omega arith
-number_packed n false true r low = omega arith
-number_packed n false false r low = omega arith
+record IsPacked (n : ℕ) (flags : Flags) (r : ℕ) : Type 0 where
+  number : number_in (packed n flags r) ≡ n
+  register : register_in (packed n flags r) ≡ r
+  active : (packed n flags r / 2 ^ 13 % 2 == 1) ≡ flags.active
+  full : (packed n flags r / 2 ^ 12 % 2 == 1) ≡ flags.full
 
-register_packed : (n : ℕ) (a f : Bool) (r : ℕ) → r < 2 ^ 12 → register_in (packed n (record { active = a; full = f }) r) ≡ r
-register_packed n true true r low = omega arith
-register_packed n true false r low = omega arith
-register_packed n false true r low = omega arith
-register_packed n false false r low = omega arith
+is_packed : (n : ℕ) (a f : Bool) (r : ℕ) → r < 2 ^ 12 → IsPacked n (record { active = a; full = f }) r
+is_packed n true true r low = record { number = omega arith; register = omega arith; active = eq-eqb _ 1 (omega arith); full = eq-eqb _ 1 (omega arith) }
+is_packed n true false r low = record { number = omega arith; register = omega arith; active = eq-eqb _ 1 (omega arith); full = ne_eqb _ 1 (λ e. omega arith) }
+is_packed n false true r low = record { number = omega arith; register = omega arith; active = ne_eqb _ 1 (λ e. omega arith); full = eq-eqb _ 1 (omega arith) }
+is_packed n false false r low = record { number = omega arith; register = omega arith; active = ne_eqb _ 1 (λ e. omega arith); full = ne_eqb _ 1 (λ e. omega arith) }
 
-active_packed : (n : ℕ) (a f : Bool) (r : ℕ) → r < 2 ^ 12 → (packed n (record { active = a; full = f }) r / 2 ^ 13 % 2 == 1) ≡ a
-active_packed n true true r low = eq-eqb (packed n (record { active = true; full = true }) r / 2 ^ 13 % 2) 1 (omega arith)
-active_packed n true false r low = eq-eqb (packed n (record { active = true; full = false }) r / 2 ^ 13 % 2) 1 (omega arith)
-active_packed n false true r low = ne_eqb (packed n (record { active = false; full = true }) r / 2 ^ 13 % 2) 1 (λ e. omega arith)
-active_packed n false false r low = ne_eqb (packed n (record { active = false; full = false }) r / 2 ^ 13 % 2) 1 (λ e. omega arith)
-
-full_packed : (n : ℕ) (a f : Bool) (r : ℕ) → r < 2 ^ 12 → (packed n (record { active = a; full = f }) r / 2 ^ 12 % 2 == 1) ≡ f
-full_packed n true true r low = eq-eqb (packed n (record { active = true; full = true }) r / 2 ^ 12 % 2) 1 (omega arith)
-full_packed n false true r low = eq-eqb (packed n (record { active = false; full = true }) r / 2 ^ 12 % 2) 1 (omega arith)
-full_packed n true false r low = ne_eqb (packed n (record { active = true; full = false }) r / 2 ^ 12 % 2) 1 (λ e. omega arith)
-full_packed n false false r low = ne_eqb (packed n (record { active = false; full = false }) r / 2 ^ 12 % 2) 1 (λ e. omega arith)
-
-flags_packed : (n : ℕ) (g : Flags) (r : ℕ) → r < 2 ^ 12 → flags_in (packed n g r) ≡ g
-flags_packed n g r low =
-    ap (λ x. record { active = x; full = packed n g r / 2 ^ 12 % 2 == 1 }) (active_packed n g.active g.full r low) ∙ ap (λ x. record { active = g.active; full = x }) (full_packed n g.active g.full r low)
+word_is_packed : (h : List Event) → HasTwelveBitWords h → IsPacked (length h) (flags_of h) (unwrap_or (waiting h) 0)
+word_is_packed h bits = is_packed (length h) (active h) (full h) (unwrap_or (waiting h) 0) (waiting_small h bits)
 
 -- what the word of a history says of it, be the history lawful or not
 pub number_of_word : (h : List Event) → HasTwelveBitWords h → number_in (history_word h) ≡ length h
-number_of_word h bits = number_packed (length h) (active h) (full h) (unwrap_or (waiting h) 0) (waiting_small h bits)
+number_of_word h bits = (word_is_packed h bits).number
 
 pub flags_of_word : (h : List Event) → HasTwelveBitWords h → flags_in (history_word h) ≡ flags_of h
-flags_of_word h bits = flags_packed (length h) (flags_of h) (unwrap_or (waiting h) 0) (waiting_small h bits)
-
-register_of_word : (h : List Event) → HasTwelveBitWords h → register_in (history_word h) ≡ unwrap_or (waiting h) 0
-register_of_word h bits = register_packed (length h) (active h) (full h) (unwrap_or (waiting h) 0) (waiting_small h bits)
+flags_of_word h bits = let is = word_is_packed h bits in λ j. record { active = is.active j; full = is.full j }
 
 last_is : (w : ℕ) (ws : List ℕ) → Some (unwrap_or (last_or (Some w) ws) 0) ≡ last_or (Some w) ws
 last_is w [] = refl
@@ -70,7 +54,7 @@ waits_in true [] ts true is = absurd (omega (arith, eqb-true 0 (length ts + 1) i
 pub waiting_of_word : (h : List Event) → HasTwelveBitWords h → waiting_in (history_word h) ≡ waiting h
 waiting_of_word h bits =
     ap (λ g. if g.active && g.full then Some (register_in (history_word h)) else None) (flags_of_word h bits)
-    ∙ (ap (λ r. if active h && full h then Some r else None) (register_of_word h bits)
+    ∙ (ap (λ r. if active h && full h then Some r else None) ((word_is_packed h bits).register)
     ∙ waits_in (active h) (puts (last_stretch h)) (takes (last_stretch h)) (length (puts (last_stretch h)) == length (takes (last_stretch h)) + 1) refl)
 
 pub event_of_word : (op : ChanOp) (h : List Event) → HasTwelveBitWords h → event_by op (flags_in (history_word h)) (waiting_in (history_word h)) ≡ event_of op h
@@ -140,9 +124,6 @@ stays_either step (inl (f, is)) = subst Stays (sym is) tt
 stays_either step (inr (f, is)) = subst Stays (sym is) tt
 
 -- what each step says of the word
-below : (m n : ℕ) → (m == n) ≡ false → m ≢ n
-below m n differ same = let equal = eq-eqb m n same in let both : true ≡ false = sym equal ∙ differ in cc
-
 pub worn_by_table : (word : ℕ) (op : ChanOp) → WordStep.Worn ≡ step_from op word → (only_looks op ≡ false) × (number_in word ≡ greatest_number)
 worn_by_table word op is =
     let worn = by_step (only_looks op) (number_in word == greatest_number) (event_by op (flags_in word) (waiting_in word)) (is ∙ step_is op word) in (worn.0, eqb-true (number_in word) greatest_number worn.1)
@@ -158,7 +139,7 @@ pub shown_by_table : (word : ℕ) (op : ChanOp) (step : WordStep) → Stays step
     → (only_looks op ≡ false → number_in word ≢ greatest_number) × (event_by op (flags_in word) (waiting_in word) ≡ None)
 shown_by_table word op step stays is =
     let shown = by_step (only_looks op) (number_in word == greatest_number) (event_by op (flags_in word) (waiting_in word)) (subst Stays (is ∙ step_is op word) stays) in
-    (λ acts. below (number_in word) greatest_number (shown.0 acts), shown.1)
+    (λ acts. eqb-false (number_in word) greatest_number (shown.0 acts), shown.1)
   where
     by_step : (looks most : Bool) (o : Option Event) → Stays (step_if word looks most o) → (looks ≡ false → most ≡ false) × (o ≡ None)
     by_step true most None stays = (λ none. absurd cc, refl)
@@ -175,7 +156,7 @@ pub next_by_table : (word : ℕ) (op : ChanOp) (next : ℕ) (reply : Reply) (e :
 next_by_table word op next reply e is =
     let made = by_step (only_looks op) (number_in word == greatest_number) (event_by op (flags_in word) (waiting_in word)) (is ∙ step_is op word) in
     let acts = acts_where_made op (flags_in word) (waiting_in word) e made.1 in
-    (acts, below (number_in word) greatest_number (made.0 acts), made.1, made.2, made.3)
+    (acts, eqb-false (number_in word) greatest_number (made.0 acts), made.1, made.2, made.3)
   where
     made_by : (d : Event) → WordStep.Next next reply e ≡ step_shown word true (Some d) → (Some d ≡ Some e) × (next ≡ word_with word e) × (reply ≡ reply_made e)
     made_by d is =

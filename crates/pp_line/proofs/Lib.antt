@@ -1,4 +1,3 @@
-mod ListFacts
 mod CentralLemmas
 mod ViewLemmas
 mod RuleLemmas
@@ -9,6 +8,7 @@ mod LineKeeping
 mod MonotoneLemmas
 mod SeenLemmas
 -- facts of the definitions, which proofs of other crates cite
+pub mod ListFacts
 pub mod ChannelWordLemmas
 pub mod MergeLemmas
 pub mod LineKnowledge

@@ -1,5 +1,5 @@
 -- Lists read by place, joined end to end and added up, where one place is written.
-use Rattle.std.proofs.Common.{◌≡◌, ℕ, zero, suc, ◌+◌, ◌<◌, ◌≤◌, Bool, cond, List, [], ◌∷◌, ◌++◌, length, take, get_or, set, refl, sym, ap, ◌∙◌, subst, arith}
+use Rattle.std.proofs.Common.{◌≡◌, ℕ, zero, suc, ◌+◌, ◌<◌, ◌≤◌, Bool, cond, List, [], ◌∷◌, ◌++◌, length, take, get_or, set, replicate, refl, sym, ap, ◌∙◌, subst, arith}
 use mathlib.Core.Option.{some, some-injective, some-ne-none}
 use lib.ListN.{get_elem?}
 use Rattle.std.specs.List.{All, flat_map, sum_by, count_by}
@@ -9,6 +9,11 @@ use Rattle.std.proofs.lemmas.List.Elements.{All-head, All-tail, All-append, All-
 use Rattle.std.proofs.lemmas.List.Sums.{sum_by-cons, sum_by-append, sum_by-set, get_or-le-sum_by}
 
 module _ {A : Type 0} where
+  pub same_everywhere : (n i : ℕ) (x : A) → get_or (replicate n x) i x ≡ x
+  same_everywhere zero i x = refl
+  same_everywhere (suc n) zero x = refl
+  same_everywhere (suc n) (suc i) x = same_everywhere n i x
+
   pub read_at : (xs : List A) (i : ℕ) (x : A) → get_elem? xs i ≡ some x → (i < length xs) × (get_or xs i x ≡ x)
   read_at [] i x e = absurd (some-ne-none x (sym e))
   read_at (y ∷ ys) zero x e = (omega arith, some-injective y x e)

@@ -2,7 +2,7 @@
 use Rattle.std.proofs.Common.{◌≡◌, ◌≢◌, ℕ, ◌<◌, ◌≤◌, ltb, Bool, true, not, List, [], ◌∷◌, ◌++◌, length, take, drop, refl, sym, ap, ◌∙◌, subst, inl, inr, ⊎_elim, arith, append_assoc}
 use Rattle.std.specs.Prelude.{◌⊎◌, Option, None, Some}
 use Rattle.std.specs.List.{All, cons_option, filter, flat_map}
-use Rattle.std.proofs.lemmas.Bool.{cases_eq, cases_lt, eq-eqb, ne_eqb, lt-ltb, le-ltb}
+use Rattle.std.proofs.lemmas.Bool.{cases_eq, cases_lt, ne_eqb, lt-ltb, le-ltb}
 use Rattle.std.proofs.lemmas.List.{append-nil, length-append, drop_all, drop-append-le, take_at, take-append-le, take-append-drop}
 use Rattle.std.proofs.lemmas.List.Concat.{flat_map-append}
 use Rattle.std.proofs.lemmas.List.Elements.{All-weaker, All-map, filter_map-append}
@@ -14,11 +14,8 @@ use Rattle.pp_channel.specs.declared.event.Event.{Event}
 use Rattle.pp_line.specs.declared.entry.Entry.{Entry}
 use Rattle.pp_channel.specs.declared.seen.Seen.{Seen}
 use Rattle.pp_channel.specs.declared.seen.Seen.TheVariants.{Did, Saw}
-use Rattle.pp_channel.specs.declared.flags.Flags.{Flags}
 use Rattle.pp_channel.specs.Law.{IsPrefix}
-use Rattle.pp_channel.specs.Answer.{flags_of}
 use Rattle.pp_channel.specs.History.{history_on}
-use Rattle.pp_line.specs.LineLog.{event_entry, look_entry}
 use Rattle.pp_line.specs.Merge.{no_opening}
 use Rattle.pp_line.specs.Order.{made_at, made_on, ComesAfter, IsLegal, IsTotalOrderOf, entry_of, entries_among, extended, ExtendsEach, IsDrawnFrom}
 
@@ -40,39 +37,14 @@ legal_push before (x ∷ entries) entry all here =
           (subst (λ (h : List Event). ComesAfter h entry.number entry.what) (ap (λ h. before c ++ h) (made_more c (x ∷ []) entries) ∙ sym (append_assoc (before c) (made_on c (x ∷ [])) (made_on c entries))) here),
     )
 
--- a look at a channel as it is
-entries_look : (histories : List (List Event)) (order : List Entry) (c number : ℕ) (f : Flags) → number ≡ length (history_on c histories) → f ≡ flags_of (history_on c histories)
-    → IsTotalOrderOf no_opening histories order → IsTotalOrderOf no_opening histories (order ++ look_entry c number f ∷ [])
-entries_look histories order c number f counted shown is = record {
-  each_history = λ d. made_more d order (look_entry c number f ∷ []) ∙ (append-nil (made_on d order) ∙ is.each_history d);
-  legal = legal_push no_opening order (look_entry c number f) is.legal (counted ∙ ap length (sym (is.each_history c)), shown ∙ ap flags_of (sym (is.each_history c)));
-}
-
-pub order_look : (histories : List (List Event)) (order : List Access) (c number : ℕ) (f : Flags) → number ≡ length (history_on c histories) → f ≡ flags_of (history_on c histories)
-    → IsTotalOrderOf no_opening histories (entries_among order) → IsTotalOrderOf no_opening histories (entries_among (order ++ OnChannel (look_entry c number f) ∷ []))
-order_look histories order c number f counted shown is =
-    subst (IsTotalOrderOf no_opening histories) (sym (entries_more order (OnChannel (look_entry c number f) ∷ []))) (entries_look histories (entries_among order) c number f counted shown is)
-
--- the next event of a channel
-entries_event : (before after : List (List Event)) (order : List Entry) (c number : ℕ) (e : Event) → number ≡ length (history_on c before) → history_on c after ≡ history_on c before ++ e ∷ []
-    → ((d : ℕ) → d ≢ c → history_on d after ≡ history_on d before) → IsTotalOrderOf no_opening before order → IsTotalOrderOf no_opening after (order ++ event_entry c number e ∷ [])
-entries_event before after order c number e counted here elsewhere is = record {
-  each_history = λ d. made_more d order (event_entry c number e ∷ []) ∙ elim (cases_eq c d) [
-    | inl same ↦
-        let made : made_on d (event_entry c number e ∷ []) ≡ e ∷ [] = rw (eq-eqb c d same) refl in
-        let there : history_on d after ≡ history_on d before ++ e ∷ [] = subst (λ (k : ℕ). history_on k after ≡ history_on k before ++ e ∷ []) same here in
-        (λ j. is.each_history d j ++ made j) ∙ sym there
-    | inr other ↦
-        let made : made_on d (event_entry c number e ∷ []) ≡ [] = rw (ne_eqb c d other) refl in
-        (λ j. is.each_history d j ++ made j) ∙ (append-nil (history_on d before) ∙ sym (elsewhere d (λ same. other (sym same))))
-  ];
-  legal = legal_push no_opening order (event_entry c number e) is.legal (counted ∙ ap length (sym (is.each_history c)));
-}
-
-pub order_event : (before after : List (List Event)) (order : List Access) (c number : ℕ) (e : Event) → number ≡ length (history_on c before) → history_on c after ≡ history_on c before ++ e ∷ []
-    → ((d : ℕ) → d ≢ c → history_on d after ≡ history_on d before) → IsTotalOrderOf no_opening before (entries_among order) → IsTotalOrderOf no_opening after (entries_among (order ++ OnChannel (event_entry c number e) ∷ []))
-order_event before after order c number e counted here elsewhere is =
-    subst (IsTotalOrderOf no_opening after) (sym (entries_more order (OnChannel (event_entry c number e) ∷ []))) (entries_event before after (entries_among order) c number e counted here elsewhere is)
+-- the next entry of a channel, and what it makes
+pub order_more : (before after : List (List Event)) (order : List Access) (entry : Entry) → ComesAfter (history_on entry.channel before) entry.number entry.what → ((c : ℕ) → history_on c after ≡ history_on c before ++ made_on c (entry ∷ []))
+    → IsTotalOrderOf no_opening before (entries_among order) → IsTotalOrderOf no_opening after (entries_among (order ++ OnChannel entry ∷ []))
+order_more before after order entry comes grows is =
+    subst (IsTotalOrderOf no_opening after) (sym (entries_more order (OnChannel entry ∷ []))) (record {
+      each_history = λ c. made_more c (entries_among order) (entry ∷ []) ∙ (ap (λ h. h ++ made_on c (entry ∷ [])) (is.each_history c) ∙ sym (grows c));
+      legal = legal_push no_opening (entries_among order) entry is.legal (subst (λ (h : List Event). ComesAfter h entry.number entry.what) (sym (is.each_history entry.channel)) comes);
+    })
 
 -- what is no access to a channel
 pub order_beside : (histories : List (List Event)) (order : List Access) (access : Access) → entry_of access ≡ None → IsTotalOrderOf no_opening histories (entries_among order) → IsTotalOrderOf no_opening histories (entries_among (order ++ access ∷ []))

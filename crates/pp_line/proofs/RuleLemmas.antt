@@ -25,7 +25,7 @@ use Rattle.pp_line.specs.SharedWords.{word_place, IsViewOf, KeepsRule}
 use Rattle.pp_channel.specs.ChannelPlaces.{place_below}
 use Rattle.pp_line.proofs.ListFacts.{All-read, All-part, flat_map-set_same, count_by-parts, sum_by-write, sum_by-sole}
 use Rattle.pp_line.proofs.ChannelWordLemmas.{number_at_word, flags_of_word}
-use Rattle.pp_line.proofs.OrderLemmas.{order_look, extends_more, extends_push}
+use Rattle.pp_line.proofs.OrderLemmas.{order_more, extends_more, extends_push}
 use Rattle.pp_line.proofs.MergeLemmas.{once_inside, TellsOnce, tells_once, merges_by, times_within}
 use Rattle.pp_line.proofs.ViewLemmas.{view_finds, view_beside}
 
@@ -137,7 +137,7 @@ module _ (whole : ℕ) (words : List ℕ) (views : List LineView) (histories : L
       let n : ℕ = get_or words (word_place c) 0 in
       let flags : flags_in n ≡ flags_of (history_on c histories) = ap flags_in (k.words_are c names) ∙ flags_of_word (history_on c histories) (low_on c names) in
       rewritten id v (finds v c n) at refl refl (view_finds histories whole v c n (sym (k.words_are c names)) (word_on c names) (view_at id v at)) (OnChannel (look_by c n) ∷ [])
-      (order_look histories k.order c (number_in n) (flags_in n) (word_on c names) flags k.total) (extends_push k.order (OnChannel (look_by c n)) v.program_orders (extends_at id v at))
+      (order_more histories histories k.order (look_by c n) (word_on c names, flags) (λ d. sym (append-nil (history_on d histories))) k.total) (extends_push k.order (OnChannel (look_by c n)) v.program_orders (extends_at id v at))
 
   -- the view of a line that checked its shares
   abbrev pub check_kept : (id : ℕ) (v : LineView) → get_elem? views id ≡ some v → KeepsRule whole words (set views id (with_unrecorded_load v)) histories

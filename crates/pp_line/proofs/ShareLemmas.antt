@@ -1,5 +1,5 @@
 -- The shared words at the start, and shares that are given away and joined, keep the rule.
-use Rattle.std.proofs.Common.{◌≡◌, ℕ, zero, suc, ◌+◌, ◌^◌, ◌<◌, ◌≢◌, ⊎_elim, List, [], ◌∷◌, ◌++◌, length, get_or, set, replicate, refl, sym, ap, ◌∙◌, subst, arith}
+use Rattle.std.proofs.Common.{◌≡◌, ℕ, ◌+◌, ◌^◌, ◌<◌, ◌≢◌, ⊎_elim, List, [], ◌∷◌, ◌++◌, length, get_or, set, replicate, refl, sym, ap, ◌∙◌, subst, arith}
 use mathlib.Core.Option.{some}
 use lib.ListN.{get_elem?}
 use Rattle.std.specs.List.{All}
@@ -23,7 +23,7 @@ use Rattle.pp_line.specs.LineLog.{seen_on}
 use Rattle.pp_line.specs.SharedWords.{word_place, place_count, central_in, IsFound, IsViewOf, Rule}
 use Rattle.pp_channel.specs.ChannelPlaces.{place_below}
 use Rattle.pp_channel.proofs.HistoryLemmas.{lawful_empty}
-use Rattle.pp_line.proofs.ListFacts.{All-parts_set, flat_map-set_same, sum_by-write}
+use Rattle.pp_line.proofs.ListFacts.{All-parts_set, flat_map-set_same, same_everywhere, sum_by-write}
 use Rattle.pp_line.proofs.MergeLemmas.{once_past, TellsOnce, tells_once, merges_by, times_told-append}
 use Rattle.pp_line.proofs.ViewLemmas.{view_parent, view_child, view_joined, view_spent}
 use Rattle.pp_line.proofs.CentralLemmas.{OpenedWith, NoneSpent, opened_at, made_same, times_more, times_push, times_set, spent_set}
@@ -34,11 +34,6 @@ empty_order : (order : List Access) → ExtendsEach order ([] ∷ [])
 empty_order order = All-cons (λ (t : List Access). IsSubsequence t order) [] [] tt (All-nil (λ (t : List Access). IsSubsequence t order))
 
 -- the start
-same_everywhere : {A : Type 0} (n i : ℕ) (x : A) → get_or (replicate n x) i x ≡ x
-same_everywhere zero i x = refl
-same_everywhere (suc n) zero x = refl
-same_everywhere (suc n) (suc i) x = same_everywhere n i x
-
 first_histories : List (List Event)
 first_histories = replicate channel_count []
 

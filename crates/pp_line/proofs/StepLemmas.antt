@@ -7,7 +7,7 @@ use lib.ListN.{get_elem?}
 use prog.Atomic.{either}
 use Rattle.std.specs.Prelude.{IsTrue, MatchBool, slice_get}
 use Rattle.std.specs.List.{All}
-use Rattle.std.proofs.lemmas.List.{length-set, set-get_or, get_or-set_same, get_or-set_other, length_push}
+use Rattle.std.proofs.lemmas.List.{append-nil, length-set, set-get_or, get_or-set_same, get_or-set_other, length_push}
 use Rattle.std.proofs.lemmas.List.Elements.{All-set, All-push, All-weaker}
 use Rattle.atomic_table.specs.Table.{Me, step, keeps, stepped, Allows}
 use Rattle.pp_line.specs.declared.access.Access.{Access}
@@ -21,7 +21,7 @@ use Rattle.pp_line.specs.LineSteps.{IsLoad, IsWonExchange, IsLostExchange, IsSha
 use Rattle.pp_line.specs.LineSteps as steps
 use Rattle.pp_line.specs.LineView.{finds, makes, reads, writes, look_by, with_unrecorded_load, Knows}
 use Rattle.pp_line.specs.Merge.{IsTrueOf}
-use Rattle.pp_line.specs.Order.{ExtendsEach, AreMade, writes_among}
+use Rattle.pp_line.specs.Order.{ExtendsEach, AreMade, made_on, writes_among}
 use Rattle.pp_line.specs.LineLog.{seen_on, event_entry}
 use Rattle.pp_line.specs.SharedWords.{word_place, central_place, IsFound, IsViewOf, KeepsRule, KeepsCentral, Rule}
 use Rattle.pp_channel.specs.ChannelPlaces.{place_below, one_place}
@@ -29,7 +29,7 @@ use Rattle.pp_line.proofs.ListFacts.{read_written, All-parts_set, sum_by-write, 
 use Rattle.pp_line.proofs.MergeLemmas.{once_below, TellsOnce, tells_once, merges_by, times_told_push, told_elsewhere, told_next, Grow, slice_get_last, true_later, with_more, more_is, more_here, same_elsewhere, more_grow, length-with_more, All-with_more}
 use Rattle.pp_line.proofs.ViewLemmas.{view_later, view_makes, view_beside, later_found}
 use Rattle.pp_line.proofs.RuleLemmas.{events_in, all_events, shares_in, times-write, lawful_on, low_on, word_on, view_at, events_at, extends_at, found_kept, check_kept, rewritten, alone, knows, tells}
-use Rattle.pp_line.proofs.OrderLemmas.{order_event, order_beside, extends_more, extends_push}
+use Rattle.pp_line.proofs.OrderLemmas.{order_more, order_beside, extends_more, extends_push}
 use Rattle.pp_line.proofs.CentralLemmas.{look_goes_on, channel_advances, central_stays, central_at, opened_at, all_made, read_goes_on, write_goes_on}
 
 abbrev M : Type 0
@@ -140,6 +140,11 @@ module _ (whole : ℕ) (words : List ℕ) (views : List LineView) (histories : L
   unfolding after
   elsewhere d other = same_elsewhere histories c d (e ∷ []) names other
 
+  grows : (d : ℕ) → history_on d after ≡ history_on d histories ++ made_on d (event_entry c (length (history_on c histories)) e ∷ [])
+  grows d = dite (ℕ_discrete d c)
+      (λ (is : d ≡ c). rw (eq-eqb c d (sym is)) (here d is ∙ ap (λ k. history_on k histories ++ e ∷ []) (sym is)))
+      (λ (other : d ≢ c). rw (ne_eqb c d (λ same. other (sym same))) (elsewhere d other ∙ sym (append-nil (history_on d histories))))
+
   length_here : (d : ℕ) → d ≡ c → length (history_on d after) ≡ length (history_on c histories) + 1
   length_here d is = ap length (here d is) ∙ length_push (history_on c histories) e
 
@@ -191,7 +196,7 @@ module _ (whole : ℕ) (words : List ℕ) (views : List LineView) (histories : L
               (view_makes histories after whole v c n e grown names refl (length_here c refl) live (view_at whole words views histories k id v at))
               (All-weaker (IsViewOf histories whole) (IsViewOf after whole) (λ x f. view_later histories after whole x grown f) views k.views_are);
           order = k.order ++ more;
-          total = order_event histories after k.order c n e refl (here c refl) elsewhere k.total;
+          total = order_more histories after k.order (event_entry c n e) refl grows k.total;
           program_orders = All-set (λ x. ExtendsEach (k.order ++ more) x.program_orders) views id w (extends_push k.order (OnChannel (event_entry c n e)) v.program_orders (extends_at whole words views histories k id v at))
               (All-weaker (λ x. ExtendsEach k.order x.program_orders) (λ x. ExtendsEach (k.order ++ more) x.program_orders) (λ x. extends_more k.order more x.program_orders) views k.program_orders);
         },

@@ -1,13 +1,10 @@
 -- What a try of a step keeps of what a worker has.
-use Rattle.std.proofs.Common.{◌≡◌, ℕ, ◌+◌, ◌-◌, ◌*◌, ◌<◌, ◌≤◌, true, false, List, [], ◌∷◌, ◌++◌, length, map, take, Option, None, Some, refl, sym, ap, ◌∙◌, subst, inl, inr, arith}
-use Rattle.std.specs.Prelude.{IsTrue, slice_get}
+use Rattle.std.proofs.Common.{◌≡◌, ℕ, zero, suc, ◌+◌, ◌-◌, ◌*◌, ◌<◌, ◌≤◌, true, false, List, [], ◌∷◌, ◌++◌, length, map, take, Option, None, Some, refl, sym, ap, ◌∙◌, subst, inl, inr, arith}
+use Rattle.std.specs.Prelude.{◌⊎◌, IsTrue, slice_get}
 use Rattle.std.specs.List.{cons_option, last_or, filter_map}
 use Rattle.std.specs.Option.{option_map, option_or, option_to_list}
-use Rattle.std.proofs.lemmas.Bool.{both_ways, eq-eqb, cases_lt}
-use Rattle.std.proofs.lemmas.List.{append-nil, length-append, take-append-le}
-use Rattle.std.proofs.lemmas.Option.{slice_get_within, slice_get-get_or}
-use Rattle.std.proofs.Math.ListN.{get_or-append}
-use Rattle.std.proofs.Math.Seq.{take-append_seam, get_or-append_seam}
+use Rattle.std.proofs.lemmas.Bool.{both_ways, eq-eqb}
+use Rattle.std.proofs.lemmas.List.{append-nil, length-append}
 use Rattle.pp_channel.specs.AnswerLaws.{shown_makes_none}
 use Rattle.pp_word.specs.LastElements.{last_or-push}
 use Rattle.pp_line.specs.LineLog.{LogState, empty_log, appended, looked, with_seen, is_look_at, IsMonotone}
@@ -40,30 +37,20 @@ use Rattle.pp_runner.specs.Accesses.{accesses_by}
 use Rattle.pp_runner.specs.Labour.{HasEntries, HasLooked, HasMade, IsAtWork, IsAnswered, IsNoted, IsUnused}
 use Rattle.pp_runner.specs.End.{WasHeld, NeedsChannel}
 
--- what is true of each answer is true of each of one more
-each_front : (P : Processor → Answer → Type 0) (load : Processor) (xs : List Answer) (x : Answer) (i : ℕ) (y : Answer) → OfEachAnswer P load xs →
-    i < length xs → slice_get (xs ++ x ∷ []) i ≡ Some y → P (replayed load (take i (xs ++ x ∷ []))) y
-each_front P load xs x i y h below is =
-    let all : i < length (xs ++ x ∷ []) = omega (arith, length-append xs (x ∷ [])) in
-    let same : slice_get xs i ≡ Some y = slice_get-get_or xs i x below ∙ (ap Some (sym (get_or-append xs (x ∷ []) x i below)) ∙ (sym (slice_get-get_or (xs ++ x ∷ []) i x all) ∙ is)) in
-    subst (λ (ys : List Answer). P (replayed load ys) y) (sym (take-append-le i xs (x ∷ []) (omega arith))) (h i y same)
+-- what stands at a place of one more: what stood there, or the last
+got_push : {X : Type 0} (xs : List X) (x y : X) (i : ℕ) → slice_get (xs ++ x ∷ []) i ≡ Some y → ((slice_get xs i ≡ Some y) × (take i (xs ++ x ∷ []) ≡ take i xs)) ⊎ ((x ≡ y) × (take i (xs ++ x ∷ []) ≡ xs))
+got_push [] x y zero is = inr (cc, refl)
+got_push [] x y (suc i) is = absurd cc
+got_push (z ∷ xs) x y zero is = inl (is, refl)
+got_push (z ∷ xs) x y (suc i) is = elim (got_push xs x y i is) [ inl old ↦ inl (old.0, ap (λ l. z ∷ l) old.1) | inr last ↦ inr (last.0, ap (λ l. z ∷ l) last.1) ]
 
-each_last : (P : Processor → Answer → Type 0) (load : Processor) (xs : List Answer) (x : Answer) (i : ℕ) (y : Answer) → P (replayed load xs) x →
-    i ≡ length xs → slice_get (xs ++ x ∷ []) i ≡ Some y → P (replayed load (take i (xs ++ x ∷ []))) y
-each_last P load xs x i y p at is =
-    let all : length xs < length (xs ++ x ∷ []) = omega (arith, length-append xs (x ∷ [])) in
-    let last : Some x ≡ Some y = ap Some (sym (get_or-append_seam xs x [] x)) ∙ (sym (slice_get-get_or (xs ++ x ∷ []) (length xs) x all) ∙ (ap (slice_get (xs ++ x ∷ [])) (sym at) ∙ is)) in
-    let same : x ≡ y = cc in
-    subst (λ (z : Answer). P (replayed load (take i (xs ++ x ∷ []))) z) same
-    (subst (λ (ys : List Answer). P (replayed load ys) x) (sym (ap (λ k. take k (xs ++ x ∷ [])) at ∙ take-append_seam xs (x ∷ []))) p)
-
+-- what is true of each answer, and of one more
 each_push : (P : Processor → Answer → Type 0) (load : Processor) (xs : List Answer) (x : Answer) → OfEachAnswer P load xs → P (replayed load xs) x →
     OfEachAnswer P load (xs ++ x ∷ [])
 each_push P load xs x h p i y is =
-    let within : i < length (xs ++ x ∷ []) = slice_get_within (xs ++ x ∷ []) i y is in
-    elim (cases_lt i (length xs)) [
-      | inl below ↦ each_front P load xs x i y h below is
-      | inr above ↦ each_last P load xs x i y p (omega (arith, length-append xs (x ∷ []))) is
+    elim (got_push xs x y i is) [
+      | inl old ↦ subst (λ (ys : List Answer). P (replayed load ys) y) (sym old.1) (h i y old.0)
+      | inr last ↦ subst (λ (ys : List Answer). P (replayed load ys) y) (sym last.1) (subst (P (replayed load xs)) last.0 p)
     ]
 
 -- the events among sights
@@ -154,11 +141,8 @@ logged_as c number (Saw f) done look before after room b s held is = logged_saw 
 heads : {X : Type 0} (x y : X) → (x ∷ []) ≡ (y ∷ []) → x ≡ y
 heads x y e = cc
 
-nil_only : {X : Type 0} (x : X) → [] ≡ x ∷ [] → ⊥
-nil_only x e = cc
-
 none_held : (log : LogState) → IsHeldAt [] log → ⊥
-none_held log h = nil_only _ h.only
+none_held log h = let only = h.only in absurd cc
 
 -- without a sight the log stays, and has no look that held the processor
 logged_none : (number : ℕ) (done : List Entry) (look : Option Entry) (before after : LogState) → HasEntries done look before → (before.kept ≡ false → ⊥) → after ≡ before → IsLogged number [] done before after

@@ -10,23 +10,20 @@ use Rattle.pp_runner.specs.Labour.{IsAtWork, HasOperated, operations}
 use Rattle.pp_runner.specs.End.{WasHeld}
 use Rattle.pp_runner.proofs.labour.Labour.take_step.Goals as goal
 
-pub returns-then-is_err-clause-work : goal.returns-then-is_err-clause-work
-returns-then-is_err-clause-work g c =
-    subst (λ (xs : List Answer). IsAtWork c.args.load.now c.args.site.now.size c.args.site.now.limits.steps c.args.self.now.pp xs c.args.self.now.line) (sym c.reserve.ensures.items) c.requires.work
-
-pub returns-then-is_err-clause-same_line : goal.returns-then-is_err-clause-same_line
-returns-then-is_err-clause-same_line g c = same_line_still _
-
-pub returns-then-is_err-clause-operated : goal.returns-then-is_err-clause-operated
-returns-then-is_err-clause-operated g c =
-    operated_tries c.args.self.now.tries c.args.self.now.tries 0 (operations (need c.args.self.now.pp)) c.args.self.now.line c.args.self.now.line (omega arith) (operated_none _ _)
-
-pub returns-then-is_err-clause-ended : goal.returns-then-is_err-clause-ended
-returns-then-is_err-clause-ended g c =
-    end_memory c.args.site.now.limits.steps c.args.self.now.pp c.reserve.new.self.items c.args.self.now.line.log.entries c.requires.running (omega (arith, c.reserve.new.self.ok.0, c.reserve.ensures.len, c.requires.steps_left))
-
-pub returns-then-is_err-clause-worn : goal.returns-then-is_err-clause-worn
-returns-then-is_err-clause-worn g c = λ is. absurd cc
+pub returns-then-is_err : goal.returns-then-is_err
+returns-then-is_err g c = record {
+  work = subst (λ (xs : List Answer). IsAtWork c.args.load.now c.args.site.now.size c.args.site.now.limits.steps c.args.self.now.pp xs c.args.self.now.line) (sym c.reserve.ensures.items) c.requires.work;
+  same_line = same_line_still _;
+  operated = operated_tries c.args.self.now.tries c.args.self.now.tries 0 (operations (need c.args.self.now.pp)) c.args.self.now.line c.args.self.now.line (omega arith) (operated_none _ _);
+  few_tries = (omega arith, omega arith);
+  one_step = (refl, c.reserve.ensures.items);
+  patience = λ is. absurd cc;
+  moved = tt;
+  next_step = tt;
+  few = omega (arith, c.reserve.ensures.len, c.requires.steps_left);
+  ended = end_memory c.args.site.now.limits.steps c.args.self.now.pp c.reserve.new.self.items c.args.self.now.line.log.entries c.requires.running (omega (arith, c.reserve.new.self.ok.0, c.reserve.ensures.len, c.requires.steps_left));
+  worn = λ is. absurd cc;
+}
 
 pub loop-held-init : goal.loop-held-init
 loop-held-init g c = record {
@@ -40,61 +37,55 @@ loop-held-init g c = record {
   was = λ held. absurd (omega (arith, held));
 }
 
-pub try_step-requires-clause-running : goal.try_step-requires-clause-running
-try_step-requires-clause-running g c = ap (λ p. p.state) c.loop-held.invariant.same_pp ∙ c.requires.running
+pub try_step-requires : goal.try_step-requires
+try_step-requires g c = record {
+  running = ap (λ p. p.state) c.loop-held.invariant.same_pp ∙ c.requires.running;
+  steps_left = omega (arith, c.loop-held.self.answers.ok.0, c.args.self.now.answers.ok.0, ap (λ (xs : List Answer). length xs) c.loop-held.invariant.same_answers, c.requires.steps_left);
+  place = c.loop-held.invariant.place;
+  central = ap length c.loop-held.invariant.same_line.central ∙ c.requires.central;
+  work = c.loop-held.invariant.work;
+}
 
-pub try_step-requires-clause-steps_left : goal.try_step-requires-clause-steps_left
-try_step-requires-clause-steps_left g c =
-    omega (arith, c.loop-held.self.answers.ok.0, c.args.self.now.answers.ok.0, ap (λ (xs : List Answer). length xs) c.loop-held.invariant.same_answers, c.requires.steps_left)
+pub returns-in-Moved : goal.returns-in-Moved
+returns-in-Moved g c = record {
+  work = c.try_step.ensures.work;
+  same_line = same_line_twice c.args.self.now.line c.loop-held.self.line c.try_step.new.self.line c.loop-held.invariant.same_line c.try_step.ensures.same_line;
+  operated =
+      operated_more c.args.self.now.tries c.try_step.new.self.tries c.loop-held.held _ _ c.args.self.now.line c.loop-held.self.line c.try_step.new.self.line
+      (omega (arith, c.try_step.ensures.tries, c.loop-held.invariant.tries)) (ap (λ p. operations (need p)) c.loop-held.invariant.same_pp) c.loop-held.invariant.operated c.try_step.ensures.operated;
+  few_tries = (omega (arith, c.try_step.ensures.tries, c.loop-held.invariant.tries), omega (arith, c.try_step.ensures.tries, c.loop-held.invariant.tries, c.loop-held-test.true, c.patience-held-end.ensures));
+  one_step = tt;
+  patience = tt;
+  moved = omega (arith, c.try_step.ensures.moved c.in-Moved.is, c.loop-held.self.answers.ok.0, c.args.self.now.answers.ok.0, ap (λ (xs : List Answer). length xs) c.loop-held.invariant.same_answers);
+  next_step = search rules;
+  few = tt;
+  ended = tt;
+  worn = tt;
+}
 
-pub try_step-requires-clause-place : goal.try_step-requires-clause-place
-try_step-requires-clause-place g c = c.loop-held.invariant.place
-
-pub try_step-requires-clause-work : goal.try_step-requires-clause-work
-try_step-requires-clause-work g c = c.loop-held.invariant.work
-
-pub returns-in-Moved-clause-work : goal.returns-in-Moved-clause-work
-returns-in-Moved-clause-work g c = c.try_step.ensures.work
-
-pub returns-in-Moved-clause-same_line : goal.returns-in-Moved-clause-same_line
-returns-in-Moved-clause-same_line g c =
-    same_line_twice c.args.self.now.line c.loop-held.self.line c.try_step.new.self.line c.loop-held.invariant.same_line c.try_step.ensures.same_line
-
-pub returns-in-Moved-clause-operated : goal.returns-in-Moved-clause-operated
-returns-in-Moved-clause-operated g c =
-    operated_more c.args.self.now.tries c.try_step.new.self.tries c.loop-held.held _ _ c.args.self.now.line c.loop-held.self.line c.try_step.new.self.line
-    (omega (arith, c.try_step.ensures.tries, c.loop-held.invariant.tries)) (ap (λ p. operations (need p)) c.loop-held.invariant.same_pp) c.loop-held.invariant.operated c.try_step.ensures.operated
-
-pub returns-in-Moved-clause-moved : goal.returns-in-Moved-clause-moved
-returns-in-Moved-clause-moved g c =
-    omega (arith, c.try_step.ensures.moved c.in-Moved.is, c.loop-held.self.answers.ok.0, c.args.self.now.answers.ok.0, ap (λ (xs : List Answer). length xs) c.loop-held.invariant.same_answers)
-
-pub returns-in-Worn-clause-work : goal.returns-in-Worn-clause-work
-returns-in-Worn-clause-work g c = c.try_step.ensures.work
-
-pub returns-in-Worn-clause-same_line : goal.returns-in-Worn-clause-same_line
-returns-in-Worn-clause-same_line g c =
-    same_line_twice c.args.self.now.line c.loop-held.self.line c.try_step.new.self.line c.loop-held.invariant.same_line c.try_step.ensures.same_line
-
-pub returns-in-Worn-clause-operated : goal.returns-in-Worn-clause-operated
-returns-in-Worn-clause-operated g c =
-    operated_more c.args.self.now.tries c.try_step.new.self.tries c.loop-held.held _ _ c.args.self.now.line c.loop-held.self.line c.try_step.new.self.line
-    (omega (arith, c.try_step.ensures.tries, c.loop-held.invariant.tries)) (ap (λ p. operations (need p)) c.loop-held.invariant.same_pp) c.loop-held.invariant.operated c.try_step.ensures.operated
-
-pub returns-in-Worn-clause-few : goal.returns-in-Worn-clause-few
-returns-in-Worn-clause-few g c =
-    omega (arith, ap (λ v. vec_len v) (c.try_step.ensures.worn c.in-Worn.is).1, c.loop-held.self.answers.ok.0, c.args.self.now.answers.ok.0, ap (λ (xs : List Answer). length xs) c.loop-held.invariant.same_answers, c.requires.steps_left)
-
-pub returns-in-Worn-clause-ended : goal.returns-in-Worn-clause-ended
-returns-in-Worn-clause-ended g c =
-    let worn = c.try_step.ensures.worn c.in-Worn.is in
-    end_worn c.args.site.now.limits.steps c.try_step.new.self.pp c.try_step.new.self.answers.items c.try_step.new.self.line.log.entries (λ k. seen_on k c.try_step.new.self.line.view.seen)
-    (ap (λ p. p.state) (worn.0 ∙ c.loop-held.invariant.same_pp) ∙ c.requires.running)
-    (omega (arith, c.args.self.now.answers.ok.0, ap (λ v. length v.items) worn.1, ap (λ (xs : List Answer). length xs) c.loop-held.invariant.same_answers, c.requires.steps_left))
-    worn.2
-
-pub returns-in-Worn-clause-worn : goal.returns-in-Worn-clause-worn
-returns-in-Worn-clause-worn g c = λ is. (c.try_step.ensures.worn c.in-Worn.is).2
+pub returns-in-Worn : goal.returns-in-Worn
+returns-in-Worn g c = record {
+  work = c.try_step.ensures.work;
+  same_line = same_line_twice c.args.self.now.line c.loop-held.self.line c.try_step.new.self.line c.loop-held.invariant.same_line c.try_step.ensures.same_line;
+  operated =
+      operated_more c.args.self.now.tries c.try_step.new.self.tries c.loop-held.held _ _ c.args.self.now.line c.loop-held.self.line c.try_step.new.self.line
+      (omega (arith, c.try_step.ensures.tries, c.loop-held.invariant.tries)) (ap (λ p. operations (need p)) c.loop-held.invariant.same_pp) c.loop-held.invariant.operated c.try_step.ensures.operated;
+  few_tries = (omega (arith, c.try_step.ensures.tries, c.loop-held.invariant.tries), omega (arith, c.try_step.ensures.tries, c.loop-held.invariant.tries, c.loop-held-test.true, c.patience-held-end.ensures));
+  one_step =
+      let worn = c.try_step.ensures.worn c.in-Worn.is in
+      (worn.0 ∙ c.loop-held.invariant.same_pp, ap (λ v. v.items) worn.1 ∙ c.loop-held.invariant.same_answers);
+  patience = λ is. absurd cc;
+  moved = tt;
+  next_step = tt;
+  few = omega (arith, ap (λ v. vec_len v) (c.try_step.ensures.worn c.in-Worn.is).1, c.loop-held.self.answers.ok.0, c.args.self.now.answers.ok.0, ap (λ (xs : List Answer). length xs) c.loop-held.invariant.same_answers, c.requires.steps_left);
+  ended =
+      let worn = c.try_step.ensures.worn c.in-Worn.is in
+      end_worn c.args.site.now.limits.steps c.try_step.new.self.pp c.try_step.new.self.answers.items c.try_step.new.self.line.log.entries (λ k. seen_on k c.try_step.new.self.line.view.seen)
+      (ap (λ p. p.state) (worn.0 ∙ c.loop-held.invariant.same_pp) ∙ c.requires.running)
+      (omega (arith, c.args.self.now.answers.ok.0, ap (λ v. length v.items) worn.1, ap (λ (xs : List Answer). length xs) c.loop-held.invariant.same_answers, c.requires.steps_left))
+      worn.2;
+  worn = λ is. (c.try_step.ensures.worn c.in-Worn.is).2;
+}
 
 pub loop-held-preserved : goal.loop-held-preserved
 loop-held-preserved g c =
@@ -110,50 +101,30 @@ loop-held-preserved g c =
       was = λ again. held.2;
     }
 
-pub returns-clause-work : goal.returns-clause-work
-returns-clause-work g c = c.loop-held.invariant.work
-
-pub returns-clause-same_line : goal.returns-clause-same_line
-returns-clause-same_line g c = c.loop-held.invariant.same_line
-
-pub returns-clause-operated : goal.returns-clause-operated
-returns-clause-operated g c =
-    operated_tries c.args.self.now.tries c.loop-held.self.tries c.loop-held.held (operations (need c.args.self.now.pp)) c.args.self.now.line c.loop-held.self.line
-    c.loop-held.invariant.tries c.loop-held.invariant.operated
-
-pub returns-clause-patience : goal.returns-clause-patience
-returns-clause-patience g c = λ is.
-    let all : c.loop-held.held ≡ c.args.site.now.limits.patience = omega (arith, c.loop-held.auto.held-end, c.patience-held-end.ensures, c.loop-held-test.false) in
-    let was = c.loop-held.invariant.was (omega (arith, c.patience-held-end.ensures, c.loop-held-test.false)) in
-    let now : HasOperated c.loop-held.held c.args.self.now.line c.loop-held.self.line =
-    operated_held c.loop-held.held c.args.self.now.pp c.loop-held.self.line.log.entries c.args.self.now.line c.loop-held.self.line
-    (subst (λ (pp : Processor). WasHeld pp c.loop-held.self.line.log.entries) c.loop-held.invariant.same_pp was) c.loop-held.invariant.operated in
-    (c.loop-held.invariant.tries ∙ ap (λ n. c.args.self.now.tries + n) all, subst (λ (n : ℕ). HasOperated n c.args.self.now.line c.loop-held.self.line) all now)
-
-pub returns-clause-few : goal.returns-clause-few
-returns-clause-few g c =
-    omega (arith, c.loop-held.self.answers.ok.0, c.args.self.now.answers.ok.0, ap (λ (xs : List Answer). length xs) c.loop-held.invariant.same_answers, c.requires.steps_left)
-
-pub returns-clause-ended : goal.returns-clause-ended
-returns-clause-ended g c =
-    end_patience c.args.site.now.limits.steps c.loop-held.self.pp c.loop-held.self.answers.items c.loop-held.self.line.log.entries
-    (ap (λ p. p.state) c.loop-held.invariant.same_pp ∙ c.requires.running)
-    (omega (arith, c.args.self.now.answers.ok.0, ap (λ (xs : List Answer). length xs) c.loop-held.invariant.same_answers, c.requires.steps_left))
-    (c.loop-held.invariant.was (omega (arith, c.patience-held-end.ensures, c.loop-held-test.false)))
-
-pub returns-clause-worn : goal.returns-clause-worn
-returns-clause-worn g c = λ is. absurd cc
-
-pub returns-then-is_err-clause-one_step : goal.returns-then-is_err-clause-one_step
-returns-then-is_err-clause-one_step g c = (refl, c.reserve.ensures.items)
-
-pub returns-in-Worn-clause-one_step : goal.returns-in-Worn-clause-one_step
-returns-in-Worn-clause-one_step g c =
-    let worn = c.try_step.ensures.worn c.in-Worn.is in
-    (worn.0 ∙ c.loop-held.invariant.same_pp, ap (λ v. v.items) worn.1 ∙ c.loop-held.invariant.same_answers)
-
-pub returns-clause-one_step : goal.returns-clause-one_step
-returns-clause-one_step g c = (c.loop-held.invariant.same_pp, c.loop-held.invariant.same_answers)
-
-pub try_step-requires-clause-central : goal.try_step-requires-clause-central
-try_step-requires-clause-central g c = ap length c.loop-held.invariant.same_line.central ∙ c.requires.central
+pub returns : goal.returns
+returns g c = record {
+  work = c.loop-held.invariant.work;
+  same_line = c.loop-held.invariant.same_line;
+  operated =
+      operated_tries c.args.self.now.tries c.loop-held.self.tries c.loop-held.held (operations (need c.args.self.now.pp)) c.args.self.now.line c.loop-held.self.line
+      c.loop-held.invariant.tries c.loop-held.invariant.operated;
+  few_tries = (omega (arith, c.loop-held.invariant.tries), omega (arith, c.loop-held.invariant.tries, c.loop-held.auto.held-end, c.patience-held-end.ensures));
+  one_step = (c.loop-held.invariant.same_pp, c.loop-held.invariant.same_answers);
+  patience =
+      λ is.
+      let all : c.loop-held.held ≡ c.args.site.now.limits.patience = omega (arith, c.loop-held.auto.held-end, c.patience-held-end.ensures, c.loop-held-test.false) in
+      let was = c.loop-held.invariant.was (omega (arith, c.patience-held-end.ensures, c.loop-held-test.false)) in
+      let now : HasOperated c.loop-held.held c.args.self.now.line c.loop-held.self.line =
+      operated_held c.loop-held.held c.args.self.now.pp c.loop-held.self.line.log.entries c.args.self.now.line c.loop-held.self.line
+      (subst (λ (pp : Processor). WasHeld pp c.loop-held.self.line.log.entries) c.loop-held.invariant.same_pp was) c.loop-held.invariant.operated in
+      (c.loop-held.invariant.tries ∙ ap (λ n. c.args.self.now.tries + n) all, subst (λ (n : ℕ). HasOperated n c.args.self.now.line c.loop-held.self.line) all now);
+  moved = tt;
+  next_step = tt;
+  few = omega (arith, c.loop-held.self.answers.ok.0, c.args.self.now.answers.ok.0, ap (λ (xs : List Answer). length xs) c.loop-held.invariant.same_answers, c.requires.steps_left);
+  ended =
+      end_patience c.args.site.now.limits.steps c.loop-held.self.pp c.loop-held.self.answers.items c.loop-held.self.line.log.entries
+      (ap (λ p. p.state) c.loop-held.invariant.same_pp ∙ c.requires.running)
+      (omega (arith, c.args.self.now.answers.ok.0, ap (λ (xs : List Answer). length xs) c.loop-held.invariant.same_answers, c.requires.steps_left))
+      (c.loop-held.invariant.was (omega (arith, c.patience-held-end.ensures, c.loop-held-test.false)));
+  worn = λ is. absurd cc;
+}

@@ -1,4 +1,4 @@
-use Rattle.std.proofs.Common.{◌≡◌, ℕ, List, length, refl, sym, ◌∙◌, subst, arith}
+use Rattle.std.proofs.Common.{◌≡◌, ℕ, List, length, refl, sym, ◌∙◌, subst, arith, rules}
 use Rattle.pp_machine.specs.NeedAndEffect.{need}
 use Rattle.pp_machine.specs.declared.answer.Answer.{Answer}
 use Rattle.pp_machine.specs.declared.need.Need.{Need}
@@ -6,26 +6,22 @@ use Rattle.pp_runner.specs.Labour.{IsAtWork, IsAnswered}
 use Rattle.pp_runner.proofs.LabourLemmas.{work_moved, work_held, work_worn}
 use Rattle.pp_runner.proofs.labour.Labour.try_step.Goals as goal
 
-pub returns-in-Held-clause-work : goal.returns-in-Held-clause-work
-returns-in-Held-clause-work g c =
-    let told : IsAnswered c.args.site.now.size (need c.args.self.now.pp) c.in-Ok.answer c.args.self.now.line c.ask-told.new.line =
-    subst (λ (size : ℕ). IsAnswered size (need c.args.self.now.pp) c.in-Ok.answer c.args.self.now.line c.ask-told.new.line) c.requires.central
-    (subst (λ (n : Need). IsAnswered (length c.args.self.now.line.view.central) n c.in-Ok.answer c.args.self.now.line c.ask-told.new.line) c.wants.ensures.need (rw c.in-Ok.is at c.ask-told.ensures.answered)) in
-    (work_held c.args.load.now c.args.site.now.size c.args.site.now.limits.steps c.args.self.now.pp c.give.new.self c.args.self.now.answers.items c.in-Ok.answer c.args.self.now.line c.ask-told.new.line
-    c.requires.work (omega (arith, c.args.self.now.answers.ok.0, c.requires.steps_left)) told (c.give.ensures.held_by_channel c.in-Held.is) (c.give.ensures.held_changes_nothing c.in-Held.is)).work
-
-pub returns-in-Held-clause-held : goal.returns-in-Held-clause-held
-returns-in-Held-clause-held g c =
+pub returns-in-Held : goal.returns-in-Held
+returns-in-Held g c =
     let told : IsAnswered c.args.site.now.size (need c.args.self.now.pp) c.in-Ok.answer c.args.self.now.line c.ask-told.new.line =
     subst (λ (size : ℕ). IsAnswered size (need c.args.self.now.pp) c.in-Ok.answer c.args.self.now.line c.ask-told.new.line) c.requires.central
     (subst (λ (n : Need). IsAnswered (length c.args.self.now.line.view.central) n c.in-Ok.answer c.args.self.now.line c.ask-told.new.line) c.wants.ensures.need (rw c.in-Ok.is at c.ask-told.ensures.answered)) in
     let same : c.give.new.self ≡ c.args.self.now.pp = c.give.ensures.held_changes_nothing c.in-Held.is in
-    λ e. (
-      same,
-      refl,
-      (work_held c.args.load.now c.args.site.now.size c.args.site.now.limits.steps c.args.self.now.pp c.give.new.self c.args.self.now.answers.items c.in-Ok.answer c.args.self.now.line c.ask-told.new.line
-          c.requires.work (omega (arith, c.args.self.now.answers.ok.0, c.requires.steps_left)) told (c.give.ensures.held_by_channel c.in-Held.is) same).was,
-    )
+    let held = work_held c.args.load.now c.args.site.now.size c.args.site.now.limits.steps c.args.self.now.pp c.give.new.self c.args.self.now.answers.items c.in-Ok.answer c.args.self.now.line c.ask-told.new.line
+    c.requires.work (omega (arith, c.args.self.now.answers.ok.0, c.requires.steps_left)) told (c.give.ensures.held_by_channel c.in-Held.is) same in record {
+      work = held.work;
+      same_line = c.ask-told.ensures.same_line;
+      operated = search rules;
+      tries = refl;
+      moved = λ is. absurd cc;
+      held = λ is. (same, refl, held.was);
+      worn = λ is. absurd cc;
+    }
 
 pub returns-in-Moved-clause-work : goal.returns-in-Moved-clause-work
 returns-in-Moved-clause-work g c =
