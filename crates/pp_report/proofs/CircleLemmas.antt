@@ -6,12 +6,14 @@ use Rattle.std.proofs.lemmas.List.{length-append}
 use Rattle.std.proofs.lemmas.List.Elements.{All-cons, All-nil, All-replicate}
 use Rattle.std.proofs.lemmas.List.Kept.{AllPairs-cons}
 use Rattle.pp_word.specs.Subsequence.{IsSubsequence}
-use Rattle.pp_word.specs.Subsequences.{stands_after}
+use Rattle.pp_word.specs.Subsequences.{stands_after, stands_through, stands_whole}
 use Rattle.pp_channel.specs.ChannelNo.{channel_index, names_channel}
 use Rattle.pp_channel.specs.ChannelPlaces.{one_place}
 use Rattle.pp_channel.specs.History.{AreHistories, HasTwelveBitWord, HasTwelveBitWords, IsLawful, history_on}
 use Rattle.pp_line.specs.LineLog.{IsFollowedBy, IsMonotone, event_entry}
 use Rattle.pp_line.specs.Merge.{IsTrueOf, Merges, no_opening, times_logged}
+use Rattle.pp_line.proofs.MergeLemmas.{TellsOnce, merges_by, once_below, once_past}
+use Rattle.pp_line.proofs.ListFacts.{same_everywhere}
 use Rattle.pp_line.specs.Order.{IsLegal, ComesAfter, IsTotalOrderOf, made_on}
 use Rattle.pp_line.specs.declared.entry.Entry.{Entry}
 use Rattle.pp_channel.specs.declared.seen.Seen.{Seen}
@@ -71,23 +73,21 @@ are_monotone = (
 abbrev both_logs : List Entry
 both_logs = one_log ++ other_log
 
-once_first : (number : ℕ) → number < 3 → times_logged 1 number both_logs ≡ 1
-once_first zero inside = refl
-once_first (suc zero) inside = refl
-once_first (suc (suc zero)) inside = refl
-once_first (suc (suc (suc n))) inside = absurd (omega (arith, inside))
+told_first : (number : ℕ) → times_logged 1 number both_logs ≡ once_below number 3
+told_first zero = refl
+told_first (suc zero) = refl
+told_first (suc (suc zero)) = refl
+told_first (suc (suc (suc n))) =
+    let k = suc (suc (suc n)) in
+    rw (ne_eqb 0 k (λ is. omega (arith, is)), ne_eqb 1 k (λ is. omega (arith, is)), ne_eqb 2 k (λ is. omega (arith, is))) (sym (once_past k 3 (omega arith)))
 
-once_second : (number : ℕ) → number < 3 → times_logged 2 number both_logs ≡ 1
-once_second zero inside = refl
-once_second (suc zero) inside = refl
-once_second (suc (suc zero)) inside = refl
-once_second (suc (suc (suc n))) inside = absurd (omega (arith, inside))
-
-no_more_first : (number : ℕ) → 3 ≤ number → times_logged 1 number both_logs ≡ 0
-no_more_first number past = rw (ne_eqb 0 number (λ is. omega (arith, is, past)), ne_eqb 1 number (λ is. omega (arith, is, past)), ne_eqb 2 number (λ is. omega (arith, is, past))) refl
-
-no_more_second : (number : ℕ) → 3 ≤ number → times_logged 2 number both_logs ≡ 0
-no_more_second number past = rw (ne_eqb 0 number (λ is. omega (arith, is, past)), ne_eqb 1 number (λ is. omega (arith, is, past)), ne_eqb 2 number (λ is. omega (arith, is, past))) refl
+told_second : (number : ℕ) → times_logged 2 number both_logs ≡ once_below number 3
+told_second zero = refl
+told_second (suc zero) = refl
+told_second (suc (suc zero)) = refl
+told_second (suc (suc (suc n))) =
+    let k = suc (suc (suc n)) in
+    rw (ne_eqb 0 k (λ is. omega (arith, is)), ne_eqb 1 k (λ is. omega (arith, is)), ne_eqb 2 k (λ is. omega (arith, is))) (sym (once_past k 3 (omega arith)))
 
 never_elsewhere : (c number : ℕ) → c ≢ 1 → c ≢ 2 → times_logged c number both_logs ≡ 0
 never_elsewhere c number first second = rw (ne_eqb 1 c (λ is. first (sym is)), ne_eqb 2 c (λ is. second (sym is))) refl
@@ -101,16 +101,11 @@ on_second : history_on 2 histories_of_circle ≡ second_history
 unfolding channel_index
 on_second = refl
 
-same_at : {X : Type 0} (x : X) (n k : ℕ) → get_or (replicate n x) k x ≡ x
-same_at x zero k = refl
-same_at x (suc n) zero = refl
-same_at x (suc n) (suc k) = same_at x n k
-
 at_place : (place : ℕ) → place ≢ 1 → place ≢ 2 → get_or histories_of_circle place [] ≡ []
 at_place zero first second = refl
 at_place (suc zero) first second = absurd (first refl)
 at_place (suc (suc zero)) first second = absurd (second refl)
-at_place (suc (suc (suc k))) first second = same_at [] 21 k
+at_place (suc (suc (suc k))) first second = same_everywhere 21 k []
 
 first_place : (c : ℕ) → channel_index c ≡ 1 → c ≡ 1
 unfolding channel_index names_channel
@@ -123,23 +118,16 @@ second_place c is = one_place 2 c refl is
 on_others : (c : ℕ) → c ≢ 1 → c ≢ 2 → history_on c histories_of_circle ≡ []
 on_others c first second = at_place (channel_index c) (λ is. first (first_place c is)) (λ is. second (second_place c is))
 
-once : (c number : ℕ) → number < length (history_on c histories_of_circle) → times_logged c number both_logs ≡ 1
-once c number inside =
+tells_both : TellsOnce histories_of_circle both_logs
+tells_both c number =
+    let P : ℕ → Type 0 = λ d. times_logged d number both_logs ≡ once_below number (length (history_on d histories_of_circle)) in
     elim (cases_eq c 1) [
-      | inl first ↦ subst (λ (d : ℕ). times_logged d number both_logs ≡ 1) (sym first) (once_first number (omega (arith, inside, ap (λ d. length (history_on d histories_of_circle)) first ∙ ap length on_first)))
+      | inl first ↦ subst P (sym first) (told_first number ∙ ap (λ h. once_below number (length h)) (sym on_first))
       | inr other ↦ elim (cases_eq c 2) [
-        | inl second ↦ subst (λ (d : ℕ). times_logged d number both_logs ≡ 1) (sym second) (once_second number (omega (arith, inside, ap (λ d. length (history_on d histories_of_circle)) second ∙ ap length on_second)))
-        | inr none ↦ let empty = ap length (on_others c other none) in absurd (omega (arith, inside, empty))
-      ]
-    ]
-
-never_past : (c number : ℕ) → length (history_on c histories_of_circle) ≤ number → times_logged c number both_logs ≡ 0
-never_past c number past =
-    elim (cases_eq c 1) [
-      | inl first ↦ subst (λ (d : ℕ). times_logged d number both_logs ≡ 0) (sym first) (no_more_first number (omega (arith, past, ap (λ d. length (history_on d histories_of_circle)) first ∙ ap length on_first)))
-      | inr other ↦ elim (cases_eq c 2) [
-        | inl second ↦ subst (λ (d : ℕ). times_logged d number both_logs ≡ 0) (sym second) (no_more_second number (omega (arith, past, ap (λ d. length (history_on d histories_of_circle)) second ∙ ap length on_second)))
-        | inr none ↦ never_elsewhere c number other none
+        | inl second ↦ subst P (sym second) (told_second number ∙ ap (λ h. once_below number (length h)) (sym on_second))
+        | inr none ↦
+            let empty = ap length (on_others c other none) in
+            never_elsewhere c number other none ∙ sym (once_past number (length (history_on c histories_of_circle)) (omega (arith, empty)))
       ]
     ]
 
@@ -156,17 +144,11 @@ all_true =
     (entries_true (event_entry 2 0 Event.Activate) (event_entry 2 2 (Event.Take 7)) (event_entry 1 1 (Event.Put 5)) [] refl refl refl (All-nil (IsTrueOf histories_of_circle)))
 
 pub are_merged : Merges no_opening histories_of_circle (one_log ++ other_log)
-are_merged = record {
-  once = λ c number from inside. once c number inside;
-  no_other = λ c number where_. elim where_ [ inl before ↦ absurd (omega (arith, before)) | inr past ↦ never_past c number past ];
-  begins = λ c. (history_on c histories_of_circle, refl);
-  entries_true = all_true;
-}
+are_merged = merges_by histories_of_circle both_logs tells_both all_true
 
 -- what comes later in a log comes later in an order
 stands_tail : {X : Type 0} (x : X) (xs ys : List X) → IsSubsequence (x ∷ xs) ys → IsSubsequence xs ys
-stands_tail x xs [] h = absurd h
-stands_tail x xs (y ∷ ys) h = elim h [ inl p ↦ stands_after xs y ys p.1 | inr q ↦ stands_after xs y ys (stands_tail x xs ys q) ]
+stands_tail x xs ys h = stands_through xs (x ∷ xs) ys (stands_after xs x xs (stands_whole xs)) h
 
 counted : (before : List Event) (number : ℕ) (what : Seen) → ComesAfter before number what → number ≡ length before
 counted before number (Did e) comes = comes

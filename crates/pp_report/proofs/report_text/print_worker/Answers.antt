@@ -13,15 +13,14 @@ found g c =
 missing : (g : _) (c : goal.In_default g) → slice_get c.args.workers.now (processor_index c.args.n) ≡ None
 missing g c = rw (← c.index.ensures.place) (slice_get_past c.args.workers.now c.index.result c.in_default.ensures.lookup.3)
 
-pub returns-in-Some-clause-text : goal.returns-in-Some-clause-text
-returns-in-Some-clause-text g c =
-    rw (found g c) c.print_worker_line.ensures.text
+pub returns-in-Some : goal.returns-in-Some
+returns-in-Some g c = record {
+  text = rw (found g c) c.print_worker_line.ensures.text;
+  fits = rw (found g c) c.print_worker_line.ensures.fits;
+}
 
-pub returns-in-Some-clause-fits : goal.returns-in-Some-clause-fits
-returns-in-Some-clause-fits g c = rw (found g c) c.print_worker_line.ensures.fits
-
-pub returns-in_default-clause-text : goal.returns-in_default-clause-text
-returns-in_default-clause-text g c = rw (missing g c) (prints_nothing _ _)
-
-pub returns-in_default-clause-fits : goal.returns-in_default-clause-fits
-returns-in_default-clause-fits g c = rw (missing g c) tt
+pub returns-in_default : goal.returns-in_default
+returns-in_default g c = record {
+  text = rw (missing g c) (prints_nothing _ _);
+  fits = rw (missing g c) tt;
+}

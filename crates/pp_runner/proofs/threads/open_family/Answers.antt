@@ -30,13 +30,10 @@ loop-count-preserved g c =
       made = omega (arith, c.in_ok-push.ensures.len, c.loop-count.invariant.made);
     }
 
-pub returns-clause-each_processor : goal.returns-clause-each_processor
-returns-clause-each_processor g c = let many = (c.processors-processors.ensures ∙ ap (λ p. processors_in p) c.profile.ensures) in omega (arith, many, c.loop-count.invariant.made, c.loop-count-test.false, c.loop-count.auto.count-end)
-
-pub returns-clause-fresh : goal.returns-clause-fresh
-returns-clause-fresh g c = c.loop-count.invariant.fresh
-
-pub returns-clause-first : goal.returns-clause-first
-returns-clause-first g c =
-    let many = (c.processors-processors.ensures ∙ ap (λ p. processors_in p) c.profile.ensures) in
-    subst (λ (some : ℕ). HasOpened c.args.machine.now (processors_in c.args.machine.now.profile + 1) some c.loop-count.first) (omega (arith, many, c.loop-count-test.false, c.loop-count.auto.count-end)) c.loop-count.invariant.opened
+pub returns : goal.returns
+returns g c =
+    let many = (c.processors-processors.ensures ∙ ap (λ p. processors_in p) c.profile.ensures) in record {
+      each_processor = omega (arith, many, c.loop-count.invariant.made, c.loop-count-test.false, c.loop-count.auto.count-end);
+      fresh = c.loop-count.invariant.fresh;
+      first = subst (λ (some : ℕ). HasOpened c.args.machine.now (processors_in c.args.machine.now.profile + 1) some c.loop-count.first) (omega (arith, many, c.loop-count-test.false, c.loop-count.auto.count-end)) c.loop-count.invariant.opened;
+    }

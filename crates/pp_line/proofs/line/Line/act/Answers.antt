@@ -19,12 +19,6 @@ rising_acted line c op r after within acted monotone =
     subst (λ (log : LogState). IsMonotone log.entries) (sym (ap (λ (l : LineState). l.log) acted.after_is))
     (rising_answer line.view.seen line.log c r.number within (number_later line after c op r acted) monotone op r.reply)
 
--- a worn channel
-pub returns-in-Worn-clause-worn : goal.returns-in-Worn-clause-worn
-returns-in-Worn-clause-worn g c =
-    let load = c.load-word.ensures in
-    worn_by_load _ load.load load.log_before c.args.op c.load-word.new.self (c.in-Worn.ensures).table (record { log_is = load.log; view_is = refl; table_is = load.table; log_of = load.log_after })
-
 -- a look, or an operation that is not ready
 pub look-requires-clause-found : goal.look-requires-clause-found
 look-requires-clause-found g c =
@@ -67,20 +61,16 @@ returns-clause-ok g c =
 pub returns-clause-monotone : goal.returns-clause-monotone
 returns-clause-monotone g c monotone = rising_acted _ c.args.channel c.args.op _ _ c.load-word.ensures.log_before.within (returns-clause-ok g c) monotone
 
-pub returns-in-Worn-clause-ok : goal.returns-in-Worn-clause-ok
-returns-in-Worn-clause-ok g c = tt
-
-pub returns-in-Worn-clause-monotone : goal.returns-in-Worn-clause-monotone
-returns-in-Worn-clause-monotone g c monotone = subst (λ (log : LogState). IsMonotone log.entries) (sym c.load-word.ensures.log) monotone
-
-pub returns-in-Worn-clause-shares : goal.returns-in-Worn-clause-shares
-returns-in-Worn-clause-shares g c = ap (λ (line : LineState). line.view.shares) (returns-in-Worn-clause-worn g c).after_is
-
-pub returns-in-Worn-clause-whole : goal.returns-in-Worn-clause-whole
-returns-in-Worn-clause-whole g c = ap (λ (line : LineState). line.view.whole) (returns-in-Worn-clause-worn g c).after_is
-
-pub returns-in-Worn-clause-table : goal.returns-in-Worn-clause-table
-returns-in-Worn-clause-table g c = ap (λ (line : LineState). line.table) (returns-in-Worn-clause-worn g c).after_is
-
-pub returns-in-Worn-clause-within : goal.returns-in-Worn-clause-within
-returns-in-Worn-clause-within g c = c.load-word.ensures.log_after.within
+-- a worn channel
+pub returns-in-Worn : goal.returns-in-Worn
+returns-in-Worn g c =
+    let load = c.load-word.ensures in
+    let worn = worn_by_load _ load.load load.log_before c.args.op c.load-word.new.self (c.in-Worn.ensures).table (record { log_is = load.log; view_is = refl; table_is = load.table; log_of = load.log_after }) in record {
+      ok = tt;
+      worn = worn;
+      monotone = λ monotone. subst (λ (log : LogState). IsMonotone log.entries) (sym load.log) monotone;
+      shares = ap (λ (line : LineState). line.view.shares) worn.after_is;
+      whole = ap (λ (line : LineState). line.view.whole) worn.after_is;
+      table = ap (λ (line : LineState). line.table) worn.after_is;
+      within = load.log_after.within;
+    }

@@ -27,26 +27,6 @@ recorded_channels-requires g c =
     let told = told_whole c.self.invariant.3 tells all in
     (search rules, (tells.histories, alone _ _ tells.histories _ _ none (rw (c.entries.ensures, c.self.invariant.0) told)))
 
-pub returns-in-Ok-clause-ok : goal.returns-in-Ok-clause-ok
-returns-in-Ok-clause-ok g c =
-    let tells = c.check_shares.ensures.tells.1 in
-    let all = ap (λ (line : LineState). line.view.shares) c.self.view_is ∙ (c.requires ∙ sym (ap (λ (line : LineState). line.view.whole) c.self.view_is)) in
-    let known = subst (λ (line : LineState). Knows line.view line.log.entries tells.histories) c.self.view_is (knows_by_log c.self.invariant.3 tells.known) in
-    let none : c.as_slice.result.now ≡ [] = search rules in
-    let same = (c.in-Ok.ensures) tells.histories (alone _ _ tells.histories _ _ none (rw (c.entries.ensures, c.self.invariant.0) (told_whole c.self.invariant.3 tells all))) in
-    subst (λ (hs : List (List Event)). AreClosed c.args.self hs) (sym same) (closed_by c.args.self tells.histories known c.requires)
-
-pub returns-in-Ok-clause-order : goal.returns-in-Ok-clause-order
-returns-in-Ok-clause-order g c =
-    let tells = c.check_shares.ensures.tells.1 in
-    let all = ap (λ (line : LineState). line.view.shares) c.self.view_is ∙ (c.requires ∙ sym (ap (λ (line : LineState). line.view.whole) c.self.view_is)) in
-    let none : c.as_slice.result.now ≡ [] = search rules in
-    let same = (c.in-Ok.ensures) tells.histories (alone _ _ tells.histories _ _ none (rw (c.entries.ensures, c.self.invariant.0) (told_whole c.self.invariant.3 tells all))) in
-    let program_orders = ap (λ (line : LineState). line.view.program_orders) c.self.view_is ∙ sym (append-nil c.args.self.view.program_orders) in
-    let log_of = subst (λ (line : LineState). IsLogOf line.view line.log.entries) c.self.view_is c.self.invariant.3 in
-    subst (λ (hs : List (List Event)). AreInOneOrder c.args.self.view.central hs (c.args.self ∷ [])) (sym same)
-    (lines_in_order (c.args.self ∷ []) tells program_orders c.args.self.view.central (ap (λ (line : LineState). line.view.central) c.self.view_is) (ap (λ (line : LineState). line.view.written) c.self.view_is ∙ sym (append-nil c.args.self.view.written)) (ap (λ (line : LineState). line.view.shares) c.self.view_is ∙ (c.requires ∙ ap (λ (line : LineState). line.view.whole) (sym c.self.view_is))) (All-cons (λ (l : LineState). IsLogOf l.view l.log.entries) c.args.self [] log_of (All-nil (λ (l : LineState). IsLogOf l.view l.log.entries))))
-
 pub invariant_of-self : goal.invariant_of-self
 invariant_of-self g c =
     let view = c.check_shares.ensures.view in (
@@ -55,3 +35,19 @@ invariant_of-self g c =
       c.self.invariant.2 ∙ ap (λ (v : LineView). v.whole) (sym view),
       log_of_same _ c.self.invariant.3 (ap (λ (v : LineView). v.events) view) (ap (λ (v : LineView). v.found) view) (ap (λ (v : LineView). v.seen) view) (ap (λ (v : LineView). v.program_orders) view),
     )
+
+pub returns-in-Ok : goal.returns-in-Ok
+returns-in-Ok g c =
+    let tells = c.check_shares.ensures.tells.1 in
+    let all = ap (λ (line : LineState). line.view.shares) c.self.view_is ∙ (c.requires ∙ sym (ap (λ (line : LineState). line.view.whole) c.self.view_is)) in
+    let known = subst (λ (line : LineState). Knows line.view line.log.entries tells.histories) c.self.view_is (knows_by_log c.self.invariant.3 tells.known) in
+    let none : c.as_slice.result.now ≡ [] = search rules in
+    let same = (c.in-Ok.ensures) tells.histories (alone _ _ tells.histories _ _ none (rw (c.entries.ensures, c.self.invariant.0) (told_whole c.self.invariant.3 tells all))) in
+    let program_orders = ap (λ (line : LineState). line.view.program_orders) c.self.view_is ∙ sym (append-nil c.args.self.view.program_orders) in
+    let log_of = subst (λ (line : LineState). IsLogOf line.view line.log.entries) c.self.view_is c.self.invariant.3 in record {
+      ok = subst (λ (hs : List (List Event)). AreClosed c.args.self hs) (sym same) (closed_by c.args.self tells.histories known c.requires);
+      order =
+          subst (λ (hs : List (List Event)). AreInOneOrder c.args.self.view.central hs (c.args.self ∷ [])) (sym same)
+          (lines_in_order (c.args.self ∷ []) tells program_orders c.args.self.view.central (ap (λ (line : LineState). line.view.central) c.self.view_is) (ap (λ (line : LineState). line.view.written) c.self.view_is ∙ sym (append-nil c.args.self.view.written)) all (All-cons (λ (l : LineState). IsLogOf l.view l.log.entries) c.args.self [] log_of (All-nil (λ (l : LineState). IsLogOf l.view l.log.entries))));
+      unchanged_after_memory = tt;
+    }

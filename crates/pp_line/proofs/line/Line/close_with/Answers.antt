@@ -36,30 +36,14 @@ recorded_channels-requires g c =
     let told = absorbed_told absorbed (subst (λ (l : LineState). IsLogOf l.view l.log.entries) c.self.view_is c.self.invariant.3) c.requires.shares c.check_shares.ensures.tells.1 in
     (search rules, (c.check_shares.ensures.tells.1.histories, rw (c.entries.ensures ∙ ap (λ (l : LineState). l.log.entries) c.self.view_is, c.as_slice.ensures.value) told.recorded))
 
-pub returns-clause-channels : goal.returns-clause-channels
-returns-clause-channels g c =
+pub returns : goal.returns
+returns g c =
     let all = YieldsList-end (YieldsList-from_vec c.args.others.items (search rules) (search rules)) c.loop-value.yielded c.loop-value.value-iterator c.loop-value.yielded_by _ c.next.new.self c.in-None.is c.next.ensures.steps in
     let absorbed = subst (λ pairs. AreAbsorbed c.args.self pairs c.loop-value.words.seat.me.0 c.loop-value.seen c.loop-value.logs.items) (sym (map-id c.loop-value.yielded) ∙ all.0) c.loop-value.invariant.absorbed in
     let told = absorbed_told absorbed (subst (λ (l : LineState). IsLogOf l.view l.log.entries) c.self.view_is c.self.invariant.3) c.requires.shares c.check_shares.ensures.tells.1 in
-    let same = c.in_ok-channels.ensures c.check_shares.ensures.tells.1.histories (rw (c.entries.ensures ∙ ap (λ (l : LineState). l.log.entries) c.self.view_is, c.as_slice.ensures.value) told.recorded) in
-    subst (AreClosed (all_joined c.args.self (lines_of c.args.others.items))) (sym same) told.closed
-
-pub returns-clause-order : goal.returns-clause-order
-returns-clause-order g c =
-    let all = YieldsList-end (YieldsList-from_vec c.args.others.items (search rules) (search rules)) c.loop-value.yielded c.loop-value.value-iterator c.loop-value.yielded_by _ c.next.new.self c.in-None.is c.next.ensures.steps in
-    let absorbed = subst (λ pairs. AreAbsorbed c.args.self pairs c.loop-value.words.seat.me.0 c.loop-value.seen c.loop-value.logs.items) (sym (map-id c.loop-value.yielded) ∙ all.0) c.loop-value.invariant.absorbed in
-    let told = absorbed_told absorbed (subst (λ (l : LineState). IsLogOf l.view l.log.entries) c.self.view_is c.self.invariant.3) c.requires.shares c.check_shares.ensures.tells.1 in
-    let same = c.in_ok-channels.ensures c.check_shares.ensures.tells.1.histories (rw (c.entries.ensures ∙ ap (λ (l : LineState). l.log.entries) c.self.view_is, c.as_slice.ensures.value) told.recorded) in
-    subst (λ (hs : List (List Event)). AreInOneOrder c.args.self.view.central hs (c.args.self ∷ lines_of c.args.others.items)) (sym same) told.in_order
-
-pub returns-clause-logs : goal.returns-clause-logs
-returns-clause-logs g c =
-    let all = YieldsList-end (YieldsList-from_vec c.args.others.items (search rules) (search rules)) c.loop-value.yielded c.loop-value.value-iterator c.loop-value.yielded_by _ c.next.new.self c.in-None.is c.next.ensures.steps in
-    let absorbed = subst (λ pairs. AreAbsorbed c.args.self pairs c.loop-value.words.seat.me.0 c.loop-value.seen c.loop-value.logs.items) (sym (map-id c.loop-value.yielded) ∙ all.0) c.loop-value.invariant.absorbed in
-    absorbed.logs_are
-
-pub returns-clause-nothing_forgotten : goal.returns-clause-nothing_forgotten
-returns-clause-nothing_forgotten g c =
-    let all = YieldsList-end (YieldsList-from_vec c.args.others.items (search rules) (search rules)) c.loop-value.yielded c.loop-value.value-iterator c.loop-value.yielded_by _ c.next.new.self c.in-None.is c.next.ensures.steps in
-    let absorbed = subst (λ pairs. AreAbsorbed c.args.self pairs c.loop-value.words.seat.me.0 c.loop-value.seen c.loop-value.logs.items) (sym (map-id c.loop-value.yielded) ∙ all.0) c.loop-value.invariant.absorbed in
-    absorbed.forgotten
+    let same = c.in_ok-channels.ensures c.check_shares.ensures.tells.1.histories (rw (c.entries.ensures ∙ ap (λ (l : LineState). l.log.entries) c.self.view_is, c.as_slice.ensures.value) told.recorded) in record {
+      channels = subst (AreClosed (all_joined c.args.self (lines_of c.args.others.items))) (sym same) told.closed;
+      order = subst (λ (hs : List (List Event)). AreInOneOrder c.args.self.view.central hs (c.args.self ∷ lines_of c.args.others.items)) (sym same) told.in_order;
+      logs = absorbed.logs_are;
+      nothing_forgotten = absorbed.forgotten;
+    }
