@@ -12,10 +12,7 @@ use Rattle.std.proofs.lemmas.List.Concat.{flat_map-append}
 use Rattle.std.proofs.lemmas.List.Sums.{fold-append, sum_by-append}
 use Rattle.pp_word.specs.GrowingLists.{range_more}
 use Rattle.pp_word.specs.WrittenNumbers.{set_at_each}
-use Rattle.pp_line.specs.declared.access.Access.{Access}
-use Rattle.pp_line.specs.declared.access.Access.TheVariants.{OnChannel, Read, Write}
-use Rattle.pp_line.specs.declared.entry.Entry.{Entry}
-use Rattle.pp_line.specs.declared.rule.LineView.{LineView}
+use Rattle.pp_line.specs.Types.{Access, Entry, LineView, OnChannel, Read, Write}
 use Rattle.pp_channel.specs.ChannelNo.{names_channel}
 use Rattle.pp_line.specs.Order.{words_after, left_by, FindsWord, FindsWords, write_number, writes_among, times, AreMade}
 use Rattle.pp_line.specs.SharedWords.{word_place, central_place, KeepsCentral}

@@ -4,11 +4,7 @@ use Rattle.std.specs.Prelude.{if◌then◌else◌, not, unwrap_or, ◌⊎◌}
 use Rattle.std.specs.List.{last_or}
 use Rattle.std.proofs.lemmas.Bool.{eq-eqb, ne_eqb, eqb-false, eqb-true}
 use Rattle.std.proofs.lemmas.List.{length_push}
-use Rattle.pp_channel.specs.declared.event.Event.{Event}
-use Rattle.pp_channel.specs.declared.chan_op.ChanOp.{ChanOp}
-use Rattle.pp_channel.specs.declared.flags.Flags.{Flags}
-use Rattle.pp_channel.specs.declared.reply.Reply.{Reply}
-use Rattle.pp_line.specs.declared.word_step.WordStep.{WordStep}
+use Rattle.pp_line.specs.Types.{ChanOp, Event, Flags, Reply, WordStep}
 use Rattle.pp_channel.specs.Session.{puts, takes, word_put}
 use Rattle.pp_channel.specs.History.{IsLawful, HasTwelveBitWord, HasTwelveBitWords, active, full, waiting, last_stretch}
 use Rattle.pp_channel.specs.Answer.{IsReady, IsAnswer, channel_state, only_looks, reply_shown, event_by, event_of, flags_of, flags_after, reply_made}

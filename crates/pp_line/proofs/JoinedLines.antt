@@ -6,9 +6,7 @@ use Rattle.std.specs.declared.vec.Vec.{Vec}
 use Rattle.std.proofs.lemmas.List.{append-nil, map-append}
 use Rattle.std.proofs.lemmas.List.Elements.{All-cons, All-nil, All-push, All-weaker}
 use Rattle.std.proofs.lemmas.List.Sums.{fold-append}
-use Rattle.pp_line.specs.declared.access.Access.{Access}
-use Rattle.pp_line.specs.declared.entry.Entry.{Entry}
-use Rattle.pp_line.specs.declared.rule.LineView.{LineView}
+use Rattle.pp_line.specs.Types.{Access, Entry, Event, LineView}
 use Rattle.pp_channel.specs.ChannelNo.{channel_index}
 use Rattle.pp_line.specs.LineState.{LineState, joined, all_joined, lines_of, IsLogBeside, SeesAtLeast, AreClosed, AreInOneOrder}
 use Rattle.pp_line.specs.Order.{ExtendsEach, IsDrawnFrom, FindsWords, AreMade}
@@ -16,7 +14,6 @@ use Rattle.pp_line.proofs.ListFacts.{All-front, All-back}
 use Rattle.pp_word.specs.Subsequence.{IsSubsequence}
 use Rattle.pp_line.specs.LineSteps.{IsLogOf, Tells}
 use Rattle.pp_line.specs.LineView.{Knows, greater_of_each, joined_view, with_unrecorded_load}
-use Rattle.pp_channel.specs.declared.event.Event.{Event}
 use Rattle.pp_line.specs.Merge.{IsRecordedBy}
 use Rattle.pp_line.proofs.LineAnswers.{told_whole, closed_by}
 use Rattle.pp_line.proofs.LineKnowledge.{knows_by_log}

@@ -5,17 +5,10 @@ use Rattle.std.specs.Option.{option_map, option_or, option_to_list}
 use Rattle.std.proofs.lemmas.List.{append-nil, length_push, length-take-le, take_all, take_at, get_or-set_same, set-set, set-get_or}
 use Rattle.std.proofs.lemmas.List.Elements.{All-weaker, All-contains, Contains-push}
 use Rattle.std.proofs.lemmas.Bool.{cases_eq, eq-eqb, ne_eqb}
-use Rattle.pp_channel.specs.declared.chan_op.ChanOp.{ChanOp}
-use Rattle.pp_channel.specs.declared.seen.Seen.{Seen}
-use Rattle.pp_channel.specs.declared.event.Event.{Event}
+use Rattle.pp_line.specs.Types.{ChanOp, Entry, Event, LineView, Numbered, Reply, Seen, WordStep}
 use Rattle.pp_channel.specs.declared.event.Event.TheVariants.{Activate, Disconnect, Put, Take, Function}
-use Rattle.pp_channel.specs.declared.numbered.Numbered.{Numbered}
-use Rattle.pp_channel.specs.declared.reply.Reply.{Reply}
 use Rattle.pp_channel.specs.declared.reply.Reply.TheVariants.{Held}
 use Rattle.pp_channel.specs.declared.flags.Flags.{Flags as FlagPair}
-use Rattle.pp_line.specs.declared.entry.Entry.{Entry}
-use Rattle.pp_line.specs.declared.rule.LineView.{LineView}
-use Rattle.pp_line.specs.declared.word_step.WordStep.{WordStep}
 use Rattle.pp_channel.specs.Answer.{IsAnswer, IsReady, operation_of, reply_made, reply_shown, event_answered, flags_shown, only_looks, seen_answered}
 use Rattle.pp_channel.specs.ChannelNo.{channel_count, channel_index}
 use Rattle.pp_line.specs.ChannelWord.{number_in, flags_in, greatest_number, state_in, step_from}

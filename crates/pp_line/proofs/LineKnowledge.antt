@@ -7,11 +7,7 @@ use Rattle.std.proofs.lemmas.List.Elements.{All-push, All-set, All-weaker, All-c
 use Rattle.std.proofs.lemmas.List.Sums.{sum_by-set}
 use Rattle.std.proofs.lemmas.Option.{get_or_from_slice_get, slice_get_within}
 use Rattle.std.proofs.lemmas.Bool.{and_parts}
-use Rattle.pp_channel.specs.declared.event.Event.{Event}
-use Rattle.pp_line.specs.declared.entry.Entry.{Entry}
-use Rattle.pp_channel.specs.declared.seen.Seen.{Seen}
-use Rattle.pp_channel.specs.declared.seen.Seen.TheVariants.{Did, Saw}
-use Rattle.pp_line.specs.declared.rule.LineView.{LineView}
+use Rattle.pp_line.specs.Types.{Did, Entry, Event, LineView, Saw, Seen}
 use Rattle.pp_channel.specs.Answer.{flags_of}
 use Rattle.pp_line.specs.ChannelWord.{number_in, flags_in}
 use Rattle.pp_channel.specs.History.{HasTwelveBitWords, history_on}

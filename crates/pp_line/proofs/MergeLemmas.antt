@@ -9,10 +9,7 @@ use Rattle.std.proofs.lemmas.List.{append-nil, length-append, take-append-le, ge
 use Rattle.std.proofs.lemmas.List.Elements.{All-head, All-tail, All-set}
 use Rattle.std.proofs.lemmas.List.Sums.{sum_by-cons, sum_by-append, sum_by_push}
 use Rattle.std.proofs.lemmas.Option.{slice_get_within, slice_get-get_or, get_or_from_slice_get}
-use Rattle.pp_channel.specs.declared.event.Event.{Event}
-use Rattle.pp_line.specs.declared.entry.Entry.{Entry}
-use Rattle.pp_channel.specs.declared.seen.Seen.{Seen}
-use Rattle.pp_channel.specs.declared.seen.Seen.TheVariants.{Did, Saw}
+use Rattle.pp_line.specs.Types.{Did, Entry, Event, Saw, Seen}
 use Rattle.pp_channel.specs.Answer.{flags_of}
 use Rattle.pp_channel.specs.ChannelNo.{channel_index, names_channel}
 use Rattle.pp_channel.specs.Law.{IsPrefix}

@@ -4,11 +4,7 @@ use Rattle.std.specs.Prelude.{AllPairs, Option, Some, None}
 use Rattle.std.proofs.lemmas.Bool.{cases_eq}
 use Rattle.std.proofs.lemmas.List.{length-set, get_or-set_same, get_or-set_other}
 use Rattle.std.proofs.lemmas.List.Quantifiers.{all_pairs_push}
-use Rattle.pp_channel.specs.declared.chan_op.ChanOp.{ChanOp}
-use Rattle.pp_line.specs.declared.entry.Entry.{Entry}
-use Rattle.pp_channel.specs.declared.seen.Seen.{Seen}
-use Rattle.pp_channel.specs.declared.seen.Seen.TheVariants.{Did, Saw}
-use Rattle.pp_channel.specs.declared.reply.Reply.{Reply}
+use Rattle.pp_line.specs.Types.{ChanOp, Did, Entry, Reply, Saw, Seen}
 use Rattle.pp_line.specs.LineLog.{LogState, event_entry, look_entry, appended, looked, with_seen, IsFollowedBy, IsMonotone, seen_on, IsWithin}
 use Rattle.pp_channel.specs.Answer.{seen_answered}
 use Rattle.pp_line.proofs.LineKnowledge.{looked_either, last_replaced}

@@ -9,14 +9,8 @@ use Rattle.std.proofs.lemmas.List.{append-nil, nil_from_length, get_or-set_same}
 use Rattle.std.proofs.lemmas.List.Elements.{All-head, All-tail, All-push, All-weaker}
 use Rattle.std.proofs.lemmas.List.Sums.{sum_by-cons}
 use Rattle.std.proofs.lemmas.Option.{slice_get_within}
-use Rattle.pp_channel.specs.declared.chan_op.ChanOp.{ChanOp}
-use Rattle.pp_channel.specs.declared.event.Event.{Event}
+use Rattle.pp_line.specs.Types.{ChanOp, Did, Entry, Event, Numbered, Reply, Saw, Seen}
 use Rattle.pp_channel.specs.declared.event.Event.TheVariants.{Activate}
-use Rattle.pp_line.specs.declared.entry.Entry.{Entry}
-use Rattle.pp_channel.specs.declared.seen.Seen.{Seen}
-use Rattle.pp_channel.specs.declared.seen.Seen.TheVariants.{Did, Saw}
-use Rattle.pp_channel.specs.declared.numbered.Numbered.{Numbered}
-use Rattle.pp_channel.specs.declared.reply.Reply.{Reply}
 use Rattle.pp_channel.specs.Answer.{IsAnswer, seen_answered}
 use Rattle.pp_channel.specs.ChannelNo.{channel_count, channel_index}
 use Rattle.pp_channel.specs.Law.{IsPrefix}

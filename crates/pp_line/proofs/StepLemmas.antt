@@ -10,10 +10,7 @@ use Rattle.std.specs.List.{All}
 use Rattle.std.proofs.lemmas.List.{append-nil, length-set, set-get_or, get_or-set_same, get_or-set_other, length_push}
 use Rattle.std.proofs.lemmas.List.Elements.{All-set, All-push, All-weaker}
 use Rattle.atomic_table.specs.Table.{Me, step, keeps, stepped, Allows}
-use Rattle.pp_line.specs.declared.access.Access.{Access}
-use Rattle.pp_line.specs.declared.access.Access.TheVariants.{OnChannel, Read, Write}
-use Rattle.pp_channel.specs.declared.event.Event.{Event}
-use Rattle.pp_line.specs.declared.rule.LineView.{LineView}
+use Rattle.pp_line.specs.Types.{Access, Event, LineView, OnChannel, Read, Write}
 use Rattle.pp_channel.specs.ChannelNo.{channel_count, channel_index, names_channel}
 use Rattle.pp_line.specs.ChannelWord.{history_word, number_in}
 use Rattle.pp_channel.specs.History.{IsLawful, HasTwelveBitWord, HasTwelveBitWords, history_on}

@@ -6,11 +6,7 @@ use Rattle.std.specs.Prelude.{IsTrue, slice_index_or}
 use Rattle.std.specs.List.{All}
 use Rattle.std.proofs.lemmas.List.{length-append, length-set, take-append-le, take_all, get_or-set_same, length_push, get_or_push, length-take-le}
 use Rattle.std.proofs.lemmas.List.Elements.{All-nil, All-append, All-push, All-weaker}
-use Rattle.pp_line.specs.declared.access.Access.{Access}
-use Rattle.pp_channel.specs.declared.event.Event.{Event}
-use Rattle.pp_line.specs.declared.entry.Entry.{Entry}
-use Rattle.pp_line.specs.declared.rule.FoundWord.{FoundWord}
-use Rattle.pp_line.specs.declared.rule.LineView.{LineView}
+use Rattle.pp_line.specs.Types.{Access, Entry, Event, FoundWord, LineView}
 use Rattle.pp_channel.specs.ChannelNo.{channel_count, channel_index, names_channel}
 use Rattle.pp_line.specs.ChannelWord.{history_word, number_in}
 use Rattle.pp_channel.specs.History.{HasTwelveBitWords, history_on}

@@ -4,11 +4,8 @@
 -- (Manual 60100000, data channels: a register of 12 bits, an active flag and a full flag. That they
 -- lie in one number beside a count of events is this project's own.)
 use Rattle.std.specs.Prelude.{◌≡◌, ℕ, ◌+◌, ◌-◌, ◌*◌, ◌/◌, ◌%◌, ◌^◌, ◌<◌, ◌==◌, ◌&&◌, true, false, not, List, [], ◌∷◌, ◌++◌, length, Option, Some, None, unwrap_or, if◌then◌else◌}
-use Rattle.pp_channel.specs.declared.event.Event.{Event}
-use Rattle.pp_channel.specs.declared.chan_op.ChanOp.{ChanOp}
+use Rattle.pp_line.specs.Types.{ChanOp, Event, Flags, WordStep}
 use Rattle.pp_channel.specs.declared.channel_state.ChannelState.{ChannelState}
-use Rattle.pp_channel.specs.declared.flags.Flags.{Flags}
-use Rattle.pp_line.specs.declared.word_step.WordStep.{WordStep}
 use Rattle.pp_channel.specs.History.{waiting}
 use Rattle.pp_channel.specs.Answer.{event_by, flags_of, only_looks, flags_after, reply_made, IsReady}
 use Rattle.pp_channel.specs.Session.{word_put}

@@ -1,3 +1,4 @@
+pub mod Types
 pub mod ChannelWord
 pub mod LineLog
 pub mod Merge

@@ -2,10 +2,7 @@
 use Rattle.std.specs.Prelude.{ℕ, ◌-◌, ◌==◌, ◌&&◌, Bool, true, false, not, List, [], ◌∷◌, ◌++◌, length, slice_set, Option, Some, None, if◌then◌else◌, ◌≡◌, ◌+◌, ◌≤◌, All, AllPairs, slice_index}
 use Rattle.std.specs.List.{last_or}
 use Rattle.pp_channel.specs.ChannelNo.{channel_index}
-use Rattle.pp_channel.specs.declared.event.Event.{Event}
-use Rattle.pp_channel.specs.declared.flags.Flags.{Flags}
-use Rattle.pp_line.specs.declared.entry.Entry.{Entry}
-use Rattle.pp_channel.specs.declared.seen.Seen.{Seen}
+use Rattle.pp_line.specs.Types.{Entry, Event, Flags, Seen}
 
 -- A log: its entries in order, how many more it has room for, and whether its last entry is kept
 -- when a look at the same channel follows.

@@ -2,13 +2,7 @@
 use Rattle.std.specs.Prelude.{flat_map, ◌≡◌, ◌≢◌, ℕ, ◌+◌, ◌<◌, ◌≤◌, ◌==◌, List, [], ◌∷◌, ◌++◌, length, map, take, All, slice_set, true, false, is_some, if◌then◌else◌, fold, option_map, option_to_list}
 use Rattle.std.specs.declared.vec.Vec.{Vec}
 use Rattle.atomic_table.specs.Seated.{TableId}
-use Rattle.pp_channel.specs.declared.chan_op.ChanOp.{ChanOp}
-use Rattle.pp_line.specs.declared.access.Access.{Access}
-use Rattle.pp_channel.specs.declared.event.Event.{Event}
-use Rattle.pp_line.specs.declared.entry.Entry.{Entry}
-use Rattle.pp_channel.specs.declared.numbered.Numbered.{Numbered}
-use Rattle.pp_channel.specs.declared.reply.Reply.{Reply}
-use Rattle.pp_line.specs.declared.rule.LineView.{LineView}
+use Rattle.pp_line.specs.Types.{Access, ChanOp, Entry, Event, LineView, Numbered, Reply}
 use Rattle.pp_channel.specs.Answer.{IsAnswer, IsReady, event_answered, flags_of, flags_shown, only_looks, seen_answered}
 use Rattle.pp_channel.specs.ChannelNo.{channel_index}
 use Rattle.pp_line.specs.ChannelWord.{number_in, greatest_number}

@@ -3,11 +3,7 @@
 use Rattle.std.specs.Prelude.{◌≡◌, ◌≢◌, ℕ, ◌<◌, ◌≤◌, ◌^◌, ◌==◌, MatchBool, IsTrue, List, [], ◌∷◌, ◌++◌, length, All, Contains, slice_set}
 use mathlib.Core.Option.{Option, none, some}
 use Rattle.atomic_table.specs.Table.{Me, Step}
-use Rattle.pp_line.specs.declared.access.Access.{Access}
-use Rattle.pp_line.specs.declared.entry.Entry.{Entry}
-use Rattle.pp_channel.specs.declared.seen.Seen.{Seen}
-use Rattle.pp_channel.specs.declared.event.Event.{Event}
-use Rattle.pp_line.specs.declared.rule.LineView.{LineView}
+use Rattle.pp_line.specs.Types.{Access, Entry, Event, LineView, Seen}
 use Rattle.pp_channel.specs.ChannelNo.{channel_count, channel_index, names_channel}
 use Rattle.pp_line.specs.ChannelWord.{history_word, number_in, flags_in}
 use Rattle.pp_line.specs.LineLog.{event_entry, IsWithin}

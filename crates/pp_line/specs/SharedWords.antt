@@ -2,10 +2,7 @@
 -- of them, and the rule that holds between any two atomic steps, whichever line makes them.
 use Rattle.std.specs.Prelude.{◌≡◌, ℕ, ◌+◌, ◌*◌, ◌<◌, ◌≤◌, ◌^◌, IsTrue, List, [], length, take, drop, All, flat_map, sum_by, slice_index}
 use Rattle.atomic_table.specs.Table.{State}
-use Rattle.pp_line.specs.declared.access.Access.{Access}
-use Rattle.pp_channel.specs.declared.event.Event.{Event}
-use Rattle.pp_line.specs.declared.rule.FoundWord.{FoundWord}
-use Rattle.pp_line.specs.declared.rule.LineView.{LineView}
+use Rattle.pp_line.specs.Types.{Access, Event, FoundWord, LineView}
 use Rattle.pp_channel.specs.ChannelNo.{channel_count, channel_index, names_channel}
 use Rattle.pp_line.specs.ChannelWord.{history_word}
 use Rattle.pp_line.specs.Merge.{Merges, no_opening}

@@ -3,10 +3,9 @@
 mod closing;
 
 ghost use Rattle.std.specs.Prelude.{◌≡◌, ◌<◌, ◌≤◌, ◌+◌, ◌-◌, ◌^◌, ◌↔◌, ℕ, List, [], ◌∷◌, ◌++◌, Contains, true, IfOk, OnOk, OnErr, IfErr, IfSome, IfNone, IsTrue, MatchBool, length, slice_index};
-ghost use Rattle.pp_channel.specs.declared.event.Event.{Event};
+ghost use Rattle.pp_line.specs.Types.{Event, LineView};
 ghost use Rattle.pp_channel.specs.ChannelNo.{channel_count};
 ghost use Rattle.pp_line.specs.LineLog.{IsMonotone, IsWithin, seen_on, empty_log, event_entry, look_entry, appended, looked};
-ghost use Rattle.pp_line.specs.declared.rule.LineView.{LineView};
 ghost use Rattle.pp_line.specs.LineState.{LineState, IsSplitFrom, joined, SeesAtLeast, IsActed, IsWornOut, AreClosed, AreInOneOrder};
 ghost use Rattle.pp_line.specs.LineSteps.{IsLoad, IsWonExchange, IsLostExchange, IsLogOf};
 ghost use Rattle.pp_line.specs.LineView.{first_view, finds, reads, writes, parent_view, with_unrecorded_load, greater_of_each};

@@ -2,8 +2,7 @@
 
 ghost use Rattle.std.specs.Prelude.{◌≡◌, ◌+◌, ◌-◌, ◌<◌, ◌≤◌, ◌^◌, ◌↔◌, ℕ, [], List, ◌∷◌, ◌++◌, length, replicate, slice_index, IfOk, IfSome, IfNone, IsTrue, MatchBool, OnErr};
 ghost use Rattle.std.specs.Arc.{arc_value};
-ghost use Rattle.pp_channel.specs.declared.event.Event.{Event};
-ghost use Rattle.pp_line.specs.declared.rule.LineView.{LineView};
+ghost use Rattle.pp_line.specs.Types.{Event, LineView};
 ghost use Rattle.pp_line.specs.ChannelWord.{history_word};
 ghost use Rattle.pp_channel.specs.History.{IsLawful, HasTwelveBitWords, HasTwelveBitWord};
 ghost use Rattle.pp_line.specs.SharedWords.{place_count, word_place, central_place};

@@ -1,8 +1,7 @@
 //! One step of a channel word.
 
 ghost use Rattle.std.specs.Prelude.{◌≡◌, ◌<◌, ◌≤◌, ℕ, List, None};
-ghost use Rattle.pp_channel.specs.declared.event.Event.{Event};
-ghost use Rattle.pp_channel.specs.declared.reply.Reply.{Reply};
+ghost use Rattle.pp_line.specs.Types.{Event, Reply};
 ghost use Rattle.pp_line.specs.ChannelWord.{history_word, number_in, flags_in, register_in, greatest_number, step_from, step_by, state_in, waiting_in, word_with, StepsFrom};
 ghost use Rattle.pp_channel.specs.History.{IsLawful, HasTwelveBitWord, HasTwelveBitWords};
 

@@ -1,7 +1,5 @@
 use Rattle.std.proofs.Common.{ℕ, ◌≤◌, refl, sym, ap, ◌∙◌, subst}
-use Rattle.pp_channel.specs.declared.chan_op.ChanOp.{ChanOp}
-use Rattle.pp_line.specs.declared.entry.Entry.{Entry}
-use Rattle.pp_channel.specs.declared.numbered.Numbered.{Numbered}
+use Rattle.pp_line.specs.Types.{ChanOp, Entry, Numbered}
 use Rattle.pp_channel.specs.Answer.{reply_shown}
 use Rattle.pp_line.specs.ChannelWord.{number_in, flags_in, greatest_number}
 use Rattle.pp_line.specs.LineLog.{LogState, event_entry, look_entry, appended, looked, IsMonotone, IsWithin}

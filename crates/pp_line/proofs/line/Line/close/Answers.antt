@@ -1,10 +1,8 @@
 use Rattle.std.proofs.Common.{rules, ◌≡◌, ℕ, List, [], ◌∷◌, ◌++◌, sym, ap, ◌∙◌, subst}
 use Rattle.std.specs.List.{flat_map}
 use Rattle.std.proofs.lemmas.List.{append-nil}
-use Rattle.pp_line.specs.declared.entry.Entry.{Entry}
+use Rattle.pp_line.specs.Types.{Entry, Event, LineView}
 use Rattle.pp_line.specs.Merge.{IsRecordedBy}
-use Rattle.pp_channel.specs.declared.event.Event.{Event}
-use Rattle.pp_line.specs.declared.rule.LineView.{LineView}
 use Rattle.pp_line.specs.LineState.{LineState, AreClosed, AreInOneOrder}
 use Rattle.pp_line.specs.LineSteps.{IsLogOf}
 use Rattle.pp_line.specs.LineView.{Knows}
