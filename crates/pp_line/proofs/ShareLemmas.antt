@@ -9,27 +9,21 @@ use Rattle.std.proofs.lemmas.List.Elements.{All-nil, All-cons, All-append, All-p
 use Rattle.std.proofs.lemmas.List.Sums.{sum_by_push}
 use Rattle.atomic_table.specs.Table.{Splits, Joins, opening}
 use Rattle.atomic_table.proofs.Lists.{at_set}
-use Rattle.pp_line.specs.Types.{Access, Event, LineView}
+use Rattle.pp_line.specs.Types.{Event, LineView}
 use Rattle.pp_channel.specs.ChannelNo.{channel_count, channel_index}
 use Rattle.pp_line.specs.ChannelWord.{history_word}
 use Rattle.pp_channel.specs.History.{IsLawful, HasTwelveBitWord, HasTwelveBitWords, history_on}
 use Rattle.pp_line.specs.LineView.{blank_view, first_view, parent_view, child_view, joined_view}
 use Rattle.pp_line.specs.Merge.{IsTrueOf, Merges, no_opening}
-use Rattle.pp_line.specs.Order.{ExtendsEach}
-use Rattle.pp_word.specs.Subsequence.{IsSubsequence}
 use Rattle.pp_line.specs.LineLog.{seen_on}
 use Rattle.pp_line.specs.SharedWords.{word_place, place_count, central_in, IsFound, IsViewOf, Rule}
 use Rattle.pp_channel.specs.ChannelPlaces.{place_below}
 use Rattle.pp_channel.proofs.HistoryLemmas.{lawful_empty}
 use Rattle.pp_line.proofs.ListFacts.{All-parts_set, flat_map-set_same, same_everywhere, sum_by-write}
 use Rattle.pp_line.proofs.MergeLemmas.{once_past, TellsOnce, tells_once, merges_by, times_told-append}
-use Rattle.pp_line.proofs.ViewLemmas.{view_parent, view_child, view_joined, view_spent}
-use Rattle.pp_line.proofs.CentralLemmas.{OpenedWith, NoneSpent, opened_at, made_same, times_more, times_push, times_set, spent_set}
-use Rattle.pp_line.proofs.RuleLemmas.{events_in, all_events, shares_in, times-write, view_at, events_at, extends_at}
-
--- an empty program order is extended by each order
-empty_order : (order : List Access) → ExtendsEach order ([] ∷ [])
-empty_order order = All-cons (λ (t : List Access). IsSubsequence t order) [] [] tt (All-nil (λ (t : List Access). IsSubsequence t order))
+use Rattle.pp_line.proofs.ViewLemmas.{empty_order, view_parent, view_child, view_joined, view_spent}
+use Rattle.pp_line.proofs.CentralLemmas.{made_same, times_more, times_push, times_set}
+use Rattle.pp_line.proofs.RuleLemmas.{events_in, all_events, shares_in, times-write, view_at, events_at}
 
 -- the start
 first_histories : List (List Event)
@@ -39,14 +33,16 @@ no_event : (c : ℕ) → history_on c first_histories ≡ []
 unfolding first_histories
 no_event c = same_everywhere channel_count (channel_index c) []
 
-first_of : (whole : ℕ) (central : List ℕ) → IsViewOf first_histories whole (first_view whole central)
+first_of : (whole : ℕ) (central : List ℕ) → IsViewOf first_histories whole central [] (first_view whole central)
 first_of whole central = record {
   events_seen = λ k d l. absurd (omega arith);
   seen_happened = λ c. let n : ℕ = 0 in let z : seen_on c (first_view whole central).seen ≡ 0 = same_everywhere channel_count (channel_index c) n in omega arith;
   words_found = All-nil (IsFound first_histories);
+  program_orders = empty_order [];
   whole_is = λ _. refl;
   each_channel = λ _. refl;
-  spent = λ _. refl;
+  opened_with = λ _. refl;
+  spent = λ _. (refl, refl);
 }
 
 first_words : List ℕ → List ℕ
@@ -60,6 +56,7 @@ first_kept whole central small =
     let many : length zeros ≡ place_count = length-replicate place_count z in
     let all : length (zeros ++ central) ≡ place_count + length central = length-append zeros central ∙ ap (λ n. n + length central) many in (
       first_histories,
+      [],
       record {
         sound = record {
           each_channel = length-replicate {A = List Event} channel_count [];
@@ -68,22 +65,15 @@ first_kept whole central small =
         };
         merged = merges_by first_histories [] (λ c number. let none : length (history_on c first_histories) ≡ 0 = ap length (no_event c) in sym (once_past number (length (history_on c first_histories)) (omega arith)))
             (All-nil (IsTrueOf first_histories));
-        places = omega (arith, all);
-        words_are = λ c names. let low = place_below c names in get_or_append_left zeros central z (word_place c) (omega (arith, many, low)) ∙ (same_everywhere place_count (word_place c) z ∙ ap history_word (sym (no_event c)));
-        shares = omega arith;
-        views_are = All-cons (IsViewOf first_histories whole) (first_view whole central) [] (first_of whole central) (All-nil (IsViewOf first_histories whole));
-        order = [];
-        total = record { each_history = λ c. sym (no_event c); legal = tt };
-        program_orders = All-cons (λ v. ExtendsEach [] v.program_orders) (first_view whole central) [] (empty_order []) (All-nil (λ v. ExtendsEach [] v.program_orders));
-      },
-      record {
         places = all;
-        words_are = λ a low. ap (λ n. get_or (zeros ++ central) (n + a) 0) (sym many) ∙ get_or-append-add zeros central a 0;
+        words_are = λ c names. let low = place_below c names in get_or_append_left zeros central z (word_place c) (omega (arith, many, low)) ∙ (same_everywhere place_count (word_place c) z ∙ ap history_word (sym (no_event c)));
+        central_are = λ a low. ap (λ n. get_or (zeros ++ central) (n + a) 0) (sym many) ∙ get_or-append-add zeros central a 0;
         small = small;
+        shares = omega arith;
+        views_are = All-cons (IsViewOf first_histories whole central []) (first_view whole central) [] (first_of whole central) (All-nil (IsViewOf first_histories whole central []));
+        total = record { each_history = λ c. sym (no_event c); legal = tt };
         finds = tt;
-        opened_with = All-cons (OpenedWith central) (first_view whole central) [] (λ _. refl) (All-nil (OpenedWith central));
         made = record { numbered = refl; each = λ n. refl };
-        spent = All-cons NoneSpent (first_view whole central) [] (λ _. refl) (All-nil NoneSpent);
       },
     )
 
@@ -100,34 +90,26 @@ opening_kept whole central words laid same_words is small =
 pub split_allowed : (whole : ℕ) (opening : List ℕ) (id : ℕ) (v : LineView) → 1 < v.shares → Splits (Rule whole opening) id v (parent_view v) (child_view v)
 split_allowed whole opening id v two s r at =
     let h = r.0 in
-    let k = r.1 in
-    let kc = r.2 in
-    let f = view_at whole s.words s.views h k id v at in
+    let order = r.1 in
+    let k = r.2 in
+    let f = view_at whole opening s.words s.views h order k id v at in
     let rest : List LineView = set s.views id (parent_view v) in
     let same : all_events (rest ++ child_view v ∷ []) ≡ all_events s.views =
     flat_map-append events_in rest (child_view v ∷ []) ∙ (append-nil (all_events rest) ∙ flat_map-set_same events_in s.views id v (parent_view v) at refl) in (
       h,
+      order,
       record {
         sound = k.sound;
         merged = subst (Merges no_opening h) (sym same) k.merged;
         places = k.places;
         words_are = k.words_are;
+        central_are = k.central_are;
+        small = k.small;
         shares = let t = sum_by-write shares_in s.views id v (parent_view v) at in let u = sum_by_push shares_in rest (child_view v) in let o = k.shares in omega arith;
-        views_are = All-push (IsViewOf h whole) rest (child_view v) (All-set (IsViewOf h whole) s.views id (parent_view v) (view_parent h whole v two f) k.views_are) (view_child h whole v two f);
-        order = k.order;
+        views_are = All-push (IsViewOf h whole opening order) rest (child_view v) (All-set (IsViewOf h whole opening order) s.views id (parent_view v) (view_parent h whole opening order v two f) k.views_are) (view_child h whole opening order v two f);
         total = k.total;
-        program_orders = All-push (λ x. ExtendsEach k.order x.program_orders) rest (child_view v)
-            (All-set (λ x. ExtendsEach k.order x.program_orders) s.views id (parent_view v) (extends_at whole s.words s.views h k id v at) k.program_orders) (empty_order k.order);
-      },
-      record {
-        places = kc.places;
-        words_are = kc.words_are;
-        small = kc.small;
-        finds = kc.finds;
-        opened_with = let here = opened_at opening s.words s.views k.order id v at (omega arith) kc in
-            All-push (OpenedWith opening) rest (child_view v) (All-set (OpenedWith opening) s.views id (parent_view v) (λ _. here) kc.opened_with) (λ _. here);
-        made = made_same refl (λ n. let p = times_push n rest (child_view v) in let t = times_set n s.views id v (parent_view v) at in omega (arith, p, t)) kc.made;
-        spent = All-push NoneSpent rest (child_view v) (spent_set s.views id (parent_view v) (omega arith) kc.spent) (λ _. refl);
+        finds = k.finds;
+        made = made_same refl (λ n. let p = times_push n rest (child_view v) in let t = times_set n s.views id v (parent_view v) at in omega (arith, p, t)) k.made;
       },
     )
 
@@ -135,42 +117,35 @@ split_allowed whole opening id v two s r at =
 pub join_allowed : (whole : ℕ) (opening : List ℕ) (id : ℕ) (v : LineView) (other : ℕ) (w : LineView) → 0 < v.shares → 0 < w.shares → Joins (Rule whole opening) id v other w (joined_view v w) (blank_view 0 0 [] [])
 join_allowed whole opening id v other w live live_other s r at apart there =
     let h = r.0 in
-    let k = r.1 in
-    let kc = r.2 in
+    let order = r.1 in
+    let k = r.2 in
     let b : LineView = joined_view v w in
+    let none : LineView = blank_view 0 0 [] [] in
     let rest : List LineView = set s.views id b in
     let was : get_elem? s.views other ≡ some w = ⊎_elim (λ (t : (other ≡ id) × (b ≡ w)). absurd (apart t.0)) (λ (t : (other ≢ id) × (get_elem? s.views other ≡ some w)). t.1) (at_set s.views id other b w there) in
-    let entries : All (IsTrueOf h) b.events = All-append (IsTrueOf h) v.events w.events (events_at whole s.words s.views h k id v at) (events_at whole s.words s.views h k other w was) in
-    let once : TellsOnce h (all_events (set rest other (blank_view 0 0 [] []))) = λ c number.
+    let entries : All (IsTrueOf h) b.events = All-append (IsTrueOf h) v.events w.events (events_at whole opening s.words s.views h order k id v at) (events_at whole opening s.words s.views h order k other w was) in
+    let once : TellsOnce h (all_events (set rest other none)) = λ c number.
     let t = times-write c number s.views id v b at in
-    let u = times-write c number rest other w (blank_view 0 0 [] []) there in
+    let u = times-write c number rest other w none there in
     let m = times_told-append c number v.events w.events in
     let o = tells_once h (all_events s.views) k.merged c number in
     omega arith in (
       h,
+      order,
       record {
         sound = k.sound;
-        merged = merges_by h (all_events (set rest other (blank_view 0 0 [] []))) once
-            (All-parts_set events_in (IsTrueOf h) rest other (blank_view 0 0 [] []) (All-parts_set events_in (IsTrueOf h) s.views id b k.merged.entries_true entries) (All-nil (IsTrueOf h)));
+        merged = merges_by h (all_events (set rest other none)) once
+            (All-parts_set events_in (IsTrueOf h) rest other none (All-parts_set events_in (IsTrueOf h) s.views id b k.merged.entries_true entries) (All-nil (IsTrueOf h)));
         places = k.places;
         words_are = k.words_are;
-        shares = let t = sum_by-write shares_in s.views id v b at in let u = sum_by-write shares_in rest other w (blank_view 0 0 [] []) there in let o = k.shares in omega arith;
-        views_are = All-set (IsViewOf h whole) rest other (blank_view 0 0 [] []) (view_spent h whole)
-            (All-set (IsViewOf h whole) s.views id b (view_joined h whole v w live live_other (view_at whole s.words s.views h k id v at) (view_at whole s.words s.views h k other w was)) k.views_are);
-        order = k.order;
+        central_are = k.central_are;
+        small = k.small;
+        shares = let t = sum_by-write shares_in s.views id v b at in let u = sum_by-write shares_in rest other w none there in let o = k.shares in omega arith;
+        views_are = All-set (IsViewOf h whole opening order) rest other none (view_spent h whole opening order)
+            (All-set (IsViewOf h whole opening order) s.views id b
+            (view_joined h whole opening order v w live live_other (view_at whole opening s.words s.views h order k id v at) (view_at whole opening s.words s.views h order k other w was)) k.views_are);
         total = k.total;
-        program_orders = All-set (λ x. ExtendsEach k.order x.program_orders) rest other (blank_view 0 0 [] []) (empty_order k.order)
-            (All-set (λ x. ExtendsEach k.order x.program_orders) s.views id b
-            (All-append (λ t. IsSubsequence t k.order) v.program_orders w.program_orders (extends_at whole s.words s.views h k id v at) (extends_at whole s.words s.views h k other w was)) k.program_orders);
-      },
-      record {
-        places = kc.places;
-        words_are = kc.words_are;
-        small = kc.small;
-        finds = kc.finds;
-        opened_with = All-set (OpenedWith opening) rest other (blank_view 0 0 [] []) (λ none. absurd (omega arith))
-            (All-set (OpenedWith opening) s.views id b (λ _. opened_at opening s.words s.views k.order id v at live kc) kc.opened_with);
-        made = made_same refl (λ n. let t = times_set n s.views id v b at in let u = times_set n rest other w (blank_view 0 0 [] []) there in let m = times_more n v.written w.written in omega (arith, t, u, m)) kc.made;
-        spent = All-set NoneSpent rest other (blank_view 0 0 [] []) (λ _. refl) (spent_set s.views id b (omega arith) kc.spent);
+        finds = k.finds;
+        made = made_same refl (λ n. let t = times_set n s.views id v b at in let u = times_set n rest other w none there in let m = times_more n v.written w.written in omega (arith, t, u, m)) k.made;
       },
     )

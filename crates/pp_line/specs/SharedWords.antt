@@ -30,48 +30,42 @@ IsFound histories found = (number : ℕ) × (number ≤ length (history_on found
     × (history_word (take number (history_on found.channel histories)) ≡ found.word)
 
 -- What a line knows: its events lie within what it has seen, what it has seen within the histories,
--- and each word that it found was the word of its channel at some time. A line without a share is
--- spent, and left no event behind.
-pub record IsViewOf (histories : List (List Event)) (whole : ℕ) (v : LineView) : Type 0 where
+-- each word that it found was the word of its channel at some time, and its program orders are
+-- extended by the order of all accesses. A line without a share is spent, and left no event and no
+-- write behind.
+pub record IsViewOf (histories : List (List Event)) (whole : ℕ) (opening : List ℕ)
+    (order : List Access) (v : LineView) : Type 0 where
   pub events_seen : IsWithin v.seen v.events
   pub seen_happened : (c : ℕ) → seen_on c v.seen ≤ length (history_on c histories)
   pub words_found : All (IsFound histories) v.found
+  pub program_orders : ExtendsEach order v.program_orders
   pub whole_is : 0 < v.shares → v.whole ≡ whole
   pub each_channel : 0 < v.shares → length v.seen ≡ channel_count
-  pub spent : v.shares ≡ 0 → v.events ≡ []
+  pub opened_with : 0 < v.shares → v.central ≡ opening
+  pub spent : v.shares ≡ 0 → (v.events ≡ []) × (v.written ≡ [])
 
 -- The events of all lines merge to lawful histories, the word of each channel is that of its
--- history, the shares of all lines add up to the whole, and there is one order of the accesses of
--- all lines, in which every line did what it did and saw what it saw.
-pub record KeepsRule (whole : ℕ) (words : List ℕ) (views : List LineView)
-    (histories : List (List Event)) : Type 0 where
+-- history, the shares of all lines add up to the whole, and in the one order of the accesses of all
+-- lines every line did what it did and saw what it saw. Over the words of central memory at the
+-- opening, each read in the order found the word that was written last, and each word is what the
+-- order leaves there, a number of 60 bits. The writes of all lines are those of the order.
+pub record KeepsRule (whole : ℕ) (opening words : List ℕ) (views : List LineView)
+    (histories : List (List Event)) (order : List Access) : Type 0 where
   pub sound : AreHistories histories
   pub merged : Merges no_opening histories (flat_map (λ v. v.events) views)
-  pub places : place_count ≤ length words
+  pub places : length words ≡ place_count + length opening
   pub words_are : (c : ℕ) → IsTrue (names_channel c)
       → slice_index words (word_place c) ≡ history_word (history_on c histories)
-  pub shares : sum_by (λ v. v.shares) views ≡ whole
-  pub views_are : All (IsViewOf histories whole) views
-  pub order : List Access
-  pub total : IsTotalOrderOf no_opening histories (entries_among order)
-  pub program_orders : All (λ v. ExtendsEach order v.program_orders) views
-
--- Over the words of central memory at the opening, each read in the order found the word that was
--- written last, and each word is what the order leaves there, a number of 60 bits. The writes of
--- all lines are those of the order.
-pub record KeepsCentral (opening words : List ℕ) (views : List LineView) (order : List Access)
-    : Type 0 where
-  pub places : length words ≡ place_count + length opening
-  pub words_are : (address : ℕ) → address < length opening
+  pub central_are : (address : ℕ) → address < length opening
       → slice_index words (central_place address) ≡ slice_index (left_by opening order) address
   pub small : (address : ℕ) → slice_index (left_by opening order) address < 2 ^ 60
+  pub shares : sum_by (λ v. v.shares) views ≡ whole
+  pub views_are : All (IsViewOf histories whole opening order) views
+  pub total : IsTotalOrderOf no_opening histories (entries_among order)
   pub finds : FindsWords opening order
-  pub opened_with : All (λ v. 0 < v.shares → v.central ≡ opening) views
   pub made : AreMade (flat_map (λ v. v.written) views) order
-  pub spent : All (λ v. v.shares ≡ 0 → v.written ≡ []) views
 
--- The rule: both hold, in one order.
+-- The rule: it holds of some histories, in some order.
 abbrev pub Rule : ℕ → List ℕ → State Event LineView → Type 0
-Rule whole opening table = (histories : List (List Event))
-    × (kept : KeepsRule whole table.words table.views histories)
-    × KeepsCentral opening table.words table.views kept.order
+Rule whole opening table = (histories : List (List Event)) × (order : List Access)
+    × KeepsRule whole opening table.words table.views histories order
