@@ -20,22 +20,11 @@ use Rattle.pp_line.specs.LineState.{LineState, IsActed, IsAnsweredBy, number_aft
 use Rattle.pp_line.specs.LineView.{look_by, reads, writes}
 use Rattle.pp_line.specs.Order.{entries_among, extended, on_channels, write_number, writes_among}
 use Rattle.pp_line.specs.SharedWords.{IsFound}
-use Rattle.pp_line.specs.declared.access.Access.{Access}
-use Rattle.pp_channel.specs.declared.chan_op.ChanOp.{ChanOp}
-use Rattle.pp_line.specs.declared.entry.Entry.{Entry}
-use Rattle.pp_channel.specs.declared.seen.Seen.{Seen}
-use Rattle.pp_channel.specs.declared.seen.Seen.TheVariants.{Did, Saw}
-use Rattle.pp_channel.specs.declared.event.Event.{Event}
-use Rattle.pp_channel.specs.declared.flags.Flags.{Flags}
-use Rattle.pp_channel.specs.declared.numbered.Numbered.{Numbered}
-use Rattle.pp_channel.specs.declared.reply.Reply.{Reply}
-use Rattle.pp_line.specs.declared.rule.FoundWord.{FoundWord}
+use Rattle.pp_runner.specs.Types.{Access, Answer, ChanOp, Did, Entry, Event, Flags, FoundWord, Need, Numbered, Reply, Saw, Seen}
 use Rattle.pp_machine.specs.NeedAndEffect.{need, processor_after}
 use Rattle.pp_machine.specs.Processor.{Processor}
 use Rattle.pp_machine.specs.Replay.{OfChannel, contribution, fits, given_count, replayed}
 use Rattle.pp_machine.specs.ReplayLaws.{Gives, Gives-counted}
-use Rattle.pp_machine.specs.declared.answer.Answer.{Answer}
-use Rattle.pp_machine.specs.declared.need.Need.{Need}
 use Rattle.pp_runner.specs.Accesses.{accesses_by, AreAccessesOf}
 use Rattle.pp_runner.specs.Labour.{HasMade, HasLooked, IsAnswered, IsNoted}
 use Rattle.pp_runner.specs.WorkerReport.{IsBySize}

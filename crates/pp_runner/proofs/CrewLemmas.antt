@@ -11,7 +11,7 @@ use Rattle.pp_line.specs.Order.{entries_among}
 use Rattle.pp_line.specs.LineView.{parent_view}
 use Rattle.pp_line.specs.LineLog.{IsMonotone, seen_on}
 use Rattle.pp_line.specs.Merge.{IsOpeningLog}
-use Rattle.pp_line.specs.declared.entry.Entry.{Entry}
+use Rattle.pp_runner.specs.Types.{End, Ended, Entry}
 use Rattle.pp_machine.specs.Headline.{opening_history}
 use Rattle.pp_machine.specs.MachineState.{MachineState, processor_of}
 use Rattle.pp_machine.specs.Processor.{Processor, no_processor}
@@ -25,9 +25,7 @@ use Rattle.pp_runner.specs.Crew.{AreReady, IsEnded, HasEnded, AreEnded, HasOpene
 use Rattle.pp_runner.specs.Labour.{IsAtWork, IsUnused, HasSeen, IsSameLine, HasOperated}
 use Rattle.pp_runner.specs.End.{IsEnd, WornWithCause}
 use Rattle.pp_runner.specs.WorkerReport.{events_in, sights_in}
-use Rattle.pp_runner.specs.declared.end.End.{End}
 use Rattle.pp_runner.specs.declared.end.End.TheVariants.{Patience}
-use Rattle.pp_runner.specs.declared.worker.Ended.{Ended}
 
 -- a line that has seen what another has
 pub same_seen : (happened : ℕ → ℕ) (line after : LineState) → after.view.seen ≡ line.view.seen → HasSeen happened line → HasSeen happened after

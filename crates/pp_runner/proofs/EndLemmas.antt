@@ -1,13 +1,10 @@
 -- Each end, by what the processor, the answers and the log are.
-use Rattle.pp_machine.specs.declared.pp_state.PpState.{PpState}
+use Rattle.pp_runner.specs.Types.{Answer, End, Entry, PpState}
 use Rattle.std.proofs.Common.{◌≡◌, ℕ, ◌<◌, ◌≤◌, List, [], Option, None, Some, length, arith}
 use Rattle.std.specs.Prelude.{IfNone, IfSome, unwrap_or}
-use Rattle.pp_line.specs.declared.entry.Entry.{Entry}
 use Rattle.pp_machine.specs.NeedAndEffect.{need}
 use Rattle.pp_machine.specs.Processor.{Processor}
-use Rattle.pp_machine.specs.declared.answer.Answer.{Answer}
 use Rattle.pp_runner.specs.End.{IsEnd, NeedsWornChannel, WornWithCause, WasHeld}
-use Rattle.pp_runner.specs.declared.end.End.{End}
 
 pub end_steps : (steps : ℕ) (pp : Processor) (xs : List Answer) (log : List Entry) → pp.state ≡ PpState.Running → length xs ≡ steps → IsEnd steps End.Steps pp xs log
 end_steps steps pp xs log running all = record {

@@ -9,21 +9,12 @@ use Rattle.pp_channel.specs.AnswerLaws.{shown_makes_none}
 use Rattle.pp_word.specs.LastElements.{last_or-push}
 use Rattle.pp_line.specs.LineLog.{LogState, empty_log, appended, looked, with_seen, is_look_at, IsMonotone}
 use Rattle.pp_channel.specs.Answer.{event_answered, flags_shown, seen_answered}
-use Rattle.pp_channel.specs.declared.chan_op.ChanOp.{ChanOp}
-use Rattle.pp_line.specs.declared.entry.Entry.{Entry}
-use Rattle.pp_channel.specs.declared.seen.Seen.{Seen}
-use Rattle.pp_channel.specs.declared.seen.Seen.TheVariants.{Did, Saw}
-use Rattle.pp_channel.specs.declared.event.Event.{Event}
-use Rattle.pp_channel.specs.declared.flags.Flags.{Flags}
-use Rattle.pp_channel.specs.declared.reply.Reply.{Reply}
+use Rattle.pp_runner.specs.Types.{Answer, ChanOp, Did, Entry, Event, Flags, LineView, Moved, Need, Reply, Saw, Seen}
 use Rattle.pp_machine.specs.FitLaws.{acts_where_held}
 use Rattle.pp_machine.specs.ReplayLaws.{replayed-push, given_count-push, collected_along-push}
 use Rattle.pp_machine.specs.NeedAndEffect.{need, processor_after, outcome, IsHeldAnswer}
 use Rattle.pp_machine.specs.Processor.{Processor}
 use Rattle.pp_machine.specs.Replay.{OfChannel, fits, replayed, given_count, collected_along, events_given, looks_and_events, contribution}
-use Rattle.pp_machine.specs.declared.answer.Answer.{Answer}
-use Rattle.pp_machine.specs.declared.need.Need.{Need}
-use Rattle.pp_machine.specs.declared.outcome.Outcome.TheVariants.{Moved}
 use Rattle.pp_runner.proofs.LogLemmas.{looked_at, BeginsWith, begins_with, events_done, events_in-push, sights_in-push, stands_done}
 use Rattle.pp_runner.proofs.ReplyLemmas.{sight_of, reply_to_channel}
 use Rattle.pp_runner.specs.WorkerReport.{OfEachAnswer, IsBySize, event_in, events_in, sights_in}
@@ -31,7 +22,6 @@ use Rattle.pp_word.specs.Subsequence.{IsSubsequence}
 use Rattle.pp_word.specs.Subsequences.{stands_more, stands_push}
 use Rattle.pp_line.specs.LineState.{LineState}
 use Rattle.pp_line.specs.Order.{entries_among, writes_among}
-use Rattle.pp_line.specs.declared.rule.LineView.{LineView}
 use Rattle.pp_runner.proofs.AccessLemmas.{entries_by, made_more, made_still, no_writes, numbered}
 use Rattle.pp_runner.specs.Accesses.{accesses_by}
 use Rattle.pp_runner.specs.Labour.{HasEntries, HasLooked, HasMade, IsAtWork, IsAnswered, IsNoted, IsUnused}

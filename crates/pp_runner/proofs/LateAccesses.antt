@@ -11,14 +11,10 @@ use Rattle.pp_channel.specs.History.{history_on}
 use Rattle.pp_channel.specs.Law.{IsPrefix}
 use Rattle.pp_line.specs.LineState.{LineState}
 use Rattle.pp_line.specs.Order.{entries_among, writes_among, words_after, times, AreMade, FindsWords, ExtendsEach, IsDrawnFrom}
-use Rattle.pp_line.specs.declared.access.Access.{Access}
-use Rattle.pp_line.specs.declared.access.Access.TheVariants.{OnChannel, Read, Write}
-use Rattle.pp_line.specs.declared.entry.Entry.{Entry}
-use Rattle.pp_channel.specs.declared.event.Event.{Event}
+use Rattle.pp_runner.specs.Types.{Access, Entry, Event, OnChannel, Read, Worker, Write}
 use Rattle.pp_machine.specs.Processor.{Processor}
 use Rattle.pp_runner.specs.Accesses.{HasAccessed}
 use Rattle.pp_runner.specs.Labour.{HasMade, NoneOlder}
-use Rattle.pp_runner.specs.declared.worker.Worker.{Worker}
 
 module _ {X : Type 0} where
   -- what holds of each item holds of each that stands among them

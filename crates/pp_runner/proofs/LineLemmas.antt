@@ -16,14 +16,7 @@ use Rattle.pp_line.specs.LineLog.{LogState, with_seen, seen_on}
 use Rattle.pp_channel.specs.Answer.{flags_shown}
 use Rattle.pp_line.specs.LineState.{LineState, IsActed, IsAnsweredBy, IsWornOut, number_after}
 use Rattle.pp_channel.specs.History.{history_on}
-use Rattle.pp_channel.specs.declared.chan_op.ChanOp.{ChanOp}
-use Rattle.pp_line.specs.declared.entry.Entry.{Entry}
-use Rattle.pp_channel.specs.declared.event.Event.{Event}
-use Rattle.pp_channel.specs.declared.seen.Seen.{Seen}
-use Rattle.pp_channel.specs.declared.seen.Seen.TheVariants.{Did, Saw}
-use Rattle.pp_channel.specs.declared.numbered.Numbered.{Numbered}
-use Rattle.pp_channel.specs.declared.reply.Reply.{Reply}
-use Rattle.pp_line.specs.declared.rule.FoundWord.{FoundWord}
+use Rattle.pp_runner.specs.Types.{ChanOp, Did, Entry, Event, FoundWord, Numbered, Reply, Saw, Seen}
 use Rattle.pp_machine.specs.NeedAndEffect.{need}
 use Rattle.pp_machine.specs.Processor.{Processor}
 use Rattle.pp_runner.proofs.ReplyLemmas.{line_reply_fits, sight_of}

@@ -10,8 +10,7 @@ use Rattle.pp_channel.specs.ChannelNo.{channel_count, channel_index, channel_num
 use Rattle.pp_line.specs.LineState.{LineState}
 use Rattle.pp_line.specs.Merge.{IsOpeningLog, times_logged}
 use Rattle.pp_line.specs.LineLog.{IsWithin, event_entry}
-use Rattle.pp_line.specs.declared.entry.Entry.{Entry}
-use Rattle.pp_channel.specs.declared.event.Event.{Event}
+use Rattle.pp_runner.specs.Types.{Entry, Event}
 use Rattle.pp_channel.specs.declared.event.Event.TheVariants.{Activate}
 use Rattle.pp_line.proofs.MergeLemmas.{times_within}
 use Rattle.pp_line.proofs.OpeningLemmas.{opening_more, opening_same}

@@ -1,5 +1,5 @@
 -- Replies of a line: each goes with its operation, and the log tells what it did or saw.
-use Rattle.pp_machine.specs.declared.need.Need.{Need}
+use Rattle.pp_runner.specs.Types.{Answer, ChanOp, Event, Need, Numbered, Reply, Seen}
 use Rattle.std.proofs.Common.{◌≡◌, ℕ, true, List, [], ◌∷◌, ◌++◌, map, Some, refl, sym, ap, ◌∙◌, subst, inl, inr}
 use Rattle.std.specs.Prelude.{take}
 use Rattle.std.specs.Option.{option_to_list}
@@ -9,14 +9,8 @@ use Rattle.pp_channel.specs.Answer.{IsAnswer, channel_state, seen_answered, flag
 use Rattle.pp_line.specs.LineLog.{LogState, with_seen, IsMonotone}
 use Rattle.pp_line.specs.LineState.{LineState, IsActed, IsAnsweredBy, IsLost}
 use Rattle.pp_channel.specs.History.{history_on}
-use Rattle.pp_channel.specs.declared.chan_op.ChanOp.{ChanOp}
-use Rattle.pp_channel.specs.declared.seen.Seen.{Seen}
-use Rattle.pp_channel.specs.declared.event.Event.{Event}
-use Rattle.pp_channel.specs.declared.numbered.Numbered.{Numbered}
-use Rattle.pp_channel.specs.declared.reply.Reply.{Reply}
 use Rattle.pp_machine.specs.FitLaws.{held_fits, made_fits, shown_fits, tells_where_fits}
 use Rattle.pp_machine.specs.Replay.{OfChannel, fits, reply_fits, contribution}
-use Rattle.pp_machine.specs.declared.answer.Answer.{Answer}
 use Rattle.pp_runner.proofs.AccessLemmas.{all_made, channel_accessed, no_writes}
 use Rattle.pp_runner.specs.Labour.{IsAnswered, IsNoted}
 

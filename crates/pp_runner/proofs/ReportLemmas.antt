@@ -9,10 +9,8 @@ use Rattle.pp_line.specs.LineState.{LineState, joined, all_joined, lines_of, IsL
 use Rattle.pp_channel.specs.History.{history_on}
 use Rattle.pp_channel.specs.Law.{IsPrefix}
 use Rattle.pp_line.specs.Order.{ExtendsEach, IsDrawnFrom, writes_among}
-use Rattle.pp_channel.specs.declared.event.Event.{Event}
-use Rattle.pp_line.specs.declared.access.Access.{Access}
+use Rattle.pp_runner.specs.Types.{Access, Ended, Entry, Event, Worker}
 use Rattle.pp_line.specs.LineLog.{seen_on}
-use Rattle.pp_line.specs.declared.entry.Entry.{Entry}
 use Rattle.pp_machine.specs.Processor.{Processor}
 use Rattle.pp_runner.proofs.CrewLemmas.{same_seen}
 use Rattle.pp_runner.proofs.EndLemmas.{worn_later}
@@ -22,8 +20,6 @@ use Rattle.pp_runner.specs.Crew.{IsEnded, HasEnded, AreEnded, worker_of}
 use Rattle.pp_runner.specs.Labour.{HasSeen, NoneOlder}
 use Rattle.pp_runner.specs.End.{WornWithCause}
 use Rattle.pp_runner.specs.WorkerReport.{AreWorkers}
-use Rattle.pp_runner.specs.declared.worker.Ended.{Ended}
-use Rattle.pp_runner.specs.declared.worker.Worker.{Worker}
 
 module _ {A : Type 0} (size steps room : ℕ) (family : LineState) where
   -- what holds of each that has ended

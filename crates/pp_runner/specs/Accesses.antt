@@ -3,12 +3,9 @@ use Rattle.std.specs.Prelude.{◌≡◌, ℕ, true, List, [], ◌∷◌, ◌++�
 use Rattle.pp_word.specs.Subsequence.{IsSubsequence}
 use Rattle.pp_channel.specs.Answer.{seen_answered}
 use Rattle.pp_line.specs.Order.{entries_among}
-use Rattle.pp_line.specs.declared.access.Access.{Access}
+use Rattle.pp_runner.specs.Types.{Access, Answer, Need, Worker}
 use Rattle.pp_machine.specs.NeedAndEffect.{need, processor_after}
 use Rattle.pp_machine.specs.Processor.{Processor}
-use Rattle.pp_machine.specs.declared.answer.Answer.{Answer}
-use Rattle.pp_machine.specs.declared.need.Need.{Need}
-use Rattle.pp_runner.specs.declared.worker.Worker.{Worker}
 
 -- What an answer to a need accessed, if its event, look or write has this number: a channel, a word
 -- that it read, or one that it wrote.

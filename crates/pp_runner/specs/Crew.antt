@@ -5,7 +5,7 @@ use Rattle.std.specs.declared.vec.Vec.{Vec}
 use Rattle.pp_line.specs.LineState.{LineState, IsSplitFrom}
 use Rattle.pp_line.specs.LineLog.{seen_on}
 use Rattle.pp_line.specs.Merge.{IsOpeningLog}
-use Rattle.pp_line.specs.declared.entry.Entry.{Entry}
+use Rattle.pp_runner.specs.Types.{Ended, Entry, Worker}
 use Rattle.pp_machine.specs.Headline.{opening_history}
 use Rattle.pp_machine.specs.MachineState.{MachineState}
 use Rattle.pp_machine.specs.Processor.{Processor}
@@ -13,8 +13,6 @@ use Rattle.pp_machine.specs.PpNo.{processor_count}
 use Rattle.pp_runner.specs.Labour.{HasMade, HasSeen, IsSameLine}
 use Rattle.pp_runner.specs.End.{WornWithCause}
 use Rattle.pp_runner.specs.WorkerReport.{IsWorker}
-use Rattle.pp_runner.specs.declared.worker.Ended.{Ended}
-use Rattle.pp_runner.specs.declared.worker.Worker.{Worker}
 
 -- The workers of the barrel's first processors are ready, each on one of lines split from one,
 -- beside central memory of this size.

@@ -4,14 +4,10 @@ use Rattle.std.specs.List.{last_or}
 use Rattle.pp_channel.specs.Answer.{only_looks}
 use Rattle.pp_line.specs.ChannelWord.{greatest_number}
 use Rattle.pp_line.specs.LineLog.{is_look_at}
-use Rattle.pp_channel.specs.declared.chan_op.ChanOp.{ChanOp}
-use Rattle.pp_line.specs.declared.entry.Entry.{Entry}
+use Rattle.pp_runner.specs.Types.{Answer, ChanOp, End, Entry, Need}
 use Rattle.pp_machine.specs.NeedAndEffect.{need}
 use Rattle.pp_machine.specs.Processor.{Processor, IsFaultNumber}
-use Rattle.pp_machine.specs.declared.answer.Answer.{Answer}
-use Rattle.pp_machine.specs.declared.need.Need.{Need}
 use Rattle.pp_machine.specs.declared.pp_state.PpState.TheVariants as states
-use Rattle.pp_runner.specs.declared.end.End.{End}
 use Rattle.pp_runner.specs.declared.end.End.TheVariants.{Stopped, Fault, Steps, Patience, Memory, Worn}
 
 -- The processor is running, and has made fewer steps than the limit.

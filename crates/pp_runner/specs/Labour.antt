@@ -6,16 +6,9 @@ use Rattle.pp_line.specs.LineLog.{LogState, empty_log, with_seen, IsMonotone, se
 use Rattle.pp_line.specs.LineState.{LineState, IsActed}
 use Rattle.pp_line.specs.LineView.{reads, writes}
 use Rattle.pp_line.specs.Order.{entries_among, extended, writes_among}
-use Rattle.pp_line.specs.declared.access.Access.{Access}
-use Rattle.pp_line.specs.declared.entry.Entry.{Entry}
-use Rattle.pp_channel.specs.declared.seen.Seen.{Seen}
-use Rattle.pp_channel.specs.declared.numbered.Numbered.{Numbered}
-use Rattle.pp_line.specs.declared.rule.FoundWord.{FoundWord}
-use Rattle.pp_line.specs.declared.rule.LineView.{LineView}
+use Rattle.pp_runner.specs.Types.{Access, Answer, Entry, FoundWord, LineView, Need, Numbered, Seen}
 use Rattle.pp_machine.specs.Processor.{Processor}
 use Rattle.pp_machine.specs.Replay.{OfChannel, fits, contribution, replayed, given_count, events_given, looks_and_events}
-use Rattle.pp_machine.specs.declared.answer.Answer.{Answer}
-use Rattle.pp_machine.specs.declared.need.Need.{Need}
 use Rattle.pp_runner.specs.Accesses.{accesses_by, AreAccessesOf}
 use Rattle.pp_runner.specs.WorkerReport.{AllMoved, AllBySize, IsBySize, events_in, sights_in}
 use Rattle.pp_word.specs.Subsequence.{IsSubsequence}

@@ -9,7 +9,7 @@ use Rattle.pp_channel.specs.History.{IsLawful, HasTwelveBitWords, history_on}
 use Rattle.pp_channel.specs.Law.{KeepsLaw}
 use Rattle.pp_line.specs.Merge.{Merges}
 use Rattle.pp_line.specs.Order.{IsTotalOrderOf, entries_among, writes_among, FindsWords, AreMade}
-use Rattle.pp_line.specs.declared.access.Access.{Access}
+use Rattle.pp_runner.specs.Types.{Access, Report}
 use Rattle.pp_machine.specs.Headline.{opening_history}
 use Rattle.pp_machine.specs.MachineState.{MachineState}
 use Rattle.pp_machine.specs.Profile.{processors_in}
@@ -18,7 +18,6 @@ use Rattle.pp_runner.specs.Limits.{RunLimits}
 use Rattle.pp_runner.specs.End.{WornWithCause}
 use Rattle.pp_runner.specs.WorkerReport.{AreWorkers, logs_of}
 use Rattle.pp_runner.specs.contracts.report.Report.{the_row}
-use Rattle.pp_runner.specs.declared.report.Report.{Report}
 
 -- A report of a run of this machine within these limits: a worker for each processor of its
 -- profile, in their order, and the channels, whose histories are lawful, keep the law of sessions,

@@ -3,17 +3,11 @@ use Rattle.std.specs.Prelude.{◌≡◌, ◌≤◌, ◌+◌, ◌*◌, ℕ, List,
 use Rattle.std.specs.List.{AllZip, flat_map}
 use Rattle.pp_word.specs.Subsequence.{IsSubsequence}
 use Rattle.pp_line.specs.LineLog.{IsMonotone}
-use Rattle.pp_line.specs.declared.entry.Entry.{Entry}
-use Rattle.pp_channel.specs.declared.seen.Seen.{Seen}
-use Rattle.pp_channel.specs.declared.event.Event.{Event}
+use Rattle.pp_runner.specs.Types.{Answer, Entry, Event, Moved, Need, Seen, Worker}
 use Rattle.pp_machine.specs.Processor.{Processor}
 use Rattle.pp_machine.specs.Replay.{replayed, given_count, events_given, looks_and_events, OfChannel}
 use Rattle.pp_machine.specs.NeedAndEffect.{need, outcome}
-use Rattle.pp_machine.specs.declared.answer.Answer.{Answer}
-use Rattle.pp_machine.specs.declared.need.Need.{Need}
-use Rattle.pp_machine.specs.declared.outcome.Outcome.TheVariants.{Moved}
 use Rattle.pp_runner.specs.End.{IsEnd}
-use Rattle.pp_runner.specs.declared.worker.Worker.{Worker}
 
 -- a statement holds of each answer and of the processor that the answers before it leave
 abbrev pub OfEachAnswer : (Processor → Answer → Type 0) → Processor → List Answer → Type 0

@@ -3,8 +3,7 @@ use Rattle.pp_runner.proofs.AccessLemmas.{local_answer, read_answer, write_answe
 use Rattle.pp_runner.proofs.LineLemmas.{operated_acted, operated_worn, same_line_acted}
 use Rattle.pp_runner.proofs.ReplyLemmas.{acted_answer}
 use Rattle.pp_runner.specs.Labour.{HasOperated, IsAnswered, operations}
-use Rattle.pp_machine.specs.declared.answer.Answer.{Answer}
-use Rattle.pp_machine.specs.declared.need.Need.{Need}
+use Rattle.pp_runner.specs.Types.{Answer, Need}
 use Rattle.pp_runner.proofs.labour.ask.Goals as goal
 
 pub returns-in_ok-numbered-in-Channel-clause-same_line : goal.returns-in_ok-numbered-in-Channel-clause-same_line

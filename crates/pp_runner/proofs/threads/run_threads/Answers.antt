@@ -9,13 +9,11 @@ use Rattle.pp_line.specs.LineState.{LineState, IsSplitFrom, all_joined, lines_of
 use Rattle.pp_line.specs.Merge.{IsRecordedBy, Merges, no_opening}
 use Rattle.pp_channel.specs.History.{history_on}
 use Rattle.pp_line.specs.LineLog.{seen_on}
-use Rattle.pp_line.specs.declared.entry.Entry.{Entry}
-use Rattle.pp_channel.specs.declared.event.Event.{Event}
+use Rattle.pp_runner.specs.Types.{Access, Entry, Event}
 use Rattle.pp_line.proofs.JoinedLines.{joined_entries, joined_whole, same_logs}
 use Rattle.pp_line.proofs.OpeningLemmas.{merges_after}
 use Rattle.pp_line.proofs.OrderLemmas.{order_later}
 use Rattle.pp_line.specs.Order.{IsTotalOrderOf, ExtendsEach, IsDrawnFrom, FindsWords, AreMade, entries_among, writes_among}
-use Rattle.pp_line.specs.declared.access.Access.{Access}
 use Rattle.pp_machine.specs.Headline.{opening_history}
 use Rattle.pp_machine.specs.Profile.{processors_in}
 use Rattle.pp_machine.specs.ProfilePlaces.{some_processors, most_processors}

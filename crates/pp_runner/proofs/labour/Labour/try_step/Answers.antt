@@ -1,7 +1,6 @@
 use Rattle.std.proofs.Common.{◌≡◌, ℕ, List, length, refl, sym, ◌∙◌, subst, arith, rules}
 use Rattle.pp_machine.specs.NeedAndEffect.{need}
-use Rattle.pp_machine.specs.declared.answer.Answer.{Answer}
-use Rattle.pp_machine.specs.declared.need.Need.{Need}
+use Rattle.pp_runner.specs.Types.{Answer, Need}
 use Rattle.pp_runner.specs.Labour.{IsAtWork, IsAnswered}
 use Rattle.pp_runner.proofs.LabourLemmas.{work_moved, work_held, work_worn}
 use Rattle.pp_runner.proofs.labour.Labour.try_step.Goals as goal
