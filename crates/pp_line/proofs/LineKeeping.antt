@@ -1,5 +1,5 @@
 -- The log of a line goes with its view, through its steps and its calls.
-use Rattle.std.proofs.Common.{◌≡◌, ◌≢◌, ℕ, zero, suc, ◌+◌, ◌-◌, ◌<◌, ◌≤◌, true, List, [], ◌∷◌, ◌++◌, length, take, drop, refl, sym, ap, ◌∙◌, subst, arith}
+use Rattle.std.proofs.Common.{◌≡◌, ◌≢◌, ℕ, zero, suc, ◌+◌, ◌-◌, ◌<◌, ◌≤◌, true, List, [], ◌∷◌, ◌++◌, length, take, drop, get_or, refl, sym, ap, ◌∙◌, subst, arith}
 use Rattle.std.specs.Prelude.{All, Contains, slice_set, Option, Some, None, IfSome, IfNone, MatchBool, Bool, false}
 use Rattle.std.specs.List.{flat_map}
 use Rattle.std.proofs.lemmas.List.{length-set, length-append, get_or-set_same, take-append-drop}
@@ -30,40 +30,36 @@ backed_more v w events found c number (Saw f) b = (b.0, found (record { channel 
 all_backed_more : (v w : LineView) → ((x : Entry) → Contains v.events x → Contains w.events x) → ((x : FoundWord) → Contains v.found x → Contains w.found x) → (log : List Entry) → All (IsBacked v) log → All (IsBacked w) log
 all_backed_more v w events found log b = All-weaker (IsBacked v) (IsBacked w) (λ x. backed_more v w events found x.channel x.number x.what) log b
 
--- a view that differs in its shares alone, or in its unrecorded loads
-pub log_of_same : {v : LineView} {log : List Entry} (w : LineView) → IsLogOf v log → w.events ≡ v.events → w.found ≡ v.found → w.seen ≡ v.seen → w.program_orders ≡ v.program_orders → IsLogOf w log
-log_of_same {v} {log} w is events found seen program_orders = record {
-  each_channel = ap length seen ∙ is.each_channel;
+-- a view that has the same events, and has found and seen more
+log_grown : {v : LineView} {log : List Entry} (w : LineView) → IsLogOf v log → w.events ≡ v.events → ((x : FoundWord) → Contains v.found x → Contains w.found x) → length w.seen ≡ length v.seen → ((d : ℕ) → get_or v.seen d 0 ≤ get_or w.seen d 0)
+    → 0 < length w.program_orders → IsDrawnFrom w.program_orders log → IsLogOf w log
+log_grown {v} {log} w is events found long raised some drawn = record {
+  each_channel = long ∙ is.each_channel;
   told = λ c n. is.told c n ∙ ap (λ es. times_logged c n es) (sym events);
-  backed = all_backed_more v w (λ x b. subst (λ es. Contains es x) (sym events) b) (λ x b. subst (λ es. Contains es x) (sym found) b) log is.backed;
-  within = rw seen is.within;
-  some_program_order = rw program_orders is.some_program_order;
-  drawn = rw program_orders is.drawn;
+  backed = all_backed_more v w (λ x b. subst (λ es. Contains es x) (sym events) b) found log is.backed;
+  within = within_more v.seen w.seen raised log is.within;
+  some_program_order = some;
+  drawn = drawn;
 }
+
+-- one that differs in its shares alone, or in its unrecorded loads
+pub log_of_same : {v : LineView} {log : List Entry} (w : LineView) → IsLogOf v log → w.events ≡ v.events → w.found ≡ v.found → w.seen ≡ v.seen → w.program_orders ≡ v.program_orders → IsLogOf w log
+log_of_same {v} {log} w is events found seen program_orders =
+    log_grown w is events (λ x b. subst (λ es. Contains es x) (sym found) b) (ap length seen) (λ d. let same = ap (λ s. get_or s d 0) seen in omega (arith, same)) (rw program_orders is.some_program_order) (rw program_orders is.drawn)
 
 -- a load found a word
 pub log_of_load : {v w : LineView} {c word : ℕ} {log : List Entry} → IsLoad c v word w → IsLogOf v log → IsLogOf w log
 log_of_load {v} {w} {c} {word} {log} load is =
     let P : LineView → Type 0 = λ x. IsLogOf x log in
-    subst P (sym load.after_is) (record {
-      each_channel = length-set v.seen (channel_index c) (number_in word) ∙ is.each_channel;
-      told = is.told;
-      backed = all_backed_more v (finds v c word) (λ x b. b) (Contains-append_left v.found (record { channel = c; word = word } ∷ [])) log is.backed;
-      within = within_more v.seen (slice_set v.seen (channel_index c) (number_in word)) (λ d. set_raises v.seen (channel_index c) (number_in word) d (not_older_told load.tells)) log is.within;
-      some_program_order = omega (arith, is.some_program_order, length-extended v.program_orders (OnChannel (look_by c word) ∷ []));
-      drawn = drawn_extended v.program_orders log (OnChannel (look_by c word) ∷ []) is.drawn;
-    })
+    subst P (sym load.after_is) (log_grown (finds v c word) is refl (Contains-append_left v.found (record { channel = c; word = word } ∷ []))
+    (length-set v.seen (channel_index c) (number_in word)) (λ d. set_raises v.seen (channel_index c) (number_in word) d (not_older_told load.tells))
+    (omega (arith, is.some_program_order, length-extended v.program_orders (OnChannel (look_by c word) ∷ []))) (drawn_extended v.program_orders log (OnChannel (look_by c word) ∷ []) is.drawn))
 
 -- an access that is none to a channel
 pub log_beside : {v : LineView} {log : List Entry} (access : Access) (written : List ℕ) → IsLogOf v log → IsLogOf (record v { written = written; program_orders = extended v.program_orders (access ∷ []) }) log
-log_beside {v} {log} access written is = record {
-  each_channel = is.each_channel;
-  told = is.told;
-  backed = all_backed_more v (record v { written = written; program_orders = extended v.program_orders (access ∷ []) }) (λ x b. b) (λ x b. b) log is.backed;
-  within = is.within;
-  some_program_order = omega (arith, is.some_program_order, length-extended v.program_orders (access ∷ []));
-  drawn = drawn_extended v.program_orders log (access ∷ []) is.drawn;
-}
+log_beside {v} {log} access written is =
+    log_grown (record v { written = written; program_orders = extended v.program_orders (access ∷ []) }) is refl (λ x b. b) refl (λ d. omega arith)
+    (omega (arith, is.some_program_order, length-extended v.program_orders (access ∷ []))) (drawn_extended v.program_orders log (access ∷ []) is.drawn)
 
 -- the front of a log, and a last entry
 set_end : {A : Type 0} (xs : List A) (n : ℕ) (y : A) → length xs ≡ n + 1 → slice_set xs n y ≡ take n xs ++ y ∷ []

@@ -28,6 +28,9 @@ once_inside number end l = ap (λ b. cond b 1 0) (lt-ltb number end l)
 pub once_past : (number end : ℕ) → end ≤ number → once_below number end ≡ 0
 once_past number end l = ap (λ b. cond b 1 0) (le-ltb number end l)
 
+pub once_most : (number end : ℕ) → once_below number end ≤ 1
+once_most number end = ⊎_elim (λ (l : number < end). omega (arith, once_inside number end l)) (λ (l : end ≤ number). omega (arith, once_past number end l)) (cases_lt number end)
+
 -- how often each event is told
 abbrev pub TellsOnce : List (List Event) → List Entry → Type 0
 TellsOnce histories log = (c number : ℕ) → times_logged c number log ≡ once_below number (length (history_on c histories))

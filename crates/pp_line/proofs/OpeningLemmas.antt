@@ -21,7 +21,7 @@ use Rattle.pp_channel.specs.History.{history_on}
 use Rattle.pp_channel.proofs.AnswerLemmas.{answer_by_table}
 use Rattle.pp_channel.proofs.HistoryLemmas.{lawful_empty}
 use Rattle.pp_line.proofs.ListFacts.{All-front, All-back}
-use Rattle.pp_line.proofs.MergeLemmas.{once_inside, once_past, told_by, told_here, told_not, told_elsewhere, true_front, tells_once, times_told-append, times_told_push}
+use Rattle.pp_line.proofs.MergeLemmas.{once_below, once_inside, once_most, once_past, told_by, told_elsewhere, told_next, true_front, tells_once, times_told-append, times_told_push}
 
 -- an entry is true of histories, one for each number of a channel
 abbrev IsTrueIn : (ℕ → List Event) → Entry → Type 0
@@ -57,29 +57,34 @@ prefix_by_places (x ∷ some) (y ∷ all) same =
     let rest = prefix_by_places some all (λ n l. same (suc n) (omega arith)) in
     (rest.0, ap (λ l. x ∷ l) rest.1 ∙ ap (λ z. z ∷ all) is)
 
+-- a log of opening histories, by one count
+tells_opening : (opening : ℕ → List Event) (log : List Entry) → IsOpeningLog opening log → (c number : ℕ) → times_logged c number log ≡ once_below number (length (opening c))
+tells_opening opening log is c number =
+    let end : ℕ = length (opening c) in
+    ⊎_elim (λ (l : number < end). is.once c number l ∙ sym (once_inside number end l)) (λ (l : end ≤ number). is.no_other c number l ∙ sym (once_past number end l)) (cases_lt number end)
+
+opening_by : (opening : ℕ → List Event) (log : List Entry) → ((c number : ℕ) → times_logged c number log ≡ once_below number (length (opening c))) → All (IsTrueIn opening) log → IsOpeningLog opening log
+opening_by opening log tells true_of = record {
+  once = λ c number l. tells c number ∙ once_inside number (length (opening c)) l;
+  no_other = λ c number l. tells c number ∙ once_past number (length (opening c)) l;
+  entries_true = true_of;
+}
+
 -- one log beside another that is taken out
 merges_by_counts : (opening : ℕ → List Event) (histories : List (List Event)) (first log whole : List Entry)
     → IsOpeningLog opening first → Merges no_opening histories whole
     → ((c number : ℕ) → times_logged c number whole ≡ times_logged c number first + times_logged c number log)
     → All (IsTrueOf histories) first → All (IsTrueOf histories) log → Merges opening histories log
 merges_by_counts opening histories first log whole is m sum first_true log_true =
-    let counted = tells_once histories whole m in
+    let all = tells_once histories whole m in
+    let some = tells_opening opening first is in
     record {
       once = λ c number from below.
-          let w = counted c number ∙ once_inside number (length (history_on c histories)) below in
-          let f = is.no_other c number from in
-          let s = sum c number in omega (arith, w, f, s);
+          omega (arith, sum c number, all c number, some c number, once_inside number (length (history_on c histories)) below, once_past number (length (opening c)) from);
       no_other = λ c number out.
-          ⊎_elim (λ (l : number < length (opening c)).
-          let f = is.once c number l in
-          let s = sum c number in
-          let w = counted c number in
-          ⊎_elim (λ (below : number < length (history_on c histories)). let o = once_inside number (length (history_on c histories)) below in omega (arith, w, f, s, o))
-          (λ (past : length (history_on c histories) ≤ number). let o = once_past number (length (history_on c histories)) past in omega (arith, w, f, s, o))
-          (cases_lt number (length (history_on c histories))))
-          (λ (past : length (history_on c histories) ≤ number).
-          let w = counted c number ∙ once_past number (length (history_on c histories)) past in
-          let s = sum c number in omega (arith, w, s)) out;
+          ⊎_elim
+          (λ (l : number < length (opening c)). omega (arith, sum c number, all c number, some c number, once_inside number (length (opening c)) l, once_most number (length (history_on c histories))))
+          (λ (past : length (history_on c histories) ≤ number). omega (arith, sum c number, all c number, once_past number (length (history_on c histories)) past)) out;
       begins = λ c. prefix_by_places (opening c) (history_on c histories)
           (λ number l. let f = is.once c number l in same_by_log c number opening (λ d. history_on d histories) first (omega (arith, f)) is.entries_true first_true);
       entries_true = log_true;
@@ -96,40 +101,27 @@ merges_after opening histories first log is m =
 pub opening_more : (before after : ℕ → List Event) (c : ℕ) (log : List Entry) → before c ≡ [] → after c ≡ Activate ∷ [] → ((d : ℕ) → d ≢ c → after d ≡ before d) → IsOpeningLog before log → IsOpeningLog after (log ++ event_entry c 0 Activate ∷ [])
 opening_more before after c log none one same is =
     let entry : Entry = event_entry c 0 Activate in
-    let empty : length (before c) ≡ 0 = ap length none in
-    let single : length (after c) ≡ 1 = ap length one in
-    let at_c : (d : ℕ) → d ≡ c → length (after d) ≡ 1 = λ d e. ap (λ x. length (after x)) e ∙ single in
-    let was_c : (d number : ℕ) → d ≡ c → times_logged d number log ≡ 0 = λ d number e. ap (λ x. times_logged x number log) e ∙ is.no_other c number (omega (arith, empty)) in
-    let elsewhere : (d : ℕ) → d ≢ c → length (after d) ≡ length (before d) = λ d other. ap length (same d other) in
     let grows : (d : ℕ) → IsPrefix (before d) (after d) = λ d. dite (ℕ_discrete d c)
     (λ (e : d ≡ c). (Activate ∷ [], ap (λ h. h ++ Activate ∷ []) (ap before e ∙ none) ∙ sym (ap after e ∙ one)))
     (λ (other : d ≢ c). ([], append-nil (before d) ∙ sym (same d other))) in
-    record {
-      once = λ d number below.
-          let sum = times_told_push d number log entry in
-          dite (ℕ_discrete d c)
-          (λ (e : d ≡ c).
-          let first : 0 ≡ number = omega (arith, below, at_c d e) in
-          let here = told_here d number c 0 Activate (sym e) first in
-          let was = was_c d number e in omega (arith, sum, here, was))
-          (λ (other : d ≢ c).
-          let away = told_elsewhere d number c 0 Activate (λ e. other (sym e)) in
-          let was = is.once d number (omega (arith, below, elsewhere d other)) in omega (arith, sum, away, was));
-      no_other = λ d number from.
-          let sum = times_told_push d number log entry in
-          dite (ℕ_discrete d c)
-          (λ (e : d ≡ c).
-          let later : 0 ≢ number = omega (arith, from, at_c d e) in
-          let away = told_not d number c 0 Activate (inr later) in
-          let was = was_c d number e in omega (arith, sum, away, was))
-          (λ (other : d ≢ c).
-          let away = told_elsewhere d number c 0 Activate (λ e. other (sym e)) in
-          let was = is.no_other d number (omega (arith, from, elsewhere d other)) in omega (arith, sum, away, was));
-      entries_true = All-push (IsTrueIn after) log entry
-          (All-weaker (IsTrueIn before) (IsTrueIn after) (λ x p. let g = grows x.channel in
-          subst (λ h. IsTrueAt h x.number x.what) g.1 (true_front (before x.channel) g.0 x.number x.what p)) log is.entries_true)
-          (ap (λ h. slice_get h 0) one);
-    }
+    opening_by after (log ++ entry ∷ [])
+    (λ d number.
+    let sum = times_told_push d number log entry in
+    let was = tells_opening before log is d number in
+    dite (ℕ_discrete d c)
+    (λ (e : d ≡ c).
+    let next = told_next d number c 0 Activate (sym e) in
+    let old : once_below number (length (before d)) ≡ once_below number 0 = ap (λ h. once_below number (length h)) (ap before e ∙ none) in
+    let new : once_below number (length (after d)) ≡ once_below number (0 + 1) = ap (λ h. once_below number (length h)) (ap after e ∙ one) in
+    omega (arith, sum, was, next, old, new))
+    (λ (other : d ≢ c).
+    let away = told_elsewhere d number c 0 Activate (λ e. other (sym e)) in
+    let kept = ap (λ h. once_below number (length h)) (same d other) in
+    omega (arith, sum, was, away, kept)))
+    (All-push (IsTrueIn after) log entry
+    (All-weaker (IsTrueIn before) (IsTrueIn after) (λ x p. let g = grows x.channel in
+    subst (λ h. IsTrueAt h x.number x.what) g.1 (true_front (before x.channel) g.0 x.number x.what p)) log is.entries_true)
+    (ap (λ h. slice_get h 0) one))
 
 -- histories that are the same
 pub opening_same : (before after : ℕ → List Event) (log : List Entry) → ((d : ℕ) → before d ≡ after d) → IsOpeningLog before log → IsOpeningLog after log

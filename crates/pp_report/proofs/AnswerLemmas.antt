@@ -6,14 +6,7 @@ use Rattle.std.proofs.lemmas.Bool.{cases_lt}
 use Rattle.pp_channel.specs.Answer.{event_of, event_with, flags_of, channel_state, operation_of, ready_at, reply_made, reply_by, reply_to, seen_answered}
 use Rattle.pp_channel.specs.AnswerLaws.{held_at}
 use Rattle.pp_channel.specs.History.{IsLawful, waiting}
-use Rattle.pp_channel.specs.declared.chan_op.ChanOp.{ChanOp}
-use Rattle.pp_line.specs.declared.access.Access.{Access}
-use Rattle.pp_line.specs.declared.entry.Entry.{Entry}
-use Rattle.pp_channel.specs.declared.seen.Seen.{Seen}
-use Rattle.pp_channel.specs.declared.seen.Seen.TheVariants.{Did, Saw}
-use Rattle.pp_channel.specs.declared.event.Event.{Event}
-use Rattle.pp_channel.specs.declared.flags.Flags.{Flags}
-use Rattle.pp_channel.specs.declared.reply.Reply.{Reply}
+use Rattle.pp_report.specs.Types.{Access, Answer, ChanOp, Did, Entry, Event, Flags, Need, Outcome, PpState, Reply, Saw, Seen}
 use Rattle.pp_channel.proofs.AnswerLemmas.{table_of_ready}
 use Rattle.pp_machine.specs.Block.{block_word}
 use Rattle.pp_machine.specs.FitLaws.{acts_where_held, tells_where_fits}
@@ -21,13 +14,9 @@ use Rattle.pp_machine.specs.NeedAndEffect.{need, step_of, outcome, is_held, if_r
 use Rattle.pp_machine.specs.Processor.{Processor, word_at}
 use Rattle.pp_machine.specs.Replay.{fits, reply_fits}
 use Rattle.pp_machine.specs.Step.{need_of}
-use Rattle.pp_machine.specs.declared.answer.Answer.{Answer}
 use Rattle.pp_machine.specs.declared.block.Block.{Block}
 use Rattle.pp_machine.specs.declared.block.BlockKind.{BlockKind}
 use Rattle.pp_machine.specs.declared.block.BlockKind.TheVariants.{CentralIn, CentralOut, Input, Output}
-use Rattle.pp_machine.specs.declared.need.Need.{Need}
-use Rattle.pp_machine.specs.declared.outcome.Outcome.{Outcome}
-use Rattle.pp_machine.specs.declared.pp_state.PpState.{PpState}
 use Rattle.pp_machine.specs.declared.pp_state.PpState.TheVariants.{Running, Stopped, Fault}
 use Rattle.pp_machine.proofs.StepLemmas.{at_rest, nothing_at_rest}
 use Rattle.pp_runner.specs.Accesses.{accesses_by}

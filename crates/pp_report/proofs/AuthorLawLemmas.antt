@@ -7,9 +7,8 @@ use Rattle.std.proofs.lemmas.Iterator.Adapters.{position_from-zero}
 use Rattle.pp_line.proofs.MergeLemmas.{times_told-append}
 use Rattle.pp_line.specs.Merge.{Merges, times_logged}
 use Rattle.pp_channel.specs.History.{history_on}
-use Rattle.pp_channel.specs.declared.event.Event.{Event}
+use Rattle.pp_report.specs.Types.{Event, Worker}
 use Rattle.pp_runner.specs.WorkerReport.{logs_of}
-use Rattle.pp_runner.specs.declared.worker.Worker.{Worker}
 use Rattle.pp_report.specs.PrintedReport.{author_place}
 
 -- where a search passes over a log, that log does not tell the event

@@ -8,9 +8,8 @@ use Rattle.std.proofs.lemmas.Iterator.Adapters.{position_from-zero}
 use Rattle.std.proofs.lemmas.List.{get_or_default, length-take-le}
 use Rattle.pp_channel.specs.ChannelNo.{channel_index, names_channel}
 use Rattle.pp_channel.specs.History.{history_on}
-use Rattle.pp_channel.specs.declared.event.Event.{Event}
+use Rattle.pp_report.specs.Types.{Event, Worker}
 use Rattle.pp_machine.specs.PpNo.{processor_count, processor_number}
-use Rattle.pp_runner.specs.declared.worker.Worker.{Worker}
 use Rattle.pp_report.specs.Authors.{AreAuthors, AreAuthorsOn, or_known}
 use Rattle.pp_report.specs.PrintedReport.{author_place}
 

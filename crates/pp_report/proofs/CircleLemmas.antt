@@ -15,10 +15,7 @@ use Rattle.pp_line.specs.Merge.{IsTrueOf, Merges, no_opening, times_logged}
 use Rattle.pp_line.proofs.MergeLemmas.{TellsOnce, merges_by, once_below, once_past}
 use Rattle.pp_line.proofs.ListFacts.{same_everywhere}
 use Rattle.pp_line.specs.Order.{IsLegal, ComesAfter, IsTotalOrderOf, made_on}
-use Rattle.pp_line.specs.declared.entry.Entry.{Entry}
-use Rattle.pp_channel.specs.declared.seen.Seen.{Seen}
-use Rattle.pp_channel.specs.declared.seen.Seen.TheVariants.{Did, Saw}
-use Rattle.pp_channel.specs.declared.event.Event.{Event}
+use Rattle.pp_report.specs.Types.{Did, Entry, Event, Saw, Seen}
 use Rattle.pp_report.specs.Circle.{histories_of_circle, one_log, other_log}
 
 -- the histories

@@ -4,8 +4,7 @@ use Rattle.std.proofs.Math.Seq.{take-suc}
 use Rattle.std.proofs.lemmas.Grind.{flat_map-append}
 use Rattle.std.proofs.lemmas.List.{append-nil, length-take-le}
 use Rattle.std.specs.List.{enumerate_from, flat_map}
-use Rattle.pp_channel.specs.declared.event.Event.{Event}
-use Rattle.pp_runner.specs.declared.worker.Worker.{Worker}
+use Rattle.pp_report.specs.Types.{Event, Worker}
 use Rattle.pp_report.specs.PrintedReport.{author_place, line_by, numbered_event_line}
 
 module _ {X : Type 0} where

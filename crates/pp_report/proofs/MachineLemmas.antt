@@ -12,22 +12,16 @@ use Rattle.pp_channel.specs.Answer.{event_of, reply_to}
 use Rattle.pp_channel.specs.ChannelNo.{channel_count, channel_index, names_channel}
 use Rattle.pp_channel.specs.ChannelPlaces.{place_below, one_place}
 use Rattle.pp_channel.specs.History.{history_on}
-use Rattle.pp_channel.specs.declared.chan_op.ChanOp.{ChanOp}
-use Rattle.pp_channel.specs.declared.event.Event.{Event}
-use Rattle.pp_channel.specs.declared.reply.Reply.{Reply}
+use Rattle.pp_report.specs.Types.{Answer, ChanOp, Event, Moved, Need, Profile, Reply}
 use Rattle.pp_machine.specs.MachineState.{MachineState, processor_of, history_of}
 use Rattle.pp_machine.specs.MachineStep.{stepped, step_outcome, answer_to, histories_after, central_after}
 use Rattle.pp_machine.specs.NeedAndEffect.{need, outcome, processor_after}
-use Rattle.pp_machine.specs.declared.outcome.Outcome.TheVariants.{Moved}
 use Rattle.pp_machine.specs.PpNo.{processor_index, processor_number}
 use Rattle.pp_machine.specs.Processor.{Processor, no_processor}
 use Rattle.pp_machine.specs.ProcessorPlaces.{number_at, place_of_number}
 use Rattle.pp_machine.specs.Profile.{has_processor, processors_in}
 use Rattle.pp_machine.specs.ProfilePlaces.{has_at, most_processors}
 use Rattle.pp_machine.specs.Run.{run}
-use Rattle.pp_machine.specs.declared.answer.Answer.{Answer}
-use Rattle.pp_machine.specs.declared.need.Need.{Need}
-use Rattle.pp_machine.specs.declared.profile.Profile.{Profile}
 use Rattle.pp_report.specs.Serial.{answers_along}
 
 -- what has come to pass: the history of each channel, and the words of central memory

@@ -7,10 +7,7 @@ use Rattle.std.proofs.lemmas.List.Elements.{All-cons, All-head, All-map, All-nil
 use Rattle.pp_channel.specs.ChannelNo.{channel_count, channel_number}
 use Rattle.pp_channel.specs.ChannelPlaces as channel_places
 use Rattle.pp_channel.specs.History.{history_on}
-use Rattle.pp_line.specs.declared.access.Access.{Access}
-use Rattle.pp_channel.specs.declared.chan_op.ChanOp.{ChanOp}
-use Rattle.pp_line.specs.declared.entry.Entry.{Entry}
-use Rattle.pp_channel.specs.declared.event.Event.{Event}
+use Rattle.pp_report.specs.Types.{Access, Answer, ChanOp, End, Entry, Event, Need, PpState, Report, Worker}
 use Rattle.pp_machine.specs.MachineState.{MachineState, history_of, processor_of}
 use Rattle.pp_machine.specs.MachineStep.{answer_to, stepped}
 use Rattle.pp_machine.specs.NeedAndEffect.{need, processor_after}
@@ -19,19 +16,13 @@ use Rattle.pp_machine.specs.Processor.{Processor, IsAtRest, no_processor}
 use Rattle.pp_machine.specs.ProcessorPlaces as processor_places
 use Rattle.pp_machine.specs.Profile.{processors_in}
 use Rattle.pp_machine.specs.Run.{run}
-use Rattle.pp_machine.specs.declared.answer.Answer.{Answer}
-use Rattle.pp_machine.specs.declared.need.Need.{Need}
 use Rattle.pp_machine.proofs.MachineStepLemmas.{event_at_rest, stepped_at_rest}
-use Rattle.pp_machine.specs.declared.pp_state.PpState.{PpState}
 use Rattle.pp_run.specs.Determinacy.{AreAlike, IsQuiet, ShowsParts, Stays, TurnsInPlace, Waits}
 use Rattle.pp_run.proofs.StepFacts.{central_by, event_by, event_by_need, length_histories, length_processors, own_step}
 use Rattle.pp_runner.specs.End.{IsEnd}
 use Rattle.pp_runner.specs.Limits.{RunLimits}
 use Rattle.pp_runner.specs.Report.{IsReportOf}
 use Rattle.pp_runner.specs.WorkerReport.{AreWorkers}
-use Rattle.pp_runner.specs.declared.end.End.{End}
-use Rattle.pp_runner.specs.declared.report.Report.{Report}
-use Rattle.pp_runner.specs.declared.worker.Worker.{Worker}
 use Rattle.pp_report.specs.Serial.{LeadsTo, processors_left}
 use Rattle.pp_report.specs.OneRun.{CannotMove, EndsAtRest, IsOver, ShowsPartsOf}
 

@@ -11,7 +11,7 @@ use Rattle.pp_channel.proofs.EachHistory.{lawful_on}
 use Rattle.pp_channel.specs.ChannelNo.{all_channels, names_channel}
 use Rattle.pp_channel.specs.History.{IsLawful, history_on}
 use Rattle.pp_line.specs.Merge.{Merges}
-use Rattle.pp_channel.specs.declared.event.Event.{Event}
+use Rattle.pp_report.specs.Types.{End, Event, Report, Worker}
 use Rattle.pp_channel.specs.declared.event.Event.TheVariants.{Activate}
 use Rattle.pp_deck.specs.DeckText.{lines_of}
 use Rattle.pp_machine.specs.Headline.{opening_history}
@@ -19,9 +19,6 @@ use Rattle.pp_machine.specs.MachineState.{MachineState}
 use Rattle.pp_machine.specs.PpNo.{all_processors, names_processor, processor_index, processor_number, is_named}
 use Rattle.pp_runner.specs.Limits.{RunLimits}
 use Rattle.pp_runner.specs.WorkerReport.{logs_of}
-use Rattle.pp_runner.specs.declared.end.End.{End}
-use Rattle.pp_runner.specs.declared.report.Report.{Report}
-use Rattle.pp_runner.specs.declared.worker.Worker.{Worker}
 use Rattle.pp_report.proofs.ReportLawLemmas.{numbered_channel_events, told_after, unnamed_line, with_number}
 use Rattle.pp_report.specs.PrintedReport.{author_place, channel_events, end_text, line_by, named_worker_line, numbered_event_line, printed_report, worker_line}
 use Rattle.pp_deck.proofs.FieldTextLemmas.{is_plain}

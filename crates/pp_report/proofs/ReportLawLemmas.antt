@@ -10,18 +10,15 @@ use Rattle.pp_channel.specs.ChannelNo.{names_channel}
 use Rattle.pp_channel.specs.ChannelPlaces as channel_places
 use Rattle.pp_channel.specs.History.{IsLawful, active, waiting, history_on}
 use Rattle.pp_line.specs.Merge.{Merges}
-use Rattle.pp_channel.specs.declared.event.Event.{Event}
+use Rattle.pp_report.specs.Types.{End, Event, Report, Worker}
 use Rattle.pp_channel.proofs.EachHistory.{lawful_on}
 use Rattle.pp_machine.specs.Headline.{opening_history}
 use Rattle.pp_machine.specs.MachineState.{MachineState, is_opened}
 use Rattle.pp_machine.specs.PpNo.{names_processor, processor_index, processor_number, is_named}
 use Rattle.pp_machine.specs.ProcessorPlaces as processor_places
 use Rattle.pp_runner.specs.End.{HasEndNumber}
-use Rattle.pp_runner.specs.declared.end.End.{End}
 use Rattle.pp_runner.specs.declared.end.End.TheVariants.{Stopped, Fault, Steps, Patience, Memory, Worn}
-use Rattle.pp_runner.specs.declared.report.Report.{Report}
 use Rattle.pp_runner.specs.WorkerReport.{logs_of}
-use Rattle.pp_runner.specs.declared.worker.Worker.{Worker}
 use Rattle.pp_word.specs.Numeral.{decimal, digits, octal, unpadded}
 use Rattle.pp_report.specs.PrintedReport.{author_place, channel_events, end_text, line_by, named_worker_line, numbered_event_line, printed_report, worker_line}
 use Rattle.pp_text.specs.PrintedText.{channel_text, event_text, line_end, processor_line, used_channel_line}

@@ -15,16 +15,9 @@ use Rattle.pp_channel.specs.History.{IsLawful, history_on}
 use Rattle.pp_line.specs.LineLog.{is_event}
 use Rattle.pp_channel.specs.Law.{IsPrefix}
 use Rattle.pp_line.specs.Order.{entries_among, times, writes_among}
-use Rattle.pp_line.specs.declared.access.Access.{Access}
-use Rattle.pp_line.specs.declared.access.Access.TheVariants.{OnChannel, Read, Write}
+use Rattle.pp_report.specs.Types.{Access, Answer, ChanOp, Did, Entry, Event, Moved, OnChannel, Profile, Read, Reply, Report, Saw, Seen, Worker, Write}
 use Rattle.pp_line.proofs.OrderLemmas.{entries_more}
 use Rattle.pp_line.specs.Merge.{times_logged}
-use Rattle.pp_channel.specs.declared.chan_op.ChanOp.{ChanOp}
-use Rattle.pp_line.specs.declared.entry.Entry.{Entry}
-use Rattle.pp_channel.specs.declared.seen.Seen.{Seen}
-use Rattle.pp_channel.specs.declared.seen.Seen.TheVariants.{Did, Saw}
-use Rattle.pp_channel.specs.declared.event.Event.{Event}
-use Rattle.pp_channel.specs.declared.reply.Reply.{Reply}
 use Rattle.pp_channel.proofs.EachHistory.{lawful_on}
 use Rattle.pp_line.proofs.MergeLemmas.{told_by, times_told-append}
 use Rattle.pp_machine.specs.Headline.{opening_history}
@@ -37,16 +30,11 @@ use Rattle.pp_machine.specs.ProfilePlaces.{most_processors}
 use Rattle.pp_machine.specs.Run.{run}
 use Rattle.pp_machine.specs.Replay.{OfChannel, fits, contribution, replayed, collected_along, events_given}
 use Rattle.pp_machine.specs.ReplayLaws.{Gives, Gives-counted, Gives-to}
-use Rattle.pp_machine.specs.declared.answer.Answer.{Answer}
-use Rattle.pp_machine.specs.declared.outcome.Outcome.TheVariants.{Moved}
-use Rattle.pp_machine.specs.declared.profile.Profile.{Profile}
 use Rattle.pp_runner.proofs.LabourLemmas.{events_by}
 use Rattle.pp_runner.specs.Accesses.{accesses_by, AreAccessesOf, HasAccessed, HaveAccessed}
 use Rattle.pp_runner.specs.Limits.{RunLimits}
 use Rattle.pp_runner.specs.Report.{IsReportOf}
 use Rattle.pp_runner.specs.WorkerReport.{OfEachAnswer, AllMoved, AllBySize, IsBySize, AreWorkers, IsWorker, event_in, events_in, logs_of}
-use Rattle.pp_runner.specs.declared.report.Report.{Report}
-use Rattle.pp_runner.specs.declared.worker.Worker.{Worker}
 use Rattle.pp_report.specs.Serial.{HasNotRun, IsSerialRunOf, answers_along}
 use Rattle.pp_report.proofs.MachineLemmas.{Past, Stands, AllMove, all_left}
 use Rattle.pp_machine.specs.MachineStep.{stepped, step_outcome}

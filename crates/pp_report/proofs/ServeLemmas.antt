@@ -13,22 +13,13 @@ use Rattle.pp_channel.specs.ChannelNo.{names_channel}
 use Rattle.pp_channel.specs.History.{IsLawful}
 use Rattle.pp_line.specs.Merge.{times_logged}
 use Rattle.pp_line.specs.Order.{IsLegal, ComesAfter, FindsWords, entries_among, left_by, made_at, made_on}
-use Rattle.pp_line.specs.declared.access.Access.{Access}
-use Rattle.pp_line.specs.declared.access.Access.TheVariants.{OnChannel, Read, Write}
-use Rattle.pp_line.specs.declared.entry.Entry.{Entry}
-use Rattle.pp_channel.specs.declared.seen.Seen.{Seen}
-use Rattle.pp_channel.specs.declared.seen.Seen.TheVariants.{Did, Saw}
-use Rattle.pp_channel.specs.declared.event.Event.{Event}
-use Rattle.pp_channel.specs.declared.flags.Flags.{Flags}
+use Rattle.pp_report.specs.Types.{Access, Answer, Did, Entry, Event, Flags, Need, OnChannel, Profile, Read, Saw, Seen, Write}
 use Rattle.pp_channel.proofs.FrontLemmas.{lawful_front}
 use Rattle.pp_line.proofs.MergeLemmas.{told_by, told_here, told_not}
 use Rattle.pp_line.proofs.OrderLemmas.{made_more}
 use Rattle.pp_machine.specs.NeedAndEffect.{need}
 use Rattle.pp_machine.specs.Processor.{Processor}
 use Rattle.pp_machine.specs.Profile.{processors_in}
-use Rattle.pp_machine.specs.declared.answer.Answer.{Answer}
-use Rattle.pp_machine.specs.declared.need.Need.{Need}
-use Rattle.pp_machine.specs.declared.profile.Profile.{Profile}
 use Rattle.pp_runner.specs.WorkerReport.{IsBySize}
 use Rattle.pp_report.proofs.AnswerLemmas.{event_answer, look_answer, made_by}
 use Rattle.pp_report.proofs.MachineLemmas.{Past, Leads, leads_none, leads_on, serves_by, serves_look, serves_event, serves_read, serves_write}

@@ -5,13 +5,10 @@ use Rattle.std.proofs.Math.Dec.{eqb-suc-suc, eqb-suc-zero, eqb-zero-suc}
 use Rattle.std.proofs.lemmas.List.{set-set}
 use Rattle.std.proofs.lemmas.List.Sums.{sum_by-cons}
 use Rattle.std.proofs.lemmas.Option.{slice_get_within}
-use Rattle.pp_line.specs.declared.access.Access.{Access}
+use Rattle.pp_report.specs.Types.{Access, Answer, Moved, Profile}
 use Rattle.pp_machine.specs.NeedAndEffect.{need, outcome, processor_after}
-use Rattle.pp_machine.specs.declared.outcome.Outcome.TheVariants.{Moved}
 use Rattle.pp_machine.specs.Processor.{Processor, no_processor}
 use Rattle.pp_machine.specs.Profile.{processors_in}
-use Rattle.pp_machine.specs.declared.answer.Answer.{Answer}
-use Rattle.pp_machine.specs.declared.profile.Profile.{Profile}
 use Rattle.pp_runner.specs.Accesses.{accesses_by}
 use Rattle.pp_report.proofs.AnswerLemmas.{GoesOn, kind_of}
 use Rattle.pp_report.proofs.MachineLemmas.{Group, Past, Leads, Serves, all_left, leads_none, leads_on, leads_step}

@@ -4,8 +4,7 @@
 use Rattle.std.specs.Prelude.{◌-◌, List, [], ◌∷◌, replicate}
 use Rattle.pp_channel.specs.ChannelNo.{channel_count}
 use Rattle.pp_line.specs.LineLog.{event_entry}
-use Rattle.pp_line.specs.declared.entry.Entry.{Entry}
-use Rattle.pp_channel.specs.declared.event.Event.{Event}
+use Rattle.pp_report.specs.Types.{Entry, Event}
 
 -- on channel 1 a word passes, on channel 2 another, and nothing happens on the other channels
 abbrev pub histories_of_circle : List (List Event)

@@ -6,13 +6,12 @@ use Rattle.std.specs.Prelude.{ℕ, IsTrue, List}
 use Rattle.pp_channel.specs.ChannelNo.{names_channel}
 use Rattle.pp_channel.specs.History.{history_on}
 use Rattle.pp_line.specs.Order.{entries_among, made_on}
-use Rattle.pp_line.specs.declared.access.Access.{Access}
+use Rattle.pp_report.specs.Types.{Access, Report}
 use Rattle.pp_machine.specs.Headline.{HoldsOnChannel, HoldsOnEachChannel, opening_history}
 use Rattle.pp_machine.specs.MachineState.{MachineState}
 use Rattle.pp_machine.specs.Run.{run}
 use Rattle.pp_runner.specs.Limits.{RunLimits}
 use Rattle.pp_runner.specs.Report.{IsReportOf}
-use Rattle.pp_runner.specs.declared.report.Report.{Report}
 use Rattle.pp_report.specs.Serial.{IsSerialRunOf}
 
 -- It holds of a report by threads, whose accesses came in this order: what holds of each channel

@@ -1,3 +1,4 @@
+pub mod Types
 pub mod Serial
 pub mod Circle
 pub mod EveryRun

@@ -1,16 +1,13 @@
 -- What one run of a machine determines of a run by threads.
 use Rattle.std.specs.Prelude.{◌≡◌, ◌⊎◌, ℕ, List, All, slice_index_or}
 use Rattle.pp_channel.specs.History.{history_on}
-use Rattle.pp_channel.specs.declared.chan_op.ChanOp.{ChanOp}
+use Rattle.pp_report.specs.Types.{ChanOp, End, Need, Report}
 use Rattle.pp_machine.specs.MachineState.{MachineState}
 use Rattle.pp_machine.specs.NeedAndEffect.{need}
 use Rattle.pp_machine.specs.PpNo.{processor_index}
 use Rattle.pp_machine.specs.Processor.{Processor, IsAtRest, no_processor}
-use Rattle.pp_machine.specs.declared.need.Need.{Need}
 use Rattle.pp_run.specs.Determinacy.{Stays, TurnsInPlace, history_at, processor_at}
-use Rattle.pp_runner.specs.declared.end.End.{End}
 use Rattle.pp_runner.specs.declared.end.End.TheVariants.{Fault, Stopped}
-use Rattle.pp_runner.specs.declared.report.Report.{Report}
 use Rattle.pp_report.specs.Serial.{processors_left}
 
 -- a processor waits for a channel with the history that a report gives

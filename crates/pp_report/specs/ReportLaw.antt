@@ -3,14 +3,11 @@ use Rattle.std.specs.Prelude.{◌≡◌, ℕ, ◌<◌, ◌^◌, List, Bool, All,
 use Rattle.std.specs.List.{enumerate_from, filter_map}
 use Rattle.pp_channel.specs.ChannelNo.{names_channel}
 use Rattle.pp_channel.specs.History.{HasTwelveBitWord, history_on}
-use Rattle.pp_channel.specs.declared.event.Event.{Event}
+use Rattle.pp_report.specs.Types.{End, Event, Report, Worker}
 use Rattle.pp_machine.specs.MachineState.{MachineState}
 use Rattle.pp_machine.specs.PpNo.{names_processor, processor_index, processor_number, is_named}
 use Rattle.pp_runner.specs.Limits.{RunLimits}
 use Rattle.pp_runner.specs.Report.{IsReportOf}
-use Rattle.pp_runner.specs.declared.end.End.{End}
-use Rattle.pp_runner.specs.declared.report.Report.{Report}
-use Rattle.pp_runner.specs.declared.worker.Worker.{Worker}
 use Rattle.pp_report.specs.PrintedReport.{author_place}
 use Rattle.pp_text.specs.TextLaw.{HistoryFits, ShowSameChannel}
 

@@ -3,7 +3,7 @@ use Rattle.std.specs.Prelude.{◌≡◌, ◌==◌, ℕ, IsTrue, List, [], ◌∷
 use Rattle.std.specs.List.{sum_by}
 use Rattle.pp_channel.specs.ChannelNo.{channel_count, names_channel}
 use Rattle.pp_line.specs.Order.{left_by}
-use Rattle.pp_line.specs.declared.access.Access.{Access}
+use Rattle.pp_report.specs.Types.{Access, Answer, Moved, Report, Worker}
 use Rattle.pp_machine.specs.Headline.{opening_history}
 use Rattle.pp_machine.specs.MachineState.{MachineState, history_of, processor_of}
 use Rattle.pp_machine.specs.NeedAndEffect.{need}
@@ -12,10 +12,6 @@ use Rattle.pp_machine.specs.Processor.{Processor}
 use Rattle.pp_machine.specs.Profile.{processors_in, has_processor}
 use Rattle.pp_machine.specs.MachineStep.{answer_to, step_outcome, stepped}
 use Rattle.pp_machine.specs.Run.{run}
-use Rattle.pp_machine.specs.declared.answer.Answer.{Answer}
-use Rattle.pp_machine.specs.declared.outcome.Outcome.TheVariants.{Moved}
-use Rattle.pp_runner.specs.declared.report.Report.{Report}
-use Rattle.pp_runner.specs.declared.worker.Worker.{Worker}
 
 -- a machine that has not run: all processors and channels are there, and nothing has happened on a
 -- channel but that dead start opened it

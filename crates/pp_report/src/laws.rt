@@ -4,7 +4,7 @@
 ghost use Rattle.std.specs.Prelude.{ℕ, ◌≡◌, ◌<◌, ◌↔◌, All, Bool, IsTrue, List, length, None};
 ghost use Rattle.pp_channel.specs.ChannelNo.{names_channel};
 ghost use Rattle.pp_channel.specs.History.{IsLawful, history_on};
-ghost use Rattle.pp_channel.specs.declared.event.Event.{Event};
+ghost use Rattle.pp_report.specs.Types.{Event, Report, Worker};
 ghost use Rattle.pp_deck.specs.DeckText.{lines_of};
 ghost use Rattle.pp_line.specs.Merge.{Merges};
 ghost use Rattle.pp_machine.specs.Headline.{opening_history};
@@ -12,8 +12,6 @@ ghost use Rattle.pp_machine.specs.MachineState.{MachineState};
 ghost use Rattle.pp_runner.specs.End.{HasEndNumber};
 ghost use Rattle.pp_runner.specs.Limits.{RunLimits};
 ghost use Rattle.pp_runner.specs.WorkerReport.{logs_of};
-ghost use Rattle.pp_runner.specs.declared.report.Report.{Report};
-ghost use Rattle.pp_runner.specs.declared.worker.Worker.{Worker};
 ghost use Rattle.pp_check.specs.LawfulTrace.{AreLawful, history, parsed_lines};
 ghost use Rattle.pp_check.specs.PrintedTrace.{AreOpenedBy};
 ghost use Rattle.pp_report.specs.PrintedReport.{author_place, printed_report};

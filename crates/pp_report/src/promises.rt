@@ -9,16 +9,14 @@ ghost use Rattle.pp_run.specs.Determinacy.{IsDeterminate};
 ghost use Rattle.pp_line.specs.LineLog.{IsMonotone};
 ghost use Rattle.pp_line.specs.Merge.{Merges, no_opening};
 ghost use Rattle.pp_line.specs.Order.{IsTotalOrderOf};
-ghost use Rattle.pp_line.specs.declared.entry.Entry.{Entry};
+ghost use Rattle.pp_report.specs.Types.{Entry, Profile, Report};
 ghost use Rattle.pp_machine.specs.MachineState.{MachineState};
-ghost use Rattle.pp_machine.specs.declared.profile.Profile.{Profile};
 ghost use Rattle.pp_report.specs.Circle.{histories_of_circle, one_log, other_log};
 ghost use Rattle.pp_report.specs.EveryRun.{HoldsOfEveryRun};
 ghost use Rattle.pp_report.specs.OneRun.{EndsAtRest, IsOver, ShowsPartsOf};
 ghost use Rattle.pp_report.specs.Serial.{HasNotRun, IsSerialRunOf, LeadsTo};
 ghost use Rattle.pp_runner.specs.Limits.{RunLimits};
 ghost use Rattle.pp_runner.specs.Report.{IsReportOf};
-ghost use Rattle.pp_runner.specs.declared.report.Report.{Report};
 
 use pp_channel::session_law;
 use pp_deck::deck_law;

@@ -4,51 +4,32 @@ use Rattle.std.proofs.Common.{◌≡◌, ℕ, ◌<◌, ◌≤◌, List, [], Opti
 use Rattle.std.specs.Prelude.{IfNone, IfSome, unwrap_or}
 use Rattle.pp_machine.specs.NeedAndEffect.{need}
 use Rattle.pp_machine.specs.Processor.{Processor}
-use Rattle.pp_runner.specs.End.{IsEnd, NeedsWornChannel, WornWithCause, WasHeld}
+use Rattle.pp_runner.specs.End.{HasEndNumber, IsEnd, NeedsChannel, NeedsWornChannel, WornWithCause, WasHeld}
+
+-- the end of a worker whose processor is running
+end_running : {steps : ℕ} {finish : End} {pp : Processor} {xs : List Answer} {log : List Entry} → pp.state ≡ PpState.Running → HasEndNumber finish → (finish ≡ End.Stopped → ⊥) → ((n : ℕ) → finish ≡ End.Fault n → ⊥)
+    → (finish ≡ End.Steps → length xs ≡ steps) → (finish ≡ End.Patience → (length xs < steps) × WasHeld pp log) → (finish ≡ End.Memory → length xs < steps) → (finish ≡ End.Worn → (length xs < steps) × ((channel : ℕ) × NeedsChannel (need pp) channel)) → IsEnd steps finish pp xs log
+end_running running numbered not_stopped no_fault all held fewer worn = record {
+  stopped = (λ e. absurd (not_stopped e), λ s. absurd cc);
+  fault = λ n. (λ e. absurd (no_fault n e), λ s. absurd cc);
+  numbered = numbered;
+  all_steps = λ e. (running, all e);
+  patience = λ e. (record { running = running; fewer = (held e).0 }, (held e).1);
+  memory = λ e. record { running = running; fewer = fewer e };
+  worn = λ e. (record { running = running; fewer = (worn e).0 }, (worn e).1);
+}
 
 pub end_steps : (steps : ℕ) (pp : Processor) (xs : List Answer) (log : List Entry) → pp.state ≡ PpState.Running → length xs ≡ steps → IsEnd steps End.Steps pp xs log
-end_steps steps pp xs log running all = record {
-  stopped = (λ e. absurd cc, λ s. absurd cc);
-  fault = λ n. (λ e. absurd cc, λ s. absurd cc);
-  numbered = tt;
-  all_steps = λ e. (running, all);
-  patience = λ e. absurd cc;
-  memory = λ e. absurd cc;
-  worn = λ e. absurd cc;
-}
+end_steps steps pp xs log running all = end_running running tt (λ e. absurd cc) (λ n e. absurd cc) (λ e. all) (λ e. absurd cc) (λ e. absurd cc) (λ e. absurd cc)
 
 pub end_patience : (steps : ℕ) (pp : Processor) (xs : List Answer) (log : List Entry) → pp.state ≡ PpState.Running → length xs < steps → WasHeld pp log → IsEnd steps End.Patience pp xs log
-end_patience steps pp xs log running fewer held = record {
-  stopped = (λ e. absurd cc, λ s. absurd cc);
-  fault = λ n. (λ e. absurd cc, λ s. absurd cc);
-  numbered = tt;
-  all_steps = λ e. absurd cc;
-  patience = λ e. (record { running = running; fewer = fewer }, held);
-  memory = λ e. absurd cc;
-  worn = λ e. absurd cc;
-}
+end_patience steps pp xs log running fewer held = end_running running tt (λ e. absurd cc) (λ n e. absurd cc) (λ e. absurd cc) (λ e. (fewer, held)) (λ e. absurd cc) (λ e. absurd cc)
 
 pub end_memory : (steps : ℕ) (pp : Processor) (xs : List Answer) (log : List Entry) → pp.state ≡ PpState.Running → length xs < steps → IsEnd steps End.Memory pp xs log
-end_memory steps pp xs log running fewer = record {
-  stopped = (λ e. absurd cc, λ s. absurd cc);
-  fault = λ n. (λ e. absurd cc, λ s. absurd cc);
-  numbered = tt;
-  all_steps = λ e. absurd cc;
-  patience = λ e. absurd cc;
-  memory = λ e. record { running = running; fewer = fewer };
-  worn = λ e. absurd cc;
-}
+end_memory steps pp xs log running fewer = end_running running tt (λ e. absurd cc) (λ n e. absurd cc) (λ e. absurd cc) (λ e. absurd cc) (λ e. fewer) (λ e. absurd cc)
 
 pub end_worn : (steps : ℕ) (pp : Processor) (xs : List Answer) (log : List Entry) (happened : ℕ → ℕ) → pp.state ≡ PpState.Running → length xs < steps → NeedsWornChannel happened (need pp) → IsEnd steps End.Worn pp xs log
-end_worn steps pp xs log happened running fewer needs = record {
-  stopped = (λ e. absurd cc, λ s. absurd cc);
-  fault = λ n. (λ e. absurd cc, λ s. absurd cc);
-  numbered = tt;
-  all_steps = λ e. absurd cc;
-  patience = λ e. absurd cc;
-  memory = λ e. absurd cc;
-  worn = λ e. (record { running = running; fewer = fewer }, (needs.channel, needs.needs));
-}
+end_worn steps pp xs log happened running fewer needs = end_running running tt (λ e. absurd cc) (λ n e. absurd cc) (λ e. absurd cc) (λ e. absurd cc) (λ e. absurd cc) (λ e. (fewer, (needs.channel, needs.needs)))
 
 -- the end after the last step of the limit: that of a processor at rest, if it is
 pub end_at_last : (steps : ℕ) (pp : Processor) (xs : List Answer) (log : List Entry) (rest : Option End) → IfNone rest (pp.state ≡ PpState.Running)
