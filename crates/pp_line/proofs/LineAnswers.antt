@@ -36,24 +36,22 @@ use Rattle.pp_line.proofs.LineKnowledge.{number_told, flags_told, not_older_told
 put_back : (histories : List (List Event)) (c : ℕ) (h : List Event) → h ≡ history_on c histories → slice_set histories (channel_index c) h ≡ histories
 put_back histories c h is = ap (λ x. slice_set histories (channel_index c) x) is ∙ set-get_or histories (channel_index c) []
 
--- an event is written as the answer to its operation
-written_by : (log : LogState) (c n : ℕ) (e : Event) → with_seen log c n (seen_answered (operation_of e) (reply_made e)) ≡ appended log (event_entry c n e)
-written_by log c n Activate = refl
-written_by log c n Disconnect = refl
-written_by log c n (Put w) = refl
-written_by log c n (Take w) = refl
-written_by log c n (Function w) = refl
+-- what is answered to an operation that makes its event: the event, and no flags
+pub record AnswersAsMade (e : Event) : Type 0 where
+  pub seen : seen_answered (operation_of e) (reply_made e) ≡ Some (Seen.Did e)
+  pub made : event_answered (operation_of e) (reply_made e) ≡ Some e
+  pub no_flags : flags_shown (reply_made e) ≡ None
+
+pub answers_as_made : (e : Event) → AnswersAsMade e
+answers_as_made Activate = record { seen = refl; made = refl; no_flags = refl }
+answers_as_made Disconnect = record { seen = refl; made = refl; no_flags = refl }
+answers_as_made (Put w) = record { seen = refl; made = refl; no_flags = refl }
+answers_as_made (Take w) = record { seen = refl; made = refl; no_flags = refl }
+answers_as_made (Function w) = record { seen = refl; made = refl; no_flags = refl }
 
 -- the events of a view after what an answer made
 abbrev with_made : List Entry → ℕ → ℕ → Option Event → List Entry
 with_made events c n made = events ++ option_to_list (option_map (event_entry c n) made)
-
-made_by : (events : List Entry) (c n : ℕ) (e : Event) → with_made events c n (event_answered (operation_of e) (reply_made e)) ≡ events ++ event_entry c n e ∷ []
-made_by events c n Activate = refl
-made_by events c n Disconnect = refl
-made_by events c n (Put w) = refl
-made_by events c n (Take w) = refl
-made_by events c n (Function w) = refl
 
 none_made : (events : List Entry) (c n : ℕ) (made : Option Event) → made ≡ None → events ≡ with_made events c n made
 none_made events c n made none = sym (append-nil events) ∙ ap (with_made events c n) (sym none)
@@ -64,13 +62,6 @@ found_one n = ap (λ b. n ∷ (if b then [] else n ∷ [])) (sym (eq-eqb n n ref
 
 found_two : (n k : ℕ) → n < k → n ∷ k ∷ [] ≡ n ∷ (if k == n then [] else k ∷ [])
 found_two n k later = ap (λ b. n ∷ (if b then [] else k ∷ [])) (sym (ne_eqb k n (λ same. omega arith)))
-
-counted_by : (n : ℕ) (e : Event) → number_after n (reply_made e) ≡ n + 1
-counted_by n Activate = refl
-counted_by n Disconnect = refl
-counted_by n (Put w) = refl
-counted_by n (Take w) = refl
-counted_by n (Function w) = refl
 
 -- what a load found last, and the line has seen then
 pub found_last : (v w : LineView) (c word : ℕ) → IsLoad c v word w → Contains w.found (record { channel = c; word = word })
@@ -211,13 +202,13 @@ module _ (line : LineState) {now : LineView} {c word : ℕ} (load : IsLoad c lin
       front = ap (take (number_in word)) longer_is ∙ take_at old (e ∷ []) (number_in word) (sym (number_told won.tells))
 
       counted : number_after (number_in word) reply ≡ number_in word + 1
-      counted = ap (λ r. number_after (number_in word) r) reply_is ∙ counted_by (number_in word) e
+      counted = ap (λ r. number_after (number_in word) r) reply_is ∙ ap (λ (f : Option FlagPair). if is_some f then number_in word else number_in word + 1) (answers_as_made e).no_flags
 
       written : with_seen line.log c (number_in word) (seen_answered op reply) ≡ appended line.log (event_entry c (number_in word) e)
-      written = ap (λ r. with_seen line.log c (number_in word) (seen_answered op r)) reply_is ∙ (ap (λ o. with_seen line.log c (number_in word) (seen_answered o (reply_made e))) (sym operation_is) ∙ written_by line.log c (number_in word) e)
+      written = ap (λ r. with_seen line.log c (number_in word) (seen_answered op r)) reply_is ∙ (ap (λ o. with_seen line.log c (number_in word) (seen_answered o (reply_made e))) (sym operation_is) ∙ ap (with_seen line.log c (number_in word)) (answers_as_made e).seen)
 
       made : (events : List Entry) → with_made events c (number_in word) (event_answered op reply) ≡ events ++ event_entry c (number_in word) e ∷ []
-      made events = ap (λ r. with_made events c (number_in word) (event_answered op r)) reply_is ∙ (ap (λ o. with_made events c (number_in word) (event_answered o (reply_made e))) (sym operation_is) ∙ made_by events c (number_in word) e)
+      made events = ap (λ r. with_made events c (number_in word) (event_answered op r)) reply_is ∙ (ap (λ o. with_made events c (number_in word) (event_answered o (reply_made e))) (sym operation_is) ∙ ap (with_made events c (number_in word)) (answers_as_made e).made)
 
       opening : slice_set (with_more made_on c (e ∷ [])) (channel_index c) (take (number_in word) longer) ≡ made_on
       opening = ap (λ h. slice_set (with_more made_on c (e ∷ [])) (channel_index c) h) front ∙ put_before made_on c (e ∷ [])

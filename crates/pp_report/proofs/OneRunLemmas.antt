@@ -18,6 +18,7 @@ use Rattle.pp_machine.specs.Profile.{processors_in}
 use Rattle.pp_machine.specs.Run.{run}
 use Rattle.pp_machine.proofs.MachineStepLemmas.{event_at_rest, stepped_at_rest}
 use Rattle.pp_run.specs.Determinacy.{AreAlike, IsQuiet, ShowsParts, Stays, TurnsInPlace, Waits}
+use Rattle.pp_run.proofs.Moments.{run_histories, run_processors}
 use Rattle.pp_run.proofs.StepFacts.{central_by, event_by, event_by_need, length_histories, length_processors, own_step}
 use Rattle.pp_runner.specs.End.{IsEnd}
 use Rattle.pp_runner.specs.Limits.{RunLimits}
@@ -25,15 +26,6 @@ use Rattle.pp_runner.specs.Report.{IsReportOf}
 use Rattle.pp_runner.specs.WorkerReport.{AreWorkers}
 use Rattle.pp_report.specs.Serial.{LeadsTo, processors_left}
 use Rattle.pp_report.specs.OneRun.{CannotMove, EndsAtRest, IsOver, ShowsPartsOf}
-
--- a run keeps the number of processors and of channels
-many_processors : (ns : List ℕ) (m : MachineState) → length (run ns m).processors ≡ length m.processors
-many_processors [] m = refl
-many_processors (n ∷ ns) m = many_processors ns (stepped n m) ∙ length_processors n m
-
-many_histories : (ns : List ℕ) (m : MachineState) → length (run ns m).histories ≡ length m.histories
-many_histories [] m = refl
-many_histories (n ∷ ns) m = many_histories ns (stepped n m) ∙ length_histories n m
 
 -- a step that waits
 waits_at_rest : (n : ℕ) (m : MachineState) → IsAtRest (processor_of n m) → Waits n m
@@ -78,14 +70,14 @@ module _ {A : Type 0} (others : List ℕ) (m : MachineState) (report : Report A)
 
   pub leads_alike : (ns : List ℕ) → length m.processors ≡ processor_count → length m.histories ≡ channel_count → AreAlike now (run ns m) → LeadsTo ns m report order
   leads_alike ns all each alike =
-      let many = many_processors ns m ∙ all in
-      let channels = many_histories ns m ∙ each in
+      let many = run_processors ns m ∙ all in
+      let channels = run_histories ns m ∙ each in
       record {
-        processors = ext_get_or no_processor (run ns m).processors now.processors (many_processors ns m ∙ sym (many_processors others m)) (λ k inside.
+        processors = ext_get_or no_processor (run ns m).processors now.processors (run_processors ns m ∙ sym (run_processors others m)) (λ k inside.
             subst (λ (i : ℕ). get_or (run ns m).processors i no_processor ≡ get_or now.processors i no_processor)
             (processor_places.place_of_number k (omega (arith, inside, many))) (sym (alike.processors (processor_number k))))
             ∙ leads.processors;
-        histories = ext_get_or [] (run ns m).histories now.histories (many_histories ns m ∙ sym (many_histories others m)) (λ k inside.
+        histories = ext_get_or [] (run ns m).histories now.histories (run_histories ns m ∙ sym (run_histories others m)) (λ k inside.
             subst (λ (i : ℕ). get_or (run ns m).histories i [] ≡ get_or now.histories i [])
             (channel_places.place_of_number k (omega (arith, inside, channels))) (sym (alike.histories (channel_number k))))
             ∙ leads.histories;

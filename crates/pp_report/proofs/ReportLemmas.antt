@@ -38,7 +38,7 @@ use Rattle.pp_runner.specs.WorkerReport.{OfEachAnswer, AllMoved, AllBySize, IsBy
 use Rattle.pp_report.specs.Serial.{HasNotRun, IsSerialRunOf, answers_along}
 use Rattle.pp_report.proofs.MachineLemmas.{Past, Stands, AllMove, all_left}
 use Rattle.pp_machine.specs.MachineStep.{stepped, step_outcome}
-use Rattle.pp_report.proofs.ServeLemmas.{HasNoneLeft, event_times, tells_event, tells_write, times_left, sum_stands, times_cons, NumberedFrom, Ready, Once, Written, serve}
+use Rattle.pp_report.proofs.ServeLemmas.{HasNoneLeft, event_times, tells_event, tells_write, times_left, sum_stands, NumberedFrom, Ready, Once, Written, serve}
 use Rattle.pp_report.proofs.WorkingLemmas.{Working, Does, all_of, left_cons}
 
 -- an answer, and those behind it
@@ -112,7 +112,7 @@ times_weight c number (entry ∷ log) none =
     let sum = sum_by-cons weight entry log in
     let here = told_weight c number entry (omega (arith, sum, none)) in
     let rest = times_weight c number log (omega (arith, sum, none)) in
-    omega (arith, times_cons c number entry log, here, rest)
+    omega (arith, sum_by-cons (told_by c number) entry log, here, rest)
 
 times_same : (c number : ℕ) (xs ys : List Entry) → IsSubsequence xs ys → sum_by weight ys ≤ sum_by weight xs → times_logged c number xs ≡ times_logged c number ys
 times_same c number [] ys h most = sym (times_weight c number ys (omega (arith, most)))
@@ -124,12 +124,12 @@ times_same c number (x ∷ xs) (y ∷ ys) h most =
       | inl p ↦
           let same : weight x ≡ weight y = ap weight p.0 in
           let rest = times_same c number xs ys p.1 (omega (arith, left, right, same, most)) in
-          times_cons c number x xs ∙ ((λ j. told_by c number (p.0 j) + rest j) ∙ sym (times_cons c number y ys))
+          sum_by-cons (told_by c number) x xs ∙ ((λ j. told_by c number (p.0 j) + rest j) ∙ sym (sum_by-cons (told_by c number) y ys))
       | inr q ↦
           let less = sum_stands weight (x ∷ xs) ys q in
           let none = told_weight c number y (omega (arith, less, most, right)) in
           let rest = times_same c number (x ∷ xs) ys q (omega (arith, most, right)) in
-          omega (arith, rest, none, times_cons c number y ys)
+          omega (arith, rest, none, sum_by-cons (told_by c number) y ys)
     ]
 
 -- how often writes among accesses have a number

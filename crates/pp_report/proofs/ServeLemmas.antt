@@ -35,9 +35,6 @@ told_event c number entry e is other = rw is (told_not c number entry.channel en
 told_itself : (entry : Entry) (e : Event) → entry.what ≡ Did e → told_by entry.channel entry.number entry ≡ 1
 told_itself entry e is = rw is (told_here entry.channel entry.number entry.channel entry.number e refl refl)
 
-pub times_cons : (c number : ℕ) (entry : Entry) (entries : List Entry) → times_logged c number (entry ∷ entries) ≡ told_by c number entry + times_logged c number entries
-times_cons c number entry entries = sum_by-cons (told_by c number) entry entries
-
 -- how often an access tells an event, and a write
 abbrev pub tells_event : ℕ → ℕ → Access → ℕ
 tells_event c number (OnChannel entry) = told_by c number entry
@@ -51,7 +48,7 @@ tells_write k (Write a w n) = cond (n == k) 1 0
 
 pub event_times : (c number : ℕ) (xs : List Access) → sum_by (tells_event c number) xs ≡ times_logged c number (entries_among xs)
 event_times c number [] = refl
-event_times c number (OnChannel entry ∷ xs) = omega (arith, sum_by-cons (tells_event c number) (OnChannel entry) xs, event_times c number xs, times_cons c number entry (entries_among xs))
+event_times c number (OnChannel entry ∷ xs) = omega (arith, sum_by-cons (tells_event c number) (OnChannel entry) xs, event_times c number xs, sum_by-cons (told_by c number) entry (entries_among xs))
 event_times c number (Read a w ∷ xs) = omega (arith, sum_by-cons (tells_event c number) (Read a w) xs, event_times c number xs)
 event_times c number (Write a w n ∷ xs) = omega (arith, sum_by-cons (tells_event c number) (Write a w n) xs, event_times c number xs)
 
@@ -104,7 +101,7 @@ not_early c number happened (entry ∷ os) all early =
     let here = told_in_place c number happened entry entry.what refl all.0 early in
     let more = length-append (happened c) (made_on c (entry ∷ [])) in
     let rest = not_early c number (λ d. happened d ++ made_on d (entry ∷ [])) os all.1 (omega (arith, more, early)) in
-    omega (arith, times_cons c number entry os, here, rest)
+    omega (arith, sum_by-cons (told_by c number) entry os, here, rest)
 
 -- the head of what stands among accesses is the first of them, or comes later
 head_here : (xs : List Access) (access : Access) (os : List Access) → IsSubsequence xs (access ∷ os) → IsSubsequence xs os ⊎ ((rest : List Access) × (xs ≡ access ∷ rest) × IsSubsequence rest os)

@@ -1,19 +1,7 @@
 -- The types of channels, processors and reports, from one place.
-pub use Rattle.pp_channel.specs.declared.chan_op.ChanOp.{ChanOp}
-pub use Rattle.pp_channel.specs.declared.event.Event.{Event}
-pub use Rattle.pp_channel.specs.declared.flags.Flags.{Flags}
-pub use Rattle.pp_channel.specs.declared.reply.Reply.{Reply}
-pub use Rattle.pp_channel.specs.declared.seen.Seen.{Seen}
-pub use Rattle.pp_channel.specs.declared.seen.Seen.TheVariants.{Did, Saw}
-pub use Rattle.pp_line.specs.declared.access.Access.{Access}
-pub use Rattle.pp_line.specs.declared.access.Access.TheVariants.{OnChannel, Read, Write}
-pub use Rattle.pp_line.specs.declared.entry.Entry.{Entry}
-pub use Rattle.pp_machine.specs.declared.answer.Answer.{Answer}
-pub use Rattle.pp_machine.specs.declared.need.Need.{Need}
-pub use Rattle.pp_machine.specs.declared.outcome.Outcome.{Outcome}
-pub use Rattle.pp_machine.specs.declared.outcome.Outcome.TheVariants.{Moved}
-pub use Rattle.pp_machine.specs.declared.pp_state.PpState.{PpState}
-pub use Rattle.pp_machine.specs.declared.profile.Profile.{Profile}
+pub use Rattle.pp_runner.specs.Types.{Access, Answer, ChanOp, Did, Entry, Event, Flags, Moved, Need}
+pub use Rattle.pp_runner.specs.Types.{OnChannel, Outcome, PpState, Profile, Read, Reply, Saw, Seen}
+pub use Rattle.pp_runner.specs.Types.{Write}
 pub use Rattle.pp_runner.specs.declared.end.End.{End}
 pub use Rattle.pp_runner.specs.declared.report.Report.{Report}
 pub use Rattle.pp_runner.specs.declared.worker.Worker.{Worker}

@@ -10,6 +10,7 @@ use Rattle.pp_word.specs.Subsequences.{stands_append, stands_later, stands_more,
 use Rattle.pp_line.proofs.ChannelWordLemmas.{number_of_word, flags_of_word}
 use Rattle.pp_channel.proofs.FrontLemmas.{twelve_bits_take}
 use Rattle.pp_channel.proofs.EachHistory.{bits_on}
+use Rattle.pp_line.proofs.LineAnswers.{answers_as_made}
 use Rattle.pp_line.proofs.OrderLemmas.{entries_more}
 use Rattle.pp_channel.specs.Answer.{IsAnswer, channel_state, event_answered, flags_of, flags_shown, reply_made, seen_answered}
 use Rattle.pp_channel.specs.AnswerLaws.{shows_flags}
@@ -54,19 +55,12 @@ last_word r words is =
     ]
 
 -- the flags that an answer shows are those after its number of events
-none_shown : (e : Event) → flags_shown (reply_made e) ≡ None
-none_shown Event.Activate = refl
-none_shown Event.Disconnect = refl
-none_shown (Event.Put w) = refl
-none_shown (Event.Take w) = refl
-none_shown (Event.Function w) = refl
-
 some_flags : (f g : Flags) → Some f ≡ Some g → f ≡ g
 some_flags f g is = cc
 
 shown_at_once : (h after : List Event) (op : ChanOp) (reply : Reply) (f : Flags) → IsAnswer h op reply after → flags_shown reply ≡ Some f → f ≡ flags_of h
 shown_at_once h after op reply f (inl made) shows =
-    let none : Some f ≡ None = sym shows ∙ (ap flags_shown made.1.answered ∙ none_shown made.0) in absurd cc
+    let none : Some f ≡ None = sym shows ∙ (ap flags_shown made.1.answered ∙ (answers_as_made made.0).no_flags) in absurd cc
 shown_at_once h after op reply f (inr shown) shows =
     some_flags f (flags_of h) (sym shows ∙ (ap flags_shown shown.answered ∙ shows_flags op (channel_state h)))
 

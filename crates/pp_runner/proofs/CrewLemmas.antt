@@ -158,11 +158,6 @@ pub promised : {A : Type 0} (load was : Processor) (size steps steps_was : ℕ) 
     → IsEnded was size steps_was line_was ended.0 ended.1 → IsEnded load size steps line ended.0 ended.1
 promised load was size steps steps_was line line_was ended a b c h = rw (← a, ← b, ← c) h
 
--- and a worker that ends as the promise's words say keeps it
-pub promise_kept : {A : Type 0} (load was : Processor) (size steps steps_was : ℕ) (line line_was : LineState) (ended : Ended A × LineState) → was ≡ load → steps_was ≡ steps → line_was ≡ line
-    → IsEnded load size steps line ended.0 ended.1 → IsEnded was size steps_was line_was ended.0 ended.1
-promise_kept load was size steps steps_was line line_was ended a b c h = rw (a, b, c) h
-
 -- a line that gives a share to another has one less, and has opened what it had
 pub opened_split : (m : MachineState) (all some : ℕ) (first after : LineState) → after ≡ record first { view = parent_view first.view } → HasOpened m all some first → HasOpened m all (some - 1) after
 opened_split m all some first after is has = record {

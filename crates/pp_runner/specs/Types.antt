@@ -1,11 +1,5 @@
 -- The types of channels, lines, processors and workers, from one place.
-pub use Rattle.pp_channel.specs.declared.chan_op.ChanOp.{ChanOp}
-pub use Rattle.pp_channel.specs.declared.event.Event.{Event}
-pub use Rattle.pp_channel.specs.declared.flags.Flags.{Flags}
-pub use Rattle.pp_channel.specs.declared.numbered.Numbered.{Numbered}
-pub use Rattle.pp_channel.specs.declared.reply.Reply.{Reply}
-pub use Rattle.pp_channel.specs.declared.seen.Seen.{Seen}
-pub use Rattle.pp_channel.specs.declared.seen.Seen.TheVariants.{Did, Saw}
+pub use Rattle.pp_line.specs.Types.{ChanOp, Did, Event, Flags, Numbered, Reply, Saw, Seen}
 pub use Rattle.pp_line.specs.declared.access.Access.{Access}
 pub use Rattle.pp_line.specs.declared.access.Access.TheVariants.{OnChannel, Read, Write}
 pub use Rattle.pp_line.specs.declared.entry.Entry.{Entry}

@@ -6,17 +6,13 @@ use Rattle.pp_channel.proofs.EachHistory.{lawful_at, bits_at}
 use Rattle.pp_line.proofs.RecordedLemmas.{placed_more}
 use Rattle.pp_line.proofs.recorded_history.recorded_channels.Goals as goal
 
-pub of_history-requires-clause-lawful : goal.of_history-requires-clause-lawful
-of_history-requires-clause-lawful g c =
+pub of_history-requires : goal.of_history-requires
+of_history-requires g c =
     let told = c.requires in
-    let is = c.take_events-events.ensures.events ∙ c.loop-place.invariant.left told.0 told.1 c.loop-place.place (omega arith) in
-    subst (λ (h : List Event). IsLawful h) (sym is) (lawful_at told.0 c.loop-place.place told.1.sound.lawful)
-
-pub of_history-requires-clause-twelve_bits : goal.of_history-requires-clause-twelve_bits
-of_history-requires-clause-twelve_bits g c =
-    let told = c.requires in
-    let is = c.take_events-events.ensures.events ∙ c.loop-place.invariant.left told.0 told.1 c.loop-place.place (omega arith) in
-    subst (λ (h : List Event). HasTwelveBitWords h) (sym is) (bits_at told.0 c.loop-place.place told.1.sound.twelve_bits)
+    let is = c.take_events-events.ensures.events ∙ c.loop-place.invariant.left told.0 told.1 c.loop-place.place (omega arith) in record {
+      lawful = subst (λ (h : List Event). IsLawful h) (sym is) (lawful_at told.0 c.loop-place.place told.1.sound.lawful);
+      twelve_bits = subst (λ (h : List Event). HasTwelveBitWords h) (sym is) (bits_at told.0 c.loop-place.place told.1.sound.twelve_bits);
+    }
 
 pub loop-place-init : goal.loop-place-init
 loop-place-init g c =

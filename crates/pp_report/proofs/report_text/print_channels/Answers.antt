@@ -23,13 +23,12 @@ loop-place-preserved g c =
           (rw (c.channel_of.ensures, number) at c.print_channel_line.ensures.fits),
     )
 
-pub returns-clause-text : goal.returns-clause-text
+pub returns : goal.returns
 unfolding all_channels
-returns-clause-text g c =
-    let all : c.loop-place.place ≡ channel_count = omega arith in
-    subst (λ (k : ℕ). Prints g.W.Write.contents c.args.text.now c.loop-place.text (flat_map (used_channel_line c.args.channels.now) (tabulate k channel_number))) all c.loop-place.invariant.0
-
-pub returns-clause-fits : goal.returns-clause-fits
-returns-clause-fits g c = λ n is.
-    let within : channel_index n < c.loop-place.place = omega (arith, place_below n is) in
-    subst (λ (k : ℕ). HistoryFits (history_on k c.args.channels.now)) (number_of_place n is) (c.loop-place.invariant.1 (channel_index n) within)
+returns g c =
+    let all : c.loop-place.place ≡ channel_count = omega arith in record {
+      text = subst (λ (k : ℕ). Prints g.W.Write.contents c.args.text.now c.loop-place.text (flat_map (used_channel_line c.args.channels.now) (tabulate k channel_number))) all c.loop-place.invariant.0;
+      fits = λ n is.
+          let within : channel_index n < c.loop-place.place = omega (arith, place_below n is) in
+          subst (λ (k : ℕ). HistoryFits (history_on k c.args.channels.now)) (number_of_place n is) (c.loop-place.invariant.1 (channel_index n) within);
+    }

@@ -30,14 +30,13 @@ loop-place-preserved g c workers are =
           c.loop-place.place so_far.1 (rw (c.channel_of.ensures, number) at (c.print_history.ensures.fits workers here)),
     )
 
-pub returns-clause-text : goal.returns-clause-text
+pub returns : goal.returns
 unfolding all_channels
-returns-clause-text g c workers are =
-    let all : c.loop-place.place ≡ channel_count = omega arith in
-    subst (λ (k : ℕ). Prints g.W.Write.contents c.args.text.now c.loop-place.text (flat_map (channel_events workers c.args.channels.now) (tabulate k channel_number))) all (c.loop-place.invariant workers are).0
-
-pub returns-clause-fits : goal.returns-clause-fits
-returns-clause-fits g c workers are = λ n is.
-    let within : channel_index n < c.loop-place.place = omega (arith, place_below n is) in
-    subst (λ (k : ℕ). All FitsItsLine (told_events k workers (history_on k c.args.channels.now))) (number_of_place n is)
-    ((c.loop-place.invariant workers are).1 (channel_index n) within)
+returns g c =
+    let all : c.loop-place.place ≡ channel_count = omega arith in record {
+      text = λ workers are. subst (λ (k : ℕ). Prints g.W.Write.contents c.args.text.now c.loop-place.text (flat_map (channel_events workers c.args.channels.now) (tabulate k channel_number))) all (c.loop-place.invariant workers are).0;
+      fits = λ workers are n is.
+          let within : channel_index n < c.loop-place.place = omega (arith, place_below n is) in
+          subst (λ (k : ℕ). All FitsItsLine (told_events k workers (history_on k c.args.channels.now))) (number_of_place n is)
+          ((c.loop-place.invariant workers are).1 (channel_index n) within);
+    }

@@ -22,16 +22,15 @@ loop-place-preserved g c = (
       c.loop-place.place c.loop-place.invariant.1 (rw c.at.ensures.number at c.print_named_worker.ensures.fits),
 )
 
-pub returns-clause-text : goal.returns-clause-text
+pub returns : goal.returns
 unfolding all_processors
-returns-clause-text g c =
-    let all : c.loop-place.place ≡ processor_count = omega arith in
-    subst (λ (k : ℕ). Prints g.W.Write.contents c.args.text.now c.loop-place.text (flat_map (named_worker_line c.args.named.now c.args.workers.now) (tabulate k processor_number))) all c.loop-place.invariant.0
-
-pub returns-clause-fits : goal.returns-clause-fits
-returns-clause-fits g c = λ n is.
-    let names = left_true (names_processor n) _ is in
-    let again = number_of_place n names in
-    let within : processor_index n < c.loop-place.place = omega (arith, place_below n names) in
-    subst (λ (k : ℕ). IfSome (option_map shown_end (slice_get c.args.workers.now (processor_index k))) FitsItsEnd) again
-    (c.loop-place.invariant.1 (processor_index n) within (subst (λ (k : ℕ). IsTrue (is_named c.args.named.now k)) (sym again) is))
+returns g c =
+    let all : c.loop-place.place ≡ processor_count = omega arith in record {
+      text = subst (λ (k : ℕ). Prints g.W.Write.contents c.args.text.now c.loop-place.text (flat_map (named_worker_line c.args.named.now c.args.workers.now) (tabulate k processor_number))) all c.loop-place.invariant.0;
+      fits = λ n is.
+          let names = left_true (names_processor n) _ is in
+          let again = number_of_place n names in
+          let within : processor_index n < c.loop-place.place = omega (arith, place_below n names) in
+          subst (λ (k : ℕ). IfSome (option_map shown_end (slice_get c.args.workers.now (processor_index k))) FitsItsEnd) again
+          (c.loop-place.invariant.1 (processor_index n) within (subst (λ (k : ℕ). IsTrue (is_named c.args.named.now k)) (sym again) is));
+    }

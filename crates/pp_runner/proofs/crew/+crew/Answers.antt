@@ -1,7 +1,7 @@
-use Rattle.std.proofs.Common.{◌+◌, ◌*◌, ◌∙◌, ap, subst, vec_len, rules, arith}
+use Rattle.std.proofs.Common.{◌+◌, ◌*◌, ◌∙◌, ap, subst, sym, vec_len, rules, arith}
 use Rattle.pp_machine.specs.MachineState.{processor_of}
 use Rattle.pp_machine.specs.PpNo.{processor_number}
-use Rattle.pp_runner.proofs.CrewLemmas.{taken_of, taken_unused, some_left, ready_before, ended_alone, ended_beside, promised, promise_kept}
+use Rattle.pp_runner.proofs.CrewLemmas.{taken_of, taken_unused, some_left, ready_before, ended_alone, ended_beside, promised}
 use Rattle.pp_runner.specs.Crew.{IsEnded}
 use Rattle.pp_runner.specs.declared.crew.EndOf.{EndOf}
 use Rattle.pp_runner.proofs.crew.+crew.Goals as goal
@@ -44,8 +44,8 @@ beside-scope-spawn_with-requires-clause-runs g t c = λ κs within.
 
 pub beside-scope-spawn_with-requires-clause-keeps : goal.beside-scope-spawn_with-requires-clause-keeps
 beside-scope-spawn_with-requires-clause-keeps g t c = λ κs within r ended.
-    promise_kept (processor_of c.at-number.result c.captures.machine.now) c.of.result.value c.captures.site.now.size c.captures.site.now.limits.steps c.steps.result c.in-Some.line c.of-2.result.value r
-    (c.of.ensures ∙ c.pp-load.ensures) c.steps.ensures.value c.of-2.ensures (rw c.pp-load.ensures at ended)
+    promised c.of.result.value (processor_of c.at-number.result c.captures.machine.now) c.captures.site.now.size c.steps.result c.captures.site.now.limits.steps c.of-2.result.value c.in-Some.line r
+    (sym (c.of.ensures ∙ c.pp-load.ensures)) (sym c.steps.ensures.value) (sym c.of-2.ensures) (rw c.pp-load.ensures at ended)
 
 pub run_first-beside-requires-clause-several : goal.run_first-beside-requires-clause-several
 run_first-beside-requires-clause-several g t c = omega (arith, c.len.ensures, c.if-len-gt1.true)
