@@ -74,23 +74,8 @@ pub record IsLed (size : ℕ) (p : Profile) (m : MachineState) (before after : G
 abbrev pub Leads : ℕ → Profile → Group → Past → Group → Past → Type 0
 Leads size p before past after later = (m : MachineState) → Stands size m before.pps past → (ns : List ℕ) × IsLed size p m before after later ns
 
-pub leads_none : (size : ℕ) (p : Profile) (one : Group) (past later : Past) → ((c : ℕ) → past.happened c ≡ later.happened c) → past.words ≡ later.words → Leads size p one past one later
-leads_none size p one past later same words m stands = (
-  [],
-  record {
-    count = omega arith;
-    named = All-nil (λ n. IsTrue (has_processor p n));
-    moved = tt;
-    answers = λ place _. refl;
-    stands = record {
-      processors = stands.processors;
-      channels = stands.channels;
-      histories = λ c. stands.histories c ∙ same c;
-      central = stands.central ∙ words;
-      sized = ap length (sym words) ∙ stands.sized;
-    };
-  },
-)
+pub leads_none : (size : ℕ) (p : Profile) (one : Group) (past : Past) → Leads size p one past one past
+leads_none size p one past m stands = ([], record { count = omega arith; named = All-nil (λ n. IsTrue (has_processor p n)); moved = tt; answers = λ place _. refl; stands = stands })
 
 pub leads_on : (size : ℕ) (p : Profile) (one two three : Group) (first second third : Past) → Leads size p one first two second → Leads size p two second three third → Leads size p one first three third
 leads_on size p one two three first second third a b m stands =

@@ -163,32 +163,18 @@ pub record AreWorkings {A : Type 0} (size : ℕ) (p : Profile) (others loads : L
   pub steps : all_left (all_of others ws) ≡ sum_by (λ w. length w.answers.items) ends
   pub answers : map (λ w. w.answers) ws ≡ map (λ w. w.answers.items) ends
 
-pub record IsOneWorking {A : Type 0} (size : ℕ) (p : Profile) (others : List Processor) (load : Processor) (order : List Access) (end : Worker A) (made : List Access) : Type 0 where
-  pub now : Working
-  pub processor : now.pp ≡ load
-  pub after : now.after ≡ end.pp
-  pub ready : Ready size p others order now
-  pub count : (c number : ℕ) → times_left (tells_event c number) now ≡ times_logged c number end.log.items
-  pub writes : (n : ℕ) → times_left (tells_write n) now ≡ times n (writes_among made)
-  pub answers : now.answers ≡ end.answers.items
+one_gives : {A : Type 0} (load : Processor) (size steps : ℕ) (end : Worker A) → IsWorker load size steps end → Gives load end.answers.items end.pp
+one_gives load size steps end is = Gives-to load (replayed load end.answers.items) end.pp end.answers.items (Gives-counted end.answers.items load is.all_given) (sym is.pp)
 
-one_working : {A : Type 0} (p : Profile) (others : List Processor) (load : Processor) (size steps : ℕ) (order : List Access) (end : Worker A) (made : List Access) → IsWorker load size steps end
-    → HasAccessed load order end made → IsOneWorking size p others load order end made
-one_working p others load size steps order end made is has =
-    let xs = end.answers.items in
+-- each event stands among a worker's accesses as often as in its log
+one_count : {A : Type 0} (load : Processor) (size steps : ℕ) (order : List Access) (end : Worker A) (made : List Access) → IsWorker load size steps end
+    → HasAccessed load order end made → (c number : ℕ) → sum_by (tells_event c number) made ≡ times_logged c number end.log.items
+one_count load size steps order end made is has c number =
     let log = end.log.items in
     let own = entries_among made in
-    let gives = Gives-to load (replayed load xs) end.pp xs (Gives-counted xs load is.all_given) (sym is.pp) in
-    let events : events_in log ≡ events_in own = is.events ∙ sym (did_along xs load end.pp made gives has.given) in
-    let many : sum_by weight log ≡ sum_by weight own = sym (count_events log) ∙ (ap length events ∙ count_events own) in record {
-      now = record { pp = load; answers = xs; accesses = made; after = end.pp };
-      processor = refl;
-      after = refl;
-      ready = record { working = does size xs load end.pp made gives is.all_moved is.by_size has.given; stands = has.in_order };
-      answers = refl;
-      count = λ c number. event_times c number made ∙ times_same c number own log has.logged (omega (arith, many));
-      writes = λ n. write_times n made;
-    }
+    let events : events_in log ≡ events_in own = is.events ∙ sym (did_along end.answers.items load end.pp made (one_gives load size steps end is) has.given) in
+    let many : sum_by weight log ≡ sum_by weight own = sym (count_events log) ∙ (ap length events ∙ count_events own) in
+    event_times c number made ∙ times_same c number own log has.logged (omega (arith, many))
 
 workings : {A : Type 0} (p : Profile) (others : List Processor) (size steps : ℕ) (order : List Access) (loads : List Processor) (ends : List (Worker A)) (accesses : List (List Access)) → AreWorkers loads size steps ends
     → HaveAccessed loads order ends accesses → AreWorkings size p others loads order ends accesses
@@ -198,16 +184,19 @@ workings p others size steps order [] (end ∷ ends) accesses all have = absurd 
 workings p others size steps order (load ∷ loads) [] accesses all have = absurd all
 workings p others size steps order (load ∷ loads) (end ∷ ends) [] all have = absurd have
 workings {A} p others size steps order (load ∷ loads) (end ∷ ends) (made ∷ accesses) all have =
-    let one = one_working p others load size steps order end made all.0 have.0 in
+    let xs = end.answers.items in
+    let now : Working = record { pp = load; answers = xs; accesses = made; after = end.pp } in
+    let ready : Ready size p others order now = record { working = does size xs load end.pp made (one_gives load size steps end all.0) all.0.all_moved all.0.by_size have.0.given; stands = have.0.in_order } in
     let more = workings p others size steps order loads ends accesses all.1 have.1 in record {
-      ws = one.now ∷ more.ws;
-      processors = λ j. one.processor j ∷ more.processors j;
-      afters = λ j. one.after j ∷ more.afters j;
-      answers = λ j. one.answers j ∷ more.answers j;
-      ready = All-cons (Ready size p others order) one.now more.ws one.ready more.ready;
-      steps = left_cons others one.now more.ws ∙ ((λ j. length (one.answers j) + more.steps j) ∙ sym (sum_by-cons (λ (w : Worker A). length w.answers.items) end ends));
-      counts = λ c number. sum_by-cons (times_left (tells_event c number)) one.now more.ws ∙ ((λ j. one.count c number j + more.counts c number j) ∙ sym (sum_by-cons (λ (w : Worker A). times_logged c number w.log.items) end ends));
-      writes = λ n. sum_by-cons (times_left (tells_write n)) one.now more.ws ∙ ((λ j. one.writes n j + more.writes n j) ∙ sym (times_more n (writes_among made) (flat_map writes_among accesses)));
+      ws = now ∷ more.ws;
+      processors = ap (λ pps. load ∷ pps) more.processors;
+      afters = ap (λ pps. end.pp ∷ pps) more.afters;
+      answers = ap (λ l. xs ∷ l) more.answers;
+      ready = All-cons (Ready size p others order) now more.ws ready more.ready;
+      steps = left_cons others now more.ws ∙ (ap (λ n. length xs + n) more.steps ∙ sym (sum_by-cons (λ (w : Worker A). length w.answers.items) end ends));
+      counts = λ c number. sum_by-cons (times_left (tells_event c number)) now more.ws
+          ∙ ((λ j. one_count load size steps order end made all.0 have.0 c number j + more.counts c number j) ∙ sym (sum_by-cons (λ (w : Worker A). times_logged c number w.log.items) end ends));
+      writes = λ n. sum_by-cons (times_left (tells_write n)) now more.ws ∙ ((λ j. write_times n made j + more.writes n j) ∙ sym (times_more n (writes_among made) (flat_map writes_among accesses)));
     }
 
 times_parts : {A : Type 0} (c number : ℕ) (ends : List (Worker A)) → times_logged c number (logs_of ends) ≡ sum_by (λ w. times_logged c number w.log.items) ends

@@ -177,83 +177,72 @@ module _ (size : ℕ) (p : Profile) (others : List Processor) where
   front_inside : (front ws : List Working) (w : Working) → length (front ++ w ∷ ws) ≤ processors_in p → length front < processors_in p
   front_inside front ws w few = omega (arith, few, length-append front (w ∷ ws))
 
-  -- a look: each worker that has it next makes its step
-  look_each : (access : Access) (os : List Access) (past : Past) → ServesAccess size access past past → (front ws : List Working) → length (front ++ ws) ≤ processors_in p
-      → All (Ready os) front → All (Ready (access ∷ os)) ws → Served (front ++ ws) past past access os
-  look_each access os past serves front [] few done left = record {
+  -- An access may be served so: whoever has it next can make its step from what has come to pass, and so can those behind afterwards.
+  abbrev May : Access → List Access → Past → Past → List Working → Type 0
+  May access os later past [] = past ≡ later
+  May access os later past (w ∷ ws) =
+      ((rest : List Access) → w.accesses ≡ access ∷ rest → ServesAccess size access past later × May access os later later ws) × (IsSubsequence w.accesses os → May access os later past ws)
+
+  -- a look changes nothing
+  may_look : (access : Access) (os : List Access) (past : Past) → ServesAccess size access past past → (ws : List Working) → May access os past past ws
+  may_look access os past serves [] = refl
+  may_look access os past serves (w ∷ ws) = (λ rest is. (serves, may_look access os past serves ws), λ _. may_look access os past serves ws)
+
+  -- an event or a write is made by one
+  module _ (access : Access) (os : List Access) (past later : Past) (serves : ServesAccess size access past later) (tells : Access → ℕ) (one : tells access ≡ 1) (never : (xs : List Access) → IsSubsequence xs os → sum_by tells xs ≡ 0) where
+    may_none : (ws : List Working) → sum_by (times_left tells) ws ≡ 0 → May access os later later ws
+    may_none [] none = refl
+    may_none (w ∷ ws) none =
+        let parts = sum_by-cons (times_left tells) w ws in (
+          λ rest is. let was = ap (sum_by tells) is ∙ sum_by-cons tells access rest in absurd (omega (arith, parts, none, was, one)),
+          λ _. may_none ws (omega (arith, parts, none)),
+        )
+
+    may_one : (ws : List Working) → sum_by (times_left tells) ws ≡ 1 → May access os later past ws
+    may_one [] sum = absurd (omega (arith, sum))
+    may_one (w ∷ ws) sum =
+        let parts = sum_by-cons (times_left tells) w ws in (
+          λ rest is. let was = ap (sum_by tells) is ∙ sum_by-cons tells access rest in (serves, may_none ws (omega (arith, sum, parts, was, one))),
+          λ behind. let none = never w.accesses behind in may_one ws (omega (arith, sum, parts, none)),
+        )
+
+  serve_each : (access : Access) (os : List Access) (past later : Past) (front ws : List Working) → length (front ++ ws) ≤ processors_in p
+      → All (Ready os) front → All (Ready (access ∷ os)) ws → May access os later past ws → Served (front ++ ws) past later access os
+  serve_each access os past later front [] few done left may = record {
     now = front;
     ready = done;
     afters = ap (map after_of) (sym (append-nil front));
     counts = λ tells _. ap (sum_by (times_left tells)) (sym (append-nil front));
-    leads = subst (λ (us : List Working). Leads size p (all_of others us) past (all_of others front) past) (sym (append-nil front)) (leads_none size p (all_of others front) past past (λ c. refl) refl);
+    leads = subst (λ (end : Past). Leads size p (all_of others (front ++ [])) past (all_of others front) end) may
+        (subst (λ (us : List Working). Leads size p (all_of others us) past (all_of others front) past) (sym (append-nil front)) (leads_none size p (all_of others front) past));
   }
-  look_each access os past serves front (w ∷ ws) few done left =
+  serve_each access os past later front (w ∷ ws) few done left may =
       let here = All-head (Ready (access ∷ os)) w ws left in
       let more = All-tail (Ready (access ∷ os)) w ws left in
       elim (head_here w.accesses access os here.stands) [
         | inl behind ↦
-            subst (λ (us : List Working). Served us past past access os) (push_front front ws w)
-            (look_each access os past serves (front ++ w ∷ []) ws (few_pushed front ws w w few) (All-push (Ready os) front w done (record { working = here.working; stands = behind })) more)
+            subst (λ (us : List Working). Served us past later access os) (push_front front ws w)
+            (serve_each access os past later (front ++ w ∷ []) ws (few_pushed front ws w w few) (All-push (Ready os) front w done (record { working = here.working; stands = behind })) more (may.1 behind))
         | inr first ↦
-            let moved = move front ws w access first.0 past past (front_inside front ws w few) here.working first.1 serves in
+            let serves = may.0 first.0 first.1 in
+            let moved = move front ws w access first.0 past later (front_inside front ws w few) here.working first.1 serves.0 in
             let ready : Ready os moved.now = record { working = moved.working; stands = subst (λ (es : List Access). IsSubsequence es os) (sym moved.accesses) first.2 } in
-            let served = subst (λ (us : List Working). Served us past past access os) (push_front front ws moved.now)
-            (look_each access os past serves (front ++ moved.now ∷ []) ws (few_pushed front ws w moved.now few) (All-push (Ready os) front moved.now done ready) more) in record {
+            let served = subst (λ (us : List Working). Served us later later access os) (push_front front ws moved.now)
+            (serve_each access os later later (front ++ moved.now ∷ []) ws (few_pushed front ws w moved.now few) (All-push (Ready os) front moved.now done ready) more serves.1) in record {
               now = served.now;
               ready = served.ready;
-              afters = served.afters ∙ moved_afters front ws w access first.0 past past first.1 moved;
-              counts = λ tells none. served.counts tells none ∙ moved_counts front ws w access first.0 past past first.1 moved tells none;
-              leads = leads_on size p (all_of others (front ++ w ∷ ws)) (all_of others (front ++ moved.now ∷ ws)) (all_of others served.now) past past past moved.leads served.leads;
+              afters = served.afters ∙ moved_afters front ws w access first.0 past later first.1 moved;
+              counts = λ tells none. served.counts tells none ∙ moved_counts front ws w access first.0 past later first.1 moved tells none;
+              leads = leads_on size p (all_of others (front ++ w ∷ ws)) (all_of others (front ++ moved.now ∷ ws)) (all_of others served.now) past later later moved.leads served.leads;
             }
       ]
 
-  -- where none tells it, no worker has it next
-  none_moves : (access : Access) (os : List Access) (tells : Access → ℕ) → tells access ≡ 1 → (ws : List Working) → All (Ready (access ∷ os)) ws → sum_by (times_left tells) ws ≡ 0 → All (Ready os) ws
-  none_moves access os tells one [] left none = All-nil (Ready os)
-  none_moves access os tells one (w ∷ ws) left none =
-      let f : Working → ℕ = times_left tells in
-      let here = All-head (Ready (access ∷ os)) w ws left in
-      let sum = sum_by-cons f w ws in
-      All-cons (Ready os) w ws
-      (elim (head_here w.accesses access os here.stands) [
-        | inl behind ↦ record { working = here.working; stands = behind }
-        | inr first ↦ let was = ap (sum_by tells) first.1 ∙ sum_by-cons tells access first.0 in absurd (omega (arith, sum, none, was, one))
-      ])
-      (none_moves access os tells one ws (All-tail (Ready (access ∷ os)) w ws left) (omega (arith, sum, none)))
-
-  -- an event or a write: one worker has it next, and makes its step
-  one_each : (access : Access) (os : List Access) (past later : Past) → ServesAccess size access past later → (tells : Access → ℕ) → tells access ≡ 1
-      → ((xs : List Access) → IsSubsequence xs os → sum_by tells xs ≡ 0) → (front ws : List Working) → length (front ++ ws) ≤ processors_in p
-      → All (Ready os) front → All (Ready (access ∷ os)) ws → sum_by (times_left tells) ws ≡ 1 → Served (front ++ ws) past later access os
-  one_each access os past later serves tells one never front [] few done left sum = absurd (omega (arith, sum))
-  one_each access os past later serves tells one never front (w ∷ ws) few done left sum =
-      let f : Working → ℕ = times_left tells in
-      let here = All-head (Ready (access ∷ os)) w ws left in
-      let more = All-tail (Ready (access ∷ os)) w ws left in
-      let parts = sum_by-cons f w ws in
-      elim (head_here w.accesses access os here.stands) [
-        | inl behind ↦
-            let none = never w.accesses behind in
-            subst (λ (us : List Working). Served us past later access os) (push_front front ws w)
-            (one_each access os past later serves tells one never (front ++ w ∷ []) ws (few_pushed front ws w w few) (All-push (Ready os) front w done (record { working = here.working; stands = behind })) more (omega (arith, sum, parts, none)))
-        | inr first ↦
-            let moved = move front ws w access first.0 past later (front_inside front ws w few) here.working first.1 serves in
-            let was = ap (sum_by tells) first.1 ∙ sum_by-cons tells access first.0 in
-            let ready : Ready os moved.now = record { working = moved.working; stands = subst (λ (es : List Access). IsSubsequence es os) (sym moved.accesses) first.2 } in record {
-              now = front ++ moved.now ∷ ws;
-              ready = All-append (Ready os) front (moved.now ∷ ws) done (All-cons (Ready os) moved.now ws ready (none_moves access os tells one ws more (omega (arith, sum, parts, was, one))));
-              afters = moved_afters front ws w access first.0 past later first.1 moved;
-              counts = moved_counts front ws w access first.0 past later first.1 moved;
-              leads = moved.leads;
-            }
-      ]
-
-  -- all make the steps that are left, once no accesses are
-  pub record Ended (was : List Working) (before : List Working) (past : Past) : Type 0 where
+  -- All have made all steps, to the histories and the words that these end in.
+  pub record Finished (was before : List Working) (past end : Past) : Type 0 where
     pub now : List Working
     pub processors : map (λ w. w.pp) now ≡ map (λ w. w.after) was
     pub none : All HasNoneLeft now
-    pub leads : Leads size p (all_of others before) past (all_of others now) past
+    pub leads : Leads size p (all_of others before) past (all_of others now) end
 
   none_stand : (xs : List Access) → IsSubsequence xs [] → xs ≡ []
   none_stand [] h = refl
@@ -262,12 +251,13 @@ module _ (size : ℕ) (p : Profile) (others : List Processor) where
   abbrev pp_of : Working → Processor
   pp_of w = w.pp
 
-  end_each : (was front ws : List Working) (past : Past) → map pp_of front ≡ map after_of was → All HasNoneLeft front → length (front ++ ws) ≤ processors_in p → All (Ready []) ws → Ended (was ++ ws) (front ++ ws) past
+  -- the steps that are left, once no accesses are
+  end_each : (was front ws : List Working) (past : Past) → map pp_of front ≡ map after_of was → All HasNoneLeft front → length (front ++ ws) ≤ processors_in p → All (Ready []) ws → Finished (was ++ ws) (front ++ ws) past past
   end_each was front [] past same none few left = record {
     now = front;
     none = none;
     processors = same ∙ ap (map after_of) (sym (append-nil was));
-    leads = subst (λ (us : List Working). Leads size p (all_of others us) past (all_of others front) past) (sym (append-nil front)) (leads_none size p (all_of others front) past past (λ c. refl) refl);
+    leads = subst (λ (us : List Working). Leads size p (all_of others us) past (all_of others front) past) (sym (append-nil front)) (leads_none size p (all_of others front) past);
   }
   end_each was front (w ∷ ws) past same none few left =
       let here = All-head (Ready []) w ws left in
@@ -282,14 +272,8 @@ module _ (size : ℕ) (p : Profile) (others : List Processor) where
             (subst (λ (us : List Working). Leads size p (all_of others us) past (all_of others more.now) past) (push_front front ws done.now) more.leads);
       }
 
-  -- Along a whole order, to the histories and the words that it ends in.
-  pub record Finished (ws : List Working) (past end : Past) : Type 0 where
-    pub now : List Working
-    pub processors : map (λ w. w.pp) now ≡ map (λ w. w.after) ws
-    pub none : All HasNoneLeft now
-    pub leads : Leads size p (all_of others ws) past (all_of others now) end
-
-  go_on : (access : Access) (os : List Access) (ws : List Working) (past later end : Past) → (served : Served ws past later access os) → Finished served.now later end → Finished ws past end
+  -- Along a whole order.
+  go_on : (access : Access) (os : List Access) (ws : List Working) (past later end : Past) → (served : Served ws past later access os) → Finished served.now served.now later end → Finished ws ws past end
   go_on access os ws past later end served rest = record {
     now = rest.now;
     processors = rest.processors ∙ served.afters;
@@ -365,14 +349,9 @@ module _ (size : ℕ) (p : Profile) (others : List Processor) where
         → Served ws past (With past (OnChannel entry)) (OnChannel entry) os
     by_what entry os ws past (Saw f) is few ready comes places ends once =
         let later = With past (OnChannel entry) in
-        let served = look_each (OnChannel entry) os past (looks entry f past is comes.1) [] ws few (All-nil (Ready os)) ready in record {
-          now = served.now;
-          ready = served.ready;
-          afters = served.afters;
-          counts = served.counts;
-          leads = leads_on size p (all_of others ws) (all_of others served.now) (all_of others served.now) past past later served.leads
-              (leads_none size p (all_of others served.now) past later (λ c. sym (ap (λ es. past.happened c ++ es) (made_none c entry f is) ∙ append-nil (past.happened c))) refl);
-        }
+        let same : past ≡ later = λ j. record past { happened = λ c. sym (ap (λ es. past.happened c ++ es) (made_none c entry f is) ∙ append-nil (past.happened c)) j } in
+        subst (λ (end : Past). Served ws past end (OnChannel entry) os) same
+        (serve_each (OnChannel entry) os past past [] ws few (All-nil (Ready os)) ready (may_look (OnChannel entry) os past (looks entry f past is comes.1) ws))
     by_what entry os ws past (Did e) is few ready comes places ends once =
         let c = entry.channel in
         let es = entries_among os in
@@ -381,12 +360,12 @@ module _ (size : ℕ) (p : Profile) (others : List Processor) where
         let here : later.happened c ≡ happened c ++ e ∷ [] = ap (λ l. happened c ++ l) (made_here c entry e is refl) in
         let longer = ap length here ∙ length-append (happened c) (e ∷ []) in
         let all = ap length (sym (ap (λ l. happened c ++ l) (made_more c (entry ∷ []) es) ∙ sym (append_assoc (happened c) (made_on c (entry ∷ [])) (made_on c es))) ∙ ends c) in
-        one_each (OnChannel entry) os past later (makes entry e es past is ends) (tells_event c entry.number) (told_itself entry e is)
+        serve_each (OnChannel entry) os past later [] ws few (All-nil (Ready os)) ready (may_one (OnChannel entry) os past later (makes entry e es past is ends) (tells_event c entry.number) (told_itself entry e is)
         (λ xs stands.
         let most = sum_stands (tells_event c entry.number) xs os stands in
         let none = not_early c entry.number later.happened es places (omega (arith, longer, comes)) in
         omega (arith, most, event_times c entry.number os, none))
-        [] ws few (All-nil (Ready os)) ready (once c entry.number (omega (arith, comes)) (omega (arith, comes, longer, all, length-append (later.happened c) (made_on c es))))
+        ws (once c entry.number (omega (arith, comes)) (omega (arith, comes, longer, all, length-append (later.happened c) (made_on c es)))))
 
     still_once : (entry : Entry) (ws now : List Working) (past : Past) (what : Seen) → entry.what ≡ what → ComesAfter (past.happened entry.channel) entry.number what
         → ((tells : Access → ℕ) → tells (OnChannel entry) ≡ 0 → sum_by (times_left tells) now ≡ sum_by (times_left tells) ws) → Once ws past.happened → Once now (With past (OnChannel entry)).happened
@@ -408,16 +387,10 @@ module _ (size : ℕ) (p : Profile) (others : List Processor) where
     at_end words os = record { happened = history; words = left_by words os }
 
     pub serve : (os : List Access) (ws : List Working) (past : Past) (k : ℕ) → length ws ≤ processors_in p → All (Ready os) ws → IsLegal past.happened (entries_among os)
-        → ((c : ℕ) → past.happened c ++ made_on c (entries_among os) ≡ history c) → Once ws past.happened → FindsWords past.words os → NumberedFrom k os → Written ws k os → Finished ws past (at_end past.words os)
+        → ((c : ℕ) → past.happened c ++ made_on c (entries_among os) ≡ history c) → Once ws past.happened → FindsWords past.words os → NumberedFrom k os → Written ws k os → Finished ws ws past (at_end past.words os)
     serve [] ws past k few ready places ends once finds numbered written =
-        let end = at_end past.words [] in
-        let ended = end_each [] [] ws past refl (All-nil HasNoneLeft) few ready in record {
-          now = ended.now;
-          processors = ended.processors;
-          none = ended.none;
-          leads = leads_on size p (all_of others ws) (all_of others ended.now) (all_of others ended.now) past past end ended.leads
-              (leads_none size p (all_of others ended.now) past end (λ c. sym (append-nil (past.happened c)) ∙ ends c) refl);
-        }
+        let same : past ≡ at_end past.words [] = λ j. record { happened = λ c. (sym (append-nil (past.happened c)) ∙ ends c) j; words = past.words } in
+        subst (λ (end : Past). Finished ws ws past end) same (end_each [] [] ws past refl (All-nil HasNoneLeft) few ready)
     serve (OnChannel entry ∷ os) ws past k few ready places ends once finds numbered written =
         let later = With past (OnChannel entry) in
         let es = entries_among os in
@@ -428,7 +401,7 @@ module _ (size : ℕ) (p : Profile) (others : List Processor) where
         (still_once entry ws served.now past entry.what refl places.0 served.counts once) finds.1 numbered
         (λ n least. omega (arith, served.counts (tells_write n) refl, written n least, sum_by-cons (tells_write n) (OnChannel entry) os)))
     serve (Read a w ∷ os) ws past k few ready places ends once finds numbered written =
-        let served = look_each (Read a w) os past (reads a w past finds.0) [] ws few (All-nil (Ready os)) ready in
+        let served = serve_each (Read a w) os past past [] ws few (All-nil (Ready os)) ready (may_look (Read a w) os past (reads a w past finds.0) ws) in
         go_on (Read a w) os ws past past (at_end past.words (Read a w ∷ os)) served
         (serve os served.now past k (still_few (Read a w) os ws past past served few) served.ready places ends
         (λ c number least inside. served.counts (tells_event c number) refl ∙ once c number least inside) finds.1 numbered
@@ -437,9 +410,9 @@ module _ (size : ℕ) (p : Profile) (others : List Processor) where
         let later = With past (Write a w n) in
         let one : tells_write k (Write a w n) ≡ 1 = ap (λ b. cond b 1 0) (eq-eqb n k numbered.0) in
         let none = not_written (k + 1) k os numbered.1 (omega arith) in
-        let served = one_each (Write a w n) os past later (writes a w n past) (tells_write k) one
+        let served = serve_each (Write a w n) os past later [] ws few (All-nil (Ready os)) ready (may_one (Write a w n) os past later (writes a w n past) (tells_write k) one
         (λ xs stands. let most = sum_stands (tells_write k) xs os stands in omega (arith, most, none))
-        [] ws few (All-nil (Ready os)) ready (let sum = written k (omega arith) in omega (arith, sum, one, none, sum_by-cons (tells_write k) (Write a w n) os)) in
+        ws (let sum = written k (omega arith) in omega (arith, sum, one, none, sum_by-cons (tells_write k) (Write a w n) os))) in
         go_on (Write a w n) os ws past later (at_end past.words (Write a w n ∷ os)) served
         (serve os served.now later (k + 1) (still_few (Write a w n) os ws past later served few) served.ready places ends
         (λ c number least inside. served.counts (tells_event c number) refl ∙ once c number least inside) finds.1 numbered.1

@@ -145,7 +145,7 @@ module _ (size : ℕ) (p : Profile) (others : List Processor) (i : ℕ) (inside 
         now = v;
         done = does.1;
         none = refl;
-        leads = subst (λ (us : List Working). Leads size p (all_of others ws) past (all_of others us) past) (sym (set_same ws i v at)) (leads_none size p (all_of others ws) past past (λ c. refl) refl);
+        leads = subst (λ (us : List Working). Leads size p (all_of others ws) past (all_of others us) past) (sym (set_same ws i v at)) (leads_none size p (all_of others ws) past);
       }
   rest_done (x ∷ xs) pp accesses after ws past at does is =
       let left = does.1.1 in
