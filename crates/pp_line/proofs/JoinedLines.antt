@@ -32,10 +32,14 @@ pub joined_central : (line : LineState) (others : List LineState) → (all_joine
 joined_central line [] = refl
 joined_central line (other ∷ others) = joined_central (joined line other) others
 
+-- what joining puts end to end
+joined_parts : {X : Type 0} (f : LineState → List X) → ((line other : LineState) → f (joined line other) ≡ f line ++ f other) → (line : LineState) (others : List LineState) → f (all_joined line others) ≡ f line ++ flat_map f others
+joined_parts f parts line [] = sym (append-nil (f line))
+joined_parts f parts line (other ∷ others) =
+    joined_parts f parts (joined line other) others ∙ (ap (λ l. l ++ flat_map f others) (parts line other) ∙ append_assoc (f line) (f other) (flat_map f others))
+
 pub joined_entries : (line : LineState) (others : List LineState) → (all_joined line others).log.entries ≡ line.log.entries ++ flat_map (λ other. other.log.entries) others
-joined_entries line [] = sym (append-nil line.log.entries)
-joined_entries line (other ∷ others) =
-    joined_entries (joined line other) others ∙ append_assoc line.log.entries other.log.entries (flat_map (λ l. l.log.entries) others)
+joined_entries line others = joined_parts (λ l. l.log.entries) (λ a b. refl) line others
 
 -- logs that are those of lines are the same, end to end
 pub same_logs : {T A : Type 0} (pairs : List (T × LineState)) (logs : List (T × Vec Entry A)) → AllZip (λ pair log. IsLogBeside pair log) pairs logs → flat_map (λ log. log.1.items) logs ≡ flat_map (λ l. l.log.entries) (lines_of pairs)
@@ -51,17 +55,6 @@ zip_push R [] (v ∷ ys) x y all one = absurd all
 zip_push R (u ∷ xs) [] x y all one = absurd all
 zip_push R (u ∷ xs) (v ∷ ys) x y all one = (all.0, zip_push R xs ys x y all.1 one)
 
--- lines whose program orders are those of a view that a step tells of are in one order, each with its log
-pub joined_orders : (line : LineState) (others : List LineState) → (all_joined line others).view.program_orders ≡ line.view.program_orders ++ flat_map (λ other. other.view.program_orders) others
-joined_orders line [] = sym (append-nil line.view.program_orders)
-joined_orders line (other ∷ others) =
-    joined_orders (joined line other) others ∙ append_assoc line.view.program_orders other.view.program_orders (flat_map (λ l. l.view.program_orders) others)
-
-pub joined_written : (line : LineState) (others : List LineState) → (all_joined line others).view.written ≡ line.view.written ++ flat_map (λ other. other.view.written) others
-joined_written line [] = sym (append-nil line.view.written)
-joined_written line (other ∷ others) =
-    joined_written (joined line other) others ∙ append_assoc line.view.written other.view.written (flat_map (λ l. l.view.written) others)
-
 each_extended : (order : List Access) (lines : List LineState) → ExtendsEach order (flat_map (λ l. l.view.program_orders) lines) → All (λ l. ExtendsEach order l.view.program_orders) lines
 each_extended order [] all = All-nil (λ (l : LineState). ExtendsEach order l.view.program_orders)
 each_extended order (line ∷ lines) all =
@@ -69,6 +62,7 @@ each_extended order (line ∷ lines) all =
     All-cons (λ (l : LineState). ExtendsEach order l.view.program_orders) line lines (All-front P line.view.program_orders (flat_map (λ l. l.view.program_orders) lines) all)
     (each_extended order lines (All-back P line.view.program_orders (flat_map (λ l. l.view.program_orders) lines) all))
 
+-- lines whose program orders are those of a view that a step tells of are in one order, each with its log
 pub lines_in_order : {v : LineView} {c word : ℕ} (lines : List LineState) → (t : Tells v c word) → v.program_orders ≡ flat_map (λ l. l.view.program_orders) lines → (central : List ℕ) → v.central ≡ central → v.written ≡ flat_map (λ l. l.view.written) lines → v.shares ≡ v.whole → All (λ l. IsLogOf l.view l.log.entries) lines → AreInOneOrder central t.histories lines
 lines_in_order lines t program_orders central opened written all logs = record {
   order = t.order;
@@ -141,6 +135,6 @@ absorbed_told {first = first} {pairs = pairs} {v = v} {seen = seen} {logs = logs
     record {
       recorded = rw (log, before.seen_is, ← before.view) (told_whole of_view t all);
       closed = closed_by line t.histories (subst (λ (w : LineView). Knows w line.log.entries t.histories) before.view (knows_by_log of_view t.known)) whole;
-      in_order = lines_in_order (first ∷ lines) t (ap (λ w. w.program_orders) before.view ∙ joined_orders first lines) first.view.central (ap (λ w. w.central) before.view ∙ joined_central first lines)
-          (ap (λ w. w.written) before.view ∙ joined_written first lines) all (All-cons (λ (l : LineState). IsLogOf l.view l.log.entries) first lines is before.each_log);
+      in_order = lines_in_order (first ∷ lines) t (ap (λ w. w.program_orders) before.view ∙ joined_parts (λ l. l.view.program_orders) (λ a b. refl) first lines) first.view.central (ap (λ w. w.central) before.view ∙ joined_central first lines)
+          (ap (λ w. w.written) before.view ∙ joined_parts (λ l. l.view.written) (λ a b. refl) first lines) all (All-cons (λ (l : LineState). IsLogOf l.view l.log.entries) first lines is before.each_log);
     }

@@ -81,15 +81,11 @@ pub kind_of : (size : ℕ) (pp : Processor) (x : Answer) → GoesOn size pp x �
 kind_of size pp x goes =
     kinds size (need pp) x goes.fit (λ nothing. let rest : outcome pp x ≡ Outcome.AtRest = (at_rest pp x).1 ((nothing_at_rest pp).0 nothing) in let moved = goes.moved in absurd cc) goes.by_size
 
--- one entry with this sight
-pub record IsSightOf (c : ℕ) (what : Seen) (entry : Entry) : Type 0 where
-  pub channel : c ≡ entry.channel
-  pub seen : what ≡ entry.what
-
 -- the answer that made an access
 pub record IsOnChannel (needed : Need) (x : Answer) (entry : Entry) : Type 0 where
   pub of : IsOfChannel needed x
-  pub sight : IsSightOf of.c of.what entry
+  pub channel : of.c ≡ entry.channel
+  pub seen : of.what ≡ entry.what
 
 abbrev pub MadeBy : Access → Need → Answer → Type 0
 MadeBy (Access.OnChannel entry) needed x = IsOnChannel needed x entry
@@ -105,7 +101,8 @@ made_by (Need.Channel c op) (Answer.Channel reply) number access fit is =
     let tells = tells_where_fits op reply fit in
     subst (λ (a : Access). MadeBy a (Need.Channel c op) (Answer.Channel reply)) (only (on_channel c number tells.0) access (sym (accessed_on c number op reply tells.0 tells.1) ∙ is)) (record {
       of = record { c = c; op = op; reply = reply; needs_it = refl; is = refl; fit = fit; what = tells.0; tells = tells.1 };
-      sight = record { channel = refl; seen = refl };
+      channel = refl;
+      seen = refl;
     })
 made_by (Need.Channel c op) x number access fit is = absurd cc
 made_by Need.Nothing x number access fit is = absurd cc

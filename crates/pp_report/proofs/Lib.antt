@@ -8,7 +8,6 @@ mod LoadedLemmas
 mod OneRunLemmas
 mod AuthorLemmas
 mod EventLineLemmas
-mod LineLemmas
 mod ReportLawLemmas
 mod PrintedReportLemmas
 -- facts of the definitions, which proofs of other crates cite

@@ -19,7 +19,7 @@ use Rattle.pp_machine.specs.MachineState.{MachineState}
 use Rattle.pp_machine.specs.PpNo.{all_processors, names_processor, processor_index, processor_number, is_named}
 use Rattle.pp_runner.specs.Limits.{RunLimits}
 use Rattle.pp_runner.specs.WorkerReport.{logs_of}
-use Rattle.pp_report.proofs.ReportLawLemmas.{numbered_channel_events, told_after, unnamed_line, with_number}
+use Rattle.pp_report.proofs.ReportLawLemmas.{line_is, numbered_channel_events, told_after, told_body, unnamed_line, with_number}
 use Rattle.pp_report.specs.PrintedReport.{author_place, channel_events, end_text, line_by, named_worker_line, numbered_event_line, printed_report, worker_line}
 use Rattle.pp_deck.proofs.FieldTextLemmas.{is_plain}
 use Rattle.pp_word.specs.Numeral.{decimal, octal}
@@ -47,13 +47,9 @@ plain_end End.Patience = refl
 plain_end End.Memory = refl
 plain_end End.Worn = refl
 
-regrouped : (a b s d p o e l : List ℕ) → (((((((a ++ b) ++ s) ++ d) ++ p) ++ o) ++ s) ++ e) ++ l ≡ ((a ++ b) ++ (s ++ (d ++ (p ++ (o ++ (s ++ e)))))) ++ l
-regrouped a b s d p o e l = simp append_assoc
-
 numbered_line_is : (c number place : ℕ) (e : Event) → line_by c number e (Some place) ≡ numbered_body c number (processor_number place) e ++ line_end
-unfolding numbered_body
-numbered_line_is c number place e =
-    regrouped (codes "CH") (octal 2 c) (codes " ") (decimal number) (codes " PP") (octal 2 (processor_number place)) (event_text e) line_end
+unfolding numbered_body told_body
+numbered_line_is c number place e = line_is c number place e
 
 -- ---- the events of a channel
 

@@ -36,7 +36,7 @@ use Rattle.pp_text.proofs.TextLawLemmas.{both_used, is_used, Above, above-append
 told_tail : PrintedEvent → List ℕ
 told_tail t = codes "PP" ++ (octal 2 t.author ++ (codes " " ++ event_text t.event))
 
-told_body : ℕ → PrintedEvent → List ℕ
+unfoldable pub told_body : ℕ → PrintedEvent → List ℕ
 told_body c t = codes "CH" ++ (octal 2 c ++ (codes " " ++ (decimal t.number ++ (codes " PP" ++ (octal 2 t.author ++ (codes " " ++ event_text t.event))))))
 
 same_told_tail : (t u : PrintedEvent) → FitsItsLine t → FitsItsLine u → told_tail t ≡ told_tail u → (t.author ≡ u.author) × (t.event ≡ u.event)
@@ -74,7 +74,7 @@ in_lines {Z} c workers numbered = map (told_body c) (filter_map (λ ((number, ev
 joined : (d p o s e l : List ℕ) → ((((d ++ p) ++ o) ++ s) ++ e) ++ l ≡ (d ++ (p ++ (o ++ (s ++ e)))) ++ l
 joined d p o s e l = simp append_assoc
 
-line_is : (c number place : ℕ) (event : Event) → line_by c number event (Some place) ≡ told_body c (record { number = number; author = processor_number place; event = event }) ++ line_end
+pub line_is : (c number place : ℕ) (event : Event) → line_by c number event (Some place) ≡ told_body c (record { number = number; author = processor_number place; event = event }) ++ line_end
 unfolding told_body told_tail
 line_is c number place event = ap (λ rest. codes "CH" ++ (octal 2 c ++ (codes " " ++ rest))) (joined (decimal number) (codes " PP") (octal 2 (processor_number place)) (codes " ") (event_text event) line_end)
 

@@ -310,7 +310,7 @@ module _ (size : ℕ) (p : Profile) (others : List Processor) where
     looks entry f past is now pp x number goes given =
         let on = made_by (need pp) x number (OnChannel entry) goes.fit given in
         let of = on.of in
-        let answer = look_answer size pp x (past.happened of.c) f goes of (on.sight.seen ∙ is) (now ∙ ap (λ c. flags_of (past.happened c)) (sym on.sight.channel)) in
+        let answer = look_answer size pp x (past.happened of.c) f goes of (on.seen ∙ is) (now ∙ ap (λ c. flags_of (past.happened c)) (sym on.channel)) in
         serves_by size (need pp) (Need.Channel of.c of.op) x (Answer.Channel of.reply) past past of.needs_it of.is (serves_look size of.c of.op of.reply past answer.is answer.none)
 
     made_none : (c : ℕ) (entry : Entry) (f : Flags) → entry.what ≡ Saw f → made_on c (entry ∷ []) ≡ []
@@ -329,13 +329,13 @@ module _ (size : ℕ) (p : Profile) (others : List Processor) where
         let c = of.c in
         let happened = past.happened in
         let later : ℕ → List Event = (With past (OnChannel entry)).happened in
-        let here : later c ≡ happened c ++ e ∷ [] = ap (λ l. happened c ++ l) (made_here c entry e is on.sight.channel) in
+        let here : later c ≡ happened c ++ e ∷ [] = ap (λ l. happened c ++ l) (made_here c entry e is on.channel) in
         let whole : (happened c ++ e ∷ []) ++ made_on c es ≡ history c = ap (λ l. l ++ made_on c es) (sym here) ∙ (append_assoc (happened c) (made_on c (entry ∷ [])) (made_on c es) ∙ (ap (λ l. happened c ++ l) (sym (made_more c (entry ∷ []) es)) ∙ ends c)) in
         let next : IsLawful (happened c ++ e ∷ []) = lawful_front (happened c ++ e ∷ []) (made_on c es) (subst IsLawful (sym whole) (lawful c)) in
         let some : 0 < length (history c) = omega (arith, ap length whole, length-append (happened c ++ e ∷ []) (made_on c es), length-append (happened c) (e ∷ [])) in
-        let answer = event_answer pp x (happened c) e of (on.sight.seen ∙ is) (lawful_front (happened c) (e ∷ []) next) next in
+        let answer = event_answer pp x (happened c) e of (on.seen ∙ is) (lawful_front (happened c) (e ∷ []) next) next in
         serves_by size (need pp) (Need.Channel of.c of.op) x (Answer.Channel of.reply) past (With past (OnChannel entry)) of.needs_it of.is (serves_event size c of.op of.reply e past (With past (OnChannel entry)) (named c some) answer.is answer.made here
-        (λ d other. ap (λ l. happened d ++ l) (made_elsewhere d entry e is (λ same. other (on.sight.channel ∙ same))) ∙ append-nil (happened d)) refl)
+        (λ d other. ap (λ l. happened d ++ l) (made_elsewhere d entry e is (λ same. other (on.channel ∙ same))) ∙ append-nil (happened d)) refl)
 
     -- each event that is still to come is left to one worker, and so is each write
     abbrev pub Once : List Working → (ℕ → List Event) → Type 0

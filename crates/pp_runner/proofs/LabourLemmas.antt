@@ -94,33 +94,32 @@ record IsHeldAt (ss : List (OfChannel Seen)) (log : LogState) : Type 0 where
   pub only : ss ≡ record { channel = channel; what = what } ∷ []
   pub looked : IsTrue (is_look_at channel (last_or None log.entries))
 
+-- an entry behind these, which have the events and all that stands in the entries of the steps before
+logged_behind : (c number : ℕ) (what : Seen) (done base : List Entry) (before after : LogState) → after.entries ≡ base ++ record { channel = c; number = number; what = what } ∷ [] → events_in base ≡ events_in before.entries → length base ≤ length done + 1
+    → ((old : List (OfChannel Seen)) → IsSubsequence old (sights_in done) → IsSubsequence old (sights_in base)) → ((old : List Entry) → IsSubsequence old done → IsSubsequence old base)
+    → after.room + length after.entries ≡ before.room + length before.entries → IsLogged number (record { channel = c; what = what } ∷ []) done before after
+logged_behind c number what done base before after entries same few sights stand room =
+    let entry : Entry = record { channel = c; number = number; what = what } in record {
+      events = ap events_in entries ∙ (events_in-push base (entry ∷ []) ∙ ap (λ l. l ++ events_in (entry ∷ [])) same);
+      sights = λ old h. subst (λ (l : List (OfChannel Seen)). IsSubsequence (old ++ record { channel = c; what = what } ∷ []) l) (sym (ap sights_in entries ∙ sights_in-push base (entry ∷ []))) (stands_push old (sights_in base) (record { channel = c; what = what }) (sights old h));
+      stand = λ old h. subst (λ (l : List Entry). IsSubsequence (old ++ entry ∷ []) l) (sym entries) (stands_push old base entry (stand old h));
+      few = omega (arith, few, ap length entries, length-append base (entry ∷ []));
+      room = room;
+    }
+
 logged_did : (c number : ℕ) (what : Seen) (done : List Entry) (before after : LogState) → 1 ≤ before.room → BeginsWith done before → after ≡ appended before (record { channel = c; number = number; what = what })
     → IsLogged number (record { channel = c; what = what } ∷ []) done before after
 logged_did c number what done before after room s is =
-    let entry : Entry = record { channel = c; number = number; what = what } in
-    let entries : after.entries ≡ before.entries ++ entry ∷ [] = ap (λ l. l.entries) is in
-    let n : length after.entries ≡ length before.entries + 1 = ap length entries ∙ length-append before.entries (entry ∷ []) in
-    let left : after.room ≡ before.room - 1 = ap (λ l. l.room) is in record {
-      events = ap events_in entries ∙ events_in-push before.entries (entry ∷ []);
-      sights = λ old h. subst (λ (l : List (OfChannel Seen)). IsSubsequence (old ++ record { channel = c; what = what } ∷ []) l) (sym (ap sights_in entries ∙ sights_in-push before.entries (entry ∷ []))) (stands_push old (sights_in before.entries) (record { channel = c; what = what }) (stands_done done before old s h));
-      stand = λ old h. subst (λ (l : List Entry). IsSubsequence (old ++ entry ∷ []) l) (sym entries) (stands_push old before.entries entry (subst (IsSubsequence old) (sym s.is) (stands_more old done s.rest h)));
-      few = omega (arith, s.few, n);
-      room = omega (arith, n, left);
-    }
+    logged_behind c number what done before.entries before after (ap (λ l. l.entries) is) refl s.few (λ old h. stands_done done before old s h)
+    (λ old h. subst (IsSubsequence old) (sym s.is) (stands_more old done s.rest h))
+    (omega (arith, ap (λ l. length l.entries) is, length-append before.entries (record { channel = c; number = number; what = what } ∷ []), ap (λ l. l.room) is))
 
 logged_saw : (c number : ℕ) (what : Seen) (done : List Entry) (look : Option Entry) (before after : LogState) → 1 ≤ before.room → HasEntries done look before → BeginsWith done before
     → (before.kept ≡ false → IsTrue (is_look_at c (last_or None before.entries))) → after ≡ looked before (record { channel = c; number = number; what = what })
     → IsLogged number (record { channel = c; what = what } ∷ []) done before after
 logged_saw c number what done look before after room b s held is =
-    let entry : Entry = record { channel = c; number = number; what = what } in
-    let l = looked_at done look before entry b held in
-    let entries : after.entries ≡ done ++ entry ∷ [] = ap (λ l. l.entries) is ∙ l.entries in record {
-      events = ap events_in entries ∙ (events_in-push done (entry ∷ []) ∙ ap (λ l. l ++ events_in (entry ∷ [])) (events_done done before s));
-      sights = λ old h. subst (λ (l : List (OfChannel Seen)). IsSubsequence (old ++ record { channel = c; what = what } ∷ []) l) (sym (ap sights_in entries ∙ sights_in-push done (entry ∷ []))) (stands_push old (sights_in done) (record { channel = c; what = what }) h);
-      stand = λ old h. subst (λ (l : List Entry). IsSubsequence (old ++ entry ∷ []) l) (sym entries) (stands_push old done entry h);
-      few = omega (arith, ap length entries, length-append done (entry ∷ []));
-      room = ap (λ l. l.room + length l.entries) is ∙ l.room room;
-    }
+    let l = looked_at done look before (record { channel = c; number = number; what = what }) b held in
+    logged_behind c number what done done before after (ap (λ l. l.entries) is ∙ l.entries) (events_done done before s) (omega arith) (λ old h. h) (λ old h. h) (ap (λ l. l.room + length l.entries) is ∙ l.room room)
 
 logged_as : (c number : ℕ) (what : Seen) (done : List Entry) (look : Option Entry) (before after : LogState) → 1 ≤ before.room → HasEntries done look before → BeginsWith done before
     → (before.kept ≡ false → IsTrue (is_look_at c (last_or None before.entries))) → after ≡ with_seen before c number (Some what)
