@@ -9,7 +9,7 @@ use Rattle.pp_channel.specs.ChannelPlaces as channel_places
 use Rattle.pp_channel.specs.History.{history_on}
 use Rattle.pp_report.specs.Types.{Access, Answer, ChanOp, End, Entry, Event, Need, PpState, Report, Worker}
 use Rattle.pp_machine.specs.MachineState.{MachineState, history_of, processor_of}
-use Rattle.pp_machine.specs.MachineStep.{answer_to, stepped}
+use Rattle.pp_machine.specs.MachineStep.{answer_to}
 use Rattle.pp_machine.specs.NeedAndEffect.{need, processor_after}
 use Rattle.pp_machine.specs.PpNo.{processor_count, processor_index, processor_number}
 use Rattle.pp_machine.specs.Processor.{Processor, IsAtRest, no_processor}
@@ -19,7 +19,7 @@ use Rattle.pp_machine.specs.Run.{run}
 use Rattle.pp_machine.proofs.MachineStepLemmas.{event_at_rest, stepped_at_rest}
 use Rattle.pp_run.specs.Determinacy.{AreAlike, IsQuiet, ShowsParts, Stays, TurnsInPlace, Waits}
 use Rattle.pp_run.proofs.Moments.{run_histories, run_processors}
-use Rattle.pp_run.proofs.StepFacts.{central_by, event_by, event_by_need, length_histories, length_processors, own_step}
+use Rattle.pp_run.proofs.StepFacts.{central_by, event_by, event_by_need, own_step}
 use Rattle.pp_runner.specs.End.{IsEnd}
 use Rattle.pp_runner.specs.Limits.{RunLimits}
 use Rattle.pp_runner.specs.Report.{IsReportOf}

@@ -1,5 +1,5 @@
 -- What threads print is read as a lawful trace.
-use Rattle.std.proofs.Common.{All, codes, ◌≡◌, ◌≢◌, ◌∙◌, ℕ, zero, suc, ◌+◌, ◌^◌, ◌<◌, ◌≤◌, Bool, true, false, List, [], ◌∷◌, ◌++◌, length, map, Option, Some, None, refl, sym, ap, subst, append_assoc, arith, inl, inr}
+use Rattle.std.proofs.Common.{All, ◌≡◌, ◌≢◌, ◌∙◌, ℕ, zero, suc, ◌+◌, ◌^◌, ◌<◌, ◌≤◌, Bool, true, false, List, [], ◌∷◌, ◌++◌, length, map, Option, Some, None, refl, sym, ap, subst, append_assoc, arith, inl, inr}
 use Rattle.std.specs.Prelude.{IsTrue, if◌then◌else◌, slice_get, slice_index_or}
 use Rattle.std.specs.List.{AllByRecursion, cons_option, enumerate_from, filter_map, flat_map, list_all}
 use Rattle.std.proofs.lemmas.Bool.{cases_eq}
@@ -22,8 +22,7 @@ use Rattle.pp_runner.specs.WorkerReport.{logs_of}
 use Rattle.pp_report.proofs.ReportLawLemmas.{line_is, numbered_channel_events, told_after, told_body, unnamed_line, with_number}
 use Rattle.pp_report.specs.PrintedReport.{author_place, channel_events, end_text, line_by, named_worker_line, numbered_event_line, printed_report, worker_line}
 use Rattle.pp_deck.proofs.FieldTextLemmas.{is_plain}
-use Rattle.pp_word.specs.Numeral.{decimal, octal}
-use Rattle.pp_text.specs.PrintedText.{event_text, line_end, used_channel_line}
+use Rattle.pp_text.specs.PrintedText.{line_end, used_channel_line}
 use Rattle.pp_report.specs.ReportLaw.{FitsItsLine, FitsItsReport, IsPrintableReport, PrintedEvent, printed_by, printed_on}
 use Rattle.pp_check.specs.LawfulTrace.{AreLawful, IsLawfulTrace, event_on, events_on, history, parsed_lines, opening}
 use Rattle.pp_check.specs.PrintedTrace.{AreOpenedBy}

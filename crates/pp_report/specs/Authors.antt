@@ -1,6 +1,6 @@
 -- Finding the authors of events, log after log. (Only private contracts cite this.)
 use Rattle.std.specs.Prelude.{◌≡◌, ℕ, ◌<◌, Bool, List, [], length, slice_index_or, Option, Some, None, option_map, IsTrue, if◌then◌else◌}
-use Rattle.pp_channel.specs.ChannelNo.{channel_index, names_channel}
+use Rattle.pp_channel.specs.ChannelNo.{channel_count, channel_index, names_channel}
 use Rattle.pp_channel.specs.History.{history_on}
 use Rattle.pp_report.specs.Types.{Event, Worker}
 use Rattle.pp_machine.specs.PpNo.{processor_number}
@@ -27,3 +27,12 @@ abbrev pub AreAuthors : {Z : Type 0} → List (Worker Z) → List (List Event)
     → List (List (Option ℕ)) → Type 0
 AreAuthors workers histories authors = (c : ℕ) → IsTrue (names_channel c)
     → AreAuthorsOn c workers (history_on c histories) (authors_on c authors)
+
+-- An author has marked the events that a test tells: each that had no author has this one now.
+pub record AreMarked (author : ℕ) (tells : ℕ → ℕ → Bool) (before after : List (List (Option ℕ)))
+    : Type 0 where
+  pub each_channel : length after ≡ channel_count
+  pub each_event : (c : ℕ) → length (authors_on c after) ≡ length (authors_on c before)
+  pub marked : (c number : ℕ) → IsTrue (names_channel c) → number < length (authors_on c before)
+      → slice_index_or (authors_on c after) number None
+      ≡ or_known (slice_index_or (authors_on c before) number None) (tells c number) author

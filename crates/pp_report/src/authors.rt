@@ -5,7 +5,7 @@ ghost use Rattle.pp_channel.specs.ChannelNo.{channel_count, names_channel};
 ghost use Rattle.pp_line.specs.Merge.{logs_event, times_logged};
 ghost use Rattle.pp_channel.specs.History.{history_on};
 ghost use Rattle.pp_machine.specs.PpNo.{processor_count};
-ghost use Rattle.pp_report.specs.Authors.{AreAuthors, authors_on, or_known};
+ghost use Rattle.pp_report.specs.Authors.{AreAuthors, AreMarked, authors_on, or_known};
 
 use pp_channel::{CHANNELS, Channel, Seen};
 use pp_line::Entry;
@@ -101,14 +101,8 @@ fn unknown_authors<A: Allocator + Copy>(
 /// Marks the events that a log records, on all channels, if they have no author yet.
 fn mark<A: Allocator>(authors: &mut Vec<ChannelAuthors<A>, A>, log: &[Entry], author: PpNo)
     requires { length authors.old.items ≡ channel_count }
-    ensures each_channel { length authors.new.items ≡ channel_count }
-    ensures each_event { (c : ℕ)
-        → length (authors_on c authors.new.items) ≡ length (authors_on c authors.old.items) }
-    ensures marked { (c number : ℕ) → IsTrue (names_channel c)
-        → number < length (authors_on c authors.old.items)
-        → slice_index_or (authors_on c authors.new.items) number None
-        ≡ or_known (slice_index_or (authors_on c authors.old.items) number None)
-        (nat_lt 0 (times_logged c number log.now)) author }
+    ensures { AreMarked author (λ c number. nat_lt 0 (times_logged c number log.now))
+        authors.old.items authors.new.items }
 {
     for entry in log {
         mark_entry(authors, entry, author);
@@ -117,14 +111,8 @@ fn mark<A: Allocator>(authors: &mut Vec<ChannelAuthors<A>, A>, log: &[Entry], au
 
 fn mark_entry<A: Allocator>(authors: &mut Vec<ChannelAuthors<A>, A>, entry: &Entry, author: PpNo)
     requires { length authors.old.items ≡ channel_count }
-    ensures each_channel { length authors.new.items ≡ channel_count }
-    ensures each_event { (c : ℕ)
-        → length (authors_on c authors.new.items) ≡ length (authors_on c authors.old.items) }
-    ensures marked { (c number : ℕ) → IsTrue (names_channel c)
-        → number < length (authors_on c authors.old.items)
-        → slice_index_or (authors_on c authors.new.items) number None
-        ≡ or_known (slice_index_or (authors_on c authors.old.items) number None)
-        (logs_event c number entry.now) author }
+    ensures { AreMarked author (λ c number. logs_event c number entry.now)
+        authors.old.items authors.new.items }
 {
     if let Seen::Did(_) = entry.what {
         authors[entry.channel.index()].mark(entry.number as usize, author);
