@@ -12,7 +12,7 @@ use Rattle.pp_channel.proofs.FrontLemmas.{twelve_bits_take}
 use Rattle.pp_channel.proofs.EachHistory.{bits_on}
 use Rattle.pp_line.proofs.LineAnswers.{answers_as_made}
 use Rattle.pp_line.proofs.OrderLemmas.{entries_more}
-use Rattle.pp_channel.specs.Answer.{IsAnswer, channel_state, event_answered, flags_of, flags_shown, reply_made, seen_answered}
+use Rattle.pp_channel.specs.Answer.{IsAnswer, channel_state, event_answered, flags_of, flags_shown, seen_answered}
 use Rattle.pp_channel.specs.AnswerLaws.{shows_flags}
 use Rattle.pp_line.specs.ChannelWord.{number_in, flags_in}
 use Rattle.pp_channel.specs.History.{HasTwelveBitWords, history_on}
