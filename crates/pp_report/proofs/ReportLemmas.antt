@@ -17,9 +17,10 @@ use Rattle.pp_channel.specs.Law.{IsPrefix}
 use Rattle.pp_line.specs.Order.{entries_among, times, writes_among}
 use Rattle.pp_report.specs.Types.{Access, Answer, ChanOp, Did, Entry, Event, Moved, OnChannel, Profile, Read, Reply, Report, Saw, Seen, Worker, Write}
 use Rattle.pp_line.proofs.OrderLemmas.{entries_more}
-use Rattle.pp_line.specs.Merge.{times_logged}
+use Rattle.pp_line.specs.Merge.{logs_event, times_logged}
 use Rattle.pp_channel.proofs.EachHistory.{lawful_on}
-use Rattle.pp_line.proofs.MergeLemmas.{told_by, times_told-append}
+use Rattle.pp_line.proofs.ListFacts.{count_by-parts}
+use Rattle.pp_line.proofs.MergeLemmas.{told_by}
 use Rattle.pp_machine.specs.Headline.{opening_history}
 use Rattle.pp_machine.specs.MachineState.{MachineState, history_of}
 use Rattle.pp_machine.specs.NeedAndEffect.{need, outcome, processor_after}
@@ -34,7 +35,7 @@ use Rattle.pp_runner.proofs.LabourLemmas.{events_by}
 use Rattle.pp_runner.specs.Accesses.{accesses_by, AreAccessesOf, HasAccessed, HaveAccessed}
 use Rattle.pp_runner.specs.Limits.{RunLimits}
 use Rattle.pp_runner.specs.Report.{IsReportOf}
-use Rattle.pp_runner.specs.WorkerReport.{OfEachAnswer, AllMoved, AllBySize, IsBySize, AreWorkers, IsWorker, event_in, events_in, logs_of}
+use Rattle.pp_runner.specs.WorkerReport.{OfEachAnswer, AllMoved, AllBySize, IsBySize, AreWorkers, IsWorker, event_in, events_in}
 use Rattle.pp_report.specs.Serial.{HasNotRun, IsSerialRunOf, answers_along}
 use Rattle.pp_report.proofs.MachineLemmas.{Past, Stands, AllMove, all_left}
 use Rattle.pp_machine.specs.MachineStep.{stepped, step_outcome}
@@ -199,11 +200,6 @@ workings {A} p others size steps order (load ∷ loads) (end ∷ ends) (made ∷
       writes = λ n. sum_by-cons (times_left (tells_write n)) now more.ws ∙ ((λ j. write_times n made j + more.writes n j) ∙ sym (times_more n (writes_among made) (flat_map writes_among accesses)));
     }
 
-times_parts : {A : Type 0} (c number : ℕ) (ends : List (Worker A)) → times_logged c number (logs_of ends) ≡ sum_by (λ w. times_logged c number w.log.items) ends
-times_parts c number [] = refl
-times_parts {A} c number (end ∷ ends) =
-    times_told-append c number end.log.items (logs_of ends) ∙ (ap (λ n. times_logged c number end.log.items + n) (times_parts c number ends) ∙ sym (sum_by-cons (λ (w : Worker A). times_logged c number w.log.items) end ends))
-
 -- where a machine starts
 no_front : {X : Type 0} (xs ys : List X) → xs ++ ys ≡ [] → xs ≡ []
 no_front [] ys is = refl
@@ -245,7 +241,7 @@ same_histories hs gs many each same = ext_get_or [] hs gs (many ∙ sym each) (�
     subst (λ (i : ℕ). get_or hs i [] ≡ get_or gs i []) at (same (channel_number k)))
 
 pub report_leaves : {A : Type 0} (limits : RunLimits) (m : MachineState) (report : Report A) → HasNotRun m → (said : IsReportOf limits m report) → (ns : List ℕ) × IsSerialRunOf ns m report said.order
-report_leaves limits m report new said =
+report_leaves {A} limits m report new said =
     let p = m.profile in
     let n = processors_in p in
     let size = length m.central in
@@ -263,7 +259,7 @@ report_leaves limits m report new said =
     let w = workings p others size limits.steps said.order (take n m.processors) ends said.accesses said.workers said.accessed in
     let most = most_processors p in
     let count : length w.ws ≡ n = sym (length-map w.ws (λ (v : Working). v.pp)) ∙ (ap length w.processors ∙ length-take-le n m.processors (omega (arith, most, new.processors))) in
-    let once : Once size p others history lawful named w.ws opening = λ c number later inside. w.counts c number ∙ (sym (times_parts c number ends) ∙ said.merged.once c number later inside) in
+    let once : Once size p others history lawful named w.ws opening = λ c number later inside. w.counts c number ∙ (sym (count_by-parts (λ (v : Worker A). v.log.items) (logs_event c number) ends) ∙ said.merged.once c number later inside) in
     let written : Written size p others history lawful named w.ws 0 said.order = λ k least. w.writes k ∙ (said.made.each k ∙ sym (write_times k said.order)) in
     let finished = serve size p others history lawful named said.order w.ws begun 0 (omega (arith, count)) w.ready said.total.legal said.total.each_history once said.finds (numbered_from 0 said.order said.made.numbered) written in
     let start : Stands size m (all_of others w.ws).pps begun = record {

@@ -1,12 +1,11 @@
 -- Workers whose accesses stand in one order are led along it, an access at a time, by steps of a machine.
 use Rattle.std.proofs.Common.{◌≡◌, ◌≢◌, ℕ, ◌+◌, ◌<◌, ◌≤◌, cond, true, List, [], ◌∷◌, ◌++◌, length, map, Some, refl, sym, ap, ◌∙◌, subst, inl, inr, arith, append_assoc}
-use Rattle.std.specs.Prelude.{◌⊎◌, ◌==◌, IsTrue, All, slice_get, slice_index, slice_set}
+use Rattle.std.specs.Prelude.{◌⊎◌, ◌==◌, IsTrue, All, slice_index, slice_set}
 use Rattle.std.specs.List.{cons_option, sum_by}
 use Rattle.std.proofs.lemmas.Bool.{cases_eq, cases_lt, eq-eqb, ne_eqb}
 use Rattle.std.proofs.lemmas.List.{append-nil, length-append, length-map, map-append}
 use Rattle.std.proofs.lemmas.List.Elements.{All-head, All-nil, All-push, All-tail}
 use Rattle.std.proofs.lemmas.List.Sums.{sum_by-append, sum_by-cons}
-use Rattle.std.proofs.Math.Seq.{set-append_seam}
 use Rattle.pp_word.specs.Subsequence.{IsSubsequence}
 use Rattle.pp_channel.specs.Answer.{flags_of}
 use Rattle.pp_channel.specs.ChannelNo.{names_channel}
@@ -23,7 +22,7 @@ use Rattle.pp_machine.specs.Profile.{processors_in}
 use Rattle.pp_runner.specs.WorkerReport.{IsBySize}
 use Rattle.pp_report.proofs.AnswerLemmas.{event_answer, look_answer, made_by}
 use Rattle.pp_report.proofs.MachineLemmas.{Past, Leads, leads_none, leads_on, serves_by, serves_look, serves_event, serves_read, serves_write}
-use Rattle.pp_report.proofs.WorkingLemmas.{Working, IsWorking, all_of, ServesAccess, next, rest_done}
+use Rattle.pp_report.proofs.WorkingLemmas.{Working, IsWorking, HasNext, all_of, ServesAccess, next, rest_done}
 
 -- what an entry tells
 told_look : (c number : ℕ) (entry : Entry) (f : Flags) → entry.what ≡ Saw f → told_by c number entry ≡ 0
@@ -109,10 +108,6 @@ head_here [] access os h = inl tt
 head_here (x ∷ xs) access os h = elim h [ inl p ↦ inr (xs, ap (λ y. y ∷ xs) p.0, p.1) | inr q ↦ inl q ]
 
 -- a worker between others
-get_at : (front ws : List Working) (w : Working) → slice_get (front ++ w ∷ ws) (length front) ≡ Some w
-get_at [] ws w = refl
-get_at (v ∷ front) ws w = get_at front ws w
-
 sum_at : (f : Working → ℕ) (front ws : List Working) (w : Working) → sum_by f (front ++ w ∷ ws) ≡ sum_by f front + (f w + sum_by f ws)
 sum_at f front ws w = sum_by-append f front (w ∷ ws) ∙ ap (λ n. sum_by f front + n) (sum_by-cons f w ws)
 
@@ -140,26 +135,8 @@ module _ (size : ℕ) (p : Profile) (others : List Processor) where
     pub counts : (tells : Access → ℕ) → tells access ≡ 0 → sum_by (times_left tells) now ≡ sum_by (times_left tells) ws
     pub leads : Leads size p (all_of others ws) past (all_of others now) later
 
-  -- a worker between others has made the step of the access
-  pub record HasMoved (front ws : List Working) (w : Working) (rest : List Access) (past later : Past) : Type 0 where
-    pub now : Working
-    pub working : IsWorking size now
-    pub accesses : now.accesses ≡ rest
-    pub after_is : now.after ≡ w.after
-    pub leads : Leads size p (all_of others (front ++ w ∷ ws)) past (all_of others (front ++ now ∷ ws)) later
-
-  move : (front ws : List Working) (w : Working) (access : Access) (rest : List Access) (past later : Past) → length front < processors_in p → IsWorking size w → w.accesses ≡ access ∷ rest
-      → ServesAccess size access past later → HasMoved front ws w rest past later
-  move front ws w access rest past later inside working is serves =
-      let more = next size p others (length front) inside w.answers w.pp w.accesses w.after (front ++ w ∷ ws) access rest past later (get_at front ws w) working is serves in record {
-        now = more.now;
-        working = more.working;
-        accesses = more.accesses;
-        after_is = more.after_is;
-        leads = subst (λ (us : List Working). Leads size p (all_of others (front ++ w ∷ ws)) past (all_of others us) later) (set-append_seam front w ws more.now) more.leads;
-      }
-
-  module _ (front ws : List Working) (w : Working) (access : Access) (rest : List Access) (past later : Past) (is : w.accesses ≡ access ∷ rest) (moved : HasMoved front ws w rest past later) where
+  -- a worker between others that has made the step of the access
+  module _ (front ws : List Working) (w : Working) (access : Access) (rest : List Access) (past later : Past) (is : w.accesses ≡ access ∷ rest) (inside : length front < processors_in p) (moved : HasNext size p others front ws inside w rest past later) where
     moved_counts : (tells : Access → ℕ) → tells access ≡ 0 → sum_by (times_left tells) (front ++ moved.now ∷ ws) ≡ sum_by (times_left tells) (front ++ w ∷ ws)
     moved_counts tells none =
         let f : Working → ℕ = times_left tells in
@@ -225,14 +202,15 @@ module _ (size : ℕ) (p : Profile) (others : List Processor) where
             (serve_each access os past later (front ++ w ∷ []) ws (few_pushed front ws w w few) (All-push (Ready os) front w done (record { working = here.working; stands = behind })) more (may.1 behind))
         | inr first ↦
             let serves = may.0 first.0 first.1 in
-            let moved = move front ws w access first.0 past later (front_inside front ws w few) here.working first.1 serves.0 in
+            let inside = front_inside front ws w few in
+            let moved = next size p others front ws inside w.answers w.pp w.accesses w.after access first.0 past later here.working first.1 serves.0 in
             let ready : Ready os moved.now = record { working = moved.working; stands = subst (λ (es : List Access). IsSubsequence es os) (sym moved.accesses) first.2 } in
             let served = subst (λ (us : List Working). Served us later later access os) (push_front front ws moved.now)
             (serve_each access os later later (front ++ moved.now ∷ []) ws (few_pushed front ws w moved.now few) (All-push (Ready os) front moved.now done ready) more serves.1) in record {
               now = served.now;
               ready = served.ready;
-              afters = served.afters ∙ moved_afters front ws w access first.0 past later first.1 moved;
-              counts = λ tells none. served.counts tells none ∙ moved_counts front ws w access first.0 past later first.1 moved tells none;
+              afters = served.afters ∙ moved_afters front ws w access first.0 past later first.1 inside moved;
+              counts = λ tells none. served.counts tells none ∙ moved_counts front ws w access first.0 past later first.1 inside moved tells none;
               leads = leads_on size p (all_of others (front ++ w ∷ ws)) (all_of others (front ++ moved.now ∷ ws)) (all_of others served.now) past later later moved.leads served.leads;
             }
       ]
@@ -261,14 +239,13 @@ module _ (size : ℕ) (p : Profile) (others : List Processor) where
   }
   end_each was front (w ∷ ws) past same none few left =
       let here = All-head (Ready []) w ws left in
-      let done = rest_done size p others (length front) (front_inside front ws w few) w.answers w.pp w.accesses w.after (front ++ w ∷ ws) past (get_at front ws w) here.working (none_stand w.accesses here.stands) in
-      let leads = subst (λ (us : List Working). Leads size p (all_of others (front ++ w ∷ ws)) past (all_of others us) past) (set-append_seam front w ws done.now) done.leads in
+      let done = rest_done size p others front ws (front_inside front ws w few) w.answers w.pp w.accesses w.after past here.working (none_stand w.accesses here.stands) in
       let pushed : map pp_of (front ++ done.now ∷ []) ≡ map after_of (was ++ w ∷ []) = map-append pp_of front (done.now ∷ []) ∙ ((λ j. same j ++ done.done j ∷ []) ∙ sym (map-append after_of was (w ∷ []))) in
       let more = end_each (was ++ w ∷ []) (front ++ done.now ∷ []) ws past pushed (All-push HasNoneLeft front done.now none done.none) (few_pushed front ws w done.now few) (All-tail (Ready []) w ws left) in record {
         now = more.now;
         processors = more.processors ∙ ap (map after_of) (push_front was ws w);
         none = more.none;
-        leads = leads_on size p (all_of others (front ++ w ∷ ws)) (all_of others (front ++ done.now ∷ ws)) (all_of others more.now) past past past leads
+        leads = leads_on size p (all_of others (front ++ w ∷ ws)) (all_of others (front ++ done.now ∷ ws)) (all_of others more.now) past past past done.leads
             (subst (λ (us : List Working). Leads size p (all_of others us) past (all_of others more.now) past) (push_front front ws done.now) more.leads);
       }
 
