@@ -166,9 +166,7 @@ turns_step : (opened : List Bool) (lines : List TraceLine) (line : TraceLine) â†
 unfolding last_turn
 turns_step opened lines (says.AtTurn turn c e) rise fits =
     subst IsStrictlyIncreasing (sym (turns_more lines (says.AtTurn turn c e) turn refl)) (increasing_push (turns lines) turn rise fits)
-turns_step opened lines (says.Numbered number c e) rise fits = subst IsStrictlyIncreasing (sym (turns_same lines (says.Numbered number c e) refl)) rise
-turns_step opened lines (says.Standing c state) rise fits = subst IsStrictlyIncreasing (sym (turns_same lines (says.Standing c state) refl)) rise
-turns_step opened lines says.Other rise fits = subst IsStrictlyIncreasing (sym (turns_same lines says.Other refl)) rise
+turns_step opened lines line rise fits = subst IsStrictlyIncreasing (sym (turns_same lines line refl)) rise
 
 no_turns : IsStrictlyIncreasing (turns [])
 unfolding turns

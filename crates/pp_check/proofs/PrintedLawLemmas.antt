@@ -124,26 +124,22 @@ lawful_events named m opened is opens = record {
 abbrev pub Shows : List Bool → List TraceLine → TraceLine → Type 0
 Shows opened lines (Standing c state) = state ≡ channel_state (history opened lines c)
 Shows opened lines Other = Unit {0}
-Shows opened lines (AtTurn turn c e) = ⊥
-Shows opened lines (Numbered number c e) = ⊥
+Shows opened lines other = ⊥
 
 shows_none : (opened : List Bool) (lines : List TraceLine) (line : TraceLine) → Shows opened lines line → TellsNone line
 shows_none opened lines (Standing c state) shows = state_told c state
 shows_none opened lines Other shows = nothing_told
-shows_none opened lines (AtTurn turn c e) shows = absurd shows
-shows_none opened lines (Numbered number c e) shows = absurd shows
+shows_none opened lines line shows = absurd shows
 
 shows_fit : (opened : List Bool) (lines : List TraceLine) (line : TraceLine) → Shows opened lines line → Fits opened lines line
 shows_fit opened lines (Standing c state) shows = shows
 shows_fit opened lines Other shows = tt
-shows_fit opened lines (AtTurn turn c e) shows = absurd shows
-shows_fit opened lines (Numbered number c e) shows = absurd shows
+shows_fit opened lines line shows = absurd shows
 
 shows_still : (opened : List Bool) (lines : List TraceLine) (line x : TraceLine) → TellsNone line → Shows opened lines x → Shows opened (lines ++ line ∷ []) x
 shows_still opened lines line (Standing c state) none shows = shows ∙ ap channel_state (sym (history_same opened lines line c (none.event c)))
 shows_still opened lines line Other none shows = tt
-shows_still opened lines line (AtTurn turn c e) none shows = shows
-shows_still opened lines line (Numbered number c e) none shows = shows
+shows_still opened lines line x none shows = shows
 
 all_still : (opened : List Bool) (lines : List TraceLine) (line : TraceLine) (more : List TraceLine) → TellsNone line → AllByRecursion (Shows opened lines) more → AllByRecursion (Shows opened (lines ++ line ∷ [])) more
 all_still opened lines line [] none all = all
@@ -166,8 +162,7 @@ state_by is_active is_full word =
 at_state : (s : State) → shown_state (is_active s) (held_word s) ≡ state_by (is_active s) (is_some (held_word s)) (held_word s)
 unfolding shown_state
 at_state Inactive = refl
-at_state Empty = refl
-at_state (Holding w) = refl
+at_state s = refl
 
 shown_by_state : (h : List Event) (s : State) → FitsState h s → shown_state (active h) (waiting h) ≡ channel_state h
 shown_by_state h s fits =

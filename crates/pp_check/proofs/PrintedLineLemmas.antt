@@ -160,9 +160,8 @@ unfolding processor_line processor_body
 processor_line_is n pp said = simp append_assoc
 
 pub plain_state : (state : PpState) → list_all is_plain (state_text state) ≡ true
-plain_state Running = refl
-plain_state Stopped = refl
 plain_state (Fault number) = plain_octal 1 number
+plain_state state = refl
 
 pub plain_processor : (n : ℕ) (pp : Processor) (said : List ℕ) → list_all is_plain said ≡ true → list_all is_plain (processor_body n pp said) ≡ true
 unfolding processor_body

@@ -64,10 +64,7 @@ rise_by_event n c m (Some e) rise = subst (Rise (m.turns + 1)) (sym (turns_push 
 
 rise_by_need : (n : ℕ) (x : Need) (m : MachineState) → Rise m.turns (turns_in m.trace) → Rise (m.turns + 1) (turns_in (trace_after n x m))
 rise_by_need n (Channel c op) m rise = rise_by_event n c m (event_of op (history_of c m)) rise
-rise_by_need n Nothing m rise = rise_later m.turns (turns_in m.trace) rise
-rise_by_need n Local m rise = rise_later m.turns (turns_in m.trace) rise
-rise_by_need n (Read a) m rise = rise_later m.turns (turns_in m.trace) rise
-rise_by_need n (Write a w) m rise = rise_later m.turns (turns_in m.trace) rise
+rise_by_need n x m rise = rise_later m.turns (turns_in m.trace) rise
 
 step_rises : (n : ℕ) (m : MachineState) → m.turns + 1 < 2 ^ 64 → Rise m.turns (turns_in m.trace) → ((stepped n m).turns ≡ m.turns + 1) × Rise (m.turns + 1) (turns_in (stepped n m).trace)
 unfolding stepped

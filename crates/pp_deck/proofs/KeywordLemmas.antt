@@ -94,13 +94,8 @@ begun false = refl
 
 current_is_some : (line : Line) (b : Bool) (current : Option ℕ) → Begins b line → is_some (current_after line current) ≡ (is_some current || b)
 unfolding Begins is_section
-current_is_some nothing b current e = kept (is_some current) ∙ ap (λ (t : Bool). is_some current || t) e
-current_is_some (central_size n) b current e = kept (is_some current) ∙ ap (λ (t : Bool). is_some current || t) e
-current_is_some (central_words a ws) b current e = kept (is_some current) ∙ ap (λ (t : Bool). is_some current || t) e
-current_is_some (start p a) b current e = kept (is_some current) ∙ ap (λ (t : Bool). is_some current || t) e
-current_is_some (words x ws) b current e = kept (is_some current) ∙ ap (λ (t : Bool). is_some current || t) e
 current_is_some (section n) b current e = begun (is_some current) ∙ ap (λ (t : Bool). is_some current || t) e
-current_is_some dead_start b current e = kept (is_some current) ∙ ap (λ (t : Bool). is_some current || t) e
+current_is_some line b current e = kept (is_some current) ∙ ap (λ (t : Bool). is_some current || t) e
 
 pub of_line : (r : Result Line Flaw) (line : Line) (P : Line → Type 0) → OnRead r P → r ≡ Ok line → P line
 of_line (Ok l) line P h e = let same : l ≡ line = cc in subst P same h

@@ -93,22 +93,12 @@ no_section n e = cc
 
 -- a line is the heading, or the section is as before
 heading_or : (line : Line) (current : Option ℕ) (n : ℕ) → current_after line current ≡ Some n → (line ≡ section n) ⊎ ((current ≡ Some n) × ((m : ℕ) → line ≡ section m → ⊥))
-heading_or nothing current n e = inr (e, λ m h. cc)
-heading_or (central_size s) current n e = inr (e, λ m h. cc)
-heading_or (central_words a ws) current n e = inr (e, λ m h. cc)
 heading_or (section m) current n e = inl (let same : m ≡ n = cc in ap section same)
-heading_or (start p a) current n e = inr (e, λ m h. cc)
-heading_or (words x ws) current n e = inr (e, λ m h. cc)
-heading_or dead_start current n e = inr (e, λ m h. cc)
+heading_or line current n e = inr (e, λ m h. cc)
 
 section_kept : (line : Line) (current : Option ℕ) → ((m : ℕ) → line ≡ section m → ⊥) → current_after line current ≡ current
-section_kept nothing current other = refl
-section_kept (central_size s) current other = refl
-section_kept (central_words a ws) current other = refl
 section_kept (section m) current other = absurd (other m refl)
-section_kept (start p a) current other = refl
-section_kept (words x ws) current other = refl
-section_kept dead_start current other = refl
+section_kept line current other = refl
 
 heading_at : (lines : List Line) (k n : ℕ) → (section_of (take k lines) ≡ Some n → IsFor lines k n) → (line_of lines k ≡ section n) ⊎ ((section_of (take k lines) ≡ Some n) × ((m : ℕ) → line_of lines k ≡ section m → ⊥)) → IsFor lines (k + 1) n
 heading_at lines k n before (inl is) = record { heading = k; before = omega arith; names = is; latest = λ i m low high h. absurd (omega (arith, low, high)) }
@@ -151,39 +141,19 @@ is_among first place w ws h =
 
 pub word_set : (line : Line) (place w : ℕ) → word_for place line ≡ Some w → SetsWord line place w
 word_set (words x ws) place w e = stands x place w ws e
-word_set nothing place w e = absurd (cc)
-word_set (central_size n) place w e = absurd (cc)
-word_set (central_words a ws) place w e = absurd (cc)
-word_set (section n) place w e = absurd (cc)
-word_set (start p a) place w e = absurd (cc)
-word_set dead_start place w e = absurd (cc)
+word_set line place w e = absurd (cc)
 
 pub set_word : (line : Line) (place w : ℕ) → SetsWord line place w → word_for place line ≡ Some w
 set_word (words x ws) place w h = is_among x place w ws h
-set_word nothing place w h = absurd h
-set_word (central_size n) place w h = absurd h
-set_word (central_words a ws) place w h = absurd h
-set_word (section n) place w h = absurd h
-set_word (start p a) place w h = absurd h
-set_word dead_start place w h = absurd h
+set_word line place w h = absurd h
 
 pub central_set : (line : Line) (address w : ℕ) → central_word_for address line ≡ Some w → SetsCentralWord line address w
 central_set (central_words a ws) address w e = stands a address w ws e
-central_set nothing address w e = absurd (cc)
-central_set (central_size n) address w e = absurd (cc)
-central_set (words x ws) address w e = absurd (cc)
-central_set (section n) address w e = absurd (cc)
-central_set (start p a) address w e = absurd (cc)
-central_set dead_start address w e = absurd (cc)
+central_set line address w e = absurd (cc)
 
 pub set_central : (line : Line) (address w : ℕ) → SetsCentralWord line address w → central_word_for address line ≡ Some w
 set_central (central_words a ws) address w h = is_among a address w ws h
-set_central nothing address w h = absurd h
-set_central (central_size n) address w h = absurd h
-set_central (words x ws) address w h = absurd h
-set_central (section n) address w h = absurd h
-set_central (start p a) address w h = absurd h
-set_central dead_start address w h = absurd h
+set_central line address w h = absurd h
 
 -- the registers at a start
 abbrev pub registers_at : ℕ × ℕ → Registers
@@ -191,21 +161,11 @@ registers_at s = record { state = Running; p = s.0; a = s.1 }
 
 pub start_set : (line : Line) (registers : Registers) → option_map registers_at (start_in line) ≡ Some registers → Starts line registers
 start_set (start p a) registers e = cc
-start_set nothing registers e = absurd (cc)
-start_set (central_size n) registers e = absurd (cc)
-start_set (central_words a ws) registers e = absurd (cc)
-start_set (section n) registers e = absurd (cc)
-start_set (words x ws) registers e = absurd (cc)
-start_set dead_start registers e = absurd (cc)
+start_set line registers e = absurd (cc)
 
 pub set_start : (line : Line) (registers : Registers) → Starts line registers → option_map registers_at (start_in line) ≡ Some registers
 set_start (start p a) registers h = ap Some (sym h)
-set_start nothing registers h = absurd h
-set_start (central_size n) registers h = absurd h
-set_start (central_words a ws) registers h = absurd h
-set_start (section n) registers h = absurd h
-set_start (words x ws) registers h = absurd h
-set_start dead_start registers h = absurd h
+set_start line registers h = absurd h
 
 -- ---- what the lines for a processor set
 
@@ -292,12 +252,7 @@ central_here size lines address lt =
 
 is_name : (n : ℕ) (line : Line) → names n line ≡ true → line ≡ section n
 is_name n (section m) e = ap section (sym (eqb-true n m e))
-is_name n nothing e = absurd (cc)
-is_name n (central_size s) e = absurd (cc)
-is_name n (central_words a ws) e = absurd (cc)
-is_name n (start p a) e = absurd (cc)
-is_name n (words x ws) e = absurd (cc)
-is_name n dead_start e = absurd (cc)
+is_name n line e = absurd (cc)
 
 pub some_name : (n : ℕ) (lines : List Line) → list_any (names n) lines ≡ true → Contains lines (section n)
 some_name n lines e =

@@ -33,9 +33,4 @@ asked_after line asked = asked
 pub after_line_parts : (progress : Progress) (line : Line) → after_line progress line ≡ record { machine = machine_after progress.current line progress.machine; named = named_after line progress.named; current = current_after line progress.current; asks_dead_start = asked_after line progress.asks_dead_start }
 unfolding after_line
 after_line_parts progress nothing = refl
-after_line_parts progress (central_size n) = refl
-after_line_parts progress (central_words a ws) = refl
-after_line_parts progress (section n) = refl
-after_line_parts progress (start p a) = refl
-after_line_parts progress (words x ws) = refl
-after_line_parts progress dead_start = refl
+after_line_parts progress line = refl

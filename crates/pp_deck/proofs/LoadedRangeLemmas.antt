@@ -91,21 +91,11 @@ among_in P false ws i h = tt
 
 word_small : (place : ℕ) (line : Line) → InRange line → OnSome (λ w. w < 8 ^ 4) (word_for place line)
 word_small place (words x ws) h = among_in (λ w. w < 8 ^ 4) (leb x place) ws (place - x) h
-word_small place nothing h = tt
-word_small place (central_size n) h = tt
-word_small place (central_words a ws) h = tt
-word_small place (section n) h = tt
-word_small place (start p a) h = tt
-word_small place dead_start h = tt
+word_small place line h = tt
 
 central_small : (address : ℕ) (line : Line) → InRange line → OnSome (λ w. w < 8 ^ 20) (central_word_for address line)
 central_small address (central_words a ws) h = among_in (λ w. w < 8 ^ 20) (leb a address) ws (address - a) h
-central_small address nothing h = tt
-central_small address (central_size n) h = tt
-central_small address (words x ws) h = tt
-central_small address (section n) h = tt
-central_small address (start p a) h = tt
-central_small address dead_start h = tt
+central_small address line h = tt
 
 -- P and A are in range
 abbrev pub IsStart : ℕ × ℕ → Type 0
@@ -113,12 +103,7 @@ IsStart s = (s.0 < 8 ^ 4) × (s.1 < 8 ^ 6)
 
 start_small : (line : Line) → InRange line → OnSome IsStart (start_in line)
 start_small (start p a) h = h
-start_small nothing h = tt
-start_small (central_size n) h = tt
-start_small (central_words a ws) h = tt
-start_small (section n) h = tt
-start_small (words x ws) h = tt
-start_small dead_start h = tt
+start_small line h = tt
 
 pub last_start_small : (lines : List Line) → AllLines InRange lines → OnSome IsStart (last_of (filter_map start_in lines))
 last_start_small lines h = last_set IsStart start_in lines start_small h

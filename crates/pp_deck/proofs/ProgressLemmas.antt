@@ -47,17 +47,13 @@ module _ (profile : Profile) where
 
   by_own_more : (lines : List Line) (line : Line) → by_own_lines (lines ++ line ∷ []) ≡ own_after line (by_own_lines lines)
   unfolding by_own_lines
-  by_own_more lines nothing = both_with _ _ _ _ (memory_kept lines nothing (λ place. refl)) (starts_more lines nothing)
-  by_own_more lines (central_size n) = both_with _ _ _ _ (memory_kept lines (central_size n) (λ place. refl)) (starts_more lines (central_size n))
-  by_own_more lines (central_words a ws) = both_with _ _ _ _ (memory_kept lines (central_words a ws) (λ place. refl)) (starts_more lines (central_words a ws))
-  by_own_more lines (section n) = both_with _ _ _ _ (memory_kept lines (section n) (λ place. refl)) (starts_more lines (section n))
   by_own_more lines (start p a) =
       both_with _ _ _ _ (memory_kept lines (start p a) (λ place. refl)) (starts_more lines (start p a))
       ∙ start_with p a (memory_of lines) (last_of (filter_map start_in lines))
   by_own_more lines (words x ws) =
       both_with _ _ _ _ (memory_set lines x ws) (starts_more lines (words x ws))
       ∙ words_with x ws (memory_of lines) (last_of (filter_map start_in lines))
-  by_own_more lines dead_start = both_with _ _ _ _ (memory_kept lines dead_start (λ place. refl)) (starts_more lines dead_start)
+  by_own_more lines line = both_with _ _ _ _ (memory_kept lines line (λ place. refl)) (starts_more lines line)
 
   empty_is : replicate place_count 0 ≡ empty_memory
   unfolding empty_memory
@@ -173,9 +169,6 @@ module _ (profile : Profile) where
 
   machine_more : (size : ℕ) (lines : List Line) (line : Line) → machine_after (section_of lines) line (machine_of size lines) ≡ machine_of size (lines ++ line ∷ [])
   unfolding machine_of build
-  machine_more size lines nothing = machine_kept size lines nothing (λ pp. refl) (central_kept size lines nothing (λ address. refl))
-  machine_more size lines (central_size n) = machine_kept size lines (central_size n) (λ pp. refl) (central_kept size lines (central_size n) (λ address. refl))
-  machine_more size lines (section n) = machine_kept size lines (section n) (λ pp. refl) (central_kept size lines (section n) (λ address. refl))
   machine_more size lines (central_words a ws) = sym (both_built size _ _ _ _ (all_kept lines (central_words a ws) (λ pp. refl)) (central_set size lines a ws))
   machine_more size lines (start p a) =
       changed_machine size (section_of lines) (runs_from p a) (all_of lines) (central_loaded size lines)
@@ -183,7 +176,7 @@ module _ (profile : Profile) where
   machine_more size lines (words x ws) =
       changed_machine size (section_of lines) (loaded_from x ws) (all_of lines) (central_loaded size lines)
       ∙ both_built size _ _ _ _ (all_changed lines (words x ws) (section_of lines) refl) (sym (central_kept size lines (words x ws) (λ address. refl)))
-  machine_more size lines dead_start = machine_kept size lines dead_start (λ pp. refl) (central_kept size lines dead_start (λ address. refl))
+  machine_more size lines line = machine_kept size lines line (λ pp. refl) (central_kept size lines line (λ address. refl))
 
   machine_none : (size : ℕ) → new_machine profile size ≡ machine_of size []
   unfolding machine_of build all_of
@@ -212,16 +205,11 @@ module _ (profile : Profile) where
 
   named_more : (lines : List Line) (line : Line) → named_after line (named_of lines) ≡ named_of (lines ++ line ∷ [])
   unfolding named_of
-  named_more lines nothing = named_kept lines nothing (λ n. refl)
-  named_more lines (central_size n) = named_kept lines (central_size n) (λ n. refl)
-  named_more lines (central_words a ws) = named_kept lines (central_words a ws) (λ n. refl)
-  named_more lines (start p a) = named_kept lines (start p a) (λ n. refl)
-  named_more lines (words x ws) = named_kept lines (words x ws) (λ n. refl)
   named_more lines (section m) =
       set-tabulate false processor_count (λ i. is_named lines (processor_number i)) (processor_index m) true
       ∙ sym (tabulate_same false processor_count (λ i. is_named (lines ++ section m ∷ []) (processor_number i)) (λ i. cond (eqb i (processor_index m)) true (is_named lines (processor_number i)))
       (λ i lt. let n = processor_number i in list_any-append (names n) lines (section m ∷ []) ∙ sym (or_test (is_named lines n) (eqb n m)) ∙ ap (λ (b : Bool). cond b true (is_named lines n)) (number_at i m lt)))
-  named_more lines dead_start = named_kept lines dead_start (λ n. refl)
+  named_more lines line = named_kept lines line (λ n. refl)
 
   named_none : replicate processor_count false ≡ named_of []
   unfolding named_of
@@ -238,13 +226,8 @@ module _ (profile : Profile) where
   or_true false = refl
 
   asked_more : (lines : List Line) (line : Line) → asked_after line (asks_dead_start lines) ≡ asks_dead_start (lines ++ line ∷ [])
-  asked_more lines nothing = asked_kept lines nothing refl
-  asked_more lines (central_size n) = asked_kept lines (central_size n) refl
-  asked_more lines (central_words a ws) = asked_kept lines (central_words a ws) refl
-  asked_more lines (section n) = asked_kept lines (section n) refl
-  asked_more lines (start p a) = asked_kept lines (start p a) refl
-  asked_more lines (words x ws) = asked_kept lines (words x ws) refl
   asked_more lines dead_start = or_true (asks_dead_start lines) ∙ sym (list_any-append is_dead_start lines (dead_start ∷ []))
+  asked_more lines line = asked_kept lines line refl
 
   -- ---- the progress
 

@@ -156,13 +156,7 @@ default_size = (omega arith, omega arith)
 said_size : (r : Result Line _) → Holds InRange r → IsSize (stated_size r)
 unfolding IsSize
 said_size (Ok (central_size n)) h = h
-said_size (Ok nothing) h = default_size
-said_size (Ok (central_words a ws)) h = default_size
-said_size (Ok (section n)) h = default_size
-said_size (Ok (start p a)) h = default_size
-said_size (Ok (words x ws)) h = default_size
-said_size (Ok dead_start) h = default_size
-said_size (Err flaw) h = default_size
+said_size r h = default_size
 
 size_is : (o : Option (List (List ℕ))) → IsSize (size_in o)
 unfolding keyword_of

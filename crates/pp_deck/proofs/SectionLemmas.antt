@@ -14,12 +14,7 @@ names n line = is_for n (processor_in line)
 
 current_is : (line : Line) (current : Option ℕ) → or_else (processor_in line) current ≡ current_after line current
 current_is nothing current = refl
-current_is (central_size n) current = refl
-current_is (central_words a ws) current = refl
-current_is (section n) current = refl
-current_is (start p a) current = refl
-current_is (words x ws) current = refl
-current_is dead_start current = refl
+current_is line current = refl
 
 -- the section after one line more
 pub section_more : (lines : List Line) (line : Line) → section_of (lines ++ line ∷ []) ≡ current_after line (section_of lines)

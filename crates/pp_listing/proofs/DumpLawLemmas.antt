@@ -69,8 +69,7 @@ module _ (profile : Profile) where
 
   left_small : (state : PpState) (pp : Processor) → IsProcessor pp → IsSmall (left_of state pp)
   left_small Running pp h = record { memory = words_small pp h; long = h.memory.each_place; p = omega (arith, h.p); a = omega (arith, h.a) }
-  left_small Stopped pp h = rest_small pp h
-  left_small (Fault number) pp h = rest_small pp h
+  left_small state pp h = rest_small pp h
 
   -- from its start, where it is running
   start_left : PpState → Processor → Option (ℕ × ℕ)

@@ -6,7 +6,7 @@ use Rattle.pp_machine.specs.MachineState.{processor_of}
 use Rattle.pp_machine.specs.Processor.{Processor, word_at}
 use Rattle.pp_machine.specs.PpNo.{all_processors, is_named}
 use Rattle.pp_machine.specs.declared.pp_state.PpState.{PpState}
-use Rattle.pp_machine.specs.declared.pp_state.PpState.TheVariants.{Running, Stopped, Fault}
+use Rattle.pp_machine.specs.declared.pp_state.PpState.TheVariants.{Running}
 use Rattle.pp_deck.specs.DeckLine.{central_size, section, dead_start}
 use Rattle.pp_deck.specs.DeckMeaning.{LoadedDeck}
 use Rattle.pp_deck.specs.InUse.{in_use}
@@ -20,8 +20,7 @@ use Rattle.pp_listing.proofs.DumpLawLemmas.{left_there, none_open}
 
 lines_left : (n : ℕ) (state : PpState) (pp : Processor) → pp.state ≡ state → section_lines n pp ≡ section_lines n (left_of state pp)
 lines_left n Running pp e = refl
-lines_left n Stopped pp e = ap (λ (state : PpState). bare (section n) ∷ instruction_lines (word_at pp 0) 0 pp.memory ++ start_line state pp.p pp.a) e
-lines_left n (Fault number) pp e = ap (λ (state : PpState). bare (section n) ∷ instruction_lines (word_at pp 0) 0 pp.memory ++ start_line state pp.p pp.a) e
+lines_left n other pp e = ap (λ (state : PpState). bare (section n) ∷ instruction_lines (word_at pp 0) 0 pp.memory ++ start_line state pp.p pp.a) e
 
 section_left : (deck : LoadedDeck) (n : ℕ) → named_section (deck_to_go_on deck).named deck.machine n ≡ named_section (deck_to_go_on deck).named (deck_to_go_on deck).machine n
 section_left deck n =

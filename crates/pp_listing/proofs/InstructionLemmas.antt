@@ -6,9 +6,9 @@ use Rattle.std.proofs.lemmas.Bool.{le-leb, lt-leb, eqb-true}
 use Rattle.std.proofs.lemmas.List.Elements.{All-head, All-tail, All-cons, All-nil}
 use Rattle.pp_word.specs.Address.{place_count}
 use Rattle.pp_machine.specs.declared.pp_state.PpState.{PpState}
-use Rattle.pp_machine.specs.declared.pp_state.PpState.TheVariants.{Running, Stopped, Fault}
+use Rattle.pp_machine.specs.declared.pp_state.PpState.TheVariants.{Running}
 use Rattle.pp_machine.specs.declared.profile.Profile.{Profile}
-use Rattle.pp_deck.specs.DeckLine.{Line, nothing, central_size, central_words, section, start, words, dead_start, line_after}
+use Rattle.pp_deck.specs.DeckLine.{Line, start, words, line_after}
 use Rattle.pp_deck.specs.DeckLoad.{word_among, word_for, central_word_for, start_in, is_dead_start}
 use Rattle.pp_word.specs.GrowingLists.{last_of}
 use Rattle.pp_deck.proofs.SectionLemmas.{names}
@@ -46,8 +46,7 @@ says_words first x (w ∷ m ∷ ws) =
 
 pub says_start : (state : PpState) (p a : ℕ) → map says (start_line state p a) ≡ start_by state p a
 says_start Running p a = refl
-says_start Stopped p a = refl
-says_start (Fault n) p a = refl
+says_start state p a = refl
 
 -- a line of words or a start
 abbrev pub IsOwn : Line → Type 0
@@ -64,17 +63,12 @@ instructions_own x (w ∷ m ∷ ws) =
 
 pub start_own : (state : PpState) (p a : ℕ) → AllLines IsOwn (start_by state p a)
 start_own Running p a = (tt, tt)
-start_own Stopped p a = tt
-start_own (Fault n) p a = tt
+start_own state p a = tt
 
 own_keeps : (line : Line) → IsOwn line → (c : Option ℕ) → current_after line c ≡ c
 own_keeps (words x ws) h c = refl
 own_keeps (start p a) h c = refl
-own_keeps nothing h c = absurd h
-own_keeps (central_size n) h c = absurd h
-own_keeps (central_words a ws) h c = absurd h
-own_keeps (section n) h c = absurd h
-own_keeps dead_start h c = absurd h
+own_keeps line h c = absurd h
 
 pub all_keep : (lines : List Line) → AllLines IsOwn lines → KeepCurrent lines
 all_keep [] h = tt
@@ -83,11 +77,7 @@ all_keep (line ∷ lines) h = (own_keeps line h.0, all_keep lines h.1)
 own_unnamed : (n : ℕ) (line : Line) → IsOwn line → names n line ≡ false
 own_unnamed n (words x ws) h = refl
 own_unnamed n (start p a) h = refl
-own_unnamed n nothing h = absurd h
-own_unnamed n (central_size s) h = absurd h
-own_unnamed n (central_words a ws) h = absurd h
-own_unnamed n (section m) h = absurd h
-own_unnamed n dead_start h = absurd h
+own_unnamed n line h = absurd h
 
 pub all_unnamed : (n : ℕ) (lines : List Line) → AllLines IsOwn lines → list_any (names n) lines ≡ false
 all_unnamed n [] h = refl
@@ -96,11 +86,7 @@ all_unnamed n (line ∷ lines) h = let one : names n line ≡ false = own_unname
 own_no_central : (a : ℕ) (line : Line) → IsOwn line → central_word_for a line ≡ None
 own_no_central a (words x ws) h = refl
 own_no_central a (start p b) h = refl
-own_no_central a nothing h = absurd h
-own_no_central a (central_size s) h = absurd h
-own_no_central a (central_words b ws) h = absurd h
-own_no_central a (section m) h = absurd h
-own_no_central a dead_start h = absurd h
+own_no_central a line h = absurd h
 
 pub all_no_central : (a : ℕ) (lines : List Line) → AllLines IsOwn lines → filter_map (central_word_for a) lines ≡ []
 all_no_central a [] h = refl
@@ -109,11 +95,7 @@ all_no_central a (line ∷ lines) h = ap (λ (o : Option ℕ). cons_option o (fi
 own_no_request : (line : Line) → IsOwn line → is_dead_start line ≡ false
 own_no_request (words x ws) h = refl
 own_no_request (start p a) h = refl
-own_no_request nothing h = absurd h
-own_no_request (central_size n) h = absurd h
-own_no_request (central_words a ws) h = absurd h
-own_no_request (section n) h = absurd h
-own_no_request dead_start h = absurd h
+own_no_request line h = absurd h
 
 pub all_no_request : (lines : List Line) → AllLines IsOwn lines → list_any is_dead_start lines ≡ false
 all_no_request [] h = refl
@@ -150,8 +132,7 @@ instructions_read profile size x (w ∷ m ∷ ws) small le =
 
 pub start_is_read : (profile : Profile) (size : ℕ) (state : PpState) (p a : ℕ) → p < 8 ^ 4 → a < 8 ^ 6 → AllLines (IsReadInSection profile size) (start_by state p a)
 start_is_read profile size Running p a small low = (λ b. start_read profile size p a b small low, tt)
-start_is_read profile size Stopped p a small low = tt
-start_is_read profile size (Fault n) p a small low = tt
+start_is_read profile size state p a small low = tt
 
 -- ---- the words that the lines set
 
@@ -233,8 +214,7 @@ instructions_hold x (suc (suc i)) place (w ∷ m ∷ ws) e =
 
 pub no_words : (place : ℕ) (state : PpState) (p a : ℕ) → filter_map (word_for place) (start_by state p a) ≡ []
 no_words place Running p a = refl
-no_words place Stopped p a = refl
-no_words place (Fault n) p a = refl
+no_words place state p a = refl
 
 abbrev IsWords : Line → Type 0
 IsWords (words x ws) = Unit {0}
@@ -249,12 +229,7 @@ instructions_words x (w ∷ m ∷ ws) =
 
 words_no_start : (line : Line) → IsWords line → start_in line ≡ None
 words_no_start (words x ws) h = refl
-words_no_start (start p a) h = absurd h
-words_no_start nothing h = absurd h
-words_no_start (central_size n) h = absurd h
-words_no_start (central_words a ws) h = absurd h
-words_no_start (section n) h = absurd h
-words_no_start dead_start h = absurd h
+words_no_start line h = absurd h
 
 all_no_start : (lines : List Line) → AllLines IsWords lines → filter_map start_in lines ≡ []
 all_no_start [] h = refl

@@ -67,7 +67,6 @@ line_fields (one_word x w m) = commented_fields x (w ∷ []) 10 (instruction_tex
 line_fields (two_words x w m) = commented_fields x (w ∷ m ∷ []) 5 (instruction_text x w m)
 
 bare_plain : (line : Line) → IsPlain (line_text line)
-bare_plain nothing = refl
 bare_plain (central_size n) = plain_append (codes "CENTRAL ") (short_octal 6 n) refl (short_plain 6 n)
 bare_plain (central_words a ws) =
     plain_append (codes "CM " ++ short_octal 6 a) (flat_map (after_blank 20) ws) (plain_append (codes "CM ") (short_octal 6 a) refl (short_plain 6 a)) (words_plain 20 ws)
@@ -75,7 +74,7 @@ bare_plain (section n) = plain_append (codes "PP ") (short_octal 2 n) refl (shor
 bare_plain (start p a) =
     plain_append (codes "START" ++ after_blank 4 p) (after_blank 6 a) (plain_append (codes "START") (after_blank 4 p) refl (octal_plain 4 p)) (octal_plain 6 a)
 bare_plain (words x ws) = plain_append (octal 4 x) (flat_map (after_blank 4) ws) (octal_plain 4 x) (words_plain 4 ws)
-bare_plain dead_start = refl
+bare_plain line = refl
 
 commented_plain : (x : ℕ) (ws blanks instruction : List ℕ) → IsPlain blanks → IsPlain instruction → IsPlain (octal 4 x ++ (flat_map (after_blank 4) ws ++ (blanks ++ instruction)))
 commented_plain x ws blanks instruction h k =

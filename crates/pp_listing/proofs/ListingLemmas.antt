@@ -14,7 +14,7 @@ use Rattle.pp_machine.specs.Processor.{Processor, word_at}
 use Rattle.pp_machine.specs.PpNo.{all_processors, names_processor, processor_index, is_named}
 use Rattle.pp_machine.specs.Profile.{has_processor}
 use Rattle.pp_machine.specs.declared.profile.Profile.{Profile}
-use Rattle.pp_deck.specs.DeckLine.{Line, nothing, central_size, central_words, section, start, words, dead_start}
+use Rattle.pp_deck.specs.DeckLine.{Line, central_size, central_words, section, start, words, dead_start}
 use Rattle.pp_deck.specs.DeckLoad.{processor_loaded, central_loaded, asks_dead_start}
 use Rattle.pp_deck.specs.DeckLoad as load
 use Rattle.pp_deck.specs.DeckMeaning.{LoadedDeck, set_by, with_dead_start, loaded, deck_meaning, meaning_of_lines, faults_in, parsed_deck, size_of, unless_faulty, unless_foreign, is_foreign}
@@ -41,11 +41,7 @@ use Rattle.pp_listing.proofs.PrintedTextLemmas.{IsReady, meaning_printed, read_l
 own_after : (line : Line) (n : ℕ) → IsOwn line → current_after line (Some n) ≡ Some n
 own_after (words x ws) n h = refl
 own_after (start p a) n h = refl
-own_after (section m) n h = absurd h
-own_after (central_size m) n h = absurd h
-own_after (central_words a ws) n h = absurd h
-own_after nothing n h = absurd h
-own_after dead_start n h = absurd h
+own_after line n h = absurd h
 
 module _ (profile : Profile) where
   ready_append : (size : ℕ) (xs ys : List Line) (c : Option ℕ) → IsReady profile size c xs → ((c : Option ℕ) → IsReady profile size c ys) → IsReady profile size c (xs ++ ys)

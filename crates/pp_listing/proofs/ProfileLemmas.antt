@@ -20,7 +20,7 @@ use Rattle.pp_machine.specs.declared.block.Block.{Block}
 use Rattle.pp_machine.specs.declared.block.BlockKind.{BlockKind}
 use Rattle.pp_machine.specs.declared.block.BlockKind.TheVariants.{CentralIn, CentralOut, Input, Output}
 use Rattle.pp_machine.specs.declared.pp_state.PpState.{PpState}
-use Rattle.pp_machine.specs.declared.pp_state.PpState.TheVariants.{Running, Stopped, Fault}
+use Rattle.pp_machine.specs.declared.pp_state.PpState.TheVariants.{Running}
 
 abbrev Keeps : Processor → Processor → Type 0
 Keeps old new = new.profile ≡ old.profile
@@ -92,9 +92,7 @@ step_keeps (Some block) pp = block_keeps block.kind block.place pp
 
 cut_keeps : (kind : BlockKind) (place : ℕ) (pp : Processor) → Keeps pp (cut_short kind place pp)
 cut_keeps (CentralIn left) place pp = refl
-cut_keeps (CentralOut left) place pp = refl
-cut_keeps (Input channel) place pp = refl
-cut_keeps (Output channel) place pp = refl
+cut_keeps kind place pp = refl
 
 held_keeps : (block : Option Block) (pp : Processor) (flags : Flags) → Keeps pp (held block pp flags)
 held_keeps None pp flags = refl
@@ -115,8 +113,7 @@ answered_keeps step pp answer k = refl
 
 if_running_keeps : (state : PpState) (pp : Processor) (answer : Answer) → Keeps pp (if_running state (answered (next_step pp) pp answer) pp)
 if_running_keeps Running pp answer = answered_keeps (next_step pp) pp answer (step_keeps pp.block pp)
-if_running_keeps Stopped pp answer = refl
-if_running_keeps (Fault number) pp answer = refl
+if_running_keeps state pp answer = refl
 
 pub profile_after : (pp : Processor) (answer : Answer) → (processor_after pp answer).profile ≡ pp.profile
 unfolding processor_after

@@ -28,11 +28,11 @@ use Rattle.pp_machine.specs.PpMemory.{empty_memory}
 use Rattle.pp_machine.specs.Processor.{Processor, IsProcessor, no_processor}
 use Rattle.pp_machine.specs.PpNo.{processor_count, processor_index, processor_number}
 use Rattle.pp_machine.specs.Run.{run}
-use Rattle.pp_machine.specs.Step.{Step, need_of, local, probes, takes, does, reads, writes}
+use Rattle.pp_machine.specs.Step.{Step, need_of, does, writes}
 use Rattle.pp_machine.specs.declared.need.Need.{Need}
-use Rattle.pp_machine.specs.declared.need.Need.TheVariants.{Nothing, Local, Channel, Read, Write}
+use Rattle.pp_machine.specs.declared.need.Need.TheVariants.{Nothing, Channel, Write}
 use Rattle.pp_machine.specs.declared.pp_state.PpState.{PpState}
-use Rattle.pp_machine.specs.declared.pp_state.PpState.TheVariants.{Running, Stopped, Fault}
+use Rattle.pp_machine.specs.declared.pp_state.PpState.TheVariants.{Running}
 use Rattle.pp_machine.specs.declared.profile.Profile.{Profile}
 use Rattle.pp_machine.proofs.MemoryLemmas.{zero_memory}
 use Rattle.pp_machine.specs.ProcessorPlaces.{number_named, place_of_number}
@@ -64,17 +64,13 @@ IsSmallNeed (Write a w) = w < 2 ^ 60
 IsSmallNeed x = Unit {0}
 
 step_need : (step : Step) → StepKeeps step → IsSmallNeed (need_of step)
-step_need (local after) k = tt
-step_need (probes channel after) k = tt
-step_need (takes channel after) k = tt
 step_need (does channel op after) k = k.0
-step_need (reads address after) k = tt
 step_need (writes address word after) k = k.0
+step_need step k = tt
 
 if_running_small : (state : PpState) (pp : Processor) → IsProcessor pp → IsSmallNeed (if_running state (need_of (next_step pp)) Nothing)
 if_running_small Running pp h = step_need (next_step pp) (next_keeps pp h)
-if_running_small Stopped pp h = tt
-if_running_small (Fault number) pp h = tt
+if_running_small state pp h = tt
 
 need_small : (pp : Processor) → IsProcessor pp → IsSmallNeed (need pp)
 unfolding need
@@ -109,10 +105,7 @@ shown_small reply f shows = tt
 reply_small : (op : ChanOp) (state : ChannelState) (o : Option Event) → OnEvent o → IsSmallReply (reply_by op state o)
 reply_small op state None small = shown_small (reply_shown op state) state.flags (shows_flags op state)
 reply_small op state (Some (events.Take w)) small = small
-reply_small op state (Some events.Activate) small = tt
-reply_small op state (Some events.Disconnect) small = tt
-reply_small op state (Some (events.Put w)) small = tt
-reply_small op state (Some (events.Function w)) small = tt
+reply_small op state o small = tt
 
 grown : (h : List Event) (o : Option Event) → HasTwelveBitWords h → OnEvent o → HasTwelveBitWords (h ++ option_to_list o)
 grown h None words small = subst HasTwelveBitWords (sym (append-nil h)) words
@@ -123,10 +116,7 @@ module _ (m : MachineState) (h : HasWidths m) where
   histories_keep (Channel c op) small i =
       each_set HasTwelveBitWords m.histories (channel_index c) (history_after op (history_of c m)) [] h.histories
       (grown (history_of c m) (event_of op (history_of c m)) (h.histories (channel_index c)) (event_small op (history_of c m) small (h.histories (channel_index c)))) i
-  histories_keep Nothing small i = h.histories i
-  histories_keep Local small i = h.histories i
-  histories_keep (Read a) small i = h.histories i
-  histories_keep (Write a w) small i = h.histories i
+  histories_keep x small i = h.histories i
 
   central_keeps : (x : Need) → IsSmallNeed x → IsCentral (central_after x m)
   central_keeps (Write a w) small = record {
@@ -134,16 +124,11 @@ module _ (m : MachineState) (h : HasWidths m) where
     small = each_set (λ word. word < 2 ^ 60) m.central a w 0 h.central.small small;
   }
   central_keeps (Channel c op) small = h.central
-  central_keeps Nothing small = h.central
-  central_keeps Local small = h.central
-  central_keeps (Read a) small = h.central
+  central_keeps x small = h.central
 
   answer_small : (x : Need) → IsSmallNeed x → IsSmallAnswer (answer_to x m)
   answer_small (Channel c op) small = reply_small op (channel_state (history_of c m)) (event_of op (history_of c m)) (event_small op (history_of c m) small (h.histories (channel_index c)))
-  answer_small Nothing small = tt
-  answer_small Local small = tt
-  answer_small (Read a) small = tt
-  answer_small (Write a w) small = tt
+  answer_small x small = tt
 
   step_widths : (k : ℕ) → HasWidths (stepped k m)
   unfolding stepped

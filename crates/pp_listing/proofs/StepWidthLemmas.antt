@@ -5,7 +5,7 @@ use Rattle.pp_word.specs.Address.{place_after, place_count, next_place, relative
 use Rattle.pp_word.specs.CentralWord.{parts_of}
 use Rattle.pp_word.specs.OnesComplement.{sum, difference}
 use Rattle.pp_word.specs.declared.opcode.Opcode.{Opcode}
-use Rattle.pp_word.specs.declared.opcode.Opcode.TheVariants.{PSN, LJM, RJM, UJN, ZJN, NJN, PJN, MJN, SHN, LMN, LPN, SCN, LDN, LCN, ADN, SBN, LDC, ADC, LPC, LMC, PSN24, PSN25, EXN, RPN, LDD, ADD, SBD, LMD, STD, RAD, AOD, SOD, LDI, ADI, SBI, LMI, STI, RAI, AOI, SOI, LDM, ADM, SBM, LMM, STM, RAM, AOM, SOM, CRD, CRM, CWD, CWM, AJM, IJM, FJM, EJM, IAN, IAM, OAN, OAM, ACN, DCN, FAN, FNC}
+use Rattle.pp_word.specs.declared.opcode.Opcode.TheVariants.{PSN, LJM, RJM, UJN, ZJN, NJN, PJN, MJN, SHN, LMN, LPN, SCN, LDN, LCN, ADN, SBN, LDC, ADC, LPC, LMC, PSN24, PSN25, EXN, RPN, LDD, ADD, SBD, LMD, STD, RAD, AOD, SOD, LDI, ADI, SBI, LMI, STI, RAI, AOI, SOI, LDM, ADM, SBM, LMM, STM, RAM, AOM, SOM, CRD, CWD, AJM, IJM, FJM, EJM, IAN, OAN, ACN, DCN, FAN, FNC}
 use Rattle.pp_channel.specs.declared.chan_op.ChanOp.{ChanOp}
 use Rattle.pp_channel.specs.declared.chan_op.ChanOp.TheVariants as operations
 use Rattle.pp_channel.specs.declared.flags.Flags.{Flags}
@@ -213,21 +213,18 @@ row_keeps RAM pp d h lt = replaced pp h (index pp d) _ 2 (sum_small pp.a (word_a
 row_keeps AOM pp d h lt = replaced pp h (index pp d) _ 2 (sum_small (word_at pp (index pp d)) 1)
 row_keeps SOM pp d h lt = replaced pp h (index pp d) _ 2 (difference_small (word_at pp (index pp d)) 1)
 row_keeps CRD pp d h lt = λ central. on (receives pp d central) (received pp h d central) 1
-row_keeps CRM pp d h lt = started pp h _ _
 row_keeps CWD pp d h lt = (central_small pp h d, on pp h 1)
-row_keeps CWM pp d h lt = started pp h _ _
 row_keeps AJM pp d h lt = λ flags. branched pp h flags.active
 row_keeps IJM pp d h lt = λ flags. branched pp h (not flags.active)
 row_keeps FJM pp d h lt = λ flags. branched pp h flags.full
 row_keeps EJM pp d h lt = λ flags. branched pp h (not flags.full)
 row_keeps IAN pp d h lt = λ word small. loaded pp h word 1 (taken_small word small)
-row_keeps IAM pp d h lt = started pp h _ _
 row_keeps OAN pp d h lt = (low_small pp.a, on pp h 1)
-row_keeps OAM pp d h lt = started pp h _ _
 row_keeps ACN pp d h lt = (tt, on pp h 1)
 row_keeps DCN pp d h lt = (tt, on pp h 1)
 row_keeps FAN pp d h lt = (low_small pp.a, on pp h 1)
 row_keeps FNC pp d h lt = (word_small pp h (place_after pp.p 1), on pp h 2)
+row_keeps op pp d h lt = started pp h _ _
 
 block_keeps : (kind : BlockKind) (place : ℕ) (pp : Processor) → IsProcessor pp → StepKeeps (block_word kind place pp)
 block_keeps (CentralIn left) place pp h = λ central. counted_up (receives pp place central) (received pp h place central) (left - 1) (CentralIn (left - 1)) place
@@ -250,10 +247,9 @@ pub next_keeps : (pp : Processor) → IsProcessor pp → StepKeeps (next_step pp
 next_keeps pp h = step_keeps pp.block pp h
 
 cut_keeps : (kind : BlockKind) (place : ℕ) (pp : Processor) → IsProcessor pp → IsProcessor (cut_short kind place pp)
-cut_keeps (CentralIn left) place pp h = h
-cut_keeps (CentralOut left) place pp h = h
 cut_keeps (Input channel) place pp h = ended (stores_at pp place 0) (put_at pp h place 0 (omega arith))
 cut_keeps (Output channel) place pp h = ended pp h
+cut_keeps kind place pp h = h
 
 held_keeps : (block : Option Block) (pp : Processor) (flags : Flags) → IsProcessor pp → IsProcessor (held block pp flags)
 held_keeps None pp flags h = h
@@ -283,8 +279,7 @@ answered_keeps step pp answer h k small = h
 
 if_running_keeps : (state : PpState) (pp : Processor) (answer : Answer) → IsProcessor pp → IsSmallAnswer answer → IsProcessor (if_running state (answered (next_step pp) pp answer) pp)
 if_running_keeps Running pp answer h small = answered_keeps (next_step pp) pp answer h (next_keeps pp h) small
-if_running_keeps Stopped pp answer h small = h
-if_running_keeps (Fault number) pp answer h small = h
+if_running_keeps state pp answer h small = h
 
 pub widths_after : (pp : Processor) (answer : Answer) → IsProcessor pp → IsSmallAnswer answer → IsProcessor (processor_after pp answer)
 unfolding processor_after
