@@ -112,14 +112,17 @@ else_zero : (o : Option ℕ) (bound : ℕ) → 0 < bound → OnSome (λ w. w < b
 else_zero None bound some h = some
 else_zero (Some w) bound some h = h
 
-all_tabulate : (P : ℕ → Type 0) (n : ℕ) (f : ℕ → ℕ) → ((k : ℕ) → P (f k)) → All P (tabulate n f)
-all_tabulate P n f h = λ k d lt. subst P (sym (get_or-tabulate n f k d (omega (arith, lt, length-tabulate n f)))) (h k)
+-- what holds of each entry of a table holds of the table
+pub all_tabulate : {A : Type 0} (P : A → Type 0) (n : ℕ) (f : ℕ → A) → ((k : ℕ) → k < n → P (f k)) → All P (tabulate n f)
+all_tabulate P n f h = λ k d lt.
+    let below : k < n = omega (arith, lt, length-tabulate n f) in
+    subst P (sym (get_or-tabulate n f k d below)) (h k below)
 
 pub memory_small : (lines : List Line) → AllLines InRange lines → All (λ w. w < 8 ^ 4) (memory_of lines)
 unfolding memory_of
 memory_small lines h =
     all_tabulate (λ w. w < 8 ^ 4) place_count (λ place. unwrap_or (last_of (filter_map (word_for place) lines)) 0)
-    (λ place. else_zero (last_of (filter_map (word_for place) lines)) (8 ^ 4) (omega arith) (last_set (λ w. w < 8 ^ 4) (word_for place) lines (word_small place) h))
+    (λ place below. else_zero (last_of (filter_map (word_for place) lines)) (8 ^ 4) (omega arith) (last_set (λ w. w < 8 ^ 4) (word_for place) lines (word_small place) h))
 
 pub length-memory_of : (lines : List Line) → length (memory_of lines) ≡ place_count
 unfolding memory_of
@@ -129,7 +132,7 @@ pub central_words_small : (size : ℕ) (lines : List Line) → AllLines InRange 
 unfolding central_loaded
 central_words_small size lines h =
     all_tabulate (λ w. w < 8 ^ 20) size (λ address. unwrap_or (last_of (filter_map (central_word_for address) lines)) 0)
-    (λ address. else_zero (last_of (filter_map (central_word_for address) lines)) (8 ^ 20) (omega arith) (last_set (λ w. w < 8 ^ 20) (central_word_for address) lines (central_small address) h))
+    (λ address below. else_zero (last_of (filter_map (central_word_for address) lines)) (8 ^ 20) (omega arith) (last_set (λ w. w < 8 ^ 20) (central_word_for address) lines (central_small address) h))
 
 -- a processor as lines leave it
 pub record IsSmall (pp : Processor) : Type 0 where

@@ -26,9 +26,7 @@ use Rattle.pp_listing.specs.Listing.{listing}
 use Rattle.pp_listing.proofs.FreshDeckLemmas.{IsFresh, fresh_listing}
 use Rattle.pp_listing.proofs.GoingOnLemmas.{none_given}
 use Rattle.pp_listing.proofs.ListingLemmas.{dead_of, names_of, none_opened, numbered, processors_of}
-use Rattle.pp_listing.proofs.LoadedDeckLemmas.{deck_for}
-use Rattle.pp_listing.proofs.RunDeckLemmas.{IsDeckFor, run_stays}
-use Rattle.pp_listing.proofs.RunWidthLemmas.{HasWidths, widths_of_run}
+use Rattle.pp_listing.proofs.RunDeckLemmas.{IsDeckFor, deck_after, processor_here}
 
 -- ---- the processors of a deck to go on from
 
@@ -97,21 +95,21 @@ pub none_open : (deck : LoadedDeck) → list_any (λ c. is_opened c (deck_to_go_
 unfolding dead_of
 none_open deck = none_opened (deck_to_go_on deck) (unopened deck)
 
-fresh : (deck : LoadedDeck) → IsDeckFor deck.machine.profile deck → HasWidths deck.machine → first_busy deck.machine ≡ None → IsFresh deck.machine.profile (deck_to_go_on deck)
+fresh : (deck : LoadedDeck) → IsDeckFor deck.machine.profile deck → first_busy deck.machine ≡ None → IsFresh deck.machine.profile (deck_to_go_on deck)
 unfolding processors_of
-fresh deck h widths between = record {
+fresh deck h between = record {
   machine = refl;
-  central = widths.central;
+  central = h.central;
   each_processor = length-map deck.machine.processors (λ (pp : Processor). left_of pp.state pp) ∙ h.each_processor;
   each_name = length-tabulate processor_count (λ place. is_in_use deck (processor_number place));
   unopened = unopened deck;
   within = λ n is. h.within n (number n is) (sym (named_there deck n (number n is)) ∙ is);
-  small = λ n is. subst IsSmall (sym (left_there deck n)) (left_small deck.machine.profile (processor_of n deck.machine).state (processor_of n deck.machine) (widths.processors (processor_index n)));
+  small = λ n is. subst IsSmall (sym (left_there deck n)) (left_small deck.machine.profile (processor_of n deck.machine).state (processor_of n deck.machine) (processor_here deck h n (number n is)).widths);
   set = λ n is.
       let pp = processor_of n deck.machine in (
         start_left deck.machine.profile pp.state pp,
         left_there deck n
-            ∙ left_set deck.machine.profile pp.state pp refl (h.own_profile n (number n is)) (no_block deck.machine n (number n is) between)
+            ∙ left_set deck.machine.profile pp.state pp refl (processor_here deck h n (number n is)).its_profile (no_block deck.machine n (number n is) between)
             ∙ ap (λ (q : Processor). processor_with deck.machine.profile q.memory (start_left deck.machine.profile pp.state pp)) (sym (left_there deck n)),
       );
   free = λ n named none. left_there deck n ∙ left_new deck.machine.profile (processor_of n deck.machine) (h.unused n named (sym (named_there deck n named) ∙ none));
@@ -130,11 +128,9 @@ dump_is_deck : (deck loaded : LoadedDeck) (source : List ℕ) (steps : List ℕ)
 dump_is_deck deck loaded source steps meant ran between short =
     let its = dump_is deck in
     let profile = deck.machine.profile in
-    let sound : IsDeckFor profile deck = subst (IsDeckFor profile) (sym ran) (run_stays profile steps loaded (deck_for profile source loaded meant)) in
-    let HaveWidths : LoadedDeck → Type 0 = λ d. HasWidths d.machine in
-    let widths : HasWidths deck.machine = subst HaveWidths (sym ran) (widths_of_run profile source loaded steps meant) in
+    let sound : IsDeckFor profile deck = subst (IsDeckFor profile) (sym ran) (deck_after profile source loaded steps meant) in
     ap (deck_meaning profile) its
-    ∙ fresh_listing profile (deck_to_go_on deck) (fresh deck sound widths between) (omega (arith, short, ap length its))
+    ∙ fresh_listing profile (deck_to_go_on deck) (fresh deck sound between) (omega (arith, short, ap length its))
 
 pub goes_on : (text : List ℕ) (deck : LoadedDeck) → text ≡ dump deck → first_busy deck.machine ≡ None → GoesOnFrom text deck
 goes_on text deck is between =
@@ -145,7 +141,7 @@ pub dump_law_of : (profile : Profile) (text : List ℕ) (deck : LoadedDeck) (ste
     → length (dump (after steps deck)) ≤ 1048576 → deck_meaning profile (dump (after steps deck)) ≡ Ok (deck_to_go_on (after steps deck))
 dump_law_of profile text deck steps meant between short =
     let ran = after steps deck in
-    let same : ran.machine.profile ≡ profile = (run_stays profile steps deck (deck_for profile text deck meant)).its_profile in
+    let same : ran.machine.profile ≡ profile = (deck_after profile text deck steps meant).its_profile in
     let P : Profile → Type 0 = λ p. deck_meaning p text ≡ Ok deck in
     let Q : Profile → Type 0 = λ p. deck_meaning p (dump ran) ≡ Ok (deck_to_go_on ran) in
     subst Q same (dump_is_deck ran deck text steps (subst P (sym same) meant) refl between short)

@@ -7,13 +7,10 @@ mod InstructionTextLemmas
 mod ListedLemmas
 mod ListedLineLemmas
 mod ListingLemmas
-mod LoadedDeckLemmas
 mod NumberLemmas
 mod PrintedLineLemmas
 mod PrintedTextLemmas
-mod ProfileLemmas
 mod RunDeckLemmas
-mod RunWidthLemmas
-mod StepWidthLemmas
+mod StepLemmas
 mod TextLemmas
 mod WordWidthLemmas

@@ -1,52 +1,176 @@
 -- What stays of a loaded deck through all steps of its machine.
-use Rattle.std.proofs.Common.{◌≡◌, ◌≢◌, ℕ, true, false, List, [], ◌∷◌, length, slice_set, get_or, get_or-set_same, get_or-set_other, sym, ap, subst, ◌∙◌, inl, inr, arith}
-use Rattle.std.specs.Prelude.{IsTrue}
+use Rattle.std.proofs.Common.{◌≡◌, ◌≢◌, ℕ, ◌^◌, ◌<◌, ◌≤◌, ◌||◌, Bool, true, false, cond, List, [], ◌∷◌, ◌++◌, length, get_or, get_or-set_other, Option, None, Some, Ok, refl, sym, ap, subst, ◌∙◌, arith, inl, inr, append-nil}
+use Rattle.std.specs.Prelude.{All, IsTrue, filter_map, unwrap_or, slice_set, if◌then◌else◌}
+use Rattle.std.specs.Option.{option_to_list}
+use Rattle.std.proofs.lemmas.Bool.{cases_lt}
 use Rattle.std.proofs.lemmas.Bool.Decides.{eqb_tells}
-use Rattle.std.proofs.lemmas.List.{length-set}
-use Rattle.pp_machine.specs.MachineState.{MachineState, processor_of}
-use Rattle.pp_machine.specs.MachineStep.{answer_to, stepped}
-use Rattle.pp_machine.specs.NeedAndEffect.{need, processor_after}
-use Rattle.pp_machine.specs.Processor.{Processor, new_processor, no_processor, IsAtRest}
-use Rattle.pp_machine.specs.PpNo.{names_processor, processor_count, processor_index}
+use Rattle.std.proofs.lemmas.List.{get_or_past, length-set, set_past}
+use Rattle.std.proofs.lemmas.List.Elements.{All-cons, All-nil, All-push, All-replicate, All-same, All-set}
+use Rattle.pp_word.specs.GrowingLists.{last_of}
+use Rattle.pp_word.specs.Tables.{tabulate, length-tabulate}
+use Rattle.pp_channel.specs.Answer.{channel_state, event_of, event_with, flags_of, flags_shown, history_after, ready_at, reply_by, reply_shown}
+use Rattle.pp_channel.specs.AnswerLaws.{shows_flags}
+use Rattle.pp_channel.specs.ChannelNo.{channel_count, channel_index, channel_number}
+use Rattle.pp_channel.specs.History.{HasTwelveBitWord, HasTwelveBitWords, waiting}
+use Rattle.pp_channel.specs.declared.chan_op.ChanOp.{ChanOp}
+use Rattle.pp_channel.specs.declared.chan_op.ChanOp.TheVariants as operations
+use Rattle.pp_channel.specs.declared.channel_state.ChannelState.{ChannelState}
+use Rattle.pp_channel.specs.declared.event.Event.{Event}
+use Rattle.pp_channel.specs.declared.event.Event.TheVariants as events
+use Rattle.pp_channel.specs.declared.flags.Flags.{Flags}
+use Rattle.pp_channel.specs.declared.reply.Reply.{Reply}
+use Rattle.pp_channel.specs.declared.reply.Reply.TheVariants as replies
+use Rattle.pp_channel.proofs.EachHistory.{bits_on}
+use Rattle.pp_channel.proofs.HistoryLemmas.{waiting_small}
+use Rattle.pp_machine.specs.Central.{IsCentral}
+use Rattle.pp_machine.specs.DeadStart.{waiting_on, waits, processor_started, history_started, processors_started, histories_started}
+use Rattle.pp_machine.specs.MachineState.{MachineState, processor_of, history_of, is_opened}
+use Rattle.pp_machine.specs.MachineStep.{answer_to, histories_after, central_after, stepped}
+use Rattle.pp_machine.specs.NeedAndEffect.{need, next_step, processor_after, if_running}
+use Rattle.pp_machine.specs.PpMemory.{empty_memory}
+use Rattle.pp_machine.specs.PpNo.{names_processor, processor_count, processor_index, processor_number}
+use Rattle.pp_machine.specs.Processor.{Processor, IsAtRest, new_processor, no_processor}
+use Rattle.pp_machine.specs.ProcessorPlaces.{channel_of_processor, place_below, place_of_number}
 use Rattle.pp_machine.specs.Profile.{has_processor}
+use Rattle.pp_machine.specs.Step.{Step, need_of, does, writes}
+use Rattle.pp_machine.specs.declared.need.Need.{Need}
+use Rattle.pp_machine.specs.declared.need.Need.TheVariants.{Nothing, Channel, Write}
+use Rattle.pp_machine.specs.declared.pp_state.PpState.{PpState}
+use Rattle.pp_machine.specs.declared.pp_state.PpState.TheVariants.{Running}
 use Rattle.pp_machine.specs.declared.profile.Profile.{Profile}
+use Rattle.pp_machine.specs.declared.profile.Profile.TheVariants.{Ten}
 use Rattle.pp_machine.proofs.MachineStepLemmas.{stepped_at_rest}
-use Rattle.pp_machine.specs.ProcessorPlaces.{place_below}
-use Rattle.pp_deck.specs.DeckMeaning.{LoadedDeck}
+use Rattle.pp_machine.proofs.MemoryLemmas.{zero_memory}
+use Rattle.pp_deck.specs.DeckLine.{Line}
+use Rattle.pp_deck.specs.DeckLoad.{asks_dead_start, central_loaded, lines_for, memory_of, processor_loaded, processor_with, start_in}
+use Rattle.pp_deck.specs.DeckLoad as load
+use Rattle.pp_deck.specs.DeckMeaning.{LoadedDeck, deck_meaning, loaded, set_by, unnamed_in, with_dead_start}
 use Rattle.pp_deck.specs.InUse.{is_in_use}
+use Rattle.pp_deck.proofs.DeadStartLemmas as dead
+use Rattle.pp_deck.proofs.LawLemmas as law
+use Rattle.pp_deck.proofs.LoadedRangeLemmas.{IsSmall, all_tabulate, processor_small, central_words_small}
+use Rattle.pp_deck.proofs.MemoryLemmas.{length-central_loaded}
+use Rattle.pp_deck.proofs.RangeLemmas.{InRange}
+use Rattle.pp_deck.proofs.SectionLinesLemmas.{AllLines, unnamed_empty}
 use Rattle.pp_listing.specs.Dump.{after}
-use Rattle.pp_listing.proofs.ProfileLemmas.{profile_after}
+use Rattle.pp_listing.proofs.FreshDeckLemmas.{no_words}
+use Rattle.pp_listing.proofs.ListedLemmas.{processor_is}
+use Rattle.pp_listing.proofs.ListingLemmas.{each_deck, name_here, names_of}
+use Rattle.pp_listing.proofs.StepLemmas.{IsOf, IsSmallAnswer, IsSmallOperation, IsSmallReply, StepKeeps, each_set, kept_after, next_keeps}
 
 -- a deck for a machine of this profile that may have run
 pub record IsDeckFor (profile : Profile) (deck : LoadedDeck) : Type 0 where
   pub its_profile : deck.machine.profile ≡ profile
   pub each_processor : length deck.machine.processors ≡ processor_count
-  pub own_profile : (n : ℕ) → IsTrue (names_processor n) → (processor_of n deck.machine).profile ≡ profile
+  -- processors, words of histories and central words have their widths
+  pub processors : All (IsOf profile) deck.machine.processors
+  pub histories : All HasTwelveBitWords deck.machine.histories
+  pub central : IsCentral deck.machine.central
   -- no processor is in use that the machine lacks
   pub within : (n : ℕ) → IsTrue (names_processor n) → is_in_use deck n ≡ true → IsTrue (has_processor profile n)
   -- one that is not in use is as it was made
   pub unused : (n : ℕ) → IsTrue (names_processor n) → is_in_use deck n ≡ false → processor_of n deck.machine ≡ new_processor profile
 
+pub processor_here : {profile : Profile} (deck : LoadedDeck) → IsDeckFor profile deck → (n : ℕ) → IsTrue (names_processor n) → IsOf profile (processor_of n deck.machine)
+processor_here deck h n named = h.processors (processor_index n) no_processor (omega (arith, place_below n named, h.each_processor))
+
+-- ---- what a step needs and is answered
+
+-- the words that a need has
+abbrev IsSmallNeed : Need → Type 0
+IsSmallNeed (Channel c op) = IsSmallOperation op
+IsSmallNeed (Write a w) = w < 2 ^ 60
+IsSmallNeed x = Unit {0}
+
+step_need : (profile : Profile) (step : Step) → StepKeeps profile step → IsSmallNeed (need_of step)
+step_need profile (does channel op left) k = k.0
+step_need profile (writes address word left) k = k.0
+step_need profile step k = tt
+
+if_running_small : (profile : Profile) (state : PpState) (pp : Processor) → IsOf profile pp → IsSmallNeed (if_running state (need_of (next_step pp)) Nothing)
+if_running_small profile Running pp h = step_need profile (next_step pp) (next_keeps profile pp h)
+if_running_small profile state pp h = tt
+
+need_small : (profile : Profile) (pp : Processor) → IsOf profile pp → IsSmallNeed (need pp)
+unfolding need
+need_small profile pp h = if_running_small profile pp.state pp h
+
+-- the word of an event, if there is one
+abbrev OnEvent : Option Event → Type 0
+OnEvent None = Unit {0}
+OnEvent (Some e) = HasTwelveBitWord e
+
+made_small : (op : ChanOp) (word : Option ℕ) → IsSmallOperation op → unwrap_or word 0 < 2 ^ 12 → OnEvent (event_with op word)
+made_small (operations.Put w) word small low = small
+made_small (operations.Function w) word small low = small
+made_small operations.Take None small low = tt
+made_small operations.Take (Some w) small low = low
+made_small op word small low = tt
+
+if_made : (b : Bool) (o : Option Event) → OnEvent o → OnEvent (if b then o else None)
+if_made true o h = h
+if_made false o h = tt
+
+event_small : (op : ChanOp) (h : List Event) → IsSmallOperation op → HasTwelveBitWords h → OnEvent (event_of op h)
+event_small op h small words = if_made (ready_at op (flags_of h)) (event_with op (waiting h)) (made_small op (waiting h) small (waiting_small h words))
+
+shown_small : (reply : Reply) (f : Flags) → flags_shown reply ≡ Some f → IsSmallReply reply
+shown_small (replies.Word w) f shows = absurd cc
+shown_small reply f shows = tt
+
+reply_small : (op : ChanOp) (state : ChannelState) (o : Option Event) → OnEvent o → IsSmallReply (reply_by op state o)
+reply_small op state None small = shown_small (reply_shown op state) state.flags (shows_flags op state)
+reply_small op state (Some (events.Take w)) small = small
+reply_small op state o small = tt
+
+grown : (h : List Event) (o : Option Event) → HasTwelveBitWords h → OnEvent o → HasTwelveBitWords (h ++ option_to_list o)
+grown h None words small = subst HasTwelveBitWords (sym (append-nil h)) words
+grown h (Some e) words small = All-push HasTwelveBitWord h e words small
+
+module _ (m : MachineState) where
+  histories_keep : (x : Need) → IsSmallNeed x → All HasTwelveBitWords m.histories → All HasTwelveBitWords (histories_after x m)
+  histories_keep (Channel c op) small all =
+      let h = history_of c m in
+      let words = bits_on m.histories c all in
+      All-set HasTwelveBitWords m.histories (channel_index c) (history_after op h) (grown h (event_of op h) words (event_small op h small words)) all
+  histories_keep x small all = all
+
+  central_keeps : (x : Need) → IsSmallNeed x → IsCentral m.central → IsCentral (central_after x m)
+  central_keeps (Write a w) small central = record {
+    size = record { some = omega (arith, central.size.some, length-set m.central a w); most = omega (arith, central.size.most, length-set m.central a w) };
+    small = each_set (2 ^ 60) m.central a w central.small small;
+  }
+  central_keeps x small central = central
+
+  answer_small : (x : Need) → IsSmallNeed x → All HasTwelveBitWords m.histories → IsSmallAnswer (answer_to x m)
+  answer_small (Channel c op) small all =
+      let h = history_of c m in
+      reply_small op (channel_state h) (event_of op h) (event_small op h small (bits_on m.histories c all))
+  answer_small x small all = tt
+
+-- ---- one step
+
+unmade : IsOf Ten no_processor
+unfolding empty_memory
+unmade = record { widths = record { memory = zero_memory; a = omega arith; p = omega arith }; its_profile = refl }
+
 module _ (k : ℕ) (m : MachineState) where
+  -- at a number that has no place stands a processor that was never made
+  own : (profile : Profile) → All (IsOf profile) m.processors → (p : Profile) × IsOf p (processor_of k m)
+  own profile all = elim (cases_lt (processor_index k) (length m.processors)) [
+    | inl here ↦ (profile, all (processor_index k) no_processor here)
+    | inr past ↦ (Ten, subst (IsOf Ten) (sym (get_or_past m.processors (processor_index k) no_processor past)) unmade)
+  ]
+
+  processors_keep : (profile : Profile) (answer : _) → IsSmallAnswer answer → All (IsOf profile) m.processors → All (IsOf profile) (slice_set m.processors (processor_index k) (processor_after (processor_of k m) answer))
+  processors_keep profile answer small all = elim (cases_lt (processor_index k) (length m.processors)) [
+    | inl here ↦ All-set (IsOf profile) m.processors (processor_index k) _ (kept_after profile (processor_of k m) answer (all (processor_index k) no_processor here) small) all
+    | inr past ↦ All-same (IsOf profile) _ m.processors (set_past m.processors (processor_index k) _ past) all
+  ]
+
   other_stays : (n : ℕ) → processor_index n ≢ processor_index k → processor_of n (stepped k m) ≡ processor_of n m
   unfolding stepped
   other_stays n apart = get_or-set_other m.processors (processor_index k) (processor_index n) (processor_after (processor_of k m) (answer_to (need (processor_of k m)) m)) no_processor apart
-
-  own_after : (n : ℕ) → processor_index n ≡ processor_index k → IsTrue (names_processor n) → length m.processors ≡ processor_count → processor_of n (stepped k m) ≡ processor_after (processor_of k m) (answer_to (need (processor_of k m)) m)
-  unfolding stepped
-  own_after n same named long =
-      ap (λ (i : ℕ). get_or (slice_set m.processors (processor_index k) (processor_after (processor_of k m) (answer_to (need (processor_of k m)) m))) i no_processor) same
-      ∙ get_or-set_same m.processors (processor_index k) (processor_after (processor_of k m) (answer_to (need (processor_of k m)) m)) no_processor (omega (arith, place_below n named, same, long))
-
-  profile_stays : (n : ℕ) → IsTrue (names_processor n) → length m.processors ≡ processor_count → (processor_of n (stepped k m)).profile ≡ (processor_of n m).profile
-  profile_stays n named long =
-      elim (eqb_tells (processor_index n) (processor_index k)) as (λ _. (processor_of n (stepped k m)).profile ≡ (processor_of n m).profile) [
-        | inl same ↦
-            ap (λ (pp : Processor). pp.profile) (own_after n same.1 named long)
-            ∙ profile_after (processor_of k m) (answer_to (need (processor_of k m)) m)
-            ∙ ap (λ (i : ℕ). (get_or m.processors i no_processor).profile) (sym same.1)
-        | inr apart ↦ ap (λ (pp : Processor). pp.profile) (other_stays n apart.1)
-      ]
 
   rest_stays : (n : ℕ) → IsAtRest (processor_of n m) → processor_of n (stepped k m) ≡ processor_of n m
   rest_stays n rests =
@@ -63,14 +187,122 @@ new_rests profile pp e = λ runs. let never = sym (ap (λ (q : Processor). q.sta
 module _ (profile : Profile) where
   step_stays : (k : ℕ) (deck : LoadedDeck) → IsDeckFor profile deck → IsDeckFor profile (record deck { machine = stepped k deck.machine })
   unfolding stepped
-  step_stays k deck h = record {
-    its_profile = h.its_profile;
-    each_processor = length-set deck.machine.processors (processor_index k) (processor_after (processor_of k deck.machine) (answer_to (need (processor_of k deck.machine)) deck.machine)) ∙ h.each_processor;
-    own_profile = λ n named. profile_stays k deck.machine n named h.each_processor ∙ h.own_profile n named;
-    within = h.within;
-    unused = λ n named free. rest_stays k deck.machine n (new_rests profile (processor_of n deck.machine) (h.unused n named free)) ∙ h.unused n named free;
-  }
+  step_stays k deck h =
+      let m = deck.machine in
+      let x = need (processor_of k m) in
+      let its = own k m profile h.processors in
+      let small = need_small its.0 (processor_of k m) its.1 in
+      record {
+        its_profile = h.its_profile;
+        each_processor = length-set m.processors (processor_index k) (processor_after (processor_of k m) (answer_to x m)) ∙ h.each_processor;
+        processors = processors_keep k m profile (answer_to x m) (answer_small m x small h.histories) h.processors;
+        histories = histories_keep m x small h.histories;
+        central = central_keeps m x small h.central;
+        within = h.within;
+        unused = λ n named free. rest_stays k m n (new_rests profile (processor_of n m) (h.unused n named free)) ∙ h.unused n named free;
+      }
 
   pub run_stays : (steps : List ℕ) (deck : LoadedDeck) → IsDeckFor profile deck → IsDeckFor profile (after steps deck)
   run_stays [] deck h = h
   run_stays (k ∷ steps) deck h = run_stays steps (record deck { machine = stepped k deck.machine }) (step_stays k deck h)
+
+-- ---- a loaded deck
+
+anywhere : (ws : List ℕ) (most : ℕ) → 0 < most → All (λ w. w < most) ws → (i : ℕ) → get_or ws i 0 < most
+anywhere ws most some h i = elim (cases_lt i (length ws)) [ inl within ↦ h i 0 within | inr past ↦ rw (get_or_past ws i 0 past) some ]
+
+or_none : (a b : Bool) → (a || b) ≡ false → (a ≡ false) × (b ≡ false)
+or_none true b e = absurd (cc)
+or_none false b e = (refl, e)
+
+or_other : (a b : Bool) → (a || b) ≡ true → a ≡ false → b ≡ true
+or_other true b e none = absurd (cc)
+or_other false b e none = e
+
+module _ (profile : Profile) where
+  its_widths : (memory : List ℕ) (o : Option (ℕ × ℕ)) → IsSmall (processor_with profile memory o) → IsOf profile (processor_with profile memory o)
+  its_widths memory o h = record {
+    widths = record {
+      memory = record { each_place = h.long; each_word = λ place. let lt = anywhere (processor_with profile memory o).memory (8 ^ 4) (omega arith) h.memory place in omega (arith, lt) };
+      a = omega (arith, h.a);
+      p = omega (arith, h.p);
+    };
+    its_profile = by o;
+  }
+    where
+      by : (o : Option (ℕ × ℕ)) → (processor_with profile memory o).profile ≡ profile
+      by None = refl
+      by (Some s) = refl
+
+  loaded_of : (lines : List Line) (n : ℕ) → AllLines InRange lines → IsOf profile (processor_loaded profile lines n)
+  unfolding processor_loaded
+  loaded_of lines n small = its_widths (memory_of (lines_for n lines)) (last_of (filter_map start_in (lines_for n lines))) (processor_small profile n lines small)
+
+  waits_with : (b : Bool) (n : ℕ) (pp : Processor) → IsOf profile pp → IsOf profile (cond b (waiting_on n pp) pp)
+  waits_with true n pp h = record { widths = record { memory = h.widths.memory; a = omega arith; p = omega arith }; its_profile = h.its_profile }
+  waits_with false n pp h = h
+
+  started_processors : (b : Bool) (deck : LoadedDeck) → length deck.machine.processors ≡ processor_count → All (IsOf profile) deck.machine.processors → All (IsOf profile) (with_dead_start b deck).machine.processors
+  unfolding processors_started tabulate
+  started_processors true deck long all =
+      let waiting = waits (unnamed_in deck.machine.profile deck.named) in
+      all_tabulate (IsOf profile) processor_count (λ place. processor_started waiting deck.machine (processor_number place))
+      (λ place below. let n = processor_number place in waits_with (waiting n) n (processor_of n deck.machine) (all (processor_index n) no_processor (omega (arith, below, place_of_number place below, long))))
+  started_processors false deck long all = all
+
+  opened_words : (b : Bool) (h : List Event) → HasTwelveBitWords h → HasTwelveBitWords (cond b (events.Activate ∷ []) h)
+  opened_words true h words = All-cons HasTwelveBitWord events.Activate [] tt (All-nil HasTwelveBitWord)
+  opened_words false h words = words
+
+  started_histories : (b : Bool) (deck : LoadedDeck) → All HasTwelveBitWords deck.machine.histories → All HasTwelveBitWords (with_dead_start b deck).machine.histories
+  unfolding histories_started tabulate
+  started_histories true deck all =
+      let waiting = waits (unnamed_in deck.machine.profile deck.named) in
+      all_tabulate HasTwelveBitWords channel_count (λ place. history_started waiting deck.machine (channel_number place))
+      (λ place below. let c = channel_number place in opened_words (waiting c) (history_of c deck.machine) (bits_on deck.machine.histories c all))
+  started_histories false deck all = all
+
+  machine_profile : (b : Bool) (deck : LoadedDeck) → (with_dead_start b deck).machine.profile ≡ deck.machine.profile
+  machine_profile true deck = refl
+  machine_profile false deck = refl
+
+  unused_here : (size : ℕ) (lines : List Line) (n : ℕ) → IsTrue (names_processor n) → load.is_named lines n ≡ false → dead.is_waiting profile lines n ≡ false → processor_of n (loaded profile size lines).machine ≡ new_processor profile
+  unused_here size lines n named unnamed awake =
+      let set : Processor = processor_of n (set_by profile size lines).machine in
+      dead.processor_is profile size lines (asks_dead_start lines) n refl named
+      ∙ ap (λ (b : Bool). cond b (waiting_on n set) set) awake
+      ∙ law.processor_here profile size lines n named
+      ∙ processor_is profile lines n
+      ∙ ap (λ (ls : List Line). processor_with profile (memory_of ls) (last_of (filter_map start_in ls))) (unnamed_empty n lines unnamed)
+      ∙ ap (λ (ws : List ℕ). processor_with profile ws None) no_words
+
+  loaded_for : (size : ℕ) (lines : List Line) → 1 ≤ size → size ≤ 0o400000 → AllLines InRange lines → ((n : ℕ) → load.is_named lines n ≡ true → IsTrue (has_processor profile n)) → IsDeckFor profile (loaded profile size lines)
+  unfolding names_of
+  loaded_for size lines least most small has =
+      let asked = asks_dead_start lines in
+      let set = set_by profile size lines in
+      let each = length-tabulate processor_count (λ place. processor_loaded profile lines (processor_number place)) in
+      record {
+        its_profile = machine_profile asked set;
+        each_processor = dead.all_processors asked set each;
+        processors = started_processors asked set each (all_tabulate (IsOf profile) processor_count (λ place. processor_loaded profile lines (processor_number place)) (λ place below. loaded_of lines (processor_number place) small));
+        histories = started_histories asked set (All-replicate HasTwelveBitWords channel_count [] (All-nil HasTwelveBitWord));
+        central = subst IsCentral (sym (dead.central_stays asked set)) (record {
+          size = record { some = omega (arith, least, length-central_loaded size lines); most = omega (arith, most, length-central_loaded size lines) };
+          small = λ a. let lt = anywhere (central_loaded size lines) (8 ^ 20) (omega arith) (central_words_small size lines small) a in omega (arith, lt);
+        });
+        within = λ n named used. by n named used (names_of (loaded profile size lines) n) refl;
+        unused = λ n named free.
+            let none = or_none (names_of (loaded profile size lines) n) (is_opened n (loaded profile size lines).machine) free in
+            unused_here size lines n named (sym (name_here profile size lines n named) ∙ none.0) (sym (dead.opened_is profile size lines asked n refl (channel_of_processor n named)) ∙ none.1);
+      }
+    where
+      by : (n : ℕ) → IsTrue (names_processor n) → is_in_use (loaded profile size lines) n ≡ true → (b : Bool) → names_of (loaded profile size lines) n ≡ b → IsTrue (has_processor profile n)
+      by n named used true is = has n (sym (name_here profile size lines n named) ∙ is)
+      by n named used false is =
+          let opened = or_other (names_of (loaded profile size lines) n) (is_opened n (loaded profile size lines).machine) used is in
+          (dead.waiting profile lines n (sym (dead.opened_is profile size lines (asks_dead_start lines) n refl (channel_of_processor n named)) ∙ opened)).processor
+
+  -- whatever steps a deck has made
+  pub deck_after : (text : List ℕ) (deck : LoadedDeck) (steps : List ℕ) → deck_meaning profile text ≡ Ok deck → IsDeckFor profile (after steps deck)
+  deck_after text deck steps e = run_stays profile steps deck (each_deck profile (IsDeckFor profile) loaded_for text deck e)

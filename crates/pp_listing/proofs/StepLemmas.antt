@@ -1,0 +1,280 @@
+-- A step leaves a processor the widths of its words and registers, and the profile of its machine.
+use Rattle.std.proofs.Common.{ℕ, zero, suc, ◌+◌, ◌-◌, ◌*◌, ◌%◌, ◌/◌, ◌^◌, ◌==◌, ◌<◌, ◌&&◌, not, Bool, true, false, List, [], ◌∷◌, Option, None, Some, if◌then◌else◌, slice_set, get_or, arith, ◌∙◌, ◌≡◌}
+use Rattle.std.specs.Prelude.{slice_index_or}
+use Rattle.std.proofs.lemmas.List.{length-set}
+use Rattle.std.proofs.lemmas.List.Elements.{All-from_recursion}
+use Rattle.pp_word.specs.Address.{place_after, place_count, next_place, relative_to}
+use Rattle.pp_word.specs.CentralWord.{parts_of}
+use Rattle.pp_word.specs.OnesComplement.{sum, difference}
+use Rattle.pp_word.specs.declared.opcode.Opcode.{Opcode}
+use Rattle.pp_word.specs.Opcode.{code_of, length_of}
+use Rattle.pp_word.specs.declared.opcode.Opcode.TheVariants.{PSN, LJM, RJM, UJN, ZJN, NJN, PJN, MJN, SHN, LMN, LPN, SCN, LDN, LCN, ADN, SBN, LDC, ADC, LPC, LMC, PSN24, PSN25, EXN, RPN, CRD, CRM, CWD, CWM, AJM, IJM, FJM, EJM, IAN, IAM, OAN, OAM, ACN, DCN, FAN, FNC}
+use Rattle.pp_channel.specs.declared.chan_op.ChanOp.{ChanOp}
+use Rattle.pp_channel.specs.declared.chan_op.ChanOp.TheVariants as operations
+use Rattle.pp_channel.specs.declared.flags.Flags.{Flags}
+use Rattle.pp_channel.specs.declared.reply.Reply.{Reply}
+use Rattle.pp_channel.specs.declared.reply.Reply.TheVariants as replies
+use Rattle.pp_machine.specs.Block.{stored_from, receives, central_from, held, cut_short, block_word, starts, ends, counts_down, counts_up, stores_at}
+use Rattle.pp_machine.specs.Effect.{goes_on, goes_to, faults, jumps_where, branches_where, leads_to_itself, is_negative, low_of, loads, loads_word, replaces}
+use Rattle.pp_machine.specs.InstructionTable.{row, works_on_channel, memory_operations, operand_places}
+use Rattle.pp_machine.specs.NeedAndEffect.{answered, step_of, next_step, processor_after, if_running}
+use Rattle.pp_machine.specs.Operand.{operation, lower_six, second_word, index, constant}
+use Rattle.pp_machine.specs.PpMemory.{IsMemory}
+use Rattle.pp_machine.specs.Processor.{Processor, IsProcessor, word_at}
+use Rattle.pp_machine.specs.Profile.{has_channel}
+use Rattle.pp_machine.specs.Step.{Step, local, probes, takes, does, reads, writes}
+use Rattle.pp_machine.specs.declared.answer.Answer.{Answer}
+use Rattle.pp_machine.specs.declared.answer.Answer.TheVariants as answers
+use Rattle.pp_machine.specs.declared.block.Block.{Block}
+use Rattle.pp_machine.specs.declared.block.BlockKind.{BlockKind}
+use Rattle.pp_machine.specs.declared.block.BlockKind.TheVariants.{CentralIn, CentralOut, Input, Output}
+use Rattle.pp_machine.specs.declared.pp_state.PpState.{PpState}
+use Rattle.pp_machine.specs.declared.profile.Profile.{Profile}
+use Rattle.pp_machine.specs.declared.pp_state.PpState.TheVariants.{Running, Stopped, Fault}
+use Rattle.pp_listing.proofs.WordWidthLemmas.{conjunction_small, exclusive_or_small, without_small, complemented_small, shifted_small, sum_small, difference_small, next_small, indexed_small, relative_small, one_of}
+
+-- a processor of a machine of this profile
+pub record IsOf (profile : Profile) (pp : Processor) : Type 0 where
+  pub widths : IsProcessor pp
+  pub its_profile : pp.profile ≡ profile
+
+-- numbers below a bound, of which one is put in another's place
+pub each_set : (most : ℕ) (ws : List ℕ) (k w : ℕ) → ((i : ℕ) → get_or ws i 0 < most) → w < most → (i : ℕ) → get_or (slice_set ws k w) i 0 < most
+each_set most [] k w h small i = h i
+each_set most (v ∷ ws) zero w h small zero = small
+each_set most (v ∷ ws) zero w h small (suc i) = h (suc i)
+each_set most (v ∷ ws) (suc k) w h small zero = h zero
+each_set most (v ∷ ws) (suc k) w h small (suc i) = each_set most ws k w (λ j. h (suc j)) small i
+
+stored : (memory : List ℕ) (place word : ℕ) → IsMemory memory → word < 2 ^ 12 → IsMemory (slice_set memory place word)
+stored memory place word h small = record {
+  each_place = length-set memory place word ∙ h.each_place;
+  each_word = each_set (2 ^ 12) memory place word h.each_word small;
+}
+
+-- words that have 12 bits
+abbrev AllSmall : List ℕ → Type 0
+AllSmall [] = Unit {0}
+AllSmall (w ∷ ws) = (w < 2 ^ 12) × AllSmall ws
+
+all_stored : (memory : List ℕ) (place : ℕ) (ws : List ℕ) → IsMemory memory → AllSmall ws → IsMemory (stored_from memory place ws)
+all_stored memory place [] h small = h
+all_stored memory place (w ∷ ws) h small = all_stored (slice_set memory place w) (next_place place) ws (stored memory place w h small.0) small.1
+
+parts_small : (central : ℕ) → AllSmall (parts_of central)
+parts_small central = (omega arith, (omega arith, (omega arith, (omega arith, (omega arith, tt)))))
+
+-- the word of an operation, if it has one
+abbrev pub IsSmallOperation : ChanOp → Type 0
+IsSmallOperation (operations.Put w) = w < 2 ^ 12
+IsSmallOperation (operations.Function w) = w < 2 ^ 12
+IsSmallOperation op = Unit {0}
+
+-- the word of an answer, if it is a word that was taken
+abbrev pub IsSmallReply : Reply → Type 0
+IsSmallReply (replies.Word word) = word < 2 ^ 12
+IsSmallReply reply = Unit {0}
+
+abbrev pub IsSmallAnswer : Answer → Type 0
+IsSmallAnswer (answers.Channel reply) = IsSmallReply reply
+IsSmallAnswer answer = Unit {0}
+
+module _ (profile : Profile) where
+  module _ (pp : Processor) (h : IsOf profile pp) where
+    word_small : (place : ℕ) → word_at pp place < 2 ^ 12
+    word_small place = h.widths.memory.each_word place
+
+    wide : (place : ℕ) → word_at pp place < 2 ^ 18
+    wide place = omega (arith, word_small place)
+
+    -- a memory, an A and a P of these widths, whatever its state
+    with_all : (memory : List ℕ) (a p : ℕ) (state : PpState) (block : Option Block) → IsMemory memory → a < 2 ^ 18 → p < 2 ^ 12
+        → IsOf profile (record pp { memory = memory; a = a; p = p; state = state; block = block })
+    with_all memory a p state block is low small = record { widths = record { memory = is; a = low; p = small }; its_profile = h.its_profile }
+
+    at_p : (p : ℕ) → p < 2 ^ 12 → IsOf profile (goes_to pp p)
+    at_p p small = with_all pp.memory pp.a p pp.state pp.block h.widths.memory h.widths.a small
+
+    on : (n : ℕ) → IsOf profile (goes_on pp n)
+    on n = at_p (place_after pp.p n) (omega arith)
+
+    at_rest : (state : PpState) (block : Option Block) → IsOf profile (record pp { state = state; block = block })
+    at_rest state block = with_all pp.memory pp.a pp.p state block h.widths.memory h.widths.a h.widths.p
+
+    loaded : (value n : ℕ) → value < 2 ^ 18 → IsOf profile (loads pp value n)
+    loaded value n small = with_all pp.memory value (place_after pp.p n) pp.state pp.block h.widths.memory small (omega arith)
+
+    either : (b : Bool) (one other : Processor) → IsOf profile one → IsOf profile other → IsOf profile (if b then one else other)
+    either true one other k l = k
+    either false one other k l = l
+
+    jumped : (test : Bool) (d : ℕ) → IsOf profile (jumps_where test pp d 1)
+    jumped test d = either test _ _ (either (leads_to_itself d) pp _ h (at_p (relative_to pp.p d) (relative_small pp.p d))) (on 1)
+
+    branched : (test : Bool) → IsOf profile (branches_where test pp 2)
+    branched test = either test _ _ (at_p (second_word pp) (word_small (place_after pp.p 1))) (on 2)
+
+    index_small : (d : ℕ) → index pp d < 2 ^ 12
+    index_small d = one_of (d == 0) (second_word pp) _ (2 ^ 12) (word_small (place_after pp.p 1)) (indexed_small (second_word pp) (word_at pp d) (word_small (place_after pp.p 1)) (word_small d))
+
+    -- a word of 12 bits comes to a place
+    put_at : (place word a p : ℕ) → word < 2 ^ 12 → a < 2 ^ 18 → p < 2 ^ 12 → IsOf profile (record pp { memory = slice_set pp.memory place word; a = a; p = p })
+    put_at place word a p bits low small = with_all (slice_set pp.memory place word) a p pp.state pp.block (stored pp.memory place word h.widths.memory bits) low small
+
+    kept_at : (place word : ℕ) → word < 2 ^ 12 → IsOf profile (stores_at pp place word)
+    kept_at place word bits = put_at place word pp.a pp.p bits h.widths.a h.widths.p
+
+    -- A becomes a value, and the word at a place its low twelve bits
+    replaced : (place value n : ℕ) → value < 2 ^ 18 → IsOf profile (replaces pp place value n)
+    replaced place value n small = put_at place (low_of value) value (place_after pp.p n) (omega arith) small (omega arith)
+
+    -- the eight operations on the word at a place
+    operated : (code place n : ℕ) → IsOf profile (slice_index_or memory_operations (code % 8) loads_word pp place n)
+    operated code place n =
+        let word = word_at pp place in
+        All-from_recursion (λ operation. IsOf profile (operation pp place n)) memory_operations (
+          loaded word n (wide place),
+          (
+            loaded _ n (sum_small pp.a word),
+            (
+              loaded _ n (difference_small pp.a word),
+              (
+                loaded _ n (exclusive_or_small pp.a word),
+                (replaced place pp.a n h.widths.a, (replaced place _ n (sum_small pp.a word), (replaced place _ n (sum_small word 1), (replaced place _ n (difference_small word 1), tt)))),
+              ),
+            ),
+          ),
+        )
+        (code % 8) loads_word (omega arith)
+
+    received : (place central : ℕ) → IsOf profile (receives pp place central)
+    received place central = with_all (stored_from pp.memory place (parts_of central)) pp.a pp.p pp.state pp.block (all_stored pp.memory place (parts_of central) h.widths.memory (parts_small central)) h.widths.a h.widths.p
+
+    ended : IsOf profile (ends pp)
+    ended = with_all pp.memory pp.a (next_place (word_at pp 0)) pp.state None h.widths.memory h.widths.a (next_small (word_at pp 0))
+
+    central_small : (place : ℕ) → central_from pp place < 2 ^ 60
+    central_small place = five (word_at pp place) _ _ _ _ (word_small place) (word_small ((place + 1) % place_count)) (word_small ((place + 2) % place_count)) (word_small ((place + 3) % place_count)) (word_small ((place + 4) % place_count))
+      where
+        five : (a b c d e : ℕ) → a < 2 ^ 12 → b < 2 ^ 12 → c < 2 ^ 12 → d < 2 ^ 12 → e < 2 ^ 12 → ((((0 * 2 ^ 12 + a) * 2 ^ 12 + b) * 2 ^ 12 + c) * 2 ^ 12 + d) * 2 ^ 12 + e < 2 ^ 60
+        five a b c d e h1 h2 h3 h4 h5 = omega (arith, h1, h2, h3, h4, h5)
+
+  -- a block that ends, or is in progress
+  ended_or_on : (test : Bool) (pp : Processor) (block : Block) → IsOf profile pp → IsOf profile (if test then ends pp else record pp { block = Some block })
+  ended_or_on test pp block h = either pp h test _ _ (ended pp h) (at_rest pp h pp.state (Some block))
+
+  started : (pp : Processor) → IsOf profile pp → (count : ℕ) (kind : BlockKind) → IsOf profile (starts pp count kind)
+  started pp h count kind = ended_or_on (count == 0) (stores_at pp 0 (next_place pp.p)) _ (kept_at pp h 0 (next_place pp.p) (next_small pp.p))
+
+  with_a : (pp : Processor) (a : ℕ) → IsOf profile pp → a < 2 ^ 18 → IsOf profile (record pp { a = a })
+  with_a pp a h small = with_all pp h pp.memory a pp.p pp.state pp.block h.widths.memory small h.widths.p
+
+  counted_down : (pp : Processor) → IsOf profile pp → (kind : BlockKind) (place : ℕ) → IsOf profile (counts_down pp kind place)
+  counted_down pp h kind place = ended_or_on (difference pp.a 1 == 0) (record pp { a = difference pp.a 1 }) _ (with_a pp _ h (difference_small pp.a 1))
+
+  counted_up : (pp : Processor) → IsOf profile pp → (left : ℕ) (kind : BlockKind) (place : ℕ) → IsOf profile (counts_up pp left kind place)
+  counted_up pp h left kind place = ended_or_on (left == 0) (record pp { a = sum pp.a 1 }) _ (with_a pp _ h (sum_small pp.a 1))
+
+  -- ---- steps
+
+  -- a step all of whose answers leave the widths, where a word that was taken has 12 bits
+  abbrev pub StepKeeps : Step → Type 0
+  StepKeeps (local after) = IsOf profile after
+  StepKeeps (probes channel after) = (flags : Flags) → IsOf profile (after flags)
+  StepKeeps (takes channel after) = (word : ℕ) → word < 2 ^ 12 → IsOf profile (after word)
+  StepKeeps (does channel op after) = IsSmallOperation op × IsOf profile after
+  StepKeeps (reads address after) = (word : ℕ) → IsOf profile (after word)
+  StepKeeps (writes address word after) = (word < 2 ^ 60) × IsOf profile after
+
+  row_keeps : (op : Opcode) (pp : Processor) (d : ℕ) → IsOf profile pp → d < 0o100 → StepKeeps (row op pp d)
+  row_keeps PSN pp d h lt = on pp h 1
+  row_keeps LJM pp d h lt = at_p pp h (index pp d) (index_small pp h d)
+  row_keeps RJM pp d h lt = put_at pp h (index pp d) _ pp.a _ (omega arith) h.widths.a (next_small (index pp d))
+  row_keeps UJN pp d h lt = either pp h (leads_to_itself d) _ _ (at_rest pp h Stopped pp.block) (at_p pp h (relative_to pp.p d) (relative_small pp.p d))
+  row_keeps ZJN pp d h lt = jumped pp h (pp.a == 0) d
+  row_keeps NJN pp d h lt = jumped pp h (not (pp.a == 0)) d
+  row_keeps PJN pp d h lt = jumped pp h (not (is_negative pp)) d
+  row_keeps MJN pp d h lt = jumped pp h (is_negative pp) d
+  row_keeps SHN pp d h lt = loaded pp h _ 1 (shifted_small pp.a d)
+  row_keeps LMN pp d h lt = loaded pp h _ 1 (exclusive_or_small pp.a d)
+  row_keeps LPN pp d h lt = loaded pp h _ 1 (conjunction_small pp.a d)
+  row_keeps SCN pp d h lt = loaded pp h _ 1 (without_small pp.a d)
+  row_keeps LDN pp d h lt = loaded pp h d 1 (omega (arith, lt))
+  row_keeps LCN pp d h lt = loaded pp h _ 1 (complemented_small d)
+  row_keeps ADN pp d h lt = loaded pp h _ 1 (sum_small pp.a d)
+  row_keeps SBN pp d h lt = loaded pp h _ 1 (difference_small pp.a d)
+  row_keeps LDC pp d h lt = loaded pp h (constant pp d) 2 (omega (arith, lt, word_small pp h (place_after pp.p 1)))
+  row_keeps ADC pp d h lt = loaded pp h _ 2 (sum_small pp.a (constant pp d))
+  row_keeps LPC pp d h lt = loaded pp h _ 2 (conjunction_small pp.a (constant pp d))
+  row_keeps LMC pp d h lt = loaded pp h _ 2 (exclusive_or_small pp.a (constant pp d))
+  row_keeps PSN24 pp d h lt = on pp h 1
+  row_keeps PSN25 pp d h lt = on pp h 1
+  row_keeps EXN pp d h lt = at_rest pp h (Fault 1) None
+  row_keeps RPN pp d h lt = at_rest pp h (Fault 2) None
+  row_keeps CRD pp d h lt = λ central. on (receives pp d central) (received pp h d central) 1
+  row_keeps CRM pp d h lt = started pp h _ _
+  row_keeps CWD pp d h lt = (central_small pp h d, on pp h 1)
+  row_keeps CWM pp d h lt = started pp h _ _
+  row_keeps AJM pp d h lt = λ flags. branched pp h flags.active
+  row_keeps IJM pp d h lt = λ flags. branched pp h (not flags.active)
+  row_keeps FJM pp d h lt = λ flags. branched pp h flags.full
+  row_keeps EJM pp d h lt = λ flags. branched pp h (not flags.full)
+  row_keeps IAN pp d h lt = λ word small. loaded pp h word 1 (omega (arith, small))
+  row_keeps IAM pp d h lt = started pp h _ _
+  row_keeps OAN pp d h lt = (omega arith, on pp h 1)
+  row_keeps OAM pp d h lt = started pp h _ _
+  row_keeps ACN pp d h lt = (tt, on pp h 1)
+  row_keeps DCN pp d h lt = (tt, on pp h 1)
+  row_keeps FAN pp d h lt = (omega arith, on pp h 1)
+  row_keeps FNC pp d h lt = (word_small pp h (place_after pp.p 1), on pp h 2)
+  row_keeps op pp d h lt = operated pp h (code_of op) (slice_index_or (operand_places pp d) (code_of op / 8 - 3) d) (length_of op)
+
+  block_keeps : (kind : BlockKind) (place : ℕ) (pp : Processor) → IsOf profile pp → StepKeeps (block_word kind place pp)
+  block_keeps (CentralIn left) place pp h = λ central. counted_up (receives pp place central) (received pp h place central) (left - 1) (CentralIn (left - 1)) place
+  block_keeps (CentralOut left) place pp h = (central_small pp h place, counted_up pp h (left - 1) (CentralOut (left - 1)) place)
+  block_keeps (Input channel) place pp h = λ word small. counted_down (stores_at pp place word) (kept_at pp h place word small) (Input channel) place
+  block_keeps (Output channel) place pp h = (word_small pp h place, counted_down pp h (Output channel) place)
+
+  either_step : (test : Bool) (step other : Step) → StepKeeps step → StepKeeps other → StepKeeps (if test then step else other)
+  either_step true step other k l = k
+  either_step false step other k l = l
+
+  step_keeps : (block : Option Block) (pp : Processor) → IsOf profile pp → StepKeeps (step_of block pp)
+  step_keeps None pp h =
+      let op = operation pp in
+      let d = lower_six pp in
+      either_step (works_on_channel op && not (has_channel pp.profile d)) (local (faults pp 3)) (row op pp d) (at_rest pp h (Fault 3) None) (row_keeps op pp d h (omega arith))
+  step_keeps (Some block) pp h = block_keeps block.kind block.place pp h
+
+  pub next_keeps : (pp : Processor) → IsOf profile pp → StepKeeps (next_step pp)
+  next_keeps pp h = step_keeps pp.block pp h
+
+  cut_keeps : (kind : BlockKind) (place : ℕ) (pp : Processor) → IsOf profile pp → IsOf profile (cut_short kind place pp)
+  cut_keeps (Input channel) place pp h = ended (stores_at pp place 0) (kept_at pp h place 0 (omega arith))
+  cut_keeps (Output channel) place pp h = ended pp h
+  cut_keeps kind place pp h = h
+
+  held_keeps : (block : Option Block) (pp : Processor) (flags : Flags) → IsOf profile pp → IsOf profile (held block pp flags)
+  held_keeps None pp flags h = h
+  held_keeps (Some block) pp flags h = either pp h flags.active pp (cut_short block.kind block.place pp) h (cut_keeps block.kind block.place pp h)
+
+  answered_keeps : (step : Step) (pp : Processor) (answer : Answer) → IsOf profile pp → StepKeeps step → IsSmallAnswer answer → IsOf profile (answered step pp answer)
+  answered_keeps (local after) pp answers.Local h k small = k
+  answered_keeps (probes channel after) pp (answers.Channel (replies.Flags flags)) h k small = k flags
+  answered_keeps (takes channel after) pp (answers.Channel (replies.Word word)) h k small = k word small
+  answered_keeps (does channel op after) pp (answers.Channel replies.Done) h k small = k.1
+  answered_keeps (reads address after) pp (answers.Read (Some word)) h k small = k word
+  answered_keeps (reads address after) pp (answers.Read None) h k small = at_rest pp h (Fault 4) None
+  answered_keeps (writes address word after) pp (answers.Wrote true) h k small = k.1
+  answered_keeps (writes address word after) pp (answers.Wrote false) h k small = at_rest pp h (Fault 4) None
+  answered_keeps (takes channel after) pp (answers.Channel (replies.Held flags)) h k small = held_keeps pp.block pp flags h
+  answered_keeps (does channel op after) pp (answers.Channel (replies.Held flags)) h k small = held_keeps pp.block pp flags h
+  answered_keeps step pp answer h k small = h
+
+  if_running_keeps : (state : PpState) (pp : Processor) (answer : Answer) → IsOf profile pp → IsSmallAnswer answer → IsOf profile (if_running state (answered (next_step pp) pp answer) pp)
+  if_running_keeps Running pp answer h small = answered_keeps (next_step pp) pp answer h (next_keeps pp h) small
+  if_running_keeps state pp answer h small = h
+
+  pub kept_after : (pp : Processor) (answer : Answer) → IsOf profile pp → IsSmallAnswer answer → IsOf profile (processor_after pp answer)
+  unfolding processor_after
+  kept_after pp answer h small = if_running_keeps pp.state pp answer h small
