@@ -91,75 +91,45 @@ module _ (profile : Profile) where
         no_event = trace_stays asked set;
       }
 
-  -- a deck that has a meaning is what its lines load
-  deck_is : (size : ℕ) (lines : List Line) (faults : List DeckFault) (deck : LoadedDeck) → unless_faulty faults (loaded profile size lines) ≡ Ok deck → loaded profile size lines ≡ deck
-  deck_is size lines [] deck e = cc
-  deck_is size lines (fault ∷ faults) deck e = absurd (cc)
+  -- ---- a deck that has a meaning
 
-  of_lines : (lines : List (List (List ℕ))) (deck : LoadedDeck) → meaning_of_lines profile lines ≡ Ok deck → KeepsDeckLaw (parsed_deck profile lines) deck
+  of_faults : (faults : List DeckFault) (set deck : LoadedDeck) → unless_faulty faults set ≡ Ok deck → set ≡ deck
+  of_faults [] set deck e = cc
+  of_faults (fault ∷ faults) set deck e = absurd (cc)
+
+  of_ascii : (text : List ℕ) (o : Option ℕ) (deck : LoadedDeck) → unless_foreign profile text o ≡ Ok deck → loaded profile (size_of (lines_of text)) (parsed_deck profile (lines_of text)) ≡ deck
   unfolding meaning_of_lines
-  of_lines lines deck e =
-      let P : LoadedDeck → Type 0 = λ d. KeepsDeckLaw (parsed_deck profile lines) d in
-      subst P (deck_is (size_of lines) (parsed_deck profile lines) (faults_in profile lines) deck e) (loaded_law (size_of lines) (parsed_deck profile lines))
-
-  of_ascii : (text : List ℕ) (o : Option ℕ) (deck : LoadedDeck) → unless_foreign profile text o ≡ Ok deck → KeepsDeckLaw (parsed_deck profile (lines_of text)) deck
-  of_ascii text None deck e = of_lines (lines_of text) deck e
+  of_ascii text None deck e = of_faults (faults_in profile (lines_of text)) _ deck e
   of_ascii text (Some i) deck e = absurd (cc)
 
-  of_short : (text : List ℕ) (b : Bool) (fault : DeckFault) (deck : LoadedDeck) → cond b (Err fault) (unless_foreign profile text (position is_foreign text)) ≡ Ok deck → KeepsDeckLaw (parsed_deck profile (lines_of text)) deck
+  of_short : (text : List ℕ) (b : Bool) (fault : DeckFault) (deck : LoadedDeck) → cond b (Err fault) (unless_foreign profile text (position is_foreign text)) ≡ Ok deck → loaded profile (size_of (lines_of text)) (parsed_deck profile (lines_of text)) ≡ deck
   of_short text true fault deck e = absurd (cc)
   of_short text false fault deck e = of_ascii text (position is_foreign text) deck e
 
-  -- each deck that has a meaning keeps the law of loaded decks
+  -- it is what its lines load
+  pub loaded_is : (text : List ℕ) (deck : LoadedDeck) → deck_meaning profile text ≡ Ok deck → loaded profile (size_of (lines_of text)) (parsed_deck profile (lines_of text)) ≡ deck
+  unfolding deck_meaning
+  loaded_is text deck e = of_short text _ _ deck e
+
+  -- it keeps the law of loaded decks
   pub deck_law_of : (text : List ℕ) (deck : LoadedDeck) → deck_meaning profile text ≡ Ok deck → KeepsDeckLaw (parsed_deck profile (lines_of text)) deck
-  unfolding deck_meaning
-  deck_law_of text deck e = of_short text _ _ deck e
+  deck_law_of text deck e =
+      let lines = lines_of text in
+      let P : LoadedDeck → Type 0 = λ d. KeepsDeckLaw (parsed_deck profile lines) d in
+      subst P (loaded_is text deck e) (loaded_law (size_of lines) (parsed_deck profile lines))
 
-  -- ---- the size of central memory
-
-  size_of_lines : (lines : List (List (List ℕ))) (deck : LoadedDeck) → meaning_of_lines profile lines ≡ Ok deck → length deck.machine.central ≡ size_of lines
-  unfolding meaning_of_lines
-  size_of_lines lines deck e =
-      let said = parsed_deck profile lines in
-      ap (λ (d : LoadedDeck). length d.machine.central) (sym (deck_is (size_of lines) said (faults_in profile lines) deck e))
-      ∙ ap length (central_stays (asks_dead_start said) (set_by profile (size_of lines) said)) ∙ length-central_loaded (size_of lines) said
-
-  size_of_ascii : (text : List ℕ) (o : Option ℕ) (deck : LoadedDeck) → unless_foreign profile text o ≡ Ok deck → length deck.machine.central ≡ size_of (lines_of text)
-  size_of_ascii text None deck e = size_of_lines (lines_of text) deck e
-  size_of_ascii text (Some i) deck e = absurd (cc)
-
-  size_of_short : (text : List ℕ) (b : Bool) (fault : DeckFault) (deck : LoadedDeck) → cond b (Err fault) (unless_foreign profile text (position is_foreign text)) ≡ Ok deck → length deck.machine.central ≡ size_of (lines_of text)
-  size_of_short text true fault deck e = absurd (cc)
-  size_of_short text false fault deck e = size_of_ascii text (position is_foreign text) deck e
-
-  -- central memory has the size that the deck says
+  -- central memory has the size that it says
   pub deck_size_of : (text : List ℕ) (deck : LoadedDeck) → deck_meaning profile text ≡ Ok deck → length deck.machine.central ≡ size_of (lines_of text)
-  unfolding deck_meaning
-  deck_size_of text deck e = size_of_short text _ _ deck e
+  deck_size_of text deck e =
+      let size = size_of (lines_of text) in
+      let lines = parsed_deck profile (lines_of text) in
+      ap (λ (d : LoadedDeck). length d.machine.central) (sym (loaded_is text deck e)) ∙ ap length (central_stays (asks_dead_start lines) (set_by profile size lines)) ∙ length-central_loaded size lines
 
-  -- ---- the profile
-
-  profile_of_lines : (lines : List (List (List ℕ))) (deck : LoadedDeck) → meaning_of_lines profile lines ≡ Ok deck → deck.machine.profile ≡ profile
-  unfolding meaning_of_lines
-  profile_of_lines lines deck e =
-      let said = parsed_deck profile lines in
-      ap (λ (d : LoadedDeck). d.machine.profile) (sym (deck_is (size_of lines) said (faults_in profile lines) deck e))
-      ∙ profile_stays (asks_dead_start said) (set_by profile (size_of lines) said)
-
-  profile_of_ascii : (text : List ℕ) (o : Option ℕ) (deck : LoadedDeck) → unless_foreign profile text o ≡ Ok deck → deck.machine.profile ≡ profile
-  profile_of_ascii text None deck e = profile_of_lines (lines_of text) deck e
-  profile_of_ascii text (Some i) deck e = absurd (cc)
-
-  profile_of_short : (text : List ℕ) (b : Bool) (fault : DeckFault) (deck : LoadedDeck) → cond b (Err fault) (unless_foreign profile text (position is_foreign text)) ≡ Ok deck → deck.machine.profile ≡ profile
-  profile_of_short text true fault deck e = absurd (cc)
-  profile_of_short text false fault deck e = profile_of_ascii text (position is_foreign text) deck e
-
-  -- the machine of a deck has the profile for which the deck was read
+  -- its machine has the profile for which it was read
   pub deck_profile_of : (text : List ℕ) (deck : LoadedDeck) → deck_meaning profile text ≡ Ok deck → deck.machine.profile ≡ profile
-  unfolding deck_meaning
-  deck_profile_of text deck e = profile_of_short text _ _ deck e
-
-  -- ---- the names
+  deck_profile_of text deck e =
+      let lines = parsed_deck profile (lines_of text) in
+      ap (λ (d : LoadedDeck). d.machine.profile) (sym (loaded_is text deck e)) ∙ profile_stays (asks_dead_start lines) (set_by profile (size_of (lines_of text)) lines)
 
   pub deck_names_within : (text : List ℕ) (deck : LoadedDeck) → deck_meaning profile text ≡ Ok deck → NamesWithin profile deck.named
   deck_names_within text deck e n named is = named_within profile (lines_of text) n (((deck_law_of text deck e).named n named).0 is)

@@ -1,8 +1,8 @@
-mod DeckLawLemmas
 mod HeadlineLemmas
 mod KeywordLemmas
 mod WordsLemmas
 -- facts of the definitions, which proofs of other crates cite
+pub mod DeckLawLemmas
 pub mod DeadStartLemmas
 pub mod FieldLemmas
 pub mod FieldTextLemmas

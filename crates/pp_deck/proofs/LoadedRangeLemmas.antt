@@ -1,10 +1,15 @@
 -- The words, starts and central words that a deck loads are in range.
-use Rattle.std.proofs.Common.{◌≡◌, ℕ, zero, suc, ◌-◌, ◌^◌, ◌<◌, Bool, true, false, cond, leb, List, [], ◌∷◌, length, take, get_or, Option, Some, None, Result, Ok, Err, sym, subst, arith}
+use Rattle.std.proofs.Common.{◌≡◌, ℕ, zero, suc, ◌-◌, ◌^◌, ◌<◌, ◌≤◌, inl, inr, Bool, true, false, cond, leb, List, [], ◌∷◌, length, take, get_or, Option, Some, None, Result, Ok, Err, sym, subst, arith}
 use Rattle.std.specs.Prelude.{filter_map, unwrap_or, slice_get, All}
 use Rattle.std.specs.List.{last_or, cons_option, range_with_len, list_any}
 use Rattle.std.proofs.lemmas.List.Elements.{All-head, All-tail}
 use Rattle.pp_word.specs.Address.{place_count}
-use Rattle.pp_machine.specs.Processor.{Processor}
+use Rattle.pp_machine.specs.Central.{IsCentral}
+use Rattle.pp_machine.specs.PpMemory.{IsMemory}
+use Rattle.pp_machine.specs.Processor.{IsProcessor}
+use Rattle.std.proofs.lemmas.Bool.{cases_lt}
+use Rattle.std.proofs.lemmas.List.{get_or_past}
+use Rattle.pp_deck.proofs.MemoryLemmas.{length-central_loaded}
 use Rattle.pp_machine.specs.declared.profile.Profile.{Profile}
 use Rattle.pp_deck.specs.DeckLine.{Line, nothing, central_size, central_words, section, start, words, dead_start}
 use Rattle.pp_word.specs.Tables.{tabulate, length-tabulate, get_or-tabulate}
@@ -105,7 +110,7 @@ start_small : (line : Line) → InRange line → OnSome IsStart (start_in line)
 start_small (start p a) h = h
 start_small line h = tt
 
-pub last_start_small : (lines : List Line) → AllLines InRange lines → OnSome IsStart (last_of (filter_map start_in lines))
+last_start_small : (lines : List Line) → AllLines InRange lines → OnSome IsStart (last_of (filter_map start_in lines))
 last_start_small lines h = last_set IsStart start_in lines start_small h
 
 else_zero : (o : Option ℕ) (bound : ℕ) → 0 < bound → OnSome (λ w. w < bound) o → unwrap_or o 0 < bound
@@ -118,35 +123,45 @@ all_tabulate P n f h = λ k d lt.
     let below : k < n = omega (arith, lt, length-tabulate n f) in
     subst P (sym (get_or-tabulate n f k d below)) (h k below)
 
-pub memory_small : (lines : List Line) → AllLines InRange lines → All (λ w. w < 8 ^ 4) (memory_of lines)
+memory_small : (lines : List Line) → AllLines InRange lines → All (λ w. w < 8 ^ 4) (memory_of lines)
 unfolding memory_of
 memory_small lines h =
     all_tabulate (λ w. w < 8 ^ 4) place_count (λ place. unwrap_or (last_of (filter_map (word_for place) lines)) 0)
     (λ place below. else_zero (last_of (filter_map (word_for place) lines)) (8 ^ 4) (omega arith) (last_set (λ w. w < 8 ^ 4) (word_for place) lines (word_small place) h))
 
-pub length-memory_of : (lines : List Line) → length (memory_of lines) ≡ place_count
+length-memory_of : (lines : List Line) → length (memory_of lines) ≡ place_count
 unfolding memory_of
 length-memory_of lines = length-tabulate place_count (λ place. unwrap_or (last_of (filter_map (word_for place) lines)) 0)
 
-pub central_words_small : (size : ℕ) (lines : List Line) → AllLines InRange lines → All (λ w. w < 8 ^ 20) (central_loaded size lines)
+central_words_small : (size : ℕ) (lines : List Line) → AllLines InRange lines → All (λ w. w < 8 ^ 20) (central_loaded size lines)
 unfolding central_loaded
 central_words_small size lines h =
     all_tabulate (λ w. w < 8 ^ 20) size (λ address. unwrap_or (last_of (filter_map (central_word_for address) lines)) 0)
     (λ address below. else_zero (last_of (filter_map (central_word_for address) lines)) (8 ^ 20) (omega arith) (last_set (λ w. w < 8 ^ 20) (central_word_for address) lines (central_small address) h))
 
+anywhere : (ws : List ℕ) (most : ℕ) → 0 < most → All (λ w. w < most) ws → (i : ℕ) → get_or ws i 0 < most
+anywhere ws most some h i = elim (cases_lt i (length ws)) [ inl within ↦ h i 0 within | inr past ↦ rw (get_or_past ws i 0 past) some ]
+
+memory_in_range : (lines : List Line) → AllLines InRange lines → IsMemory (memory_of lines)
+memory_in_range lines h = record {
+  each_place = length-memory_of lines;
+  each_word = λ place. let lt = anywhere (memory_of lines) (8 ^ 4) (omega arith) (memory_small lines h) place in omega (arith, lt);
+}
+
+with_start : (profile : Profile) (memory : List ℕ) (o : Option (ℕ × ℕ)) → IsMemory memory → OnSome IsStart o → IsProcessor (processor_with profile memory o)
+with_start profile memory None h s = record { memory = h; a = omega arith; p = omega arith }
+with_start profile memory (Some s) h small = record { memory = h; a = omega (arith, small.1); p = omega (arith, small.0) }
+
 -- a processor as lines leave it
-pub record IsSmall (pp : Processor) : Type 0 where
-  pub memory : All (λ w. w < 8 ^ 4) pp.memory
-  pub long : length pp.memory ≡ place_count
-  pub p : pp.p < 8 ^ 4
-  pub a : pp.a < 8 ^ 6
-
-with_small : (profile : Profile) (memory : List ℕ) (o : Option (ℕ × ℕ)) → All (λ w. w < 8 ^ 4) memory → length memory ≡ place_count → OnSome IsStart o → IsSmall (processor_with profile memory o)
-with_small profile memory None h e s = record { memory = h; long = e; p = omega arith; a = omega arith }
-with_small profile memory (Some s) h e small = record { memory = h; long = e; p = small.0; a = small.1 }
-
-pub processor_small : (profile : Profile) (n : ℕ) (lines : List Line) → AllLines InRange lines → IsSmall (processor_loaded profile lines n)
+pub processor_in_range : (profile : Profile) (n : ℕ) (lines : List Line) → AllLines InRange lines → IsProcessor (processor_loaded profile lines n)
 unfolding processor_loaded
-processor_small profile n lines h =
+processor_in_range profile n lines h =
     let own = for_in_range n lines h in
-    with_small profile (memory_of (lines_for n lines)) (last_of (filter_map start_in (lines_for n lines))) (memory_small (lines_for n lines) own) (length-memory_of (lines_for n lines)) (last_start_small (lines_for n lines) own)
+    with_start profile (memory_of (lines_for n lines)) (last_of (filter_map start_in (lines_for n lines))) (memory_in_range (lines_for n lines) own) (last_start_small (lines_for n lines) own)
+
+-- and central memory
+pub central_in_range : (size : ℕ) (lines : List Line) → 1 ≤ size → size ≤ 0o400000 → AllLines InRange lines → IsCentral (central_loaded size lines)
+central_in_range size lines least most h = record {
+  size = record { some = omega (arith, least, length-central_loaded size lines); most = omega (arith, most, length-central_loaded size lines) };
+  small = λ a. let lt = anywhere (central_loaded size lines) (8 ^ 20) (omega arith) (central_words_small size lines h) a in omega (arith, lt);
+}

@@ -17,15 +17,13 @@ use Rattle.pp_machine.specs.declared.pp_state.PpState.TheVariants.{Running, Stop
 use Rattle.pp_machine.specs.declared.profile.Profile.{Profile}
 use Rattle.pp_machine.specs.ProcessorPlaces.{number_of_place, place_below}
 use Rattle.pp_deck.specs.DeckLoad.{processor_with}
-use Rattle.pp_deck.specs.DeckMeaning.{LoadedDeck, deck_meaning}
+use Rattle.pp_deck.specs.DeckMeaning.{LoadedDeck, deck_meaning, with_dead_start}
 use Rattle.pp_word.specs.Tables.{length-tabulate, get_or-tabulate}
-use Rattle.pp_deck.proofs.LoadedRangeLemmas.{IsSmall}
 use Rattle.pp_deck.specs.InUse.{is_in_use}
 use Rattle.pp_listing.specs.Dump.{in_processor, busy_processor, busy_channel, all_busy, first_busy, left_of, deck_to_go_on, dump, after, GoesOnFrom}
 use Rattle.pp_listing.specs.Listing.{listing}
-use Rattle.pp_listing.proofs.FreshDeckLemmas.{IsFresh, fresh_listing}
 use Rattle.pp_listing.proofs.GoingOnLemmas.{none_given}
-use Rattle.pp_listing.proofs.ListingLemmas.{dead_of, names_of, none_opened, numbered, processors_of}
+use Rattle.pp_listing.proofs.ListingLemmas.{IsSet, dead_of, listing_loads, names_of, none_opened, numbered, processors_of}
 use Rattle.pp_listing.proofs.RunDeckLemmas.{IsDeckFor, deck_after, processor_here}
 
 -- ---- the processors of a deck to go on from
@@ -59,15 +57,9 @@ no_block m n named e =
 -- ---- a processor that is left
 
 module _ (profile : Profile) where
-  words_small : (pp : Processor) → IsProcessor pp → All (λ w. w < 8 ^ 4) pp.memory
-  words_small pp h = λ k d lt. omega (arith, h.memory.each_word k, get_or_default_zero pp.memory k d lt)
-
-  rest_small : (pp : Processor) → IsProcessor pp → IsSmall (record (new_processor pp.profile) { memory = pp.memory })
-  rest_small pp h = record { memory = words_small pp h; long = h.memory.each_place; p = omega arith; a = omega arith }
-
-  left_small : (state : PpState) (pp : Processor) → IsProcessor pp → IsSmall (left_of state pp)
-  left_small Running pp h = record { memory = words_small pp h; long = h.memory.each_place; p = omega (arith, h.p); a = omega (arith, h.a) }
-  left_small state pp h = rest_small pp h
+  left_widths : (state : PpState) (pp : Processor) → IsProcessor pp → IsProcessor (left_of state pp)
+  left_widths Running pp h = h
+  left_widths state pp h = record { memory = h.memory; a = omega arith; p = omega arith }
 
   -- from its start, where it is running
   start_left : PpState → Processor → Option (ℕ × ℕ)
@@ -95,23 +87,24 @@ pub none_open : (deck : LoadedDeck) → list_any (λ c. is_opened c (deck_to_go_
 unfolding dead_of
 none_open deck = none_opened (deck_to_go_on deck) (unopened deck)
 
-fresh : (deck : LoadedDeck) → IsDeckFor deck.machine.profile deck → first_busy deck.machine ≡ None → IsFresh deck.machine.profile (deck_to_go_on deck)
+to_go_on : (deck : LoadedDeck) → IsDeckFor deck.machine.profile deck → first_busy deck.machine ≡ None → IsSet deck.machine.profile (deck_to_go_on deck) (deck_to_go_on deck)
 unfolding processors_of
-fresh deck h between = record {
+to_go_on deck h between = record {
   machine = refl;
   central = h.central;
   each_processor = length-map deck.machine.processors (λ (pp : Processor). left_of pp.state pp) ∙ h.each_processor;
   each_name = length-tabulate processor_count (λ place. is_in_use deck (processor_number place));
-  unopened = unopened deck;
+  names = refl;
   within = λ n is. h.within n (number n is) (sym (named_there deck n (number n is)) ∙ is);
-  small = λ n is. subst IsSmall (sym (left_there deck n)) (left_small deck.machine.profile (processor_of n deck.machine).state (processor_of n deck.machine) (processor_here deck h n (number n is)).widths);
-  set = λ n is.
+  widths = λ n is. subst IsProcessor (sym (left_there deck n)) (left_widths deck.machine.profile (processor_of n deck.machine).state (processor_of n deck.machine) (processor_here deck h n (number n is)).widths);
+  start = λ n is.
       let pp = processor_of n deck.machine in (
         start_left deck.machine.profile pp.state pp,
         left_there deck n
             ∙ left_set deck.machine.profile pp.state pp refl (processor_here deck h n (number n is)).its_profile (no_block deck.machine n (number n is) between)
             ∙ ap (λ (q : Processor). processor_with deck.machine.profile q.memory (start_left deck.machine.profile pp.state pp)) (sym (left_there deck n)),
       );
+  same = λ n is. refl;
   free = λ n named none. left_there deck n ∙ left_new deck.machine.profile (processor_of n deck.machine) (h.unused n named (sym (named_there deck n named) ∙ none));
 }
   where
@@ -130,7 +123,8 @@ dump_is_deck deck loaded source steps meant ran between short =
     let profile = deck.machine.profile in
     let sound : IsDeckFor profile deck = subst (IsDeckFor profile) (sym ran) (deck_after profile source loaded steps meant) in
     ap (deck_meaning profile) its
-    ∙ fresh_listing profile (deck_to_go_on deck) (fresh deck sound between) (omega (arith, short, ap length its))
+    ∙ listing_loads profile (deck_to_go_on deck) (deck_to_go_on deck) (to_go_on deck sound between) (omega (arith, short, ap length its))
+    ∙ ap (λ (b : Bool). Ok (with_dead_start b (deck_to_go_on deck))) (none_opened (deck_to_go_on deck) (unopened deck))
 
 pub goes_on : (text : List ℕ) (deck : LoadedDeck) → text ≡ dump deck → first_busy deck.machine ≡ None → GoesOnFrom text deck
 goes_on text deck is between =

@@ -1,6 +1,5 @@
 mod DumpLawLemmas
 mod DumpLemmas
-mod FreshDeckLemmas
 mod GoingOnLemmas
 mod InstructionLemmas
 mod InstructionTextLemmas

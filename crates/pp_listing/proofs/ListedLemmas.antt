@@ -20,7 +20,6 @@ use Rattle.pp_deck.proofs.MemoryLemmas.{length-central_loaded}
 use Rattle.pp_deck.proofs.SectionLemmas.{names}
 use Rattle.pp_deck.proofs.SectionLinesLemmas.{AllLines, all_append, or_false, flat_only, filter_flat, any_flat, any_none, KeepCurrent, keep_append, keep_flat, unnamed_empty, section_if, held_by_sections, named_by_sections, unset_by_sections}
 use Rattle.pp_listing.proofs.InstructionLemmas.{word_lines, start_by, IsOwn, instructions_own, start_own, all_keep, all_unnamed, all_no_central, all_no_request, among_at, among_before, instructions_hold, no_words, no_start}
-use Rattle.pp_deck.proofs.LoadedRangeLemmas.{length-memory_of}
 use Rattle.pp_listing.proofs.NumberLemmas.{number_count, processor_counts}
 
 -- the lines of a processor behind its heading
@@ -195,52 +194,6 @@ module _ (profile : Profile) where
   memory_with memory None = refl
   memory_with memory (Some s) = refl
 
-  processor_named : (central : List ℕ) (dead : Bool) (named : ℕ → Bool) (pp : ℕ → Processor) (lines : List Line) (n : ℕ) → n < number_count → named n ≡ true → pp n ≡ processor_loaded profile lines n → processor_loaded profile (lines_of_parts central dead named pp) n ≡ processor_loaded profile lines n
-  processor_named central dead named pp lines n lt here is =
-      let memory = memory_of (lines_for n lines) in
-      let o = last_of (filter_map start_in (lines_for n lines)) in
-      let is_with : pp n ≡ processor_with profile memory o = is ∙ processor_is lines n in
-      let its : (pp n).memory ≡ memory = ap (λ (q : Processor). q.memory) is_with ∙ memory_with memory o in
-      processor_is (lines_of_parts central dead named pp) n
-      ∙ ap (λ (ws : List ℕ). processor_with profile ws (last_of (filter_map start_in (lines_for n (lines_of_parts central dead named pp)))))
-      (memory_held central dead named pp n lt here (ap length its ∙ length-memory_of (lines_for n lines)) ∙ its)
-      ∙ ap (processor_with profile memory) (start_held central dead named pp n lt here memory o is_with)
-      ∙ sym (processor_is lines n)
-
-  processor_unnamed : (central : List ℕ) (dead : Bool) (named : ℕ → Bool) (pp : ℕ → Processor) (lines : List Line) (n : ℕ) → n < number_count → named n ≡ false → list_any (names n) lines ≡ false → processor_loaded profile (lines_of_parts central dead named pp) n ≡ processor_loaded profile lines n
-  processor_unnamed central dead named pp lines n lt absent none =
-      processor_is (lines_of_parts central dead named pp) n
-      ∙ ap (λ (ls : List Line). processor_with profile (memory_of ls) (last_of (filter_map start_in ls)))
-      (unnamed_empty n (lines_of_parts central dead named pp) (named_held central dead named pp n lt ∙ absent) ∙ sym (unnamed_empty n lines none))
-      ∙ sym (processor_is lines n)
-
-  processor_held : (central : List ℕ) (dead : Bool) (named : ℕ → Bool) (pp : ℕ → Processor) (lines : List Line) (n : ℕ) → n < number_count → named n ≡ is_named lines n → (named n ≡ true → pp n ≡ processor_loaded profile lines n) → (b : Bool) → named n ≡ b → processor_loaded profile (lines_of_parts central dead named pp) n ≡ processor_loaded profile lines n
-  processor_held central dead named pp lines n lt same is true e = processor_named central dead named pp lines n lt e (is e)
-  processor_held central dead named pp lines n lt same is false e = processor_unnamed central dead named pp lines n lt e (sym same ∙ e)
-
-  -- what a deck is made of
-  abbrev pub deck_of : ℕ → List Processor → List ℕ → List Bool → LoadedDeck
-  deck_of size pps central named = record { machine = record (new_machine profile size) { processors = pps; central = central }; named = named }
-
   pub central_is : (size : ℕ) (lines : List Line) → central_loaded size lines ≡ tabulate size (λ address. unwrap_or (last_of (filter_map (central_word_for address) lines)) 0)
   unfolding central_loaded
   central_is size lines = refl
-
-  -- lines that are made of what other lines set, set the same
-  pub set_again : (size : ℕ) (lines : List Line) (dead : Bool) (named : ℕ → Bool) (pp : ℕ → Processor) → ((n : ℕ) → IsTrue (names_processor n) → named n ≡ is_named lines n) → ((n : ℕ) → IsTrue (names_processor n) → named n ≡ true → pp n ≡ processor_loaded profile lines n)
-      → set_by profile size (lines_of_parts (central_loaded size lines) dead named pp) ≡ set_by profile size lines
-  set_again size lines dead named pp named_same pp_same =
-      let again = lines_of_parts (central_loaded size lines) dead named pp in
-      let processors : each_processor (processor_loaded profile again) ≡ each_processor (processor_loaded profile lines) =
-      tabulate_same no_processor processor_count (λ place. processor_loaded profile again (processor_number place)) (λ place. processor_loaded profile lines (processor_number place))
-      (λ place lt. let n = processor_number place in let is = number_named place lt in processor_held (central_loaded size lines) dead named pp lines n (processor_counts n is) (named_same n is) (pp_same n is) (named n) refl) in
-      let names_are : each_processor (is_named again) ≡ each_processor (is_named lines) =
-      tabulate_same false processor_count (λ place. is_named again (processor_number place)) (λ place. is_named lines (processor_number place))
-      (λ place lt. let n = processor_number place in let is = number_named place lt in named_held (central_loaded size lines) dead named pp n (processor_counts n is) ∙ named_same n is) in
-      let central : central_loaded size again ≡ central_loaded size lines =
-      central_is size again
-      ∙ sym (tabulate_is 0 (central_loaded size lines) size (λ address. unwrap_or (last_of (filter_map (central_word_for address) again)) 0) (length-central_loaded size lines)
-      (λ a lt. sym (central_held (central_loaded size lines) dead named pp a (omega (arith, lt, length-central_loaded size lines))))) in
-      ap (λ (pps : List Processor). deck_of size pps (central_loaded size again) (each_processor (is_named again))) processors
-      ∙ ap (λ (words : List ℕ). deck_of size (each_processor (processor_loaded profile lines)) words (each_processor (is_named again))) central
-      ∙ ap (deck_of size (each_processor (processor_loaded profile lines)) (central_loaded size lines)) names_are

@@ -5,34 +5,41 @@ use Rattle.std.specs.List.{flat_map, list_any, range_with_len}
 use Rattle.std.proofs.lemmas.List.{map-append}
 use Rattle.std.proofs.lemmas.List.Elements.{All-cons, All-nil}
 use Rattle.std.proofs.lemmas.List.Folds.{list_any_at, list_any_none}
-use Rattle.pp_word.specs.Tables.{tabulate, length-tabulate, get_or-tabulate}
+use Rattle.pp_word.specs.Tables.{tabulate, length-tabulate, get_or-tabulate, tabulate_const, tabulate_is}
 use Rattle.pp_channel.specs.ChannelNo.{all_channels, channel_count, channel_index, channel_number, names_channel}
 use Rattle.pp_channel.specs.ChannelPlaces as channel_places
-use Rattle.pp_machine.specs.MachineState.{MachineState, processor_of, is_opened}
+use Rattle.pp_machine.specs.MachineState.{MachineState, new_machine, processor_of, is_opened}
 use Rattle.pp_machine.specs.DeadStart.{waiting_on}
-use Rattle.pp_machine.specs.Processor.{Processor, word_at}
-use Rattle.pp_machine.specs.PpNo.{all_processors, names_processor, processor_index, is_named}
+use Rattle.pp_machine.specs.Central.{IsCentral}
+use Rattle.pp_machine.specs.PpMemory.{empty_memory}
+use Rattle.pp_machine.specs.Processor.{Processor, IsProcessor, new_processor, no_processor, word_at}
+use Rattle.pp_machine.specs.ProcessorPlaces.{number_named, place_of_number}
+use Rattle.pp_word.specs.Address.{place_count}
+use Rattle.pp_word.specs.GrowingLists.{last_of}
+use Rattle.std.specs.Prelude.{filter_map}
+use Rattle.std.proofs.lemmas.Grind.{get_or_default_zero}
+use Rattle.pp_machine.specs.PpNo.{all_processors, names_processor, processor_count, processor_index, processor_number, each_processor, is_named}
 use Rattle.pp_machine.specs.Profile.{has_processor}
 use Rattle.pp_machine.specs.declared.profile.Profile.{Profile}
 use Rattle.pp_deck.specs.DeckLine.{Line, central_size, central_words, section, start, words, dead_start}
-use Rattle.pp_deck.specs.DeckLoad.{processor_loaded, central_loaded, asks_dead_start}
+use Rattle.pp_deck.specs.DeckLoad.{processor_loaded, processor_with, central_loaded, asks_dead_start, lines_for, memory_of, start_in}
 use Rattle.pp_deck.specs.DeckLoad as load
 use Rattle.pp_deck.specs.DeckMeaning.{LoadedDeck, set_by, with_dead_start, loaded, deck_meaning, meaning_of_lines, faults_in, parsed_deck, size_of, unless_faulty, unless_foreign, is_foreign}
 use Rattle.pp_deck.proofs.LineParts.{current_after}
 use Rattle.pp_deck.specs.DeckText.{lines_of}
 use Rattle.pp_deck.proofs.DeadStartLemmas as dead
 use Rattle.pp_deck.proofs.LawLemmas as law
-use Rattle.pp_deck.proofs.LoadedRangeLemmas.{IsSmall, processor_small, central_words_small, said_in_range}
-use Rattle.pp_deck.proofs.MemoryLemmas.{length-central_loaded}
+use Rattle.pp_deck.proofs.DeckLawLemmas.{loaded_is}
+use Rattle.pp_deck.proofs.LoadedRangeLemmas.{processor_in_range, central_in_range, said_in_range}
 use Rattle.pp_deck.proofs.NamesLemmas.{named_within}
 use Rattle.pp_deck.proofs.RangeLemmas.{InRange, size_in_range}
-use Rattle.pp_deck.proofs.SectionLinesLemmas.{AllLines, all_append, section_if}
+use Rattle.pp_deck.proofs.SectionLinesLemmas.{AllLines, all_append, section_if, unnamed_empty}
 use Rattle.pp_listing.specs.ListedLine.{ListedLine, bare, says, text_line}
 use Rattle.pp_listing.specs.Listing.{ReadsBackAs, central_word_line, dead_start_line, instruction_lines, listed, listing, named_section, section_lines, start_line}
 use Rattle.pp_listing.proofs.InstructionLemmas.{word_lines, start_by, says_words, says_start, IsOwn, IsReadInSection, instructions_read, start_is_read}
-use Rattle.pp_listing.proofs.ListedLemmas.{body_of, body_own, word_line, central_lines, dead_line, lines_of_parts, asked_held, set_again}
+use Rattle.pp_listing.proofs.ListedLemmas.{body_of, body_own, word_line, central_lines, dead_line, lines_of_parts, asked_held, central_held, central_is, memory_held, memory_is, memory_with, named_held, processor_is, start_held}
 use Rattle.pp_listing.proofs.ListedLineLemmas.{fields_said}
-use Rattle.pp_listing.proofs.NumberLemmas.{number_count, sections_by_number}
+use Rattle.pp_listing.proofs.NumberLemmas.{number_count, processor_counts, sections_by_number}
 use Rattle.pp_listing.proofs.PrintedLineLemmas.{central_words_read, section_read, dead_start_read}
 use Rattle.pp_listing.proofs.PrintedTextLemmas.{IsReady, meaning_printed, read_lines}
 
@@ -60,12 +67,13 @@ module _ (profile : Profile) where
       let P : Option ℕ → Type 0 = λ c. IsReady profile size c lines in
       (k.0, subst P (sym (own_after line n h.0)) (ready_body size n lines h.1 k.1))
 
-  body_read : (size : ℕ) (pp : Processor) → IsSmall pp → AllLines (IsReadInSection profile size) (body_of pp)
+  body_read : (size : ℕ) (pp : Processor) → IsProcessor pp → AllLines (IsReadInSection profile size) (body_of pp)
   body_read size pp h =
       all_append (IsReadInSection profile size) (word_lines 0 pp.memory) (start_by pp.state pp.p pp.a)
-      (instructions_read profile size 0 pp.memory h.memory (omega (arith, h.long))) (start_is_read profile size pp.state pp.p pp.a h.p h.a)
+      (instructions_read profile size 0 pp.memory (λ k d lt. omega (arith, h.memory.each_word k, get_or_default_zero pp.memory k d lt)) (omega (arith, h.memory.each_place)))
+      (start_is_read profile size pp.state pp.p pp.a (omega (arith, h.p)) (omega (arith, h.a)))
 
-  ready_section : (size n : ℕ) (pp : Processor) (b : Bool) (c : Option ℕ) → (b ≡ true → IsTrue (has_processor profile n)) → (b ≡ true → IsSmall pp) → IsReady profile size c (cond b (section n ∷ body_of pp) [])
+  ready_section : (size n : ℕ) (pp : Processor) (b : Bool) (c : Option ℕ) → (b ≡ true → IsTrue (has_processor profile n)) → (b ≡ true → IsProcessor pp) → IsReady profile size c (cond b (section n ∷ body_of pp) [])
   ready_section size n pp true c has h = (λ b. section_read profile size n b (is_some c) (has refl), ready_body size n (body_of pp) (body_own pp) (body_read size pp (h refl)))
   ready_section size n pp false c has h = tt
 
@@ -78,15 +86,14 @@ module _ (profile : Profile) where
   ready_dead size true c = (λ b. dead_start_read profile size b (is_some c), tt)
   ready_dead size false c = tt
 
-  pub parts_ready : (central : List ℕ) (dead : Bool) (named : ℕ → Bool) (pp : ℕ → Processor) → length central ≤ 0o400000 → All (λ w. w < 8 ^ 20) central → ((n : ℕ) → named n ≡ true → IsTrue (has_processor profile n)) → ((n : ℕ) → named n ≡ true → IsSmall (pp n))
+  parts_ready : (central : List ℕ) (dead : Bool) (named : ℕ → Bool) (pp : ℕ → Processor) → IsCentral central → ((n : ℕ) → named n ≡ true → IsTrue (has_processor profile n)) → ((n : ℕ) → named n ≡ true → IsProcessor (pp n))
       → IsReady profile (length central) None ((central_lines central ++ dead_line dead) ++ flat_map (section_if named (λ n. body_of (pp n))) (range_with_len 0 number_count))
-  parts_ready central dead named pp most small has h =
+  parts_ready central dead named pp its has h =
       let size = length central in
       ready_append size (central_lines central ++ dead_line dead) (flat_map (section_if named (λ n. body_of (pp n))) (range_with_len 0 number_count)) None
       (ready_append size (central_lines central) (dead_line dead) None
-      (ready_each size (word_line central) 0 (length central)
-      (λ a le lt c. let below : a < length central = omega (arith, lt) in
-      ready_central size a (get_or central a 0) (eqb (get_or central a 0) 0) c most below (small a 0 below)) None)
+      (ready_each size (word_line central) 0 size
+      (λ a le lt c. ready_central size a (get_or central a 0) (eqb (get_or central a 0) 0) c (omega (arith, its.size.most)) (omega (arith, lt)) (omega (arith, its.small a))) None)
       (λ c. ready_dead size dead c))
       (ready_each size (section_if named (λ n. body_of (pp n))) 0 number_count
       (λ n le lt c. ready_section size n (pp n) (named n) c (has n) (h n)))
@@ -186,7 +193,104 @@ not_opened deck e c named =
     (ap (λ (c : ℕ). is_opened c deck.machine) (get_or-tabulate channel_count channel_number (channel_index c) 0 below ∙ channel_places.number_of_place c named) ∙ is))
     e
 
--- ---- the listing of what lines load
+-- ---- what a listing loads
+
+no_words : memory_of [] ≡ empty_memory
+unfolding empty_memory
+no_words = memory_is [] ∙ tabulate_const place_count _ 0 (λ place. refl)
+
+module _ (profile : Profile) where
+  -- a processor that no line names is as it was made
+  pub unnamed_new : (lines : List Line) (n : ℕ) → load.is_named lines n ≡ false → processor_loaded profile lines n ≡ new_processor profile
+  unnamed_new lines n unnamed =
+      processor_is profile lines n
+      ∙ ap (λ (ls : List Line). processor_with profile (memory_of ls) (last_of (filter_map start_in ls))) (unnamed_empty n lines unnamed)
+      ∙ ap (λ (ws : List ℕ). processor_with profile ws None) no_words
+
+-- a deck for a machine of this profile, and what is set in it before any dead start: nothing has happened, each processor
+-- that is named has its memory and perhaps a start, and the others are as they were made
+pub record IsSet (profile : Profile) (deck set : LoadedDeck) : Type 0 where
+  pub machine : set.machine ≡ record (new_machine profile (length deck.machine.central)) { processors = set.machine.processors; central = deck.machine.central }
+  pub central : IsCentral deck.machine.central
+  pub each_processor : length set.machine.processors ≡ processor_count
+  pub each_name : length deck.named ≡ processor_count
+  pub names : set.named ≡ deck.named
+  pub within : (n : ℕ) → names_of deck n ≡ true → IsTrue (has_processor profile n)
+  pub widths : (n : ℕ) → names_of deck n ≡ true → IsProcessor (processors_of deck n)
+  pub start : (n : ℕ) → names_of deck n ≡ true → (o : Option (ℕ × ℕ)) × (processors_of deck n ≡ processor_with profile (processors_of deck n).memory o)
+  pub same : (n : ℕ) → names_of deck n ≡ true → processors_of deck n ≡ processor_of n set.machine
+  pub free : (n : ℕ) → IsTrue (names_processor n) → names_of deck n ≡ false → processor_of n set.machine ≡ new_processor profile
+
+module _ (profile : Profile) (deck set : LoadedDeck) (h : IsSet profile deck set) where
+  -- its lines
+  parts : List Line
+  parts = lines_of_parts deck.machine.central (dead_of deck) (names_of deck) (processors_of deck)
+
+  processor_again : (n : ℕ) → IsTrue (names_processor n) → (b : Bool) → names_of deck n ≡ b → processor_loaded profile parts n ≡ processor_of n set.machine
+  unfolding parts
+  processor_again n named true is =
+      let memory = (processors_of deck n).memory in
+      let o = (h.start n is).0 in
+      processor_is profile _ n
+      ∙ ap (λ (ws : List ℕ). processor_with profile ws (last_of (filter_map start_in (lines_for n (lines_of_parts deck.machine.central (dead_of deck) (names_of deck) (processors_of deck))))))
+      (memory_held deck.machine.central (dead_of deck) (names_of deck) (processors_of deck) n (processor_counts n named) is (h.widths n is).memory.each_place)
+      ∙ ap (processor_with profile memory) (start_held profile deck.machine.central (dead_of deck) (names_of deck) (processors_of deck) n (processor_counts n named) is memory o (h.start n is).1)
+      ∙ sym (h.start n is).1 ∙ h.same n is
+  processor_again n named false is =
+      unnamed_new profile _ n (named_held deck.machine.central (dead_of deck) (names_of deck) (processors_of deck) n (processor_counts n named) ∙ is)
+      ∙ sym (h.free n named is)
+
+  processors_again : each_processor (processor_loaded profile parts) ≡ set.machine.processors
+  processors_again =
+      sym (tabulate_is no_processor set.machine.processors processor_count (λ place. processor_loaded profile parts (processor_number place)) h.each_processor
+      (λ place lt. let n = processor_number place in sym (processor_again n (number_named place lt) (names_of deck n) refl ∙ ap (λ (i : ℕ). get_or set.machine.processors i no_processor) (place_of_number place lt))))
+
+  names_again : each_processor (load.is_named parts) ≡ deck.named
+  unfolding parts names_of
+  names_again =
+      sym (tabulate_is false deck.named processor_count (λ place. load.is_named parts (processor_number place)) h.each_name
+      (λ place lt. sym
+      (named_held deck.machine.central (dead_of deck) (names_of deck) (processors_of deck) (processor_number place) (processor_counts (processor_number place) (number_named place lt))
+      ∙ ap (λ (b : Bool). b && get_or deck.named (processor_index (processor_number place)) false) (number_named place lt)
+      ∙ ap (λ (i : ℕ). get_or deck.named i false) (place_of_number place lt))))
+
+  central_again : central_loaded (length deck.machine.central) parts ≡ deck.machine.central
+  unfolding parts
+  central_again =
+      central_is profile (length deck.machine.central) parts
+      ∙ sym (tabulate_is 0 deck.machine.central (length deck.machine.central) _ refl
+      (λ a lt. sym (central_held deck.machine.central (dead_of deck) (names_of deck) (processors_of deck) a lt)))
+
+  loads_again : loaded profile (length deck.machine.central) parts ≡ with_dead_start (dead_of deck) set
+  unfolding parts
+  loads_again =
+      let size = length deck.machine.central in
+      ap (λ (b : Bool). with_dead_start b (set_by profile size parts)) (asked_held deck.machine.central (dead_of deck) (names_of deck) (processors_of deck))
+      ∙ ap (with_dead_start (dead_of deck))
+      (ap (λ (pps : List Processor). record { machine = record (new_machine profile size) { processors = pps; central = central_loaded size parts }; named = each_processor (load.is_named parts) }) processors_again
+      ∙ ap (λ (words : List ℕ). record { machine = record (new_machine profile size) { processors = set.machine.processors; central = words }; named = each_processor (load.is_named parts) }) central_again
+      ∙ ap (λ (names : List Bool). record { machine = record (new_machine profile size) { processors = set.machine.processors; central = deck.machine.central }; named = names }) (names_again ∙ sym h.names)
+      ∙ ap (λ (m : MachineState). record { machine = m; named = set.named }) (sym h.machine))
+
+  reads_again : meaning_of_lines profile (map fields_said parts ++ [] ∷ []) ≡ Ok (loaded profile (length deck.machine.central) parts)
+  unfolding parts
+  reads_again =
+      let central = deck.machine.central in
+      read_lines profile (length central) ((central_lines central ++ dead_line (dead_of deck)) ++ flat_map (section_if (names_of deck) (λ n. body_of (processors_of deck n))) (range_with_len 0 number_count))
+      (omega (arith, h.central.size.some)) (omega (arith, h.central.size.most)) (parts_ready profile central (dead_of deck) (names_of deck) (processors_of deck) h.central h.within h.widths)
+
+  -- the listing of the deck is a deck
+  pub listing_loads : length (listing deck) ≤ 1048576 → deck_meaning profile (listing deck) ≡ Ok (with_dead_start (dead_of deck) set)
+  unfolding parts
+  listing_loads short =
+      let its = listing_is deck in
+      ap (deck_meaning profile) its
+      ∙ meaning_printed profile (listed deck) (omega (arith, short, ap length its))
+      ∙ ap (λ (ls : List Line). meaning_of_lines profile (map fields_said ls ++ [] ∷ [])) (said deck)
+      ∙ reads_again
+      ∙ ap (λ (d : LoadedDeck). Ok d) loads_again
+
+-- ---- each deck that a text means
 
 module _ (profile : Profile) where
   pub name_here : (size : ℕ) (lines : List Line) (n : ℕ) → IsTrue (names_processor n) → names_of (loaded profile size lines) n ≡ load.is_named lines n
@@ -196,88 +300,55 @@ module _ (profile : Profile) where
       ∙ ap (λ (b : Bool). b && get_or (set_by profile size lines).named (processor_index n) false) named
       ∙ law.named_here profile size lines n named
 
-  processor_here : (size : ℕ) (lines : List Line) (n : ℕ) → IsTrue (names_processor n) → names_of (loaded profile size lines) n ≡ true → processors_of (loaded profile size lines) n ≡ processor_loaded profile lines n
+  -- a processor that is named does not wait
+  set_here : (size : ℕ) (lines : List Line) (n : ℕ) → IsTrue (names_processor n) → names_of (loaded profile size lines) n ≡ true → processors_of (loaded profile size lines) n ≡ processor_of n (set_by profile size lines).machine
   unfolding processors_of
-  processor_here size lines n named is =
+  set_here size lines n named is =
       let set : MachineState = (set_by profile size lines).machine in
       dead.processor_is profile size lines (asks_dead_start lines) n refl named
       ∙ ap (λ (b : Bool). cond b (waiting_on n (processor_of n set)) (processor_of n set)) (awake_if (asks_dead_start lines) (has_processor profile n) (load.is_named lines n) (sym (name_here size lines n named) ∙ is))
-      ∙ law.processor_here profile size lines n named
-
-  -- the parts of a deck that lines load
-  parts : ℕ → List Line → List Line
-  parts size lines = lines_of_parts (central_loaded size lines) (dead_of (loaded profile size lines)) (names_of (loaded profile size lines)) (processors_of (loaded profile size lines))
-
-  said_here : (size : ℕ) (lines : List Line) → map says (listed (loaded profile size lines)) ≡ parts size lines
-  unfolding parts
-  said_here size lines =
-      let deck = loaded profile size lines in
-      said deck ∙ ap (λ (central : List ℕ). lines_of_parts central (dead_of deck) (names_of deck) (processors_of deck)) (dead.central_stays (asks_dead_start lines) (set_by profile size lines))
-
-  parts_again : (size : ℕ) (lines : List Line) → loaded profile size (parts size lines) ≡ loaded profile size lines
-  unfolding parts
-  parts_again size lines =
-      let deck = loaded profile size lines in
-      ap (λ (b : Bool). with_dead_start b (set_by profile size (lines_of_parts (central_loaded size lines) (dead_of deck) (names_of deck) (processors_of deck)))) (asked_held (central_loaded size lines) (dead_of deck) (names_of deck) (processors_of deck))
-      ∙ ap (with_dead_start (dead_of deck)) (set_again profile size lines (dead_of deck) (names_of deck) (processors_of deck) (name_here size lines) (processor_here size lines))
-      ∙ dead.dead_start_shows profile size lines (asks_dead_start lines) (dead_of deck) refl (none_opened deck) (not_opened deck)
-
-  parts_read : (size : ℕ) (lines : List Line) → 1 ≤ size → size ≤ 0o400000 → AllLines InRange lines → ((n : ℕ) → load.is_named lines n ≡ true → IsTrue (has_processor profile n)) → meaning_of_lines profile (map fields_said (parts size lines) ++ [] ∷ []) ≡ Ok (loaded profile size (parts size lines))
-  unfolding parts
-  parts_read size lines least most small has =
-      let deck = loaded profile size lines in
-      let central = central_loaded size lines in
-      let dead_asked = dead_of deck in
-      let long : length central ≡ size = length-central_loaded size lines in
-      let small_pp : (n : ℕ) → names_of deck n ≡ true → IsSmall (processors_of deck n) = λ n is.
-      (let Q : Processor → Type 0 = λ pp. IsSmall pp in subst Q (sym (processor_here size lines n (numbered deck n is) is)) (processor_small profile n lines small)) in
-      read_lines profile (length central) ((central_lines central ++ dead_line dead_asked) ++ flat_map (section_if (names_of deck) (λ n. body_of (processors_of deck n))) (range_with_len 0 number_count)) (omega (arith, least, long)) (omega (arith, most, long))
-      (parts_ready profile central dead_asked (names_of deck) (processors_of deck) (omega (arith, most, long)) (central_words_small size lines small) (λ n is. has n (sym (name_here size lines n (numbered deck n is)) ∙ is)) small_pp)
-      ∙ ap (λ (n : ℕ). Ok (loaded profile n (lines_of_parts central dead_asked (names_of deck) (processors_of deck)))) long
-
-  loaded_listing : (size : ℕ) (lines : List Line) → 1 ≤ size → size ≤ 0o400000 → AllLines InRange lines → ((n : ℕ) → load.is_named lines n ≡ true → IsTrue (has_processor profile n)) → length (listing (loaded profile size lines)) ≤ 1048576 → deck_meaning profile (listing (loaded profile size lines)) ≡ Ok (loaded profile size lines)
-  loaded_listing size lines least most small has short =
-      let its = listing_is (loaded profile size lines) in
-      ap (deck_meaning profile) its
-      ∙ meaning_printed profile (listed (loaded profile size lines)) (omega (arith, short, ap length its))
-      ∙ ap (λ (ls : List Line). meaning_of_lines profile (map fields_said ls ++ [] ∷ [])) (said_here size lines)
-      ∙ parts_read size lines least most small has
-      ∙ ap (λ (deck : LoadedDeck). Ok deck) (parts_again size lines)
-
-  -- ---- each deck that a text means
-
-  -- a deck whose listing, where it is no longer than a deck may be, means the deck
-  ReadsBack : LoadedDeck → Type 0
-  ReadsBack deck = length (listing deck) ≤ 1048576 → deck_meaning profile (listing deck) ≡ Ok deck
-
-  deck_is : (size : ℕ) (lines : List Line) (faults : List _) (deck : LoadedDeck) → unless_faulty faults (loaded profile size lines) ≡ Ok deck → loaded profile size lines ≡ deck
-  deck_is size lines [] deck e = cc
-  deck_is size lines (fault ∷ faults) deck e = absurd (cc)
 
   -- what holds of all that lines load whose numbers are in range
   abbrev pub HoldsOfLoaded : (LoadedDeck → Type 0) → Type 0
   HoldsOfLoaded Q = (size : ℕ) (lines : List Line) → 1 ≤ size → size ≤ 0o400000 → AllLines InRange lines → ((n : ℕ) → load.is_named lines n ≡ true → IsTrue (has_processor profile n)) → Q (loaded profile size lines)
 
-  of_lines : (Q : LoadedDeck → Type 0) → HoldsOfLoaded Q → (lines : List (List (List ℕ))) (deck : LoadedDeck) → meaning_of_lines profile lines ≡ Ok deck → Q deck
-  unfolding meaning_of_lines
-  of_lines Q holds lines deck e =
-      let size = size_in_range lines in
-      let said_lines = parsed_deck profile lines in
-      subst Q (deck_is (size_of lines) said_lines (faults_in profile lines) deck e)
-      (holds (size_of lines) said_lines size.0 size.1 (said_in_range profile lines) (λ n is. named_within profile lines n (law.some_name n said_lines is)))
+  -- a deck whose listing, where it is no longer than a deck may be, means the deck
+  ReadsBack : LoadedDeck → Type 0
+  ReadsBack deck = length (listing deck) ≤ 1048576 → deck_meaning profile (listing deck) ≡ Ok deck
 
-  of_ascii : (Q : LoadedDeck → Type 0) → HoldsOfLoaded Q → (text : List ℕ) (o : Option ℕ) (deck : LoadedDeck) → unless_foreign profile text o ≡ Ok deck → Q deck
-  of_ascii Q holds text None deck e = of_lines Q holds (lines_of text) deck e
-  of_ascii Q holds text (Some i) deck e = absurd (cc)
-
-  of_short : (Q : LoadedDeck → Type 0) → HoldsOfLoaded Q → (text : List ℕ) (b : Bool) (fault : _) (deck : LoadedDeck) → cond b (Err fault) (unless_foreign profile text (position is_foreign text)) ≡ Ok deck → Q deck
-  of_short Q holds text true fault deck e = absurd (cc)
-  of_short Q holds text false fault deck e = of_ascii Q holds text (position is_foreign text) deck e
+  loaded_listing : HoldsOfLoaded ReadsBack
+  unfolding ReadsBack
+  loaded_listing size lines least most small has short =
+      let deck = loaded profile size lines in
+      let set = set_by profile size lines in
+      let asked = asks_dead_start lines in
+      let same_central = dead.central_stays asked set in
+      let here : (n : ℕ) → names_of deck n ≡ true → processors_of deck n ≡ processor_loaded profile lines n = λ n is. set_here size lines n (numbered deck n is) is ∙ law.processor_here profile size lines n (numbered deck n is) in
+      listing_loads profile deck set (record {
+        machine = ap (λ (words : List ℕ). record set.machine { central = words }) (sym same_central);
+        central = subst IsCentral (sym same_central) (central_in_range size lines least most small);
+        each_processor = length-tabulate processor_count (λ place. processor_loaded profile lines (processor_number place));
+        each_name = ap length (dead.names_stay asked set) ∙ length-tabulate processor_count (λ place. load.is_named lines (processor_number place));
+        names = sym (dead.names_stay asked set);
+        within = λ n is. has n (sym (name_here size lines n (numbered deck n is)) ∙ is);
+        widths = λ n is. subst IsProcessor (sym (here n is)) (processor_in_range profile n lines small);
+        start = λ n is.
+            let memory = memory_of (lines_for n lines) in
+            let o = last_of (filter_map start_in (lines_for n lines)) in
+            let its : processors_of deck n ≡ processor_with profile memory o = here n is ∙ processor_is profile lines n in
+            (o, its ∙ ap (λ (ws : List ℕ). processor_with profile ws o) (sym (ap (λ (pp : Processor). pp.memory) its ∙ memory_with profile memory o)));
+        same = λ n is. set_here size lines n (numbered deck n is) is;
+        free = λ n named is. law.processor_here profile size lines n named ∙ unnamed_new profile lines n (sym (name_here size lines n named) ∙ is);
+      }) short
+      ∙ ap (λ (d : LoadedDeck). Ok d) (dead.dead_start_shows profile size lines asked (dead_of deck) refl (none_opened deck) (not_opened deck))
 
   -- holds of each deck that a text means
   pub each_deck : (Q : LoadedDeck → Type 0) → HoldsOfLoaded Q → (text : List ℕ) (deck : LoadedDeck) → deck_meaning profile text ≡ Ok deck → Q deck
-  unfolding deck_meaning
-  each_deck Q holds text deck e = of_short Q holds text (nat_lt 1048576 (length text)) _ deck e
+  each_deck Q holds text deck e =
+      let lines = lines_of text in
+      let said_lines = parsed_deck profile lines in
+      let size = size_in_range lines in
+      subst Q (loaded_is profile text deck e) (holds (size_of lines) said_lines size.0 size.1 (said_in_range profile lines) (λ n is. named_within profile lines n (law.some_name n said_lines is)))
 
   pub listing_is_deck : (text : List ℕ) (deck : LoadedDeck) → deck_meaning profile text ≡ Ok deck → length (listing deck) ≤ 1048576 → deck_meaning profile (listing deck) ≡ Ok deck
   unfolding ReadsBack

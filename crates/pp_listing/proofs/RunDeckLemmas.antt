@@ -48,14 +48,13 @@ use Rattle.pp_deck.specs.DeckMeaning.{LoadedDeck, deck_meaning, loaded, set_by, 
 use Rattle.pp_deck.specs.InUse.{is_in_use}
 use Rattle.pp_deck.proofs.DeadStartLemmas as dead
 use Rattle.pp_deck.proofs.LawLemmas as law
-use Rattle.pp_deck.proofs.LoadedRangeLemmas.{IsSmall, all_tabulate, processor_small, central_words_small}
+use Rattle.pp_deck.proofs.LoadedRangeLemmas.{all_tabulate, processor_in_range, central_in_range}
 use Rattle.pp_deck.proofs.MemoryLemmas.{length-central_loaded}
 use Rattle.pp_deck.proofs.RangeLemmas.{InRange}
 use Rattle.pp_deck.proofs.SectionLinesLemmas.{AllLines, unnamed_empty}
 use Rattle.pp_listing.specs.Dump.{after}
-use Rattle.pp_listing.proofs.FreshDeckLemmas.{no_words}
 use Rattle.pp_listing.proofs.ListedLemmas.{processor_is}
-use Rattle.pp_listing.proofs.ListingLemmas.{each_deck, name_here, names_of}
+use Rattle.pp_listing.proofs.ListingLemmas.{each_deck, name_here, names_of, unnamed_new}
 use Rattle.pp_listing.proofs.StepLemmas.{IsOf, IsSmallAnswer, IsSmallOperation, IsSmallReply, StepKeeps, each_set, kept_after, next_keeps}
 
 -- a deck for a machine of this profile that may have run
@@ -208,9 +207,6 @@ module _ (profile : Profile) where
 
 -- ---- a loaded deck
 
-anywhere : (ws : List ℕ) (most : ℕ) → 0 < most → All (λ w. w < most) ws → (i : ℕ) → get_or ws i 0 < most
-anywhere ws most some h i = elim (cases_lt i (length ws)) [ inl within ↦ h i 0 within | inr past ↦ rw (get_or_past ws i 0 past) some ]
-
 or_none : (a b : Bool) → (a || b) ≡ false → (a ≡ false) × (b ≡ false)
 or_none true b e = absurd (cc)
 or_none false b e = (refl, e)
@@ -220,23 +216,9 @@ or_other true b e none = absurd (cc)
 or_other false b e none = e
 
 module _ (profile : Profile) where
-  its_widths : (memory : List ℕ) (o : Option (ℕ × ℕ)) → IsSmall (processor_with profile memory o) → IsOf profile (processor_with profile memory o)
-  its_widths memory o h = record {
-    widths = record {
-      memory = record { each_place = h.long; each_word = λ place. let lt = anywhere (processor_with profile memory o).memory (8 ^ 4) (omega arith) h.memory place in omega (arith, lt) };
-      a = omega (arith, h.a);
-      p = omega (arith, h.p);
-    };
-    its_profile = by o;
-  }
-    where
-      by : (o : Option (ℕ × ℕ)) → (processor_with profile memory o).profile ≡ profile
-      by None = refl
-      by (Some s) = refl
-
-  loaded_of : (lines : List Line) (n : ℕ) → AllLines InRange lines → IsOf profile (processor_loaded profile lines n)
-  unfolding processor_loaded
-  loaded_of lines n small = its_widths (memory_of (lines_for n lines)) (last_of (filter_map start_in (lines_for n lines))) (processor_small profile n lines small)
+  its_profile : (memory : List ℕ) (o : Option (ℕ × ℕ)) → (processor_with profile memory o).profile ≡ profile
+  its_profile memory None = refl
+  its_profile memory (Some s) = refl
 
   waits_with : (b : Bool) (n : ℕ) (pp : Processor) → IsOf profile pp → IsOf profile (cond b (waiting_on n pp) pp)
   waits_with true n pp h = record { widths = record { memory = h.widths.memory; a = omega arith; p = omega arith }; its_profile = h.its_profile }
@@ -272,9 +254,7 @@ module _ (profile : Profile) where
       dead.processor_is profile size lines (asks_dead_start lines) n refl named
       ∙ ap (λ (b : Bool). cond b (waiting_on n set) set) awake
       ∙ law.processor_here profile size lines n named
-      ∙ processor_is profile lines n
-      ∙ ap (λ (ls : List Line). processor_with profile (memory_of ls) (last_of (filter_map start_in ls))) (unnamed_empty n lines unnamed)
-      ∙ ap (λ (ws : List ℕ). processor_with profile ws None) no_words
+      ∙ unnamed_new profile lines n unnamed
 
   loaded_for : (size : ℕ) (lines : List Line) → 1 ≤ size → size ≤ 0o400000 → AllLines InRange lines → ((n : ℕ) → load.is_named lines n ≡ true → IsTrue (has_processor profile n)) → IsDeckFor profile (loaded profile size lines)
   unfolding names_of
@@ -285,12 +265,9 @@ module _ (profile : Profile) where
       record {
         its_profile = machine_profile asked set;
         each_processor = dead.all_processors asked set each;
-        processors = started_processors asked set each (all_tabulate (IsOf profile) processor_count (λ place. processor_loaded profile lines (processor_number place)) (λ place below. loaded_of lines (processor_number place) small));
+        processors = started_processors asked set each (all_tabulate (IsOf profile) processor_count (λ place. processor_loaded profile lines (processor_number place)) (λ place below. let n = processor_number place in record { widths = processor_in_range profile n lines small; its_profile = ap (λ (pp : Processor). pp.profile) (processor_is profile lines n) ∙ its_profile (memory_of (lines_for n lines)) (last_of (filter_map start_in (lines_for n lines))) }));
         histories = started_histories asked set (All-replicate HasTwelveBitWords channel_count [] (All-nil HasTwelveBitWord));
-        central = subst IsCentral (sym (dead.central_stays asked set)) (record {
-          size = record { some = omega (arith, least, length-central_loaded size lines); most = omega (arith, most, length-central_loaded size lines) };
-          small = λ a. let lt = anywhere (central_loaded size lines) (8 ^ 20) (omega arith) (central_words_small size lines small) a in omega (arith, lt);
-        });
+        central = subst IsCentral (sym (dead.central_stays asked set)) (central_in_range size lines least most small);
         within = λ n named used. by n named used (names_of (loaded profile size lines) n) refl;
         unused = λ n named free.
             let none = or_none (names_of (loaded profile size lines) n) (is_opened n (loaded profile size lines).machine) free in
