@@ -1,7 +1,7 @@
 -- Lines that stand in sections, and what each section sets.
 use Rattle.std.proofs.Common.{◌≡◌, ℕ, zero, suc, ◌+◌, ◌<◌, ◌≤◌, ◌⊎◌, Bool, true, false, cond, eqb, List, [], ◌∷◌, ◌++◌, length, take, get_or, Option, Some, None, refl, sym, ap, ◌∙◌, arith, append_assoc, append-nil, inl, inr}
 use Rattle.std.specs.Prelude.{filter_map, ◌&&◌, ◌||◌}
-use Rattle.std.specs.List.{flat_map, list_any, range_with_len, cons_option}
+use Rattle.std.specs.List.{AllByRecursion, flat_map, list_any, range_with_len, cons_option}
 use Rattle.std.proofs.lemmas.Bool.{eqb-true, eq-eqb, ne_eqb, cases_eq, cond-true, cond-false}
 use Rattle.std.proofs.lemmas.List.Elements.{filter_map-append}
 use Rattle.std.proofs.lemmas.List.Folds.{list_any-append, list_any_at}
@@ -52,23 +52,6 @@ any_only q n a (suc len) none low high = at (λ ne. any_only q n (a + 1) len non
         ap (λ (b : Bool). b || list_any q (range_with_len (a + 1) len)) (none a ne)
         ∙ later ne
 
-or_left : (a b : Bool) → (a || b) ≡ false → a ≡ false
-or_left true b e = absurd (cc)
-or_left false b e = refl
-
-or_right : (a b : Bool) → (a || b) ≡ false → b ≡ false
-or_right true b e = absurd (cc)
-or_right false b e = e
-
-pub any_false : (q : ℕ → Bool) (n a len : ℕ) → list_any q (range_with_len a len) ≡ false → a ≤ n → n < a + len → q n ≡ false
-any_false q n a zero e low high = absurd (omega (arith, low, high))
-any_false q n a (suc len) e low high =
-    at (λ ne. any_false q n (a + 1) len (or_right (q a) (list_any q (range_with_len (a + 1) len)) e) (omega (arith, low, ne)) (omega (arith, high))) (cases_eq n a)
-  where
-    at : ((n ≡ a → ⊥) → q n ≡ false) → (n ≡ a) ⊎ (n ≡ a → ⊥) → q n ≡ false
-    at later (inl same) = ap q same ∙ or_left (q a) (list_any q (range_with_len (a + 1) len)) e
-    at later (inr ne) = later ne
-
 pub filter_flat : {X Y A : Type 0} (f : Y → Option A) (g : X → List Y) (xs : List X) → filter_map f (flat_map g xs) ≡ flat_map (λ x. filter_map f (g x)) xs
 filter_flat f g [] = refl
 filter_flat {X} {Y} {A} f g (x ∷ xs) = filter_map-append f (g x) (flat_map g xs) ∙ ap (λ (ys : List A). filter_map f (g x) ++ ys) (filter_flat f g xs)
@@ -79,41 +62,31 @@ any_flat p g (x ∷ xs) = list_any-append p (g x) (flat_map g xs) ∙ ap (λ (b 
 
 -- ---- lines that all have a trait
 
-abbrev pub AllLines : (Line → Type 0) → List Line → Type 0
-AllLines P [] = Unit {0}
-AllLines P (line ∷ lines) = P line × AllLines P lines
-
-pub all_append : (P : Line → Type 0) (xs ys : List Line) → AllLines P xs → AllLines P ys → AllLines P (xs ++ ys)
+pub all_append : (P : Line → Type 0) (xs ys : List Line) → AllByRecursion P xs → AllByRecursion P ys → AllByRecursion P (xs ++ ys)
 all_append P [] ys h k = k
 all_append P (x ∷ xs) ys h k = (h.0, all_append P xs ys h.1 k)
 
-pub all_if : (P : Line → Type 0) (b : Bool) (xs ys : List Line) → AllLines P xs → AllLines P ys → AllLines P (cond b xs ys)
-all_if P true xs ys h k = h
-all_if P false xs ys h k = k
+pub all_flat : (P : Line → Type 0) (g : ℕ → List Line) (ns : List ℕ) → ((n : ℕ) → AllByRecursion P (g n)) → AllByRecursion P (flat_map g ns)
+all_flat P g [] h = tt
+all_flat P g (n ∷ ns) h = all_append P (g n) (flat_map g ns) (h n) (all_flat P g ns h)
 
--- ---- lines that begin no section
+pub all_unset : {A : Type 0} (f : Line → Option A) (lines : List Line) → AllByRecursion (λ line. f line ≡ None) lines → filter_map f lines ≡ []
+all_unset f [] h = refl
+all_unset {A} f (line ∷ lines) h = ap (λ (o : Option A). cons_option o (filter_map f lines)) h.0 ∙ all_unset f lines h.1
 
-abbrev pub KeepCurrent : List Line → Type 0
-KeepCurrent [] = Unit {0}
-KeepCurrent (line ∷ lines) = ((c : Option ℕ) → current_after line c ≡ c) × KeepCurrent lines
-
-pub keep_append : (xs ys : List Line) → KeepCurrent xs → KeepCurrent ys → KeepCurrent (xs ++ ys)
-keep_append [] ys h k = k
-keep_append (x ∷ xs) ys h k = (h.0, keep_append xs ys h.1 k)
-
-pub keep_flat : (g : ℕ → List Line) (ns : List ℕ) → ((n : ℕ) → KeepCurrent (g n)) → KeepCurrent (flat_map g ns)
-keep_flat g [] h = tt
-keep_flat g (n ∷ ns) h = keep_append (g n) (flat_map g ns) (h n) (keep_flat g ns h)
+-- a line that begins no section
+abbrev pub KeepsCurrent : Line → Type 0
+KeepsCurrent line = (c : Option ℕ) → current_after line c ≡ c
 
 glue : (b : Bool) (xs : List Line) (line : Line) (body : List Line) → (xs ++ own b line) ++ cond b body [] ≡ xs ++ cond b (line ∷ body) []
 glue true xs line body = append_assoc xs (line ∷ []) body
 glue false xs line body = append-nil (xs ++ [])
 
-kept_section : (lines : List Line) (line : Line) → ((c : Option ℕ) → current_after line c ≡ c) → section_of (lines ++ line ∷ []) ≡ section_of lines
+kept_section : (lines : List Line) (line : Line) → KeepsCurrent line → section_of (lines ++ line ∷ []) ≡ section_of lines
 kept_section lines line h = section_more lines line ∙ h (section_of lines)
 
 -- such lines are for the processor of the section before them
-pub lines_for_body : (n : ℕ) (lines body : List Line) → KeepCurrent body → lines_for n (lines ++ body) ≡ lines_for n lines ++ cond (is_for n (section_of lines)) body []
+pub lines_for_body : (n : ℕ) (lines body : List Line) → AllByRecursion KeepsCurrent body → lines_for n (lines ++ body) ≡ lines_for n lines ++ cond (is_for n (section_of lines)) body []
 lines_for_body n lines [] h = ap (lines_for n) (append-nil lines) ∙ nothing_more (is_for n (section_of lines))
   where
     nothing_more : (b : Bool) → lines_for n lines ≡ lines_for n lines ++ cond b [] []
@@ -135,7 +108,7 @@ unfolding section_of
 no_section_yet = refl
 
 -- lines before the first section are for no processor
-pub lines_for_head : (n : ℕ) (lines : List Line) → KeepCurrent lines → lines_for n lines ≡ []
+pub lines_for_head : (n : ℕ) (lines : List Line) → AllByRecursion KeepsCurrent lines → lines_for n lines ≡ []
 lines_for_head n lines h =
     lines_for_body n [] lines h ∙ ap (λ (o : Option ℕ). lines_for n [] ++ cond (is_for n o) lines []) no_section_yet
     ∙ append-nil (lines_for n []) ∙ no_lines_for n
@@ -151,7 +124,7 @@ pick_body f true body = refl
 pick_body f false body = refl
 
 -- what a section of processor m sets for processor n
-pub held_section : {A : Type 0} (f : Line → Option A) (n m : ℕ) (lines body : List Line) → f (section m) ≡ None → KeepCurrent body → filter_map f (lines_for n (lines ++ section m ∷ body)) ≡ filter_map f (lines_for n lines) ++ cond (eqb n m) (filter_map f body) []
+pub held_section : {A : Type 0} (f : Line → Option A) (n m : ℕ) (lines body : List Line) → f (section m) ≡ None → AllByRecursion KeepsCurrent body → filter_map f (lines_for n (lines ++ section m ∷ body)) ≡ filter_map f (lines_for n lines) ++ cond (eqb n m) (filter_map f body) []
 held_section {A} f n m lines body none h =
     let before = lines ++ section m ∷ [] in
     let heading : filter_map f (lines_for n before) ≡ filter_map f (lines_for n lines) =
@@ -168,11 +141,11 @@ held_section {A} f n m lines body none h =
 abbrev pub section_if : (ℕ → Bool) → (ℕ → List Line) → ℕ → List Line
 section_if named body m = cond (named m) (section m ∷ body m) []
 
-held_if : {A : Type 0} (f : Line → Option A) (n m : ℕ) (lines body : List Line) (b : Bool) → f (section m) ≡ None → KeepCurrent body → filter_map f (lines_for n (lines ++ cond b (section m ∷ body) [])) ≡ filter_map f (lines_for n lines) ++ cond b (cond (eqb n m) (filter_map f body) []) []
+held_if : {A : Type 0} (f : Line → Option A) (n m : ℕ) (lines body : List Line) (b : Bool) → f (section m) ≡ None → AllByRecursion KeepsCurrent body → filter_map f (lines_for n (lines ++ cond b (section m ∷ body) [])) ≡ filter_map f (lines_for n lines) ++ cond b (cond (eqb n m) (filter_map f body) []) []
 held_if f n m lines body true none h = held_section f n m lines body none h
 held_if f n m lines body false none h = ap (λ (ls : List Line). filter_map f (lines_for n ls)) (append-nil lines) ∙ sym (append-nil (filter_map f (lines_for n lines)))
 
-pub held_sections : {A : Type 0} (f : Line → Option A) (named : ℕ → Bool) (body : ℕ → List Line) (n : ℕ) (lines : List Line) (ms : List ℕ) → ((m : ℕ) → f (section m) ≡ None) → ((m : ℕ) → KeepCurrent (body m)) → filter_map f (lines_for n (lines ++ flat_map (section_if named body) ms)) ≡ filter_map f (lines_for n lines) ++ flat_map (λ m. cond (named m) (cond (eqb n m) (filter_map f (body m)) []) []) ms
+pub held_sections : {A : Type 0} (f : Line → Option A) (named : ℕ → Bool) (body : ℕ → List Line) (n : ℕ) (lines : List Line) (ms : List ℕ) → ((m : ℕ) → f (section m) ≡ None) → ((m : ℕ) → AllByRecursion KeepsCurrent (body m)) → filter_map f (lines_for n (lines ++ flat_map (section_if named body) ms)) ≡ filter_map f (lines_for n lines) ++ flat_map (λ m. cond (named m) (cond (eqb n m) (filter_map f (body m)) []) []) ms
 held_sections f named body n lines [] none h = ap (λ (ls : List Line). filter_map f (lines_for n ls)) (append-nil lines) ∙ sym (append-nil (filter_map f (lines_for n lines)))
 held_sections {A} f named body n lines (m ∷ ms) none h =
     ap (λ (ls : List Line). filter_map f (lines_for n ls)) (sym (append_assoc lines (section_if named body m) (flat_map (section_if named body) ms)))
@@ -185,7 +158,7 @@ other_empty true xs n m ne = cond-false (eqb n m) xs [] (ne_eqb n m ne)
 other_empty false xs n m ne = refl
 
 -- what all sections set for processor n
-pub held_by_sections : {A : Type 0} (f : Line → Option A) (named : ℕ → Bool) (body : ℕ → List Line) (n count : ℕ) (head : List Line) → ((m : ℕ) → f (section m) ≡ None) → ((m : ℕ) → KeepCurrent (body m)) → KeepCurrent head → n < count → filter_map f (lines_for n (head ++ flat_map (section_if named body) (range_with_len 0 count))) ≡ cond (named n) (filter_map f (body n)) []
+pub held_by_sections : {A : Type 0} (f : Line → Option A) (named : ℕ → Bool) (body : ℕ → List Line) (n count : ℕ) (head : List Line) → ((m : ℕ) → f (section m) ≡ None) → ((m : ℕ) → AllByRecursion KeepsCurrent (body m)) → AllByRecursion KeepsCurrent head → n < count → filter_map f (lines_for n (head ++ flat_map (section_if named body) (range_with_len 0 count))) ≡ cond (named n) (filter_map f (body n)) []
 held_by_sections {A} f named body n count head none h k lt =
     held_sections f named body n head (range_with_len 0 count) none h
     ∙ ap (λ (ls : List Line). filter_map f ls ++ flat_map (λ m. cond (named m) (cond (eqb n m) (filter_map f (body m)) []) []) (range_with_len 0 count)) (lines_for_head n head k)

@@ -1,33 +1,43 @@
 -- The lines of a listing, taken all together, load the deck that they list.
-use Rattle.std.proofs.Common.{◌≡◌, ℕ, suc, ◌-◌, ◌<◌, ◌⊎◌, Bool, true, false, cond, eqb, List, [], ◌∷◌, ◌++◌, length, get_or, Option, Some, None, refl, sym, ap, ◌∙◌, arith, append-nil, inl, inr}
+use Rattle.std.proofs.Common.{◌≡◌, ℕ, suc, ◌-◌, ◌<◌, ◌⊎◌, Bool, true, false, cond, eqb, List, [], ◌∷◌, ◌++◌, length, get_or, Option, Some, None, refl, sym, ap, ◌∙◌, map, subst, arith, append-nil, inl, inr}
 use Rattle.std.specs.Prelude.{filter_map, unwrap_or, IsTrue, ◌&&◌, ◌||◌}
-use Rattle.std.specs.List.{flat_map, list_any, range_with_len, cons_option}
+use Rattle.std.specs.List.{AllByRecursion, flat_map, list_any, range_with_len, cons_option}
 use Rattle.std.proofs.lemmas.Bool.{eqb-true, cases_order}
-use Rattle.std.proofs.lemmas.List.Elements.{filter_map-append}
-use Rattle.std.proofs.lemmas.List.Folds.{list_any-append}
+use Rattle.std.proofs.lemmas.List.Elements.{All-from_recursion, filter_map-append}
+use Rattle.std.proofs.lemmas.List.Folds.{list_any-append, list_any_none}
+use Rattle.std.proofs.lemmas.List.{map-append}
 use Rattle.pp_word.specs.Address.{place_count}
 use Rattle.pp_machine.specs.MachineState.{new_machine}
-use Rattle.pp_machine.specs.Processor.{Processor, no_processor}
+use Rattle.pp_machine.specs.Processor.{Processor, word_at}
 use Rattle.pp_machine.specs.PpNo.{names_processor, processor_count, processor_number, each_processor}
 use Rattle.pp_machine.specs.ProcessorPlaces.{number_named}
 use Rattle.pp_machine.specs.declared.profile.Profile.{Profile}
-use Rattle.pp_deck.specs.DeckLine.{Line, central_size, central_words, section, dead_start}
+use Rattle.pp_deck.specs.DeckLine.{Line, central_size, central_words, section, start, words, dead_start}
 use Rattle.pp_word.specs.Tables.{tabulate, tabulate_is, tabulate_same}
 use Rattle.pp_deck.specs.DeckLoad.{word_among, word_for, central_word_for, start_in, lines_for, is_named, is_dead_start, asks_dead_start, memory_of, central_loaded, processor_with, processor_loaded}
 use Rattle.pp_deck.specs.DeckMeaning.{LoadedDeck, set_by}
 use Rattle.pp_word.specs.GrowingLists.{last_of}
 use Rattle.pp_deck.proofs.MemoryLemmas.{length-central_loaded}
 use Rattle.pp_deck.proofs.SectionLemmas.{names}
-use Rattle.pp_deck.proofs.SectionLinesLemmas.{AllLines, all_append, or_false, flat_only, filter_flat, any_flat, any_none, KeepCurrent, keep_append, keep_flat, unnamed_empty, section_if, held_by_sections, named_by_sections, unset_by_sections}
-use Rattle.pp_listing.proofs.InstructionLemmas.{word_lines, start_by, IsOwn, instructions_own, start_own, all_keep, all_unnamed, all_no_central, all_no_request, among_at, among_before, instructions_hold, no_words, no_start}
+use Rattle.pp_deck.proofs.SectionLinesLemmas.{KeepsCurrent, all_append, all_flat, all_unset, or_false, flat_only, filter_flat, any_flat, any_none, section_if, held_by_sections, named_by_sections, unset_by_sections}
+use Rattle.pp_listing.specs.ListedLine.{says}
+use Rattle.pp_listing.specs.Listing.{instruction_lines, start_line}
+use Rattle.pp_listing.proofs.InstructionLemmas.{among_at, among_before, instructions_all, instructions_hold, start_all}
 use Rattle.pp_listing.proofs.NumberLemmas.{number_count, processor_counts}
 
 -- the lines of a processor behind its heading
 abbrev pub body_of : Processor → List Line
-body_of pp = word_lines 0 pp.memory ++ start_by pp.state pp.p pp.a
+body_of pp = map says (instruction_lines (word_at pp 0) 0 pp.memory ++ start_line pp.state pp.p pp.a)
 
-pub body_own : (pp : Processor) → AllLines IsOwn (body_of pp)
-body_own pp = all_append IsOwn (word_lines 0 pp.memory) (start_by pp.state pp.p pp.a) (instructions_own 0 pp.memory) (start_own pp.state pp.p pp.a)
+body_parts : (pp : Processor) → body_of pp ≡ map says (instruction_lines (word_at pp 0) 0 pp.memory) ++ map says (start_line pp.state pp.p pp.a)
+body_parts pp = map-append says (instruction_lines (word_at pp 0) 0 pp.memory) (start_line pp.state pp.p pp.a)
+
+pub all_of_body : (P : Line → Type 0) (pp : Processor) → AllByRecursion P (map says (instruction_lines (word_at pp 0) 0 pp.memory)) → AllByRecursion P (map says (start_line pp.state pp.p pp.a)) → AllByRecursion P (body_of pp)
+all_of_body P pp h k = subst (AllByRecursion P) (sym (body_parts pp)) (all_append P _ _ h k)
+
+-- what holds of lines of words and of starts
+pub each_of_body : (P : Line → Type 0) → ((x : ℕ) (ws : List ℕ) → P (words x ws)) → ((p a : ℕ) → P (start p a)) → (pp : Processor) → AllByRecursion P (body_of pp)
+each_of_body P h k pp = all_of_body P pp (instructions_all P (word_at pp 0) 0 pp.memory (λ y us le. h y us)) (start_all P pp.state pp.p pp.a (k pp.p pp.a))
 
 -- the lines of central words
 abbrev pub word_line : List ℕ → ℕ → List Line
@@ -70,7 +80,7 @@ head_words central false a = ap (filter_map (central_word_for a)) (append-nil (c
 pub central_held : (central : List ℕ) (dead : Bool) (named : ℕ → Bool) (pp : ℕ → Processor) (a : ℕ) → a < length central → unwrap_or (last_of (filter_map (central_word_for a) (lines_of_parts central dead named pp))) 0 ≡ get_or central a 0
 central_held central dead named pp a lt =
     ap (λ (ws : List ℕ). unwrap_or (last_of ws) 0)
-    (unset_by_sections (central_word_for a) named (λ n. body_of (pp n)) number_count (head_of central dead) (λ m. refl) (λ m. all_no_central a (body_of (pp m)) (body_own (pp m)))
+    (unset_by_sections (central_word_for a) named (λ n. body_of (pp n)) number_count (head_of central dead) (λ m. refl) (λ m. all_unset (central_word_for a) (body_of (pp m)) (each_of_body (λ line. central_word_for a line ≡ None) (λ x ws. refl) (λ p b. refl) (pp m)))
     ∙ head_words central dead a
     ∙ filter_flat (central_word_for a) (word_line central) (range_with_len 0 (length central))
     ∙ flat_only (λ m. filter_map (central_word_for a) (word_line central m)) a 0 (length central) (λ m ne. no_word_if a m (get_or central m 0) (eqb (get_or central m 0) 0) ne) (omega arith) (omega (arith, lt)))
@@ -78,18 +88,22 @@ central_held central dead named pp a lt =
 
 -- ---- the lines before the sections
 
-line_keeps : (a w : ℕ) (b : Bool) → KeepCurrent (cond b [] (central_words a (w ∷ []) ∷ []))
+line_keeps : (a w : ℕ) (b : Bool) → AllByRecursion KeepsCurrent (cond b [] (central_words a (w ∷ []) ∷ []))
 line_keeps a w true = tt
 line_keeps a w false = (λ c. refl, tt)
 
-dead_keeps : (dead : Bool) → KeepCurrent (dead_line dead)
+dead_keeps : (dead : Bool) → AllByRecursion KeepsCurrent (dead_line dead)
 dead_keeps true = (λ c. refl, tt)
 dead_keeps false = tt
 
-head_keeps : (central : List ℕ) (dead : Bool) → KeepCurrent (head_of central dead)
+head_keeps : (central : List ℕ) (dead : Bool) → AllByRecursion KeepsCurrent (head_of central dead)
 head_keeps central dead =
-    keep_append (central_size (length central) ∷ central_lines central) (dead_line dead)
-    (λ c. refl, keep_flat (word_line central) (range_with_len 0 (length central)) (λ a. line_keeps a (get_or central a 0) (eqb (get_or central a 0) 0))) (dead_keeps dead)
+    all_append KeepsCurrent (central_size (length central) ∷ central_lines central) (dead_line dead)
+    (λ c. refl, all_flat KeepsCurrent (word_line central) (range_with_len 0 (length central)) (λ a. line_keeps a (get_or central a 0) (eqb (get_or central a 0) 0))) (dead_keeps dead)
+
+-- no line of a processor has a trait that lines of words and starts lack
+untrue : (p : Line → Bool) (lines : List Line) → AllByRecursion (λ line. p line ≡ false) lines → list_any p lines ≡ false
+untrue p lines h = list_any_none p lines (All-from_recursion (λ line. p line ≡ false) lines h)
 
 -- whether a line of the head has a trait that only a line DEAD may have
 line_without : (p : Line → Bool) (a w : ℕ) (b : Bool) → p (central_words a (w ∷ [])) ≡ false → list_any p (cond b [] (central_words a (w ∷ []) ∷ [])) ≡ false
@@ -124,13 +138,13 @@ head_unnamed n central dead = any_head (names n) central dead refl (λ a w. refl
 
 pub named_held : (central : List ℕ) (dead : Bool) (named : ℕ → Bool) (pp : ℕ → Processor) (n : ℕ) → n < number_count → is_named (lines_of_parts central dead named pp) n ≡ named n
 named_held central dead named pp n lt =
-    named_by_sections named (λ m. body_of (pp m)) n number_count (head_of central dead) (λ m. all_unnamed n (body_of (pp m)) (body_own (pp m))) (head_unnamed n central dead) lt
+    named_by_sections named (λ m. body_of (pp m)) n number_count (head_of central dead) (λ m. untrue (names n) (body_of (pp m)) (each_of_body (λ line. names n line ≡ false) (λ x ws. refl) (λ p a. refl) (pp m))) (head_unnamed n central dead) lt
 
 -- ---- dead start
 
-section_unasking : (m : ℕ) (b : Bool) (body : List Line) → AllLines IsOwn body → list_any is_dead_start (cond b (section m ∷ body) []) ≡ false
-section_unasking m true body own = all_no_request body own
-section_unasking m false body own = refl
+section_unasking : (m : ℕ) (b : Bool) (pp : Processor) → list_any is_dead_start (cond b (section m ∷ body_of pp) []) ≡ false
+section_unasking m true pp = untrue is_dead_start (body_of pp) (each_of_body (λ line. is_dead_start line ≡ false) (λ x ws. refl) (λ p a. refl) pp)
+section_unasking m false pp = refl
 
 pub asked_held : (central : List ℕ) (dead : Bool) (named : ℕ → Bool) (pp : ℕ → Processor) → asks_dead_start (lines_of_parts central dead named pp) ≡ dead
 asked_held central dead named pp =
@@ -138,14 +152,14 @@ asked_held central dead named pp =
     ∙ ap (λ (b : Bool). b || list_any is_dead_start (flat_map (section_if named (λ n. body_of (pp n))) (range_with_len 0 number_count))) (any_head is_dead_start central dead refl (λ a w. refl) ∙ and_true dead)
     ∙ ap (λ (b : Bool). dead || b)
     (any_flat is_dead_start (section_if named (λ n. body_of (pp n))) (range_with_len 0 number_count)
-    ∙ any_none (λ m. list_any is_dead_start (section_if named (λ n. body_of (pp n)) m)) 0 number_count (λ m le. section_unasking m (named m) (body_of (pp m)) (body_own (pp m))))
+    ∙ any_none (λ m. list_any is_dead_start (section_if named (λ n. body_of (pp n)) m)) 0 number_count (λ m le. section_unasking m (named m) (pp m)))
     ∙ or_false dead
 
 -- ---- processors
 
 own_held : {A : Type 0} (f : Line → Option A) (central : List ℕ) (dead : Bool) (named : ℕ → Bool) (pp : ℕ → Processor) (n : ℕ) → ((m : ℕ) → f (section m) ≡ None) → n < number_count → filter_map f (lines_for n (lines_of_parts central dead named pp)) ≡ cond (named n) (filter_map f (body_of (pp n))) []
 own_held f central dead named pp n none lt =
-    held_by_sections f named (λ m. body_of (pp m)) n number_count (head_of central dead) none (λ m. all_keep (body_of (pp m)) (body_own (pp m))) (head_keeps central dead) lt
+    held_by_sections f named (λ m. body_of (pp m)) n number_count (head_of central dead) none (λ m. each_of_body KeepsCurrent (λ x ws c. refl) (λ p a c. refl) (pp m)) (head_keeps central dead) lt
 
 pub memory_is : (lines : List Line) → memory_of lines ≡ tabulate place_count (λ place. unwrap_or (last_of (filter_map (word_for place) lines)) 0)
 unfolding memory_of
@@ -154,11 +168,12 @@ memory_is lines = refl
 -- a named processor has its memory
 body_words : (pp : Processor) (place : ℕ) → unwrap_or (last_of (filter_map (word_for place) (body_of pp))) 0 ≡ get_or pp.memory place 0
 body_words pp place =
+    let lines = map says (instruction_lines (word_at pp 0) 0 pp.memory) in
     ap (λ (ws : List ℕ). unwrap_or (last_of ws) 0)
-    (filter_map-append (word_for place) (word_lines 0 pp.memory) (start_by pp.state pp.p pp.a)
-    ∙ ap (λ (ws : List ℕ). filter_map (word_for place) (word_lines 0 pp.memory) ++ ws) (no_words place pp.state pp.p pp.a)
-    ∙ append-nil (filter_map (word_for place) (word_lines 0 pp.memory)))
-    ∙ instructions_hold 0 place place pp.memory (omega arith)
+    (ap (filter_map (word_for place)) (body_parts pp) ∙ filter_map-append (word_for place) lines (map says (start_line pp.state pp.p pp.a))
+    ∙ ap (λ (ws : List ℕ). filter_map (word_for place) lines ++ ws) (all_unset (word_for place) _ (start_all (λ line. word_for place line ≡ None) pp.state pp.p pp.a refl))
+    ∙ append-nil (filter_map (word_for place) lines))
+    ∙ instructions_hold (word_at pp 0) 0 place place pp.memory (omega arith)
 
 pub memory_held : (central : List ℕ) (dead : Bool) (named : ℕ → Bool) (pp : ℕ → Processor) (n : ℕ) → n < number_count → named n ≡ true → length (pp n).memory ≡ place_count → memory_of (lines_for n (lines_of_parts central dead named pp)) ≡ (pp n).memory
 memory_held central dead named pp n lt here long =
@@ -168,20 +183,22 @@ memory_held central dead named pp n lt here long =
     (own_held (word_for i) central dead named pp n (λ m. refl) lt ∙ ap (λ (b : Bool). cond b (filter_map (word_for i) (body_of (pp n))) []) here) ∙ body_words (pp n) i)))
 
 -- and its start
-body_start : (pp : Processor) → filter_map start_in (body_of pp) ≡ filter_map start_in (start_by pp.state pp.p pp.a)
+body_start : (pp : Processor) → filter_map start_in (body_of pp) ≡ filter_map start_in (map says (start_line pp.state pp.p pp.a))
 body_start pp =
-    filter_map-append start_in (word_lines 0 pp.memory) (start_by pp.state pp.p pp.a)
-    ∙ ap (λ (xs : List (ℕ × ℕ)). xs ++ filter_map start_in (start_by pp.state pp.p pp.a)) (no_start 0 pp.memory)
+    ap (filter_map start_in) (body_parts pp)
+    ∙ filter_map-append start_in (map says (instruction_lines (word_at pp 0) 0 pp.memory)) (map says (start_line pp.state pp.p pp.a))
+    ∙ ap (λ (xs : List (ℕ × ℕ)). xs ++ filter_map start_in (map says (start_line pp.state pp.p pp.a)))
+    (all_unset start_in _ (instructions_all (λ line. start_in line ≡ None) (word_at pp 0) 0 pp.memory (λ y us le. refl)))
 
 module _ (profile : Profile) where
-  starts_of : (memory : List ℕ) (o : Option (ℕ × ℕ)) → last_of (filter_map start_in (start_by (processor_with profile memory o).state (processor_with profile memory o).p (processor_with profile memory o).a)) ≡ o
+  starts_of : (memory : List ℕ) (o : Option (ℕ × ℕ)) → (let pp = processor_with profile memory o in last_of (filter_map start_in (map says (start_line pp.state pp.p pp.a))) ≡ o)
   starts_of memory None = refl
   starts_of memory (Some s) = refl
 
   pub start_held : (central : List ℕ) (dead : Bool) (named : ℕ → Bool) (pp : ℕ → Processor) (n : ℕ) → n < number_count → named n ≡ true → (memory : List ℕ) (o : Option (ℕ × ℕ)) → pp n ≡ processor_with profile memory o → last_of (filter_map start_in (lines_for n (lines_of_parts central dead named pp))) ≡ o
   start_held central dead named pp n lt here memory o is =
       ap last_of (own_held start_in central dead named pp n (λ m. refl) lt ∙ ap (λ (b : Bool). cond b (filter_map start_in (body_of (pp n))) []) here ∙ body_start (pp n))
-      ∙ ap (λ (q : Processor). last_of (filter_map start_in (start_by q.state q.p q.a))) is
+      ∙ ap (λ (q : Processor). last_of (filter_map start_in (map says (start_line q.state q.p q.a)))) is
       ∙ starts_of memory o
 
   -- ---- the whole

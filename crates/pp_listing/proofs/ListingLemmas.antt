@@ -1,7 +1,7 @@
 -- The listing of a deck, read as a deck.
 use Rattle.std.proofs.Common.{◌≡◌, ℕ, zero, suc, ◌+◌, ◌^◌, ◌<◌, ◌≤◌, Bool, true, false, cond, eqb, List, [], ◌∷◌, ◌++◌, length, get_or, map, Option, Some, None, Ok, Err, refl, sym, ap, subst, ◌∙◌, arith}
 use Rattle.std.specs.Prelude.{IsTrue, ◌&&◌, not, All, position, is_some, nat_lt}
-use Rattle.std.specs.List.{flat_map, list_any, range_with_len}
+use Rattle.std.specs.List.{AllByRecursion, flat_map, list_any, range_with_len}
 use Rattle.std.proofs.lemmas.List.{map-append}
 use Rattle.std.proofs.lemmas.List.Elements.{All-cons, All-nil}
 use Rattle.std.proofs.lemmas.List.Folds.{list_any_at, list_any_none}
@@ -33,22 +33,17 @@ use Rattle.pp_deck.proofs.DeckLawLemmas.{loaded_is}
 use Rattle.pp_deck.proofs.LoadedRangeLemmas.{processor_in_range, central_in_range, said_in_range}
 use Rattle.pp_deck.proofs.NamesLemmas.{named_within}
 use Rattle.pp_deck.proofs.RangeLemmas.{InRange, size_in_range}
-use Rattle.pp_deck.proofs.SectionLinesLemmas.{AllLines, all_append, section_if, unnamed_empty}
+use Rattle.pp_deck.proofs.SectionLinesLemmas.{KeepsCurrent, section_if, unnamed_empty}
 use Rattle.pp_listing.specs.ListedLine.{ListedLine, bare, says, text_line}
 use Rattle.pp_listing.specs.Listing.{ReadsBackAs, central_word_line, dead_start_line, instruction_lines, listed, listing, named_section, section_lines, start_line}
-use Rattle.pp_listing.proofs.InstructionLemmas.{word_lines, start_by, says_words, says_start, IsOwn, IsReadInSection, instructions_read, start_is_read}
-use Rattle.pp_listing.proofs.ListedLemmas.{body_of, body_own, word_line, central_lines, dead_line, lines_of_parts, asked_held, central_held, central_is, memory_held, memory_is, memory_with, named_held, processor_is, start_held}
+use Rattle.pp_listing.proofs.InstructionLemmas.{IsReadInSection, instructions_read, start_all}
+use Rattle.pp_listing.proofs.ListedLemmas.{all_of_body, each_of_body, body_of, word_line, central_lines, dead_line, lines_of_parts, asked_held, central_held, central_is, memory_held, memory_is, memory_with, named_held, processor_is, start_held}
 use Rattle.pp_listing.proofs.ListedLineLemmas.{fields_said}
 use Rattle.pp_listing.proofs.NumberLemmas.{number_count, processor_counts, sections_by_number}
-use Rattle.pp_listing.proofs.PrintedLineLemmas.{central_words_read, section_read, dead_start_read}
+use Rattle.pp_listing.proofs.PrintedLineLemmas.{central_words_read, section_read, dead_start_read, start_read}
 use Rattle.pp_listing.proofs.PrintedTextLemmas.{IsReady, meaning_printed, read_lines}
 
 -- ---- the lines are read as they are
-
-own_after : (line : Line) (n : ℕ) → IsOwn line → current_after line (Some n) ≡ Some n
-own_after (words x ws) n h = refl
-own_after (start p a) n h = refl
-own_after line n h = absurd h
 
 module _ (profile : Profile) where
   ready_append : (size : ℕ) (xs ys : List Line) (c : Option ℕ) → IsReady profile size c xs → ((c : Option ℕ) → IsReady profile size c ys) → IsReady profile size c (xs ++ ys)
@@ -61,20 +56,20 @@ module _ (profile : Profile) where
       ready_append size (f a) (flat_map f (range_with_len (a + 1) n)) c (h a (omega arith) (omega arith) c)
       (ready_each size f (a + 1) n (λ k le lt. h k (omega (arith, le)) (omega (arith, lt))))
 
-  ready_body : (size n : ℕ) (lines : List Line) → AllLines IsOwn lines → AllLines (IsReadInSection profile size) lines → IsReady profile size (Some n) lines
+  ready_body : (size n : ℕ) (lines : List Line) → AllByRecursion KeepsCurrent lines → AllByRecursion (IsReadInSection profile size) lines → IsReady profile size (Some n) lines
   ready_body size n [] h k = tt
   ready_body size n (line ∷ lines) h k =
       let P : Option ℕ → Type 0 = λ c. IsReady profile size c lines in
-      (k.0, subst P (sym (own_after line n h.0)) (ready_body size n lines h.1 k.1))
+      (k.0, subst P (sym (h.0 (Some n))) (ready_body size n lines h.1 k.1))
 
-  body_read : (size : ℕ) (pp : Processor) → IsProcessor pp → AllLines (IsReadInSection profile size) (body_of pp)
+  body_read : (size : ℕ) (pp : Processor) → IsProcessor pp → AllByRecursion (IsReadInSection profile size) (body_of pp)
   body_read size pp h =
-      all_append (IsReadInSection profile size) (word_lines 0 pp.memory) (start_by pp.state pp.p pp.a)
-      (instructions_read profile size 0 pp.memory (λ k d lt. omega (arith, h.memory.each_word k, get_or_default_zero pp.memory k d lt)) (omega (arith, h.memory.each_place)))
-      (start_is_read profile size pp.state pp.p pp.a (omega (arith, h.p)) (omega (arith, h.a)))
+      all_of_body (IsReadInSection profile size) pp
+      (instructions_read profile size (word_at pp 0) 0 pp.memory (λ k d lt. omega (arith, h.memory.each_word k, get_or_default_zero pp.memory k d lt)) (omega (arith, h.memory.each_place)))
+      (start_all (IsReadInSection profile size) pp.state pp.p pp.a (λ b. start_read profile size pp.p pp.a b (omega (arith, h.p)) (omega (arith, h.a))))
 
   ready_section : (size n : ℕ) (pp : Processor) (b : Bool) (c : Option ℕ) → (b ≡ true → IsTrue (has_processor profile n)) → (b ≡ true → IsProcessor pp) → IsReady profile size c (cond b (section n ∷ body_of pp) [])
-  ready_section size n pp true c has h = (λ b. section_read profile size n b (is_some c) (has refl), ready_body size n (body_of pp) (body_own pp) (body_read size pp (h refl)))
+  ready_section size n pp true c has h = (λ b. section_read profile size n b (is_some c) (has refl), ready_body size n (body_of pp) (each_of_body KeepsCurrent (λ x ws c. refl) (λ p a c. refl) pp) (body_read size pp (h refl)))
   ready_section size n pp false c has h = tt
 
   ready_central : (size a w : ℕ) (b : Bool) (c : Option ℕ) → size ≤ 0o400000 → a < size → w < 8 ^ 20 → IsReady profile size c (cond b [] (central_words a (w ∷ []) ∷ []))
@@ -113,14 +108,8 @@ says_dead : (b : Bool) → map says (cond b (bare dead_start ∷ []) []) ≡ dea
 says_dead true = refl
 says_dead false = refl
 
-says_body : (pp : Processor) → map says (instruction_lines (word_at pp 0) 0 pp.memory ++ start_line pp.state pp.p pp.a) ≡ body_of pp
-says_body pp =
-    map-append says (instruction_lines (word_at pp 0) 0 pp.memory) (start_line pp.state pp.p pp.a)
-    ∙ ap (λ (ls : List Line). ls ++ map says (start_line pp.state pp.p pp.a)) (says_words (word_at pp 0) 0 pp.memory)
-    ∙ ap (λ (ls : List Line). word_lines 0 pp.memory ++ ls) (says_start pp.state pp.p pp.a)
-
 says_section : (n : ℕ) (pp : Processor) (b : Bool) → map says (cond b (section_lines n pp) []) ≡ cond b (section n ∷ body_of pp) []
-says_section n pp true = ap (λ (ls : List Line). section n ∷ ls) (says_body pp)
+says_section n pp true = refl
 says_section n pp false = refl
 
 left_false : (a b : Bool) → (IsTrue a → ⊥) → (a && b) ≡ false
@@ -310,7 +299,7 @@ module _ (profile : Profile) where
 
   -- what holds of all that lines load whose numbers are in range
   abbrev pub HoldsOfLoaded : (LoadedDeck → Type 0) → Type 0
-  HoldsOfLoaded Q = (size : ℕ) (lines : List Line) → 1 ≤ size → size ≤ 0o400000 → AllLines InRange lines → ((n : ℕ) → load.is_named lines n ≡ true → IsTrue (has_processor profile n)) → Q (loaded profile size lines)
+  HoldsOfLoaded Q = (size : ℕ) (lines : List Line) → 1 ≤ size → size ≤ 0o400000 → AllByRecursion InRange lines → ((n : ℕ) → load.is_named lines n ≡ true → IsTrue (has_processor profile n)) → Q (loaded profile size lines)
 
   -- a deck whose listing, where it is no longer than a deck may be, means the deck
   ReadsBack : LoadedDeck → Type 0

@@ -51,7 +51,7 @@ use Rattle.pp_deck.proofs.LawLemmas as law
 use Rattle.pp_deck.proofs.LoadedRangeLemmas.{all_tabulate, processor_in_range, central_in_range}
 use Rattle.pp_deck.proofs.MemoryLemmas.{length-central_loaded}
 use Rattle.pp_deck.proofs.RangeLemmas.{InRange}
-use Rattle.pp_deck.proofs.SectionLinesLemmas.{AllLines, unnamed_empty}
+use Rattle.std.specs.List.{AllByRecursion}
 use Rattle.pp_listing.specs.Dump.{after}
 use Rattle.pp_listing.proofs.ListedLemmas.{processor_is}
 use Rattle.pp_listing.proofs.ListingLemmas.{each_deck, name_here, names_of, unnamed_new}
@@ -256,7 +256,7 @@ module _ (profile : Profile) where
       ∙ law.processor_here profile size lines n named
       ∙ unnamed_new profile lines n unnamed
 
-  loaded_for : (size : ℕ) (lines : List Line) → 1 ≤ size → size ≤ 0o400000 → AllLines InRange lines → ((n : ℕ) → load.is_named lines n ≡ true → IsTrue (has_processor profile n)) → IsDeckFor profile (loaded profile size lines)
+  loaded_for : (size : ℕ) (lines : List Line) → 1 ≤ size → size ≤ 0o400000 → AllByRecursion InRange lines → ((n : ℕ) → load.is_named lines n ≡ true → IsTrue (has_processor profile n)) → IsDeckFor profile (loaded profile size lines)
   unfolding names_of
   loaded_for size lines least most small has =
       let asked = asks_dead_start lines in
