@@ -19,7 +19,7 @@ use Rattle.pp_deck.specs.declared.deck_fault.DeckFault.{DeckFault}
 use Rattle.pp_deck.proofs.DeadStartLemmas.{is_waiting, waiting, waiting_where, not_waiting, processor_is, opened_is, history_is, all_processors, each_history, central_stays, turns_stay, trace_stays, names_stay}
 use Rattle.pp_deck.proofs.LawLemmas.{processor_here, place_here, registers_here, no_block_here, central_here, named_here, some_name, named_some, own_last, all_last, registers_at, start_set, set_start, word_set, set_word, central_set, set_central}
 use Rattle.pp_word.specs.Tables.{length-tabulate}
-use Rattle.pp_deck.proofs.NamesLemmas.{named_within}
+use Rattle.pp_deck.proofs.LoadedRangeLemmas.{named_has, said_in_range}
 use Rattle.pp_deck.proofs.MemoryLemmas.{length-central_loaded}
 use Rattle.pp_machine.specs.declared.profile.Profile.{Profile}
 
@@ -132,4 +132,4 @@ module _ (profile : Profile) where
       ap (λ (d : LoadedDeck). d.machine.profile) (sym (loaded_is text deck e)) ∙ profile_stays (asks_dead_start lines) (set_by profile (size_of (lines_of text)) lines)
 
   pub deck_names_within : (text : List ℕ) (deck : LoadedDeck) → deck_meaning profile text ≡ Ok deck → NamesWithin profile deck.named
-  deck_names_within text deck e n named is = named_within profile (lines_of text) n (((deck_law_of text deck e).named n named).0 is)
+  deck_names_within text deck e n named is = named_has profile (parsed_deck profile (lines_of text)) (said_in_range profile (lines_of text)) n (((deck_law_of text deck e).named n named).0 is)

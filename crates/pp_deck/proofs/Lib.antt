@@ -1,5 +1,4 @@
 mod HeadlineLemmas
-mod KeywordLemmas
 mod WordsLemmas
 -- facts of the definitions, which proofs of other crates cite
 pub mod DeckLawLemmas
@@ -17,4 +16,3 @@ pub mod RangeLemmas
 pub mod ReadingLemmas
 pub mod SectionLemmas
 pub mod SectionLinesLemmas
-pub mod NamesLemmas

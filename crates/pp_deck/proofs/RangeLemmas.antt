@@ -1,8 +1,6 @@
--- The numbers that a deck loads are in range.
-use Rattle.std.proofs.Common.{◌≡◌, ℕ, ◌+◌, ◌-◌, ◌*◌, ◌^◌, ◌<◌, ◌≤◌, Bool, true, false, cond, List, [], ◌∷◌, length, fold, Option, Some, None, Result, Ok, Err, refl, arith, ltb, lit<}
-use Rattle.std.specs.Prelude.{nat_le, nat_lt, ◌&&◌, slice_index, All, find, codes}
-use Rattle.std.specs.Char.{is_ascii_digit}
-use Rattle.std.specs.Str.{bytes_eq}
+-- What is known of each line that a deck says: its numbers are in range, and only one with the keyword `PP` begins a section.
+use Rattle.std.proofs.Common.{◌≡◌, ◌∙◌, sym, ap, IsTrue, if◌then◌else◌, ℕ, ◌+◌, ◌-◌, ◌*◌, ◌^◌, ◌<◌, ◌≤◌, Bool, true, false, cond, List, [], ◌∷◌, length, fold, Option, Some, None, Result, Ok, Err, refl, arith, ltb, lit<}
+use Rattle.std.specs.Prelude.{nat_le, nat_lt, ◌&&◌, ◌||◌, All, find, is_some}
 use Rattle.std.specs.List.{list_all}
 use Rattle.std.specs.Option.{ok_or}
 use Rattle.std.proofs.Math.Nat.{mul-le-mul_left, pow-le-pow_right, pow-suc, pow-zero}
@@ -10,11 +8,17 @@ use Rattle.std.proofs.lemmas.Bool.{leb-true, ltb-true}
 use Rattle.std.proofs.lemmas.List.Elements.{All-cons, All-nil}
 use Rattle.pp_word.specs.Address.{place_count}
 use Rattle.pp_word.specs.Numeral.{is_digit, numeral, value_of}
+use Rattle.pp_machine.specs.Profile.{has_processor}
 use Rattle.pp_machine.specs.declared.profile.Profile.{Profile}
+use Rattle.pp_machine.specs.declared.profile.Profile.TheVariants.{Ten}
 use Rattle.pp_deck.specs.OctalNumber.{number}
 use Rattle.pp_deck.specs.DeckLine.{Line, nothing, central_size, central_words, section, start, words, dead_start, keyword_of, line_by, number_then, ends_with, start_from, words_in, central_line, central_words_line, section_line, start_line, words_line, ◌>>=◌, line_after}
-use Rattle.pp_deck.specs.DeckMeaning.{has_fields, stated_size, size_by, size_in, size_of}
+use Rattle.pp_deck.specs.DeckMeaning.{begins_section, has_fields, is_processor_keyword, stated_size, size_by, size_in, size_of}
+use Rattle.pp_deck.specs.DeckText.{Fields}
 use Rattle.pp_deck.specs.declared.flaw.Flaw.{Flaw}
+use Rattle.pp_deck.specs.declared.keyword.Keyword.{Keyword}
+use Rattle.pp_deck.specs.declared.keyword.Keyword.TheVariants as keywords
+use Rattle.pp_deck.proofs.LineParts.{current_after}
 use Rattle.pp_deck.proofs.FieldTextLemmas.{and_left, and_right}
 
 -- ---- results
@@ -69,80 +73,103 @@ words_hold most place end past (field ∷ fields) =
 
 -- ---- lines
 
--- the numbers of a line are in range
-abbrev pub InRange : Line → Type 0
-InRange (central_size n) = (1 ≤ n) × (n ≤ 0o400000)
-InRange (central_words a ws) = All (λ w. w < 8 ^ 20) ws
-InRange (start p a) = (p < 8 ^ 4) × (a < 8 ^ 6)
-InRange (words x ws) = All (λ w. w < 8 ^ 4) ws
-InRange line = Unit {0}
+-- the numbers of a line are in range, for a machine of this profile
+abbrev pub InRange : Profile → Line → Type 0
+InRange profile (central_size n) = (1 ≤ n) × (n ≤ 0o400000)
+InRange profile (central_words a ws) = All (λ w. w < 8 ^ 20) ws
+InRange profile (section n) = IsTrue (has_processor profile n)
+InRange profile (start p a) = (p < 8 ^ 4) × (a < 8 ^ 6)
+InRange profile (words x ws) = All (λ w. w < 8 ^ 4) ws
+InRange profile line = Unit {0}
 
-then_holds : (most : ℕ) (fields : List (List ℕ)) (next : ℕ → List (List ℕ) → Result Line _) (P : Line → Type 0) → ((n : ℕ) (more : List (List ℕ)) → n < 8 ^ most → Holds P (next n more)) → Holds P (number_then most fields next)
+abbrev is_section : Line → Bool
+is_section (section n) = true
+is_section line = false
+
+then_holds : (most : ℕ) (fields : Fields) (next : ℕ → Fields → Result Line _) (P : Line → Type 0) → ((n : ℕ) (more : Fields) → n < 8 ^ most → Holds P (next n more)) → Holds P (number_then most fields next)
 then_holds most [] next P h = tt
 then_holds most (field ∷ fields) next P h = holds_bind (λ n. n < 8 ^ most) P (number most field) (λ n. next n fields) (number_holds most field) (λ n small. h n fields small)
 
-end_holds : (P : Line → Type 0) (line : Line) (more : List (List ℕ)) → P line → Holds P (ends_with line more)
+end_holds : (P : Line → Type 0) (line : Line) (more : Fields) → P line → Holds P (ends_with line more)
 end_holds P line [] h = h
 end_holds P line (field ∷ more) h = tt
 
-central_holds : (fields : List (List ℕ)) → Holds InRange (central_line fields)
-unfolding central_line
-central_holds fields =
-    then_holds 6 fields _ InRange
-    (λ n more small. holds_if InRange (nat_le 1 n && nat_le n 0o400000) (ends_with (central_size n) more) _
-    (λ e. end_holds InRange (central_size n) more (leb-true 1 n (and_left (nat_le 1 n) (nat_le n 0o400000) e), leb-true n 0o400000 (and_right (nat_le 1 n) (nat_le n 0o400000) e))))
+unless_holds : (P : Line → Type 0) (b : Bool) (r : Result Line Flaw) (flaw : Flaw) → Holds P r → Holds P (cond b (Err flaw) r)
+unless_holds P true r flaw h = tt
+unless_holds P false r flaw h = h
 
-central_words_hold : (size : ℕ) (fields : List (List ℕ)) → Holds InRange (central_words_line size fields)
-unfolding central_words_line
-central_words_hold size fields =
-    then_holds 6 fields _ InRange
-    (λ a more small. holds_bind (All (λ w. w < 8 ^ 20)) InRange (words_in 20 a size _ more) (λ ws. Ok (central_words a ws)) (words_hold 20 a size _ more) (λ ws h. h))
+module _ (profile : Profile) where
+  -- what is known of a line: whether it begins a section, and that its numbers are in range
+  abbrev pub IsKnown : Bool → Line → Type 0
+  IsKnown begins line = (is_section line ≡ begins) × InRange profile line
 
-section_holds : (profile : Profile) (fields : List (List ℕ)) → Holds InRange (section_line profile fields)
-unfolding section_line
-section_holds profile fields = then_holds 2 fields _ InRange (λ n more small. holds_if InRange _ (ends_with (section n) more) _ (λ e. end_holds InRange (section n) more tt))
+  central_holds : (fields : Fields) → Holds (IsKnown false) (central_line fields)
+  unfolding central_line
+  central_holds fields =
+      then_holds 6 fields _ (IsKnown false)
+      (λ n more small. holds_if (IsKnown false) (nat_le 1 n && nat_le n 0o400000) (ends_with (central_size n) more) _
+      (λ e. end_holds (IsKnown false) (central_size n) more (refl, (leb-true 1 n (and_left (nat_le 1 n) (nat_le n 0o400000) e), leb-true n 0o400000 (and_right (nat_le 1 n) (nat_le n 0o400000) e)))))
 
-start_from_holds : (p : ℕ) (more : List (List ℕ)) → p < 8 ^ 4 → Holds InRange (start_from p more)
-start_from_holds p [] small = (small, omega arith)
-start_from_holds p (field ∷ more) small = holds_bind (λ a. a < 8 ^ 6) InRange (number 6 field) (λ a. ends_with (start p a) more) (number_holds 6 field) (λ a low. end_holds InRange (start p a) more (small, low))
+  central_words_hold : (size : ℕ) (fields : Fields) → Holds (IsKnown false) (central_words_line size fields)
+  unfolding central_words_line
+  central_words_hold size fields =
+      then_holds 6 fields _ (IsKnown false)
+      (λ a more small. holds_bind (All (λ w. w < 8 ^ 20)) (IsKnown false) (words_in 20 a size _ more) (λ ws. Ok (central_words a ws)) (words_hold 20 a size _ more) (λ ws h. (refl, h)))
 
-start_holds : (fields : List (List ℕ)) → Holds InRange (start_line fields)
-unfolding start_line
-start_holds fields = then_holds 4 fields start_from InRange start_from_holds
+  section_holds : (fields : Fields) → Holds (IsKnown true) (section_line profile fields)
+  unfolding section_line
+  section_holds fields = then_holds 2 fields _ (IsKnown true) (λ n more small. holds_if (IsKnown true) _ (ends_with (section n) more) _ (λ has. end_holds (IsKnown true) (section n) more (refl, has)))
 
-words_line_holds : (field : List ℕ) (fields : List (List ℕ)) → Holds InRange (words_line field fields)
-unfolding words_line
-words_line_holds field fields =
-    holds_bind (λ n. n < 8 ^ 4) InRange (number 4 field) _ (number_holds 4 field)
-    (λ x small. holds_bind (All (λ w. w < 8 ^ 4)) InRange (words_in 4 x place_count _ fields) (λ ws. Ok (words x ws)) (words_hold 4 x place_count _ fields) (λ ws h. h))
+  start_from_holds : (p : ℕ) (more : Fields) → p < 8 ^ 4 → Holds (IsKnown false) (start_from p more)
+  start_from_holds p [] small = (refl, (small, omega arith))
+  start_from_holds p (field ∷ more) small = holds_bind (λ a. a < 8 ^ 6) (IsKnown false) (number 6 field) (λ a. ends_with (start p a) more) (number_holds 6 field) (λ a low. end_holds (IsKnown false) (start p a) more (refl, (small, low)))
 
--- what holds of each keyword holds of the keyword of a field
-keyword_cases : {K : Type 0} (P : K → Type 0) (b c d e f g : Bool) (k l m n o p q : K) → P k → P l → P m → P n → P o → P p → P q → P (cond b k (cond c l (cond d m (cond e n (cond f o (cond g p q))))))
-keyword_cases P true c d e f g k l m n o p q hk hl hm hn ho hp hq = hk
-keyword_cases P false true d e f g k l m n o p q hk hl hm hn ho hp hq = hl
-keyword_cases P false false true e f g k l m n o p q hk hl hm hn ho hp hq = hm
-keyword_cases P false false false true f g k l m n o p q hk hl hm hn ho hp hq = hn
-keyword_cases P false false false false true g k l m n o p q hk hl hm hn ho hp hq = ho
-keyword_cases P false false false false false true k l m n o p q hk hl hm hn ho hp hq = hp
-keyword_cases P false false false false false false k l m n o p q hk hl hm hn ho hp hq = hq
+  start_holds : (fields : Fields) → Holds (IsKnown false) (start_line fields)
+  unfolding start_line
+  start_holds fields = then_holds 4 fields start_from (IsKnown false) start_from_holds
 
-where_holds : (P : Line → Type 0) (b : Bool) (r : Result Line Flaw) (flaw : Flaw) → Holds P r → Holds P (cond b r (Err flaw))
-where_holds P true r flaw h = h
-where_holds P false r flaw h = tt
+  words_line_holds : (field : List ℕ) (fields : Fields) → Holds (IsKnown false) (words_line field fields)
+  unfolding words_line
+  words_line_holds field fields =
+      holds_bind (λ n. n < 8 ^ 4) (IsKnown false) (number 4 field) _ (number_holds 4 field)
+      (λ x small. holds_bind (All (λ w. w < 8 ^ 4)) (IsKnown false) (words_in 4 x place_count _ fields) (λ ws. Ok (words x ws)) (words_hold 4 x place_count _ fields) (λ ws h. (refl, h)))
 
-where_not_holds : (P : Line → Type 0) (b : Bool) (r : Result Line Flaw) (flaw : Flaw) → Holds P r → Holds P (cond b (Err flaw) r)
-where_not_holds P true r flaw h = tt
-where_not_holds P false r flaw h = h
+  by_keyword : (size : ℕ) (b s : Bool) (keyword : Keyword) (field : List ℕ) (fields : Fields) → Holds (IsKnown (is_processor_keyword keyword)) (line_by profile size b s keyword field fields)
+  by_keyword size b s keywords.Central field fields = unless_holds (IsKnown false) b _ _ (central_holds fields)
+  by_keyword size b s keywords.CentralWords field fields = central_words_hold size fields
+  by_keyword size b s keywords.Processor field fields = section_holds fields
+  by_keyword size b s keywords.Start field fields = holds_if (IsKnown false) s _ _ (λ is. start_holds fields)
+  by_keyword size b s keywords.DeadStart field fields = end_holds (IsKnown false) dead_start fields (refl, tt)
+  by_keyword size b s keywords.Words field fields = holds_if (IsKnown false) s _ _ (λ is. words_line_holds field fields)
+  by_keyword size b s keywords.Unknown field fields = tt
 
-pub line_holds : (profile : Profile) (size : ℕ) (b s : Bool) (fields : List (List ℕ)) → Holds InRange (line_after profile size b s fields)
-unfolding line_after keyword_of
-line_holds profile size b s [] = tt
-line_holds profile size b s (field ∷ fields) =
-    keyword_cases (λ (k : _). Holds InRange (line_by profile size b s k field fields))
-    (bytes_eq field (codes "CENTRAL")) (bytes_eq field (codes "CM")) (bytes_eq field (codes "PP")) (bytes_eq field (codes "START")) (bytes_eq field (codes "DEAD")) (is_ascii_digit (slice_index field 0))
-    (keyword_of (codes "CENTRAL")) (keyword_of (codes "CM")) (keyword_of (codes "PP")) (keyword_of (codes "START")) (keyword_of (codes "DEAD")) (keyword_of (codes "0")) (keyword_of (codes "*"))
-    (where_not_holds InRange b _ _ (central_holds fields)) (central_words_hold size fields) (section_holds profile fields) (where_holds InRange s _ _ (start_holds fields)) (end_holds InRange dead_start fields tt)
-    (where_holds InRange s _ _ (words_line_holds field fields)) (tt {0})
+  pub line_holds : (size : ℕ) (b s : Bool) (fields : Fields) → Holds (IsKnown (begins_section fields)) (line_after profile size b s fields)
+  unfolding line_after
+  line_holds size b s [] = (refl, tt)
+  line_holds size b s (field ∷ fields) = by_keyword size b s (keyword_of field) field fields
+
+  -- ---- the section behind a line
+
+  or_else : (b t : Bool) → b ≡ t → (c : Bool) → (if b then true else c) ≡ (c || t)
+  or_else true true e true = refl
+  or_else true true e false = refl
+  or_else false false e true = refl
+  or_else false false e false = refl
+  or_else true false e c = absurd (cc)
+  or_else false true e c = absurd (cc)
+
+  current_is_some : (line : Line) (current : Option ℕ) → is_some (current_after line current) ≡ (if is_section line then true else is_some current)
+  current_is_some (section n) current = refl
+  current_is_some line current = refl
+
+  known : (r : Result Line Flaw) (begins : Bool) (line : Line) → Holds (IsKnown begins) r → r ≡ Ok line → is_section line ≡ begins
+  known (Ok l) begins line h e = let same : l ≡ line = cc in ap is_section (sym same) ∙ h.0
+  known (Err flaw) begins line h e = absurd (cc)
+
+  -- there is a current processor where there was one, or where the line begins with `PP`
+  pub section_after : (size : ℕ) (b s : Bool) (fields : Fields) (line : Line) (current : Option ℕ) → line_after profile size b s fields ≡ Ok line → is_some (current_after line current) ≡ (is_some current || begins_section fields)
+  section_after size b s fields line current e =
+      current_is_some line current ∙ or_else (is_section line) (begins_section fields) (known (line_after profile size b s fields) (begins_section fields) line (line_holds size b s fields) e) (is_some current)
 
 -- ---- the size of central memory
 
@@ -153,21 +180,19 @@ default_size : IsSize 0o10000
 unfolding IsSize
 default_size = (omega arith, omega arith)
 
-said_size : (r : Result Line _) → Holds InRange r → IsSize (stated_size r)
+stated : (r : Result Line _) → Holds (IsKnown Ten false) r → IsSize (stated_size r)
 unfolding IsSize
-said_size (Ok (central_size n)) h = h
-said_size r h = default_size
+stated (Ok (central_size n)) h = h.1
+stated r h = default_size
 
-size_is : (o : Option (List (List ℕ))) → IsSize (size_in o)
-unfolding keyword_of
-size_is None = default_size
-size_is (Some []) = default_size
-size_is (Some (field ∷ fields)) =
-    keyword_cases (λ (k : _). IsSize (size_by k fields))
-    (bytes_eq field (codes "CENTRAL")) (bytes_eq field (codes "CM")) (bytes_eq field (codes "PP")) (bytes_eq field (codes "START")) (bytes_eq field (codes "DEAD")) (is_ascii_digit (slice_index field 0))
-    (keyword_of (codes "CENTRAL")) (keyword_of (codes "CM")) (keyword_of (codes "PP")) (keyword_of (codes "START")) (keyword_of (codes "DEAD")) (keyword_of (codes "0")) (keyword_of (codes "*"))
-    (said_size (central_line fields) (central_holds fields)) default_size default_size default_size default_size default_size default_size
+size_by_range : (keyword : Keyword) (fields : Fields) → IsSize (size_by keyword fields)
+size_by_range keywords.Central fields = stated (central_line fields) (central_holds Ten fields)
+size_by_range keyword fields = default_size
 
-pub size_in_range : (lines : List (List (List ℕ))) → (1 ≤ size_of lines) × (size_of lines ≤ 0o400000)
+size_is : (o : Option Fields) → IsSize (size_in o)
+size_is (Some (field ∷ fields)) = size_by_range (keyword_of field) fields
+size_is o = default_size
+
+pub size_in_range : (lines : List Fields) → (1 ≤ size_of lines) × (size_of lines ≤ 0o400000)
 unfolding size_of IsSize
 size_in_range lines = size_is (find has_fields lines)

@@ -17,7 +17,7 @@ use Rattle.pp_deck.specs.DeckMeaning.{with_dead_start, has_fields, begins_sectio
 use Rattle.pp_deck.specs.Reading.{Progress, before_lines, after_line, after_lines, progress_of, deck_so_far, on_read}
 use Rattle.pp_deck.specs.declared.deck_fault.DeckFault.{DeckFault}
 use Rattle.pp_deck.specs.declared.flaw.Flaw.{Flaw}
-use Rattle.pp_deck.proofs.KeywordLemmas.{section_after}
+use Rattle.pp_deck.proofs.RangeLemmas.{section_after}
 use Rattle.pp_deck.proofs.LineParts.{after_line_parts}
 use Rattle.pp_word.specs.GrowingLists.{range_more, range_append, filter_map_more}
 use Rattle.pp_deck.proofs.MemoryLemmas.{length-central_loaded}

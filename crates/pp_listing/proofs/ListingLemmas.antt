@@ -30,8 +30,7 @@ use Rattle.pp_deck.specs.DeckText.{lines_of}
 use Rattle.pp_deck.proofs.DeadStartLemmas as dead
 use Rattle.pp_deck.proofs.LawLemmas as law
 use Rattle.pp_deck.proofs.DeckLawLemmas.{loaded_is}
-use Rattle.pp_deck.proofs.LoadedRangeLemmas.{processor_in_range, central_in_range, said_in_range}
-use Rattle.pp_deck.proofs.NamesLemmas.{named_within}
+use Rattle.pp_deck.proofs.LoadedRangeLemmas.{processor_in_range, central_in_range, named_has, said_in_range}
 use Rattle.pp_deck.proofs.RangeLemmas.{InRange, size_in_range}
 use Rattle.pp_deck.proofs.SectionLinesLemmas.{KeepsCurrent, section_if, unnamed_empty}
 use Rattle.pp_listing.specs.ListedLine.{ListedLine, bare, says, text_line}
@@ -299,7 +298,7 @@ module _ (profile : Profile) where
 
   -- what holds of all that lines load whose numbers are in range
   abbrev pub HoldsOfLoaded : (LoadedDeck → Type 0) → Type 0
-  HoldsOfLoaded Q = (size : ℕ) (lines : List Line) → 1 ≤ size → size ≤ 0o400000 → AllByRecursion InRange lines → ((n : ℕ) → load.is_named lines n ≡ true → IsTrue (has_processor profile n)) → Q (loaded profile size lines)
+  HoldsOfLoaded Q = (size : ℕ) (lines : List Line) → 1 ≤ size → size ≤ 0o400000 → AllByRecursion (InRange profile) lines → Q (loaded profile size lines)
 
   -- a deck whose listing, where it is no longer than a deck may be, means the deck
   ReadsBack : LoadedDeck → Type 0
@@ -307,7 +306,7 @@ module _ (profile : Profile) where
 
   loaded_listing : HoldsOfLoaded ReadsBack
   unfolding ReadsBack
-  loaded_listing size lines least most small has short =
+  loaded_listing size lines least most small short =
       let deck = loaded profile size lines in
       let set = set_by profile size lines in
       let asked = asks_dead_start lines in
@@ -315,11 +314,11 @@ module _ (profile : Profile) where
       let here : (n : ℕ) → names_of deck n ≡ true → processors_of deck n ≡ processor_loaded profile lines n = λ n is. set_here size lines n (numbered deck n is) is ∙ law.processor_here profile size lines n (numbered deck n is) in
       listing_loads profile deck set (record {
         machine = ap (λ (words : List ℕ). record set.machine { central = words }) (sym same_central);
-        central = subst IsCentral (sym same_central) (central_in_range size lines least most small);
+        central = subst IsCentral (sym same_central) (central_in_range profile size lines least most small);
         each_processor = length-tabulate processor_count (λ place. processor_loaded profile lines (processor_number place));
         each_name = ap length (dead.names_stay asked set) ∙ length-tabulate processor_count (λ place. load.is_named lines (processor_number place));
         names = sym (dead.names_stay asked set);
-        within = λ n is. has n (sym (name_here size lines n (numbered deck n is)) ∙ is);
+        within = λ n is. named_has profile lines small n (law.some_name n lines (sym (name_here size lines n (numbered deck n is)) ∙ is));
         widths = λ n is. subst IsProcessor (sym (here n is)) (processor_in_range profile n lines small);
         start = λ n is.
             let memory = memory_of (lines_for n lines) in
@@ -337,7 +336,7 @@ module _ (profile : Profile) where
       let lines = lines_of text in
       let said_lines = parsed_deck profile lines in
       let size = size_in_range lines in
-      subst Q (loaded_is profile text deck e) (holds (size_of lines) said_lines size.0 size.1 (said_in_range profile lines) (λ n is. named_within profile lines n (law.some_name n said_lines is)))
+      subst Q (loaded_is profile text deck e) (holds (size_of lines) said_lines size.0 size.1 (said_in_range profile lines))
 
   pub listing_is_deck : (text : List ℕ) (deck : LoadedDeck) → deck_meaning profile text ≡ Ok deck → length (listing deck) ≤ 1048576 → deck_meaning profile (listing deck) ≡ Ok deck
   unfolding ReadsBack

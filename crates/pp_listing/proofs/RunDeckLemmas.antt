@@ -48,7 +48,7 @@ use Rattle.pp_deck.specs.DeckMeaning.{LoadedDeck, deck_meaning, loaded, set_by, 
 use Rattle.pp_deck.specs.InUse.{is_in_use}
 use Rattle.pp_deck.proofs.DeadStartLemmas as dead
 use Rattle.pp_deck.proofs.LawLemmas as law
-use Rattle.pp_deck.proofs.LoadedRangeLemmas.{all_tabulate, processor_in_range, central_in_range}
+use Rattle.pp_deck.proofs.LoadedRangeLemmas.{all_tabulate, processor_in_range, central_in_range, named_has}
 use Rattle.pp_deck.proofs.MemoryLemmas.{length-central_loaded}
 use Rattle.pp_deck.proofs.RangeLemmas.{InRange}
 use Rattle.std.specs.List.{AllByRecursion}
@@ -256,9 +256,9 @@ module _ (profile : Profile) where
       ∙ law.processor_here profile size lines n named
       ∙ unnamed_new profile lines n unnamed
 
-  loaded_for : (size : ℕ) (lines : List Line) → 1 ≤ size → size ≤ 0o400000 → AllByRecursion InRange lines → ((n : ℕ) → load.is_named lines n ≡ true → IsTrue (has_processor profile n)) → IsDeckFor profile (loaded profile size lines)
+  loaded_for : (size : ℕ) (lines : List Line) → 1 ≤ size → size ≤ 0o400000 → AllByRecursion (InRange profile) lines → IsDeckFor profile (loaded profile size lines)
   unfolding names_of
-  loaded_for size lines least most small has =
+  loaded_for size lines least most small =
       let asked = asks_dead_start lines in
       let set = set_by profile size lines in
       let each = length-tabulate processor_count (λ place. processor_loaded profile lines (processor_number place)) in
@@ -267,7 +267,7 @@ module _ (profile : Profile) where
         each_processor = dead.all_processors asked set each;
         processors = started_processors asked set each (all_tabulate (IsOf profile) processor_count (λ place. processor_loaded profile lines (processor_number place)) (λ place below. let n = processor_number place in record { widths = processor_in_range profile n lines small; its_profile = ap (λ (pp : Processor). pp.profile) (processor_is profile lines n) ∙ its_profile (memory_of (lines_for n lines)) (last_of (filter_map start_in (lines_for n lines))) }));
         histories = started_histories asked set (All-replicate HasTwelveBitWords channel_count [] (All-nil HasTwelveBitWord));
-        central = subst IsCentral (sym (dead.central_stays asked set)) (central_in_range size lines least most small);
+        central = subst IsCentral (sym (dead.central_stays asked set)) (central_in_range profile size lines least most small);
         within = λ n named used. by n named used (names_of (loaded profile size lines) n) refl;
         unused = λ n named free.
             let none = or_none (names_of (loaded profile size lines) n) (is_opened n (loaded profile size lines).machine) free in
@@ -275,7 +275,7 @@ module _ (profile : Profile) where
       }
     where
       by : (n : ℕ) → IsTrue (names_processor n) → is_in_use (loaded profile size lines) n ≡ true → (b : Bool) → names_of (loaded profile size lines) n ≡ b → IsTrue (has_processor profile n)
-      by n named used true is = has n (sym (name_here profile size lines n named) ∙ is)
+      by n named used true is = named_has profile lines small n (law.some_name n lines (sym (name_here profile size lines n named) ∙ is))
       by n named used false is =
           let opened = or_other (names_of (loaded profile size lines) n) (is_opened n (loaded profile size lines).machine) used is in
           (dead.waiting profile lines n (sym (dead.opened_is profile size lines (asks_dead_start lines) n refl (channel_of_processor n named)) ∙ opened)).processor
