@@ -2,7 +2,7 @@
 use Rattle.std.proofs.Common.{◌≡◌, ℕ, ◌+◌, ◌-◌, ◌<◌, ◌≤◌, Bool, List, [], ◌∷◌, length, take, drop, get_or, Option, Some, None, Ok, Err, refl, sym, ap, ◌∙◌, subst, arith}
 use Rattle.std.specs.Prelude.{All, IsSome, MatchOption}
 use Rattle.std.specs.Borrow.{Bor}
-use Rattle.pp_deck.proofs.LinesLemmas.{next_line}
+use Rattle.pp_deck.proofs.LinesLemmas.{NextLine, next_line}
 use Rattle.pp_deck.specs.DeckText.{fields_of, lines_of}
 use Rattle.std.proofs.lemmas.List.{length-drop, take_all}
 use Rattle.std.proofs.lemmas.List.Elements.{All-more, All-nil}
@@ -64,25 +64,14 @@ lawful_text opened all k judge past has =
 
 -- ---- the next line of those that are left
 
--- line k, and what follows it
-pub record LineAt (all : Text) (k : ℕ) (line : List (List ℕ)) (rest : Text) : Type 0 where
-  pub within : k < length all
-  pub here : get_or all k [] ≡ line
-  pub behind : rest ≡ drop (k + 1) all
-
-next_at : (all left rest : Text) (k : ℕ) (line : List (List ℕ)) → left ≡ drop k all → left ≡ line ∷ rest → LineAt all k line rest
-next_at all left rest k line left_is is =
-    let next = next_line all left rest k line left_is is in
-    record { within = next.within; here = next.here; behind = next.behind }
-
 -- the lines of what follows a line feed
 abbrev pub lines_behind : Option (Bor (List ℕ)) → Text
 lines_behind None = []
 lines_behind (Some rest) = lines_of rest.now
 
-pub line_at : (all : Text) (k : ℕ) (left line : List ℕ) (rest : Option (Bor (List ℕ))) → lines_of left ≡ drop k all → MatchOption rest (lines_of left ≡ fields_of line ∷ []) (λ more. lines_of left ≡ fields_of line ∷ lines_of more.now) → LineAt all k (fields_of line) (lines_behind rest)
-line_at all k left line None left_is is = next_at all (lines_of left) [] k (fields_of line) left_is is
-line_at all k left line (Some rest) left_is is = next_at all (lines_of left) (lines_of rest.now) k (fields_of line) left_is is
+pub line_at : (all : Text) (k : ℕ) (left line : List ℕ) (rest : Option (Bor (List ℕ))) → lines_of left ≡ drop k all → MatchOption rest (lines_of left ≡ fields_of line ∷ []) (λ more. lines_of left ≡ fields_of line ∷ lines_of more.now) → NextLine all k (fields_of line) (lines_behind rest)
+line_at all k left line None left_is is = next_line all (lines_of left) [] k (fields_of line) left_is is
+line_at all k left line (Some rest) left_is is = next_line all (lines_of left) (lines_of rest.now) k (fields_of line) left_is is
 
 -- no line follows the last
 pub none_behind : (all : Text) (k : ℕ) → drop (k + 1) all ≡ [] → length all ≤ k + 1

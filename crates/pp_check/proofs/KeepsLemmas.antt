@@ -35,11 +35,11 @@ pub record IsEventLine (c : ℕ) (e : Event) (line : TraceLine) : Type 0 where
   pub told : tells_event line ≡ true
   pub begins : begins_session line ≡ is_activate e
 
-record IsHere (c channel : ℕ) (e told : Event) : Type 0 where
+pub record IsHere (c channel : ℕ) (e told : Event) : Type 0 where
   pub channel_is : channel ≡ c
   pub event_is : told ≡ e
 
-here_by : (c channel : ℕ) (e told : Event) (b : Bool) → (channel == c) ≡ b → (if b then Some told else None) ≡ Some e → IsHere c channel e told
+pub here_by : (c channel : ℕ) (e told : Event) (b : Bool) → (channel == c) ≡ b → (if b then Some told else None) ≡ Some e → IsHere c channel e told
 here_by c channel e told true same is = record { channel_is = eqb-true channel c same; event_is = cc }
 here_by c channel e told false same is = absurd cc
 

@@ -1,13 +1,12 @@
 -- A text has one fault, and the turns of a lawful trace rise.
 use Rattle.std.proofs.Common.{◌≡◌, ℕ, zero, suc, ◌+◌, ◌-◌, ◌<◌, ◌≤◌, Bool, List, [], ◌∷◌, ◌++◌, length, take, get_or, Option, Some, None, refl, sym, ap, ◌∙◌, subst, arith, inl, inr, add-one}
-use Rattle.std.specs.Prelude.{IfSome, slice_get}
+use Rattle.std.specs.Prelude.{IfSome, if◌then◌else◌, nat_le, slice_get, ◌==◌}
 use Rattle.std.specs.List.{last_or}
 use Rattle.std.specs.List.Sorted.{IsStrictlyIncreasing}
-use Rattle.std.proofs.lemmas.Bool.{cases_eq, cases_lt}
+use Rattle.std.proofs.lemmas.Bool.{cases_lt, cond-false, cond-true, eq-eqb, le-leb, lt-leb, ne_eqb}
 use Rattle.std.proofs.lemmas.List.{get_or_append_left, get_or_push, length_push, take_all, take_more}
 use Rattle.std.proofs.lemmas.Option.{slice_get-get_or}
 use Rattle.pp_channel.specs.Answer.{channel_state}
-use Rattle.pp_channel.specs.declared.channel_state.ChannelState.{ChannelState}
 use Rattle.pp_word.specs.LastElements.{last_or_at}
 use Rattle.pp_channel.specs.declared.event.Event.{Event}
 use Rattle.pp_check.specs.LawfulTrace.{AreLawful, Fits, IsLawfulTrace, event_on, history, last_turn, parsed_lines, turn_of, turns}
@@ -18,101 +17,58 @@ use Rattle.pp_check.specs.declared.trace_fault.TraceFlaw.{TraceFlaw}
 use Rattle.pp_check.specs.declared.trace_fault.TraceFlaw.TheVariants.{Malformed, TurnNotRising, WrongNumber, UnlawfulEvent, WrongState}
 use Rattle.pp_check.specs.declared.trace_line.TraceLine.{TraceLine}
 use Rattle.pp_check.specs.declared.trace_line.TraceLine.TheVariants as says
-use Rattle.pp_check.proofs.FaultLemmas.{Text, before_fault, from_fault, late_turn}
-use Rattle.pp_check.proofs.KeepsLemmas.{event_line}
+use Rattle.pp_check.proofs.FaultLemmas.{Text, before_fault, from_fault}
+use Rattle.pp_check.proofs.KeepsLemmas.{here_by}
 use Rattle.pp_check.proofs.TraceLemmas.{turns_more, turns_same}
 
 -- ---- one flaw
 
-some_is : {A : Type 0} (x y : A) (o : Option A) → o ≡ Some x → o ≡ Some y → x ≡ y
-some_is x y o is also = cc
+module _ (opened : List Bool) (before : List TraceLine) where
+  abbrev unlawful : ℕ → Event → TraceFlaw
+  unlawful c e = UnlawfulEvent c e (channel_state (history opened before c))
 
--- a line tells events of one channel
-one_channel : (c d : ℕ) (e k : Event) (line : TraceLine) → event_on c line ≡ Some e → event_on d line ≡ Some k → d ≡ c
-one_channel c d e k line is also = elim (cases_eq d c) [
-  | inl same ↦ same
-  | inr other ↦ let none = (event_line c e line is).elsewhere d other in absurd (cc)
-]
+  abbrev late : ℕ → TraceFlaw → Option ℕ → TraceFlaw
+  late turn other None = other
+  late turn other (Some last) = if nat_le turn last then TurnNotRising turn last else other
 
-module _ (opened : List Bool) (before : List TraceLine) (line : TraceLine) where
-  abbrev Flawed : TraceFlaw → Type 0
-  Flawed flaw = IsFlawOf opened before line flaw
+  -- the only flaw that a line may have
+  abbrev flaw_for : TraceLine → TraceFlaw
+  flaw_for (says.AtTurn turn c e) = late turn (unlawful c e) (last_turn before)
+  flaw_for (says.Numbered number c e) = if number == length (history opened before c) then unlawful c e else WrongNumber c number (length (history opened before c))
+  flaw_for (says.Standing c told) = WrongState c told (channel_state (history opened before c))
+  flaw_for says.Other = Malformed
 
-  late_number : (turn last c number next : ℕ) → Flawed (TurnNotRising turn last) → Flawed (WrongNumber c number next) → ⊥
-  late_number turn last c number next f g = let none : turn_of line ≡ None = ap turn_of g.0.1 in let some = f.0 in cc
+  in_time : (turn : ℕ) (other : TraceFlaw) (o : Option ℕ) → IfSome o (λ last. last < turn) → late turn other o ≡ other
+  in_time turn other None h = refl
+  in_time turn other (Some last) h = cond-false (nat_le turn last) _ _ (lt-leb turn last h)
 
-  late_event : (turn last c : ℕ) (e : Event) (state : ChannelState) → Flawed (TurnNotRising turn last) → Flawed (UnlawfulEvent c e state) → ⊥
-  late_event turn last c e state f g = late_turn opened before line turn last f.0 f.1 f.2 g.0
+  event_flaw : (line : TraceLine) (c : ℕ) (e : Event) → Fits opened before line → event_on c line ≡ Some e → flaw_for line ≡ unlawful c e
+  event_flaw (says.AtTurn turn d k) c e fits is =
+      let here = here_by c d e k (d == c) refl is in
+      in_time turn (unlawful d k) (last_turn before) fits ∙ ap (λ (n : ℕ). unlawful n k) here.channel_is ∙ ap (unlawful c) here.event_is
+  event_flaw (says.Numbered number d k) c e fits is =
+      let here = here_by c d e k (d == c) refl is in
+      cond-true (number == length (history opened before d)) _ _ (eq-eqb number (length (history opened before d)) fits) ∙ ap (λ (n : ℕ). unlawful n k) here.channel_is ∙ ap (unlawful c) here.event_is
+  event_flaw line c e fits is = absurd cc
 
-  late_state : (turn last c : ℕ) (told state : ChannelState) → Flawed (TurnNotRising turn last) → Flawed (WrongState c told state) → ⊥
-  late_state turn last c told state f g = let none : turn_of line ≡ None = ap turn_of g.0 in let some = f.0 in cc
+  turn_flaw : (line : TraceLine) (turn last : ℕ) → turn_of line ≡ Some turn → last_turn before ≡ Some last → turn ≤ last → flaw_for line ≡ TurnNotRising turn last
+  turn_flaw (says.AtTurn t c e) turn last is was passed =
+      let same : t ≡ turn = cc in
+      ap (late t (unlawful c e)) was ∙ cond-true (nat_le t last) _ _ (le-leb t last (omega (arith, same, passed))) ∙ ap (λ (n : ℕ). TurnNotRising n last) same
+  turn_flaw line turn last is was passed = absurd cc
 
-  number_event : (c number next d : ℕ) (e : Event) (state : ChannelState) → Flawed (WrongNumber c number next) → Flawed (UnlawfulEvent d e state) → ⊥
-  number_event c number next d e state f g =
-      let fits : number ≡ length (history opened before c) = subst (Fits opened before) f.0.1 g.0 in
-      f.2 (fits ∙ sym f.1)
-
-  number_state : (c number next d : ℕ) (told state : ChannelState) → Flawed (WrongNumber c number next) → Flawed (WrongState d told state) → ⊥
-  number_state c number next d told state f g = let both : says.Numbered number c f.0.0 ≡ says.Standing d told = sym f.0.1 ∙ g.0 in cc
-
-  event_state : (c : ℕ) (e : Event) (state : ChannelState) (d : ℕ) (told left : ChannelState) → Flawed (UnlawfulEvent c e state) → Flawed (WrongState d told left) → ⊥
-  event_state c e state d told left f g = let none : event_on c line ≡ None = ap (event_on c) g.0 in let some = f.1 in cc
-
-  same_turn : (turn last also was : ℕ) → Flawed (TurnNotRising turn last) → Flawed (TurnNotRising also was) → TurnNotRising turn last ≡ TurnNotRising also was
-  same_turn turn last also was f g =
-      let t = some_is turn also (turn_of line) f.0 g.0 in
-      let l = some_is last was (last_turn before) f.1 g.1 in
-      ap (λ (n : ℕ). TurnNotRising n last) t ∙ ap (λ (n : ℕ). TurnNotRising also n) l
-
-  same_number : (c number next d other after : ℕ) → Flawed (WrongNumber c number next) → Flawed (WrongNumber d other after) → WrongNumber c number next ≡ WrongNumber d other after
-  same_number c number next d other after f g =
-      let both : says.Numbered number c f.0.0 ≡ says.Numbered other d g.0.0 = sym f.0.1 ∙ g.0.1 in
-      let n : number ≡ other = cc in
-      let c_is : c ≡ d = cc in
-      let x : next ≡ after = f.1 ∙ ap (λ (k : ℕ). length (history opened before k)) c_is ∙ sym g.1 in
-      ap (λ (k : ℕ). WrongNumber k number next) c_is ∙ ap (λ (k : ℕ). WrongNumber d k next) n ∙ ap (λ (k : ℕ). WrongNumber d other k) x
-
-  same_event : (c : ℕ) (e : Event) (state : ChannelState) (d : ℕ) (k : Event) (left : ChannelState) → Flawed (UnlawfulEvent c e state) → Flawed (UnlawfulEvent d k left) → UnlawfulEvent c e state ≡ UnlawfulEvent d k left
-  same_event c e state d k left f g =
-      let c_is : c ≡ d = sym (one_channel c d e k line f.1 g.1) in
-      let e_is : e ≡ k = some_is e k (event_on d line) (sym (ap (λ (n : ℕ). event_on n line) c_is) ∙ f.1) g.1 in
-      let s : state ≡ left = f.2 ∙ ap (λ (n : ℕ). channel_state (history opened before n)) c_is ∙ sym g.2 in
-      ap (λ (n : ℕ). UnlawfulEvent n e state) c_is ∙ ap (λ (x : Event). UnlawfulEvent d x state) e_is ∙ ap (λ (x : ChannelState). UnlawfulEvent d k x) s
-
-  same_state : (c : ℕ) (told state : ChannelState) (d : ℕ) (shown left : ChannelState) → Flawed (WrongState c told state) → Flawed (WrongState d shown left) → WrongState c told state ≡ WrongState d shown left
-  same_state c told state d shown left f g =
-      let both : says.Standing c told ≡ says.Standing d shown = sym f.0 ∙ g.0 in
-      let c_is : c ≡ d = cc in
-      let t : told ≡ shown = cc in
-      let s : state ≡ left = f.1 ∙ ap (λ (n : ℕ). channel_state (history opened before n)) c_is ∙ sym g.1 in
-      ap (λ (n : ℕ). WrongState n told state) c_is ∙ ap (λ (x : ChannelState). WrongState d x state) t ∙ ap (λ (x : ChannelState). WrongState d shown x) s
-
-  one_flaw_of : (f g : TraceFlaw) → Flawed f → Flawed g → f ≡ g
-  one_flaw_of Malformed g is also = absurd is
-  one_flaw_of (TurnNotRising a b) Malformed is also = absurd also
-  one_flaw_of (TurnNotRising a b) (TurnNotRising c d) is also = same_turn a b c d is also
-  one_flaw_of (TurnNotRising a b) (WrongNumber c d e) is also = absurd (late_number a b c d e is also)
-  one_flaw_of (TurnNotRising a b) (UnlawfulEvent c d e) is also = absurd (late_event a b c d e is also)
-  one_flaw_of (TurnNotRising a b) (WrongState c d e) is also = absurd (late_state a b c d e is also)
-  one_flaw_of (WrongNumber a b x) Malformed is also = absurd also
-  one_flaw_of (WrongNumber a b x) (TurnNotRising c d) is also = absurd (late_number c d a b x also is)
-  one_flaw_of (WrongNumber a b x) (WrongNumber c d e) is also = same_number a b x c d e is also
-  one_flaw_of (WrongNumber a b x) (UnlawfulEvent c d e) is also = absurd (number_event a b x c d e is also)
-  one_flaw_of (WrongNumber a b x) (WrongState c d e) is also = absurd (number_state a b x c d e is also)
-  one_flaw_of (UnlawfulEvent a b x) Malformed is also = absurd also
-  one_flaw_of (UnlawfulEvent a b x) (TurnNotRising c d) is also = absurd (late_event c d a b x also is)
-  one_flaw_of (UnlawfulEvent a b x) (WrongNumber c d e) is also = absurd (number_event c d e a b x also is)
-  one_flaw_of (UnlawfulEvent a b x) (UnlawfulEvent c d e) is also = same_event a b x c d e is also
-  one_flaw_of (UnlawfulEvent a b x) (WrongState c d e) is also = absurd (event_state a b x c d e is also)
-  one_flaw_of (WrongState a b x) Malformed is also = absurd also
-  one_flaw_of (WrongState a b x) (TurnNotRising c d) is also = absurd (late_state c d a b x also is)
-  one_flaw_of (WrongState a b x) (WrongNumber c d e) is also = absurd (number_state c d e a b x also is)
-  one_flaw_of (WrongState a b x) (UnlawfulEvent c d e) is also = absurd (event_state c d e a b x also is)
-  one_flaw_of (WrongState a b x) (WrongState c d e) is also = same_state a b x c d e is also
+  flaw_is : (line : TraceLine) (flaw : TraceFlaw) → IsFlawOf opened before line flaw → flaw_for line ≡ flaw
+  flaw_is line Malformed f = absurd f
+  flaw_is line (TurnNotRising turn last) f = turn_flaw line turn last f.0 f.1 f.2
+  flaw_is line (WrongNumber c number next) f =
+      let counted = length (history opened before c) in
+      ap flaw_for f.0.1 ∙ cond-false (number == counted) _ _ (ne_eqb number counted (λ same. f.2 (same ∙ sym f.1))) ∙ ap (WrongNumber c number) (sym f.1)
+  flaw_is line (UnlawfulEvent c e state) f = event_flaw line c e f.0 f.1 ∙ ap (UnlawfulEvent c e) (sym f.2)
+  flaw_is line (WrongState c told state) f = ap flaw_for f.0 ∙ ap (WrongState c told) (sym f.1)
 
 one_flaw : (opened : List Bool) (before : List TraceLine) (o : Option TraceLine) (f g : TraceFlaw) → IsFlaw opened before o f → IsFlaw opened before o g → f ≡ g
 one_flaw opened before None f g is also = is ∙ sym also
-one_flaw opened before (Some line) f g is also = one_flaw_of opened before line f g is also
+one_flaw opened before (Some line) f g is also = sym (flaw_is opened before line f is) ∙ flaw_is opened before line g also
 
 -- ---- one fault
 
@@ -146,7 +102,7 @@ no_fault opened text fault is lawful =
 
 -- ---- turns
 
-increasing_push : (xs : List ℕ) (t : ℕ) → IsStrictlyIncreasing xs → IfSome (last_or None xs) (λ last. last < t) → IsStrictlyIncreasing (xs ++ t ∷ [])
+pub increasing_push : (xs : List ℕ) (t : ℕ) → IsStrictlyIncreasing xs → ((k : ℕ) → length xs ≡ k + 1 → get_or xs k 0 < t) → IsStrictlyIncreasing (xs ++ t ∷ [])
 increasing_push xs t rise less = λ k within. elim (cases_lt (k + 1) (length xs)) [
   | inl early ↦
       let a = get_or_append_left xs (t ∷ []) 0 k (omega (arith, early)) in
@@ -157,15 +113,19 @@ increasing_push xs t rise less = λ k within. elim (cases_lt (k + 1) (length xs)
       let last : length xs ≡ k + 1 = omega (arith, within, late, length_push xs t) in
       let a = get_or_append_left xs (t ∷ []) 0 k (omega (arith, last)) in
       let b = get_or_push xs t 0 (k + 1) last in
-      let at : last_or None xs ≡ Some (get_or xs k 0) = sym (last_or_at xs) ∙ ap (slice_get xs) (omega (arith, last)) ∙ slice_get-get_or xs k 0 (omega (arith, last)) in
-      let r : get_or xs k 0 < t = subst (λ (o : Option ℕ). IfSome o (λ l. l < t)) at less in
+      let r = less k last in
       omega (arith, a, b, r)
 ]
+
+last_below : (xs : List ℕ) (t k : ℕ) → IfSome (last_or None xs) (λ last. last < t) → length xs ≡ k + 1 → get_or xs k 0 < t
+last_below xs t k less last =
+    let at : last_or None xs ≡ Some (get_or xs k 0) = sym (last_or_at xs) ∙ ap (slice_get xs) (omega (arith, last)) ∙ slice_get-get_or xs k 0 (omega (arith, last)) in
+    subst (λ (o : Option ℕ). IfSome o (λ l. l < t)) at less
 
 turns_step : (opened : List Bool) (lines : List TraceLine) (line : TraceLine) → IsStrictlyIncreasing (turns lines) → Fits opened lines line → IsStrictlyIncreasing (turns (lines ++ line ∷ []))
 unfolding last_turn
 turns_step opened lines (says.AtTurn turn c e) rise fits =
-    subst IsStrictlyIncreasing (sym (turns_more lines (says.AtTurn turn c e) turn refl)) (increasing_push (turns lines) turn rise fits)
+    subst IsStrictlyIncreasing (sym (turns_more lines (says.AtTurn turn c e) turn refl)) (increasing_push (turns lines) turn rise (λ k last. last_below (turns lines) turn k fits last))
 turns_step opened lines line rise fits = subst IsStrictlyIncreasing (sym (turns_same lines line refl)) rise
 
 no_turns : IsStrictlyIncreasing (turns [])

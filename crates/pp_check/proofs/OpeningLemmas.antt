@@ -1,8 +1,8 @@
 -- What the judge keeps before the first line.
-use Rattle.std.proofs.Common.{◌≡◌, ℕ, ◌+◌, ◌<◌, ◌≤◌, Bool, true, false, List, [], ◌∷◌, ◌++◌, length, get_or, replicate, None, refl, sym, ap, ◌∙◌, subst, arith, inl, inr}
-use Rattle.std.specs.Prelude.{◌&&◌, IsTrue, nat_lt, slice_set, if◌then◌else◌}
-use Rattle.std.proofs.lemmas.Bool.{cases_eq, cases_lt, le-ltb, lt-ltb}
-use Rattle.std.proofs.lemmas.List.{append-nil, get_or-replicate, get_or-set_other, get_or-set_same}
+use Rattle.std.proofs.Common.{◌≡◌, ℕ, ◌<◌, ◌≤◌, Bool, true, false, List, [], ◌∷◌, ◌++◌, length, get_or, replicate, None, refl, sym, ap, ◌∙◌, subst, arith}
+use Rattle.std.specs.Prelude.{◌&&◌, IsTrue, nat_lt, if◌then◌else◌}
+use Rattle.std.proofs.lemmas.Bool.{le-ltb, lt-ltb}
+use Rattle.std.proofs.lemmas.List.{append-nil, get_or-replicate}
 use Rattle.pp_channel.proofs.AnswerLemmas.{lawful_with_event}
 use Rattle.pp_channel.specs.ChannelPlaces.{place_below}
 use Rattle.pp_channel.proofs.HistoryLemmas.{lawful_empty}
@@ -28,52 +28,12 @@ standing_by is_open = if is_open then opened_standing else new_standing
 abbrev pub AreOpenedTo : ℕ → List Bool → List Standing → Type 0
 AreOpenedTo n opened standings = (k : ℕ) → k < channel_count → get_or standings k new_standing ≡ standing_by (nat_lt k n && get_or opened k false)
 
-and_false : (b : Bool) → (b && false) ≡ false
-and_false true = refl
-and_false false = refl
-
--- a place other than the next is among the first n + 1 where it is among the first n
-not_next : (k n : ℕ) → (k ≡ n → ⊥) → nat_lt k n ≡ nat_lt k (n + 1)
-not_next k n other = elim (cases_lt k n) [
-  | inl below ↦ lt-ltb k n below ∙ sym (lt-ltb k (n + 1) (omega (arith, below)))
-  | inr least ↦ le-ltb k n least ∙ sym (le-ltb k (n + 1) (past k n least other))
-]
-  where
-    past : (k n : ℕ) → n ≤ k → (k ≡ n → ⊥) → n + 1 ≤ k
-    past k n least other = elim (cases_lt n k) [
-      | inl more ↦ omega (arith, more)
-      | inr most ↦ absurd (other (omega (arith, least, most)))
-    ]
-
--- ---- no channel, and one channel more
+-- ---- no channel, and all channels
 
 pub none_opened : (opened : List Bool) → AreOpenedTo 0 opened (replicate channel_count new_standing)
 none_opened opened k below =
     get_or-replicate channel_count k new_standing new_standing below
     ∙ ap (λ (b : Bool). standing_by (b && get_or opened k false)) (sym (le-ltb k 0 (omega arith)))
-
--- the next place is open
-pub opened_more : (opened : List Bool) (standings : List Standing) (n : ℕ) → AreOpenedTo n opened standings → length standings ≡ channel_count → n < channel_count → get_or opened n false ≡ true → AreOpenedTo (n + 1) opened (slice_set standings n opened_standing)
-opened_more opened standings n are all within is_open = λ k below. elim (cases_eq k n) [
-  | inl same ↦
-      ap (λ (i : ℕ). get_or (slice_set standings n opened_standing) i new_standing) same
-      ∙ get_or-set_same standings n opened_standing new_standing (omega (arith, all))
-      ∙ ap standing_by (sym (ap (λ (b : Bool). b && get_or opened k false) (lt-ltb k (n + 1) (omega (arith, same))) ∙ ap (λ (i : ℕ). get_or opened i false) same ∙ is_open))
-  | inr other ↦
-      get_or-set_other standings n k opened_standing new_standing (λ there. other there)
-      ∙ are k below
-      ∙ ap (λ (b : Bool). standing_by (b && get_or opened k false)) (not_next k n other)
-]
-
--- the next place is not
-pub opened_same : (opened : List Bool) (standings : List Standing) (n : ℕ) → AreOpenedTo n opened standings → get_or opened n false ≡ false → AreOpenedTo (n + 1) opened standings
-opened_same opened standings n are shut = λ k below. elim (cases_eq k n) [
-  | inl same ↦
-      are k below
-      ∙ ap standing_by (ap (λ (b : Bool). nat_lt k n && b) (ap (λ (i : ℕ). get_or opened i false) same ∙ shut) ∙ and_false (nat_lt k n)
-      ∙ sym (ap (λ (b : Bool). nat_lt k (n + 1) && b) (ap (λ (i : ℕ). get_or opened i false) same ∙ shut) ∙ and_false (nat_lt k (n + 1))))
-  | inr other ↦ are k below ∙ ap (λ (b : Bool). standing_by (b && get_or opened k false)) (not_next k n other)
-]
 
 -- all places
 pub all_opened : (n : ℕ) (opened : List Bool) (standings : List Standing) → channel_count ≤ n → AreOpenedTo n opened standings → (c : ℕ) → IsTrue (names_channel c) → standing_of standings c ≡ standing_by (is_opened opened c)

@@ -7,7 +7,7 @@ use Rattle.std.proofs.lemmas.Bool.{ne_eqb}
 use Rattle.std.proofs.lemmas.List.{append-nil, take_more}
 use Rattle.std.proofs.lemmas.List.Elements.{All-head, All-tail, filter_map-append}
 use Rattle.pp_channel.proofs.HistoryLemmas.{Fits as FitsState, active_at, full_at, held_word, is_active, state_at, waiting_at}
-use Rattle.pp_channel.proofs.HistoryWalk.{State, Inactive, Empty, Holding}
+use Rattle.pp_channel.proofs.HistoryWalk.{State, Inactive}
 use Rattle.pp_word.specs.LastElements.{last_or-push}
 use Rattle.pp_channel.specs.Answer.{channel_state}
 use Rattle.pp_channel.specs.ChannelNo.{names_channel}
@@ -38,11 +38,6 @@ told_events : (c : ℕ) (trace : List Trace) → events_on c (map at_turn trace)
 unfolding at_turn events_on
 told_events c [] = refl
 told_events c (e ∷ trace) = ap (cons_option (if e.channel == c then Some e.event else None)) (told_events c trace)
-
-told_turns : (trace : List Trace) → turns (map at_turn trace) ≡ map (λ e. e.turn) trace
-unfolding at_turn turns
-told_turns [] = refl
-told_turns (e ∷ trace) = ap (λ (more : List ℕ). e.turn ∷ more) (told_turns trace)
 
 -- no event on a number that names no channel
 none_elsewhere : (c : ℕ) (trace : List Trace) → names_channel c ≡ false → All EventFits trace → headline.events_on c trace ≡ []
@@ -124,7 +119,7 @@ lawful_events named m opened is opens = record {
 abbrev pub Shows : List Bool → List TraceLine → TraceLine → Type 0
 Shows opened lines (Standing c state) = state ≡ channel_state (history opened lines c)
 Shows opened lines Other = Unit {0}
-Shows opened lines other = ⊥
+Shows opened lines line = ⊥
 
 shows_none : (opened : List Bool) (lines : List TraceLine) (line : TraceLine) → Shows opened lines line → TellsNone line
 shows_none opened lines (Standing c state) shows = state_told c state

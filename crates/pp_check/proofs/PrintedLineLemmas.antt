@@ -18,7 +18,7 @@ use Rattle.pp_machine.specs.ProcessorPlaces as processor_places
 use Rattle.pp_machine.specs.PpNo.{names_processor}
 use Rattle.pp_machine.specs.Processor.{Processor}
 use Rattle.pp_machine.specs.declared.pp_state.PpState.{PpState}
-use Rattle.pp_machine.specs.declared.pp_state.PpState.TheVariants.{Running, Stopped, Fault}
+use Rattle.pp_machine.specs.declared.pp_state.PpState.TheVariants.{Fault}
 use Rattle.pp_machine.specs.declared.trace.Trace.{Trace}
 use Rattle.pp_word.specs.Numeral.{decimal, is_digit, numeral, octal}
 use Rattle.pp_word.specs.NumeralLaws.{decimal_are, decimal_read, octal_read}

@@ -1,9 +1,9 @@
 -- The turns of a trace rise along every run.
-use Rattle.std.proofs.Common.{All, ◌≡◌, ◌∙◌, ℕ, ◌+◌, ◌-◌, ◌^◌, ◌<◌, ◌≤◌, List, [], ◌∷◌, ◌++◌, length, map, min, get_or, Option, Some, None, refl, sym, ap, subst, arith, inl, inr, Bool}
+use Rattle.std.proofs.Common.{All, ◌≡◌, ◌∙◌, ℕ, ◌+◌, ◌-◌, ◌^◌, ◌<◌, ◌≤◌, List, [], ◌∷◌, ◌++◌, length, map, min, get_or, Option, Some, None, sym, subst, arith, inl, inr, Bool}
 use Rattle.std.specs.Prelude.{option_to_list}
 use Rattle.std.specs.List.Sorted.{IsStrictlyIncreasing}
 use Rattle.std.proofs.lemmas.Bool.{cases_lt}
-use Rattle.std.proofs.lemmas.List.{append-nil, get_or-map, get_or_append_left, get_or_push, length-map, length_push}
+use Rattle.std.proofs.lemmas.List.{append-nil, get_or-map, get_or_append_left, get_or_push, length-map, length_push, map-append}
 use Rattle.pp_channel.specs.Answer.{event_of}
 use Rattle.pp_channel.specs.declared.event.Event.{Event}
 use Rattle.pp_machine.specs.Headline.{HoldsOnEachChannel}
@@ -12,10 +12,11 @@ use Rattle.pp_machine.specs.MachineStep.{stepped, trace_after}
 use Rattle.pp_machine.specs.NeedAndEffect.{need}
 use Rattle.pp_machine.specs.Run.{run}
 use Rattle.pp_machine.specs.declared.need.Need.{Need}
-use Rattle.pp_machine.specs.declared.need.Need.TheVariants.{Nothing, Local, Channel, Read, Write}
+use Rattle.pp_machine.specs.declared.need.Need.TheVariants.{Channel}
 use Rattle.pp_machine.specs.declared.trace.Trace.{Trace}
 use Rattle.pp_text.specs.TextLaw.{FitsItsText}
 use Rattle.pp_check.specs.PrintedTrace.{IsPrintable}
+use Rattle.pp_check.proofs.LawLemmas.{increasing_push}
 
 abbrev turns_in : List Trace → List ℕ
 turns_in trace = map (λ e. e.turn) trace
@@ -30,19 +31,7 @@ rise_later next ts rise = record { rising = rise.rising; below = λ k within. le
 
 rise_push : (next : ℕ) (ts : List ℕ) → Rise next ts → Rise (next + 1) (ts ++ next ∷ [])
 rise_push next ts rise = record {
-  rising = λ k within. elim (cases_lt (k + 1) (length ts)) [
-    | inl early ↦
-        let a = get_or_append_left ts (next ∷ []) 0 k (omega (arith, early)) in
-        let b = get_or_append_left ts (next ∷ []) 0 (k + 1) early in
-        let r = rise.rising k early in
-        omega (arith, a, b, r)
-    | inr late ↦
-        let last : length ts ≡ k + 1 = omega (arith, within, late, length_push ts next) in
-        let a = get_or_append_left ts (next ∷ []) 0 k (omega (arith, last)) in
-        let b = get_or_push ts next 0 (k + 1) last in
-        let r = rise.below k (omega (arith, last)) in
-        omega (arith, a, b, r)
-  ];
+  rising = increasing_push ts next rise.rising (λ k last. rise.below k (omega (arith, last)));
   below = λ k within. elim (cases_lt k (length ts)) [
     | inl early ↦
         let a = get_or_append_left ts (next ∷ []) 0 k early in
@@ -54,13 +43,9 @@ rise_push next ts rise = record {
   ];
 }
 
-turns_push : (trace : List Trace) (e : Trace) → turns_in (trace ++ e ∷ []) ≡ turns_in trace ++ e.turn ∷ []
-turns_push [] e = refl
-turns_push (x ∷ trace) e = ap (λ (ts : List ℕ). x.turn ∷ ts) (turns_push trace e)
-
 rise_by_event : (n c : ℕ) (m : MachineState) (o : Option Event) → Rise m.turns (turns_in m.trace) → Rise (m.turns + 1) (turns_in (m.trace ++ map (λ e. record { turn = m.turns; pp = n; channel = c; event = e }) (option_to_list o)))
 rise_by_event n c m None rise = subst (λ (trace : List Trace). Rise (m.turns + 1) (turns_in trace)) (sym (append-nil m.trace)) (rise_later m.turns (turns_in m.trace) rise)
-rise_by_event n c m (Some e) rise = subst (Rise (m.turns + 1)) (sym (turns_push m.trace (record { turn = m.turns; pp = n; channel = c; event = e }))) (rise_push m.turns (turns_in m.trace) rise)
+rise_by_event n c m (Some e) rise = subst (Rise (m.turns + 1)) (sym (map-append (λ e. e.turn) m.trace (record { turn = m.turns; pp = n; channel = c; event = e } ∷ []))) (rise_push m.turns (turns_in m.trace) rise)
 
 rise_by_need : (n : ℕ) (x : Need) (m : MachineState) → Rise m.turns (turns_in m.trace) → Rise (m.turns + 1) (turns_in (trace_after n x m))
 rise_by_need n (Channel c op) m rise = rise_by_event n c m (event_of op (history_of c m)) rise

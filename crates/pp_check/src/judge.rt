@@ -1,8 +1,9 @@
 //! The judge of a trace, line by line.
 
-ghost use Rattle.std.specs.Prelude.{◌≡◌, ◌+◌, ◌*◌, ◌<◌, ◌≤◌, ◌^◌, [], Bool, List, Some, IsErr, OnOk, length};
+ghost use Rattle.std.specs.Prelude.{◌≡◌, ◌+◌, ◌*◌, ◌<◌, ◌≤◌, ◌^◌, [], Bool, List, Some, IsErr, IsTrue, OnOk, length};
+ghost use Rattle.pp_channel.specs.ChannelNo.{names_channel};
 ghost use Rattle.pp_deck.specs.DeckText.{fields_of};
-ghost use Rattle.pp_check.specs.Judge.{Happens, IsJudged, IsRead, Keeps, KeepsEvents, KeepsSome};
+ghost use Rattle.pp_check.specs.Judge.{Happens, IsJudged, IsRead, Keeps, KeepsEvents, KeepsSome, standing_of};
 ghost use Rattle.pp_check.specs.LawfulTrace.{Fits, event_on};
 ghost use Rattle.pp_check.specs.TraceLine.{parsed_line};
 ghost use Rattle.pp_check.specs.Verdict.{is_activate, verdict_of};
@@ -83,14 +84,14 @@ impl Judge {
                 self.happen(channel, event)
             }
             TraceLine::Numbered(number, channel, event) => {
-                let next = self.channels[channel.index()].next_number();
+                let next = self.standing_of(channel).next_number();
                 if number != next {
                     return Err(TraceFlaw::WrongNumber(channel, number, next));
                 }
                 self.happen(channel, event)
             }
             TraceLine::Standing(channel, told) => {
-                let state = self.channels[channel.index()].state;
+                let state = self.standing_of(channel).state;
                 if told != state {
                     return Err(TraceFlaw::WrongState(channel, told, state));
                 }
@@ -98,6 +99,14 @@ impl Judge {
             }
             TraceLine::Other => Ok(()),
         }
+    }
+
+    /// What is kept of a channel.
+    fn standing_of(&self, channel: ChannelNo) -> Standing
+        ensures kept { result ≡ standing_of self.now.channels channel }
+        ensures names { IsTrue (names_channel channel) }
+    {
+        self.channels[channel.index()]
     }
 
     /// Applies an event to its channel.
@@ -111,12 +120,11 @@ impl Judge {
         ensures room { OnOk result (self.new.events ≤ self.old.events + 1) }
         ensures turn { self.new.last_turn ≡ self.old.last_turn }
     {
-        let place = channel.index();
-        let standing = self.channels[place];
+        let standing = self.standing_of(channel);
         let Some(state) = standing.state.after(&event) else {
             return Err(TraceFlaw::UnlawfulEvent(channel, event, standing.state));
         };
-        self.channels[place] = Standing {
+        self.channels[channel.index()] = Standing {
             state,
             events: standing.events + 1,
             is_opened: standing.is_opened,

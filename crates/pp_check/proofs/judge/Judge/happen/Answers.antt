@@ -1,22 +1,18 @@
 use Rattle.std.proofs.Common.{ℕ, Bool, arith, rules, true, false, ◌≡◌, ◌+◌, sym, ap, ◌∙◌, length}
-use Rattle.std.specs.Prelude.{IsTrue, slice_set, if◌then◌else◌}
-use Rattle.pp_channel.specs.ChannelNo.{channel_count, names_channel}
-use Rattle.pp_channel.specs.ChannelPlaces.{named_below}
+use Rattle.std.specs.Prelude.{slice_set, if◌then◌else◌}
+use Rattle.pp_channel.specs.ChannelNo.{channel_count}
 use Rattle.pp_check.specs.Judge.{standing, standing_of}
 use Rattle.pp_check.specs.LawfulTrace.{history}
 use Rattle.pp_check.specs.Verdict.{is_activate}
-use Rattle.pp_check.proofs.KeepsLemmas.{few_events, few_sessions, keeps_event, kept_as, read_standing, standing_after}
+use Rattle.pp_check.proofs.KeepsLemmas.{few_events, few_sessions, keeps_event, kept_as, standing_after}
 use Rattle.pp_check.proofs.judge.Judge.happen.Goals as goal
 use Rattle.pp_check.proofs.judge.Judge.happen.Goals.{then-is_activate, else-is_activate}
 
 pub overflow_add-self : goal.overflow_add-self
 overflow_add-self c =
     let some = c.requires.kept in
-    let place = c.index-place.ensures.place in
-    let all : length c.args.self.now.channels ≡ channel_count = search rules in
-    let names : IsTrue (names_channel c.args.channel) = named_below c.args.channel (omega (arith, place, c.index-place.ensures.below)) in
-    let here = ap (λ s. s.events) (read_standing c.args.self.now.channels c.args.channel c.index-place.result c.index-self-place.result c.index-self-place.is place c.index-place.ensures.below all) in
-    let few = few_events some.0 some.1.0 c.args.self.now c.args.channel some.1.1 names in
+    let here = ap (λ s. s.events) c.standing_of-standing.ensures.kept in
+    let few = few_events some.0 some.1.0 c.args.self.now c.args.channel some.1.1 c.standing_of-standing.ensures.names in
     omega (arith, few, here)
 
 pub overflow_add-self-then-is_activate : goal.overflow_add-self-then-is_activate
@@ -28,27 +24,21 @@ overflow_add-self-then-is_activate c =
 pub returns-in_default-clause-happens : goal.returns-in_default-clause-happens
 unfolding standing
 returns-in_default-clause-happens c = λ opened lines line k fits is.
-    let place = c.index-place.ensures.place in
-    let all : length c.args.self.now.channels ≡ channel_count = search rules in
-    let names : IsTrue (names_channel c.args.channel) = named_below c.args.channel (omega (arith, place, c.index-place.ensures.below)) in
-    let here = read_standing c.args.self.now.channels c.args.channel c.index-place.result c.index-self-place.result c.index-self-place.is place c.index-place.ensures.below all ∙ k.channels c.args.channel names in
-    let state = ap (λ s. s.state) here in
+    let state = ap (λ s. s.state) (c.standing_of-standing.ensures.kept ∙ k.channels c.args.channel c.standing_of-standing.ensures.names) in
     (fits, is, state, c.in_default.ensures.unlawful (history opened lines c.args.channel) (k.lawful.histories c.args.channel) state)
 
 pub returns-clause-happens : goal.returns-clause-happens
 unfolding standing
 returns-clause-happens c = λ opened lines line k fits is.
-    let place = c.index-place.ensures.place in
     let e = c.args.event in
     let standings = c.args.self.now.channels in
     let all : length standings ≡ channel_count = search rules in
-    let names : IsTrue (names_channel c.args.channel) = named_below c.args.channel (omega (arith, place, c.index-place.ensures.below)) in
-    let read = read_standing standings c.args.channel c.index-place.result c.index-self-place.result c.index-self-place.is place c.index-place.ensures.below all in
-    let here = read ∙ k.channels c.args.channel names in
-    let more = c.in-Some.ensures.lawful (history opened lines c.args.channel) (k.lawful.histories c.args.channel) (ap (λ s. s.state) here) in
+    let read = c.standing_of-standing.ensures.kept in
+    let names = c.standing_of-standing.ensures.names in
+    let more = c.in-Some.ensures.lawful (history opened lines c.args.channel) (k.lawful.histories c.args.channel) (ap (λ s. s.state) (read ∙ k.channels c.args.channel names)) in
     let kept = keeps_event opened lines standings line c.args.channel e is names all c.args.self.now.events c.args.self.now.sessions c.in-Some.state k fits more.0 more.1 in
-    let written = ap (λ s. slice_set standings c.index-place.result (standing_after s c.in-Some.state)) (sym read) in
-    let moved = ap (λ i. slice_set standings i (standing_after (standing_of standings c.args.channel) c.in-Some.state)) (sym place) in
+    let written = ap (λ s. slice_set standings c.index.result (standing_after s c.in-Some.state)) (sym read) in
+    let moved = ap (λ i. slice_set standings i (standing_after (standing_of standings c.args.channel) c.in-Some.state)) (sym c.index.ensures.place) in
     elim c.if-is_activate.branch [
       | then-is_activate w ↦ rw w.self-is (kept_as _ _ _ _ _ _ _ (moved ∙ written) (begun (is_activate e) c.args.self.now.sessions (sym c.is_activate.ensures ∙ w.if-is_activate.true)) kept)
       | else-is_activate w ↦ rw w.self-is (kept_as _ _ _ _ _ _ _ (moved ∙ written) (going_on (is_activate e) c.args.self.now.sessions (sym c.is_activate.ensures ∙ w.if-is_activate.false)) kept)

@@ -1,11 +1,9 @@
-use Rattle.std.proofs.Common.{ℕ, arith, rules, refl, ◌≡◌, ◌≢◌, ◌<◌, sym, ap, ◌∙◌, subst, length, Option}
-use Rattle.std.specs.Prelude.{IfSome, IsTrue}
-use Rattle.pp_channel.specs.ChannelNo.{channel_count, names_channel}
-use Rattle.pp_channel.specs.ChannelPlaces.{named_below}
+use Rattle.std.proofs.Common.{ℕ, arith, rules, refl, ◌≡◌, ◌≢◌, ◌<◌, sym, ap, ◌∙◌, subst, Option}
+use Rattle.std.specs.Prelude.{IfSome}
 use Rattle.pp_check.specs.Judge.{next_number, standing}
 use Rattle.pp_check.specs.LawfulTrace.{last_turn}
 use Rattle.pp_check.specs.declared.trace_line.TraceLine.TheVariants.{AtTurn, Numbered}
-use Rattle.pp_check.proofs.KeepsLemmas.{at_turn_here, few_events, judged_by, keeps_without_event, next_number_is, nothing_told, numbered_here, read_standing, state_told}
+use Rattle.pp_check.proofs.KeepsLemmas.{at_turn_here, few_events, judged_by, keeps_without_event, next_number_is, nothing_told, numbered_here, state_told}
 use Rattle.pp_check.proofs.TraceLemmas.{last_turn_more, last_turn_same}
 use Rattle.pp_check.proofs.judge.Judge.judge.Goals as goal
 use Rattle.pp_check.proofs.judge.Judge.judge.Goals.{in-Some+else-turn-last, in_default}
@@ -23,30 +21,19 @@ returns-after-self-clause-judged c = λ opened lines k.
 pub next_number-next-requires : goal.next_number-next-requires
 next_number-next-requires c =
     let some = c.requires.kept in
-    let place = c.index.ensures.place in
-    let all : length c.args.self.now.channels ≡ channel_count = search rules in
-    let names : IsTrue (names_channel c.in-Numbered.channel) = named_below c.in-Numbered.channel (omega (arith, place, c.index.ensures.below)) in
-    let here = ap (λ s. s.events) (read_standing c.args.self.now.channels c.in-Numbered.channel c.index.result c.index-self-index.result c.index-self-index.is place c.index.ensures.below all) in
-    let few = few_events some.0 some.1.0 c.args.self.now c.in-Numbered.channel some.1.1 names in
+    let here = ap (λ s. s.events) c.standing_of.ensures.kept in
+    let few = few_events some.0 some.1.0 c.args.self.now c.in-Numbered.channel some.1.1 c.standing_of.ensures.names in
     omega (arith, few, here)
 
 pub returns-then-number-next-clause-judged : goal.returns-then-number-next-clause-judged
 returns-then-number-next-clause-judged c = λ opened lines k.
-    let place = c.index.ensures.place in
-    let channel = c.in-Numbered.channel in
-    let all : length c.args.self.now.channels ≡ channel_count = search rules in
-    let names : IsTrue (names_channel channel) = named_below channel (omega (arith, place, c.index.ensures.below)) in
-    let here = read_standing c.args.self.now.channels channel c.index.result c.index-self-index.result c.index-self-index.is place c.index.ensures.below all ∙ k.kept.channels channel names in
-    let next = c.next_number-next.ensures ∙ ap next_number here ∙ next_number_is opened lines channel in
-    ((c.in-Numbered.event, c.in-Numbered.is), next, c.if-number-next.true)
+    let here = c.standing_of.ensures.kept ∙ k.kept.channels c.in-Numbered.channel c.standing_of.ensures.names in
+    ((c.in-Numbered.event, c.in-Numbered.is), c.next_number-next.ensures ∙ ap next_number here ∙ next_number_is opened lines c.in-Numbered.channel, c.if-number-next.true)
 
 pub returns-else-number-next-clause-judged : goal.returns-else-number-next-clause-judged
 returns-else-number-next-clause-judged c = λ opened lines k.
-    let place = c.index.ensures.place in
     let channel = c.in-Numbered.channel in
-    let all : length c.args.self.now.channels ≡ channel_count = search rules in
-    let names : IsTrue (names_channel channel) = named_below channel (omega (arith, place, c.index.ensures.below)) in
-    let here = read_standing c.args.self.now.channels channel c.index.result c.index-self-index.result c.index-self-index.is place c.index.ensures.below all ∙ k.kept.channels channel names in
+    let here = c.standing_of.ensures.kept ∙ k.kept.channels channel c.standing_of.ensures.names in
     let next = c.next_number-next.ensures ∙ ap next_number here ∙ next_number_is opened lines channel in
     let line = Numbered c.in-Numbered.number channel c.in-Numbered.event in
     let happens = c.happen-in-Numbered.ensures.happens opened lines line k.kept (c.if-number-next.false ∙ next) (numbered_here c.in-Numbered.number channel c.in-Numbered.event) in
@@ -55,24 +42,16 @@ returns-else-number-next-clause-judged c = λ opened lines k.
 pub returns-then-ne-clause-judged : goal.returns-then-ne-clause-judged
 unfolding standing
 returns-then-ne-clause-judged c = λ opened lines k.
-    let place = c.index-in-Standing.ensures.place in
-    let channel = c.in-Standing.channel in
-    let all : length c.args.self.now.channels ≡ channel_count = search rules in
-    let names : IsTrue (names_channel channel) = named_below channel (omega (arith, place, c.index-in-Standing.ensures.below)) in
-    let here = read_standing c.args.self.now.channels channel c.index-in-Standing.result c.index-self-index-in-Standing.result c.index-self-index-in-Standing.is place c.index-in-Standing.ensures.below all ∙ k.kept.channels channel names in
-    let differs : c.in-Standing.told ≢ c.index-self-index-in-Standing.result.state = search rules in
-    (c.in-Standing.is, ap (λ s. s.state) here, λ same. differs (same ∙ ap (λ s. s.state) (sym c.index-self-index-in-Standing.is)))
+    let here = c.standing_of-state.ensures.kept ∙ k.kept.channels c.in-Standing.channel c.standing_of-state.ensures.names in
+    let differs : c.in-Standing.told ≢ c.standing_of-state.result.state = search rules in
+    (c.in-Standing.is, ap (λ s. s.state) here, differs)
 
 pub returns-else-ne-clause-judged : goal.returns-else-ne-clause-judged
 unfolding standing
 returns-else-ne-clause-judged c = λ opened lines k.
-    let place = c.index-in-Standing.ensures.place in
-    let channel = c.in-Standing.channel in
-    let all : length c.args.self.now.channels ≡ channel_count = search rules in
-    let names : IsTrue (names_channel channel) = named_below channel (omega (arith, place, c.index-in-Standing.ensures.below)) in
-    let here = read_standing c.args.self.now.channels channel c.index-in-Standing.result c.index-self-index-in-Standing.result c.index-self-index-in-Standing.is place c.index-in-Standing.ensures.below all ∙ k.kept.channels channel names in
-    let same : c.in-Standing.told ≡ c.index-self-index-in-Standing.result.state = search rules in
-    rw c.in-Standing.is (keeps_without_event opened lines _ _ k (same ∙ ap (λ s. s.state) (c.index-self-index-in-Standing.is ∙ here)) (state_told channel c.in-Standing.told))
+    let here = c.standing_of-state.ensures.kept ∙ k.kept.channels c.in-Standing.channel c.standing_of-state.ensures.names in
+    let same : c.in-Standing.told ≡ c.standing_of-state.result.state = search rules in
+    rw c.in-Standing.is (keeps_without_event opened lines _ _ k (same ∙ ap (λ s. s.state) here) (state_told c.in-Standing.channel c.in-Standing.told))
 
 pub returns-in-Other-clause-judged : goal.returns-in-Other-clause-judged
 returns-in-Other-clause-judged c = λ opened lines k. rw c.in-Other.is (keeps_without_event opened lines _ _ k tt nothing_told)
