@@ -1,9 +1,9 @@
 -- The words on the lines are the words that differ, in order; and what they make of the load.
-use Rattle.std.proofs.Common.{◌≡◌, ◌≢◌, ℕ, ◌+◌, ◌-◌, ◌%◌, ◌<◌, ◌≤◌, ◌⊎◌, inl, inr, zero, suc, Bool, true, false, not, cond, eqb, eqb-true, ◌&&◌, ◌||◌, List, [], ◌∷◌, ◌++◌, All, length, get_or, set, take, drop, refl, sym, ap, subst, ◌∙◌, append_assoc, arith}
+use Rattle.std.proofs.Common.{◌≡◌, ◌≢◌, ℕ, ◌+◌, ◌-◌, ◌%◌, ◌<◌, ◌≤◌, ◌⊎◌, inl, inr, zero, suc, Bool, true, false, not, cond, eqb, eqb-true, ◌&&◌, ◌||◌, List, [], ◌∷◌, ◌++◌, All, length, get_or, set, take, drop, refl, sym, ap, subst, ◌∙◌, append_assoc, arith, add-one}
 use Rattle.std.specs.List.{flat_map, list_any, range_with_len}
-use Rattle.std.proofs.lemmas.Bool.{cases_eq, cases_lt, cond-true, cond-false, eq-eqb, ne_eqb}
+use Rattle.std.proofs.lemmas.Bool.{cases_Bool, cases_eq, cases_lt, cond-true, cond-false, eq-eqb, eqb-false, ne_eqb, not-false, not-true}
 use Rattle.std.proofs.lemmas.List.{append-nil, drop_all, drop_more, take_all, take_more, get_or_past, length-take}
-use Rattle.std.proofs.lemmas.List.Elements.{All-append}
+use Rattle.std.proofs.lemmas.List.Elements.{All-append, All-cons, All-nil}
 use Rattle.std.proofs.lemmas.List.Concat.{flat_map-append}
 use Rattle.std.proofs.Math.Seq.{set-append_seam}
 use Rattle.pp_word.specs.Address.{place_count}
@@ -23,37 +23,24 @@ change before after place = cond (differs before after place) ((place, get_or af
 abbrev pub changes : List ℕ → List ℕ → ℕ → List (ℕ × ℕ)
 changes before after count = flat_map (change before after) (range_with_len 0 count)
 
-cases : (b : Bool) → (b ≡ true) ⊎ (b ≡ false)
-cases true = inl refl
-cases false = inr refl
-
-change_of : (before after : List ℕ) (place : ℕ) → differs before after place ≡ true → change before after place ≡ (place, get_or after place 0) ∷ []
-change_of before after place e = cond-true (differs before after place) _ _ e
-
-no_change : (before after : List ℕ) (place : ℕ) → differs before after place ≡ false → change before after place ≡ []
-no_change before after place e = cond-false (differs before after place) _ _ e
-
 changes_more : (before after : List ℕ) (place : ℕ) → differs before after place ≡ true → changes before after (place + 1) ≡ changes before after place ++ (place, get_or after place 0) ∷ []
-changes_more before after place e = range_flat (change before after) place ∙ ap (λ (xs : List (ℕ × ℕ)). changes before after place ++ xs) (change_of before after place e)
+changes_more before after place e = range_flat (change before after) place ∙ ap (λ (xs : List (ℕ × ℕ)). changes before after place ++ xs) (cond-true (differs before after place) _ _ e)
 
 changes_same : (before after : List ℕ) (place : ℕ) → differs before after place ≡ false → changes before after (place + 1) ≡ changes before after place
 changes_same before after place e =
-    range_flat (change before after) place ∙ ap (λ (xs : List (ℕ × ℕ)). changes before after place ++ xs) (no_change before after place e)
+    range_flat (change before after) place ∙ ap (λ (xs : List (ℕ × ℕ)). changes before after place ++ xs) (cond-false (differs before after place) _ _ e)
     ∙ append-nil (changes before after place)
+
+at_end : (place count : ℕ) → count ≡ 0 → place ≡ place + count
+at_end place count e = omega (arith, e)
 
 -- neighbours are the next changes
 neighbours_are : (before after : List ℕ) (most place : ℕ) → changes before after place ++ placed place (neighbours before after most place) ≡ changes before after (place + length (neighbours before after most place))
 neighbours_are before after zero place =
     ap (λ (ws : List ℕ). changes before after place ++ placed place ws) (no_more before after zero place refl) ∙ append-nil (changes before after place)
     ∙ ap (changes before after) (at_end place (length (neighbours before after zero place)) (ap length (no_more before after zero place refl)))
+neighbours_are before after (suc most) place = by (neighbours_are before after most (place + 1)) (cases_Bool (differs before after place))
   where
-    at_end : (place count : ℕ) → count ≡ 0 → place ≡ place + count
-    at_end place count e = omega (arith, e)
-neighbours_are before after (suc most) place = by (neighbours_are before after most (place + 1)) (cases (differs before after place))
-  where
-    at_end : (place count : ℕ) → count ≡ 0 → place ≡ place + count
-    at_end place count e = omega (arith, e)
-
     further : (place count : ℕ) → place + 1 + count ≡ place + suc count
     further place count = omega arith
 
@@ -87,7 +74,7 @@ words_before_more before after place =
 
 few_in_front : (before after : List ℕ) (place : ℕ) → position_on_line before after place < 8
 few_in_front before after zero = omega (arith, none_at_first before after)
-few_in_front before after (suc place) = by (cases (differs before after place))
+few_in_front before after (suc place) = by (cases_Bool (differs before after place))
   where
     by : (differs before after place ≡ true) ⊎ (differs before after place ≡ false) → position_on_line before after (suc place) < 8
     by (inl other) = omega (arith, in_front_of_next before after place other)
@@ -115,31 +102,19 @@ behind_more : (before after : List ℕ) (place : ℕ) → position_on_line befor
 unfolding words_after
 behind_more before after place e = cond-false (eqb (position_on_line before after place) 0) _ _ (ne_eqb (position_on_line before after place) 0 e)
 
-no_words : (before after : List ℕ) (most place : ℕ) → differs before after place ≡ false → length (neighbours before after most place) ≡ 0
-no_words before after most place e = ap length (no_neighbour before after most place e)
-
 behind_same : (before after : List ℕ) (place : ℕ) → differs before after place ≡ false → words_after before after place ≡ 0
 behind_same before after place e = by (cases_eq (position_on_line before after place) 0)
   where
     by : (position_on_line before after place ≡ 0) ⊎ (position_on_line before after place ≢ 0) → words_after before after place ≡ 0
     by (inl first) = behind_first before after place first
-    by (inr later) = behind_more before after place later ∙ no_words before after (8 - position_on_line before after place) place e
-
-more_words : (before after : List ℕ) (most place : ℕ) → differs before after place ≡ true → length (neighbours before after (suc most) place) ≡ suc (length (neighbours before after most (place + 1)))
-more_words before after most place e = ap length (one_neighbour before after most place e)
+    by (inr later) = behind_more before after place later ∙ ap length (no_neighbour before after (8 - position_on_line before after place) place e)
 
 -- behind a word that differs there are as many as may still come
 behind_next : (before after : List ℕ) (place : ℕ) → differs before after place ≡ true → words_after before after (suc place) ≡ length (neighbours before after (7 - position_on_line before after place) (place + 1))
 behind_next before after place e = by (cases_lt (position_on_line before after place) 7)
   where
-    front : ℕ
-    front = position_on_line before after place
-
     next : position_on_line before after (suc place) ≡ (position_on_line before after place + 1) % 8
     next = in_front_of_next before after place e
-
-    one_more : suc place ≡ place + 1
-    one_more = omega arith
 
     by : (position_on_line before after place < 7) ⊎ (7 ≤ position_on_line before after place) → words_after before after (suc place) ≡ length (neighbours before after (7 - position_on_line before after place) (place + 1))
     by (inl few) =
@@ -147,7 +122,7 @@ behind_next before after place e = by (cases_lt (position_on_line before after p
         let left : 8 - position_on_line before after (suc place) ≡ 7 - position_on_line before after place = omega (arith, next, few) in
         behind_more before after (suc place) later
         ∙ ap (λ (most : ℕ). length (neighbours before after most (suc place))) left
-        ∙ ap (λ (p : ℕ). length (neighbours before after (7 - position_on_line before after place) p)) one_more
+        ∙ ap (λ (p : ℕ). length (neighbours before after (7 - position_on_line before after place) p)) (sym (add-one place))
     by (inr many) =
         let low : position_on_line before after place < 8 = few_in_front before after place in
         let first : position_on_line before after (suc place) ≡ 0 = omega (arith, next, low, many) in
@@ -156,11 +131,8 @@ behind_next before after place e = by (cases_lt (position_on_line before after p
 
 -- over one place more
 words_step : (before after : List ℕ) (place : ℕ) → words_before before after place ≡ changes before after (place + words_after before after place) → words_before before after (place + 1) ≡ changes before after (suc place + words_after before after (suc place))
-words_step before after place so_far = by (cases (differs before after place))
+words_step before after place so_far = by (cases_Bool (differs before after place))
   where
-    ended : (behind : ℕ) → behind ≡ 0 → place + behind ≡ place
-    ended behind e = omega (arith, e)
-
     on : (behind : ℕ) → behind ≡ 0 → place + 1 ≡ suc place + behind
     on behind e = omega (arith, e)
 
@@ -173,7 +145,7 @@ words_step before after place so_far = by (cases (differs before after place))
     by : (differs before after place ≡ true) ⊎ (differs before after place ≡ false) → words_before before after (place + 1) ≡ changes before after (suc place + words_after before after (suc place))
     by (inr same) =
         no_line before after place (ap (λ (b : Bool). b && eqb (position_on_line before after place) 0) same)
-        ∙ so_far ∙ ap (changes before after) (ended (words_after before after place) (behind_same before after place same))
+        ∙ so_far ∙ ap (changes before after) (sym (at_end place (words_after before after place) (behind_same before after place same)))
         ∙ sym (changes_same before after place same)
         ∙ ap (changes before after) (on (words_after before after (suc place)) (behind_first before after (suc place) (in_front_of_same before after place same)))
     by (inl other) = by_front (cases_eq (position_on_line before after place) 0)
@@ -181,14 +153,14 @@ words_step before after place so_far = by (cases (differs before after place))
         counted : length (neighbours before after (8 - position_on_line before after place) place) ≡ suc (words_after before after (suc place))
         counted =
             ap (λ (most : ℕ). length (neighbours before after most place)) left
-            ∙ more_words before after (7 - position_on_line before after place) place other
+            ∙ ap length (one_neighbour before after (7 - position_on_line before after place) place other)
             ∙ ap (λ (k : ℕ). suc k) (sym (behind_next before after place other))
 
         by_front : (position_on_line before after place ≡ 0) ⊎ (position_on_line before after place ≢ 0) → words_before before after (place + 1) ≡ changes before after (suc place + words_after before after (suc place))
         by_front (inl first) =
             let begins : begins_line before after place ≡ true = ap (λ (b : Bool). b && eqb (position_on_line before after place) 0) other ∙ eq-eqb (position_on_line before after place) 0 first in
             one_line before after place begins
-            ∙ ap (λ (xs : List (ℕ × ℕ)). xs ++ placed place (neighbours before after 8 place)) (so_far ∙ ap (changes before after) (ended (words_after before after place) (behind_first before after place first)))
+            ∙ ap (λ (xs : List (ℕ × ℕ)). xs ++ placed place (neighbours before after 8 place)) (so_far ∙ ap (changes before after) (sym (at_end place (words_after before after place) (behind_first before after place first))))
             ∙ neighbours_are before after 8 place
             ∙ ap (changes before after) (along (length (neighbours before after 8 place)) (words_after before after (suc place)) (ap (λ (k : ℕ). length (neighbours before after (8 - k) place)) (sym first) ∙ counted))
         by_front (inr later) =
@@ -198,14 +170,8 @@ words_step before after place so_far = by (cases (differs before after place))
 
 -- the words on the lines so far are the changes, some of them ahead
 words_are : (before after : List ℕ) (place : ℕ) → words_before before after place ≡ changes before after (place + words_after before after place)
-words_are before after zero = ap (changes before after) (start (words_after before after 0) (behind_first before after 0 (none_at_first before after)))
-  where
-    start : (behind : ℕ) → behind ≡ 0 → 0 ≡ 0 + behind
-    start behind e = omega (arith, e)
-words_are before after (suc place) = ap (words_before before after) one_more ∙ words_step before after place (words_are before after place)
-  where
-    one_more : suc place ≡ place + 1
-    one_more = omega arith
+words_are before after zero = ap (changes before after) (at_end 0 (words_after before after 0) (behind_first before after 0 (none_at_first before after)))
+words_are before after (suc place) = ap (words_before before after) (sym (add-one place)) ∙ words_step before after place (words_are before after place)
 
 -- ---- all lines
 
@@ -216,17 +182,14 @@ pub words_on_lines : (before after : List ℕ) → length before ≡ place_count
 unfolding places
 words_on_lines before after long as_long =
     words_are before after place_count
-    ∙ ap (changes before after) (ended (words_after before after place_count) (behind_same before after place_count (past before after place_count (omega (arith, long)) (omega (arith, as_long)))))
-  where
-    ended : (behind : ℕ) → behind ≡ 0 → place_count + behind ≡ place_count
-    ended behind e = omega (arith, e)
+    ∙ ap (changes before after) (sym (at_end place_count (words_after before after place_count) (behind_same before after place_count (past before after place_count (omega (arith, long)) (omega (arith, as_long))))))
 
 central_set : (before after : List ℕ) (a : ℕ) → flat_map words_set (central_line before after a) ≡ change before after a
-central_set before after a = by (cases (differs before after a))
+central_set before after a = by (cases_Bool (differs before after a))
   where
     by : (differs before after a ≡ true) ⊎ (differs before after a ≡ false) → flat_map words_set (central_line before after a) ≡ change before after a
-    by (inl other) = ap (flat_map words_set) (cond-true (differs before after a) (central_words a (get_or after a 0 ∷ []) ∷ []) [] other) ∙ sym (change_of before after a other)
-    by (inr same) = ap (flat_map words_set) (cond-false (differs before after a) (central_words a (get_or after a 0 ∷ []) ∷ []) [] same) ∙ sym (no_change before after a same)
+    by (inl other) = ap (flat_map words_set) (cond-true (differs before after a) (central_words a (get_or after a 0 ∷ []) ∷ []) [] other) ∙ sym (cond-true (differs before after a) _ _ other)
+    by (inr same) = ap (flat_map words_set) (cond-false (differs before after a) (central_words a (get_or after a 0 ∷ []) ∷ []) [] same) ∙ sym (cond-false (differs before after a) _ _ same)
 
 pub words_of_central : (before after ks : List ℕ) → flat_map words_set (flat_map (central_line before after) ks) ≡ flat_map (change before after) ks
 words_of_central before after [] = refl
@@ -241,12 +204,8 @@ overwritten-append : (memory : List ℕ) (xs ys : List (ℕ × ℕ)) → overwri
 overwritten-append memory [] ys = refl
 overwritten-append memory ((place, w) ∷ xs) ys = overwritten-append (set memory place w) xs ys
 
-same_word : (b : Bool) → not b ≡ false → b ≡ true
-same_word true e = refl
-same_word false e = cc
-
-pub is_same : (before after : List ℕ) (place : ℕ) → differs before after place ≡ false → get_or before place 0 ≡ get_or after place 0
-is_same before after place e = eqb-true (get_or before place 0) (get_or after place 0) (same_word (eqb (get_or before place 0) (get_or after place 0)) e)
+is_same : (before after : List ℕ) (place : ℕ) → differs before after place ≡ false → get_or before place 0 ≡ get_or after place 0
+is_same before after place e = eqb-true (get_or before place 0) (get_or after place 0) (not-false _ e)
 
 -- the load before a place is overwritten
 half : List ℕ → List ℕ → ℕ → List ℕ
@@ -275,7 +234,7 @@ same_half before after place lt as_lt e =
     ∙ half_more before after place lt
 
 half_step : (before after : List ℕ) (count : ℕ) → count < length after → count < length before → overwritten before (changes before after count) ≡ half before after count → overwritten before (changes before after (count + 1)) ≡ half before after (count + 1)
-half_step before after count lt as_lt so_far = by (cases (differs before after count))
+half_step before after count lt as_lt so_far = by (cases_Bool (differs before after count))
   where
     by : (differs before after count ≡ true) ⊎ (differs before after count ≡ false) → overwritten before (changes before after (count + 1)) ≡ half before after (count + 1)
     by (inl other) =
@@ -291,12 +250,9 @@ overwritten_half : (before after : List ℕ) (count : ℕ) → count ≤ length 
 unfolding half
 overwritten_half before after zero le same = refl
 overwritten_half before after (suc count) le same =
-    ap (λ (k : ℕ). overwritten before (changes before after k)) (one_more count)
+    ap (λ (k : ℕ). overwritten before (changes before after k)) (sym (add-one count))
     ∙ half_step before after count (omega (arith, le)) (omega (arith, le, same)) (overwritten_half before after count (omega (arith, le)) same)
-    ∙ ap (half before after) (sym (one_more count))
-  where
-    one_more : (k : ℕ) → suc k ≡ k + 1
-    one_more k = omega arith
+    ∙ ap (half before after) (add-one count)
 
 pub overwritten_whole : (before after : List ℕ) (count : ℕ) → count ≡ length after → length before ≡ length after → overwritten before (changes before after count) ≡ after
 unfolding half
@@ -308,52 +264,35 @@ overwritten_whole before after count all same =
 
 -- ---- no word stands there already
 
-other_word : (b : Bool) → not b ≡ true → b ≡ false
-other_word true e = cc
-other_word false e = refl
-
-apart : (x y : ℕ) → eqb x y ≡ false → x ≡ y → ⊥
-apart x y different same = let yes : eqb x y ≡ true = eq-eqb x y same in cc
-
-is_other : (before after : List ℕ) (place : ℕ) → differs before after place ≡ true → get_or before place 0 ≢ get_or after place 0
-is_other before after place e = apart (get_or before place 0) (get_or after place 0) (other_word (eqb (get_or before place 0) (get_or after place 0)) e)
-
 new_one : (before after : List ℕ) (place : ℕ) → differs before after place ≡ true → All (IsNew before) ((place, get_or after place 0) ∷ [])
-new_one before after place e = All-one (IsNew before) (place, get_or after place 0) (is_other before after place e)
-  where
-    All-one : (P : ℕ × ℕ → Type 0) (x : ℕ × ℕ) → P x → All P (x ∷ [])
-    All-one P x holds zero d lt = holds
-    All-one P x holds (suc k) d lt = absurd (omega (arith, lt))
+new_one before after place e = All-cons (IsNew before) (place, get_or after place 0) [] (eqb-false _ _ (not-true _ e)) (All-nil (IsNew before))
 
 new_step : (before after : List ℕ) (count : ℕ) → All (IsNew before) (changes before after count) → All (IsNew before) (changes before after (count + 1))
-new_step before after count so_far = by (cases (differs before after count))
+new_step before after count so_far = by (cases_Bool (differs before after count))
   where
     by : (differs before after count ≡ true) ⊎ (differs before after count ≡ false) → All (IsNew before) (changes before after (count + 1))
     by (inl other) = subst (All (IsNew before)) (sym (changes_more before after count other)) (All-append (IsNew before) (changes before after count) ((count, get_or after count 0) ∷ []) so_far (new_one before after count other))
     by (inr same) = subst (All (IsNew before)) (sym (changes_same before after count same)) so_far
 
 pub all_new : (before after : List ℕ) (count : ℕ) → All (IsNew before) (changes before after count)
-all_new before after zero = λ k d lt. absurd (omega (arith, lt))
-all_new before after (suc count) = subst (λ (k : ℕ). All (IsNew before) (changes before after k)) (one_more count) (new_step before after count (all_new before after count))
-  where
-    one_more : (k : ℕ) → k + 1 ≡ suc k
-    one_more k = omega arith
+all_new before after zero = All-nil (IsNew before)
+all_new before after (suc count) = subst (λ (k : ℕ). All (IsNew before) (changes before after k)) (add-one count) (new_step before after count (all_new before after count))
 
 -- ---- a section
 
 none_changed : (before after ks : List ℕ) → list_any (differs before after) ks ≡ false → flat_map (change before after) ks ≡ []
 none_changed before after [] e = refl
-none_changed before after (k ∷ ks) e = by (cases (differs before after k)) e (none_changed before after ks)
+none_changed before after (k ∷ ks) e = by (cases_Bool (differs before after k)) e (none_changed before after ks)
   where
     by : (differs before after k ≡ true) ⊎ (differs before after k ≡ false) → list_any (differs before after) (k ∷ ks) ≡ false → (list_any (differs before after) ks ≡ false → flat_map (change before after) ks ≡ []) → flat_map (change before after) (k ∷ ks) ≡ []
     by (inl other) e rest = let yes : list_any (differs before after) (k ∷ ks) ≡ true = ap (λ (b : Bool). b || list_any (differs before after) ks) other in absurd (cc)
     by (inr same) e rest =
-        ap (λ (xs : List (ℕ × ℕ)). xs ++ flat_map (change before after) ks) (no_change before after k same)
+        ap (λ (xs : List (ℕ × ℕ)). xs ++ flat_map (change before after) ks) (cond-false (differs before after k) _ _ same)
         ∙ rest (sym (ap (λ (b : Bool). b || list_any (differs before after) ks) same) ∙ e)
 
 pub section_words : (n : ℕ) (before after : MachineState) → AreMemories n before after → flat_map words_set (changed_section before after n) ≡ changes (processor_of n before).memory (processor_of n after).memory place_count
 unfolding places
-section_words n before after m = by (cases (has_changes (processor_of n before).memory (processor_of n after).memory))
+section_words n before after m = by (cases_Bool (has_changes (processor_of n before).memory (processor_of n after).memory))
   where
     by : (has_changes (processor_of n before).memory (processor_of n after).memory ≡ true) ⊎ (has_changes (processor_of n before).memory (processor_of n after).memory ≡ false) → flat_map words_set (changed_section before after n) ≡ changes (processor_of n before).memory (processor_of n after).memory place_count
     by (inl some) =

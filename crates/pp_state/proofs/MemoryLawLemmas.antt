@@ -3,7 +3,8 @@ use Rattle.std.proofs.Common.{All, ◌≡◌, ◌≢◌, ◌∙◌, ℕ, zero, s
 use Rattle.std.specs.Prelude.{◌&&◌, ◌==◌, not, nat_lt, slice_index, if◌then◌else◌}
 use Rattle.std.specs.Char.{is_ascii_whitespace}
 use Rattle.std.specs.List.{list_all, range_with_len, suffix_len}
-use Rattle.std.proofs.lemmas.Bool.{cases_eq, cases_lt, eq-eqb, le-leb, le-ltb, ne_eqb}
+use Rattle.std.proofs.lemmas.Bool.{both_ways, cases_lt, eq-eqb, eqb-true, false_from_ne_true, le-leb, ltb-true, ne_eqb, not-false}
+use Rattle.std.proofs.lemmas.List.Sums.{AllPass-from_list_all}
 use Rattle.std.proofs.lemmas.List.{append-nil}
 use Rattle.std.proofs.lemmas.List.Elements.{All-append, All-cons, All-nil, All-take}
 use Rattle.std.proofs.lemmas.List.Folds.{list_all_at, list_any_at}
@@ -22,18 +23,11 @@ use Rattle.pp_state.specs.declared.bounds.Bounds.{Bounds}
 use Rattle.pp_state.proofs.MemoryLineLemmas.{IsPlain, line_if, lines_passing}
 use Rattle.pp_state.proofs.MemoryReadingLemmas.{number_after, number_trimmed}
 
-contradicts : true ≡ false → ⊥
-contradicts e = cc
-
 -- ---- characters
 
 table_plain : list_all (nat_lt 31) display_characters ≡ true
 unfolding display_characters
 table_plain = refl
-
-table_long : length display_characters ≡ 0o100
-unfolding display_characters
-table_long = refl
 
 plain_octal : (width n : ℕ) → All IsPlain (octal width n)
 plain_octal zero n = All-nil IsPlain
@@ -41,13 +35,8 @@ plain_octal (suc width) n =
     All-append IsPlain (octal width (n / 8)) (digit (n % 8)) (plain_octal width (n / 8)) (All-cons IsPlain (48 + n % 8) [] (omega arith) (All-nil IsPlain))
 
 plain_character : (code : ℕ) → code < 0o100 → IsPlain (display_character code)
-plain_character code within = by_order (cases_lt 31 (display_character code))
-  where
-    by_order : (31 < display_character code) ⊎ (display_character code ≤ 31) → IsPlain (display_character code)
-    by_order (inl past) = past
-    by_order (inr low) =
-        let fails : list_all (nat_lt 31) display_characters ≡ false = list_all_at (nat_lt 31) display_characters code 0 (omega (arith, within, table_long)) (le-ltb 31 (display_character code) low) in
-        absurd (contradicts (sym table_plain ∙ fails))
+unfolding display_characters
+plain_character code within = ltb-true 31 (display_character code) (AllPass-from_list_all (nat_lt 31) display_characters table_plain code 0 (omega (arith, within)))
 
 plain_displayed : (width word : ℕ) → All IsPlain (displayed width word)
 plain_displayed zero word = All-nil IsPlain
@@ -161,24 +150,13 @@ pub on_line : (met some : Bool) (column width w : ℕ) (l : List ℕ) → met �
     → number_on column width (if met && some then l ∷ [] else []) ≡ w
 on_line true true column width w l met reads zeros = reads
 on_line true false column width w l met reads zeros = sym (zeros refl)
-on_line false some column width w l met reads zeros = absurd (contradicts (sym met))
+on_line false some column width w l met reads zeros = absurd (cc)
 
 no_words : (pp : Processor) (place k : ℕ) → k < 8 → has_words pp place ≡ false → word_at pp (place + k) ≡ 0
-no_words pp place k within none = by_case (cases_eq (word_at pp (place + k)) 0)
-  where
-    is_word : ℕ → Bool
-    is_word p = not (word_at pp p == 0)
-
-    here : get_or (range_with_len place 8) k 0 ≡ place + k
-    here = get_or-range_with_len place 8 k 0 within
-
-    by_case : (word_at pp (place + k) ≡ 0) ⊎ (word_at pp (place + k) ≢ 0) → word_at pp (place + k) ≡ 0
-    by_case (inl is) = is
-    by_case (inr other) =
-        let found : has_words pp place ≡ true =
-        list_any_at is_word (range_with_len place 8) k 0 (omega (arith, within, length-range_with_len place 8))
-        (ap is_word here ∙ ap not (ne_eqb (word_at pp (place + k)) 0 other)) in
-        absurd (contradicts (sym found ∙ none))
+no_words pp place k within none =
+    let is_word : ℕ → Bool = λ p. not (word_at pp p == 0) in
+    eqb-true (word_at pp (place + k)) 0 (not-false _ (false_from_ne_true (is_word (place + k)) (λ some. both_ways (has_words pp place) none
+    (list_any_at is_word (range_with_len place 8) k 0 (omega (arith, within, length-range_with_len place 8)) (ap is_word (get_or-range_with_len place 8 k 0 within) ∙ some)))))
 
 met : (bounds : Bounds) (from to : ℕ) → bounds.first ≤ to → from ≤ bounds.last → meets bounds from to ≡ true
 met bounds from to first last = rw (le-leb bounds.first to first, le-leb from bounds.last last) refl
@@ -219,13 +197,6 @@ central_on_line : (a word : ℕ) → word < 8 ^ 20 → number_in 8 20 (central_l
 central_on_line a word small =
     ap (number_in 8 20) (central_is a word) ∙ number_after (octal 6 a ++ (32 ∷ 32 ∷ [])) (32 ∷ 32 ∷ displayed 10 word) 8 20 word refl small
 
-no_word : (word : ℕ) → not (word == 0) ≡ false → word ≡ 0
-no_word word none = by_case (cases_eq word 0)
-  where
-    by_case : (word ≡ 0) ⊎ (word ≢ 0) → word ≡ 0
-    by_case (inl is) = is
-    by_case (inr other) = absurd (contradicts (sym (ap not (ne_eqb word 0 other)) ∙ none))
-
 pub central_word_is_read : (bounds : Bounds) (central : List ℕ) (a : ℕ) → IsCentral central → a < length central → bounds.first ≤ a → a ≤ bounds.last
     → central_word_read a (central_text bounds central) ≡ slice_index central a
 unfolding central_text shown_word
@@ -237,4 +208,4 @@ central_word_is_read bounds central a are within first last =
     (λ m. plain_central m (word m)) (eq-eqb _ _ (address_on_line a (word a) (fits a within)))
     (λ m low other. ne_eqb _ _ (λ same. other (sym (address_on_line m (word m) (fits m low)) ∙ same))))
     ∙ on_line (meets bounds a a) (not (word a == 0)) 8 20 (word a) (central_line a (word a)) (met bounds a a first last)
-    (central_on_line a (word a) (are.small a)) (no_word (word a))
+    (central_on_line a (word a) (are.small a)) (λ none. eqb-true (word a) 0 (not-false _ none))

@@ -1,6 +1,7 @@
 -- A step is held exactly where its processor waits for a channel.
 use Rattle.std.proofs.Common.{◌≡◌, ◌≢◌, ℕ, ◌≤◌, ◌⊎◌, inl, inr, Bool, true, false, cond, List, [], ◌∷◌, Option, Some, None, length, refl, sym, ap, subst, ◌∙◌, arith}
 use Rattle.std.specs.Prelude.{IsTrue}
+use Rattle.std.proofs.lemmas.Bool.{both_ways, cases_Bool}
 use Rattle.std.proofs.lemmas.List.{get_or_past}
 use Rattle.pp_channel.specs.Answer.{IsReady, event_of, only_looks}
 use Rattle.pp_channel.specs.ChannelNo.{channel_count, channel_index, names_channel}
@@ -29,21 +30,13 @@ use Rattle.pp_text.proofs.HeldLemmas.{goes_on, held_where_none, moves_where_look
 
 -- ---- histories of all channels, also of numbers that name none
 
-named_or_not : (b : Bool) → IsTrue b ⊎ (IsTrue b → ⊥)
-named_or_not true = inl refl
-named_or_not false = inr (λ (is : IsTrue false). absurd (not_true is))
-  where
-    not_true : IsTrue false → ⊥
-    not_true is = cc
-
 lawful : (c : ℕ) (m : MachineState) → length m.histories ≡ channel_count → HoldsOnEachChannel m → IsLawful (history_of c m)
-lawful c m all holds = by (named_or_not (names_channel c))
-  where
-    by : IsTrue (names_channel c) ⊎ (IsTrue (names_channel c) → ⊥) → IsLawful (history_of c m)
-    by (inl named) = (holds c named).lawful
-    by (inr none) =
-        let past : channel_count ≤ channel_index c = place_past c none in
-        subst IsLawful (sym (get_or_past m.histories (channel_index c) [] (omega (arith, all, past)))) lawful_empty
+lawful c m all holds = elim (cases_Bool (names_channel c)) [
+  | inl named ↦ (holds c named).lawful
+  | inr none ↦
+      let past : channel_count ≤ channel_index c = place_past c (both_ways (names_channel c) none) in
+      subst IsLawful (sym (get_or_past m.histories (channel_index c) [] (omega (arith, all, past)))) lawful_empty
+]
 
 -- ---- a processor that waits is held
 
@@ -102,34 +95,14 @@ pub waits_where_held : (n : ℕ) (m : MachineState) → length m.histories ≡ c
 waits_where_held n m all holds held = by (need (processor_of n m)) refl (held_answer n m held)
   where
     by : (x : Need) → need (processor_of n m) ≡ x → IsHeldAnswer (answer_to (need (processor_of n m)) m) → IsHeld n m
-    by needs.Nothing e h = absurd (local (answer_to (need (processor_of n m)) m) (ap (λ (x : Need). answer_to x m) e) h)
-      where
-        local : (answer : Answer) → answer ≡ answers.Local → IsHeldAnswer answer → ⊥
-        local answer is (flags, shown) = cc
-    by needs.Local e h = absurd (local (answer_to (need (processor_of n m)) m) (ap (λ (x : Need). answer_to x m) e) h)
-      where
-        local : (answer : Answer) → answer ≡ answers.Local → IsHeldAnswer answer → ⊥
-        local answer is (flags, shown) = cc
-    by (needs.Read a) e h = absurd (read (answer_to (need (processor_of n m)) m) (answer_to (needs.Read a) m) (ap (λ (x : Need). answer_to x m) e) h)
-      where
-        read : (answer other : Answer) → answer ≡ answer_to (needs.Read a) m → IsHeldAnswer answer → ⊥
-        read answer other is (flags, shown) = cc
-    by (needs.Write a w) e h = absurd (wrote (answer_to (need (processor_of n m)) m) (ap (λ (x : Need). answer_to x m) e) h)
-      where
-        wrote : (answer : Answer) → answer ≡ answer_to (needs.Write a w) m → IsHeldAnswer answer → ⊥
-        wrote answer is (flags, shown) = cc
     by (needs.Channel c op) e h = waits_on n c op m (lawful c m all holds) e held
+    by x e (flags, shown) = let both = sym (ap (λ (y : Need). answer_to y m) e) ∙ shown in absurd (cc)
 
 -- ---- the text says so
 
 said : (x : Need) (o : Outcome) (m : MachineState) (count : ℕ) → held_text x o m count ≢ [] → o ≡ Held
 said (needs.Channel c op) Held m count some = refl
-said (needs.Channel c op) Moved m count some = absurd (some refl)
-said (needs.Channel c op) AtRest m count some = absurd (some refl)
-said needs.Nothing o m count some = absurd (some refl)
-said needs.Local o m count some = absurd (some refl)
-said (needs.Read a) o m count some = absurd (some refl)
-said (needs.Write a w) o m count some = absurd (some refl)
+said x o m count some = absurd (some refl)
 
 not_nothing : (x : ℕ) (xs ys : List ℕ) → ys ≡ x ∷ xs → ys ≡ [] → ⊥
 not_nothing x xs ys some none = cc

@@ -13,6 +13,7 @@ ghost use Rattle.pp_state.specs.declared.bounds.Bounds.{Bounds};
 
 /// The text of a memory is the memory: the word at each place within the bounds is read off its
 /// columns.
+#[tactic(auto, using(crate::proofs::MemoryLawLemmas::word_is_read))]
 pub fn memory_law()
     ensures { (bounds : Bounds) (pp : Processor) (place : ℕ) → IsMemory pp.memory
         → place < place_count → bounds.first ≤ place → place ≤ bounds.last
@@ -21,6 +22,7 @@ pub fn memory_law()
 
 /// The text of central memory is central memory: the word at each address within the bounds is read
 /// off its columns.
+#[tactic(auto, using(crate::proofs::MemoryLawLemmas::central_word_is_read))]
 pub fn central_law()
     ensures { (bounds : Bounds) (central : List ℕ) (a : ℕ) → IsCentral central
         → a < length central → bounds.first ≤ a → a ≤ bounds.last
