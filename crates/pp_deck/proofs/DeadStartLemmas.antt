@@ -1,11 +1,11 @@
 -- A loaded deck at dead start: who waits, on which channel, and what stays as the lines set it.
 use Rattle.std.proofs.Common.{◌≡◌, ℕ, ◌<◌, ◌≤◌, ◌&&◌, Bool, true, false, IsTrue, List, [], ◌∷◌, length, replicate, get_or, if◌then◌else◌, refl, sym, ap, ◌∙◌, arith, inl, inr}
 use Rattle.std.specs.Prelude.{Contains, not, nat_lt, slice_index_or}
-use Rattle.std.proofs.lemmas.Bool.{ltb-true, ltb-false, le-ltb}
+use Rattle.std.proofs.lemmas.Bool.{and_from, and_parts, both_ways, false_from_ne_true, not_from_false, not-true, ltb-true, ltb-false, le-ltb}
 use Rattle.std.proofs.lemmas.Bool.Decides.{leb_tells}
-use Rattle.std.proofs.lemmas.List.{ext_get_or, get_or_past, get_or-replicate, get_or_default, length-replicate}
+use Rattle.std.proofs.lemmas.List.{ext_get_or, get_or_past, get_or-replicate, length-replicate}
 use Rattle.std.proofs.lemmas.List.FromFn.{length-map-range_with_len, get_or-map-range_with_len}
-use Rattle.std.proofs.lemmas.List.Folds.{Any-from_list_any, list_any_at}
+use Rattle.std.proofs.lemmas.List.Folds.{list_any_at}
 use Rattle.pp_channel.specs.ChannelNo.{channel_count, channel_index, channel_number, names_channel}
 use Rattle.pp_channel.specs.declared.event.Event.{Event}
 use Rattle.pp_channel.specs.declared.event.Event.TheVariants.{Activate}
@@ -19,11 +19,11 @@ use Rattle.pp_machine.specs.ProcessorPlaces.{channel_of_processor}
 use Rattle.pp_machine.specs.ProcessorPlaces as processor_places
 use Rattle.pp_machine.specs.ProfilePlaces.{unnamed_lacks, has_at}
 use Rattle.pp_deck.specs.DeckLaw.{WaitsAtDeadStart}
-use Rattle.pp_deck.specs.DeckLine.{Line, nothing, central_size, central_words, section, start, words, dead_start}
+use Rattle.pp_deck.specs.DeckLine.{Line, dead_start}
 use Rattle.pp_word.specs.Tables.{tabulate, length-tabulate, get_or-tabulate, tabulate_is, tabulate_const}
 use Rattle.pp_deck.specs.DeckLoad.{is_dead_start, asks_dead_start, is_named, processor_loaded}
 use Rattle.pp_deck.specs.DeckMeaning.{LoadedDeck, set_by, unnamed_in, with_dead_start}
-use Rattle.pp_deck.proofs.LawLemmas.{named_here, some_name, named_some}
+use Rattle.pp_deck.proofs.LawLemmas.{named_here, some_line, some_name, named_some}
 use Rattle.pp_machine.specs.declared.profile.Profile.{Profile}
 
 -- ---- a machine at dead start, place by place
@@ -49,33 +49,11 @@ opened_at list m c named =
 -- ---- who waits
 
 some_asks : (lines : List Line) → asks_dead_start lines ≡ true → Contains lines dead_start
-some_asks lines e =
-    let h = Any-from_list_any is_dead_start lines e in
-    (h.0, h.2, get_or_default lines h.0 dead_start h.1 h.2 ∙ h.3 ∙ is_request h.1 h.4)
+some_asks lines e = some_line is_dead_start dead_start lines is_request e
   where
     is_request : (line : Line) → is_dead_start line ≡ true → line ≡ dead_start
     is_request dead_start e = refl
-    is_request nothing e = absurd (cc)
-    is_request (central_size n) e = absurd (cc)
-    is_request (central_words a ws) e = absurd (cc)
-    is_request (section n) e = absurd (cc)
-    is_request (start p a) e = absurd (cc)
-    is_request (words x ws) e = absurd (cc)
-
-asked_some : (lines : List Line) → Contains lines dead_start → asks_dead_start lines ≡ true
-asked_some lines h = list_any_at is_dead_start lines h.0 dead_start h.1 (ap is_dead_start h.2)
-
-and_left : (a b : Bool) → (a && b) ≡ true → a ≡ true
-and_left true b e = refl
-and_left false b e = absurd (cc)
-
-and_right : (a b : Bool) → (a && b) ≡ true → b ≡ true
-and_right true b e = e
-and_right false b e = absurd (cc)
-
-not_named : (n : ℕ) (lines : List Line) (b : Bool) → is_named lines n ≡ b → not b ≡ true → Contains lines (section n) → ⊥
-not_named n lines true e h some = absurd (cc)
-not_named n lines false e h some = let yes = named_some n lines some in absurd (cc)
+    is_request line e = absurd (cc)
 
 -- ---- the loaded machine, where dead start was asked for and where it was not
 
@@ -89,21 +67,10 @@ unfolding processors_started
 all_processors true deck e = length-map-range_with_len (λ place. processor_started (waits (unnamed_in deck.machine.profile deck.named)) deck.machine (processor_number place)) 0 processor_count
 all_processors false deck e = e
 
-pub central_stays : (b : Bool) (deck : LoadedDeck) → (with_dead_start b deck).machine.central ≡ deck.machine.central
-central_stays true deck = refl
-central_stays false deck = refl
-
-pub turns_stay : (b : Bool) (deck : LoadedDeck) → (with_dead_start b deck).machine.turns ≡ deck.machine.turns
-turns_stay true deck = refl
-turns_stay false deck = refl
-
-pub trace_stays : (b : Bool) (deck : LoadedDeck) → (with_dead_start b deck).machine.trace ≡ deck.machine.trace
-trace_stays true deck = refl
-trace_stays false deck = refl
-
-pub names_stay : (b : Bool) (deck : LoadedDeck) → (with_dead_start b deck).named ≡ deck.named
-names_stay true deck = refl
-names_stay false deck = refl
+-- what dead start leaves as it is
+pub stays : {A : Type 0} (f : LoadedDeck → A) (b : Bool) (deck : LoadedDeck) → f (with_dead_start true deck) ≡ f deck → f (with_dead_start b deck) ≡ f deck
+stays f true deck same = same
+stays f false deck same = refl
 
 -- ---- the processors that are not named
 
@@ -187,28 +154,21 @@ module _ (profile : Profile) where
 
   pub waiting : (lines : List Line) (n : ℕ) → is_waiting lines n ≡ true → WaitsAtDeadStart profile lines n
   waiting lines n e =
-      let unnamed = and_right (asks_dead_start lines) _ e in
+      let asked = and_parts (asks_dead_start lines) _ e in
+      let unnamed = and_parts (has_processor profile n) _ asked.1 in
       record {
-        processor = and_left (has_processor profile n) _ unnamed;
-        asked = some_asks lines (and_left (asks_dead_start lines) _ e);
-        unnamed = not_named n lines (is_named lines n) refl (and_right (has_processor profile n) _ unnamed);
+        processor = unnamed.0;
+        asked = some_asks lines asked.0;
+        unnamed = λ some. both_ways (is_named lines n) (not-true (is_named lines n) unnamed.1) (named_some n lines some);
       }
 
   pub waiting_where : (lines : List Line) (n : ℕ) → WaitsAtDeadStart profile lines n → is_waiting lines n ≡ true
   waiting_where lines n w =
-      ap (λ (b : Bool). b && (has_processor profile n && not (is_named lines n))) (asked_some lines w.asked)
-      ∙ ap (λ (b : Bool). b && not (is_named lines n)) w.processor ∙ ap not (unnamed (is_named lines n) refl)
-    where
-      unnamed : (b : Bool) → is_named lines n ≡ b → is_named lines n ≡ false
-      unnamed true e = absurd (w.unnamed (some_name n lines e))
-      unnamed false e = e
+      and_from (asks_dead_start lines) _ (list_any_at is_dead_start lines w.asked.0 dead_start w.asked.1 (ap is_dead_start w.asked.2))
+      (and_from (has_processor profile n) _ w.processor (not_from_false (is_named lines n) (false_from_ne_true (is_named lines n) (λ is. w.unnamed (some_name n lines is)))))
 
   pub not_waiting : (lines : List Line) (n : ℕ) → (WaitsAtDeadStart profile lines n → ⊥) → is_waiting lines n ≡ false
-  not_waiting lines n not_so = by (is_waiting lines n) refl
-    where
-      by : (b : Bool) → is_waiting lines n ≡ b → is_waiting lines n ≡ false
-      by true e = absurd (not_so (waiting lines n e))
-      by false e = e
+  not_waiting lines n not_so = false_from_ne_true (is_waiting lines n) (λ is. not_so (waiting lines n is))
 
   pub processor_is : (size : ℕ) (lines : List Line) (b : Bool) (n : ℕ) → asks_dead_start lines ≡ b → IsTrue (names_processor n) → processor_of n (with_dead_start b (set_by profile size lines)).machine ≡ (if is_waiting lines n then waiting_on n (processor_of n (set_by profile size lines).machine) else processor_of n (set_by profile size lines).machine)
   processor_is size lines true n e named =

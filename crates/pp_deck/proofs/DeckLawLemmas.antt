@@ -16,7 +16,7 @@ use Rattle.pp_deck.specs.DeckLoad.{word_for, central_word_for, start_in, asks_de
 use Rattle.pp_deck.specs.DeckMeaning.{LoadedDeck, set_by, with_dead_start, loaded, size_of, parsed_deck, faults_in, unless_faulty, meaning_of_lines, is_foreign, unless_foreign, deck_meaning}
 use Rattle.pp_deck.specs.DeckText.{lines_of}
 use Rattle.pp_deck.specs.declared.deck_fault.DeckFault.{DeckFault}
-use Rattle.pp_deck.proofs.DeadStartLemmas.{is_waiting, waiting, waiting_where, not_waiting, processor_is, opened_is, history_is, all_processors, each_history, central_stays, turns_stay, trace_stays, names_stay}
+use Rattle.pp_deck.proofs.DeadStartLemmas.{is_waiting, waiting, waiting_where, not_waiting, processor_is, opened_is, history_is, all_processors, each_history, stays}
 use Rattle.pp_deck.proofs.LawLemmas.{processor_here, place_here, registers_here, no_block_here, central_here, named_here, some_name, named_some, own_last, all_last, registers_at, start_set, set_start, word_set, set_word, central_set, set_central}
 use Rattle.pp_word.specs.Tables.{length-tabulate}
 use Rattle.pp_deck.proofs.LoadedRangeLemmas.{named_has, said_in_range}
@@ -55,18 +55,11 @@ module _ (profile : Profile) where
       (λ address lt. all_last lines (central_word_for address) (λ line w. SetsCentralWord line address w) 0 _ (λ line w. central_set line address w) (λ line w. set_central line address w)
       (central_here size lines address lt))
 
-  no_histories : (n : ℕ) → length (replicate n (let h : List Event = [] in h)) ≡ n
-  no_histories n = length-replicate n (let h : List Event = [] in h)
-
-  profile_stays : (b : Bool) (deck : LoadedDeck) → (with_dead_start b deck).machine.profile ≡ deck.machine.profile
-  profile_stays true deck = refl
-  profile_stays false deck = refl
-
   loaded_law : (size : ℕ) (lines : List Line) → KeepsDeckLaw lines (loaded profile size lines)
   loaded_law size lines =
       let asked = asks_dead_start lines in
       let set = set_by profile size lines in
-      let same : (loaded profile size lines).machine.profile ≡ profile = profile_stays asked set in
+      let same : (loaded profile size lines).machine.profile ≡ profile = stays (λ d. d.machine.profile) asked set refl in
       let wait : (n : ℕ) → WaitsAtDeadStart profile lines n → WaitsAtDeadStart (loaded profile size lines).machine.profile lines n = λ n w. subst (λ p. WaitsAtDeadStart p lines n) (sym same) w in
       let so : (n : ℕ) → WaitsAtDeadStart (loaded profile size lines).machine.profile lines n → WaitsAtDeadStart profile lines n = λ n w. subst (λ p. WaitsAtDeadStart p lines n) same w in
       record {
@@ -74,9 +67,9 @@ module _ (profile : Profile) where
             (places_hold size lines n place named ∙ ap (λ (pp : Processor). word_at pp place) (processor_here profile size lines n named) ∙ place_here profile lines n place within);
         starts = λ n named not_so. own_last n lines (λ line. option_map registers_at (start_in line)) Starts at_rest _ start_set set_start
             (ap registers_of (as_set size lines n named (λ w. not_so (wait n w)) ∙ processor_here profile size lines n named) ∙ registers_here profile lines n);
-        central = central_holds size lines _ (central_stays asked set);
+        central = central_holds size lines _ (stays (λ d. d.machine.central) asked set refl);
         named = λ n named.
-            let same = ap (λ (list : List Bool). get_or list (processor_index n) false) (names_stay asked set) ∙ named_here profile size lines n named in
+            let same = ap (λ (list : List Bool). get_or list (processor_index n) false) (stays (λ d. d.named) asked set refl) ∙ named_here profile size lines n named in
             (λ e. some_name n lines (sym same ∙ e), λ h. same ∙ named_some n lines h);
         waits = λ n w. waits_there size lines n (so n w);
         no_block = λ n named not_so. ap (λ (pp : Processor). pp.block) (as_set size lines n named (λ w. not_so (wait n w)) ∙ processor_here profile size lines n named) ∙ no_block_here profile lines n;
@@ -85,10 +78,10 @@ module _ (profile : Profile) where
             (λ e. wait c (waiting profile lines c (sym is ∙ e)), λ w. is ∙ waiting_where profile lines c (so c w));
         history = λ c named. history_is profile size lines asked c refl named ∙ sym (ap (λ (b : Bool). if b then Activate ∷ [] else []) (opened_is profile size lines asked c refl named));
         each_processor = all_processors asked set (length-tabulate processor_count (λ place. processor_loaded profile lines (processor_number place)));
-        each_name = ap length (names_stay asked set) ∙ length-tabulate processor_count (λ place. is_named lines (processor_number place));
-        each_channel = each_history asked set (no_histories channel_count);
-        no_turn = turns_stay asked set;
-        no_event = trace_stays asked set;
+        each_name = ap length (stays (λ d. d.named) asked set refl) ∙ length-tabulate processor_count (λ place. is_named lines (processor_number place));
+        each_channel = each_history asked set (length-replicate {A = List Event} channel_count []);
+        no_turn = stays (λ d. d.machine.turns) asked set refl;
+        no_event = stays (λ d. d.machine.trace) asked set refl;
       }
 
   -- ---- a deck that has a meaning
@@ -123,13 +116,13 @@ module _ (profile : Profile) where
   deck_size_of text deck e =
       let size = size_of (lines_of text) in
       let lines = parsed_deck profile (lines_of text) in
-      ap (λ (d : LoadedDeck). length d.machine.central) (sym (loaded_is text deck e)) ∙ ap length (central_stays (asks_dead_start lines) (set_by profile size lines)) ∙ length-central_loaded size lines
+      ap (λ (d : LoadedDeck). length d.machine.central) (sym (loaded_is text deck e)) ∙ ap length (stays (λ d. d.machine.central) (asks_dead_start lines) (set_by profile size lines) refl) ∙ length-central_loaded size lines
 
   -- its machine has the profile for which it was read
   pub deck_profile_of : (text : List ℕ) (deck : LoadedDeck) → deck_meaning profile text ≡ Ok deck → deck.machine.profile ≡ profile
   deck_profile_of text deck e =
       let lines = parsed_deck profile (lines_of text) in
-      ap (λ (d : LoadedDeck). d.machine.profile) (sym (loaded_is text deck e)) ∙ profile_stays (asks_dead_start lines) (set_by profile (size_of (lines_of text)) lines)
+      ap (λ (d : LoadedDeck). d.machine.profile) (sym (loaded_is text deck e)) ∙ stays (λ d. d.machine.profile) (asks_dead_start lines) (set_by profile (size_of (lines_of text)) lines) refl
 
   pub deck_names_within : (text : List ℕ) (deck : LoadedDeck) → deck_meaning profile text ≡ Ok deck → NamesWithin profile deck.named
   deck_names_within text deck e n named is = named_has profile (parsed_deck profile (lines_of text)) (said_in_range profile (lines_of text)) n (((deck_law_of text deck e).named n named).0 is)

@@ -1,10 +1,9 @@
 -- The last line that sets something holds.
-use Rattle.std.proofs.Common.{◌≡◌, ℕ, zero, suc, ◌+◌, ◌-◌, ◌<◌, ◌≤◌, ◌⊎◌, Bool, true, false, cond, leb, List, [], ◌∷◌, ◌++◌, length, take, map, get_or, Option, Some, None, refl, sym, ap, subst, ◌∙◌, arith, inl, inr, append-nil}
+use Rattle.std.proofs.Common.{◌≡◌, ℕ, zero, suc, ◌+◌, ◌-◌, ◌<◌, ◌≤◌, ◌⊎◌, Bool, true, false, cond, leb, List, [], ◌∷◌, ◌++◌, length, take, map, get_or, Option, Some, None, refl, sym, ap, subst, ◌∙◌, arith, add-one, inl, inr}
 use Rattle.std.specs.Prelude.{Contains, IsTrue, filter_map, option_to_list, option_map, slice_get, unwrap_or}
 use Rattle.std.specs.List.{range_with_len, cons_option, list_any}
-use Rattle.std.proofs.lemmas.Bool.{leb-true, le-leb, eqb-true, eq-eqb, cases_order}
+use Rattle.std.proofs.lemmas.Bool.{leb-true, le-leb, eqb-true, eq-eqb, cases_eq, cases_order}
 use Rattle.std.proofs.lemmas.List.{take_more, length-map, get_or_default}
-use Rattle.std.proofs.lemmas.List.Elements.{filter_map-append}
 use Rattle.std.proofs.lemmas.List.Folds.{Any-from_list_any, list_any_at}
 use Rattle.std.proofs.lemmas.List.FromFn.{fill_by_all}
 use Rattle.std.proofs.lemmas.Option.{slice_get-map}
@@ -20,44 +19,45 @@ use Rattle.pp_deck.specs.DeckLine.{Line, nothing, central_size, central_words, s
 use Rattle.pp_deck.specs.DeckLoad.{word_among, word_for, central_word_for, start_in, is_for, section_of, lines_for, is_named, memory_of, processor_with, processor_loaded, central_loaded}
 use Rattle.pp_deck.specs.DeckMeaning.{set_by}
 use Rattle.pp_deck.proofs.LineParts.{current_after}
-use Rattle.pp_word.specs.GrowingLists.{last_of, range_append, range_more, last_of_more, filter_map_more}
+use Rattle.pp_word.specs.GrowingLists.{last_of, or_else, range_more, last_of_more, filter_map_more}
 use Rattle.pp_word.specs.Tables.{length-tabulate, get_or-tabulate}
 use Rattle.pp_deck.proofs.SectionLemmas.{names, section_more}
 use Rattle.pp_machine.specs.declared.profile.Profile.{Profile}
 
 -- ---- the last number at which there is something
 
-none_in : {A : Type 0} (f : ℕ → Option A) (a n : ℕ) → ((k : ℕ) → a ≤ k → k < a + n → f k ≡ None) → filter_map f (range_with_len a n) ≡ []
-none_in {A} f a zero none = refl
-none_in {A} f a (suc n) none =
-    ap (λ (o : Option A). cons_option o (filter_map f (range_with_len (a + 1) n))) (none a (omega arith) (omega arith))
-    ∙ none_in f (a + 1) n (λ k le lt. none k (omega (arith, le)) (omega (arith, lt)))
-
--- the last is at k
-pub last_at : {A : Type 0} (f : ℕ → Option A) (n k : ℕ) (x : A) → k < n → f k ≡ Some x → ((j : ℕ) → k < j → j < n → f j ≡ None) → last_of (filter_map f (range_with_len 0 n)) ≡ Some x
-last_at {A} f n k x lt here behind =
-    let later : filter_map f (range_with_len (k + 1) (n - (k + 1))) ≡ [] = none_in f (k + 1) (n - (k + 1)) (λ j le less. behind j (omega (arith, le)) (omega (arith, less, lt))) in
-    let whole : filter_map f (range_with_len 0 n) ≡ filter_map f (range_with_len 0 k) ++ option_to_list (f k) =
-    ap (λ (m : ℕ). filter_map f (range_with_len 0 m)) (sum n k lt) ∙ ap (filter_map f) (range_append 0 (k + 1) (n - (k + 1)))
-    ∙ filter_map-append f (range_with_len 0 (k + 1)) (range_with_len (0 + (k + 1)) (n - (k + 1)))
-    ∙ ap (λ (i : ℕ). filter_map f (range_with_len 0 (k + 1)) ++ filter_map f (range_with_len i (n - (k + 1)))) (from_zero (k + 1))
-    ∙ ap (λ (xs : List A). filter_map f (range_with_len 0 (k + 1)) ++ xs) later
-    ∙ append-nil (filter_map f (range_with_len 0 (k + 1)))
-    ∙ ap (filter_map f) (range_more 0 k) ∙ filter_map_more f (range_with_len 0 k) (0 + k)
-    ∙ ap (λ (i : ℕ). filter_map f (range_with_len 0 k) ++ option_to_list (f i)) (from_zero k) in
-    ap last_of (whole ∙ ap (λ (o : Option A). filter_map f (range_with_len 0 k) ++ option_to_list o) here) ∙ last_of_more (filter_map f (range_with_len 0 k)) (Some x)
+last_more : {A : Type 0} (f : ℕ → Option A) (n : ℕ) → last_of (filter_map f (range_with_len 0 (suc n))) ≡ or_else (f n) (last_of (filter_map f (range_with_len 0 n)))
+last_more f n =
+    ap (λ (m : ℕ). last_of (filter_map f (range_with_len 0 m))) (sym (add-one n)) ∙ ap (λ (ks : List ℕ). last_of (filter_map f ks)) (range_more 0 n)
+    ∙ ap last_of (filter_map_more f (range_with_len 0 n) (0 + n)) ∙ last_of_more (filter_map f (range_with_len 0 n)) (f (0 + n))
+    ∙ ap (λ (i : ℕ). or_else (f i) (last_of (filter_map f (range_with_len 0 n)))) (from_zero n)
   where
-    sum : (n k : ℕ) → k < n → n ≡ (k + 1) + (n - (k + 1))
-    sum n k lt = omega (arith, lt)
-
     from_zero : (m : ℕ) → 0 + m ≡ m
     from_zero m = omega arith
 
+last_none : {A : Type 0} (f : ℕ → Option A) (n : ℕ) → ((k : ℕ) → k < n → f k ≡ None) → last_of (filter_map f (range_with_len 0 n)) ≡ None
+last_none f zero none = refl
+last_none {A} f (suc n) none =
+    last_more f n ∙ ap (λ (o : Option A). or_else o (last_of (filter_map f (range_with_len 0 n)))) (none n (omega arith)) ∙ last_none f n (λ k lt. none k (omega (arith, lt)))
+
+-- the last is at k
+last_at : {A : Type 0} (f : ℕ → Option A) (n k : ℕ) (x : A) → k < n → f k ≡ Some x → ((j : ℕ) → k < j → j < n → f j ≡ None) → last_of (filter_map f (range_with_len 0 n)) ≡ Some x
+last_at f zero k x lt here behind = absurd (omega (arith, lt))
+last_at {A} f (suc n) k x lt here behind = last_more f n ∙ by (last_at f n k x) (cases_eq k n)
+  where
+    earlier : Option A
+    earlier = last_of (filter_map f (range_with_len 0 n))
+
+    by : (k < n → f k ≡ Some x → ((j : ℕ) → k < j → j < n → f j ≡ None) → earlier ≡ Some x) → (k ≡ n) ⊎ (k ≡ n → ⊥) → or_else (f n) earlier ≡ Some x
+    by before (inl e) = ap (λ (o : Option A). or_else o earlier) (ap f (sym e) ∙ here)
+    by before (inr ne) =
+        ap (λ (o : Option A). or_else o earlier) (behind n (omega (arith, lt, ne)) (omega arith)) ∙ before (omega (arith, lt, ne)) here (λ j less within. behind j less (omega (arith, within)))
+
 -- a value that is the last one found holds the last
-pub holds_last : {A : Type 0} (lines : List Line) (f : ℕ → Option A) (Sets : ℕ → A → Type 0) (otherwise value : A) → ((k : ℕ) (x : A) → k < length lines → f k ≡ Some x → Sets k x) → ((k : ℕ) (x : A) → k < length lines → Sets k x → f k ≡ Some x) → value ≡ unwrap_or (last_of (filter_map f (range_with_len 0 (length lines)))) otherwise → HoldsLast lines Sets otherwise value
+holds_last : {A : Type 0} (lines : List Line) (f : ℕ → Option A) (Sets : ℕ → A → Type 0) (otherwise value : A) → ((k : ℕ) (x : A) → k < length lines → f k ≡ Some x → Sets k x) → ((k : ℕ) (x : A) → k < length lines → Sets k x → f k ≡ Some x) → value ≡ unwrap_or (last_of (filter_map f (range_with_len 0 (length lines)))) otherwise → HoldsLast lines Sets otherwise value
 holds_last {A} lines f Sets otherwise value found there is = record {
   last = λ k x lt sets behind. is ∙ ap (λ (o : Option A). unwrap_or o otherwise) (last_at f (length lines) k x lt (there k x lt sets) (λ j less within. nowhere j within (λ y h. behind j y less within h) (f j) refl));
-  none = λ never. is ∙ ap (λ (xs : List A). unwrap_or (last_of xs) otherwise) (none_in f 0 (length lines) (λ k le lt. let within : k < length lines = omega (arith, lt) in nowhere k within (λ x h. never k x within h) (f k) refl));
+  none = λ never. is ∙ ap (λ (o : Option A). unwrap_or o otherwise) (last_none f (length lines) (λ k within. nowhere k within (λ x h. never k x within h) (f k) refl));
 }
   where
     nowhere : (j : ℕ) → j < length lines → ((y : A) → Sets j y → ⊥) → (o : Option A) → f j ≡ o → f j ≡ None
@@ -80,12 +80,9 @@ for_more lines k n h other = record {
     at_line i m low high is (inr (inl less)) = h.latest i m low less is
     at_line i m low high is (inr (inr more)) = absurd (omega (arith, high, more))
 
-next_number : (k : ℕ) → suc k ≡ k + 1
-next_number k = omega arith
-
 section_next : (lines : List Line) (k : ℕ) → k < length lines → section_of (take (suc k) lines) ≡ current_after (line_of lines k) (section_of (take k lines))
 section_next lines k lt =
-    ap (λ (i : ℕ). section_of (take i lines)) (next_number k) ∙ ap section_of (take_more lines k nothing lt) ∙ section_more (take k lines) (line_of lines k)
+    ap (λ (i : ℕ). section_of (take i lines)) (sym (add-one k)) ∙ ap section_of (take_more lines k nothing lt) ∙ section_more (take k lines) (line_of lines k)
 
 no_section : (n : ℕ) → section_of [] ≡ Some n → ⊥
 unfolding section_of
@@ -109,7 +106,7 @@ pub heading_of : (lines : List Line) (k n : ℕ) → k ≤ length lines → sect
 heading_of lines zero n le e = absurd (no_section n e)
 heading_of lines (suc k) n le e =
     let P : ℕ → Type 0 = λ i. IsFor lines i n in
-    subst P (sym (next_number k)) (heading_at lines k n (heading_of lines k n (omega (arith, le)))
+    subst P (add-one k) (heading_at lines k n (heading_of lines k n (omega (arith, le)))
     (heading_or (line_of lines k) (section_of (take k lines)) n (sym (section_next lines k (omega (arith, le))) ∙ e)))
 
 section_at : (lines : List Line) (k n : ℕ) → (IsFor lines k n → section_of (take k lines) ≡ Some n) → (h : IsFor lines (suc k) n) → (h.heading ≡ k) ⊎ ((h.heading < k) ⊎ (k < h.heading)) → current_after (line_of lines k) (section_of (take k lines)) ≡ Some n
@@ -119,7 +116,7 @@ section_at lines k n before h (inr (inl less)) =
     ∙ before (record { heading = h.heading; before = less; names = h.names; latest = λ i m low high is. h.latest i m low (omega (arith, high)) is })
 section_at lines k n before h (inr (inr more)) = absurd (omega (arith, h.before, more))
 
-pub section_for : (lines : List Line) (k n : ℕ) → k ≤ length lines → IsFor lines k n → section_of (take k lines) ≡ Some n
+section_for : (lines : List Line) (k n : ℕ) → k ≤ length lines → IsFor lines k n → section_of (take k lines) ≡ Some n
 section_for lines zero n le h = absurd (omega (arith, h.before))
 section_for lines (suc k) n le h =
     section_next lines k (omega (arith, le)) ∙ section_at lines k n (section_for lines k n (omega (arith, le))) h (cases_order h.heading k)
@@ -130,10 +127,10 @@ found_among : (first place w : ℕ) (ws : List ℕ) (b : Bool) → leb first pla
 found_among first place w ws true e h = record { index = place - first; at_place = omega (arith, leb-true first place e); is_word = h }
 found_among first place w ws false e h = absurd (cc)
 
-pub stands : (first place w : ℕ) (ws : List ℕ) → word_among first ws place ≡ Some w → StandsAt first ws place w
+stands : (first place w : ℕ) (ws : List ℕ) → word_among first ws place ≡ Some w → StandsAt first ws place w
 stands first place w ws h = found_among first place w ws (leb first place) refl h
 
-pub is_among : (first place w : ℕ) (ws : List ℕ) → StandsAt first ws place w → word_among first ws place ≡ Some w
+is_among : (first place w : ℕ) (ws : List ℕ) → StandsAt first ws place w → word_among first ws place ≡ Some w
 is_among first place w ws h =
     let yes : leb first place ≡ true = le-leb first place (omega (arith, h.at_place)) in
     let at_index : place - first ≡ h.index = omega (arith, h.at_place) in
@@ -189,7 +186,7 @@ lines_for_are : {A : Type 0} (n : ℕ) (lines : List Line) (f : Line → Option 
 unfolding lines_for pick
 lines_for_are n lines f = filter_twice (λ k. cond (is_for n (section_of (take k lines))) (Some (line_of lines k)) None) f (range_with_len 0 (length lines))
 
-is_section : (n : ℕ) (current : Option ℕ) → is_for n current ≡ true → current ≡ Some n
+pub is_section : (n : ℕ) (current : Option ℕ) → is_for n current ≡ true → current ≡ Some n
 is_section n None e = absurd (cc)
 is_section n (Some m) e = ap Some (sym (eqb-true n m e))
 
@@ -254,10 +251,12 @@ is_name : (n : ℕ) (line : Line) → names n line ≡ true → line ≡ section
 is_name n (section m) e = ap section (sym (eqb-true n m e))
 is_name n line e = absurd (cc)
 
+-- what only one line can pass, if some line passes it
+pub some_line : (p : Line → Bool) (only : Line) (lines : List Line) → ((line : Line) → p line ≡ true → line ≡ only) → list_any p lines ≡ true → Contains lines only
+some_line p only lines is e = let h = Any-from_list_any p lines e in (h.0, h.2, get_or_default lines h.0 only h.1 h.2 ∙ h.3 ∙ is h.1 h.4)
+
 pub some_name : (n : ℕ) (lines : List Line) → list_any (names n) lines ≡ true → Contains lines (section n)
-some_name n lines e =
-    let h = Any-from_list_any (names n) lines e in
-    (h.0, h.2, get_or_default lines h.0 (section n) h.1 h.2 ∙ h.3 ∙ is_name n h.1 h.4)
+some_name n lines e = some_line (names n) (section n) lines (is_name n) e
 
 pub named_some : (n : ℕ) (lines : List Line) → Contains lines (section n) → list_any (names n) lines ≡ true
 named_some n lines h = list_any_at (names n) lines h.0 (section n) h.1 (ap (names n) h.2 ∙ eq-eqb n n refl)

@@ -2,22 +2,17 @@
 use Rattle.std.proofs.Common.{◌≡◌, ℕ, zero, suc, ◌+◌, ◌<◌, ◌≤◌, ◌⊎◌, Bool, true, false, cond, eqb, List, [], ◌∷◌, ◌++◌, length, take, get_or, Option, Some, None, refl, sym, ap, ◌∙◌, arith, append_assoc, append-nil, inl, inr}
 use Rattle.std.specs.Prelude.{filter_map, ◌&&◌, ◌||◌}
 use Rattle.std.specs.List.{AllByRecursion, flat_map, list_any, range_with_len, cons_option}
-use Rattle.std.proofs.lemmas.Bool.{eqb-true, eq-eqb, ne_eqb, cases_eq, cond-true, cond-false}
+use Rattle.std.proofs.lemmas.Bool.{and_right, eq-eqb, ne_eqb, cases_eq, cond-true, cond-false}
+use Rattle.pp_word.specs.GrowingLists.{flat_map_none}
 use Rattle.std.proofs.lemmas.List.Elements.{filter_map-append}
 use Rattle.std.proofs.lemmas.List.Folds.{list_any-append, list_any_at}
 use Rattle.pp_deck.specs.DeckLine.{Line, nothing, section}
 use Rattle.pp_deck.specs.DeckLoad.{is_for, section_of, lines_for}
 use Rattle.pp_deck.proofs.LineParts.{current_after}
-use Rattle.pp_deck.proofs.LawLemmas.{heading_of}
+use Rattle.pp_deck.proofs.LawLemmas.{heading_of, is_section}
 use Rattle.pp_deck.proofs.SectionLemmas.{names, section_more, lines_for_more, own}
 
 -- ---- lists over a range of which one number counts
-
-pub flat_none : {A : Type 0} (g : ℕ → List A) (a len : ℕ) → ((m : ℕ) → a ≤ m → g m ≡ []) → flat_map g (range_with_len a len) ≡ []
-flat_none g a zero none = refl
-flat_none {A} g a (suc len) none =
-    ap (λ (xs : List A). xs ++ flat_map g (range_with_len (a + 1) len)) (none a (omega arith))
-    ∙ flat_none g (a + 1) len (λ m le. none m (omega (arith, le)))
 
 pub flat_only : {A : Type 0} (g : ℕ → List A) (n a len : ℕ) → ((m : ℕ) → (n ≡ m → ⊥) → g m ≡ []) → a ≤ n → n < a + len → flat_map g (range_with_len a len) ≡ g n
 flat_only g n a zero none low high = absurd (omega (arith, low, high))
@@ -25,7 +20,7 @@ flat_only {A} g n a (suc len) none low high = at (λ ne. flat_only g n (a + 1) l
   where
     at : ((n ≡ a → ⊥) → flat_map g (range_with_len (a + 1) len) ≡ g n) → (n ≡ a) ⊎ (n ≡ a → ⊥) → g a ++ flat_map g (range_with_len (a + 1) len) ≡ g n
     at later (inl e) =
-        ap (λ (xs : List A). g a ++ xs) (flat_none g (a + 1) len (λ m le. none m (λ h. absurd (omega (arith, e, h, le)))))
+        ap (λ (xs : List A). g a ++ xs) (flat_map_none g (a + 1) len (λ m le lt. none m (λ h. absurd (omega (arith, e, h, le)))))
         ∙ append-nil (g a) ∙ ap g (sym e)
     at later (inr ne) =
         ap (λ (xs : List A). xs ++ flat_map g (range_with_len (a + 1) len)) (none a ne)
@@ -171,14 +166,6 @@ named_if : (n m : ℕ) (b : Bool) (body : List Line) → list_any (names n) body
 named_if n m true body none = ap (λ (b : Bool). eqb n m || b) none ∙ or_false (eqb n m)
 named_if n m false body none = refl
 
-and_false : (b : Bool) → (b && false) ≡ false
-and_false true = refl
-and_false false = refl
-
-and_true : (b : Bool) → (b && true) ≡ b
-and_true true = refl
-and_true false = refl
-
 -- the processors that sections name
 pub named_by_sections : (named : ℕ → Bool) (body : ℕ → List Line) (n count : ℕ) (head : List Line) → ((m : ℕ) → list_any (names n) (body m) ≡ false) → list_any (names n) head ≡ false → n < count → list_any (names n) (head ++ flat_map (section_if named body) (range_with_len 0 count)) ≡ named n
 named_by_sections named body n count head none no_head lt =
@@ -186,8 +173,12 @@ named_by_sections named body n count head none no_head lt =
     ∙ ap (λ (b : Bool). b || list_any (names n) (flat_map (section_if named body) (range_with_len 0 count))) no_head
     ∙ any_flat (names n) (section_if named body) (range_with_len 0 count)
     ∙ any_only (λ m. list_any (names n) (section_if named body m)) n 0 count
-    (λ m ne. named_if n m (named m) (body m) (none m) ∙ ap (λ (b : Bool). named m && b) (ne_eqb n m ne) ∙ and_false (named m)) (omega arith) (omega (arith, lt))
+    (λ m ne. named_if n m (named m) (body m) (none m) ∙ ap (λ (b : Bool). named m && b) (ne_eqb n m ne) ∙ and_right (named m) false refl) (omega arith) (omega (arith, lt))
     ∙ named_if n n (named n) (body n) (none n) ∙ ap (λ (b : Bool). named n && b) (eq-eqb n n refl) ∙ and_true (named n)
+  where
+    and_true : (b : Bool) → (b && true) ≡ b
+    and_true true = refl
+    and_true false = refl
 
 -- ---- central words
 
@@ -200,21 +191,16 @@ pub unset_by_sections : (f : Line → Option ℕ) (named : ℕ → Bool) (body :
 unset_by_sections f named body count head none no_body =
     filter_map-append f head (flat_map (section_if named body) (range_with_len 0 count))
     ∙ ap (λ (xs : List ℕ). filter_map f head ++ xs)
-    (filter_flat f (section_if named body) (range_with_len 0 count) ∙ flat_none (λ m. filter_map f (section_if named body m)) 0 count (λ m le. central_if f m (named m) (body m) (none m) (no_body m)))
+    (filter_flat f (section_if named body) (range_with_len 0 count) ∙ flat_map_none (λ m. filter_map f (section_if named body m)) 0 count (λ m le lt. central_if f m (named m) (body m) (none m) (no_body m)))
     ∙ append-nil (filter_map f head)
 
 -- ---- processors that are not named
 
--- no line is for them
-none_between : {A : Type 0} (f : ℕ → Option A) (a n : ℕ) → ((k : ℕ) → a ≤ k → k < a + n → f k ≡ None) → filter_map f (range_with_len a n) ≡ []
-none_between f a zero none = refl
-none_between {A} f a (suc n) none =
+none_in : {A : Type 0} (f : ℕ → Option A) (a n : ℕ) → ((k : ℕ) → a ≤ k → k < a + n → f k ≡ None) → filter_map f (range_with_len a n) ≡ []
+none_in f a zero none = refl
+none_in {A} f a (suc n) none =
     ap (λ (o : Option A). cons_option o (filter_map f (range_with_len (a + 1) n))) (none a (omega arith) (omega arith))
-    ∙ none_between f (a + 1) n (λ k le lt. none k (omega (arith, le)) (omega (arith, lt)))
-
-is_section : (n : ℕ) (current : Option ℕ) → is_for n current ≡ true → current ≡ Some n
-is_section n None e = absurd (cc)
-is_section n (Some m) e = ap Some (sym (eqb-true n m e))
+    ∙ none_in f (a + 1) n (λ k le lt. none k (omega (arith, le)) (omega (arith, lt)))
 
 not_picked : (n : ℕ) (lines : List Line) (k : ℕ) → k < length lines → list_any (names n) lines ≡ false → (b : Bool) → is_for n (section_of (take k lines)) ≡ b → cond b (Some (get_or lines k nothing)) None ≡ None
 not_picked n lines k lt absent false e = refl
@@ -227,5 +213,5 @@ not_picked n lines k lt absent true e =
 pub unnamed_empty : (n : ℕ) (lines : List Line) → list_any (names n) lines ≡ false → lines_for n lines ≡ []
 unfolding lines_for
 unnamed_empty n lines absent =
-    none_between (λ k. cond (is_for n (section_of (take k lines))) (Some (get_or lines k nothing)) None) 0 (length lines)
+    none_in (λ k. cond (is_for n (section_of (take k lines))) (Some (get_or lines k nothing)) None) 0 (length lines)
     (λ k le lt. not_picked n lines k (omega (arith, lt)) absent (is_for n (section_of (take k lines))) refl)

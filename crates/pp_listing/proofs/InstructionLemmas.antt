@@ -9,15 +9,13 @@ use Rattle.pp_machine.specs.declared.pp_state.PpState.{PpState}
 use Rattle.pp_machine.specs.declared.pp_state.PpState.TheVariants.{Running}
 use Rattle.pp_machine.specs.declared.profile.Profile.{Profile}
 use Rattle.pp_deck.specs.DeckLine.{Line, start, words, line_after}
-use Rattle.pp_deck.specs.DeckLoad.{word_among, word_for, central_word_for, start_in, is_dead_start}
+use Rattle.pp_deck.specs.DeckLoad.{word_among, word_for}
 use Rattle.pp_word.specs.GrowingLists.{last_of}
-use Rattle.pp_deck.proofs.SectionLemmas.{names}
-use Rattle.pp_deck.proofs.LineParts.{current_after}
 use Rattle.pp_text.specs.InstructionText.{is_long}
 use Rattle.pp_listing.specs.ListedLine.{ListedLine, one_word, two_words, says}
 use Rattle.pp_listing.specs.Listing.{instruction_lines, start_line}
 use Rattle.pp_listing.proofs.ListedLineLemmas.{fields_said}
-use Rattle.pp_listing.proofs.PrintedLineLemmas.{words_line_read, start_read}
+use Rattle.pp_listing.proofs.PrintedLineLemmas.{words_line_read}
 use Rattle.pp_deck.proofs.SectionLinesLemmas.{all_unset}
 
 all_if : (P : Line → Type 0) (b : Bool) (xs ys : List ListedLine) → AllByRecursion P (map says xs) → AllByRecursion P (map says ys) → AllByRecursion P (map says (cond b xs ys))

@@ -1,29 +1,24 @@
 -- The lines of a listing, taken all together, load the deck that they list.
 use Rattle.std.proofs.Common.{◌≡◌, ℕ, suc, ◌-◌, ◌<◌, ◌⊎◌, Bool, true, false, cond, eqb, List, [], ◌∷◌, ◌++◌, length, get_or, Option, Some, None, refl, sym, ap, ◌∙◌, map, subst, arith, append-nil, inl, inr}
-use Rattle.std.specs.Prelude.{filter_map, unwrap_or, IsTrue, ◌&&◌, ◌||◌}
+use Rattle.std.specs.Prelude.{filter_map, unwrap_or, ◌&&◌, ◌||◌}
 use Rattle.std.specs.List.{AllByRecursion, flat_map, list_any, range_with_len, cons_option}
 use Rattle.std.proofs.lemmas.Bool.{eqb-true, cases_order}
 use Rattle.std.proofs.lemmas.List.Elements.{All-from_recursion, filter_map-append}
 use Rattle.std.proofs.lemmas.List.Folds.{list_any-append, list_any_none}
 use Rattle.std.proofs.lemmas.List.{map-append}
 use Rattle.pp_word.specs.Address.{place_count}
-use Rattle.pp_machine.specs.MachineState.{new_machine}
 use Rattle.pp_machine.specs.Processor.{Processor, word_at}
-use Rattle.pp_machine.specs.PpNo.{names_processor, processor_count, processor_number, each_processor}
-use Rattle.pp_machine.specs.ProcessorPlaces.{number_named}
 use Rattle.pp_machine.specs.declared.profile.Profile.{Profile}
 use Rattle.pp_deck.specs.DeckLine.{Line, central_size, central_words, section, start, words, dead_start}
-use Rattle.pp_word.specs.Tables.{tabulate, tabulate_is, tabulate_same}
+use Rattle.pp_word.specs.Tables.{tabulate, tabulate_is}
 use Rattle.pp_deck.specs.DeckLoad.{word_among, word_for, central_word_for, start_in, lines_for, is_named, is_dead_start, asks_dead_start, memory_of, central_loaded, processor_with, processor_loaded}
-use Rattle.pp_deck.specs.DeckMeaning.{LoadedDeck, set_by}
 use Rattle.pp_word.specs.GrowingLists.{last_of}
-use Rattle.pp_deck.proofs.MemoryLemmas.{length-central_loaded}
 use Rattle.pp_deck.proofs.SectionLemmas.{names}
 use Rattle.pp_deck.proofs.SectionLinesLemmas.{KeepsCurrent, all_append, all_flat, all_unset, or_false, flat_only, filter_flat, any_flat, any_none, section_if, held_by_sections, named_by_sections, unset_by_sections}
 use Rattle.pp_listing.specs.ListedLine.{says}
 use Rattle.pp_listing.specs.Listing.{instruction_lines, start_line}
 use Rattle.pp_listing.proofs.InstructionLemmas.{among_at, among_before, instructions_all, instructions_hold, start_all}
-use Rattle.pp_listing.proofs.NumberLemmas.{number_count, processor_counts}
+use Rattle.pp_listing.proofs.NumberLemmas.{number_count}
 
 -- the lines of a processor behind its heading
 abbrev pub body_of : Processor → List Line

@@ -1,7 +1,8 @@
 -- The listing of a deck, read as a deck.
-use Rattle.std.proofs.Common.{◌≡◌, ℕ, zero, suc, ◌+◌, ◌^◌, ◌<◌, ◌≤◌, Bool, true, false, cond, eqb, List, [], ◌∷◌, ◌++◌, length, get_or, map, Option, Some, None, Ok, Err, refl, sym, ap, subst, ◌∙◌, arith}
-use Rattle.std.specs.Prelude.{IsTrue, ◌&&◌, not, All, position, is_some, nat_lt}
+use Rattle.std.proofs.Common.{◌≡◌, ℕ, zero, suc, ◌+◌, ◌^◌, ◌<◌, ◌≤◌, Bool, true, false, cond, eqb, List, [], ◌∷◌, ◌++◌, length, get_or, map, Option, Some, None, Ok, refl, sym, ap, subst, ◌∙◌, arith}
+use Rattle.std.specs.Prelude.{IsTrue, ◌&&◌, not, is_some}
 use Rattle.std.specs.List.{AllByRecursion, flat_map, list_any, range_with_len}
+use Rattle.std.proofs.lemmas.Bool.{and_left, and_parts, both_ways, false_from_ne_true}
 use Rattle.std.proofs.lemmas.List.{map-append}
 use Rattle.std.proofs.lemmas.List.Elements.{All-cons, All-nil}
 use Rattle.std.proofs.lemmas.List.Folds.{list_any_at, list_any_none}
@@ -21,10 +22,10 @@ use Rattle.std.proofs.lemmas.Grind.{get_or_default_zero}
 use Rattle.pp_machine.specs.PpNo.{all_processors, names_processor, processor_count, processor_index, processor_number, each_processor, is_named}
 use Rattle.pp_machine.specs.Profile.{has_processor}
 use Rattle.pp_machine.specs.declared.profile.Profile.{Profile}
-use Rattle.pp_deck.specs.DeckLine.{Line, central_size, central_words, section, start, words, dead_start}
+use Rattle.pp_deck.specs.DeckLine.{Line, central_size, central_words, section, dead_start}
 use Rattle.pp_deck.specs.DeckLoad.{processor_loaded, processor_with, central_loaded, asks_dead_start, lines_for, memory_of, start_in}
 use Rattle.pp_deck.specs.DeckLoad as load
-use Rattle.pp_deck.specs.DeckMeaning.{LoadedDeck, set_by, with_dead_start, loaded, deck_meaning, meaning_of_lines, faults_in, parsed_deck, size_of, unless_faulty, unless_foreign, is_foreign}
+use Rattle.pp_deck.specs.DeckMeaning.{LoadedDeck, set_by, with_dead_start, loaded, deck_meaning, meaning_of_lines, parsed_deck, size_of}
 use Rattle.pp_deck.proofs.LineParts.{current_after}
 use Rattle.pp_deck.specs.DeckText.{lines_of}
 use Rattle.pp_deck.proofs.DeadStartLemmas as dead
@@ -34,7 +35,7 @@ use Rattle.pp_deck.proofs.LoadedRangeLemmas.{processor_in_range, central_in_rang
 use Rattle.pp_deck.proofs.RangeLemmas.{InRange, size_in_range}
 use Rattle.pp_deck.proofs.SectionLinesLemmas.{KeepsCurrent, section_if, unnamed_empty}
 use Rattle.pp_listing.specs.ListedLine.{ListedLine, bare, says, text_line}
-use Rattle.pp_listing.specs.Listing.{ReadsBackAs, central_word_line, dead_start_line, instruction_lines, listed, listing, named_section, section_lines, start_line}
+use Rattle.pp_listing.specs.Listing.{ReadsBackAs, central_word_line, dead_start_line, listed, listing, named_section, section_lines}
 use Rattle.pp_listing.proofs.InstructionLemmas.{IsReadInSection, instructions_read, start_all}
 use Rattle.pp_listing.proofs.ListedLemmas.{all_of_body, each_of_body, body_of, word_line, central_lines, dead_line, lines_of_parts, asked_held, central_held, central_is, memory_held, memory_is, memory_with, named_held, processor_is, start_held}
 use Rattle.pp_listing.proofs.ListedLineLemmas.{fields_said}
@@ -111,10 +112,6 @@ says_section : (n : ℕ) (pp : Processor) (b : Bool) → map says (cond b (secti
 says_section n pp true = refl
 says_section n pp false = refl
 
-left_false : (a b : Bool) → (IsTrue a → ⊥) → (a && b) ≡ false
-left_false true b none = absurd (none refl)
-left_false false b none = refl
-
 unfoldable pub dead_of : LoadedDeck → Bool
 dead_of deck = list_any (λ c. is_opened c deck.machine) all_channels
 
@@ -139,7 +136,7 @@ said deck =
     ∙ ap (λ (ls : List Line). (central_size (length central) ∷ central_lines central) ++ ls) (says_dead (list_any (λ c. is_opened c deck.machine) all_channels)))
     ∙ ap (λ (ls : List Line). ((central_size (length central) ∷ central_lines central) ++ dead_line (list_any (λ c. is_opened c deck.machine) all_channels)) ++ ls)
     (says_each (named_section deck.named deck.machine) (section_if (λ n. is_named deck.named n) (λ n. body_of (processor_of n deck.machine))) all_processors (λ n. says_section n (processor_of n deck.machine) (is_named deck.named n))
-    ∙ sections_by_number (λ n. is_named deck.named n) (λ n. body_of (processor_of n deck.machine)) (λ n none. left_false (names_processor n) (get_or deck.named (processor_index n) false) none))
+    ∙ sections_by_number (λ n. is_named deck.named n) (λ n. body_of (processor_of n deck.machine)) (λ n none. and_left (names_processor n) (get_or deck.named (processor_index n) false) (false_from_ne_true (names_processor n) none)))
 
 pub listing_is : (deck : LoadedDeck) → listing deck ≡ flat_map text_line (listed deck)
 unfolding listing
@@ -147,22 +144,14 @@ listing_is deck = refl
 
 -- ---- what lines load
 
-and_left : (a b : Bool) → (a && b) ≡ true → a ≡ true
-and_left true b e = refl
-and_left false b e = absurd (cc)
-
 pub numbered : (deck : LoadedDeck) (n : ℕ) → names_of deck n ≡ true → IsTrue (names_processor n)
 unfolding names_of
-numbered deck n e = and_left (names_processor n) (get_or deck.named (processor_index n) false) e
+numbered deck n e = (and_parts (names_processor n) (get_or deck.named (processor_index n) false) e).0
 
 awake_if : (asked number named : Bool) → named ≡ true → (asked && (number && not named)) ≡ false
 awake_if true true named e = ap not e
 awake_if true false named e = refl
 awake_if false number named e = refl
-
-unless : (b any : Bool) → (b ≡ true → any ≡ true) → any ≡ false → b ≡ false
-unless true any h e = sym (h refl) ∙ e
-unless false any h e = refl
 
 pub none_opened : (deck : LoadedDeck) → ((c : ℕ) → IsTrue (names_channel c) → is_opened c deck.machine ≡ false) → dead_of deck ≡ false
 unfolding dead_of all_channels
@@ -176,10 +165,9 @@ not_opened : (deck : LoadedDeck) → dead_of deck ≡ false → (c : ℕ) → Is
 unfolding dead_of all_channels
 not_opened deck e c named =
     let below = channel_places.place_below c named in
-    unless (is_opened c deck.machine) (dead_of deck)
-    (λ is. list_any_at (λ (c : ℕ). is_opened c deck.machine) (tabulate channel_count channel_number) (channel_index c) 0 (omega (arith, below, length-tabulate channel_count channel_number))
-    (ap (λ (c : ℕ). is_opened c deck.machine) (get_or-tabulate channel_count channel_number (channel_index c) 0 below ∙ channel_places.number_of_place c named) ∙ is))
-    e
+    false_from_ne_true (is_opened c deck.machine) (λ is. both_ways (dead_of deck) e
+    (list_any_at (λ (c : ℕ). is_opened c deck.machine) (tabulate channel_count channel_number) (channel_index c) 0 (omega (arith, below, length-tabulate channel_count channel_number))
+    (ap (λ (c : ℕ). is_opened c deck.machine) (get_or-tabulate channel_count channel_number (channel_index c) 0 below ∙ channel_places.number_of_place c named) ∙ is)))
 
 -- ---- what a listing loads
 
@@ -284,7 +272,7 @@ module _ (profile : Profile) where
   pub name_here : (size : ℕ) (lines : List Line) (n : ℕ) → IsTrue (names_processor n) → names_of (loaded profile size lines) n ≡ load.is_named lines n
   unfolding names_of
   name_here size lines n named =
-      ap (λ (list : List Bool). names_processor n && get_or list (processor_index n) false) (dead.names_stay (asks_dead_start lines) (set_by profile size lines))
+      ap (λ (list : List Bool). names_processor n && get_or list (processor_index n) false) (dead.stays (λ d. d.named) (asks_dead_start lines) (set_by profile size lines) refl)
       ∙ ap (λ (b : Bool). b && get_or (set_by profile size lines).named (processor_index n) false) named
       ∙ law.named_here profile size lines n named
 
@@ -310,14 +298,14 @@ module _ (profile : Profile) where
       let deck = loaded profile size lines in
       let set = set_by profile size lines in
       let asked = asks_dead_start lines in
-      let same_central = dead.central_stays asked set in
+      let same_central = dead.stays (λ d. d.machine.central) asked set refl in
       let here : (n : ℕ) → names_of deck n ≡ true → processors_of deck n ≡ processor_loaded profile lines n = λ n is. set_here size lines n (numbered deck n is) is ∙ law.processor_here profile size lines n (numbered deck n is) in
       listing_loads profile deck set (record {
         machine = ap (λ (words : List ℕ). record set.machine { central = words }) (sym same_central);
         central = subst IsCentral (sym same_central) (central_in_range profile size lines least most small);
         each_processor = length-tabulate processor_count (λ place. processor_loaded profile lines (processor_number place));
-        each_name = ap length (dead.names_stay asked set) ∙ length-tabulate processor_count (λ place. load.is_named lines (processor_number place));
-        names = sym (dead.names_stay asked set);
+        each_name = ap length (dead.stays (λ d. d.named) asked set refl) ∙ length-tabulate processor_count (λ place. load.is_named lines (processor_number place));
+        names = sym (dead.stays (λ d. d.named) asked set refl);
         within = λ n is. named_has profile lines small n (law.some_name n lines (sym (name_here size lines n (numbered deck n is)) ∙ is));
         widths = λ n is. subst IsProcessor (sym (here n is)) (processor_in_range profile n lines small);
         start = λ n is.

@@ -2,7 +2,7 @@
 use Rattle.std.proofs.Common.{◌≡◌, ◌≢◌, ℕ, ◌^◌, ◌<◌, ◌≤◌, ◌||◌, Bool, true, false, cond, List, [], ◌∷◌, ◌++◌, length, get_or, get_or-set_other, Option, None, Some, Ok, refl, sym, ap, subst, ◌∙◌, arith, inl, inr, append-nil}
 use Rattle.std.specs.Prelude.{All, IsTrue, filter_map, unwrap_or, slice_set, if◌then◌else◌}
 use Rattle.std.specs.Option.{option_to_list}
-use Rattle.std.proofs.lemmas.Bool.{cases_lt}
+use Rattle.std.proofs.lemmas.Bool.{cases_lt, or_parts}
 use Rattle.std.proofs.lemmas.Bool.Decides.{eqb_tells}
 use Rattle.std.proofs.lemmas.List.{get_or_past, length-set, set_past}
 use Rattle.std.proofs.lemmas.List.Elements.{All-cons, All-nil, All-push, All-replicate, All-same, All-set}
@@ -49,7 +49,6 @@ use Rattle.pp_deck.specs.InUse.{is_in_use}
 use Rattle.pp_deck.proofs.DeadStartLemmas as dead
 use Rattle.pp_deck.proofs.LawLemmas as law
 use Rattle.pp_deck.proofs.LoadedRangeLemmas.{all_tabulate, processor_in_range, central_in_range, named_has}
-use Rattle.pp_deck.proofs.MemoryLemmas.{length-central_loaded}
 use Rattle.pp_deck.proofs.RangeLemmas.{InRange}
 use Rattle.std.specs.List.{AllByRecursion}
 use Rattle.pp_listing.specs.Dump.{after}
@@ -207,14 +206,6 @@ module _ (profile : Profile) where
 
 -- ---- a loaded deck
 
-or_none : (a b : Bool) → (a || b) ≡ false → (a ≡ false) × (b ≡ false)
-or_none true b e = absurd (cc)
-or_none false b e = (refl, e)
-
-or_other : (a b : Bool) → (a || b) ≡ true → a ≡ false → b ≡ true
-or_other true b e none = absurd (cc)
-or_other false b e none = e
-
 module _ (profile : Profile) where
   its_profile : (memory : List ℕ) (o : Option (ℕ × ℕ)) → (processor_with profile memory o).profile ≡ profile
   its_profile memory None = refl
@@ -244,10 +235,6 @@ module _ (profile : Profile) where
       (λ place below. let c = channel_number place in opened_words (waiting c) (history_of c deck.machine) (bits_on deck.machine.histories c all))
   started_histories false deck all = all
 
-  machine_profile : (b : Bool) (deck : LoadedDeck) → (with_dead_start b deck).machine.profile ≡ deck.machine.profile
-  machine_profile true deck = refl
-  machine_profile false deck = refl
-
   unused_here : (size : ℕ) (lines : List Line) (n : ℕ) → IsTrue (names_processor n) → load.is_named lines n ≡ false → dead.is_waiting profile lines n ≡ false → processor_of n (loaded profile size lines).machine ≡ new_processor profile
   unused_here size lines n named unnamed awake =
       let set : Processor = processor_of n (set_by profile size lines).machine in
@@ -263,21 +250,21 @@ module _ (profile : Profile) where
       let set = set_by profile size lines in
       let each = length-tabulate processor_count (λ place. processor_loaded profile lines (processor_number place)) in
       record {
-        its_profile = machine_profile asked set;
+        its_profile = dead.stays (λ d. d.machine.profile) asked set refl;
         each_processor = dead.all_processors asked set each;
         processors = started_processors asked set each (all_tabulate (IsOf profile) processor_count (λ place. processor_loaded profile lines (processor_number place)) (λ place below. let n = processor_number place in record { widths = processor_in_range profile n lines small; its_profile = ap (λ (pp : Processor). pp.profile) (processor_is profile lines n) ∙ its_profile (memory_of (lines_for n lines)) (last_of (filter_map start_in (lines_for n lines))) }));
         histories = started_histories asked set (All-replicate HasTwelveBitWords channel_count [] (All-nil HasTwelveBitWord));
-        central = subst IsCentral (sym (dead.central_stays asked set)) (central_in_range profile size lines least most small);
+        central = subst IsCentral (sym (dead.stays (λ d. d.machine.central) asked set refl)) (central_in_range profile size lines least most small);
         within = λ n named used. by n named used (names_of (loaded profile size lines) n) refl;
         unused = λ n named free.
-            let none = or_none (names_of (loaded profile size lines) n) (is_opened n (loaded profile size lines).machine) free in
+            let none = or_parts (names_of (loaded profile size lines) n) (is_opened n (loaded profile size lines).machine) free in
             unused_here size lines n named (sym (name_here profile size lines n named) ∙ none.0) (sym (dead.opened_is profile size lines asked n refl (channel_of_processor n named)) ∙ none.1);
       }
     where
       by : (n : ℕ) → IsTrue (names_processor n) → is_in_use (loaded profile size lines) n ≡ true → (b : Bool) → names_of (loaded profile size lines) n ≡ b → IsTrue (has_processor profile n)
       by n named used true is = named_has profile lines small n (law.some_name n lines (sym (name_here profile size lines n named) ∙ is))
       by n named used false is =
-          let opened = or_other (names_of (loaded profile size lines) n) (is_opened n (loaded profile size lines).machine) used is in
+          let opened = sym (ap (λ (b : Bool). b || is_opened n (loaded profile size lines).machine) is) ∙ used in
           (dead.waiting profile lines n (sym (dead.opened_is profile size lines (asks_dead_start lines) n refl (channel_of_processor n named)) ∙ opened)).processor
 
   -- whatever steps a deck has made
