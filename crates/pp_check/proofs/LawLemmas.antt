@@ -128,12 +128,9 @@ turns_step opened lines (says.AtTurn turn c e) rise fits =
     subst IsStrictlyIncreasing (sym (turns_more lines (says.AtTurn turn c e) turn refl)) (increasing_push (turns lines) turn rise (λ k last. last_below (turns lines) turn k fits last))
 turns_step opened lines line rise fits = subst IsStrictlyIncreasing (sym (turns_same lines line refl)) rise
 
-no_turns : IsStrictlyIncreasing (turns [])
-unfolding turns
-no_turns = λ k within. absurd (omega (arith, within))
-
 rise_to : (opened : List Bool) (lines : List TraceLine) → IsLawfulTrace opened lines → (n : ℕ) → n ≤ length lines → IsStrictlyIncreasing (turns (take n lines))
-rise_to opened lines lawful zero within = no_turns
+unfolding turns
+rise_to opened lines lawful zero within = (λ k within. absurd (omega (arith, within)))
 rise_to opened lines lawful (suc n) within =
     let less : n < length lines = omega (arith, within) in
     let more : take (suc n) lines ≡ take n lines ++ get_or lines n says.Other ∷ [] = ap (λ k. take k lines) (sym (add-one n)) ∙ take_more lines n says.Other less in

@@ -50,11 +50,8 @@ no_events c = refl
 first_history : (opened : List Bool) (c : ℕ) → history opened [] c ≡ opening opened c
 first_history opened c = ap (λ (es : List Event). opening opened c ++ es) (no_events c) ∙ append-nil (opening opened c)
 
-lawful_activate : IsLawful (Activate ∷ [])
-lawful_activate = lawful_with_event [] operations.Activate Activate lawful_empty refl
-
 pub lawful_opening : (b : Bool) → IsLawful (if b then Activate ∷ [] else [])
-lawful_opening true = lawful_activate
+lawful_opening true = (lawful_with_event [] operations.Activate Activate lawful_empty refl)
 lawful_opening false = lawful_empty
 
 standing_is : (opened : List Bool) (c : ℕ) → standing_by (is_opened opened c) ≡ standing opened [] c

@@ -88,10 +88,6 @@ front_turns trace zero = refl
 front_turns [] (suc k) = refl
 front_turns (e ∷ trace) (suc k) = ap (λ (more : List ℕ). e.turn ∷ more) (front_turns trace k)
 
-turns_front : (trace : List Trace) (k : ℕ) → last_turn (take k (map at_turn trace)) ≡ last_or None (take k (map (λ e. e.turn) trace))
-unfolding last_turn
-turns_front trace k = ap (last_or None) (front_turns trace k)
-
 fits_by_turn : (opened : List Bool) (before : List TraceLine) (line : TraceLine) (turn : ℕ) → turn_of line ≡ Some turn → IfSome (last_turn before) (λ last. last < turn) → Fits opened before line
 fits_by_turn opened before (AtTurn t c e) turn is less =
     let same : turn ≡ t = cc in
@@ -105,12 +101,13 @@ as_many [] = refl
 as_many (e ∷ trace) = omega (arith, as_many trace)
 
 lawful_events : (named : List Bool) (m : MachineState) (opened : List Bool) → IsPrintable named m → AreOpenedBy m opened → IsLawfulTrace opened (map at_turn m.trace)
+unfolding last_turn
 lawful_events named m opened is opens = record {
   histories = λ c. lawful_by_name named m opened is opens c (names_channel c) refl;
   each_fits = λ k within.
       let ts = map (λ e. e.turn) m.trace in
       fits_by_turn opened (take k (map at_turn m.trace)) (get_or (map at_turn m.trace) k Other) (get_or ts k 0) (turn_at m.trace k within)
-      (subst (λ (o : Option ℕ). IfSome o (λ last. last < get_or ts k 0)) (sym (turns_front m.trace k)) (rising_fits ts is.rising k (omega (arith, within, as_many m.trace))));
+      (subst (λ (o : Option ℕ). IfSome o (λ last. last < get_or ts k 0)) (sym (ap (last_or None) (front_turns m.trace k))) (rising_fits ts is.rising k (omega (arith, within, as_many m.trace))));
 }
 
 -- ---- the lines behind the events
@@ -167,9 +164,6 @@ shown_by_state h s fits =
     ap (λ (b : Bool). shown_state b (waiting h)) a ∙ ap (shown_state (is_active s)) w ∙ at_state s
     ∙ sym (ap (λ (b : Bool). state_by b (full h) (waiting h)) a ∙ ap (λ (b : Bool). state_by (is_active s) b (waiting h)) f ∙ ap (state_by (is_active s) (is_some (held_word s))) w)
 
-shown_is : (h : List Event) → IsLawful h → shown_state (active h) (waiting h) ≡ channel_state h
-shown_is h lawful = let s = state_at h lawful in shown_by_state h s.0 s.2
-
 pub all_both : (opened : List Bool) (lines xs ys : List TraceLine) → AllByRecursion (Shows opened lines) xs → AllByRecursion (Shows opened lines) ys → AllByRecursion (Shows opened lines) (xs ++ ys)
 all_both opened lines [] ys first second = second
 all_both opened lines (x ∷ xs) ys first second = (first.0, all_both opened lines xs ys first.1 second)
@@ -190,7 +184,7 @@ processors_show opened lines named n = by_test (is_named named n)
 pub history_shows : (opened : List Bool) (lines : List TraceLine) (c : ℕ) (h : List Event) → history opened lines c ≡ h → IsLawful h → AllByRecursion (Shows opened lines) (state_lines c h)
 unfolding state_lines
 history_shows opened lines c [] same lawful = tt
-history_shows opened lines c (e ∷ h) same lawful = (shown_is (e ∷ h) lawful ∙ ap channel_state (sym same), tt)
+history_shows opened lines c (e ∷ h) same lawful = ((let s = state_at (e ∷ h) lawful in shown_by_state (e ∷ h) s.0 s.2) ∙ ap channel_state (sym same), tt)
 
 channels_show : (named : List Bool) (m : MachineState) (opened : List Bool) → IsPrintable named m → AreOpenedBy m opened → (c : ℕ) → AllByRecursion (Shows opened (map at_turn m.trace)) (channel_lines m.histories c)
 unfolding channel_lines

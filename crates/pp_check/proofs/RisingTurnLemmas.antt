@@ -53,13 +53,10 @@ rise_by_need n x m rise = rise_later m.turns (turns_in m.trace) rise
 
 step_rises : (n : ℕ) (m : MachineState) → m.turns + 1 < 2 ^ 64 → Rise m.turns (turns_in m.trace) → ((stepped n m).turns ≡ m.turns + 1) × Rise (m.turns + 1) (turns_in (stepped n m).trace)
 unfolding stepped
-step_rises n m few rise = (least (m.turns) few, by_fields)
+step_rises n m few rise = (least (m.turns) few, (rise_by_need n (need (processor_of n m)) m rise))
   where
     least : (turns : ℕ) → turns + 1 < 2 ^ 64 → min (turns + 1) (2 ^ 64 - 1) ≡ turns + 1
     least turns few = omega (arith, few)
-
-    by_fields : Rise (m.turns + 1) (turns_in (trace_after n (need (processor_of n m)) m))
-    by_fields = rise_by_need n (need (processor_of n m)) m rise
 
 pub run_rises : (ns : List ℕ) (m : MachineState) → m.turns + length ns < 2 ^ 64 → Rise m.turns (turns_in m.trace) → ((run ns m).turns ≡ m.turns + length ns) × Rise (m.turns + length ns) (turns_in (run ns m).trace)
 run_rises [] m few rise = (omega arith, subst (λ (n : ℕ). Rise n (turns_in m.trace)) (omega arith) rise)
@@ -75,13 +72,10 @@ run_below limit next trace rise few = λ k d within.
     let less = rise.below k (omega (arith, within, length-map trace (λ (e : Trace). e.turn))) in
     omega (arith, turn, less, few)
 
-none_rise : Rise 0 []
-none_rise = record { rising = λ k within. absurd (omega (arith, within)); below = λ k within. absurd (omega (arith, within)) }
-
 -- a machine that has counted no turn and made no event can be printed after every run
 pub run_printable : (named : List Bool) (ns : List ℕ) (m : MachineState) → m.turns ≡ 0 → m.trace ≡ [] → length ns < 10 ^ 19 → HoldsOnEachChannel (run ns m) → FitsItsText named (run ns m) → IsPrintable named (run ns m)
 run_printable named ns m no_turn no_event few headline fits =
-    let start : Rise m.turns (turns_in m.trace) = subst (λ (t : ℕ). Rise t (turns_in m.trace)) (sym no_turn) (subst (λ (trace : List Trace). Rise 0 (turns_in trace)) (sym no_event) none_rise) in
+    let start : Rise m.turns (turns_in m.trace) = subst (λ (t : ℕ). Rise t (turns_in m.trace)) (sym no_turn) (subst (λ (trace : List Trace). Rise 0 (turns_in trace)) (sym no_event) (record { rising = λ k within. absurd (omega (arith, within)); below = λ k within. absurd (omega (arith, within)) })) in
     let rise = run_rises ns m (omega (arith, few, no_turn)) start in
     record {
       headline = headline;

@@ -82,17 +82,9 @@ fn event_in(fields: &mut Fields) -> Option<Event>
 {
     let name = fields.next_field()?;
     if name == b"ACN".as_slice() {
-        if are_over(fields) {
-            Some(Event::Activate)
-        } else {
-            None
-        }
+        are_over(fields).then_some(Event::Activate)
     } else if name == b"DCN".as_slice() {
-        if are_over(fields) {
-            Some(Event::Disconnect)
-        } else {
-            None
-        }
+        are_over(fields).then_some(Event::Disconnect)
     } else if name == b"PUT".as_slice() {
         Some(Event::Put(last_word(fields)?))
     } else if name == b"TAK".as_slice() {
@@ -110,11 +102,7 @@ fn state_in(field: &[u8], fields: &mut Fields) -> Option<ChannelState>
     ensures { result ≡ parsed_state field.now fields.old }
 {
     if field == b"INACTIVE".as_slice() {
-        if are_over(fields) {
-            Some(ChannelState::INACTIVE)
-        } else {
-            None
-        }
+        are_over(fields).then_some(ChannelState::INACTIVE)
     } else if field == b"ACTIVE".as_slice() {
         active_in(fields)
     } else {
@@ -128,11 +116,7 @@ fn active_in(fields: &mut Fields) -> Option<ChannelState>
 {
     let field = fields.next_field()?;
     if field == b"EMPTY".as_slice() {
-        if are_over(fields) {
-            Some(ChannelState::EMPTY)
-        } else {
-            None
-        }
+        are_over(fields).then_some(ChannelState::EMPTY)
     } else if field == b"FULL".as_slice() {
         let word = last_word(fields)?;
         Some(ChannelState {

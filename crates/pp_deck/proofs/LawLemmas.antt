@@ -182,10 +182,6 @@ filter_twice {X} {Y} {A} f g (x ∷ xs) = at_head (f x) ∙ ap (cons_option (the
 pick : ℕ → List Line → ℕ → Option Line
 pick n lines k = cond (is_for n (section_of (take k lines))) (Some (line_of lines k)) None
 
-lines_for_are : {A : Type 0} (n : ℕ) (lines : List Line) (f : Line → Option A) → filter_map f (lines_for n lines) ≡ filter_map (λ k. then_in f (pick n lines k)) (range_with_len 0 (length lines))
-unfolding lines_for pick
-lines_for_are n lines f = filter_twice (λ k. cond (is_for n (section_of (take k lines))) (Some (line_of lines k)) None) f (range_with_len 0 (length lines))
-
 pub is_section : (n : ℕ) (current : Option ℕ) → is_for n current ≡ true → current ≡ Some n
 is_section n None e = absurd (cc)
 is_section n (Some m) e = ap Some (sym (eqb-true n m e))
@@ -202,13 +198,13 @@ picks f line n current x e h =
     ∙ ap (λ (b : Bool). then_in f (cond b (Some line) None)) (eq-eqb n n refl) ∙ h
 
 pub own_last : {A : Type 0} (n : ℕ) (lines : List Line) (f : Line → Option A) (Sets : Line → A → Type 0) (otherwise value : A) → ((line : Line) (x : A) → f line ≡ Some x → Sets line x) → ((line : Line) (x : A) → Sets line x → f line ≡ Some x) → value ≡ unwrap_or (last_of (filter_map f (lines_for n lines))) otherwise → HoldsLast lines (λ k x. IsFor lines k n × Sets (line_of lines k) x) otherwise value
-unfolding pick
+unfolding pick lines_for
 own_last {A} n lines f Sets otherwise value found there is =
     holds_last lines (λ k. then_in f (pick n lines k)) (λ k x. IsFor lines k n × Sets (line_of lines k) x) otherwise value
     (λ k x lt e. let p = picked f (line_of lines k) (is_for n (section_of (take k lines))) x e in
     (heading_of lines k n (omega (arith, lt)) (is_section n (section_of (take k lines)) p.0), found (line_of lines k) x p.1))
     (λ k x lt h. picks f (line_of lines k) n (section_of (take k lines)) x (section_for lines k n (omega (arith, lt)) h.0) (there (line_of lines k) x h.1))
-    (is ∙ ap (λ (xs : List A). unwrap_or (last_of xs) otherwise) (lines_for_are n lines f))
+    (is ∙ ap (λ (xs : List A). unwrap_or (last_of xs) otherwise) (filter_twice (λ k. cond (is_for n (section_of (take k lines))) (Some (line_of lines k)) None) f (range_with_len 0 (length lines))))
 
 -- ---- what all lines set
 

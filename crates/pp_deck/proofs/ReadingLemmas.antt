@@ -55,9 +55,6 @@ module _ (profile : Profile) where
   or_true true = refl
   or_true false = refl
 
-  some_fields : (n : ℕ) → ltb 0 (suc n) ≡ true
-  some_fields n = lt-ltb 0 (suc n) (omega arith)
-
   one_first : (n : ℕ) → 1 + n ≡ suc n
   one_first n = omega arith
 
@@ -142,7 +139,7 @@ module _ (profile : Profile) where
   -- a line with fields
   pub read_fields : (lines : List (List (List ℕ))) (k : ℕ) (progress new : Progress) (b : Bool) (first : List ℕ) (fields : List (List ℕ)) → ReadTo lines k progress b → k < length lines → get_or lines k [] ≡ first ∷ fields → on_read (after_line progress) (line_after progress.machine.profile (length progress.machine.central) b (is_some progress.current) (first ∷ fields)) ≡ Ok new → ReadTo lines (k + 1) new true
   read_fields lines k progress new b first fields h lt e read =
-      read_as lines k progress new b (line_after profile (size_of lines) b (is_some progress.current) (get_or lines k [])) h lt (ap has_fields e ∙ some_fields (length fields)) refl
+      read_as lines k progress new b (line_after profile (size_of lines) b (is_some progress.current) (get_or lines k [])) h lt (ap has_fields e ∙ (lt-ltb 0 (suc (length fields)) (omega arith))) refl
       (ap (on_read (after_line progress)) (line_here lines k progress b (get_or lines k []) (first ∷ fields) h e) ∙ read)
 
   flaw_of : {A : Type 0} (use_of : Line → A) (r : Result Line Flaw) (flaw : Flaw) → on_read use_of r ≡ Err flaw → r ≡ Err flaw

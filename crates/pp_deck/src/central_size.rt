@@ -35,11 +35,6 @@ fn size_by_line(first: &[u8], fields: &mut Fields) -> u32
 {
     match Keyword::of(first) {
         Keyword::Central => central_size_in(fields).unwrap_or(DEFAULT_SIZE),
-        Keyword::CentralWords
-        | Keyword::Processor
-        | Keyword::Start
-        | Keyword::DeadStart
-        | Keyword::Words
-        | Keyword::Unknown => DEFAULT_SIZE,
+        _ => DEFAULT_SIZE,
     }
 }

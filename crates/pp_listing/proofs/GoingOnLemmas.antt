@@ -1,10 +1,8 @@
 -- The first of what a function gives for the numbers of a table.
-use Rattle.std.proofs.Common.{◌≡◌, ℕ, suc, ◌+◌, ◌-◌, ◌<◌, Bool, cond, List, [], ◌∷◌, ◌++◌, Option, Some, None, map, refl, sym, ap, ◌∙◌, arith}
-use Rattle.std.specs.Prelude.{filter_map, slice_get}
+use Rattle.std.proofs.Common.{◌≡◌, ℕ, suc, ◌+◌, ◌-◌, ◌<◌, ◌≤◌, subst, Bool, cond, List, [], ◌∷◌, ◌++◌, Option, Some, None, map, refl, sym, ap, ◌∙◌, arith}
+use Rattle.std.specs.Prelude.{All, filter_map, slice_get}
 use Rattle.std.specs.List.{cons_option, range_with_len}
-use Rattle.std.specs.Option.{option_to_list}
-use Rattle.std.proofs.lemmas.List.{map-append}
-use Rattle.std.proofs.lemmas.List.Elements.{filter_map-append}
+use Rattle.std.proofs.lemmas.List.Elements.{All-cons, All-nil}
 use Rattle.pp_channel.specs.ChannelNo.{all_channels}
 use Rattle.pp_channel.specs.Answer.{flags_of}
 use Rattle.pp_channel.specs.History.{active}
@@ -13,79 +11,66 @@ use Rattle.pp_channel.specs.declared.flags.Flags.{Flags}
 use Rattle.pp_machine.specs.MachineState.{MachineState, history_of, processor_of}
 use Rattle.pp_machine.specs.Processor.{Processor}
 use Rattle.pp_machine.specs.PpNo.{all_processors}
-use Rattle.pp_word.specs.GrowingLists.{range_append, tabulate_more, filter_map_more}
-use Rattle.pp_word.specs.Tables.{tabulate}
+use Rattle.pp_word.specs.Tables.{tabulate, length-tabulate, get_or-tabulate}
 use Rattle.pp_listing.specs.Dump.{all_busy, busy_processor, busy_channel, in_processor}
 use Rattle.pp_listing.specs.declared.going_on.Busy.{Busy}
 use Rattle.pp_listing.specs.declared.going_on.Busy.TheVariants.{Active}
 
 module _ {A : Type 0} (f : ℕ → Option A) (number : ℕ → ℕ) where
-  -- it gives nothing for the first k numbers
-  pub IsNoneBefore : ℕ → Type 0
-  IsNoneBefore k = filter_map f (tabulate k number) ≡ []
+  -- what it gives for the numbers of the places from k on
+  rest : ℕ → ℕ → List A
+  rest k count = filter_map f (map number (range_with_len k (count - k)))
 
-  pub none_before : IsNoneBefore 0
-  unfolding IsNoneBefore tabulate
-  none_before = refl
-
-  pub none_more : (k : ℕ) → IsNoneBefore k → f (number k) ≡ None → IsNoneBefore (k + 1)
-  unfolding IsNoneBefore
-  none_more k h e =
-      ap (filter_map f) (tabulate_more k number)
-      ∙ filter_map_more f (tabulate k number) (number k)
-      ∙ ap (λ (xs : List A). xs ++ option_to_list (f (number k))) h
-      ∙ ap (λ (o : Option A). option_to_list o) e
-
-  -- what it gives for the numbers behind number k
-  given_behind : ℕ → ℕ → List A
-  given_behind k count = filter_map f (map number (range_with_len (k + 1) (count - (k + 1))))
-
-  given_at : (k count : ℕ) → k < count → filter_map f (tabulate count number) ≡ filter_map f (tabulate k number) ++ cons_option (f (number k)) (given_behind k count)
-  unfolding given_behind tabulate
-  given_at k count lt =
-      let more = suc (count - (k + 1)) in
-      ap (λ (n : ℕ). filter_map f (map number (range_with_len 0 n))) (split k count lt)
-      ∙ ap (λ (ns : List ℕ). filter_map f (map number ns)) (range_append 0 k more)
-      ∙ ap (filter_map f) (map-append number (range_with_len 0 k) (range_with_len (0 + k) more))
-      ∙ filter_map-append f (map number (range_with_len 0 k)) (map number (range_with_len (0 + k) more))
-      ∙ ap (λ (i : ℕ). filter_map f (map number (range_with_len 0 k)) ++ filter_map f (map number (range_with_len i more))) (from_zero k)
+  rest_at : (k count : ℕ) → k < count → rest k count ≡ cons_option (f (number k)) (rest (k + 1) count)
+  unfolding rest
+  rest_at k count lt = ap (λ (n : ℕ). filter_map f (map number (range_with_len k n))) (split k count lt)
     where
-      split : (k count : ℕ) → k < count → count ≡ k + suc (count - (k + 1))
+      split : (k count : ℕ) → k < count → count - k ≡ suc (count - (k + 1))
       split k count lt = omega (arith, lt)
 
-      from_zero : (k : ℕ) → 0 + k ≡ k
-      from_zero k = omega arith
+  -- the first of these is the first of all
+  pub IsFirstFrom : ℕ → ℕ → Type 0
+  IsFirstFrom k count = slice_get (rest k count) 0 ≡ slice_get (filter_map f (tabulate count number)) 0
 
-  pub first_found : (k count : ℕ) (x : A) → k < count → IsNoneBefore k → f (number k) ≡ Some x → Some x ≡ slice_get (filter_map f (tabulate count number)) 0
-  unfolding IsNoneBefore
-  first_found k count x lt h e =
-      sym (ap (λ (xs : List A). slice_get xs 0) (given_at k count lt)
-      ∙ ap (λ (xs : List A). slice_get (xs ++ cons_option (f (number k)) (given_behind k count)) 0) h
-      ∙ ap (λ (o : Option A). slice_get (cons_option o (given_behind k count)) 0) e)
+  pub from_start : (count : ℕ) → IsFirstFrom 0 count
+  unfolding IsFirstFrom rest tabulate
+  from_start count = ap (λ (n : ℕ). slice_get (filter_map f (map number (range_with_len 0 n))) 0) (whole count)
+    where
+      whole : (count : ℕ) → count - 0 ≡ count
+      whole count = omega arith
 
-  pub none_found : (k count : ℕ) → k ≡ count → IsNoneBefore k → None ≡ slice_get (filter_map f (tabulate count number)) 0
-  unfolding IsNoneBefore
-  none_found k count all h = sym (ap (λ (n : ℕ). slice_get (filter_map f (tabulate n number)) 0) (sym all) ∙ ap (λ (xs : List A). slice_get xs 0) h)
+  pub none_more : (k count : ℕ) → k < count → IsFirstFrom k count → f (number k) ≡ None → IsFirstFrom (k + 1) count
+  unfolding IsFirstFrom
+  none_more k count lt h e = sym (ap (λ (xs : List A). slice_get xs 0) (rest_at k count lt ∙ ap (λ (o : Option A). cons_option o (rest (k + 1) count)) e)) ∙ h
+
+  pub first_found : (k count : ℕ) (x : A) → k < count → IsFirstFrom k count → f (number k) ≡ Some x → Some x ≡ slice_get (filter_map f (tabulate count number)) 0
+  unfolding IsFirstFrom
+  first_found k count x lt h e = sym (ap (λ (xs : List A). slice_get xs 0) (rest_at k count lt ∙ ap (λ (o : Option A). cons_option o (rest (k + 1) count)) e)) ∙ h
+
+  pub none_found : (k count : ℕ) → count ≤ k → IsFirstFrom k count → None ≡ slice_get (filter_map f (tabulate count number)) 0
+  unfolding IsFirstFrom rest
+  none_found k count past h = ap (λ (n : ℕ). slice_get (filter_map f (map number (range_with_len k n))) 0) (over k count past) ∙ h
+    where
+      over : (k count : ℕ) → count ≤ k → 0 ≡ count - k
+      over k count past = omega (arith, past)
 
 no_first : {A : Type 0} (xs ys : List A) → slice_get (xs ++ ys) 0 ≡ None → xs ≡ []
 no_first [] ys e = refl
 no_first (x ∷ xs) ys e = absurd (cc)
 
-behind_some : {A : Type 0} (xs ys : List A) (x : A) → xs ++ x ∷ ys ≡ [] → ⊥
-behind_some [] ys x e = cc
-behind_some (z ∷ xs) ys x e = cc
+none_of : {A : Type 0} (f : ℕ → Option A) (xs : List ℕ) → filter_map f xs ≡ [] → All (λ x. f x ≡ None) xs
+none_of f [] e = All-nil (λ x. f x ≡ None)
+none_of {A} f (x ∷ xs) e = by (none_of f xs) (f x) refl e
+  where
+    by : (filter_map f xs ≡ [] → All (λ x. f x ≡ None) xs) → (o : Option A) → f x ≡ o → cons_option o (filter_map f xs) ≡ [] → All (λ x. f x ≡ None) (x ∷ xs)
+    by more None is none = All-cons (λ x. f x ≡ None) x xs is (more none)
+    by more (Some y) is none = absurd (cc)
 
 -- where nothing is given first, nothing is given for any number
-module _ {A : Type 0} (f : ℕ → Option A) (number : ℕ → ℕ) where
-  if_some : (k count : ℕ) (others : List A) (o : Option A) → k < count → f (number k) ≡ o → slice_get (filter_map f (tabulate count number) ++ others) 0 ≡ None → o ≡ None
-  if_some k count others None lt e none = refl
-  if_some k count others (Some x) lt e none =
-      absurd (behind_some (filter_map f (tabulate k number)) (given_behind f number k count) x
-      (sym (given_at f number k count lt ∙ ap (λ (o : Option A). filter_map f (tabulate k number) ++ cons_option o (given_behind f number k count)) e)
-      ∙ no_first (filter_map f (tabulate count number)) others none))
-
-  pub none_given : (k count : ℕ) (others : List A) → k < count → slice_get (filter_map f (tabulate count number) ++ others) 0 ≡ None → f (number k) ≡ None
-  none_given k count others lt none = if_some k count others (f (number k)) lt refl none
+pub none_given : {A : Type 0} (f : ℕ → Option A) (number : ℕ → ℕ) (k count : ℕ) (others : List A) → k < count → slice_get (filter_map f (tabulate count number) ++ others) 0 ≡ None → f (number k) ≡ None
+none_given f number k count others lt none =
+    let all = none_of f (tabulate count number) (no_first (filter_map f (tabulate count number)) others none) in
+    subst (λ (i : ℕ). f i ≡ None) (get_or-tabulate count number k 0 lt) (all k 0 (omega (arith, lt, length-tabulate count number)))
 
 first_in : {A : Type 0} (xs ys : List A) (x : A) → slice_get xs 0 ≡ Some x → slice_get (xs ++ ys) 0 ≡ Some x
 first_in [] ys x e = absurd (cc)

@@ -126,14 +126,11 @@ and_true : (b : Bool) → (b && true) ≡ b
 and_true true = refl
 and_true false = refl
 
-head_unnamed : (n : ℕ) (central : List ℕ) (dead : Bool) → list_any (names n) (head_of central dead) ≡ false
-head_unnamed n central dead = any_head (names n) central dead refl (λ a w. refl) ∙ and_false dead
-
 -- ---- names
 
 pub named_held : (central : List ℕ) (dead : Bool) (named : ℕ → Bool) (pp : ℕ → Processor) (n : ℕ) → n < number_count → is_named (lines_of_parts central dead named pp) n ≡ named n
 named_held central dead named pp n lt =
-    named_by_sections named (λ m. body_of (pp m)) n number_count (head_of central dead) (λ m. untrue (names n) (body_of (pp m)) (each_of_body (λ line. names n line ≡ false) (λ x ws. refl) (λ p a. refl) (pp m))) (head_unnamed n central dead) lt
+    named_by_sections named (λ m. body_of (pp m)) n number_count (head_of central dead) (λ m. untrue (names n) (body_of (pp m)) (each_of_body (λ line. names n line ≡ false) (λ x ws. refl) (λ p a. refl) (pp m))) (any_head (names n) central dead refl (λ a w. refl) ∙ and_false dead) lt
 
 -- ---- dead start
 

@@ -60,14 +60,11 @@ plain_ascii (c ∷ text) e =
 ascii_append : (xs ys : List ℕ) → list_all is_ascii xs ≡ true → list_all is_ascii ys ≡ true → list_all is_ascii (xs ++ ys) ≡ true
 ascii_append xs ys h k = list_all-append is_ascii xs ys ∙ and_both (list_all is_ascii xs) (list_all is_ascii ys) h k
 
-end_ascii : list_all is_ascii (10 ∷ []) ≡ true
-unfolding is_ascii
-end_ascii = refl
-
 text_ascii : (lines : List ListedLine) → list_all is_ascii (flat_map text_line lines) ≡ true
+unfolding is_ascii
 text_ascii [] = refl
 text_ascii (line ∷ lines) =
-    ascii_append (text_line line) (flat_map text_line lines) (ascii_append (listed_text line) (10 ∷ []) (plain_ascii (listed_text line) (line_plain line)) end_ascii) (text_ascii lines)
+    ascii_append (text_line line) (flat_map text_line lines) (ascii_append (listed_text line) (10 ∷ []) (plain_ascii (listed_text line) (line_plain line)) refl) (text_ascii lines)
 
 none_foreign : (text : List ℕ) → list_all is_ascii text ≡ true → (o : Option ℕ) → position is_foreign text ≡ o → position is_foreign text ≡ None
 unfolding is_ascii
@@ -88,9 +85,6 @@ meaning_printed profile lines le =
 
 -- ---- reading the lines
 
-after_current : (progress : Progress) (line : Line) → (after_line progress line).current ≡ current_after line progress.current
-after_current progress line = ap (λ (p : Progress). p.current) (after_line_parts progress line)
-
 -- the deck behind all lines
 abbrev deck_after : Progress → LoadedDeck
 deck_after progress = with_dead_start progress.asks_dead_start (deck_so_far progress)
@@ -106,11 +100,8 @@ module _ (profile : Profile) where
       let next = next_line all ([] ∷ []) [] k [] e refl in
       let blank = read_blank profile all k progress b h next.within next.here in
       let long = ap length next.behind in
-      read_all profile all (k + 1) progress b blank (at_end k (length all) (drop_long (k + 1) all long) next.within)
+      read_all profile all (k + 1) progress b blank (at_end k (length all) (omega (arith, long, length-drop (k + 1) all)) next.within)
     where
-      drop_long : (n : ℕ) (xs : List (List (List ℕ))) → 0 ≡ length (drop n xs) → length xs ≤ n
-      drop_long n xs e = omega (arith, e, length-drop n xs)
-
       at_end : (k n : ℕ) → n ≤ k + 1 → k < n → k + 1 ≡ n
       at_end k n le lt = omega (arith, le, lt)
   read_rest size all (line ∷ lines) k progress b is h e ready =
@@ -119,7 +110,7 @@ module _ (profile : Profile) where
       ap (λ (n : ℕ). line_after profile n b (is_some progress.current) (get_or all k [])) is ∙ ap (line_after profile size b (is_some progress.current)) next.here ∙ ready.0 b in
       let more = read_more profile all k progress b line h next.within reads in
       let Q : Option ℕ → Type 0 = λ c. IsReady size c lines in
-      read_rest size all lines (k + 1) (after_line progress line) _ is more next.behind (subst Q (sym (after_current progress line)) ready.1)
+      read_rest size all lines (k + 1) (after_line progress line) _ is more next.behind (subst Q (sym (ap (λ (p : Progress). p.current) (after_line_parts progress line))) ready.1)
 
   -- lines behind a first line that says the size of central memory
   pub read_lines : (n : ℕ) (lines : List Line) → 1 ≤ n → n ≤ 0o400000 → IsReady n None lines → meaning_of_lines profile (map fields_said (central_size n ∷ lines) ++ [] ∷ []) ≡ Ok (loaded profile n (central_size n ∷ lines))

@@ -34,9 +34,6 @@ one_first first x w [] ne short = let is : eqb w 0 ≡ false = ne_eqb w 0 ne in 
 one_first first x w (m ∷ ws) ne short =
     cond-false (eqb w 0) _ _ (ne_eqb w 0 ne) ∙ cond-false (is_long w) _ _ (short (omega arith))
 
-two_first : (first x w m : ℕ) (ws : List ℕ) → w ≢ 0 → is_long w ≡ true → instruction_lines first x (w ∷ m ∷ ws) ≡ two_words x w m ∷ instruction_lines first (x + 2) ws
-two_first first x w m ws ne is = cond-false (eqb w 0) _ _ (ne_eqb w 0 ne) ∙ cond-true (is_long w) _ _ is
-
 -- the word at the next place
 next_is : (memory : List ℕ) (place : ℕ) → length memory ≡ place_count → place < place_count → next_of (get_or memory 0 0) (drop (place + 1) memory) ≡ get_or memory (next_place place) 0
 unfolding next_of
@@ -86,9 +83,6 @@ one_passed whole text more memory place long lt ne short is h =
     ∙ one_first first place (get_or memory place 0) (drop (place + 1) memory) ne (λ some. short (omega (arith, some, long, length-drop (place + 1) memory)))
     ∙ ap (λ (m : ℕ). one_word place (get_or memory place 0) m ∷ instruction_lines first (place + 1) (drop (place + 1) memory)) (next_is memory place long lt)) is h
 
-two_on : (place : ℕ) → place + 1 + 1 ≡ place + 2
-two_on place = omega arith
-
 two_passed : (whole text more memory : List ℕ) (place : ℕ) → length memory ≡ place_count → place + 1 < place_count → get_or memory place 0 ≢ 0 → is_long (get_or memory place 0) ≡ true
     → more ≡ text ++ text_line (two_words place (get_or memory place 0) (get_or memory (place + 1) 0)) → IsSoFar whole text place memory → IsSoFar whole more (place + 1 + 1) memory
 unfolding IsSoFar lines_from
@@ -96,8 +90,8 @@ two_passed whole text more memory place long lt ne two is h =
     let first = get_or memory 0 0 in
     line_passed whole text more (two_words place (get_or memory place 0) (get_or memory (place + 1) 0)) (instruction_lines first place (drop place memory)) (instruction_lines first (place + 1 + 1) (drop (place + 1 + 1) memory))
     (ap (instruction_lines first place) (drop_more memory place 0 (omega (arith, lt, long)) ∙ ap (λ (ws : List ℕ). get_or memory place 0 ∷ ws) (drop_more memory (place + 1) 0 (omega (arith, lt, long))))
-    ∙ two_first first place (get_or memory place 0) (get_or memory (place + 1) 0) (drop (place + 1 + 1) memory) ne two
-    ∙ ap (λ (i : ℕ). two_words place (get_or memory place 0) (get_or memory (place + 1) 0) ∷ instruction_lines first i (drop (place + 1 + 1) memory)) (sym (two_on place))) is h
+    ∙ (cond-false (eqb (get_or memory place 0) 0) _ _ (ne_eqb (get_or memory place 0) 0 ne) ∙ cond-true (is_long (get_or memory place 0)) _ _ two)
+    ∙ ap (λ (i : ℕ). two_words place (get_or memory place 0) (get_or memory (place + 1) 0) ∷ instruction_lines first i (drop (place + 1 + 1) memory)) (sym (omega arith))) is h
 
 pub all_passed : (whole text memory : List ℕ) (place : ℕ) → length memory ≤ place → IsSoFar whole text place memory → text ≡ whole
 unfolding IsSoFar lines_from

@@ -47,17 +47,11 @@ pub one_of : (b : Bool) (x y most : ℕ) → x < most → y < most → (if b the
 one_of true x y most h k = h
 one_of false x y most h k = k
 
-rotated_short : (k : ℕ) (bs : List Bool) → length bs ≡ 18 → length (drop k bs ++ take k bs) ≤ 18
-rotated_short k bs long = omega (arith, long, length-append (drop k bs) (take k bs), length-drop k bs, length-take k bs)
-
-shifted_short : (k : ℕ) (bs : List Bool) → length bs ≡ 18 → length (right_shift k bs) ≤ 18
-shifted_short k bs long = omega (arith, long, length-append (drop k bs) (replicate (min k 18) false), length-drop k bs, length-replicate {A = Bool} (min k 18) false)
-
 pub shifted_small : (a d : ℕ) → shift a d < 2 ^ 18
 shifted_small a d =
     one_of (nat_lt d 0o40) (number_of (rotation d (bits_of a))) (number_of (right_shift (0o77 - d) (bits_of a))) (2 ^ 18)
-    (number_fits (rotation d (bits_of a)) (rotated_short (18 - d % 18) (bits_of a) (length-lowest_bits 18 a)))
-    (number_fits (right_shift (0o77 - d) (bits_of a)) (shifted_short (0o77 - d) (bits_of a) (length-lowest_bits 18 a)))
+    (number_fits (rotation d (bits_of a)) (omega (arith, (length-lowest_bits 18 a), length-append (drop (18 - d % 18) (bits_of a)) (take (18 - d % 18) (bits_of a)), length-drop (18 - d % 18) (bits_of a), length-take (18 - d % 18) (bits_of a))))
+    (number_fits (right_shift (0o77 - d) (bits_of a)) (omega (arith, (length-lowest_bits 18 a), length-append (drop (0o77 - d) (bits_of a)) (replicate (min (0o77 - d) 18) false), length-drop (0o77 - d) (bits_of a), length-replicate {A = Bool} (min (0o77 - d) 18) false)))
 
 pub sum_small : (a b : ℕ) → sum a b < 2 ^ 18
 sum_small a b = one_of _ all_ones ((a + b) % all_ones) (2 ^ 18) (omega arith) (omega arith)

@@ -39,10 +39,7 @@ pub fn write_dump<A: Allocator, W: Write>(writer: &mut W, deck: &Deck<A>) -> Res
     if let Some(going_on) = first_busy(&deck.machine) {
         return Err(DumpFault::NotBetweenPrograms(going_on));
     }
-    match write_between(writer, deck) {
-        Ok(()) => Ok(()),
-        Err(WriteFault) => Err(DumpFault::Write),
-    }
+    write_between(writer, deck).map_err(|_| DumpFault::Write)
 }
 
 /// Writes the listing of a deck to go on from, printed from the machine as it stands.

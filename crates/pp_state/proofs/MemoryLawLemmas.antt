@@ -88,9 +88,6 @@ unfolding padded_line
 padded_is pp place =
     ap (λ (t : List ℕ). octal 4 place ++ (32 ∷ t)) (append_assoc (octal_words pp place) (32 ∷ 32 ∷ []) (displayed_words pp place))
 
-grouped : (h e o after tail : List ℕ) → h ++ (32 ∷ ((e ++ ((32 ∷ o) ++ after)) ++ tail)) ≡ (h ++ (32 ∷ (e ++ 32 ∷ []))) ++ (o ++ (after ++ tail))
-grouped h e o after tail = simp append_assoc
-
 abbrev word_field : Processor → ℕ → ℕ → List ℕ
 word_field pp place k = codes " " ++ octal 4 (word_at pp (place + k))
 
@@ -107,7 +104,7 @@ word_on_line pp place k within small =
     let line : padded_line pp place ≡ before ++ (octal 4 word ++ (after ++ tail)) =
     padded_is pp place
     ∙ (ap (λ (t : List ℕ). octal 4 place ++ (32 ∷ (t ++ tail))) (words_are pp place ∙ is)
-    ∙ grouped (octal 4 place) (each_below k (word_field pp place)) (octal 4 word) after tail) in
+    ∙ (simp append_assoc)) in
     let columns : length before ≡ 6 + k * 5 =
     omega (arith, length-append (each_below k (word_field pp place)) (32 ∷ []), length_below k (word_field pp place) (λ j. refl)) in
     ap (λ (l : List ℕ). number_in (6 + k * 5) 4 (trimmed l)) line

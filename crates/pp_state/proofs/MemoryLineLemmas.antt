@@ -42,10 +42,6 @@ lines_again (l ∷ k ∷ ls) plain =
     ap (λ (x : List ℕ). x ∷ lines_of_parts ((k ∷ ls) ++ [] ∷ [])) (no_return l (All-head (All IsPlain) l (k ∷ ls) plain))
     ∙ ap (λ (xs : List (List ℕ)). l ∷ xs) (lines_again (k ∷ ls) (All-tail (All IsPlain) l (k ∷ ls) plain))
 
--- a text has the lines that it is put together from
-lines_unlines : (ls : List (List ℕ)) → All (All IsPlain) ls → lines (unlines ls) ≡ ls
-lines_unlines ls plain = ap lines_of_parts (parts_of_lines ls plain) ∙ lines_again ls plain
-
 -- ---- a line for some numbers
 
 -- the line of a number, if it has one
@@ -69,7 +65,7 @@ lines_said : (count : ℕ) (has : ℕ → Bool) (line : ℕ → List ℕ) → ((
     → lines (each_below count (said_if has line)) ≡ lines_below count (line_if has line)
 lines_said count has line plain =
     ap lines (said_in_lines count (said_if has line) (line_if has line) (λ n. one_line (has n) (line n) (line n ++ line_end) refl))
-    ∙ lines_unlines (lines_below count (line_if has line)) (plain_below count has line plain)
+    ∙ (ap lines_of_parts (parts_of_lines (lines_below count (line_if has line)) (plain_below count has line plain)) ∙ lines_again (lines_below count (line_if has line)) (plain_below count has line plain))
 
 by_order : (k n : ℕ) (p : List ℕ → Bool) (f : ℕ → List (List ℕ)) → n < suc k → filter p (f n) ≡ f n
     → ((m : ℕ) → m < suc k → m ≢ n → filter p (f m) ≡ []) → (n < k → filter p (lines_below k f) ≡ f n)

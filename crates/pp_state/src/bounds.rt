@@ -17,11 +17,7 @@ impl Bounds {
         ensures value { IfSome result (λ bounds.
             bounds ≡ record { first = first; last = last }) }
     {
-        if first <= last && last < size {
-            Some(Bounds { first, last })
-        } else {
-            None
-        }
+        (first <= last && last < size).then_some(Bounds { first, last })
     }
 
     /// Whether some number from `from` to `to` is within.

@@ -1,11 +1,11 @@
 use Rattle.std.proofs.Common.{arith}
 use Rattle.pp_channel.specs.ChannelNo.{all_channels, channel_count, channel_number}
 use Rattle.pp_listing.specs.Dump.{busy_channel}
-use Rattle.pp_listing.proofs.GoingOnLemmas.{none_before, none_more, first_found, none_found, on_channel_there}
+use Rattle.pp_listing.proofs.GoingOnLemmas.{from_start, none_more, first_found, none_found, on_channel_there}
 use Rattle.pp_listing.proofs.going_on.first_channel.Goals as goal
 
 pub loop-place-init : goal.loop-place-init
-loop-place-init g c = none_before (busy_channel c.args.machine.now) channel_number
+loop-place-init g c = from_start (busy_channel c.args.machine.now) channel_number channel_count
 
 pub returns-then-flags : goal.returns-then-flags
 unfolding all_channels
@@ -15,7 +15,7 @@ returns-then-flags g c =
 
 pub loop-place-preserved : goal.loop-place-preserved
 loop-place-preserved g c =
-    none_more (busy_channel c.args.machine.now) channel_number c.loop-place.place c.loop-place.invariant
+    none_more (busy_channel c.args.machine.now) channel_number c.loop-place.place channel_count (omega (arith, c.loop-place-test.true)) c.loop-place.invariant
     (on_channel_there c.args.machine.now _ c.at-c.result c.channel.result.now c.flags.result _ c.at-c.ensures.number c.channel.ensures.value c.flags.ensures c.if-flags.false)
 
 pub returns : goal.returns

@@ -1,11 +1,11 @@
 use Rattle.std.proofs.Common.{arith}
 use Rattle.pp_machine.specs.PpNo.{all_processors, processor_count, processor_number}
 use Rattle.pp_listing.specs.Dump.{busy_processor}
-use Rattle.pp_listing.proofs.GoingOnLemmas.{none_before, none_more, first_found, none_found, in_processor_there}
+use Rattle.pp_listing.proofs.GoingOnLemmas.{from_start, none_more, first_found, none_found, in_processor_there}
 use Rattle.pp_listing.proofs.going_on.first_processor.Goals as goal
 
 pub loop-place-init : goal.loop-place-init
-loop-place-init g c = none_before (busy_processor c.args.machine.now) processor_number
+loop-place-init g c = from_start (busy_processor c.args.machine.now) processor_number processor_count
 
 pub returns-in-Some : goal.returns-in-Some
 unfolding all_processors
@@ -15,7 +15,7 @@ returns-in-Some g c =
 
 pub loop-place-preserved : goal.loop-place-preserved
 loop-place-preserved g c =
-    none_more (busy_processor c.args.machine.now) processor_number c.loop-place.place c.loop-place.invariant
+    none_more (busy_processor c.args.machine.now) processor_number c.loop-place.place processor_count (omega (arith, c.loop-place-test.true)) c.loop-place.invariant
     (in_processor_there c.args.machine.now _ c.at-n.result c.pp.result.now _ c.at-n.ensures.number c.pp.ensures c.in_default.ensures)
 
 pub returns : goal.returns
