@@ -1,7 +1,9 @@
 -- Reading lines one after another leaves what they load all together.
 use Rattle.std.proofs.Common.{◌≡◌, ℕ, ◌<◌, ◌⊎◌, Bool, true, false, cond, eqb, List, [], ◌∷◌, ◌++◌, get_or, replicate, Option, Some, None, refl, sym, ap, ◌∙◌, inl, inr, fold, append_assoc, append-nil}
 use Rattle.std.specs.Prelude.{filter_map, slice_index_or, slice_set, ◌||◌}
-use Rattle.std.proofs.lemmas.Bool.{cond-false, cases_eq, ne_eqb}
+use Rattle.std.specs.List.{list_any}
+use Rattle.std.proofs.lemmas.Bool.{eqb-true}
+use Rattle.std.proofs.lemmas.List.{set-get_or}
 use Rattle.std.proofs.lemmas.List.Folds.{list_any-append}
 use Rattle.pp_word.specs.Address.{place_count}
 use Rattle.pp_machine.specs.MachineState.{MachineState, new_machine}
@@ -65,23 +67,19 @@ module _ (profile : Profile) where
 
   -- ---- all processors
 
-  abbrev pub own_if : Bool → Line → Processor → Processor
-  own_if true line pp = own_after line pp
-  own_if false line pp = pp
-
   loaded_is : (lines : List Line) (n : ℕ) → processor_loaded profile lines n ≡ by_own_lines (lines_for n lines)
   unfolding processor_loaded by_own_lines
   loaded_is lines n = refl
 
-  own_or_not : (b : Bool) (lines : List Line) (line : Line) → by_own_lines (lines ++ own b line) ≡ own_if b line (by_own_lines lines)
+  own_or_not : (b : Bool) (lines : List Line) (line : Line) → by_own_lines (lines ++ own b line) ≡ cond b (own_after line (by_own_lines lines)) (by_own_lines lines)
   own_or_not true lines line = by_own_more lines line
   own_or_not false lines line = ap by_own_lines (append-nil lines)
 
-  processor_more : (lines : List Line) (line : Line) (n : ℕ) → processor_loaded profile (lines ++ line ∷ []) n ≡ own_if (is_for n (section_of lines)) line (processor_loaded profile lines n)
+  processor_more : (lines : List Line) (line : Line) (n : ℕ) → processor_loaded profile (lines ++ line ∷ []) n ≡ cond (is_for n (section_of lines)) (own_after line (processor_loaded profile lines n)) (processor_loaded profile lines n)
   processor_more lines line n =
       loaded_is (lines ++ line ∷ []) n ∙ ap by_own_lines (lines_for_more n lines line)
       ∙ own_or_not (is_for n (section_of lines)) (lines_for n lines) line
-      ∙ ap (own_if (is_for n (section_of lines)) line) (sym (loaded_is lines n))
+      ∙ ap (λ (pp : Processor). cond (is_for n (section_of lines)) (own_after line pp) pp) (sym (loaded_is lines n))
 
   no_lines : (n : ℕ) → lines_for n [] ≡ []
   unfolding lines_for
@@ -90,24 +88,9 @@ module _ (profile : Profile) where
   processor_none : (n : ℕ) → processor_loaded profile [] n ≡ (new_processor profile)
   processor_none n = loaded_is [] n ∙ ap by_own_lines (no_lines n) ∙ by_own_none
 
-  own_if_is : (b : Bool) (line : Line) (pp : Processor) → own_if b line pp ≡ cond b (own_after line pp) pp
-  own_if_is true line pp = refl
-  own_if_is false line pp = refl
-
   -- the processors that lines load
   all_of : List Line → List Processor
   all_of lines = each_processor (processor_loaded profile lines)
-
-  -- a line that changes none
-  all_kept : (lines : List Line) (line : Line) → ((pp : Processor) → own_after line pp ≡ pp) → all_of (lines ++ line ∷ []) ≡ all_of lines
-  unfolding all_of
-  all_kept lines line same =
-      tabulate_same no_processor processor_count (λ i. processor_loaded profile (lines ++ line ∷ []) (processor_number i)) (λ i. processor_loaded profile lines (processor_number i))
-      (λ i lt. let n = processor_number i in processor_more lines line n ∙ own_if_is (is_for n (section_of lines)) line (processor_loaded profile lines n) ∙ either (is_for n (section_of lines)) (processor_loaded profile lines n))
-    where
-      either : (b : Bool) (pp : Processor) → cond b (own_after line pp) pp ≡ pp
-      either true pp = same pp
-      either false pp = refl
 
   -- one processor changes, where there is a current one
   abbrev pub changed_at : Option ℕ → (Processor → Processor) → List Processor → List Processor
@@ -117,35 +100,39 @@ module _ (profile : Profile) where
   entry_changed : (lines : List Line) (line : Line) (m i : ℕ) → i < processor_count → section_of lines ≡ Some m → processor_loaded profile (lines ++ line ∷ []) (processor_number i) ≡ cond (eqb i (processor_index m)) (own_after line (get_or (all_of lines) (processor_index m) no_processor)) (processor_loaded profile lines (processor_number i))
   unfolding all_of
   entry_changed lines line m i lt e =
-      processor_more lines line n ∙ ap (λ (current : Option ℕ). own_if (is_for n current) line (processor_loaded profile lines n)) e
-      ∙ own_if_is (eqb n m) line (processor_loaded profile lines n)
-      ∙ ap (λ (b : Bool). cond b (own_after line (processor_loaded profile lines n)) (processor_loaded profile lines n)) (number_at i m lt)
-      ∙ at_entry (cases_eq i place)
+      processor_more lines line n ∙ ap (λ (current : Option ℕ). cond (is_for n current) (own_after line pp) pp) e
+      ∙ ap (λ (b : Bool). cond b (own_after line pp) pp) (number_at i m lt)
+      ∙ at_entry (eqb i (processor_index m)) refl
     where
       n : ℕ
       n = processor_number i
 
-      place : ℕ
-      place = processor_index m
+      pp : Processor
+      pp = processor_loaded profile lines (processor_number i)
 
-      at_entry : (i ≡ place) ⊎ (i ≡ place → ⊥) → cond (eqb i place) (own_after line (processor_loaded profile lines n)) (processor_loaded profile lines n) ≡ cond (eqb i place) (own_after line (get_or (all_of lines) place no_processor)) (processor_loaded profile lines n)
-      at_entry (inl same) =
-          ap (λ (pp : Processor). cond (eqb i place) (own_after line pp) (processor_loaded profile lines n))
-          (sym (get_or-tabulate processor_count (λ k. processor_loaded profile lines (processor_number k)) i no_processor lt)
-          ∙ ap (λ (k : ℕ). get_or (all_of lines) k no_processor) same)
-      at_entry (inr other) =
-          cond-false (eqb i place) (own_after line (processor_loaded profile lines n)) (processor_loaded profile lines n) (ne_eqb i place other)
-          ∙ sym (cond-false (eqb i place) (own_after line (get_or (all_of lines) place no_processor)) (processor_loaded profile lines n) (ne_eqb i place other))
+      at_entry : (b : Bool) → eqb i (processor_index m) ≡ b → cond b (own_after line pp) pp ≡ cond b (own_after line (get_or (all_of lines) (processor_index m) no_processor)) pp
+      at_entry true same =
+          ap (own_after line) (sym (get_or-tabulate processor_count (λ k. processor_loaded profile lines (processor_number k)) i no_processor lt)
+          ∙ ap (λ (k : ℕ). get_or (all_of lines) k no_processor) (eqb-true i (processor_index m) same))
+      at_entry false other = refl
 
   all_changed : (lines : List Line) (line : Line) (current : Option ℕ) → section_of lines ≡ current → changed_at current (own_after line) (all_of lines) ≡ all_of (lines ++ line ∷ [])
   unfolding all_of
   all_changed lines line None e =
       sym (tabulate_same no_processor processor_count (λ i. processor_loaded profile (lines ++ line ∷ []) (processor_number i)) (λ i. processor_loaded profile lines (processor_number i))
-      (λ i lt. let n = processor_number i in processor_more lines line n ∙ ap (λ (current : Option ℕ). own_if (is_for n current) line (processor_loaded profile lines n)) e))
+      (λ i lt. let n = processor_number i in processor_more lines line n ∙ ap (λ (current : Option ℕ). cond (is_for n current) (own_after line (processor_loaded profile lines n)) (processor_loaded profile lines n)) e))
   all_changed lines line (Some m) e =
       set-tabulate no_processor processor_count (λ i. processor_loaded profile lines (processor_number i)) (processor_index m) (own_after line (get_or (all_of lines) (processor_index m) no_processor))
       ∙ sym (tabulate_same no_processor processor_count (λ i. processor_loaded profile (lines ++ line ∷ []) (processor_number i)) (λ i. cond (eqb i (processor_index m)) (own_after line (get_or (all_of lines) (processor_index m) no_processor)) (processor_loaded profile lines (processor_number i)))
       (λ i lt. entry_changed lines line m i lt e))
+
+  -- a line that changes none
+  all_kept : (lines : List Line) (line : Line) → ((pp : Processor) → own_after line pp ≡ pp) → all_of (lines ++ line ∷ []) ≡ all_of lines
+  all_kept lines line same = sym (all_changed lines line (section_of lines) refl) ∙ by (section_of lines)
+    where
+      by : (current : Option ℕ) → changed_at current (own_after line) (all_of lines) ≡ all_of lines
+      by None = refl
+      by (Some m) = ap (slice_set (all_of lines) (processor_index m)) (same (get_or (all_of lines) (processor_index m) no_processor)) ∙ set-get_or (all_of lines) (processor_index m) no_processor
 
   -- ---- the machine
 
@@ -187,28 +174,27 @@ module _ (profile : Profile) where
   named_of : List Line → List Bool
   named_of lines = each_processor (is_named lines)
 
-  or_false : (b : Bool) → (b || false) ≡ b
-  or_false true = refl
-  or_false false = refl
-
-  or_test : (b t : Bool) → cond t true b ≡ (b || (t || false))
-  or_test true true = refl
-  or_test true false = refl
-  or_test false true = refl
-  or_test false false = refl
+  any_more : (p : Line → Bool) (lines : List Line) (line : Line) → list_any p (lines ++ line ∷ []) ≡ cond (p line) true (list_any p lines)
+  any_more p lines line = list_any-append p lines (line ∷ []) ∙ by (list_any p lines) (p line)
+    where
+      by : (b t : Bool) → (b || (t || false)) ≡ cond t true b
+      by true true = refl
+      by true false = refl
+      by false true = refl
+      by false false = refl
 
   named_kept : (lines : List Line) (line : Line) → ((n : ℕ) → names n line ≡ false) → named_of lines ≡ named_of (lines ++ line ∷ [])
   unfolding named_of
   named_kept lines line none =
       sym (tabulate_same false processor_count (λ i. is_named (lines ++ line ∷ []) (processor_number i)) (λ i. is_named lines (processor_number i))
-      (λ i lt. let n = processor_number i in list_any-append (names n) lines (line ∷ []) ∙ ap (λ (t : Bool). is_named lines n || (t || false)) (none n) ∙ or_false (is_named lines n)))
+      (λ i lt. let n = processor_number i in any_more (names n) lines line ∙ ap (λ (t : Bool). cond t true (is_named lines n)) (none n)))
 
   named_more : (lines : List Line) (line : Line) → named_after line (named_of lines) ≡ named_of (lines ++ line ∷ [])
   unfolding named_of
   named_more lines (section m) =
       set-tabulate false processor_count (λ i. is_named lines (processor_number i)) (processor_index m) true
       ∙ sym (tabulate_same false processor_count (λ i. is_named (lines ++ section m ∷ []) (processor_number i)) (λ i. cond (eqb i (processor_index m)) true (is_named lines (processor_number i)))
-      (λ i lt. let n = processor_number i in list_any-append (names n) lines (section m ∷ []) ∙ sym (or_test (is_named lines n) (eqb n m)) ∙ ap (λ (b : Bool). cond b true (is_named lines n)) (number_at i m lt)))
+      (λ i lt. let n = processor_number i in any_more (names n) lines (section m) ∙ ap (λ (b : Bool). cond b true (is_named lines n)) (number_at i m lt)))
   named_more lines line = named_kept lines line (λ n. refl)
 
   named_none : replicate processor_count false ≡ named_of []
@@ -217,17 +203,9 @@ module _ (profile : Profile) where
 
   -- ---- whether dead start was asked for
 
-  asked_kept : (lines : List Line) (line : Line) → is_dead_start line ≡ false → asks_dead_start lines ≡ asks_dead_start (lines ++ line ∷ [])
-  asked_kept lines line none =
-      sym (list_any-append is_dead_start lines (line ∷ []) ∙ ap (λ (t : Bool). asks_dead_start lines || (t || false)) none ∙ or_false (asks_dead_start lines))
-
-  or_true : (b : Bool) → true ≡ (b || (true || false))
-  or_true true = refl
-  or_true false = refl
-
   asked_more : (lines : List Line) (line : Line) → asked_after line (asks_dead_start lines) ≡ asks_dead_start (lines ++ line ∷ [])
-  asked_more lines dead_start = or_true (asks_dead_start lines) ∙ sym (list_any-append is_dead_start lines (dead_start ∷ []))
-  asked_more lines line = asked_kept lines line refl
+  asked_more lines dead_start = sym (any_more is_dead_start lines dead_start)
+  asked_more lines line = sym (any_more is_dead_start lines line)
 
   -- ---- the progress
 

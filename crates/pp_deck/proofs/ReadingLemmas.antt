@@ -2,6 +2,7 @@
 use Rattle.std.proofs.Common.{◌≡◌, ℕ, suc, ◌+◌, ◌-◌, ◌<◌, Bool, true, false, List, [], ◌∷◌, ◌++◌, length, take, get_or, Option, Result, Ok, Err, refl, sym, ap, ◌∙◌, arith, fold, ltb, lt-ltb}
 use Rattle.std.specs.Prelude.{filter_map, option_to_list, is_some, ◌||◌}
 use Rattle.std.specs.List.{list_any, range_with_len, cons_option}
+use Rattle.std.proofs.lemmas.Bool.{or_right}
 use Rattle.std.proofs.lemmas.List.{append-nil, get_or-replicate}
 use Rattle.std.proofs.lemmas.List.Elements.{filter_map-append}
 use Rattle.std.proofs.lemmas.List.Folds.{list_any_more}
@@ -50,10 +51,6 @@ module _ (profile : Profile) where
   or_false : (b : Bool) → (b || false) ≡ b
   or_false true = refl
   or_false false = refl
-
-  or_true : (b : Bool) → (b || true) ≡ true
-  or_true true = refl
-  or_true false = refl
 
   one_first : (n : ℕ) → 1 + n ≡ suc n
   one_first n = omega arith
@@ -127,7 +124,7 @@ module _ (profile : Profile) where
   read_as lines k progress new b (Ok line) h lt some is e =
       let next = read_more lines k progress b line h lt is in
       let same : after_line progress line ≡ new = cc in
-      let yes : (b || has_fields (get_or lines k [])) ≡ true = ap (λ (t : Bool). b || t) some ∙ or_true b in
+      let yes : (b || has_fields (get_or lines k [])) ≡ true = or_right b (has_fields (get_or lines k [])) some in
       record {
         faultless = next.faultless;
         progress_is = sym same ∙ next.progress_is;

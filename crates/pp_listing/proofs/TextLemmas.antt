@@ -59,39 +59,12 @@ pub before_first : (memory : List ℕ) → IsSoFar (flat_map text_line (instruct
 unfolding IsSoFar lines_from
 before_first memory = refl
 
-zero_passed : (whole text memory : List ℕ) (place : ℕ) → place < length memory → get_or memory place 0 ≡ 0 → IsSoFar whole text place memory → IsSoFar whole text (place + 1) memory
-unfolding IsSoFar lines_from
-zero_passed whole text memory place lt e h =
-    sym (ap (λ (ws : List ℕ). text ++ flat_map text_line (instruction_lines (get_or memory 0 0) place ws)) (drop_more memory place 0 lt)
-    ∙ ap (λ (ls : List ListedLine). text ++ flat_map text_line ls) (zero_first (get_or memory 0 0) place (get_or memory place 0) (drop (place + 1) memory) e))
-    ∙ h
-
 -- a text that goes on by one line
 line_passed : (whole text more : List ℕ) (line : ListedLine) (now behind : List ListedLine) → now ≡ line ∷ behind → more ≡ text ++ text_line line → text ++ flat_map text_line now ≡ whole → more ++ flat_map text_line behind ≡ whole
 line_passed whole text more line now behind are is h =
     ap (λ (bytes : List ℕ). bytes ++ flat_map text_line behind) is
     ∙ append_assoc text (text_line line) (flat_map text_line behind)
     ∙ sym (ap (λ (ls : List ListedLine). text ++ flat_map text_line ls) are) ∙ h
-
-one_passed : (whole text more memory : List ℕ) (place : ℕ) → length memory ≡ place_count → place < place_count → get_or memory place 0 ≢ 0 → (place + 1 < place_count → is_long (get_or memory place 0) ≡ false)
-    → more ≡ text ++ text_line (one_word place (get_or memory place 0) (get_or memory (next_place place) 0)) → IsSoFar whole text place memory → IsSoFar whole more (place + 1) memory
-unfolding IsSoFar lines_from
-one_passed whole text more memory place long lt ne short is h =
-    let first = get_or memory 0 0 in
-    line_passed whole text more (one_word place (get_or memory place 0) (get_or memory (next_place place) 0)) (instruction_lines first place (drop place memory)) (instruction_lines first (place + 1) (drop (place + 1) memory))
-    (ap (instruction_lines first place) (drop_more memory place 0 (omega (arith, lt, long)))
-    ∙ one_first first place (get_or memory place 0) (drop (place + 1) memory) ne (λ some. short (omega (arith, some, long, length-drop (place + 1) memory)))
-    ∙ ap (λ (m : ℕ). one_word place (get_or memory place 0) m ∷ instruction_lines first (place + 1) (drop (place + 1) memory)) (next_is memory place long lt)) is h
-
-two_passed : (whole text more memory : List ℕ) (place : ℕ) → length memory ≡ place_count → place + 1 < place_count → get_or memory place 0 ≢ 0 → is_long (get_or memory place 0) ≡ true
-    → more ≡ text ++ text_line (two_words place (get_or memory place 0) (get_or memory (place + 1) 0)) → IsSoFar whole text place memory → IsSoFar whole more (place + 1 + 1) memory
-unfolding IsSoFar lines_from
-two_passed whole text more memory place long lt ne two is h =
-    let first = get_or memory 0 0 in
-    line_passed whole text more (two_words place (get_or memory place 0) (get_or memory (place + 1) 0)) (instruction_lines first place (drop place memory)) (instruction_lines first (place + 1 + 1) (drop (place + 1 + 1) memory))
-    (ap (instruction_lines first place) (drop_more memory place 0 (omega (arith, lt, long)) ∙ ap (λ (ws : List ℕ). get_or memory place 0 ∷ ws) (drop_more memory (place + 1) 0 (omega (arith, lt, long))))
-    ∙ (cond-false (eqb (get_or memory place 0) 0) _ _ (ne_eqb (get_or memory place 0) 0 ne) ∙ cond-true (is_long (get_or memory place 0)) _ _ two)
-    ∙ ap (λ (i : ℕ). two_words place (get_or memory place 0) (get_or memory (place + 1) 0) ∷ instruction_lines first i (drop (place + 1 + 1) memory)) (sym (omega arith))) is h
 
 pub all_passed : (whole text memory : List ℕ) (place : ℕ) → length memory ≤ place → IsSoFar whole text place memory → text ≡ whole
 unfolding IsSoFar lines_from
@@ -109,29 +82,43 @@ behind memory place at after m lt is_at is_after is_m =
     is_m ∙ ap (λ (i : ℕ). get_or memory i 0) after_is
 
 pub zero_step : (whole text memory : List ℕ) (place at word got : ℕ) → length memory ≡ place_count → place < place_count → at ≡ place % 2 ^ 12 → word ≡ get_or memory at 0 → got ≡ word → got ≡ 0 → IsSoFar whole text place memory → IsSoFar whole text (place + 1) memory
+unfolding IsSoFar lines_from
 zero_step whole text memory place at word got long lt is_at is_word is_got none h =
-    zero_passed whole text memory place (omega (arith, lt, long)) (sym (here memory place at word lt is_at is_word) ∙ sym is_got ∙ none) h
+    sym (ap (λ (ws : List ℕ). text ++ flat_map text_line (instruction_lines (get_or memory 0 0) place ws)) (drop_more memory place 0 (omega (arith, lt, long)))
+    ∙ ap (λ (ls : List ListedLine). text ++ flat_map text_line ls)
+    (zero_first (get_or memory 0 0) place (get_or memory place 0) (drop (place + 1) memory) (sym (here memory place at word lt is_at is_word) ∙ sym is_got ∙ none)))
+    ∙ h
 
 pub one_step : (whole text more memory : List ℕ) (place at after word m got : ℕ) → length memory ≡ place_count → place < place_count → at ≡ place % 2 ^ 12 → after ≡ next_place at → word ≡ get_or memory at 0 → m ≡ get_or memory after 0 → got ≡ word → got ≢ 0 → (place + 1 < place_count → is_long word ≡ false)
     → more ≡ text ++ text_line (one_word at word m) → IsSoFar whole text place memory → IsSoFar whole more (place + 1) memory
+unfolding IsSoFar lines_from
 one_step whole text more memory place at after word m got long lt is_at is_after is_word is_m is_got some short is h =
+    let first = get_or memory 0 0 in
     let at_is : at ≡ place = omega (arith, is_at, lt) in
-    let word_is : word ≡ get_or memory place 0 = here memory place at word lt is_at is_word in
-    let m_is : m ≡ get_or memory (next_place place) 0 = behind memory place at after m lt is_at is_after is_m in
-    one_passed whole text more memory place long lt (λ e. some (is_got ∙ word_is ∙ e)) (λ next. ap is_long (sym word_is) ∙ short next)
-    (is ∙ ap (λ (w : ℕ). text ++ text_line (one_word at w m)) word_is ∙ ap (λ (v : ℕ). text ++ text_line (one_word at (get_or memory place 0) v)) m_is
-    ∙ ap (λ (i : ℕ). text ++ text_line (one_word i (get_or memory place 0) (get_or memory (next_place place) 0))) at_is) h
+    let left = drop (place + 1) memory in
+    line_passed whole text more (one_word at word m) (instruction_lines first place (drop place memory)) (instruction_lines first (place + 1) left)
+    (ap (instruction_lines first place) (drop_more memory place 0 (omega (arith, lt, long)) ∙ ap (λ (w : ℕ). w ∷ left) (sym (here memory place at word lt is_at is_word)))
+    ∙ one_first first place word left (λ e. some (is_got ∙ e)) (λ next. short (omega (arith, next, long, length-drop (place + 1) memory)))
+    ∙ ap (λ (v : ℕ). one_word place word v ∷ instruction_lines first (place + 1) left) (next_is memory place long lt ∙ sym (behind memory place at after m lt is_at is_after is_m))
+    ∙ ap (λ (i : ℕ). one_word i word m ∷ instruction_lines first (place + 1) left) (sym at_is)) is h
 
 pub two_step : (whole text more memory : List ℕ) (place at after word m got : ℕ) → length memory ≡ place_count → place + 1 < place_count → at ≡ place % 2 ^ 12 → after ≡ next_place at → word ≡ get_or memory at 0 → m ≡ get_or memory after 0 → got ≡ word → got ≢ 0 → is_long word ≡ true
     → more ≡ text ++ text_line (two_words at word m) → IsSoFar whole text place memory → IsSoFar whole more (place + 1 + 1) memory
+unfolding IsSoFar lines_from
 two_step whole text more memory place at after word m got long lt is_at is_after is_word is_m is_got some two is h =
+    let first = get_or memory 0 0 in
     let at_is : at ≡ place = omega (arith, is_at, lt) in
-    let word_is : word ≡ get_or memory place 0 = here memory place at word (omega (arith, lt)) is_at is_word in
-    let after_is : next_place place ≡ place + 1 = omega (arith, lt) in
-    let m_is : m ≡ get_or memory (place + 1) 0 = behind memory place at after m (omega (arith, lt)) is_at is_after is_m ∙ ap (λ (i : ℕ). get_or memory i 0) after_is in
-    two_passed whole text more memory place long lt (λ e. some (is_got ∙ word_is ∙ e)) (ap is_long (sym word_is) ∙ two)
-    (is ∙ ap (λ (w : ℕ). text ++ text_line (two_words at w m)) word_is ∙ ap (λ (v : ℕ). text ++ text_line (two_words at (get_or memory place 0) v)) m_is
-    ∙ ap (λ (i : ℕ). text ++ text_line (two_words i (get_or memory place 0) (get_or memory (place + 1) 0))) at_is) h
+    let next : next_place place ≡ place + 1 = omega (arith, lt) in
+    let on : place + 2 ≡ place + 1 + 1 = omega arith in
+    let left = drop (place + 1 + 1) memory in
+    let m_is : m ≡ get_or memory (place + 1) 0 = behind memory place at after m (omega (arith, lt)) is_at is_after is_m ∙ ap (λ (i : ℕ). get_or memory i 0) next in
+    line_passed whole text more (two_words at word m) (instruction_lines first place (drop place memory)) (instruction_lines first (place + 1 + 1) left)
+    (ap (instruction_lines first place)
+    (drop_more memory place 0 (omega (arith, lt, long)) ∙ ap (λ (ws : List ℕ). get_or memory place 0 ∷ ws) (drop_more memory (place + 1) 0 (omega (arith, lt, long)))
+    ∙ ap (λ (w : ℕ). w ∷ get_or memory (place + 1) 0 ∷ left) (sym (here memory place at word (omega (arith, lt)) is_at is_word)) ∙ ap (λ (v : ℕ). word ∷ v ∷ left) (sym m_is))
+    ∙ cond-false (eqb word 0) _ _ (ne_eqb word 0 (λ e. some (is_got ∙ e))) ∙ cond-true (is_long word) _ _ two
+    ∙ ap (λ (i : ℕ). two_words place word m ∷ instruction_lines first i left) on
+    ∙ ap (λ (i : ℕ). two_words i word m ∷ instruction_lines first (place + 1 + 1) left) (sym at_is)) is h
 
 -- ---- the line of a central word
 
