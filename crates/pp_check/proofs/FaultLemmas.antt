@@ -60,9 +60,7 @@ late_turn opened before (AtTurn t c e) turn last is was late fits =
     let same : t ≡ turn = cc in
     let less : last < t = subst (λ (o : Option ℕ). IfSome o (λ l. l < t)) was fits in
     omega (arith, same, less, late)
-late_turn opened before (Numbered n c e) turn last is was late fits = absurd cc
-late_turn opened before (Standing c state) turn last is was late fits = absurd cc
-late_turn opened before Other turn last is was late fits = absurd cc
+late_turn opened before line turn last is was late fits = absurd cc
 
 -- lines with a flaw at their end are not lawful
 flawed : (opened : List Bool) (before : List TraceLine) (line : TraceLine) (flaw : TraceFlaw) → IsFlawOf opened before line flaw → IsLawfulTrace opened (before ++ line ∷ []) → ⊥

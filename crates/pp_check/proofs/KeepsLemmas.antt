@@ -1,5 +1,5 @@
 -- What the judge keeps, one line more.
-use Rattle.std.proofs.Common.{◌≡◌, ◌≢◌, ℕ, ◌+◌, ◌<◌, ◌≤◌, ◌==◌, Bool, true, false, List, [], ◌∷◌, ◌++◌, length, get_or, Some, None, Result, Ok, Err, refl, sym, ap, ◌∙◌, subst, arith, inl, inr}
+use Rattle.std.proofs.Common.{◌≡◌, ◌≢◌, ℕ, ◌+◌, ◌<◌, ◌≤◌, ◌==◌, Bool, true, false, List, [], ◌∷◌, ◌++◌, length, get_or, Some, None, Result, Ok, Err, refl, sym, ap, ◌∙◌, subst, add-zero, arith, inl, inr}
 use Rattle.std.specs.Prelude.{IsTrue, count_by, slice_set, if◌then◌else◌}
 use Rattle.std.specs.List.{cons_option, filter_map}
 use Rattle.std.proofs.lemmas.Bool.{cases_eq, eq-eqb, eqb-true, ne_eqb}
@@ -54,8 +54,7 @@ event_line c e (says.AtTurn turn channel told) is =
 event_line c e (says.Numbered number channel told) is =
     let here = here_by c channel e told (channel == c) refl is in
     record { elsewhere = λ d other. elsewhere_by c channel d told here.channel_is other; told = refl; begins = ap is_activate here.event_is }
-event_line c e (says.Standing channel state) is = absurd cc
-event_line c e says.Other is = absurd cc
+event_line c e line is = absurd cc
 
 -- ---- a line without an event
 
@@ -80,14 +79,11 @@ keeps_without_event opened lines judge line k fits none = record {
         subst P (sym (history_same opened lines line c (none.event c))) (k.kept.lawful.histories c));
     each_channel = k.kept.each_channel;
     channels = λ c names. k.kept.channels c names ∙ sym (standing_same opened lines line c (none.event c));
-    events = let more = count_more tells_event lines line in k.kept.events ∙ sym (more ∙ ap (λ (b : Bool). count_by tells_event lines + (if b then 1 else 0)) none.told ∙ add_none (count_by tells_event lines));
-    sessions = let more = count_more begins_session lines line in k.kept.sessions ∙ sym (more ∙ ap (λ (b : Bool). count_by begins_session lines + (if b then 1 else 0)) none.begins ∙ add_none (count_by begins_session lines));
+    events = let more = count_more tells_event lines line in k.kept.events ∙ sym (more ∙ ap (λ (b : Bool). count_by tells_event lines + (if b then 1 else 0)) none.told ∙ add-zero (count_by tells_event lines));
+    sessions = let more = count_more begins_session lines line in k.kept.sessions ∙ sym (more ∙ ap (λ (b : Bool). count_by begins_session lines + (if b then 1 else 0)) none.begins ∙ add-zero (count_by begins_session lines));
   };
   last_turn = k.last_turn ∙ sym (last_turn_same lines line none.turn);
 }
-  where
-    add_none : (n : ℕ) → n + 0 ≡ n
-    add_none n = omega arith
 
 pub nothing_told : TellsNone says.Other
 nothing_told = record { event = λ c. refl; turn = refl; told = refl; begins = refl }
@@ -175,8 +171,7 @@ event_by_test false told es n rest = omega (arith, rest)
 event_by_line : (c : ℕ) (line : TraceLine) (es : List Event) (n : ℕ) → length es ≤ n → length (cons_option (event_on c line) es) ≤ (if tells_event line then 1 else 0) + n
 event_by_line c (says.AtTurn turn channel told) es n rest = event_by_test (channel == c) told es n rest
 event_by_line c (says.Numbered number channel told) es n rest = event_by_test (channel == c) told es n rest
-event_by_line c (says.Standing channel state) es n rest = omega (arith, rest)
-event_by_line c says.Other es n rest = omega (arith, rest)
+event_by_line c line es n rest = omega (arith, rest)
 
 some_events : (c : ℕ) (lines : List TraceLine) → length (events_on c lines) ≤ count_by tells_event lines
 unfolding events_on
@@ -199,8 +194,7 @@ session_by_test false m n rest = omega (arith, rest)
 session_by_line : (line : TraceLine) (m n : ℕ) → m ≤ n → (if begins_session line then 1 else 0) + m ≤ (if tells_event line then 1 else 0) + n
 session_by_line (says.AtTurn turn channel told) m n rest = session_by_test (is_activate told) m n rest
 session_by_line (says.Numbered number channel told) m n rest = session_by_test (is_activate told) m n rest
-session_by_line (says.Standing channel state) m n rest = omega (arith, rest)
-session_by_line says.Other m n rest = omega (arith, rest)
+session_by_line line m n rest = omega (arith, rest)
 
 -- each session that begins is an event
 pub few_sessions : (lines : List TraceLine) → count_by begins_session lines ≤ count_by tells_event lines

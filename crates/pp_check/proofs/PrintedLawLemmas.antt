@@ -50,15 +50,17 @@ none_elsewhere c (e ∷ trace) unnamed told =
     named_twice : (d c : ℕ) → d ≡ c → IsTrue (names_channel d) → names_channel c ≡ false → ⊥
     named_twice d c same names unnamed = let both : true ≡ false = sym names ∙ ap names_channel same ∙ unnamed in cc
 
-lawful_by_name : (named : List Bool) (m : MachineState) (opened : List Bool) → IsPrintable named m → AreOpenedBy m opened → (c : ℕ) (b : Bool) → names_channel c ≡ b → IsLawful (history opened (map at_turn m.trace) c)
-lawful_by_name named m opened is opens c true names =
-    let channel = is.headline c names in
-    let same : history opened (map at_turn m.trace) c ≡ history_of c m =
+-- the history that lines report of a channel is that of the machine
+history_told : (named : List Bool) (m : MachineState) (opened : List Bool) → IsPrintable named m → AreOpenedBy m opened → (c : ℕ) → IsTrue (names_channel c) → history opened (map at_turn m.trace) c ≡ history_of c m
+history_told named m opened is opens c names =
     ap (λ (es : List Event). opening opened c ++ es) (told_events c m.trace)
     ∙ ap (λ (b : Bool). (if b then Activate ∷ [] else []) ++ headline.events_on c m.trace) (opens c names)
-    ∙ sym channel.traced in
+    ∙ sym (is.headline c names).traced
+
+lawful_by_name : (named : List Bool) (m : MachineState) (opened : List Bool) → IsPrintable named m → AreOpenedBy m opened → (c : ℕ) (b : Bool) → names_channel c ≡ b → IsLawful (history opened (map at_turn m.trace) c)
+lawful_by_name named m opened is opens c true names =
     let P : List Event → Type 0 = λ h. IsLawful h in
-    subst P (sym same) channel.lawful
+    subst P (sym (history_told named m opened is opens c names)) (is.headline c names).lawful
 lawful_by_name named m opened is opens c false unnamed =
     let same : history opened (map at_turn m.trace) c ≡ opening opened c =
     ap (λ (es : List Event). opening opened c ++ es) (told_events c m.trace ∙ none_elsewhere c m.trace unnamed is.fits.trace) ∙ append-nil (opening opened c) in
@@ -92,9 +94,7 @@ fits_by_turn : (opened : List Bool) (before : List TraceLine) (line : TraceLine)
 fits_by_turn opened before (AtTurn t c e) turn is less =
     let same : turn ≡ t = cc in
     subst (λ (n : ℕ). IfSome (last_turn before) (λ last. last < n)) same less
-fits_by_turn opened before (Numbered number c e) turn is less = absurd (cc)
-fits_by_turn opened before (Standing c state) turn is less = absurd (cc)
-fits_by_turn opened before Other turn is less = absurd (cc)
+fits_by_turn opened before line turn is less = absurd (cc)
 
 as_many : (trace : List Trace) → length (map at_turn trace) ≡ length (map (λ e. e.turn) trace)
 as_many [] = refl
@@ -192,13 +192,7 @@ channels_show named m opened is opens c = by_name (names_channel c) refl
   where
     by_name : (b : Bool) → names_channel c ≡ b → AllByRecursion (Shows opened (map at_turn m.trace)) (if b then state_lines c (history_on c m.histories) else [])
     by_name false unnamed = tt
-    by_name true names =
-        let channel = is.headline c names in
-        let same : history opened (map at_turn m.trace) c ≡ history_of c m =
-        ap (λ (es : List Event). opening opened c ++ es) (told_events c m.trace)
-        ∙ ap (λ (b : Bool). (if b then Activate ∷ [] else []) ++ headline.events_on c m.trace) (opens c names)
-        ∙ sym channel.traced in
-        history_shows opened (map at_turn m.trace) c (history_of c m) same channel.lawful
+    by_name true names = history_shows opened (map at_turn m.trace) c (history_of c m) (history_told named m opened is opens c names) (is.headline c names).lawful
 
 -- ---- the whole text
 

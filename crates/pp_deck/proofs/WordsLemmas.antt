@@ -9,34 +9,22 @@ onto : {A : Type 0} (use_of : List ℕ → A) (word : ℕ) (r : Result (List ℕ
 onto use_of word (Ok more) = refl
 onto use_of word (Err flaw) = refl
 
-one_more : {A : Type 0} (use_of : List ℕ → A) (most place end word : ℕ) (past : Flaw) (field : List ℕ) (all fields : List (List ℕ)) → all ≡ field ∷ fields → Ok word ≡ number most field → place < end → on_read use_of (words_in most place end past all) ≡ on_read (λ ws. use_of (word ∷ ws)) (words_in most (place + 1) end past fields)
-unfolding words_in
-one_more use_of most place end word past field all fields e n lt =
-    let below : ltb place end ≡ true = lt-ltb place end lt in
-    rw (e, ← n, below) (onto use_of word (words_in most (place + 1) end past fields))
-
-past_end : {A : Type 0} (use_of : List ℕ → A) (most place end word : ℕ) (past : Flaw) (field : List ℕ) (all fields : List (List ℕ)) → all ≡ field ∷ fields → Ok word ≡ number most field → end ≤ place → on_read use_of (words_in most place end past all) ≡ Err past
-unfolding words_in
-past_end use_of most place end word past field all fields e n le =
-    let above : ltb place end ≡ false = le-ltb place end le in
-    rw (e, ← n, above) refl
-
-bad_word : {A : Type 0} (use_of : List ℕ → A) (most place end : ℕ) (past flaw : Flaw) (field : List ℕ) (all fields : List (List ℕ)) → all ≡ field ∷ fields → Err flaw ≡ number most field → on_read use_of (words_in most place end past all) ≡ Err flaw
-unfolding words_in
-bad_word use_of most place end past flaw field all fields e n = rw (e, ← n) refl
-
-no_word : {A : Type 0} (use_of : List ℕ → A) (most place end : ℕ) (past : Flaw) (all : List (List ℕ)) → all ≡ [] → on_read use_of (words_in most place end past all) ≡ Ok (use_of [])
-unfolding words_in
-no_word use_of most place end past all e = rw e refl
-
 pub words_more : {A : Type 0} (use_of : List ℕ → A) (most place end word : ℕ) (past : Flaw) (field : List ℕ) (all fields : List (List ℕ)) (whole : Result A Flaw) → on_read use_of (words_in most place end past all) ≡ whole → all ≡ field ∷ fields → Ok word ≡ number most field → place < end → on_read (λ ws. use_of (word ∷ ws)) (words_in most (place + 1) end past fields) ≡ whole
-words_more use_of most place end word past field all fields whole is e n lt = sym (one_more use_of most place end word past field all fields e n lt) ∙ is
+unfolding words_in
+words_more use_of most place end word past field all fields whole is e n lt =
+    let below : ltb place end ≡ true = lt-ltb place end lt in
+    sym (onto use_of word (words_in most (place + 1) end past fields)) ∙ (rw (e, ← n, below) at is)
 
 pub words_past : {A : Type 0} (use_of : List ℕ → A) (most place end word : ℕ) (past : Flaw) (field : List ℕ) (all fields : List (List ℕ)) (whole : Result A Flaw) → on_read use_of (words_in most place end past all) ≡ whole → all ≡ field ∷ fields → Ok word ≡ number most field → end ≤ place → whole ≡ Err past
-words_past use_of most place end word past field all fields whole is e n le = sym is ∙ past_end use_of most place end word past field all fields e n le
+unfolding words_in
+words_past use_of most place end word past field all fields whole is e n le =
+    let above : ltb place end ≡ false = le-ltb place end le in
+    sym (rw (e, ← n, above) at is)
 
 pub words_bad : {A : Type 0} (use_of : List ℕ → A) (most place end : ℕ) (past flaw : Flaw) (field : List ℕ) (all fields : List (List ℕ)) (whole : Result A Flaw) → on_read use_of (words_in most place end past all) ≡ whole → all ≡ field ∷ fields → Err flaw ≡ number most field → whole ≡ Err flaw
-words_bad use_of most place end past flaw field all fields whole is e n = sym is ∙ bad_word use_of most place end past flaw field all fields e n
+unfolding words_in
+words_bad use_of most place end past flaw field all fields whole is e n = sym (rw (e, ← n) at is)
 
 pub words_none : {A : Type 0} (use_of : List ℕ → A) (most place end : ℕ) (past : Flaw) (all : List (List ℕ)) (whole : Result A Flaw) → on_read use_of (words_in most place end past all) ≡ whole → all ≡ [] → whole ≡ Ok (use_of [])
-words_none use_of most place end past all whole is e = sym is ∙ no_word use_of most place end past all e
+unfolding words_in
+words_none use_of most place end past all whole is e = sym (rw e at is)
