@@ -1,16 +1,16 @@
--- Texts whose lines are a lawful trace, and where they stop.
-use Rattle.std.proofs.Common.{◌≡◌, ℕ, ◌+◌, ◌-◌, ◌<◌, ◌≤◌, Bool, List, [], ◌∷◌, ◌++◌, length, take, drop, get_or, Option, Some, None, refl, sym, ap, ◌∙◌, subst, arith, inl, inr}
-use Rattle.std.specs.Prelude.{◌↔◌, All, IfSome, IsSome, option_to_list}
-use Rattle.std.specs.List.{filter_map}
+-- Texts whose lines are a lawful trace, as far as they are read, and where they stop; a text has one fault, and the turns of a lawful trace rise.
+use Rattle.std.proofs.Common.{◌≡◌, ℕ, ◌+◌, ◌-◌, ◌<◌, ◌≤◌, Bool, List, [], ◌∷◌, ◌++◌, length, take, drop, get_or, Option, Some, None, refl, sym, ap, ◌∙◌, subst, arith, inl, inr, zero, suc, add-one, Ok, Err}
+use Rattle.std.specs.Prelude.{◌↔◌, All, IfSome, IsSome, option_to_list, if◌then◌else◌, nat_le, slice_get, ◌==◌, MatchOption}
+use Rattle.std.specs.List.{filter_map, last_or}
 use Rattle.std.proofs.Math.Seq.{take-append_seam, take-take}
-use Rattle.std.proofs.lemmas.Bool.{cases_lt}
-use Rattle.std.proofs.lemmas.List.{get_or_push, length_push, take-append-drop, take_more}
-use Rattle.std.proofs.lemmas.List.Elements.{All-get_or, All-take, filter_map-append}
+use Rattle.std.proofs.lemmas.Bool.{cases_lt, cond-false, cond-true, eq-eqb, le-leb, lt-leb, ne_eqb}
+use Rattle.std.proofs.lemmas.List.{get_or_push, length_push, take-append-drop, take_more, get_or_append_left, take_all, length-drop}
+use Rattle.std.proofs.lemmas.List.Elements.{All-get_or, All-take, filter_map-append, All-more, All-nil}
 use Rattle.pp_channel.specs.Answer.{channel_state}
 use Rattle.pp_channel.specs.History.{IsLawful}
 use Rattle.pp_channel.specs.declared.event.Event.{Event}
 use Rattle.pp_word.specs.GrowingLists.{filter_map_more}
-use Rattle.pp_check.specs.LawfulTrace.{AreLawful, Fits, IsLawfulTrace, history, last_turn, parsed_lines, turn_of}
+use Rattle.pp_check.specs.LawfulTrace.{AreLawful, Fits, IsLawfulTrace, history, last_turn, parsed_lines, turn_of, event_on, turns}
 use Rattle.pp_check.specs.TraceFault.{IsFault, IsFlaw, IsFlawOf}
 use Rattle.pp_check.specs.TraceLine.{parsed_line}
 use Rattle.pp_check.specs.declared.trace_fault.TraceFault.{TraceFault}
@@ -18,7 +18,17 @@ use Rattle.pp_check.specs.declared.trace_fault.TraceFlaw.{TraceFlaw}
 use Rattle.pp_check.specs.declared.trace_fault.TraceFlaw.TheVariants.{Malformed, TurnNotRising, WrongNumber, UnlawfulEvent, WrongState}
 use Rattle.pp_check.specs.declared.trace_line.TraceLine.{TraceLine}
 use Rattle.pp_check.specs.declared.trace_line.TraceLine.TheVariants.{AtTurn, Numbered, Standing, Other}
-use Rattle.pp_check.proofs.TraceLemmas.{history_more, last_fits, lawful_prefix}
+use Rattle.pp_check.proofs.TraceLemmas.{history_more, last_fits, lawful_prefix, turns_more, turns_same}
+use Rattle.std.specs.List.Sorted.{IsStrictlyIncreasing}
+use Rattle.std.proofs.lemmas.Option.{slice_get-get_or}
+use Rattle.pp_word.specs.LastElements.{last_or_at}
+use Rattle.pp_check.specs.declared.trace_line.TraceLine.TheVariants as says
+use Rattle.pp_check.proofs.KeepsLemmas.{here_by}
+use Rattle.std.specs.Borrow.{Bor}
+use Rattle.pp_deck.proofs.FieldLemmas.{NextLine, next_line}
+use Rattle.pp_deck.specs.DeckText.{fields_of, lines_of}
+use Rattle.pp_check.specs.Judge.{IsRead, Keeps}
+use Rattle.pp_check.specs.declared.judge.Judge.{Judge}
 
 -- the fields of each line
 abbrev pub Text : Type 0
@@ -114,3 +124,185 @@ first_fault opened text fault is k = (
   λ lawful. elim (cases_lt k fault.line) [ inl early ↦ early | inr late ↦ absurd (from_fault opened text fault is k late lawful) ],
   before_fault opened text fault is k,
 )
+
+-- ---- one flaw
+
+module _ (opened : List Bool) (before : List TraceLine) where
+  abbrev unlawful : ℕ → Event → TraceFlaw
+  unlawful c e = UnlawfulEvent c e (channel_state (history opened before c))
+
+  abbrev late : ℕ → TraceFlaw → Option ℕ → TraceFlaw
+  late turn other None = other
+  late turn other (Some last) = if nat_le turn last then TurnNotRising turn last else other
+
+  -- the only flaw that a line may have
+  abbrev flaw_for : TraceLine → TraceFlaw
+  flaw_for (says.AtTurn turn c e) = late turn (unlawful c e) (last_turn before)
+  flaw_for (says.Numbered number c e) = if number == length (history opened before c) then unlawful c e else WrongNumber c number (length (history opened before c))
+  flaw_for (says.Standing c told) = WrongState c told (channel_state (history opened before c))
+  flaw_for says.Other = Malformed
+
+  in_time : (turn : ℕ) (other : TraceFlaw) (o : Option ℕ) → IfSome o (λ last. last < turn) → late turn other o ≡ other
+  in_time turn other None h = refl
+  in_time turn other (Some last) h = cond-false (nat_le turn last) _ _ (lt-leb turn last h)
+
+  event_flaw : (line : TraceLine) (c : ℕ) (e : Event) → Fits opened before line → event_on c line ≡ Some e → flaw_for line ≡ unlawful c e
+  event_flaw (says.AtTurn turn d k) c e fits is =
+      let here = here_by c d e k (d == c) refl is in
+      in_time turn (unlawful d k) (last_turn before) fits ∙ ap (λ (n : ℕ). unlawful n k) here.channel_is ∙ ap (unlawful c) here.event_is
+  event_flaw (says.Numbered number d k) c e fits is =
+      let here = here_by c d e k (d == c) refl is in
+      cond-true (number == length (history opened before d)) _ _ (eq-eqb number (length (history opened before d)) fits) ∙ ap (λ (n : ℕ). unlawful n k) here.channel_is ∙ ap (unlawful c) here.event_is
+  event_flaw line c e fits is = absurd cc
+
+  turn_flaw : (line : TraceLine) (turn last : ℕ) → turn_of line ≡ Some turn → last_turn before ≡ Some last → turn ≤ last → flaw_for line ≡ TurnNotRising turn last
+  turn_flaw (says.AtTurn t c e) turn last is was passed =
+      let same : t ≡ turn = cc in
+      ap (late t (unlawful c e)) was ∙ cond-true (nat_le t last) _ _ (le-leb t last (omega (arith, same, passed))) ∙ ap (λ (n : ℕ). TurnNotRising n last) same
+  turn_flaw line turn last is was passed = absurd cc
+
+  flaw_is : (line : TraceLine) (flaw : TraceFlaw) → IsFlawOf opened before line flaw → flaw_for line ≡ flaw
+  flaw_is line Malformed f = absurd f
+  flaw_is line (TurnNotRising turn last) f = turn_flaw line turn last f.0 f.1 f.2
+  flaw_is line (WrongNumber c number next) f =
+      let counted = length (history opened before c) in
+      ap flaw_for f.0.1 ∙ cond-false (number == counted) _ _ (ne_eqb number counted (λ same. f.2 (same ∙ sym f.1))) ∙ ap (WrongNumber c number) (sym f.1)
+  flaw_is line (UnlawfulEvent c e state) f = event_flaw line c e f.0 f.1 ∙ ap (UnlawfulEvent c e) (sym f.2)
+  flaw_is line (WrongState c told state) f = ap flaw_for f.0 ∙ ap (WrongState c told) (sym f.1)
+
+one_flaw : (opened : List Bool) (before : List TraceLine) (o : Option TraceLine) (f g : TraceFlaw) → IsFlaw opened before o f → IsFlaw opened before o g → f ≡ g
+one_flaw opened before None f g is also = is ∙ sym also
+one_flaw opened before (Some line) f g is also = sym (flaw_is opened before line f is) ∙ flaw_is opened before line g also
+
+-- ---- one fault
+
+not_before : (opened : List Bool) (text : Text) (fault other : TraceFault) → IsFault opened text fault → IsFault opened text other → fault.line < other.line → ⊥
+not_before opened text fault other is also early =
+    from_fault opened text fault is fault.line (omega arith) (before_fault opened text other also fault.line early)
+
+same_line : (opened : List Bool) (text : Text) (fault other : TraceFault) → IsFault opened text fault → IsFault opened text other → fault.line ≡ other.line
+same_line opened text fault other is also = elim (cases_lt fault.line other.line) [
+  | inl early ↦ absurd (not_before opened text fault other is also early)
+  | inr late ↦ elim (cases_lt other.line fault.line) [
+    | inl early ↦ absurd (not_before opened text other fault also is early)
+    | inr later ↦ omega (arith, late, later)
+  ]
+]
+
+abbrev FlawAt : List Bool → Text → TraceFlaw → ℕ → Type 0
+FlawAt opened text flaw n =
+    IsFlaw opened (parsed_lines (take (n - 1) text)) (parsed_line (get_or text (n - 1) [])) flaw
+
+pub one_fault : (opened : List Bool) (text : Text) (fault other : TraceFault) → IsFault opened text fault → IsFault opened text other → fault ≡ other
+one_fault opened text fault other is also =
+    let line = same_line opened text fault other is also in
+    let there : FlawAt opened text fault.flaw other.line = subst (FlawAt opened text fault.flaw) line is.flaw in
+    let flaw = one_flaw opened (parsed_lines (take (other.line - 1) text)) (parsed_line (get_or text (other.line - 1) [])) fault.flaw other.flaw there also.flaw in
+    ap (λ (n : ℕ). record { line = n; flaw = fault.flaw }) line ∙ ap (λ (f : TraceFlaw). record { line = other.line; flaw = f }) flaw
+
+pub no_fault : (opened : List Bool) (text : Text) (fault : TraceFault) → IsFault opened text fault → AreLawful opened text → ⊥
+no_fault opened text fault is lawful =
+    from_fault opened text fault is (length text) is.within (subst (AreLawful opened) (sym (take_all (length text) text (omega arith))) lawful)
+
+-- ---- turns
+
+pub increasing_push : (xs : List ℕ) (t : ℕ) → IsStrictlyIncreasing xs → ((k : ℕ) → length xs ≡ k + 1 → get_or xs k 0 < t) → IsStrictlyIncreasing (xs ++ t ∷ [])
+increasing_push xs t rise less = λ k within. elim (cases_lt (k + 1) (length xs)) [
+  | inl early ↦
+      let a = get_or_append_left xs (t ∷ []) 0 k (omega (arith, early)) in
+      let b = get_or_append_left xs (t ∷ []) 0 (k + 1) early in
+      let r = rise k early in
+      omega (arith, a, b, r)
+  | inr late ↦
+      let last : length xs ≡ k + 1 = omega (arith, within, late, length_push xs t) in
+      let a = get_or_append_left xs (t ∷ []) 0 k (omega (arith, last)) in
+      let b = get_or_push xs t 0 (k + 1) last in
+      let r = less k last in
+      omega (arith, a, b, r)
+]
+
+last_below : (xs : List ℕ) (t k : ℕ) → IfSome (last_or None xs) (λ last. last < t) → length xs ≡ k + 1 → get_or xs k 0 < t
+last_below xs t k less last =
+    let at : last_or None xs ≡ Some (get_or xs k 0) = sym (last_or_at xs) ∙ ap (slice_get xs) (omega (arith, last)) ∙ slice_get-get_or xs k 0 (omega (arith, last)) in
+    subst (λ (o : Option ℕ). IfSome o (λ l. l < t)) at less
+
+turns_step : (opened : List Bool) (lines : List TraceLine) (line : TraceLine) → IsStrictlyIncreasing (turns lines) → Fits opened lines line → IsStrictlyIncreasing (turns (lines ++ line ∷ []))
+unfolding last_turn
+turns_step opened lines (says.AtTurn turn c e) rise fits =
+    subst IsStrictlyIncreasing (sym (turns_more lines (says.AtTurn turn c e) turn refl)) (increasing_push (turns lines) turn rise (λ k last. last_below (turns lines) turn k fits last))
+turns_step opened lines line rise fits = subst IsStrictlyIncreasing (sym (turns_same lines line refl)) rise
+
+rise_to : (opened : List Bool) (lines : List TraceLine) → IsLawfulTrace opened lines → (n : ℕ) → n ≤ length lines → IsStrictlyIncreasing (turns (take n lines))
+unfolding turns
+rise_to opened lines lawful zero within = (λ k within. absurd (omega (arith, within)))
+rise_to opened lines lawful (suc n) within =
+    let less : n < length lines = omega (arith, within) in
+    let more : take (suc n) lines ≡ take n lines ++ get_or lines n says.Other ∷ [] = ap (λ k. take k lines) (sym (add-one n)) ∙ take_more lines n says.Other less in
+    subst (λ (some : List TraceLine). IsStrictlyIncreasing (turns some)) (sym more)
+    (turns_step opened (take n lines) (get_or lines n says.Other) (rise_to opened lines lawful n (omega (arith, less))) (lawful.each_fits n less))
+
+pub turns_rise : (opened : List Bool) (lines : List TraceLine) → IsLawfulTrace opened lines → IsStrictlyIncreasing (turns lines)
+turns_rise opened lines lawful =
+    subst (λ (some : List TraceLine). IsStrictlyIncreasing (turns some)) (take_all (length lines) lines (omega arith)) (rise_to opened lines lawful (length lines) (omega arith))
+
+-- the first k lines say something each, and the judge keeps what they say
+pub record HasRead (opened : List Bool) (all : Text) (k : ℕ) (judge : Judge) : Type 0 where
+  pub said : All Says (take k all)
+  pub keeps : Keeps opened (parsed_lines (take k all)) judge
+
+pub none_read : (opened : List Bool) (all : Text) (judge : Judge) → Keeps opened [] judge → HasRead opened all 0 judge
+unfolding parsed_lines
+none_read opened all judge keeps = record { said = All-nil Says; keeps = keeps }
+
+module _ (opened : List Bool) (all : Text) (k : ℕ) (line : List (List ℕ)) (judge : Judge) (within : k < length all) (here : get_or all k [] ≡ line) where
+  read_by : (o : Option TraceLine) → parsed_line line ≡ o → All Says (take k all) → IsRead opened (parsed_lines (take k all)) o judge (Ok tt) → HasRead opened all (k + 1) judge
+  read_by None is said read = absurd read
+  read_by (Some l) is said read =
+      let says : parsed_line (get_or all k []) ≡ Some l = ap parsed_line here ∙ is in
+      record {
+        said = All-more Says all k [] within said (subst IsSome (sym says) refl);
+        keeps = subst (λ (lines : List TraceLine). Keeps opened lines judge) (sym (said_more all k l within says)) read;
+      }
+
+  pub read_more : All Says (take k all) → IsRead opened (parsed_lines (take k all)) (parsed_line line) judge (Ok tt) → HasRead opened all (k + 1) judge
+  read_more said read = read_by (parsed_line line) refl said read
+
+  flaw_by : (o : Option TraceLine) (flaw : TraceFlaw) → IsRead opened (parsed_lines (take k all)) o judge (Err flaw) → IsFlaw opened (parsed_lines (take k all)) o flaw
+  flaw_by None flaw read = read
+  flaw_by (Some l) flaw read = read
+
+  pub read_fault : (old : Judge) (flaw : TraceFlaw) → HasRead opened all k old → IsRead opened (parsed_lines (take k all)) (parsed_line line) judge (Err flaw) → IsFault opened all (record { line = k + 1; flaw = flaw })
+  read_fault old flaw has read =
+      let at : (k + 1) - 1 ≡ k = omega arith in
+      let lawful : AreLawful opened (take k all) = record { said = has.said; lawful = has.keeps.kept.lawful } in
+      let flawed : IsFlaw opened (parsed_lines (take k all)) (parsed_line (get_or all k [])) flaw = subst (λ (l : List (List ℕ)). IsFlaw opened (parsed_lines (take k all)) (parsed_line l) flaw) (sym here) (flaw_by (parsed_line line) flaw read) in
+      record {
+        counted = omega arith;
+        within = omega (arith, within);
+        before = subst (λ (n : ℕ). AreLawful opened (take n all)) (sym at) lawful;
+        flaw = subst (λ (n : ℕ). IsFlaw opened (parsed_lines (take n all)) (parsed_line (get_or all n [])) flaw) (sym at) flawed;
+      }
+
+-- all lines are read
+pub keeps_text : (opened : List Bool) (all : Text) (k : ℕ) (judge : Judge) → length all ≤ k → HasRead opened all k judge → Keeps opened (parsed_lines all) judge
+keeps_text opened all k judge past has = subst (λ (text : Text). Keeps opened (parsed_lines text) judge) (take_all k all past) has.keeps
+
+pub lawful_text : (opened : List Bool) (all : Text) (k : ℕ) (judge : Judge) → length all ≤ k → HasRead opened all k judge → AreLawful opened all
+lawful_text opened all k judge past has =
+    let whole = take_all k all past in
+    subst (AreLawful opened) whole (record { said = has.said; lawful = has.keeps.kept.lawful })
+
+-- ---- the next line of those that are left
+
+-- the lines of what follows a line feed
+abbrev pub lines_behind : Option (Bor (List ℕ)) → Text
+lines_behind None = []
+lines_behind (Some rest) = lines_of rest.now
+
+pub line_at : (all : Text) (k : ℕ) (left line : List ℕ) (rest : Option (Bor (List ℕ))) → lines_of left ≡ drop k all → MatchOption rest (lines_of left ≡ fields_of line ∷ []) (λ more. lines_of left ≡ fields_of line ∷ lines_of more.now) → NextLine all k (fields_of line) (lines_behind rest)
+line_at all k left line None left_is is = next_line all (lines_of left) [] k (fields_of line) left_is is
+line_at all k left line (Some rest) left_is is = next_line all (lines_of left) (lines_of rest.now) k (fields_of line) left_is is
+
+-- no line follows the last
+pub none_behind : (all : Text) (k : ℕ) → drop (k + 1) all ≡ [] → length all ≤ k + 1
+none_behind all k none = let long = ap length none in omega (arith, long, length-drop (k + 1) all)

@@ -1,7 +1,5 @@
 mod FaultLemmas
 mod VerdictLemmas
-mod CheckLemmas
-mod LawLemmas
 mod RisingTurnLemmas
 -- facts of the definitions, which proofs of other crates cite
 pub mod TraceLemmas

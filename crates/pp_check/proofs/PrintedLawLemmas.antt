@@ -25,7 +25,7 @@ use Rattle.pp_text.specs.TextLaw.{EventFits}
 use Rattle.pp_check.specs.LawfulTrace.{AreLawful, Fits, IsLawfulTrace, event_on, events_on, history, is_opened, last_turn, parsed_lines, opening, turn_of, turns}
 use Rattle.pp_check.specs.PrintedTrace.{AreOpenedBy, IsPrintable}
 use Rattle.pp_check.specs.declared.trace_line.TraceLine.{TraceLine}
-use Rattle.pp_check.specs.declared.trace_line.TraceLine.TheVariants.{AtTurn, Numbered, Standing, Other}
+use Rattle.pp_check.specs.declared.trace_line.TraceLine.TheVariants.{AtTurn, Standing, Other}
 use Rattle.pp_check.proofs.KeepsLemmas.{TellsNone, nothing_told, state_told}
 use Rattle.pp_check.proofs.OpeningLemmas.{lawful_opening}
 use Rattle.pp_check.proofs.PrintedLineLemmas.{shown_state}

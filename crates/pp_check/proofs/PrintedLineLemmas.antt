@@ -11,8 +11,7 @@ use Rattle.pp_channel.specs.History.{HasTwelveBitWord, active, waiting}
 use Rattle.pp_channel.specs.declared.channel_state.ChannelState.{ChannelState}
 use Rattle.pp_channel.specs.declared.event.Event.{Event}
 use Rattle.pp_channel.specs.declared.event.Event.TheVariants.{Activate, Disconnect, Put, Take, Function}
-use Rattle.pp_deck.proofs.FieldTextLemmas.{IsField, IsTail, and_both, and_left, and_right, fields_of_plain, is_ink, is_plain, tail_blank, tail_field, tail_last}
-use Rattle.pp_deck.proofs.NumeralFieldLemmas.{decimal_is_field, octal_ink, octal_is_field}
+use Rattle.pp_deck.proofs.FieldTextLemmas.{IsField, IsTail, and_both, and_left, and_right, fields_of_plain, is_ink, is_plain, tail_blank, tail_field, tail_last, decimal_is_field, octal_ink, octal_is_field}
 use Rattle.pp_deck.specs.DeckText.{fields_of}
 use Rattle.pp_machine.specs.ProcessorPlaces as processor_places
 use Rattle.pp_machine.specs.PpNo.{names_processor}

@@ -16,7 +16,7 @@ use Rattle.pp_machine.specs.declared.need.Need.TheVariants.{Channel}
 use Rattle.pp_machine.specs.declared.trace.Trace.{Trace}
 use Rattle.pp_text.specs.TextLaw.{FitsItsText}
 use Rattle.pp_check.specs.PrintedTrace.{IsPrintable}
-use Rattle.pp_check.proofs.LawLemmas.{increasing_push}
+use Rattle.pp_check.proofs.FaultLemmas.{increasing_push}
 
 abbrev turns_in : List Trace → List ℕ
 turns_in trace = map (λ e. e.turn) trace

@@ -1,19 +1,19 @@
 -- Each deck that has a meaning keeps the law of loaded decks.
-use Rattle.std.proofs.Common.{◌≡◌, ℕ, ◌<◌, Bool, true, false, cond, IsTrue, List, [], ◌∷◌, length, replicate, get_or, Option, Some, None, Ok, Err, if◌then◌else◌, refl, sym, ap, subst, ◌∙◌}
-use Rattle.std.specs.Prelude.{option_map, position, slice_index}
+use Rattle.std.proofs.Common.{◌≡◌, ℕ, ◌<◌, Bool, true, false, cond, IsTrue, List, [], ◌∷◌, length, get_or, Option, Some, None, Ok, Err, if◌then◌else◌, refl, sym, ap, subst, ◌∙◌, ◌++◌, append-nil}
+use Rattle.std.specs.Prelude.{option_map, position, slice_index, Some, None}
 use Rattle.std.proofs.lemmas.List.{length-replicate}
 use Rattle.pp_channel.specs.ChannelNo.{channel_count}
 use Rattle.pp_channel.specs.declared.event.Event.{Event}
 use Rattle.pp_channel.specs.declared.event.Event.TheVariants.{Activate}
 use Rattle.pp_machine.specs.DeadStart.{waiting_on}
-use Rattle.pp_machine.specs.MachineState.{processor_of}
+use Rattle.pp_machine.specs.MachineState.{processor_of, history_of, is_opened}
 use Rattle.pp_machine.specs.Processor.{Processor, word_at}
 use Rattle.pp_machine.specs.PpNo.{names_processor, processor_count, processor_index, processor_number}
 use Rattle.pp_machine.specs.ProfilePlaces.{processor_named}
 use Rattle.pp_deck.specs.DeckLaw.{NamesWithin, SetsWord, SetsCentralWord, Starts, registers_of, at_rest, HoldsLast, WaitsAtDeadStart, KeepsDeckLaw, line_of}
 use Rattle.pp_deck.specs.DeckLine.{Line}
 use Rattle.pp_deck.specs.DeckLoad.{word_for, central_word_for, start_in, asks_dead_start, central_loaded, processor_loaded, is_named}
-use Rattle.pp_deck.specs.DeckMeaning.{LoadedDeck, set_by, with_dead_start, loaded, size_of, parsed_deck, faults_in, unless_faulty, meaning_of_lines, is_foreign, unless_foreign, deck_meaning}
+use Rattle.pp_deck.specs.DeckMeaning.{LoadedDeck, set_by, loaded, size_of, parsed_deck, faults_in, unless_faulty, meaning_of_lines, is_foreign, unless_foreign, deck_meaning}
 use Rattle.pp_deck.specs.DeckText.{lines_of}
 use Rattle.pp_deck.specs.declared.deck_fault.DeckFault.{DeckFault}
 use Rattle.pp_deck.proofs.DeadStartLemmas.{is_waiting, waiting, waiting_where, not_waiting, processor_is, opened_is, history_is, all_processors, each_history, stays}
@@ -22,6 +22,9 @@ use Rattle.pp_word.specs.Tables.{length-tabulate}
 use Rattle.pp_deck.proofs.LoadedRangeLemmas.{named_has, said_in_range}
 use Rattle.pp_deck.proofs.MemoryLemmas.{length-central_loaded}
 use Rattle.pp_machine.specs.declared.profile.Profile.{Profile}
+use Rattle.pp_channel.specs.History.{IsLawful}
+use Rattle.pp_channel.specs.Law.{KeepsLaw}
+use Rattle.pp_machine.specs.Headline.{HoldsOnEachChannel, events_on, opening_history}
 
 module _ (profile : Profile) where
   -- a processor that waits keeps its memory
@@ -126,3 +129,19 @@ module _ (profile : Profile) where
 
   pub deck_names_within : (text : List ℕ) (deck : LoadedDeck) → deck_meaning profile text ≡ Ok deck → NamesWithin profile deck.named
   deck_names_within text deck e n named is = named_has profile (parsed_deck profile (lines_of text)) (said_in_range profile (lines_of text)) n (((deck_law_of text deck e).named n named).0 is)
+
+-- an opening history is lawful: nothing, or a session that has just begun
+lawful_opening : (b : Bool) → IsLawful (if b then Activate ∷ [] else [])
+lawful_opening true = (record { first_stretch = []; whole_sessions = []; open_session = Some (record { passed = []; lone = None }) }, refl)
+lawful_opening false = (record { first_stretch = []; whole_sessions = []; open_session = None }, refl)
+
+-- where every lawful history keeps the law of sessions
+pub before_first_step : ((h : List Event) → IsLawful h → KeepsLaw h) → (lines : List Line) (deck : LoadedDeck) → KeepsDeckLaw lines deck → HoldsOnEachChannel deck.machine
+before_first_step law lines deck holds c named =
+    let is : history_of c deck.machine ≡ opening_history c deck.machine = holds.history c named in
+    let lawful : IsLawful (history_of c deck.machine) = subst IsLawful (sym is) (lawful_opening (is_opened c deck.machine)) in
+    record {
+      traced = is ∙ sym (append-nil (opening_history c deck.machine)) ∙ ap (λ trace. opening_history c deck.machine ++ events_on c trace) (sym holds.no_event);
+      lawful = lawful;
+      law = law (history_of c deck.machine) lawful;
+    }

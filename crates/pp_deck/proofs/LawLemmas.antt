@@ -1,6 +1,6 @@
 -- The last line that sets something holds.
-use Rattle.std.proofs.Common.{◌≡◌, ℕ, zero, suc, ◌+◌, ◌-◌, ◌<◌, ◌≤◌, ◌⊎◌, Bool, true, false, cond, leb, List, [], ◌∷◌, ◌++◌, length, take, map, get_or, Option, Some, None, refl, sym, ap, subst, ◌∙◌, arith, add-one, inl, inr}
-use Rattle.std.specs.Prelude.{Contains, IsTrue, filter_map, option_to_list, option_map, slice_get, unwrap_or}
+use Rattle.std.proofs.Common.{◌≡◌, ℕ, zero, suc, ◌+◌, ◌-◌, ◌<◌, ◌≤◌, ◌⊎◌, Bool, true, false, cond, leb, List, [], ◌∷◌, length, take, map, get_or, Option, Some, None, refl, sym, ap, subst, ◌∙◌, arith, add-one, inl, inr}
+use Rattle.std.specs.Prelude.{Contains, IsTrue, filter_map, option_map, slice_get, unwrap_or}
 use Rattle.std.specs.List.{range_with_len, cons_option, list_any}
 use Rattle.std.proofs.lemmas.Bool.{leb-true, le-leb, eqb-true, eq-eqb, cases_eq, cases_order}
 use Rattle.std.proofs.lemmas.List.{take_more, length-map, get_or_default}
@@ -15,13 +15,12 @@ use Rattle.pp_machine.specs.PpNo.{processor_count, names_processor, processor_nu
 use Rattle.pp_machine.specs.ProcessorPlaces.{place_below, number_of_place}
 use Rattle.pp_machine.specs.declared.pp_state.PpState.TheVariants.{Running}
 use Rattle.pp_deck.specs.DeckLaw.{IsFor, StandsAt, SetsWord, SetsCentralWord, Starts, Registers, registers_of, at_rest, HoldsLast, line_of}
-use Rattle.pp_deck.specs.DeckLine.{Line, nothing, central_size, central_words, section, start, words, dead_start}
+use Rattle.pp_deck.specs.DeckLine.{Line, nothing, central_words, section, start, words}
 use Rattle.pp_deck.specs.DeckLoad.{word_among, word_for, central_word_for, start_in, is_for, section_of, lines_for, is_named, memory_of, processor_with, processor_loaded, central_loaded}
 use Rattle.pp_deck.specs.DeckMeaning.{set_by}
-use Rattle.pp_deck.proofs.LineParts.{current_after}
+use Rattle.pp_deck.proofs.SectionLemmas.{current_after, names, section_more}
 use Rattle.pp_word.specs.GrowingLists.{last_of, or_else, range_more, last_of_more, filter_map_more}
 use Rattle.pp_word.specs.Tables.{length-tabulate, get_or-tabulate}
-use Rattle.pp_deck.proofs.SectionLemmas.{names, section_more}
 use Rattle.pp_machine.specs.declared.profile.Profile.{Profile}
 
 -- ---- the last number at which there is something

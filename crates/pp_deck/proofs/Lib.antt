@@ -1,14 +1,10 @@
-mod HeadlineLemmas
 mod WordsLemmas
 -- facts of the definitions, which proofs of other crates cite
 pub mod DeckLawLemmas
 pub mod DeadStartLemmas
 pub mod FieldLemmas
 pub mod FieldTextLemmas
-pub mod NumeralFieldLemmas
 pub mod LawLemmas
-pub mod LineParts
-pub mod LinesLemmas
 pub mod LoadedRangeLemmas
 pub mod MemoryLemmas
 pub mod ProgressLemmas

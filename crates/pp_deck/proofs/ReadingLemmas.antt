@@ -1,5 +1,5 @@
 -- The lines of a deck, read one after another, up to the first fault.
-use Rattle.std.proofs.Common.{◌≡◌, ℕ, suc, ◌+◌, ◌-◌, ◌<◌, Bool, true, false, List, [], ◌∷◌, ◌++◌, length, take, get_or, Option, Result, Ok, Err, refl, sym, ap, ◌∙◌, arith, fold, ltb, lt-ltb}
+use Rattle.std.proofs.Common.{◌≡◌, ℕ, suc, ◌+◌, ◌-◌, ◌<◌, Bool, true, false, List, [], ◌∷◌, ◌++◌, length, take, get_or, Option, Result, Ok, Err, refl, sym, ap, ◌∙◌, arith, fold, lt-ltb}
 use Rattle.std.specs.Prelude.{filter_map, option_to_list, is_some, ◌||◌}
 use Rattle.std.specs.List.{list_any, range_with_len, cons_option}
 use Rattle.std.proofs.lemmas.Bool.{or_right}
@@ -19,7 +19,7 @@ use Rattle.pp_deck.specs.Reading.{Progress, before_lines, after_line, after_line
 use Rattle.pp_deck.specs.declared.deck_fault.DeckFault.{DeckFault}
 use Rattle.pp_deck.specs.declared.flaw.Flaw.{Flaw}
 use Rattle.pp_deck.proofs.RangeLemmas.{section_after}
-use Rattle.pp_deck.proofs.LineParts.{after_line_parts}
+use Rattle.pp_deck.proofs.SectionLemmas.{after_line_parts}
 use Rattle.pp_word.specs.GrowingLists.{range_more, range_append, filter_map_more}
 use Rattle.pp_deck.proofs.MemoryLemmas.{length-central_loaded}
 use Rattle.pp_deck.proofs.ProgressLemmas.{after_lines_is}

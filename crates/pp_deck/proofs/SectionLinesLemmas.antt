@@ -8,9 +8,8 @@ use Rattle.std.proofs.lemmas.List.Elements.{filter_map-append}
 use Rattle.std.proofs.lemmas.List.Folds.{list_any-append, list_any_at}
 use Rattle.pp_deck.specs.DeckLine.{Line, nothing, section}
 use Rattle.pp_deck.specs.DeckLoad.{is_for, section_of, lines_for}
-use Rattle.pp_deck.proofs.LineParts.{current_after}
+use Rattle.pp_deck.proofs.SectionLemmas.{current_after, names, section_more, lines_for_more, own}
 use Rattle.pp_deck.proofs.LawLemmas.{heading_of, is_section}
-use Rattle.pp_deck.proofs.SectionLemmas.{names, section_more, lines_for_more, own}
 
 -- ---- lists over a range of which one number counts
 

@@ -1,14 +1,14 @@
--- The dump of a deck that has run, read as a deck, is the deck to go on from.
-use Rattle.std.proofs.Common.{◌≡◌, ℕ, ◌≤◌, Bool, true, false, List, length, get_or, Option, Some, None, Ok, refl, sym, ap, subst, ◌∙◌, arith}
+-- The dump of a deck that has run is printed from the machine as it stands; and read as a deck it is the deck to go on from.
+use Rattle.std.proofs.Common.{◌≡◌, ℕ, ◌≤◌, Bool, true, false, List, length, get_or, Option, Some, None, Ok, refl, sym, ap, subst, ◌∙◌, arith, cond, [], ◌∷◌, ◌++◌}
 use Rattle.std.specs.Prelude.{IsTrue, ◌&&◌, filter_map}
-use Rattle.std.specs.List.{list_any}
-use Rattle.std.proofs.lemmas.List.{get_or-replicate, length-map}
+use Rattle.std.specs.List.{list_any, flat_map, range_with_len}
+use Rattle.std.proofs.lemmas.List.{get_or-replicate, length-map, append-nil}
 use Rattle.std.proofs.Math.ListN.{get_or-map}
 use Rattle.pp_channel.specs.ChannelNo.{all_channels, channel_count, channel_index, names_channel}
 use Rattle.pp_channel.specs.ChannelPlaces as channel_places
 use Rattle.pp_machine.specs.MachineState.{MachineState, processor_of, is_opened}
-use Rattle.pp_machine.specs.Processor.{Processor, IsProcessor, new_processor, no_processor}
-use Rattle.pp_machine.specs.PpNo.{all_processors, names_processor, processor_count, processor_index, processor_number}
+use Rattle.pp_machine.specs.Processor.{Processor, IsProcessor, new_processor, no_processor, word_at}
+use Rattle.pp_machine.specs.PpNo.{all_processors, names_processor, processor_count, processor_index, processor_number, is_named}
 use Rattle.pp_machine.specs.Run.{run}
 use Rattle.pp_machine.specs.declared.block.Block.{Block}
 use Rattle.pp_machine.specs.declared.pp_state.PpState.{PpState}
@@ -18,12 +18,15 @@ use Rattle.pp_machine.specs.ProcessorPlaces.{number_of_place, place_below}
 use Rattle.pp_deck.specs.DeckLoad.{processor_with}
 use Rattle.pp_deck.specs.DeckMeaning.{LoadedDeck, deck_meaning, with_dead_start}
 use Rattle.pp_word.specs.Tables.{length-tabulate, get_or-tabulate}
-use Rattle.pp_deck.specs.InUse.{is_in_use}
+use Rattle.pp_deck.specs.InUse.{is_in_use, in_use}
 use Rattle.pp_listing.specs.Dump.{in_processor, busy_processor, busy_channel, all_busy, first_busy, left_of, deck_to_go_on, dump, after, GoesOnFrom}
-use Rattle.pp_listing.specs.Listing.{listing}
+use Rattle.pp_listing.specs.Listing.{listing, central_word_line, dead_start_line, instruction_lines, named_section, section_lines, start_line}
 use Rattle.pp_listing.proofs.GoingOnLemmas.{none_given}
 use Rattle.pp_listing.proofs.ListingLemmas.{IsSet, dead_of, listing_loads, names_of, none_opened, numbered, processors_of}
 use Rattle.pp_listing.proofs.RunDeckLemmas.{IsDeckFor, deck_after, processor_here}
+use Rattle.pp_deck.specs.DeckLine.{central_size, section, dead_start}
+use Rattle.pp_listing.specs.ListedLine.{ListedLine, bare, deck_line, text_line}
+use Rattle.pp_listing.proofs.TextLemmas.{listing_in_parts}
 
 -- ---- the processors of a deck to go on from
 
@@ -138,3 +141,33 @@ dump_law_of profile text deck steps meant between short =
     let P : Profile → Type 0 = λ p. deck_meaning p text ≡ Ok deck in
     let Q : Profile → Type 0 = λ p. deck_meaning p (dump ran) ≡ Ok (deck_to_go_on ran) in
     subst Q same (dump_is_deck ran deck text steps (subst P (sym same) meant) refl between short)
+
+-- ---- the lines, printed from the machine as it stands
+
+lines_left : (n : ℕ) (state : PpState) (pp : Processor) → pp.state ≡ state → section_lines n pp ≡ section_lines n (left_of state pp)
+lines_left n Running pp e = refl
+lines_left n other pp e = ap (λ (state : PpState). bare (section n) ∷ instruction_lines (word_at pp 0) 0 pp.memory ++ start_line state pp.p pp.a) e
+
+section_left : (deck : LoadedDeck) (n : ℕ) → named_section (deck_to_go_on deck).named deck.machine n ≡ named_section (deck_to_go_on deck).named (deck_to_go_on deck).machine n
+section_left deck n =
+    ap (λ (lines : List ListedLine). cond (is_named (deck_to_go_on deck).named n) lines [])
+    (lines_left n (processor_of n deck.machine).state (processor_of n deck.machine) refl
+    ∙ ap (section_lines n) (sym (left_there deck n)))
+
+flat_same : (f g : ℕ → List ListedLine) (ns : List ℕ) → ((n : ℕ) → f n ≡ g n) → flat_map f ns ≡ flat_map g ns
+flat_same f g [] same = refl
+flat_same f g (n ∷ ns) same = ap (λ (lines : List ListedLine). lines ++ flat_map f ns) (same n) ∙ ap (λ (lines : List ListedLine). g n ++ lines) (flat_same f g ns same)
+
+no_dead_start : (deck : LoadedDeck) → dead_start_line (deck_to_go_on deck).machine ≡ []
+no_dead_start deck = ap (λ (b : Bool). cond b (bare dead_start ∷ []) []) (none_open deck)
+
+pub dump_in_parts : (deck : LoadedDeck) → dump deck
+    ≡ deck_line (central_size (length deck.machine.central)) ++ flat_map text_line (flat_map (central_word_line deck.machine.central) (range_with_len 0 (length deck.machine.central)))
+    ++ flat_map text_line (flat_map (named_section (in_use deck) deck.machine) all_processors)
+dump_in_parts deck =
+    let to_go_on = deck_to_go_on deck in
+    let front : List ℕ = deck_line (central_size (length deck.machine.central)) ++ flat_map text_line (flat_map (central_word_line deck.machine.central) (range_with_len 0 (length deck.machine.central))) in
+    dump_is deck ∙ listing_in_parts to_go_on
+    ∙ ap (λ (lines : List ListedLine). (front ++ flat_map text_line lines) ++ flat_map text_line (flat_map (named_section to_go_on.named to_go_on.machine) all_processors)) (no_dead_start deck)
+    ∙ ap (λ (text : List ℕ). text ++ flat_map text_line (flat_map (named_section to_go_on.named to_go_on.machine) all_processors)) (append-nil front)
+    ∙ ap (λ (lines : List ListedLine). front ++ flat_map text_line lines) (sym (flat_same (named_section to_go_on.named deck.machine) (named_section to_go_on.named to_go_on.machine) all_processors (section_left deck)))

@@ -1,15 +1,10 @@
 mod DumpLawLemmas
-mod DumpLemmas
 mod GoingOnLemmas
 mod InstructionLemmas
-mod InstructionTextLemmas
 mod ListedLemmas
 mod ListedLineLemmas
 mod ListingLemmas
-mod NumberLemmas
-mod PrintedLineLemmas
 mod PrintedTextLemmas
 mod RunDeckLemmas
 mod StepLemmas
 mod TextLemmas
-mod WordWidthLemmas

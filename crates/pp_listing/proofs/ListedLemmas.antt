@@ -1,6 +1,6 @@
 -- The lines of a listing, taken all together, load the deck that they list.
 use Rattle.std.proofs.Common.{◌≡◌, ℕ, suc, ◌-◌, ◌<◌, ◌⊎◌, Bool, true, false, cond, eqb, List, [], ◌∷◌, ◌++◌, length, get_or, Option, Some, None, refl, sym, ap, ◌∙◌, map, subst, arith, append-nil, inl, inr}
-use Rattle.std.specs.Prelude.{filter_map, unwrap_or, ◌&&◌, ◌||◌}
+use Rattle.std.specs.Prelude.{filter_map, unwrap_or, ◌&&◌, ◌||◌, IsTrue}
 use Rattle.std.specs.List.{AllByRecursion, flat_map, list_any, range_with_len, cons_option}
 use Rattle.std.proofs.lemmas.Bool.{eqb-true, cases_order}
 use Rattle.std.proofs.lemmas.List.Elements.{All-from_recursion, filter_map-append}
@@ -18,7 +18,28 @@ use Rattle.pp_deck.proofs.SectionLinesLemmas.{KeepsCurrent, all_append, all_flat
 use Rattle.pp_listing.specs.ListedLine.{says}
 use Rattle.pp_listing.specs.Listing.{instruction_lines, start_line}
 use Rattle.pp_listing.proofs.InstructionLemmas.{among_at, among_before, instructions_all, instructions_hold, start_all}
-use Rattle.pp_listing.proofs.NumberLemmas.{number_count}
+use Rattle.pp_channel.specs.ChannelNo.{all_channels, channel_count, channel_number}
+use Rattle.pp_machine.specs.PpNo.{all_processors, names_processor}
+use Rattle.pp_machine.specs.ProcessorPlaces as processor_places
+
+-- how many numbers of two octal digits there are
+pub number_count : ℕ
+number_count = 0o100
+
+pub processor_counts : (n : ℕ) → IsTrue (names_processor n) → n < number_count
+unfolding number_count
+processor_counts n names = omega (arith, processor_places.number_fits n names)
+
+-- the sections of all processors are those of all numbers, where only processors are named
+pub sections_by_number : (named : ℕ → Bool) (body : ℕ → List Line) → ((n : ℕ) → (IsTrue (names_processor n) → ⊥) → named n ≡ false) → flat_map (section_if named body) all_processors ≡ flat_map (section_if named body) (range_with_len 0 number_count)
+unfolding number_count
+sections_by_number named body none =
+    processor_places.numbers_of_processors (section_if named body) (λ n out. ap (λ (b : Bool). cond b (section n ∷ body n) []) (none n out))
+
+-- a test of each place is one of each channel
+pub any_by_place : (test : ℕ → Bool) → list_any (λ place. test (channel_number place)) (range_with_len 0 channel_count) ≡ list_any test all_channels
+unfolding all_channels tabulate
+any_by_place test = refl
 
 -- the lines of a processor behind its heading
 abbrev pub body_of : Processor → List Line

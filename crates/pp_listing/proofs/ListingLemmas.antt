@@ -1,6 +1,6 @@
 -- The listing of a deck, read as a deck.
 use Rattle.std.proofs.Common.{◌≡◌, ℕ, zero, suc, ◌+◌, ◌^◌, ◌<◌, ◌≤◌, Bool, true, false, cond, eqb, List, [], ◌∷◌, ◌++◌, length, get_or, map, Option, Some, None, Ok, refl, sym, ap, subst, ◌∙◌, arith}
-use Rattle.std.specs.Prelude.{IsTrue, ◌&&◌, not, is_some}
+use Rattle.std.specs.Prelude.{IsTrue, ◌&&◌, not, is_some, filter_map}
 use Rattle.std.specs.List.{AllByRecursion, flat_map, list_any, range_with_len}
 use Rattle.std.proofs.lemmas.Bool.{and_left, and_parts, both_ways, false_from_ne_true}
 use Rattle.std.proofs.lemmas.List.{map-append}
@@ -17,7 +17,6 @@ use Rattle.pp_machine.specs.Processor.{Processor, IsProcessor, new_processor, no
 use Rattle.pp_machine.specs.ProcessorPlaces.{number_named, place_of_number}
 use Rattle.pp_word.specs.Address.{place_count}
 use Rattle.pp_word.specs.GrowingLists.{last_of}
-use Rattle.std.specs.Prelude.{filter_map}
 use Rattle.std.proofs.lemmas.Grind.{get_or_default_zero}
 use Rattle.pp_machine.specs.PpNo.{all_processors, names_processor, processor_count, processor_index, processor_number, each_processor, is_named}
 use Rattle.pp_machine.specs.Profile.{has_processor}
@@ -26,7 +25,7 @@ use Rattle.pp_deck.specs.DeckLine.{Line, central_size, central_words, section, d
 use Rattle.pp_deck.specs.DeckLoad.{processor_loaded, processor_with, central_loaded, asks_dead_start, lines_for, memory_of, start_in}
 use Rattle.pp_deck.specs.DeckLoad as load
 use Rattle.pp_deck.specs.DeckMeaning.{LoadedDeck, set_by, with_dead_start, loaded, deck_meaning, meaning_of_lines, parsed_deck, size_of}
-use Rattle.pp_deck.proofs.LineParts.{current_after}
+use Rattle.pp_deck.proofs.SectionLemmas.{current_after}
 use Rattle.pp_deck.specs.DeckText.{lines_of}
 use Rattle.pp_deck.proofs.DeadStartLemmas as dead
 use Rattle.pp_deck.proofs.LawLemmas as law
@@ -37,11 +36,9 @@ use Rattle.pp_deck.proofs.SectionLinesLemmas.{KeepsCurrent, section_if, unnamed_
 use Rattle.pp_listing.specs.ListedLine.{ListedLine, bare, says, text_line}
 use Rattle.pp_listing.specs.Listing.{ReadsBackAs, central_word_line, dead_start_line, listed, listing, named_section, section_lines}
 use Rattle.pp_listing.proofs.InstructionLemmas.{IsReadInSection, instructions_read, start_all}
-use Rattle.pp_listing.proofs.ListedLemmas.{all_of_body, each_of_body, body_of, word_line, central_lines, dead_line, lines_of_parts, asked_held, central_held, central_is, memory_held, memory_is, memory_with, named_held, processor_is, start_held}
+use Rattle.pp_listing.proofs.ListedLemmas.{all_of_body, each_of_body, body_of, word_line, central_lines, dead_line, lines_of_parts, asked_held, central_held, central_is, memory_held, memory_is, memory_with, named_held, processor_is, start_held, number_count, processor_counts, sections_by_number}
 use Rattle.pp_listing.proofs.ListedLineLemmas.{fields_said}
-use Rattle.pp_listing.proofs.NumberLemmas.{number_count, processor_counts, sections_by_number}
-use Rattle.pp_listing.proofs.PrintedLineLemmas.{central_words_read, section_read, dead_start_read, start_read}
-use Rattle.pp_listing.proofs.PrintedTextLemmas.{IsReady, meaning_printed, read_lines}
+use Rattle.pp_listing.proofs.PrintedTextLemmas.{central_words_read, section_read, dead_start_read, start_read, IsReady, meaning_printed, read_lines}
 
 -- ---- the lines are read as they are
 

@@ -1,5 +1,5 @@
 -- Words read off the texts are the words in memory.
-use Rattle.std.proofs.Common.{All, ◌≡◌, ◌≢◌, ◌∙◌, ℕ, zero, suc, ◌+◌, ◌-◌, ◌*◌, ◌/◌, ◌%◌, ◌^◌, ◌<◌, ◌≤◌, Bool, true, false, List, [], ◌∷◌, ◌++◌, length, get_or, refl, sym, ap, subst, append_assoc, arith, codes, inl, inr, ◌⊎◌, length-append}
+use Rattle.std.proofs.Common.{All, ◌≡◌, ◌∙◌, ℕ, zero, suc, ◌+◌, ◌-◌, ◌*◌, ◌/◌, ◌%◌, ◌^◌, ◌<◌, ◌≤◌, Bool, true, false, List, [], ◌∷◌, ◌++◌, length, refl, sym, ap, subst, append_assoc, arith, codes, inl, inr, ◌⊎◌, length-append}
 use Rattle.std.specs.Prelude.{◌&&◌, ◌==◌, not, nat_lt, slice_index, if◌then◌else◌}
 use Rattle.std.specs.Char.{is_ascii_whitespace}
 use Rattle.std.specs.List.{list_all, range_with_len, suffix_len}
@@ -7,7 +7,7 @@ use Rattle.std.proofs.lemmas.Bool.{both_ways, cases_lt, eq-eqb, eqb-true, false_
 use Rattle.std.proofs.lemmas.List.Sums.{AllPass-from_list_all}
 use Rattle.std.proofs.lemmas.List.{append-nil}
 use Rattle.std.proofs.lemmas.List.Elements.{All-append, All-cons, All-nil, All-take}
-use Rattle.std.proofs.lemmas.List.Folds.{list_all_at, list_any_at}
+use Rattle.std.proofs.lemmas.List.Folds.{list_any_at}
 use Rattle.std.proofs.lemmas.List.FromFn.{get_or-range_with_len, length-range_with_len}
 use Rattle.pp_word.specs.Address.{place_count}
 use Rattle.pp_machine.specs.Central.{IsCentral}
@@ -20,8 +20,7 @@ use Rattle.pp_state.specs.DisplayCode.{display_character, display_characters, di
 use Rattle.pp_state.specs.MemoryText.{displayed_words, has_words, meets, memory_line, memory_text, octal_words, padded_line, shown_line, trimmed}
 use Rattle.pp_state.specs.MemoryReading.{central_word_read, lines_of, number_in, number_on, word_read}
 use Rattle.pp_state.specs.declared.bounds.Bounds.{Bounds}
-use Rattle.pp_state.proofs.MemoryLineLemmas.{IsPlain, line_if, lines_passing}
-use Rattle.pp_state.proofs.MemoryReadingLemmas.{number_after, number_trimmed}
+use Rattle.pp_state.proofs.MemoryLineLemmas.{IsPlain, line_if, lines_passing, number_after, number_trimmed}
 
 -- ---- characters
 

@@ -1,6 +1,5 @@
 -- A step is held exactly where its processor waits for a channel.
 use Rattle.std.proofs.Common.{◌≡◌, ◌≢◌, ℕ, ◌≤◌, ◌⊎◌, inl, inr, Bool, true, false, cond, List, [], ◌∷◌, Option, Some, None, length, refl, sym, ap, subst, ◌∙◌, arith}
-use Rattle.std.specs.Prelude.{IsTrue}
 use Rattle.std.proofs.lemmas.Bool.{both_ways, cases_Bool}
 use Rattle.std.proofs.lemmas.List.{get_or_past}
 use Rattle.pp_channel.specs.Answer.{IsReady, event_of, only_looks}
@@ -16,13 +15,11 @@ use Rattle.pp_machine.specs.Headline.{HoldsOnEachChannel}
 use Rattle.pp_machine.specs.MachineState.{MachineState, history_of, processor_of}
 use Rattle.pp_machine.specs.MachineStep.{answer_to, step_outcome}
 use Rattle.pp_machine.specs.NeedAndEffect.{need, IsHeldAnswer}
-use Rattle.pp_machine.specs.declared.answer.Answer.{Answer}
-use Rattle.pp_machine.specs.declared.answer.Answer.TheVariants as answers
 use Rattle.pp_machine.specs.declared.block.Block.{Block}
 use Rattle.pp_machine.specs.declared.need.Need.{Need}
 use Rattle.pp_machine.specs.declared.need.Need.TheVariants as needs
 use Rattle.pp_machine.specs.declared.outcome.Outcome.{Outcome}
-use Rattle.pp_machine.specs.declared.outcome.Outcome.TheVariants.{AtRest, Held, Moved}
+use Rattle.pp_machine.specs.declared.outcome.Outcome.TheVariants.{Held, Moved}
 use Rattle.pp_machine.proofs.StepLemmas.{held_by_answer}
 use Rattle.pp_state.specs.StateLaw.{IsHeld, IsHeldBy}
 use Rattle.pp_text.specs.Standing.{held_text}

@@ -1,8 +1,7 @@
 use Rattle.std.proofs.Common.{◌≤◌, ◌+◌, length, arith, ap, refl, sym, ◌∙◌}
 use Rattle.pp_deck.specs.DeckText.{lines_of}
 use Rattle.pp_check.specs.LawfulTrace.{parsed_lines}
-use Rattle.pp_check.proofs.CheckLemmas.{keeps_text, lawful_text, line_at, lines_behind, none_behind, none_read, read_fault, read_more}
-use Rattle.pp_check.proofs.FaultLemmas.{first_fault}
+use Rattle.pp_check.proofs.FaultLemmas.{keeps_text, lawful_text, line_at, lines_behind, none_behind, none_read, read_fault, read_more, first_fault}
 use Rattle.pp_check.proofs.check.check_trace.Goals as goal
 
 pub lines-init : goal.lines-init

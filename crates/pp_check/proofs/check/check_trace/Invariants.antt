@@ -1,6 +1,6 @@
 use Rattle.std.proofs.Common.{◌≡◌, ◌+◌, ◌*◌, ◌≤◌, length, drop}
 use Rattle.pp_deck.specs.DeckText.{lines_of}
-use Rattle.pp_check.proofs.CheckLemmas.{HasRead}
+use Rattle.pp_check.proofs.FaultLemmas.{HasRead}
 use Rattle.pp_check.proofs.check.check_trace.Given as goal
 
 abbrev pub invariant-lines : goal.invariant-lines

@@ -1,5 +1,5 @@
 use Rattle.std.proofs.lemmas.List.{take_rest}
-use Rattle.pp_deck.proofs.LinesLemmas.{line_first, line_last}
+use Rattle.pp_deck.proofs.FieldLemmas.{line_first, line_last}
 use Rattle.pp_check.proofs.check.first_line.Goals as goal
 
 pub returns-in-Some-clause-lines : goal.returns-in-Some-clause-lines

@@ -1,5 +1,4 @@
-use Rattle.pp_check.proofs.FaultLemmas.{first_fault}
-use Rattle.pp_check.proofs.LawLemmas.{no_fault, one_fault}
+use Rattle.pp_check.proofs.FaultLemmas.{first_fault, no_fault, one_fault}
 use Rattle.pp_check.proofs.laws.fault_law.Goals as goal
 
 pub returns-clause-first : goal.returns-clause-first

@@ -1,5 +1,5 @@
 use Rattle.pp_check.specs.LawfulTrace.{history}
-use Rattle.pp_check.proofs.LawLemmas.{turns_rise}
+use Rattle.pp_check.proofs.FaultLemmas.{turns_rise}
 use Rattle.pp_check.proofs.laws.trace_law.Goals as goal
 
 pub returns-clause-turns : goal.returns-clause-turns

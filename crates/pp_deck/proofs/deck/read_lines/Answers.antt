@@ -1,6 +1,6 @@
 use Rattle.std.proofs.Common.{arith, ◌∙◌}
 use Rattle.pp_deck.specs.DeckText.{lines_of}
-use Rattle.pp_deck.proofs.LinesLemmas.{next_line, no_line, length-lines_of}
+use Rattle.pp_deck.proofs.FieldLemmas.{next_line, no_line, length-lines_of}
 use Rattle.pp_deck.proofs.ReadingLemmas.{read_none, read_blank, read_fields, read_flaw, read_all, before_first_turn, central_length}
 use Rattle.pp_deck.proofs.deck.read_lines.Goals as goal
 

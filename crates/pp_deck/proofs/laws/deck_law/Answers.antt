@@ -1,5 +1,4 @@
-use Rattle.pp_deck.proofs.HeadlineLemmas.{before_first_step}
-use Rattle.pp_deck.proofs.DeckLawLemmas.{deck_law_of, deck_size_of, deck_profile_of, deck_names_within}
+use Rattle.pp_deck.proofs.DeckLawLemmas.{before_first_step, deck_law_of, deck_size_of, deck_profile_of, deck_names_within}
 use Rattle.pp_deck.proofs.laws.deck_law.Goals as goal
 
 pub returns-clause-size : goal.returns-clause-size

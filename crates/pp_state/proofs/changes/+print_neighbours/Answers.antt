@@ -5,7 +5,7 @@ use Rattle.std.specs.List.{flat_map}
 use Rattle.pp_text.specs.TextWriter.{Prints}
 use Rattle.pp_listing.specs.ListedLine.{after_blank}
 use Rattle.pp_state.specs.Changes.{neighbours}
-use Rattle.pp_state.proofs.NeighbourLemmas.{neighbour_printed, no_more, no_neighbour, no_neighbours_printed}
+use Rattle.pp_state.proofs.ChangeLemmas.{neighbour_printed, no_more, no_neighbour, no_neighbours_printed}
 use Rattle.pp_state.proofs.changes.+print_neighbours.Goals as goal
 use Rattle.pp_state.proofs.changes.+print_neighbours.Goals.{then-most-eq0-via-then-most-eq0, then-most-eq0-via-else-most-eq0+then-not-differs}
 

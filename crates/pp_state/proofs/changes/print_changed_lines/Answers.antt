@@ -4,7 +4,7 @@ use Rattle.pp_text.specs.PrintingLaws.{prints_all, prints_more, prints_nothing}
 use Rattle.pp_listing.specs.ListedLine.{deck_line}
 use Rattle.pp_text.specs.Differences.{places}
 use Rattle.pp_state.specs.Changes.{line_from, position_on_line}
-use Rattle.pp_state.proofs.NeighbourLemmas.{none_at_first}
+use Rattle.pp_state.proofs.ChangeLemmas.{none_at_first}
 use Rattle.pp_state.proofs.changes.print_changed_lines.Goals as goal
 
 pub loop-place-init : goal.loop-place-init
