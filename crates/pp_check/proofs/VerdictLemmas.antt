@@ -6,10 +6,11 @@ use Rattle.std.proofs.lemmas.List.{length-take}
 use Rattle.std.proofs.lemmas.List.FromFn.{fill_by_all}
 use Rattle.std.proofs.lemmas.List.Sums.{count_by-le-length, sum_by-cons}
 use Rattle.pp_channel.specs.ChannelPlaces.{number_named, place_of_number}
-use Rattle.pp_channel.specs.ChannelNo.{channel_count, channel_number}
+use Rattle.pp_channel.specs.ChannelNo.{all_channels, channel_count, channel_number}
+use Rattle.pp_word.specs.Tables.{tabulate}
 use Rattle.pp_check.specs.Judge.{KeepsEvents, new_standing, standing}
 use Rattle.pp_check.specs.LawfulTrace.{is_opened}
-use Rattle.pp_check.specs.Verdict.{all_channels, is_used, opened_count, used_count}
+use Rattle.pp_check.specs.Verdict.{is_used, opened_count, used_count}
 use Rattle.pp_check.specs.declared.standing.Standing.{Standing}
 use Rattle.pp_check.specs.declared.trace_line.TraceLine.{TraceLine}
 
@@ -37,6 +38,7 @@ count_map p f (x ∷ xs) =
     ∙ sym (sum_by-cons (λ y. if p (f y) then 1 else 0) x xs)
 
 count_channels : (p : ℕ → Bool) → count_by p all_channels ≡ count_by (λ k. p (channel_number k)) (range_with_len 0 channel_count)
+unfolding all_channels tabulate
 count_channels p = count_map p channel_number (range_with_len 0 channel_count)
 
 pub told_count : (opened : List Bool) (lines : List TraceLine) (standings : List Standing) (events sessions : ℕ) → KeepsEvents opened lines standings events sessions → count_by is_told standings ≡ used_count lines

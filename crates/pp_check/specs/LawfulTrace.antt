@@ -17,8 +17,7 @@ use Rattle.pp_check.specs.declared.trace_line.TraceLine.TheVariants.{AtTurn, Num
 abbrev pub event_on : ℕ → TraceLine → Option Event
 event_on c (AtTurn turn channel e) = if channel == c then Some e else None
 event_on c (Numbered number channel e) = if channel == c then Some e else None
-event_on c (Standing channel state) = None
-event_on c Other = None
+event_on c line = None
 
 -- the events on channel c that lines report, in order
 unfoldable pub events_on : ℕ → List TraceLine → List Event
@@ -40,9 +39,7 @@ history opened lines c = opening opened c ++ events_on c lines
 
 abbrev pub turn_of : TraceLine → Option ℕ
 turn_of (AtTurn turn channel e) = Some turn
-turn_of (Numbered number channel e) = None
-turn_of (Standing channel state) = None
-turn_of Other = None
+turn_of line = None
 
 -- the turns of lines, in order
 unfoldable pub turns : List TraceLine → List ℕ

@@ -1,21 +1,19 @@
 -- What is counted in a lawful trace.
-use Rattle.std.specs.Prelude.{ℕ, ◌+◌, ◌++◌, ◌&&◌, Bool, true, false, List, codes, length, map, nat_lt, count_by}
-use Rattle.std.specs.List.{range_with_len}
-use Rattle.pp_channel.specs.ChannelNo.{channel_count, channel_number}
+use Rattle.std.specs.Prelude.{ℕ, ◌+◌, ◌++◌, ◌&&◌, Bool, true, false, List, codes, length, nat_lt, count_by}
+use Rattle.pp_channel.specs.ChannelNo.{all_channels}
 use Rattle.pp_channel.specs.declared.event.Event.{Event}
 use Rattle.pp_channel.specs.declared.event.Event.TheVariants.{Activate}
 use Rattle.pp_word.specs.Numeral.{short_decimal}
 use Rattle.pp_text.specs.PrintedText.{line_end}
 use Rattle.pp_check.specs.LawfulTrace.{events_on, is_opened}
 use Rattle.pp_check.specs.declared.trace_line.TraceLine.{TraceLine}
-use Rattle.pp_check.specs.declared.trace_line.TraceLine.TheVariants.{AtTurn, Numbered, Standing, Other}
+use Rattle.pp_check.specs.declared.trace_line.TraceLine.TheVariants.{AtTurn, Numbered}
 use Rattle.pp_check.specs.declared.verdict.Verdict.{Verdict}
 
 abbrev pub tells_event : TraceLine → Bool
 tells_event (AtTurn turn c e) = true
 tells_event (Numbered number c e) = true
-tells_event (Standing c state) = false
-tells_event Other = false
+tells_event line = false
 
 abbrev pub is_activate : Event → Bool
 is_activate Activate = true
@@ -25,15 +23,11 @@ is_activate e = false
 abbrev pub begins_session : TraceLine → Bool
 begins_session (AtTurn turn c e) = is_activate e
 begins_session (Numbered number c e) = is_activate e
-begins_session (Standing c state) = false
-begins_session Other = false
+begins_session line = false
 
 -- whether lines report events on channel c
 abbrev pub is_used : List TraceLine → ℕ → Bool
 is_used lines c = nat_lt 0 (length (events_on c lines))
-
-abbrev pub all_channels : List ℕ
-all_channels = map channel_number (range_with_len 0 channel_count)
 
 -- how many channels have events
 abbrev pub used_count : List TraceLine → ℕ

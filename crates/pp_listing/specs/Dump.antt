@@ -51,17 +51,16 @@ abbrev pub left_of : PpState → Processor → Processor
 left_of Running pp = pp
 left_of state pp = record (new_processor pp.profile) { memory = pp.memory }
 
--- histories, turns and trace are gone, and dead start opened no channel
-abbrev pub machine_to_go_on : MachineState → MachineState
-machine_to_go_on m = record (new_machine m.profile (length m.central)) {
-  processors = map (λ pp. left_of pp.state pp) m.processors;
-  central = m.central;
-}
-
--- the deck to go on from: it names each processor in use
+-- the deck to go on from: histories, turns and trace are gone, dead start opened no channel, and it
+-- names each processor in use
 abbrev pub deck_to_go_on : LoadedDeck → LoadedDeck
-deck_to_go_on deck =
-    record { machine = machine_to_go_on deck.machine; named = in_use deck }
+deck_to_go_on deck = let m = deck.machine in record {
+  machine = record (new_machine m.profile (length m.central)) {
+    processors = map (λ pp. left_of pp.state pp) m.processors;
+    central = m.central;
+  };
+  named = in_use deck;
+}
 
 -- THE DUMP, if the machine is between programs
 unfoldable pub dump : LoadedDeck → List ℕ
