@@ -133,13 +133,6 @@ same_from t turns m e =
 
 -- ---- one turn more
 
-pub still_at_start : (m : MachineState) → IsStillFrom 0 0 m
-still_at_start m = record {
-  within = omega arith;
-  waits = λ turn low high. absurd (omega (arith, high));
-  first = λ turn e. absurd (omega (arith, e));
-}
-
 pub still_more : (t turn : ℕ) (m : MachineState) → IsStillFrom t turn m → WaitsAt turn m
     → IsStillFrom t (turn + 1) m
 still_more t turn m s waits = record {

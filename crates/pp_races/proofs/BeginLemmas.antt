@@ -1,5 +1,5 @@
 -- The tables before the first step.
-use Rattle.std.proofs.Common.{◌≡◌, ℕ, ◌%◌, ◌<◌, Bool, true, false, List, [], length, get_or, None, refl, sym, ap, ◌∙◌, subst, arith}
+use Rattle.std.proofs.Common.{◌≡◌, ℕ, ◌%◌, ◌<◌, List, [], length, get_or, sym, ap, ◌∙◌, subst, arith}
 use Rattle.std.specs.Prelude.{replicate}
 use Rattle.std.proofs.lemmas.List.{get_or-replicate}
 use Rattle.pp_channel.specs.Answer.{flags_of}
@@ -8,8 +8,8 @@ use Rattle.pp_channel.specs.ChannelPlaces as channel_places
 use Rattle.pp_machine.specs.MachineState.{MachineState, history_of}
 use Rattle.pp_machine.specs.PpNo.{processor_index}
 use Rattle.pp_machine.specs.ProcessorPlaces as processor_places
-use Rattle.pp_races.specs.FlagSets.{look_at, no_looks}
-use Rattle.pp_races.specs.Tables.{AreLow, AreLooks, AreNoLooks, IsLow, entry_count, entry_place, no_low}
+use Rattle.pp_races.specs.FlagSets.{no_looks}
+use Rattle.pp_races.specs.Tables.{AreLow, AreNoLooks, IsLow, entry_count, entry_place, no_low}
 use Rattle.pp_races.specs.Watch.{unwatched}
 use Rattle.pp_races.specs.declared.looks.Looks.{Looks}
 use Rattle.pp_races.specs.declared.low.Low.{Low}
@@ -32,15 +32,5 @@ begins_low m table each q c q_named c_named =
       flags_now = through_past c (flags_of (history_of c m)) m.trace (length m.trace) (omega arith);
     })
 
-no_look_at : (a b : Bool) → look_at no_looks (record { active = a; full = b }) ≡ None
-no_look_at true true = refl
-no_look_at true false = refl
-no_look_at false true = refl
-no_look_at false false = refl
-
 pub replicate_looks : (table : List Looks) (look : Looks) → look ≡ no_looks → table ≡ replicate entry_count look → AreNoLooks table
 replicate_looks table look is all = record { each = λ entry low. ap (λ t. get_or t entry no_looks) all ∙ get_or-replicate entry_count entry look no_looks low ∙ is }
-
-pub begins_looks : (table : List Looks) → AreNoLooks table → AreLooks unwatched table
-begins_looks table none q c q_named c_named f =
-    ap (λ l. look_at l f) (none.each (entry_place q c) (entry_within q c q_named c_named)) ∙ no_look_at f.active f.full

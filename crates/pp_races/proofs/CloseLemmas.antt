@@ -8,7 +8,7 @@ use Rattle.pp_machine.specs.PpNo.{names_processor, processor_count, processor_in
 use Rattle.pp_machine.specs.ProcessorPlaces as processor_places
 use Rattle.pp_machine.specs.declared.trace.Trace.{Trace}
 use Rattle.pp_races.specs.FlagSets.{look_at, no_looks}
-use Rattle.pp_races.specs.Tables.{AreClosed, closing_findings, entry_count, entry_place, looks_after_event, looks_of}
+use Rattle.pp_races.specs.Tables.{closing_findings, entry_count, entry_place, looks_after_event, looks_of}
 use Rattle.pp_races.specs.Watch.{each_below, race_after}
 use Rattle.pp_races.specs.declared.finding.Finding.{Finding}
 use Rattle.pp_races.specs.declared.looks.Looks.{Looks}
@@ -68,12 +68,6 @@ closed_more made after old now next place q c_named low q_is so_far next_is long
 
     within : entry_place q c < length now
     within = omega (arith, entry_within q c q_named c_named, so_far.entries)
-
-pub all_closed : (made : Trace) (after : Flags) (old new : List Looks) (place : ℕ) → processor_count ≤ place → AreClosedBelow made after old new place → AreClosed made after old new
-all_closed made after old new place end are = record {
-  here = λ q named. are.below q named (omega (arith, processor_places.place_below q named));
-  elsewhere = are.elsewhere;
-}
 
 -- what is found of one more processor, whose looks are still as they were
 pub found_more : (made : Trace) (after : Flags) (old now : List Looks) (place q : ℕ) (first found next : List Finding) → place < processor_count → q ≡ processor_number place

@@ -39,11 +39,6 @@ each_more of first found next place found_is next_is =
 
 -- ---- a processor that asks a channel
 
-pub going_on_is : (m : MachineState) (w : Watch) (n c : ℕ) (op : ChanOp) (found : List Finding) → waits_at op (processor_of n m) (flags_of (history_of c m)) ≡ false
-    → found ++ GoingOn n ∷ [] ≡ found ++ end_by_need (Channel c op) n m w
-going_on_is m w n c op found goes =
-    ap (λ (t : Bool). found ++ (if t then held_before (asking_step n c m) (first_race (λ f. not (waits_at op (processor_of n m) f)) (w.missed n c)) else GoingOn n ∷ [])) (sym goes)
-
 pub held_is : (m : MachineState) (w : Watch) (n c : ℕ) (op : ChanOp) (low : List Low) (found : List Finding) (goes_on : FlagSet) (race : Option Trace) (step : AskingStep)
     → IsTrue (names_processor n) → IsTrue (names_channel c)
     → waits_at op (processor_of n m) (flags_of (history_of c m)) ≡ true

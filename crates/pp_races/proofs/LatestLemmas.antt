@@ -147,18 +147,6 @@ pub placed : (was next : Latest) (set : FlagSet) (place : ℕ)
     → (f : Flags) → found_past next f ≡ (if has set f then place else found_past was f)
 placed was next set place i j e u f = placed_at was next set place f.active f.full i j e u
 
-pub placed_or_kept : (was next : Latest) (set : FlagSet) (place : ℕ) → ((f : Flags) → found_past next f ≡ (if has set f then place else found_past was f))
-    → (f : Flags) → (found_past next f ≡ found_past was f) ⊎ (found_past next f ≡ place)
-placed_or_kept was next set place places f = by_set (has set f) (places f)
-  where
-    by_set : (b : Bool) → found_past next f ≡ (if b then place else found_past was f) → (found_past next f ≡ found_past was f) ⊎ (found_past next f ≡ place)
-    by_set true is = inr is
-    by_set false is = inl is
-
-pub placed_there : (was next : Latest) (set : FlagSet) (place : ℕ) (f : Flags) → ((g : Flags) → found_past next g ≡ (if has set g then place else found_past was g))
-    → has set f ≡ true → found_past next f ≡ place
-placed_there was next set place f places holds = places f ∙ ap (λ (b : Bool). if b then place else found_past was f) holds
-
 not_below : (s : Bool) (x y : ℕ) → (s && nat_lt x y) ≡ false → s ≡ true → y ≤ x
 not_below true x y is holds = elim (cases_lt x y) [
   | inl below ↦ (let bad : true ≡ false = sym (lt-ltb x y below) ∙ is in absurd cc)

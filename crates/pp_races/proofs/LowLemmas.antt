@@ -7,11 +7,8 @@ use Rattle.std.proofs.lemmas.Option.{slice_get_past, slice_get_read}
 use Rattle.pp_channel.specs.Answer.{flags_after}
 use Rattle.pp_channel.specs.declared.flags.Flags.{Flags}
 use Rattle.pp_machine.specs.declared.trace.Trace.{Trace}
-use Rattle.pp_races.specs.FlagSets.{has}
-use Rattle.pp_races.specs.Spans.{GoesOnFrom}
 use Rattle.pp_races.specs.Tables.{flags_through, missed_at, missed_from}
 use Rattle.pp_races.specs.Watch.{Missed, missed_event, first_race, from_alike}
-use Rattle.pp_races.specs.declared.flag_set.FlagSet.{FlagSet}
 use Rattle.pp_races.specs.declared.low.Low.{Low}
 
 -- ---- tests that agree
@@ -195,9 +192,6 @@ flags_skip c flags trace place whole e next so_far low is off next_is =
     ap (λ f. flags_through c f (drop (place + 1) trace)) next_is
     ∙ sym (through_other c flags trace place e low (λ on. off (ap (λ (t : Trace). t.channel) is ∙ on))) ∙ so_far
 
-pub flags_end : (c : ℕ) (flags : Flags) (trace : List Trace) (place last : ℕ) (whole : Flags) → flags_through c flags (drop place trace) ≡ whole → length trace ≤ place → length trace ≤ last → flags_through c flags (drop last trace) ≡ whole
-flags_end c flags trace place last whole so_far past also = through_past c flags trace last also ∙ sym (through_past c flags trace place past) ∙ so_far
-
 -- where the flags at a place pass, no event is passed over
 pub alike_here : (alike : Flags → Bool) (c : ℕ) (flags : Flags) (trace : List Trace) → alike flags ≡ true → missed_from c flags trace ≡ from_alike alike (missed_from c flags trace)
 alike_here alike c flags [] is = missed_nil c flags ∙ sym (alike_none alike) ∙ ap (λ x. from_alike alike x) (sym (missed_nil c flags))
@@ -263,7 +257,3 @@ module _ (test : Flags → Bool) (c : ℕ) (trace : List Trace) (first low : Low
     missed = alike_skip test c low.flags trace low.from (from_alike test (missed_at c first trace)) so_far.missed e low.flags within is off refl;
     flags = flags_skip c low.flags trace low.from (flags_through c first.flags (drop first.from trace)) e low.flags so_far.flags within is off refl;
   })
-
--- or a span further
-pub searched_span : (set : FlagSet) (c : ℕ) (trace : List Trace) (first low next : Low) → IsSearched (λ f. has set f) c trace first low → GoesOnFrom c set trace low next → IsSearched (λ f. has set f) c trace first next
-searched_span set c trace first low next so_far goes = record { missed = sym goes.missed ∙ so_far.missed; flags = sym goes.flags ∙ so_far.flags }

@@ -1,7 +1,6 @@
 -- A run that is watched to its end.
-use Rattle.std.proofs.Common.{◌≡◌, ℕ, zero, suc, ◌+◌, ◌<◌, ◌≤◌, Bool, true, false, IsTrue, List, [], ◌∷◌, ◌++◌, length, take, get_or, Option, Some, None, Result, Ok, Err, refl, sym, ap, ◌∙◌, subst, inl, inr, arith}
+use Rattle.std.proofs.Common.{◌≡◌, ℕ, zero, suc, ◌+◌, ◌<◌, ◌≤◌, Bool, true, false, IsTrue, List, [], ◌∷◌, ◌++◌, length, take, get_or, Option, Some, None, refl, sym, ap, ◌∙◌, subst, inl, inr, arith}
 use Rattle.std.specs.Prelude.{◌==◌, ◌&&◌, ◌||◌, if◌then◌else◌}
-use Rattle.std.specs.Result.{OnErr}
 use Rattle.std.proofs.lemmas.Bool.{and_from, cases_lt, eq-eqb}
 use Rattle.std.proofs.lemmas.List.{get_or_append_left, get_or_push, take-append-le, take_all}
 use Rattle.pp_channel.specs.Answer.{event_of, flags_of}
@@ -261,9 +260,3 @@ run_tells p turns t m now tables all each end r turn_well none =
     (none_second (watched (barrel p turns) m unwatched).findings _ first)
     (none_second ((watched (barrel p turns) m unwatched).findings ++ each_number (end_of (run (barrel p turns) m) (watched (barrel p turns) m unwatched))) _ none_there)
     (λ q named. subst (λ (x : MachineState). TurnTestIsExact x q) now_is (turn_well q named))
-
--- a run that was cut has made some first turns
-pub was_cut : {T E : Type 0} (r : Result T E) (turns t : ℕ) (m new : MachineState) → t ≤ turns → new ≡ run (barrel m.profile t) m
-    → OnErr r ((k : ℕ) × (k ≤ turns) × (new ≡ run (barrel m.profile k) m))
-was_cut (Ok x) turns t m new most ran = tt
-was_cut (Err e) turns t m new most ran = (t, most, ran)

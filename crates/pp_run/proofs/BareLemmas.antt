@@ -1,8 +1,8 @@
 -- Steps of a machine without its record.
-use Rattle.std.proofs.Common.{get_or-set_same, get_or-set_other, ◌≡◌, ◌≢◌, ℕ, ◌+◌, ◌<◌, ◌⊎◌, inl, inr, List, [], ◌∷◌, ◌++◌, length, take, slice_set, get_or, sym, ap, ◌∙◌, arith}
+use Rattle.std.proofs.Common.{get_or-set_same, get_or-set_other, ◌≡◌, ◌≢◌, ℕ, ◌+◌, ◌<◌, ◌⊎◌, inl, inr, List, [], length, slice_set, get_or, sym, ap, ◌∙◌, arith}
 use Rattle.std.specs.Prelude.{IsTrue}
 use Rattle.std.proofs.lemmas.Bool.{cases_eq}
-use Rattle.std.proofs.lemmas.List.{get_or_read, length-set, take_more, take_more_set}
+use Rattle.std.proofs.lemmas.List.{get_or_read, length-set}
 use Rattle.pp_channel.specs.Answer.{channel_state, history_after}
 use Rattle.pp_channel.specs.ChannelNo.{channel_count, channel_index, names_channel}
 use Rattle.pp_channel.specs.declared.channel_state.ChannelState.{ChannelState}
@@ -68,8 +68,3 @@ states_more states new histories k x so_far within put is = λ j below. ap (λ (
         ap (λ (i : ℕ). get_or (slice_set states k x) i (channel_state [])) same ∙ get_or-set_same states k x (channel_state []) within
         ∙ is ∙ ap (λ (i : ℕ). channel_state (get_or histories i [])) (sym same)
     by_place j below (inr other) = get_or-set_other states k j x (channel_state []) other ∙ so_far j (omega (arith, below, other))
-
--- a memory of which one word more was copied
-pub copied_more : (copy new from : List ℕ) (k : ℕ) → take k copy ≡ take k from → k < length copy → k < length from → new ≡ slice_set copy k (get_or from k 0) → take (k + 1) new ≡ take (k + 1) from
-copied_more copy new from k same within inside put =
-    ap (take (k + 1)) put ∙ take_more_set copy k (get_or from k 0) within ∙ ap (λ (ws : List ℕ). ws ++ get_or from k 0 ∷ []) same ∙ sym (take_more from k 0 inside)

@@ -15,7 +15,7 @@ use Rattle.pp_machine.specs.ProcessorPlaces.{named_below, number_of_place, place
 use Rattle.pp_machine.specs.Run.{barrel, run}
 use Rattle.pp_machine.specs.RunLaws.{length-barrel}
 use Rattle.pp_machine.specs.declared.profile.Profile.{Profile}
-use Rattle.pp_run.specs.RunSteps.{IsCutAt, RunStep, is_of, run_steps, seen_of}
+use Rattle.pp_run.specs.RunSteps.{RunStep, is_of, run_steps, seen_of}
 
 -- over two lists
 pub run_steps-both : (ns ks : List ℕ) (m : MachineState)
@@ -49,12 +49,6 @@ barrel_steps_more p turn n m is =
 pub length-barrel_steps : (p : Profile) (turns : ℕ) (m : MachineState)
     → length (run_steps (barrel p turns) m) ≡ turns
 length-barrel_steps p turns m = length-run_steps (barrel p turns) m ∙ length-barrel p turns
-
--- a run is cut within its turns
-pub cut_within : (Keeps : RunStep → Type 0) (turns : ℕ) (m : MachineState) (done : ℕ)
-    → IsCutAt Keeps turns m done → done ≤ turns
-cut_within Keeps turns m done (inl event) = omega (arith, event.0)
-cut_within Keeps turns m done (inr step) = omega (arith, step.1, step.2)
 
 -- ---- the steps of one processor
 

@@ -1,6 +1,5 @@
 -- The lines of a channel, event by event.
 use Rattle.std.proofs.Common.{◌≡◌, ◌≢◌, ℕ, zero, suc, ◌+◌, ◌-◌, ◌<◌, ◌≤◌, Bool, true, false, ◌||◌, cond, eqb, List, [], ◌∷◌, ◌++◌, length, drop, take, get_or, Option, None, Some, refl, sym, ap, subst, ◌∙◌, append_assoc, arith}
-use Rattle.std.specs.Prelude.{IfSome}
 use Rattle.std.specs.List.{cons_option}
 use Rattle.std.proofs.lemmas.Bool.{eq-eqb, ne_eqb}
 use Rattle.std.proofs.lemmas.List.{append-nil, length-drop, take_all, take_more}
@@ -8,7 +7,7 @@ use Rattle.std.proofs.lemmas.List.Elements.{filter_map-append}
 use Rattle.pp_channel.specs.declared.event.Event.TheVariants.{Activate}
 use Rattle.pp_machine.specs.MachineState.{MachineState, is_opened}
 use Rattle.pp_machine.specs.declared.trace.Trace.{Trace}
-use Rattle.pp_sessions.specs.OpenStretch.{CountsAtMost, HasAtMost, IsOpen, IsUncut, Open, TakesIn, open_at}
+use Rattle.pp_sessions.specs.OpenStretch.{IsOpen, IsUncut, Open, TakesIn, open_at}
 use Rattle.pp_sessions.specs.SessionsText.{lines_from, next_number, stretch_text, line_and_words}
 use Rattle.pp_sessions.specs.Stretches.{are_parted, begins_session, ends_session, stretches, tally_of, word_of, words_in}
 use Rattle.pp_sessions.specs.TimedEvents.{opening_events, timed_event, timed_on}
@@ -180,16 +179,6 @@ takes_dead_start w c m opened told is so told_is =
     takes_these w c nothing_open new (dead_start_event ∷ []) (opening_events c m) [] (opened_there c m opened is so) (takes_first w c nothing_open new dead_start_event told refl refl refl told_is refl)
 
 -- ---- how many events have come
-
-pub at_most_more : (low high : ℕ) (current : OpenStretch) → low ≤ high → HasAtMost low current → HasAtMost high current
-at_most_more low high current below h = record {
-  number = omega (arith, h.number);
-  tally = of_tally current.tally h.tally;
-}
-  where
-    of_tally : (o : Option Tally) → IfSome o (CountsAtMost low) → IfSome o (CountsAtMost high)
-    of_tally None few = few
-    of_tally (Some told) few = record { events = omega (arith, few.events); put = omega (arith, few.put); taken = omega (arith, few.taken) }
 
 -- the events of an entry more
 pub timed_more : (c : ℕ) (trace : List Trace) (i : ℕ) (entry : Trace) → i < length trace → entry ≡ get_or trace i entry → timed_on c (take (i + 1) trace) ≡ timed_on c (take i trace) ++ timed_on c (entry ∷ [])
