@@ -1,6 +1,7 @@
 -- The bands of a lane, and the lanes of a drawing.
-use Rattle.std.proofs.Common.{◌≡◌, ℕ, ◌+◌, ◌-◌, ◌*◌, ◌<◌, ◌≤◌, max, min, Bool, true, false, cond, leb, List, [], ◌∷◌, ◌++◌, Option, None, Some, refl, sym, ap, ◌∙◌, append_assoc, arith, zero, suc, subst, ⊎_elim}
+use Rattle.std.proofs.Common.{◌≡◌, ℕ, ◌-◌, ◌*◌, ◌<◌, ◌≤◌, max, min, Bool, true, false, cond, leb, List, [], ◌∷◌, ◌++◌, Option, None, Some, sym, ap, ◌∙◌, append_assoc, arith, zero, suc, subst, ⊎_elim}
 use Rattle.std.specs.Prelude.{◌↔◌, IsFalse, IsTrue}
+use Rattle.std.specs.Int.{from_bool}
 use Rattle.std.proofs.lemmas.Bool.{cases_lt, lt-ltb, ltb-true}
 use Rattle.std.proofs.lemmas.List.{append-nil}
 use Rattle.pp_channel.specs.ChannelNo.{channel_count, channel_index, channel_number, names_channel}
@@ -13,15 +14,15 @@ use Rattle.pp_text.specs.PrintedText.{each_below}
 use Rattle.pp_draw.specs.Condition.{is_sent}
 use Rattle.pp_draw.specs.DrawingLaw.{Adjoin, GoesToEnd, IsTurnOf, StandsWithin}
 use Rattle.pp_draw.specs.DrawingText.{channel_lane, count_below, drawing, is_flagged, is_used, lanes, lanes_above, processor_lane, used_among}
-use Rattle.pp_draw.specs.Frame.{foot_text, head_text, legend_text, style_text, ticks_text}
+use Rattle.pp_draw.specs.Frame.{foot_text, head_text, ticks_text}
 use Rattle.pp_draw.specs.Elements.{band_element, free_after, label_element, part_elements}
 use Rattle.pp_draw.specs.Lane.{drawn_from, next_in}
 use Rattle.pp_draw.specs.Part.{is_visible, label_from, part_of, until}
 use Rattle.pp_draw.specs.Window.{place}
+use Rattle.pp_draw.specs.declared.frame.TheConstants.{LEGEND, STYLE}
 use Rattle.pp_draw.specs.declared.part.Phase.{Phase}
 use Rattle.pp_draw.specs.declared.seen_step.SeenStep.{SeenStep}
 use Rattle.pp_draw.specs.declared.window.Window.{Window}
-use Rattle.pp_draw.proofs.LaneLemmas.{drawn_more}
 
 -- ---- where they begin and end
 
@@ -82,8 +83,7 @@ band_stands w name free [] phase more seen =
     let rest = drawn_from w name (free_after free part) more in (
       [],
       label ++ rest,
-      drawn_more w name free phase more
-          ∙ ap (λ (b : Bool). (cond b (band_element name part) [] ++ label) ++ rest) seen
+      ap (λ (b : Bool). (cond b (band_element name part) [] ++ label) ++ rest) seen
           ∙ append_assoc (band_element name part) label rest,
     )
 band_stands w name free (first ∷ before) phase more seen =
@@ -93,8 +93,7 @@ band_stands w name free (first ∷ before) phase more seen =
     let (front, back, is) = band_stands w name (free_after free part) before phase more seen in (
       drawn ++ front,
       back,
-      drawn_more w name free first (before ++ phase ∷ more)
-          ∙ ap (λ (text : List ℕ). drawn ++ text) is
+      ap (λ (text : List ℕ). drawn ++ text) is
           ∙ sym (append_assoc drawn (front ++ band) back)
           ∙ ap (λ (text : List ℕ). text ++ back) (sym (append_assoc drawn front band)),
     )
@@ -132,7 +131,7 @@ unfolding drawing
 channel_stands w shown m steps c names =
     let rows = lanes shown m in
     let lane = λ (p : ℕ). channel_lane w m (channel_number p) in
-    let above = head_text w rows ++ style_text ++ legend_text ++ ticks_text w rows in
+    let above = head_text w rows ++ STYLE.now ++ LEGEND.now ++ ticks_text w rows in
     let channels = each_below channel_count lane in
     let processors = each_below processor_count (λ (p : ℕ). processor_lane w shown m steps (processor_number p)) in
     subst (λ (n : ℕ). StandsWithin (channel_lane w m n) (above ++ channels ++ processors ++ foot_text rows)) (channel_places.number_of_place c names)
@@ -145,7 +144,7 @@ unfolding drawing
 processor_stands w shown m steps n names =
     let rows = lanes shown m in
     let lane = λ (p : ℕ). processor_lane w shown m steps (processor_number p) in
-    let above = head_text w rows ++ style_text ++ legend_text ++ ticks_text w rows ++ each_below channel_count (λ (p : ℕ). channel_lane w m (channel_number p)) in
+    let above = head_text w rows ++ STYLE.now ++ LEGEND.now ++ ticks_text w rows ++ each_below channel_count (λ (p : ℕ). channel_lane w m (channel_number p)) in
     let processors = each_below processor_count lane in
     subst (λ (k : ℕ). StandsWithin (processor_lane w shown m steps k) (above ++ processors ++ foot_text rows)) (processor_places.number_of_place n names)
     (stands_front (lane (processor_index n)) (above ++ processors) (foot_text rows)
@@ -153,19 +152,16 @@ processor_stands w shown m steps n names =
 
 -- ---- and below one another
 
-counted_below : (k : ℕ) (test : ℕ → Bool) → count_below (suc k) test ≡ count_below k test + cond (test k) 1 0
-unfolding count_below
-counted_below k test = refl
-
 lower_row : (test : ℕ → Bool) (a b : ℕ) → IsTrue (test a) → a < b → count_below a test < count_below b test
+unfolding count_below
 lower_row test a zero has less = absurd (omega (arith, less))
 lower_row test a (suc k) has less =
     ⊎_elim
-    (λ (l : a < k). omega (arith, lower_row test a k has l, counted_below k test))
+    (λ (l : a < k). omega (arith, lower_row test a k has l))
     (λ (l : k ≤ a).
     let is : a ≡ k = omega (arith, less, l) in
-    let one : ◌≡◌ {A = ℕ} (cond (test k) 1 0) 1 = ap (λ (j : ℕ). cond (test j) 1 0) (sym is) ∙ ap (λ (b : Bool). cond b 1 0) has in
-    omega (arith, one, counted_below k test, ap (λ (j : ℕ). count_below j test) is))
+    let one : from_bool (test k) ≡ 1 = ap (λ (j : ℕ). from_bool (test j)) (sym is) ∙ ap from_bool has in
+    omega (arith, one, ap (λ (j : ℕ). count_below j test) is))
     (cases_lt a k)
 
 later_channel : (c d : ℕ) → IsTrue (names_channel c) → IsTrue (names_channel d) → c < d → channel_index c < channel_index d

@@ -13,7 +13,6 @@ use Rattle.pp_draw.specs.declared.condition.Condition.TheVariants.{Running, InBl
 use Rattle.pp_draw.specs.declared.condition.Look.{Look}
 use Rattle.pp_draw.specs.declared.condition.Look.TheVariants.{Processor}
 use Rattle.pp_draw.specs.declared.part.Phase.{Phase}
-use Rattle.pp_draw.proofs.LaneLemmas.{changes_next, changes_none, no_changes}
 
 -- ---- a look that goes on is the same
 
@@ -37,56 +36,36 @@ same_goes_on condition = refl
 
 -- ---- phases
 
--- the look of the last phase, after one
-abbrev last_look : Phase → List Phase → Option Look
-last_look phase more = option_map look_in (last_or (Some phase) more)
-
-one_more : (current next : Phase) (more : List Phase) (b : Bool) → goes_on current.look next.look ≡ b
-    → (current.look ≡ next.look → last_look current (changes current more) ≡ last_look next more) → last_look next (changes next more) ≡ last_look next more
-    → last_look current (changes current (next ∷ more)) ≡ last_look next more
-one_more current next more true on same new = ap (last_look current) (changes_none current next more on) ∙ same (same_on current.look next.look on)
-one_more current next more false over same new = ap (last_look current) (changes_next current next more over) ∙ new
-
-last_kept : (current came : Phase) (more : List Phase) → current.look ≡ came.look → last_look current (changes current more) ≡ last_look came more
-last_kept current came [] same = ap (last_look current) (no_changes current) ∙ ap Some same
-last_kept current came (next ∷ more) same = one_more current next more (goes_on current.look next.look) refl (λ is. last_kept current next more is) (last_kept next next more refl)
+last_after : (current came : Phase) (more : List Phase) → current.look ≡ came.look → option_map look_in (last_or (Some current) (changes came.look more)) ≡ option_map look_in (last_or (Some came) more)
+last_after current came [] same = ap Some same
+last_after current came (next ∷ more) same =
+    by_test (goes_on came.look next.look) refl (λ on. last_after current next more (same ∙ same_on came.look next.look on)) (last_after next next more refl)
+  where
+    by_test : (b : Bool) → goes_on came.look next.look ≡ b
+        → (goes_on came.look next.look ≡ true → option_map look_in (last_or (Some current) (changes next.look more)) ≡ option_map look_in (last_or (Some next) more))
+        → option_map look_in (last_or (Some next) (changes next.look more)) ≡ option_map look_in (last_or (Some next) more)
+        → option_map look_in (last_or (Some current) (cond b (changes next.look more) (next ∷ changes next.look more))) ≡ option_map look_in (last_or (Some next) more)
+    by_test true on goes begins = goes on
+    by_test false over goes begins = begins
 
 pub last_is_drawn : (phases : List Phase) → option_map look_in (last_or None (phases_from None phases)) ≡ option_map look_in (last_or None phases)
 last_is_drawn [] = refl
-last_is_drawn (first ∷ more) = last_kept first first more refl
-
--- ---- one phase more
+last_is_drawn (first ∷ more) = last_after first first more refl
 
 -- what is drawn of a phase that comes after these
 abbrev drawn_after : Option Phase → Phase → List Phase
 drawn_after before next = cond (goes_on_from before next) [] (next ∷ [])
 
-one_change : (current next : Phase) (b : Bool) → goes_on current.look next.look ≡ b → changes current (next ∷ []) ≡ cond b [] (next ∷ [])
-one_change current next true on = changes_none current next [] on ∙ no_changes current
-one_change current next false over = changes_next current next [] over ∙ ap (λ (ps : List Phase). next ∷ ps) (no_changes next)
-
--- the last that came after a phase under the same look says whether the next is drawn
-abbrev DrawsMore : Phase → Phase → List Phase → Phase → Type 0
-DrawsMore current came more next = changes current (more ++ next ∷ []) ≡ changes current more ++ drawn_after (last_or (Some came) more) next
-
-more_after : (current n : Phase) (more : List Phase) (next : Phase) (b : Bool) → goes_on current.look n.look ≡ b
-    → (current.look ≡ n.look → DrawsMore current n more next) → DrawsMore n n more next → DrawsMore current n (n ∷ more) next
-more_after current n more next true on same new =
-    changes_none current n (more ++ next ∷ []) on
-    ∙ same (same_on current.look n.look on)
-    ∙ ap (λ (ps : List Phase). ps ++ drawn_after (last_or (Some n) more) next) (sym (changes_none current n more on))
-more_after current n more next false over same new =
-    changes_next current n (more ++ next ∷ []) over
-    ∙ ap (λ (ps : List Phase). n ∷ ps) new
-    ∙ ap (λ (ps : List Phase). ps ++ drawn_after (last_or (Some n) more) next) (sym (changes_next current n more over))
-
-more_drawn : (current came : Phase) (more : List Phase) (next : Phase) → current.look ≡ came.look → DrawsMore current came more next
-more_drawn current came [] next same =
-    one_change current next (goes_on current.look next.look) refl
-    ∙ ap (λ (l : Look). cond (goes_on l next.look) [] (next ∷ [])) same
-    ∙ ap (λ (ps : List Phase). ps ++ drawn_after (Some came) next) (sym (no_changes current))
-more_drawn current came (n ∷ more) next same = more_after current n more next (goes_on current.look n.look) refl (λ is. more_drawn current n more next is) (more_drawn n n more next refl)
+more_drawn : (came : Phase) (more : List Phase) (next : Phase) → changes came.look (more ++ next ∷ []) ≡ changes came.look more ++ drawn_after (last_or (Some came) more) next
+more_drawn came [] next = refl
+more_drawn came (n ∷ more) next = by_test (goes_on came.look n.look) (more_drawn n more next)
+  where
+    by_test : (b : Bool) → changes n.look (more ++ next ∷ []) ≡ changes n.look more ++ drawn_after (last_or (Some n) more) next
+        → cond b (changes n.look (more ++ next ∷ [])) (n ∷ changes n.look (more ++ next ∷ []))
+        ≡ cond b (changes n.look more) (n ∷ changes n.look more) ++ drawn_after (last_or (Some n) more) next
+    by_test true after = after
+    by_test false after = ap (λ (ps : List Phase). n ∷ ps) after
 
 pub next_is_drawn : (phases : List Phase) (next : Phase) → phases_from None (phases ++ next ∷ []) ≡ phases_from None phases ++ drawn_after (last_or None phases) next
-next_is_drawn [] next = ap (λ (ps : List Phase). next ∷ ps) (no_changes next)
-next_is_drawn (first ∷ more) next = ap (λ (ps : List Phase). first ∷ ps) (more_drawn first first more next refl)
+next_is_drawn [] next = refl
+next_is_drawn (first ∷ more) next = ap (λ (ps : List Phase). first ∷ ps) (more_drawn first more next)

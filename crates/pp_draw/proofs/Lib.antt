@@ -1,3 +1,4 @@
+mod EachLemmas
 mod RowLemmas
 mod LaneLemmas
 mod BandLemmas

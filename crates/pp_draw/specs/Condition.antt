@@ -1,25 +1,11 @@
 -- How channels and processors stand, and how that is shown.
 use Rattle.std.specs.Prelude.{ℕ, Bool, true, false, ◌==◌, List, ◌++◌, Option, None, Some, codes}
-use Rattle.pp_channel.specs.declared.event.Event.{Event}
 use Rattle.pp_channel.specs.declared.event.Event.TheVariants.{Activate, Disconnect, Put, Take, Function}
 use Rattle.pp_word.specs.Numeral.{octal}
-use Rattle.pp_draw.specs.declared.condition.ChannelCondition.{ChannelCondition}
-use Rattle.pp_draw.specs.declared.condition.ChannelCondition.TheVariants.{Inactive, Active, Full, Sent}
 use Rattle.pp_draw.specs.declared.condition.Condition.{Condition}
 use Rattle.pp_draw.specs.declared.condition.Condition.TheVariants.{Running, InBlock, HeldBy, Stopped, Faulted}
 use Rattle.pp_draw.specs.declared.condition.Look.{Look}
 use Rattle.pp_draw.specs.declared.condition.Look.TheVariants.{Channel, Processor}
-
--- a channel after an event
-abbrev pub condition_after : Event → ChannelCondition
-condition_after Activate = Active
-condition_after Disconnect = Inactive
-condition_after (Put word) = Full word
-condition_after (Take word) = Active
-condition_after (Function code) = Sent code
-
-abbrev pub look_after : Event → Look
-look_after event = Channel (condition_after event)
 
 -- whether a processor is found in the same condition again
 abbrev pub is_same : Condition → Condition → Bool
@@ -37,12 +23,12 @@ goes_on look next = false
 
 -- whether a function code went out
 abbrev pub is_sent : Look → Bool
-is_sent (Channel (Sent code)) = true
+is_sent (Channel (Function code)) = true
 is_sent look = false
 
 -- whether the word that waits is lost: a Disconnect comes before it is taken
 abbrev pub loses_word : Look → Look → Bool
-loses_word (Channel (Full word)) (Channel Inactive) = true
+loses_word (Channel (Put word)) (Channel Disconnect) = true
 loses_word look next = false
 
 -- ---- how it is shown
@@ -66,10 +52,11 @@ abbrev pub in_words : List ℕ → List ℕ → Option (List ℕ) → Face
 in_words class words label = record { class = class; words = words; label = label }
 
 abbrev pub face_of : Look → Face
-face_of (Channel Inactive) = in_words (codes "i") (codes "inactive") None
-face_of (Channel Active) = in_words (codes "a") (codes "active") None
-face_of (Channel (Full word)) = in_words (codes "f") (codes "full ") (Some (octal 4 word))
-face_of (Channel (Sent code)) = in_words (codes "c") (codes "function ") (Some (octal 4 code))
+face_of (Channel Disconnect) = in_words (codes "i") (codes "inactive") None
+face_of (Channel Activate) = in_words (codes "a") (codes "active") None
+face_of (Channel (Take word)) = in_words (codes "a") (codes "active") None
+face_of (Channel (Put word)) = in_words (codes "f") (codes "full ") (Some (octal 4 word))
+face_of (Channel (Function code)) = in_words (codes "c") (codes "function ") (Some (octal 4 code))
 face_of (Processor Running) = in_words (codes "r") (codes "running") None
 face_of (Processor InBlock) = in_words (codes "b") (codes "in a block") None
 face_of (Processor (HeldBy c)) = in_words (codes "h") (codes "held by ") (Some (channel_name c))

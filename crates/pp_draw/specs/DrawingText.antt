@@ -1,6 +1,7 @@
 -- The drawing of a run: a lane for each channel used and for each processor shown, in order of
 -- number, between a legend and a scale of turns.
-use Rattle.std.specs.Prelude.{ℕ, zero, suc, ◌+◌, ◌==◌, Bool, false, not, List, [], ◌++◌, length, slice_index_or, if◌then◌else◌}
+use Rattle.std.specs.Prelude.{ℕ, zero, suc, ◌+◌, ◌==◌, Bool, false, not, List, [], ◌++◌, codes, length, slice_index_or, if◌then◌else◌}
+use Rattle.std.specs.Int.{from_bool}
 use Rattle.pp_channel.specs.ChannelNo.{channel_count, channel_index, channel_number}
 use Rattle.pp_channel.specs.History.{active, waiting}
 use Rattle.pp_machine.specs.MachineState.{MachineState, history_of, processor_of}
@@ -9,13 +10,13 @@ use Rattle.pp_machine.specs.Run.{barrel, run}
 use Rattle.pp_deck.specs.DeckMeaning.{LoadedDeck}
 use Rattle.pp_deck.specs.InUse.{in_use}
 use Rattle.pp_text.specs.PrintedText.{channel_text, each_below, state_text}
-use Rattle.pp_draw.specs.Elements.{lane_foot, lane_head}
-use Rattle.pp_draw.specs.Frame.{foot_text, head_text, lane_top, legend_text, style_text, ticks_text}
+use Rattle.pp_draw.specs.Elements.{lane_foot_tag, lane_head}
+use Rattle.pp_draw.specs.Frame.{foot_text, head_text, ticks_text}
 use Rattle.pp_draw.specs.Lane.{drawn}
 use Rattle.pp_draw.specs.Condition.{channel_name, processor_name}
 use Rattle.pp_draw.specs.Phases.{channel_phases, processor_phases}
 use Rattle.pp_draw.specs.SeenStep.{seen_in_window}
-use Rattle.pp_draw.specs.Window.{band_width}
+use Rattle.pp_draw.specs.declared.frame.TheConstants.{LEGEND, STYLE}
 use Rattle.pp_draw.specs.declared.part.Phase.{Phase}
 use Rattle.pp_draw.specs.declared.seen_step.SeenStep.{SeenStep}
 use Rattle.pp_draw.specs.declared.window.Window.{Window}
@@ -23,13 +24,13 @@ use Rattle.pp_draw.specs.declared.window.Window.{Window}
 -- how many of 0, 1, .. and count - 1 pass a test
 unfoldable pub count_below : ℕ → (ℕ → Bool) → ℕ
 count_below zero test = 0
-count_below (suc k) test = count_below k test + (if test k then 1 else 0)
+count_below (suc k) test = count_below k test + from_bool (test k)
 
 -- the lane with this name and this many lanes above it: its phases, and how things stand at the end
 unfoldable pub lane_text : Window → ℕ → List ℕ → List Phase → List ℕ → List ℕ
 lane_text w row name phases standing =
-    lane_head (lane_top row) name (band_width w) ++ drawn w name phases
-    ++ lane_foot (band_width w) standing
+    lane_head w row name ++ drawn w name phases ++ lane_foot_tag w ++ standing
+    ++ codes "</text>\n</g>\n"
 
 -- whether something has happened on channel c
 abbrev pub is_used : MachineState → ℕ → Bool
@@ -70,7 +71,7 @@ lanes shown m = lanes_above processor_count shown m
 -- window were these. Numbers have two octal digits
 unfoldable pub drawing : Window → List Bool → MachineState → List SeenStep → List ℕ
 drawing w shown m steps =
-    head_text w (lanes shown m) ++ style_text ++ legend_text ++ ticks_text w (lanes shown m)
+    head_text w (lanes shown m) ++ STYLE.now ++ LEGEND.now ++ ticks_text w (lanes shown m)
     ++ each_below channel_count (λ place. channel_lane w m (channel_number place))
     ++ each_below processor_count
     (λ place. processor_lane w shown m steps (processor_number place))

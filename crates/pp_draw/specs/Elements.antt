@@ -1,9 +1,11 @@
 -- The elements of the picture. What a run decides stands in them as digits alone.
-use Rattle.std.specs.Prelude.{ℕ, ◌+◌, ◌-◌, Bool, List, [], ◌++◌, Option, None, Some, codes, if◌then◌else◌}
+use Rattle.std.specs.Prelude.{ℕ, ◌+◌, ◌-◌, ◌*◌, Bool, List, [], ◌++◌, Option, None, Some, codes, if◌then◌else◌}
 use Rattle.pp_word.specs.Numeral.{short_decimal}
 use Rattle.pp_draw.specs.Condition.{face_of}
 use Rattle.pp_draw.specs.Part.{is_visible, label_from}
+use Rattle.pp_draw.specs.Window.{band_width}
 use Rattle.pp_draw.specs.declared.part.Part.{Part}
+use Rattle.pp_draw.specs.declared.window.Window.{Window}
 
 -- the tag of a rectangle of a class, at a place and of a size, without its end
 unfoldable pub rectangle_tag : List ℕ → ℕ → ℕ → ℕ → ℕ → List ℕ
@@ -65,15 +67,19 @@ room_after free part (Some text) = part.start + 30
 abbrev pub free_after : ℕ → Part → ℕ
 free_after free part = room_after free part (label_from free part)
 
--- how a lane begins: the place of its upper edge, its name, and a line under all turns
-unfoldable pub lane_head : ℕ → List ℕ → ℕ → List ℕ
-lane_head top name width =
-    codes "<g transform='translate(80," ++ short_decimal top
+-- a lane is this high, and those with this many lanes above them begin here
+abbrev pub lane_top : ℕ → ℕ
+lane_top row = 36 + 36 * row
+
+-- how the lane with this many lanes above it begins: the place of its upper edge, its name, and a
+-- line under all turns
+unfoldable pub lane_head : Window → ℕ → List ℕ → List ℕ
+lane_head w row name =
+    codes "<g transform='translate(80," ++ short_decimal (lane_top row)
     ++ codes ")'>\n<text x='-72' y='26'>" ++ name
-    ++ codes "</text>\n<rect class='u' y='30' width='" ++ short_decimal width
+    ++ codes "</text>\n<rect class='u' y='30' width='" ++ short_decimal (band_width w)
     ++ codes "' height='1'/>\n"
 
 -- how it ends: with how things stand after the last turn
-abbrev pub lane_foot : ℕ → List ℕ → List ℕ
-lane_foot width standing =
-    text_element (codes "e") (width + 8) 26 standing ++ codes "</g>\n"
+abbrev pub lane_foot_tag : Window → List ℕ
+lane_foot_tag w = text_tag (codes "e") (band_width w + 8) 26

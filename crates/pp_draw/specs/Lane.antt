@@ -1,5 +1,7 @@
 -- A lane: its phases, part by part, each label only if there is room after the last.
 use Rattle.std.specs.Prelude.{◌≡◌, ℕ, List, [], ◌∷◌, ◌++◌, Option, None, Some}
+use Rattle.pp_text.specs.TextWriter.{Prints}
+use Rattle.pp_text.specs.declared.text_writer.TextWriter.{TextWriter}
 use Rattle.pp_draw.specs.Elements.{free_after, part_elements}
 use Rattle.pp_draw.specs.Part.{part_of}
 use Rattle.pp_draw.specs.Phases.{phases_from}
@@ -13,7 +15,7 @@ next_in [] = None
 next_in (phase ∷ more) = Some phase
 
 -- what is written of phases, where there is room for a label from this place on
-unfoldable pub drawn_from : Window → List ℕ → ℕ → List Phase → List ℕ
+abbrev pub drawn_from : Window → List ℕ → ℕ → List Phase → List ℕ
 drawn_from w name free [] = []
 drawn_from w name free (phase ∷ more) =
     let part = part_of w phase (next_in more) in
@@ -32,7 +34,10 @@ abbrev pub still_drawn : Lane → List Phase → List ℕ
 still_drawn lane phases =
     drawn_from lane.window lane.name lane.free (phases_from lane.current phases)
 
--- these phases come, and this text is printed, whatever phases come after them
-abbrev pub TakesIn : Lane → List Phase → List ℕ → Lane → Type 0
-TakesIn old phases printed new = (rest : List Phase)
-    → still_drawn old (phases ++ rest) ≡ printed ++ still_drawn new rest
+-- so far the front of a whole text is printed: its rest is what is still written of a lane as these
+-- phases come
+pub record LeadsTo {W : Type 0} (contents : W → Option (List ℕ)) (start now : TextWriter W)
+    (whole : List ℕ) (lane : Lane) (phases : List Phase) : Type 0 where
+  pub printed : List ℕ
+  pub prints : Prints contents start now printed
+  pub rest : printed ++ still_drawn lane phases ≡ whole

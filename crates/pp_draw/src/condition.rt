@@ -2,24 +2,10 @@
 
 ghost use Rattle.std.specs.Prelude.{◌≡◌, ◌≤◌, length};
 ghost use Rattle.pp_text.specs.Piece.{piece_length};
-ghost use Rattle.pp_draw.specs.Condition.{face_of, goes_on, is_sent, is_same, look_after, loses_word};
+ghost use Rattle.pp_draw.specs.Condition.{face_of, goes_on, is_sent, is_same, loses_word};
 
 use pp_channel::{ChannelNo, Event};
 use pp_text::{channel_name, octal4};
-use pp_word::Word12;
-
-/// How a channel stands after an event.
-#[derive(Clone, Copy)]
-pub(crate) enum ChannelCondition {
-    /// It is inactive.
-    Inactive,
-    /// It is active and empty.
-    Active,
-    /// It is active and full: this word waits.
-    Full(Word12),
-    /// It is inactive; this function code went out on it.
-    Sent(Word12),
-}
 
 /// How a step finds its processor.
 #[derive(Clone, Copy)]
@@ -52,26 +38,14 @@ impl Condition {
     }
 }
 
-/// What a lane shows of a channel or of a processor.
+/// What a lane shows: a channel after an event, or a processor as a step finds it.
 #[derive(Clone, Copy)]
 pub(crate) enum Look {
-    Channel(ChannelCondition),
+    Channel(Event),
     Processor(Condition),
 }
 
 impl Look {
-    /// A channel after an event.
-    pub(crate) fn after(event: &Event) -> Look
-        ensures { result ≡ look_after event.now }
-    {
-        Look::Channel(match event {
-            Event::Activate | Event::Take(_) => ChannelCondition::Active,
-            Event::Disconnect => ChannelCondition::Inactive,
-            Event::Put(word) => ChannelCondition::Full(*word),
-            Event::Function(code) => ChannelCondition::Sent(*code),
-        })
-    }
-
     /// Whether a phase goes on: each event of a channel begins another.
     pub(crate) fn goes_on(&self, next: &Look) -> bool
         ensures { result ≡ goes_on self.now next.now }
@@ -86,7 +60,7 @@ impl Look {
     pub(crate) fn is_sent(&self) -> bool
         ensures { result ≡ is_sent self.now }
     {
-        matches!(self, Look::Channel(ChannelCondition::Sent(_)))
+        matches!(self, Look::Channel(Event::Function(_)))
     }
 
     /// Whether the word that waits is lost, since what comes next is a Disconnect.
@@ -94,8 +68,7 @@ impl Look {
         ensures { result ≡ loses_word self.now next.now }
     {
         match (self, next) {
-            (Look::Channel(ChannelCondition::Full(_)), Look::Channel(ChannelCondition::Inactive)) =>
-                true,
+            (Look::Channel(Event::Put(_)), Look::Channel(Event::Disconnect)) => true,
             _ => false,
         }
     }
@@ -108,12 +81,12 @@ impl Look {
         ensures label { result.label ≡ (face_of self.now).label }
     {
         match self {
-            Look::Channel(ChannelCondition::Inactive) => in_words(b"i", b"inactive", None),
-            Look::Channel(ChannelCondition::Active) => in_words(b"a", b"active", None),
-            Look::Channel(ChannelCondition::Full(word)) => {
+            Look::Channel(Event::Disconnect) => in_words(b"i", b"inactive", None),
+            Look::Channel(Event::Activate | Event::Take(_)) => in_words(b"a", b"active", None),
+            Look::Channel(Event::Put(word)) => {
                 in_words(b"f", b"full ", Some(octal4(word.get())))
             }
-            Look::Channel(ChannelCondition::Sent(code)) => {
+            Look::Channel(Event::Function(code)) => {
                 in_words(b"c", b"function ", Some(octal4(code.get())))
             }
             Look::Processor(Condition::Running) => in_words(b"r", b"running", None),

@@ -1,15 +1,15 @@
 //! The drawing of a run: its rows of lanes, channels before processors, in a frame.
 
-ghost use Rattle.std.specs.Prelude.{◌≡◌, ◌≤◌};
 ghost use Rattle.pp_channel.specs.ChannelNo.{channel_count, channel_number};
 ghost use Rattle.pp_machine.specs.PpNo.{processor_count, processor_number};
 ghost use Rattle.pp_text.specs.PrintedText.{each_below};
 ghost use Rattle.pp_text.specs.TextWriter.{Prints};
 ghost use Rattle.pp_text.specs.Written.{IsWritten};
-ghost use Rattle.pp_draw.specs.DrawingText.{channel_lane, count_below, drawing, is_flagged, processor_lane, used_among};
+ghost use Rattle.pp_draw.specs.DrawingText.{channel_lane, drawing, processor_lane};
 
-use crate::frame::{print_foot, print_head, print_legend, print_style, print_ticks};
-use crate::lanes::{is_used, print_channel_lane, print_processor_lane};
+use crate::frame::{LEGEND, STYLE, print_foot, print_head, print_ticks};
+use crate::lanes::{print_channel_lane, print_processor_lane};
+use crate::rows::lanes_above;
 use crate::seen_step::SeenStep;
 use crate::window::Window;
 use pp_channel::{CHANNELS, ChannelNo};
@@ -33,41 +33,16 @@ pub fn write_drawing<A: Allocator, W: Write>(
     ensures { IsWritten (drawing window shown.now machine.now steps.now) result
         (W.contents writer.old) (W.contents writer.new) }
 {
-    let channels = used_channels(machine);
-    let rows = channels + shown_processors(shown);
+    let rows = lanes_above(machine, shown, PROCESSORS);
     let mut text = TextWriter::new(writer);
     print_head(&mut text, window, rows);
-    print_style(&mut text);
-    print_legend(&mut text);
+    text.print(STYLE);
+    text.print(LEGEND);
     print_ticks(&mut text, window, rows);
     print_channel_lanes(&mut text, window, machine);
-    print_processor_lanes(&mut text, window, shown, machine, steps, channels);
+    print_processor_lanes(&mut text, window, shown, machine, steps);
     print_foot(&mut text, rows);
     text.finish()
-}
-
-/// How many channels are used.
-fn used_channels<A: Allocator>(machine: &Machine<A>) -> u64
-    ensures count { result ≡ used_among channel_count machine.now }
-    ensures most { result ≤ channel_count }
-{
-    let mut count = 0;
-    for place in 0..CHANNELS {
-        count += u64::from(is_used(machine, ChannelNo::at(place)));
-    }
-    count
-}
-
-/// How many processors are shown.
-fn shown_processors(shown: &[bool; PROCESSORS]) -> u64
-    ensures count { result ≡ count_below processor_count (is_flagged shown.now) }
-    ensures most { result ≤ processor_count }
-{
-    let mut count = 0;
-    for place in 0..PROCESSORS {
-        count += u64::from(shown[place]);
-    }
-    count
 }
 
 /// Prints the lanes of the channels used.
@@ -79,28 +54,23 @@ fn print_channel_lanes<A: Allocator, W: Write>(
     ensures { Prints W.contents text.old text.new (each_below channel_count
         (λ place. channel_lane window machine.now (channel_number place))) }
 {
-    let mut row = 0;
     for place in 0..CHANNELS {
-        row = print_channel_lane(text, window, machine, ChannelNo::at(place), row);
+        print_channel_lane(text, window, machine, ChannelNo::at(place));
     }
 }
 
-/// Prints the lanes of the processors shown, below those of this many channels.
+/// Prints the lanes of the processors shown.
 fn print_processor_lanes<A: Allocator, W: Write>(
     text: &mut TextWriter<W>,
     window: Window,
     shown: &[bool; PROCESSORS],
     machine: &Machine<A>,
     steps: &[SeenStep],
-    channels: u64,
 )
-    requires count { channels ≡ used_among channel_count machine.now }
-    requires most { channels ≤ channel_count }
     ensures { Prints W.contents text.old text.new (each_below processor_count
         (λ place. processor_lane window shown.now machine.now steps.now (processor_number place))) }
 {
-    let mut row = channels;
     for place in 0..PROCESSORS {
-        row = print_processor_lane(text, window, shown, machine, steps, PpNo::at(place), row);
+        print_processor_lane(text, window, shown, machine, steps, PpNo::at(place));
     }
 }

@@ -2,7 +2,7 @@
 
 ghost use Rattle.std.specs.Prelude.{◌≡◌};
 ghost use Rattle.pp_text.specs.TextWriter.{Prints};
-ghost use Rattle.pp_draw.specs.Elements.{band_element, label_text, lane_head, lost_text, part_class, rectangle_tag, text_element, text_tag, title_text};
+ghost use Rattle.pp_draw.specs.Elements.{band_element, label_text, lost_text, part_class, rectangle_tag, text_element, text_tag, title_text};
 
 use crate::part::Part;
 use pp_text::{TextWriter, print_short_decimal};
@@ -107,22 +107,4 @@ fn print_lost<W: Write>(text: &mut TextWriter<W>, is_lost: bool)
     if is_lost {
         text.print(b" lost");
     }
-}
-
-/// Prints how a lane begins: the place of its upper edge, its name, and a line under all turns.
-pub(crate) fn print_lane_head<W: Write>(
-    text: &mut TextWriter<W>,
-    top: u64,
-    name: &[u8; 4],
-    width: u64,
-)
-    ensures { Prints W.contents text.old text.new (lane_head top name.now width) }
-{
-    text.print(b"<g transform='translate(80,");
-    print_short_decimal(text, top);
-    text.print(b")'>\n<text x='-72' y='26'>");
-    text.print(name);
-    text.print(b"</text>\n<rect class='u' y='30' width='");
-    print_short_decimal(text, width);
-    text.print(b"' height='1'/>\n");
 }

@@ -13,7 +13,7 @@ ghost use Rattle.pp_machine.specs.MachineStep.{counted};
 ghost use Rattle.pp_machine.specs.PpNo.{names_processor, processor_count, processor_index};
 ghost use Rattle.pp_machine.specs.Run.{barrel};
 ghost use Rattle.pp_run.specs.RunSteps.{run_steps};
-ghost use Rattle.pp_draw.specs.Condition.{goes_on, is_sent, look_after};
+ghost use Rattle.pp_draw.specs.Condition.{goes_on, is_sent};
 ghost use Rattle.pp_draw.specs.DrawingText.{channel_lane, drawing, is_flagged, is_used, lanes_above, processor_lane, used_among};
 ghost use Rattle.pp_draw.specs.DrawingLaw.{Adjoin, GoesToEnd, IsTurnOf, StandsWithin, first_turn, goes_on_from, last_step, look_at, look_in, opening_turns, turns_on};
 ghost use Rattle.pp_draw.specs.Elements.{band_element};
@@ -24,7 +24,7 @@ ghost use Rattle.pp_draw.specs.SeenStep.{is_shown, seen, seen_in_window};
 ghost use Rattle.pp_draw.specs.WellFormed.{IsWellFormed};
 ghost use Rattle.pp_draw.specs.declared.condition.Condition.{Condition};
 ghost use Rattle.pp_draw.specs.declared.condition.Look.{Look};
-ghost use Rattle.pp_draw.specs.declared.condition.Look.TheVariants.{Processor};
+ghost use Rattle.pp_draw.specs.declared.condition.Look.TheVariants.{Channel, Processor};
 ghost use Rattle.pp_draw.specs.declared.part.Phase.{Phase};
 ghost use Rattle.pp_draw.specs.declared.seen_step.SeenStep.{SeenStep};
 ghost use Rattle.pp_draw.specs.declared.window.Window.{Window};
@@ -40,7 +40,7 @@ ghost use Rattle.pp_draw.specs.declared.window.Window.{Window};
 pub fn drawing_law()
     ensures history { (c : ℕ) (m : MachineState) → IsTrue (names_channel c)
         → HoldsOnEachChannel m
-        → map look_in (channel_phases c m) ≡ map look_after (history_of c m) }
+        → map look_in (channel_phases c m) ≡ map Channel (history_of c m) }
     ensures turns { (c : ℕ) (m : MachineState)
         → map first_turn (channel_phases c m) ≡ opening_turns c m ++ turns_on c m.trace }
     ensures each_event { (c : ℕ) (m : MachineState)
@@ -95,8 +95,8 @@ pub fn drawing_law()
         → IsTrue (names_processor n) → IsTrue (names_processor k)
         → IsTrue (is_flagged shown (processor_index n)) → n < k
         → lanes_above (processor_index n) shown m < lanes_above (processor_index k) shown m }
-    ensures lost { (e next : Event) (turn : ℕ) → IsTrue (is_lost (look_after e)
-        (Some (record { since = turn; look = look_after next })))
+    ensures lost { (e next : Event) (turn : ℕ) → IsTrue (is_lost (Channel e)
+        (Some (record { since = turn; look = Channel next })))
         ↔ (((word : ℕ) × (e ≡ Put word)) × (next ≡ Disconnect)) }
     ensures well_formed { (w : Window) (shown : List Bool) (m : MachineState)
         (steps : List SeenStep) → IsWellFormed (drawing w shown m steps) }

@@ -22,6 +22,7 @@ mod lane;
 mod lanes;
 mod laws;
 mod part;
+mod rows;
 mod seen_step;
 mod window;
 

@@ -1,13 +1,8 @@
-use Rattle.std.proofs.Common.{◌≡◌, ◌≤◌}
 use Rattle.pp_channel.specs.ChannelNo.{channel_number}
 use Rattle.pp_text.specs.PrintedText.{each_below}
 use Rattle.pp_text.specs.TextWriter.{Prints}
-use Rattle.pp_draw.specs.DrawingText.{channel_lane, used_among}
+use Rattle.pp_draw.specs.DrawingText.{channel_lane}
 use Rattle.pp_draw.proofs.drawing.print_channel_lanes.Given as goal
 
 abbrev pub invariant-loop-place : goal.invariant-loop-place
-invariant-loop-place g l = record {
-  row : l.row ≡ used_among l.place l.machine;
-  most : l.row ≤ l.place;
-  lanes : Prints g.W.Write.contents l.fn.text l.text (each_below l.place (λ p. channel_lane l.window l.machine (channel_number p)));
-}
+invariant-loop-place g l = Prints g.W.Write.contents l.fn.text l.text (each_below l.place (λ place. channel_lane l.window l.machine (channel_number place)))
