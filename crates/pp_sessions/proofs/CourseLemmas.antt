@@ -1,61 +1,31 @@
 -- A lawful history has one course.
-use Rattle.std.proofs.Common.{◌≡◌, ℕ, List, [], ◌∷◌, ◌++◌, map, Option, Some, None, refl, sym, ap, ◌∙◌, append_assoc}
+use Rattle.std.proofs.Common.{◌≡◌, ℕ, List, [], ◌∷◌, ◌++◌, map, Option, Some, None, refl, sym, ap, ◌∙◌, append_assoc, subst}
 use Rattle.std.specs.Option.{option_to_list}
 use Rattle.std.specs.List.{flat_map}
 use Rattle.pp_channel.specs.History.{Course, events_of, idle_stretch, whole_session}
 use Rattle.pp_channel.specs.Session.{Session, body}
 use Rattle.pp_channel.specs.declared.event.Event.{Event}
-use Rattle.pp_channel.specs.declared.event.Event.TheVariants.{Activate, Disconnect, Put, Take, Function}
+use Rattle.pp_channel.specs.declared.event.Event.TheVariants.{Activate, Disconnect, Put, Take}
 
 -- what may follow an idle stretch: nothing, or an Activate
 abbrev pub BeginsSession : List Event → Type 0
 BeginsSession [] = Unit {0}
 BeginsSession (Activate ∷ events) = Unit {0}
-BeginsSession (Disconnect ∷ events) = ⊥
-BeginsSession (Put w ∷ events) = ⊥
-BeginsSession (Take w ∷ events) = ⊥
-BeginsSession (Function w ∷ events) = ⊥
+BeginsSession (event ∷ events) = ⊥
 
 -- what may follow the words of a session: nothing, or a Disconnect
 abbrev EndsSession : List Event → Type 0
 EndsSession [] = Unit {0}
 EndsSession (Disconnect ∷ events) = Unit {0}
-EndsSession (Activate ∷ events) = ⊥
-EndsSession (Put w ∷ events) = ⊥
-EndsSession (Take w ∷ events) = ⊥
-EndsSession (Function w ∷ events) = ⊥
+EndsSession (event ∷ events) = ⊥
 
 -- ---- one part at the front of two lists
-
-no_function : (events others : List Event) (w : ℕ) → BeginsSession events → events ≡ Function w ∷ others → ⊥
-no_function [] others w begins e = cc
-no_function (Activate ∷ events) others w begins e = cc
-no_function (Disconnect ∷ events) others w begins e = begins
-no_function (Put v ∷ events) others w begins e = begins
-no_function (Take v ∷ events) others w begins e = begins
-no_function (Function v ∷ events) others w begins e = begins
-
-no_put : (events others : List Event) (w : ℕ) → EndsSession events → events ≡ Put w ∷ others → ⊥
-no_put [] others w ends e = cc
-no_put (Disconnect ∷ events) others w ends e = cc
-no_put (Activate ∷ events) others w ends e = ends
-no_put (Put v ∷ events) others w ends e = ends
-no_put (Take v ∷ events) others w ends e = ends
-no_put (Function v ∷ events) others w ends e = ends
-
-no_take : (events others : List Event) (w : ℕ) → EndsSession events → events ≡ Take w ∷ others → ⊥
-no_take [] others w ends e = cc
-no_take (Disconnect ∷ events) others w ends e = cc
-no_take (Activate ∷ events) others w ends e = ends
-no_take (Put v ∷ events) others w ends e = ends
-no_take (Take v ∷ events) others w ends e = ends
-no_take (Function v ∷ events) others w ends e = ends
 
 -- the function codes of an idle stretch, and what follows it
 same_idle : (one other : List ℕ) (xs ys : List Event) → BeginsSession xs → BeginsSession ys → idle_stretch one ++ xs ≡ idle_stretch other ++ ys → (one ≡ other) × (xs ≡ ys)
 same_idle [] [] xs ys begin begins e = (refl, e)
-same_idle [] (v ∷ other) xs ys begin begins e = absurd (no_function xs (idle_stretch other ++ ys) v begin e)
-same_idle (w ∷ one) [] xs ys begin begins e = absurd (no_function ys (idle_stretch one ++ xs) w begins (sym e))
+same_idle [] (v ∷ other) xs ys begin begins e = absurd (subst BeginsSession e begin)
+same_idle (w ∷ one) [] xs ys begin begins e = absurd (subst BeginsSession (sym e) begins)
 same_idle (w ∷ one) (v ∷ other) xs ys begin begins e =
     let rest : idle_stretch one ++ xs ≡ idle_stretch other ++ ys = cc in
     let same : w ≡ v = cc in
@@ -71,15 +41,15 @@ lone_word o = map (λ w. Put w) (option_to_list o)
 
 same_words : (one other : List ℕ) (a b : Option ℕ) (xs ys : List Event) → EndsSession xs → EndsSession ys → passed_words one ++ (lone_word a ++ xs) ≡ passed_words other ++ (lone_word b ++ ys) → (one ≡ other) × (a ≡ b) × (xs ≡ ys)
 same_words [] [] None None xs ys end ends e = (refl, refl, e)
-same_words [] [] None (Some v) xs ys end ends e = absurd (no_put xs ys v end e)
-same_words [] [] (Some w) None xs ys end ends e = absurd (no_put ys xs w ends (sym e))
+same_words [] [] None (Some v) xs ys end ends e = absurd (subst EndsSession e end)
+same_words [] [] (Some w) None xs ys end ends e = absurd (subst EndsSession (sym e) ends)
 same_words [] [] (Some w) (Some v) xs ys end ends e = (refl, let same : w ≡ v = cc in ap Some same, cc)
-same_words [] (v ∷ other) None b xs ys end ends e = absurd (no_put xs (Take v ∷ (passed_words other ++ (lone_word b ++ ys))) v end e)
+same_words [] (v ∷ other) None b xs ys end ends e = absurd (subst EndsSession e end)
 same_words [] (v ∷ other) (Some w) b xs ys end ends e =
-    let rest : xs ≡ Take v ∷ (passed_words other ++ (lone_word b ++ ys)) = cc in absurd (no_take xs (passed_words other ++ (lone_word b ++ ys)) v end rest)
-same_words (w ∷ one) [] a None xs ys end ends e = absurd (no_put ys (Take w ∷ (passed_words one ++ (lone_word a ++ xs))) w ends (sym e))
+    let rest : xs ≡ Take v ∷ (passed_words other ++ (lone_word b ++ ys)) = cc in absurd (subst EndsSession rest end)
+same_words (w ∷ one) [] a None xs ys end ends e = absurd (subst EndsSession (sym e) ends)
 same_words (w ∷ one) [] a (Some v) xs ys end ends e =
-    let rest : ys ≡ Take w ∷ (passed_words one ++ (lone_word a ++ xs)) = cc in absurd (no_take ys (passed_words one ++ (lone_word a ++ xs)) w ends rest)
+    let rest : ys ≡ Take w ∷ (passed_words one ++ (lone_word a ++ xs)) = cc in absurd (subst EndsSession rest ends)
 same_words (w ∷ one) (v ∷ other) a b xs ys end ends e =
     let rest : passed_words one ++ (lone_word a ++ xs) ≡ passed_words other ++ (lone_word b ++ ys) = cc in
     let same : w ≡ v = cc in
