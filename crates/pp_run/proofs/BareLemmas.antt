@@ -13,7 +13,7 @@ use Rattle.pp_machine.specs.MachineStep.{histories_after}
 use Rattle.pp_machine.specs.Processor.{Processor, no_processor}
 use Rattle.pp_machine.specs.PpNo.{processor_count, processor_index}
 use Rattle.pp_machine.specs.declared.need.Need.{Need}
-use Rattle.pp_machine.specs.declared.need.Need.TheVariants.{Nothing, Local, Channel, Read, Write}
+use Rattle.pp_machine.specs.declared.need.Need.TheVariants.{Channel}
 use Rattle.pp_run.specs.BareMachine.{AreStates}
 
 -- a channel's state and history, both put at its place
@@ -48,11 +48,8 @@ own_processor {items} {i} {pp} n m same place below as_many read =
 
 -- a machine keeps all its channels
 pub all_channels : (x : Need) (m : MachineState) → length m.histories ≡ channel_count → length (histories_after x m) ≡ channel_count
-all_channels Nothing m all = all
-all_channels Local m all = all
-all_channels (Read a) m all = all
-all_channels (Write a w) m all = all
 all_channels (Channel c op) m all = length-set m.histories (channel_index c) (history_after op (history_of c m)) ∙ all
+all_channels other m all = all
 
 -- the states of the channels at the first places
 abbrev pub AreStatesBelow : ℕ → List ChannelState → List (List Event) → Type 0

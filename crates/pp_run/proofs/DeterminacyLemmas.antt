@@ -25,18 +25,6 @@ use Rattle.pp_run.proofs.Moments.{moment_past, run_central, history_step, still,
 use Rattle.pp_run.proofs.Standing.{Owns, word_of, Goes, Follows, CatchUp, read_alike, stays_alike, catch_up}
 use Rattle.pp_run.proofs.Steps.{Advances, kept_by_stay, kept_at_rest, kept_in_place, off_channel, the_same, as_then}
 
-pub record FollowsSomehow (ns : List ℕ) (m now : MachineState) : Type 0 where
-  pub reached : ℕ → ℕ
-  pub stood : ℕ → ℕ
-  pub follows : Follows ns m now reached stood
-
--- one step more, by which each comes at least as far
-pub record StepsOn (ns : List ℕ) (m now : MachineState) (reached : ℕ → ℕ) : Type 0 where
-  pub new_reached : ℕ → ℕ
-  pub new_stood : ℕ → ℕ
-  pub follows : Follows ns m now new_reached new_stood
-  pub further : (x : ℕ) → reached x ≤ new_reached x
-
 -- processor q finds its channel before its moment, and waits
 pub record FindsEarly (ns : List ℕ) (m : MachineState) (reached stood : ℕ → ℕ) (q : ℕ) : Type 0 where
   pub channel : ℕ
@@ -46,7 +34,7 @@ pub record FindsEarly (ns : List ℕ) (m : MachineState) (reached stood : ℕ �
   pub early : stood channel < reached q
   pub stays : Stays operation (processor_at ns m q (reached q)) (history_at ns m channel (stood channel))
 
--- the order has come to moment t of the list
+-- the order follows the list, and has come to moment t of it
 pub record ComesTo (ns : List ℕ) (m now : MachineState) (t : ℕ) : Type 0 where
   pub reached : ℕ → ℕ
   pub stood : ℕ → ℕ
@@ -54,14 +42,11 @@ pub record ComesTo (ns : List ℕ) (m now : MachineState) (t : ℕ) : Type 0 whe
   pub past : (q : ℕ) → t ≤ reached q
 
 writes_or_not : (a : ℕ) (x : Need) → WritesAt a x ⊎ ((w : ℕ) → x ≡ Write a w → ⊥)
-writes_or_not a Nothing = inr (λ w e. cc)
-writes_or_not a Local = inr (λ w e. cc)
-writes_or_not a (Channel c op) = inr (λ w e. cc)
-writes_or_not a (Read b) = inr (λ w e. cc)
 writes_or_not a (Write b v) = elim (cases_eq b a) [
   | inl same ↦ inl (v, ap (λ k. Write k v) same)
   | inr other ↦ inr (λ w e. other (cc))
 ]
+writes_or_not a other = inr (λ w e. cc)
 
 module _ (ns : List ℕ) (m : MachineState) (all : length m.processors ≡ processor_count) (each : length m.histories ≡ channel_count) (d : IsDeterminate ns m) where
   -- a processor's next step is made, or finds its channel early
@@ -102,57 +87,55 @@ module _ (ns : List ℕ) (m : MachineState) (all : length m.processors ≡ proce
             ]
           ]
 
-  -- one more step: all come at least as far
-  follows_step : (now : MachineState) (reached stood : ℕ → ℕ) → Follows ns m now reached stood → (n : ℕ) → StepsOn ns m (stepped n now) reached
-  follows_step now reached stood f n = elim (f.next n) [
-    | inr go ↦ elim (go_on now reached stood f n go) [
+  -- a step of any processor keeps what all have come to
+  comes_still : (now : MachineState) (t n : ℕ) → ComesTo ns m now t → ComesTo ns m (stepped n now) t
+  comes_still now t n r = elim (r.follows.next n) [
+    | inr go ↦ elim (go_on now r.reached r.stood r.follows n go) [
       | inl made ↦ record {
-        new_reached = made.new_reached;
-        new_stood = made.new_stood;
+        reached = made.new_reached;
+        stood = made.new_stood;
         follows = made.follows;
-        further = λ x. elim (cases_eq x n) [
+        past = λ x. (let before : t ≤ r.reached x = r.past x in elim (cases_eq x n) [
           | inl same ↦
-              let more : suc (reached n) ≤ made.new_reached n = made.further in
-              subst (λ (k : ℕ). reached k ≤ made.new_reached k) (sym same) (omega arith)
-          | inr other ↦ let e : made.new_reached x ≡ reached x = made.others x other in omega arith
-        ];
+              let more : suc (r.reached n) ≤ made.new_reached n = made.further in
+              subst (λ (k : ℕ). t ≤ made.new_reached k) (sym same) (omega (arith, r.past n))
+          | inr other ↦ let e : made.new_reached x ≡ r.reached x = made.others x other in omega arith
+        ]);
       }
       | inr waits ↦
-          let s = f.stands in
-          stays_put n (kept_by_stay ns m all each d now reached stood f n waits.channel waits.operation
+          let s = r.follows.stands in
+          stays_put (kept_by_stay ns m all each d now r.reached r.stood r.follows n waits.channel waits.operation
           (ap (λ p. need p) (s.processor n) ∙ waits.needs)
-          (stays_alike waits.operation (processor_of n now) (processor_at ns m n (reached n)) (history_of waits.channel now) (history_at ns m waits.channel (stood waits.channel)) (s.processor n) (s.history waits.channel) waits.stays))
+          (stays_alike waits.operation (processor_of n now) (processor_at ns m n (r.reached n)) (history_of waits.channel now) (history_at ns m waits.channel (r.stood waits.channel)) (s.processor n) (s.history waits.channel) waits.stays))
     ]
     | inl end ↦
-        let s = f.stands in
-        let ended : processor_of n now ≡ processor_of n (run ns m) = s.processor n ∙ ap (λ k. processor_of n k) (moment_past ns m (reached n) (omega arith)) in
+        let s = r.follows.stands in
+        let ended : processor_of n now ≡ processor_of n (run ns m) = s.processor n ∙ ap (λ k. processor_of n k) (moment_past ns m (r.reached n) (omega arith)) in
         elim (d.settled n) [
-          | inl rests ↦ stays_put n (kept_at_rest ns m all each d now reached stood f n (subst (λ (p : Processor). IsAtRest p) (sym ended) rests))
+          | inl rests ↦ stays_put (kept_at_rest ns m all each d now r.reached r.stood r.follows n (subst (λ (p : Processor). IsAtRest p) (sym ended) rests))
           | inr goes ↦ elim goes [
-            | inl turns ↦ stays_put n (kept_in_place ns m all each d now reached stood f n (subst (λ (p : Processor). TurnsInPlace p) (sym ended) turns))
+            | inl turns ↦ stays_put (kept_in_place ns m all each d now r.reached r.stood r.follows n (subst (λ (p : Processor). TurnsInPlace p) (sym ended) turns))
             | inr w ↦
                 let c = w.0 in
                 let op = w.1 in
                 let good : WaitsForGood ns m n c op = w.2 in
-                let found : MayFind ns m n c (length ns) (stood c) = subst (λ (k : ℕ). MayFind ns m n c k (stood c)) end (s.may n c) in
-                stays_put n (kept_by_stay ns m all each d now reached stood f n c op
+                let found : MayFind ns m n c (length ns) (r.stood c) = subst (λ (k : ℕ). MayFind ns m n c k (r.stood c)) end (s.may n c) in
+                stays_put (kept_by_stay ns m all each d now r.reached r.stood r.follows n c op
                 (ap (λ p. need p) ended ∙ good.waits)
-                (stays_alike op (processor_of n now) (processor_of n (run ns m)) (history_of c now) (history_at ns m c (stood c)) ended (s.history c) (good.for_good (stood c) found)))
+                (stays_alike op (processor_of n now) (processor_of n (run ns m)) (history_of c now) (history_at ns m c (r.stood c)) ended (s.history c) (good.for_good (r.stood c) found)))
           ]
         ]
   ]
     where
-      stays_put : (k : ℕ) → Follows ns m (stepped k now) reached stood → StepsOn ns m (stepped k now) reached
-      stays_put k g = record { new_reached = reached; new_stood = stood; follows = g; further = λ x. omega arith }
+      stays_put : Follows ns m (stepped n now) r.reached r.stood → ComesTo ns m (stepped n now) t
+      stays_put g = record { reached = r.reached; stood = r.stood; follows = g; past = r.past }
 
-  follows_run : (others : List ℕ) (now : MachineState) → FollowsSomehow ns m now → FollowsSomehow ns m (run others now)
-  follows_run [] now some = some
-  follows_run (n ∷ others) now some =
-      let next = follows_step now some.reached some.stood some.follows n in
-      follows_run others (stepped n now) (record { reached = next.new_reached; stood = next.new_stood; follows = next.follows })
+  comes_in_run : (others : List ℕ) (now : MachineState) (t : ℕ) → ComesTo ns m now t → ComesTo ns m (run others now) t
+  comes_in_run [] now t r = r
+  comes_in_run (n ∷ others) now t r = comes_in_run others (stepped n now) t (comes_still now t n r)
 
-  follows_start : FollowsSomehow ns m m
-  follows_start =
+  at_start : ComesTo ns m m zero
+  at_start =
       let c : (q : ℕ) → CatchUp ns m q zero = λ q. catch_up ns m all each d (length ns) q zero (omega arith) (omega arith) in
       record {
         reached = λ q. (c q).to;
@@ -171,6 +154,7 @@ module _ (ns : List ℕ) (m : MachineState) (all : length m.processors ≡ proce
           };
           next = λ q. (c q).next;
         };
+        past = λ q. omega arith;
       }
 
   -- a step that waits may be taken back
@@ -241,17 +225,6 @@ module _ (ns : List ℕ) (m : MachineState) (all : length m.processors ≡ proce
         ];
       }
 
-  -- a step of any processor keeps what all have come to
-  comes_still : (now : MachineState) (t n : ℕ) → ComesTo ns m now t → ComesTo ns m (stepped n now) t
-  comes_still now t n r =
-      let next = follows_step now r.reached r.stood r.follows n in
-      record {
-        reached = next.new_reached;
-        stood = next.new_stood;
-        follows = next.follows;
-        past = λ x. (let before : t ≤ r.reached x = r.past x in let more : r.reached x ≤ next.new_reached x = next.further x in omega arith);
-      }
-
   -- and one of the processor that takes step t brings all past it
   comes_on : (now : MachineState) (t : ℕ) → t < length ns → ComesTo ns m now t → ComesTo ns m (stepped (get_or ns t 0) now) (suc t)
   comes_on now t within r =
@@ -284,10 +257,10 @@ module _ (ns : List ℕ) (m : MachineState) (all : length m.processors ≡ proce
       ]
 
   -- where the machine is quiet, all have come to the end
-  comes_to : (now : MachineState) → FollowsSomehow ns m now → IsQuiet now → (t : ℕ) → t ≤ length ns → ComesTo ns m now t
-  comes_to now some quiet zero h = record { reached = some.reached; stood = some.stood; follows = some.follows; past = λ q. omega arith }
-  comes_to now some quiet (suc t) h =
-      let r = comes_on now t (omega arith) (comes_to now some quiet t (omega arith)) in
+  comes_to : (now : MachineState) → ComesTo ns m now zero → IsQuiet now → (t : ℕ) → t ≤ length ns → ComesTo ns m now t
+  comes_to now first quiet zero h = first
+  comes_to now first quiet (suc t) h =
+      let r = comes_on now t (omega arith) (comes_to now first quiet t (omega arith)) in
       record {
         reached = r.reached;
         stood = r.stood;
@@ -299,15 +272,8 @@ module _ (ns : List ℕ) (m : MachineState) (all : length m.processors ≡ proce
   comes_through : (rest others : List ℕ) → IsEmbeddedIn rest others → (now : MachineState) (t : ℕ) → t ≤ length ns → drop t ns ≡ rest → ComesTo ns m now t → ComesTo ns m (run others now) (length ns)
   comes_through rest others (over others2) now t h e r =
       let ends : length ns ≤ t = omega (arith, length-drop t ns, ap (λ (ks : List ℕ). length ks) e) in
-      let some : FollowsSomehow ns m (run others2 now) = follows_run others2 now (record { reached = r.reached; stood = r.stood; follows = r.follows }) in
-      last others2 now (comes_from now t ends r)
-    where
-      comes_from : (k : MachineState) (u : ℕ) → length ns ≤ u → ComesTo ns m k u → ComesTo ns m k (length ns)
-      comes_from k u ends g = record { reached = g.reached; stood = g.stood; follows = g.follows; past = λ x. (let p : u ≤ g.reached x = g.past x in omega arith) }
-
-      last : (ks : List ℕ) (k : MachineState) → ComesTo ns m k (length ns) → ComesTo ns m (run ks k) (length ns)
-      last [] k g = g
-      last (n ∷ ks) k g = last ks (stepped n k) (comes_still k (length ns) n g)
+      comes_in_run others2 now (length ns)
+      (record { reached = r.reached; stood = r.stood; follows = r.follows; past = λ x. (let p : t ≤ r.reached x = r.past x in omega arith) })
   comes_through rest others (next n more others2 in_rest) now t h e r =
       let longer : length (drop t ns) ≡ suc (length more) = ap (λ (ks : List ℕ). length ks) e in
       let within : t < length ns = omega (arith, length-drop t ns) in
@@ -398,7 +364,7 @@ module _ (ns : List ℕ) (m : MachineState) (all : length m.processors ≡ proce
 
 pub shows_parts : (ns others : List ℕ) (m : MachineState) → length m.processors ≡ processor_count → length m.histories ≡ channel_count → IsDeterminate ns m → ShowsParts ns m (run others m)
 shows_parts ns others m all each d =
-    let some = follows_run ns m all each d others m (follows_start ns m all each d) in
+    let some = comes_in_run ns m all each d others m zero (at_start ns m all each d) in
     record {
       processors = λ q. (some.reached q, some.follows.stands.processor q);
       channels = λ c. (some.stood c, record { history = some.follows.stands.history c; made = some.follows.stands.made c });
@@ -406,14 +372,12 @@ shows_parts ns others m all each d =
 
 pub ends_alike : (ns others : List ℕ) (m : MachineState) → length m.processors ≡ processor_count → length m.histories ≡ channel_count → IsDeterminate ns m → IsQuiet (run others m) → AreAlike (run others m) (run ns m)
 ends_alike ns others m all each d quiet =
-    let some = follows_run ns m all each d others m (follows_start ns m all each d) in
-    alike_at_end ns m all each d (run others m) (comes_to ns m all each d (run others m) some quiet (length ns) (omega arith))
+    alike_at_end ns m all each d (run others m)
+    (comes_to ns m all each d (run others m) (comes_in_run ns m all each d others m zero (at_start ns m all each d)) quiet (length ns) (omega arith))
 
 pub comes_alike : (ns others : List ℕ) (m : MachineState) → length m.processors ≡ processor_count → length m.histories ≡ channel_count → IsDeterminate ns m → IsEmbeddedIn ns others → AreAlike (run others m) (run ns m)
 comes_alike ns others m all each d in_others =
-    let some = follows_start ns m all each d in
-    let first : ComesTo ns m m zero = record { reached = some.reached; stood = some.stood; follows = some.follows; past = λ q. omega arith } in
-    alike_at_end ns m all each d (run others m) (comes_through ns m all each d ns others in_others m zero (omega arith) refl first)
+    alike_at_end ns m all each d (run others m) (comes_through ns m all each d ns others in_others m zero (omega arith) refl (at_start ns m all each d))
 
 pub ends_quiet : (ns : List ℕ) (m : MachineState) → length m.processors ≡ processor_count → length m.histories ≡ channel_count → IsDeterminate ns m → IsQuiet (run ns m)
 ends_quiet ns m all each d = record { waits = quiet_end ns m all each d }

@@ -130,11 +130,8 @@ grows n c m each = by_need (need (processor_of n m)) refl
     ]
 
 length_by : (x : Need) (m : MachineState) → length (histories_after x m) ≡ length m.histories
-length_by Nothing m = refl
-length_by Local m = refl
-length_by (Read a) m = refl
-length_by (Write a w) m = refl
 length_by (Channel c op) m = length-set m.histories (channel_index c) (history_after op (history_of c m))
+length_by other m = refl
 
 pub length_histories : (n : ℕ) (m : MachineState) → length (stepped n m).histories ≡ length m.histories
 length_histories n m = ap (λ (hs : List (List Event)). length hs) (histories_by n m (need (processor_of n m)) refl) ∙ length_by (need (processor_of n m)) m
@@ -153,11 +150,9 @@ word_unless n a m none = by_need (need (processor_of n m)) refl
         ∙ get_or-set_other m.central b a w 0 (λ same. none w (subst (λ (k : ℕ). need (processor_of n m) ≡ Write k w) (sym same) e))
 
 length_central_by : (x : Need) (m : MachineState) → length (central_after x m) ≡ length m.central
-length_central_by Nothing m = refl
-length_central_by Local m = refl
-length_central_by (Read a) m = refl
 length_central_by (Write a w) m = length-set m.central a w
 length_central_by (Channel c op) m = refl
+length_central_by other m = refl
 
 pub length_central : (n : ℕ) (m : MachineState) → length (stepped n m).central ≡ length m.central
 length_central n m = ap (λ (ws : List ℕ). length ws) (central_by n m (need (processor_of n m)) refl) ∙ length_central_by (need (processor_of n m)) m
