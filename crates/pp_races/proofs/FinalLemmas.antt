@@ -30,7 +30,7 @@ use Rattle.pp_races.specs.declared.asking_step.AskingStep.{AskingStep}
 use Rattle.pp_races.specs.declared.finding.Finding.{Finding}
 use Rattle.pp_races.specs.declared.finding.Finding.TheVariants.{GoingOn, Shared}
 use Rattle.pp_races.proofs.MissedLemmas.{none_races}
-use Rattle.pp_races.proofs.SoundLemmas.{none_below, none_numbered, waits_there}
+use Rattle.pp_races.proofs.SoundLemmas.{none_below, none_numbered, not_true, waits_there}
 use Rattle.pp_races.proofs.Watching.{watched_settled, watched_steps}
 
 -- ---- flags that are set
@@ -96,10 +96,6 @@ no_held : (step : AskingStep) (race : Option Trace) → held_before step race �
 no_held step None is = refl
 no_held step (Some entry) is = absurd (cc)
 
-not_false : (b : Bool) → not b ≡ false → b ≡ true
-not_false true is = refl
-not_false false is = absurd cc
-
 -- ---- the whole
 
 module _ (ns : List ℕ) (m : MachineState) (w : Watch) (all : length m.processors ≡ processor_count) (each : length m.histories ≡ channel_count) (all_now : (t : ℕ) → length (at_moment ns m t).processors ≡ processor_count)
@@ -120,7 +116,7 @@ module _ (ns : List ℕ) (m : MachineState) (w : Watch) (all : length m.processo
             let k : ℕ = p + length (w.missed q c) - length (history_of c (run ns m)) in
             let d : Missed = missed_event (flags_of (history_of c (run ns m))) (entry_of q c Event.Activate (run ns m)) in
             let within : k < length (w.missed q c) = omega arith in
-            not_false (waits_at op (processor_of q (run ns m)) (flags_of (take p (history_of c (run ns m)))))
+            not_true (waits_at op (processor_of q (run ns m)) (flags_of (take p (history_of c (run ns m)))))
             (ap (λ h. not (waits_at op (processor_of q (run ns m)) (flags_of (take p h)))) (sym end)
             ∙ ap (λ f. not (waits_at op (processor_of q (run ns m)) f)) (sym (missed.each p k d within (omega arith)))
             ∙ none_races (λ f. not (waits_at op (processor_of q (run ns m)) f)) (w.missed q c) none k d within)
@@ -129,8 +125,6 @@ module _ (ns : List ℕ) (m : MachineState) (w : Watch) (all : length m.processo
   settled_by : (q : ℕ) → IsTrue (names_processor q) → (x : Need) → need (processor_of q (run ns m)) ≡ x → end_by_need x q (run ns m) w ≡ [] → IsSettled ns m q
   settled_by q named Need.Nothing e none = inl ((nothing_at_rest (processor_of q (run ns m))).0 e)
   settled_by q named Need.Local e none = inr (inl (record { needs = e; stays = turns q named e (going_apart (turns_in_place (processor_of q (run ns m))) q none) }))
-  settled_by q named (Need.Read a) e none = absurd (cc)
-  settled_by q named (Need.Write a v) e none = absurd (cc)
   settled_by q named (Channel c op) e none =
       let parts = held_apart (waits_at op (processor_of q (run ns m)) (flags_of (history_of c (run ns m)))) _ q none in
       inr (inr (
@@ -139,6 +133,7 @@ module _ (ns : List ℕ) (m : MachineState) (w : Watch) (all : length m.processo
         watched_settled ns m each (least_of w (at_moment ns m (length ns))) (open_of w) s.watched q c op e
             (waits_all q c op e parts.0 (no_held (asking_step q c (run ns m)) _ parts.1)),
       ))
+  settled_by q named other e none = absurd (cc)
 
   settled : (q : ℕ) → IsSettled ns m q
   settled q = elim (cases_lt (processor_index q) processor_count) [

@@ -1,4 +1,5 @@
 -- Something of each of the four flags is something of all flags.
+use Rattle.std.proofs.lemmas.Bool.{or_left, or_right, or_parts}
 use Rattle.std.proofs.Common.{Bool, true, false, ◌≡◌, Some, None, refl, sym, ◌∙◌}
 use Rattle.std.specs.Prelude.{◌||◌, ◌&&◌, not, if◌then◌else◌}
 use Rattle.std.specs.Option.{option_or}
@@ -38,14 +39,6 @@ kept_by_four was new alike step i j e f flags =
     new.inactive new.inactive_full new.empty new.full i j e f
 
 -- ---- one more, and both
-
-or_left : (a b : Bool) → a ≡ true → (a || b) ≡ true
-or_left true b is = refl
-or_left false b is = absurd cc
-
-or_right : (a b : Bool) → b ≡ true → (a || b) ≡ true
-or_right true b is = refl
-or_right false b is = is
 
 module _ (set new : FlagSet) (flags : Flags)
     (i : new.inactive ≡ (set.inactive || (not flags.active && not flags.full)))
@@ -88,14 +81,10 @@ apart_at one other true false i j e u is = off one.empty other.empty e is
 apart_at one other false true i j e u is = off one.inactive_full other.inactive_full j is
 apart_at one other false false i j e u is = off one.inactive other.inactive i is
 
-pub neither : (a b : Bool) → (a || b) ≡ false → (a ≡ false) × (b ≡ false)
-neither false b is = (refl, is)
-neither true b is = absurd cc
-
 pub apart : (one other : FlagSet) (b : Bool) → b ≡ (one.inactive && other.inactive || one.inactive_full && other.inactive_full || one.empty && other.empty || one.full && other.full)
     → b ≡ false → (f : Flags) → has other f ≡ true → has one f ≡ false
 apart one other b is none f =
-    let all = neither _ _ (sym is ∙ none) in
-    let three = neither _ _ all.0 in
-    let two = neither _ _ three.0 in
+    let all = or_parts _ _ (sym is ∙ none) in
+    let three = or_parts _ _ all.0 in
+    let two = or_parts _ _ three.0 in
     apart_at one other f.active f.full two.0 two.1 three.1 all.1

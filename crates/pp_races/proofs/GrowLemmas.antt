@@ -53,10 +53,7 @@ behind_asked n c op None m w = by_wait (waits_at op (processor_of n m) (flags_of
 
 pub behind : (x : Need) (n : ℕ) (m : MachineState) (w : Watch) → IsBehind w.findings (watched_need x n m w) (watched_need x n m (forgotten w))
 behind (Need.Channel c op) n m w = behind_asked n c op (event_of op (history_of c m)) m w
-behind Need.Nothing n m w = record { missed = refl; looks = refl; findings = sym (append-nil w.findings) }
-behind Need.Local n m w = record { missed = refl; looks = refl; findings = sym (append-nil w.findings) }
-behind (Need.Read a) n m w = record { missed = refl; looks = refl; findings = sym (append-nil w.findings) }
-behind (Need.Write a v) n m w = record { missed = refl; looks = refl; findings = sym (append-nil w.findings) }
+behind other n m w = record { missed = refl; looks = refl; findings = sym (append-nil w.findings) }
 
 -- the tables after a step, of which the findings are taken away
 pub forgets : (some : List Finding) (m : MachineState) (now other : Watch) (low : List Low) (looks : List Looks) (found : List Finding) → IsBehind some now other → AreWatched m other low looks found

@@ -1,7 +1,7 @@
 -- Where a channel was last found with which flags.
 use Rattle.std.proofs.Common.{◌≡◌, ◌≢◌, ℕ, ◌+◌, ◌<◌, ◌≤◌, Bool, true, false, IsTrue, List, [], ◌∷◌, ◌++◌, length, drop, slice_set, get_or, Some, refl, sym, ap, ◌∙◌, subst, inl, inr, arith, lt-ltb}
 use Rattle.std.specs.Prelude.{◌||◌, ◌&&◌, ◌⊎◌, nat_lt, replicate, if◌then◌else◌}
-use Rattle.std.proofs.lemmas.Bool.{cases_eq, cases_lt}
+use Rattle.std.proofs.lemmas.Bool.{cases_eq, cases_lt, or_parts}
 use Rattle.std.proofs.lemmas.List.{drop-append-le, drop_all, get_or-replicate, get_or-set_other, get_or-set_same, length_push}
 use Rattle.pp_channel.specs.Answer.{flags_after}
 use Rattle.pp_channel.specs.ChannelNo.{channel_count, channel_index, names_channel}
@@ -15,7 +15,6 @@ use Rattle.pp_races.specs.Watch.{from_alike, missed_event}
 use Rattle.pp_races.specs.declared.flag_set.FlagSet.{FlagSet}
 use Rattle.pp_races.specs.declared.latest.Latest.{Latest}
 use Rattle.pp_races.specs.declared.low.Low.{Low}
-use Rattle.pp_races.proofs.FlagSetLemmas.{neither}
 use Rattle.pp_races.proofs.LowLemmas.{alike_none, alike_passed, missed_nil, missed_push, missed_push_other, through_nil, through_push, through_push_other}
 use Rattle.pp_races.proofs.SpanLemmas.{alike_append}
 
@@ -167,8 +166,8 @@ pub none_later : (latest : Latest) (low : Low) (set : FlagSet) (b : Bool)
     → b ≡ (has set low.flags || set.inactive && nat_lt low.from latest.inactive || set.inactive_full && nat_lt low.from latest.inactive_full || set.empty && nat_lt low.from latest.empty || set.full && nat_lt low.from latest.full)
     → (c : ℕ) (trace : List Trace) → IsLatest c trace latest → b ≡ false → from_alike (λ f. has set f) (missed_at c low trace) ≡ []
 none_later latest low set b is c trace are none =
-    let four = neither _ _ (sym is ∙ none) in
-    let three = neither _ _ four.0 in
-    let two = neither _ _ three.0 in
-    let one = neither _ _ two.0 in
+    let four = or_parts _ _ (sym is ∙ none) in
+    let three = or_parts _ _ four.0 in
+    let two = or_parts _ _ three.0 in
+    let one = or_parts _ _ two.0 in
     are.none (λ f. has set f) low.from low.flags one.0 (λ g holds. past_at latest low set one.1 two.1 three.1 four.1 g.active g.full holds)

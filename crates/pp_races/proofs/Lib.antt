@@ -18,7 +18,6 @@ mod RunLemmas
 mod FinalLemmas
 mod AlikeLemmas
 mod PositionLemmas
-mod PositionAt
 mod SettledLemmas
 mod EndLemmas
 mod UseLemmas

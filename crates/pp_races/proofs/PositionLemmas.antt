@@ -1,20 +1,25 @@
--- An operation that makes no event changes of a processor no more than its position tells.
-use Rattle.std.proofs.Common.{◌≡◌, ℕ, Bool, true, false, Option, Some, None, refl, sym, ap, ap₂, ◌∙◌, subst}
-use Rattle.std.specs.Prelude.{◌&&◌, not, is_some, if◌then◌else◌}
-use Rattle.pp_channel.specs.Answer.{reply_shown}
+-- Where an operation that makes no event leaves a processor: its position is told by its registers
+-- alone, and it changes no more than its position tells.
+use Rattle.std.proofs.Common.{◌≡◌, ℕ, Bool, true, false, List, length, get_or, inl, inr, Option, Some, None, refl, sym, ap, ◌∙◌, subst}
+use Rattle.std.proofs.Math.Path.{fun_ext}
+use Rattle.std.specs.Prelude.{◌&&◌, ◌==◌, ◌⊎◌, not, is_some, slice_index, slice_set, if◌then◌else◌}
+use Rattle.std.proofs.lemmas.Bool.{cases_eq, cases_lt, ne_eqb}
+use Rattle.std.proofs.lemmas.List.{get_or-set_other, get_or-set_same, get_or_past, set_past}
+use Rattle.pp_channel.specs.Answer.{only_looks, reply_shown}
 use Rattle.pp_channel.specs.declared.chan_op.ChanOp.{ChanOp}
 use Rattle.pp_channel.specs.declared.flags.Flags.{Flags}
-use Rattle.pp_word.specs.Opcode.{length_of}
+use Rattle.pp_word.specs.Address.{next_place, place_after}
+use Rattle.pp_word.specs.Opcode.{code_of, length_of}
 use Rattle.pp_word.specs.declared.opcode.Opcode.{Opcode}
-use Rattle.pp_word.specs.declared.opcode.Opcode.TheVariants.{AJM, IJM, FJM, EJM}
+use Rattle.pp_word.specs.declared.opcode.Opcode.TheVariants.{AJM, IJM, FJM, EJM, OAN, ACN, DCN, FAN, FNC}
 use Rattle.pp_machine.specs.Block.{block_word, cut_short, held}
 use Rattle.pp_machine.specs.Effect.{branches_where}
 use Rattle.pp_machine.specs.InstructionTable.{table, works_on_channel}
 use Rattle.pp_machine.specs.NeedAndEffect.{answered, if_running, need, next_step, processor_after, step_of}
-use Rattle.pp_machine.specs.Operand.{lower_six, operation}
-use Rattle.pp_machine.specs.Processor.{Processor}
+use Rattle.pp_machine.specs.Operand.{lower_six, operation, second_word}
+use Rattle.pp_machine.specs.Processor.{Processor, word_at}
 use Rattle.pp_machine.specs.Profile.{has_channel}
-use Rattle.pp_machine.specs.Step.{Step, need_of, local, probes, takes, does, reads, writes}
+use Rattle.pp_machine.specs.Step.{Step, need_of, local, probes, takes, does}
 use Rattle.pp_machine.specs.declared.answer.Answer.{Answer}
 use Rattle.pp_machine.specs.declared.block.Block.{Block}
 use Rattle.pp_machine.specs.declared.block.BlockKind.{BlockKind}
@@ -22,8 +27,10 @@ use Rattle.pp_machine.specs.declared.block.BlockKind.TheVariants.{CentralIn, Cen
 use Rattle.pp_machine.specs.declared.need.Need.{Need}
 use Rattle.pp_machine.specs.declared.need.Need.TheVariants.{Channel}
 use Rattle.pp_machine.specs.declared.pp_state.PpState.{PpState}
-use Rattle.pp_machine.specs.declared.pp_state.PpState.TheVariants.{Running, Stopped, Fault}
-use Rattle.pp_races.specs.OtherFlags.{is_same, position_of, shown_to}
+use Rattle.pp_machine.specs.declared.pp_state.PpState.TheVariants.{Running}
+use Rattle.pp_races.specs.OtherFlags.{position_at, position_of, is_same, shown_to}
+use Rattle.pp_races.specs.Positions.{cut_position, held_position, position_shown, tests_flags}
+use Rattle.pp_races.specs.declared.position.Position.{Position}
 use Rattle.pp_races.proofs.AlikeLemmas.{position_same}
 
 -- what flags leave a processor, where its position tells it all
@@ -58,10 +65,9 @@ branch_agrees pp n test = record {
 -- ---- a processor that is held stays, or its block ends
 
 cut_apart : (kind : BlockKind) (place : ℕ) (pp : Processor) (block : Block) → pp.block ≡ Some block → is_some (cut_short kind place pp).block ≡ is_some pp.block → cut_short kind place pp ≡ pp
-cut_apart (Input channel) place pp block in_block is = (let bad : false ≡ true = is ∙ ap is_some in_block in absurd (cc))
-cut_apart (Output channel) place pp block in_block is = (let bad : false ≡ true = is ∙ ap is_some in_block in absurd (cc))
 cut_apart (CentralIn left) place pp block in_block is = refl
 cut_apart (CentralOut left) place pp block in_block is = refl
+cut_apart other place pp block in_block is = (let bad : false ≡ true = is ∙ ap is_some in_block in absurd (cc))
 
 held_alike : (pp : Processor) (block : Block) (a b : Bool) → pp.block ≡ Some block
     → is_some (if a then pp else cut_short block.kind block.place pp).block ≡ is_some (if b then pp else cut_short block.kind block.place pp).block
@@ -80,62 +86,107 @@ held_agrees pp (Some block) in_block = record {
 
 -- ---- each step
 
--- a step that tests flags branches by them
-abbrev Branches : Processor → Step → Type 0
-Branches pp (probes channel after) = (test : Flags → Bool) × (n : ℕ) × ((f : Flags) → after f ≡ branches_where (test f) pp n)
-Branches pp step = Unit {0}
+-- a step that tests flags branches by its code, and no other operation only looks
+abbrev Tests : ℕ → Processor → Step → Type 0
+Tests code pp (probes channel after) = (f : Flags) → after f ≡ branches_where (tests_flags code f) pp 2
+Tests code pp (does channel oper after) = only_looks oper ≡ false
+Tests code pp step = Unit {0}
 
-row_branches : (op : Opcode) (pp : Processor) (d n : ℕ) → Branches pp (table op pp d n)
-row_branches AJM pp d n = ((λ f. f.active), n, (λ f. refl))
-row_branches IJM pp d n = ((λ f. not f.active), n, (λ f. refl))
-row_branches FJM pp d n = ((λ f. f.full), n, (λ f. refl))
-row_branches EJM pp d n = ((λ f. not f.full), n, (λ f. refl))
-row_branches op pp d n = tt
+row_tests : (op : Opcode) (pp : Processor) (d : ℕ) → Tests (code_of op) pp (table op pp d (length_of op))
+row_tests OAN pp d = refl
+row_tests ACN pp d = refl
+row_tests DCN pp d = refl
+row_tests FAN pp d = refl
+row_tests FNC pp d = refl
+row_tests AJM pp d = λ f. refl
+row_tests IJM pp d = λ f. refl
+row_tests FJM pp d = λ f. refl
+row_tests EJM pp d = λ f. refl
+row_tests op pp d = tt
 
-unless_faults : (b : Bool) (pp fault : Processor) (step : Step) → Branches pp step → Branches pp (if b then local fault else step)
-unless_faults true pp fault step is = tt
-unless_faults false pp fault step is = is
+unless_faults : (b : Bool) (code : ℕ) (pp fault : Processor) (step : Step) → Tests code pp step → Tests code pp (if b then local fault else step)
+unless_faults true code pp fault step is = tt
+unless_faults false code pp fault step is = is
 
-block_branches : (kind : BlockKind) (place : ℕ) (pp : Processor) → Branches pp (block_word kind place pp)
-block_branches (Input channel) place pp = tt
-block_branches (Output channel) place pp = tt
-block_branches (CentralIn left) place pp = tt
-block_branches (CentralOut left) place pp = tt
+block_tests : (kind : BlockKind) (place code : ℕ) (pp : Processor) → Tests code pp (block_word kind place pp)
+block_tests (Output channel) place code pp = refl
+block_tests other place code pp = tt
 
-step_branches : (b : Option Block) (pp : Processor) → Branches pp (step_of b pp)
-step_branches None pp = unless_faults (works_on_channel (operation pp) && not (has_channel pp.profile (lower_six pp))) pp _ (table (operation pp) pp (lower_six pp) (length_of (operation pp))) (row_branches (operation pp) pp (lower_six pp) (length_of (operation pp)))
-step_branches (Some block) pp = block_branches block.kind block.place pp
+step_tests : (b : Option Block) (pp : Processor) → Tests (code_of (operation pp)) pp (step_of b pp)
+step_tests None pp = unless_faults (works_on_channel (operation pp) && not (has_channel pp.profile (lower_six pp))) (code_of (operation pp)) pp _ (table (operation pp) pp (lower_six pp) (length_of (operation pp))) (row_tests (operation pp) pp (lower_six pp))
+step_tests (Some block) pp = block_tests block.kind block.place (code_of (operation pp)) pp
 
-abbrev answered_at : Step → ChanOp → Processor → Flags → Processor
-answered_at step op pp f = answered step pp (Answer.Channel (reply_shown op (record { flags = f; register = None })))
+-- What an operation that makes no event leaves of a processor: a probe branches, each other leaves
+-- it held, or ends its block.
+module _ (P : ChanOp → (Flags → Processor) → Type 0) (pp : Processor) (branches : P ChanOp.Probe (λ f. branches_where (tests_flags (code_of (operation pp)) f) pp 2))
+    (stays : (op : ChanOp) → only_looks op ≡ false → P op (λ f. held pp.block pp f)) where
+  abbrev answered_at : Step → ChanOp → Flags → Processor
+  answered_at step op f = answered step pp (Answer.Channel (reply_shown op (record { flags = f; register = None })))
 
-does_agrees : (channel : ℕ) (op : ChanOp) (after pp : Processor) → Agrees pp (λ f. answered_at (does channel op after) op pp f)
-does_agrees channel ChanOp.Probe after pp = stays_agrees pp
-does_agrees channel op after pp = held_agrees pp pp.block refl
+  does_held : (channel : ℕ) (op : ChanOp) (after : Processor) → only_looks op ≡ false → P op (λ f. answered_at (does channel op after) op f)
+  does_held channel ChanOp.Probe after is = absurd cc
+  does_held channel op after is = stays op is
 
-step_agrees : (step : Step) (c : ℕ) (op : ChanOp) (pp : Processor) → need_of step ≡ Channel c op → Branches pp step → Agrees pp (λ f. answered_at step op pp f)
-step_agrees (local after) c op pp e is = absurd cc
-step_agrees (reads a after) c op pp e is = absurd cc
-step_agrees (writes a w after) c op pp e is = absurd cc
-step_agrees (probes channel after) c op pp e is =
-    let probe : ChanOp.Probe ≡ op = cc in
-    subst (λ (o : ChanOp). Agrees pp (λ f. answered_at (probes channel after) o pp f)) probe (record {
-      alike = λ f g same. is.2 f ∙ (branch_agrees pp is.1 is.0).alike f g (ap₂ (λ p q. is_same (position_of p) (position_of q)) (sym (is.2 f)) (sym (is.2 g)) ∙ same) ∙ sym (is.2 g);
-      still = λ f same. is.2 f ∙ (branch_agrees pp is.1 is.0).still f (ap (λ p. is_same (position_of p) (position_of pp)) (sym (is.2 f)) ∙ same);
-    })
-step_agrees (takes channel after) c op pp e is =
-    let take : ChanOp.Take ≡ op = cc in
-    subst (λ (o : ChanOp). Agrees pp (λ f. answered_at (takes channel after) o pp f)) take (held_agrees pp pp.block refl)
-step_agrees (does channel oper after) c op pp e is =
-    let same : oper ≡ op = cc in
-    subst (λ (o : ChanOp). Agrees pp (λ f. answered_at (does channel oper after) o pp f)) same (does_agrees channel oper after pp)
+  left_by : (step : Step) (c : ℕ) (op : ChanOp) → need_of step ≡ Channel c op → Tests (code_of (operation pp)) pp step → P op (λ f. answered_at step op f)
+  left_by (probes channel after) c op e is =
+      let probe : ChanOp.Probe ≡ op = cc in
+      subst (λ (o : ChanOp). P o (λ f. answered_at (probes channel after) o f)) probe (subst (λ (of : Flags → Processor). P ChanOp.Probe of) (sym (fun_ext is)) branches)
+  left_by (takes channel after) c op e is =
+      let take : ChanOp.Take ≡ op = cc in
+      subst (λ (o : ChanOp). P o (λ f. answered_at (takes channel after) o f)) take (stays ChanOp.Take refl)
+  left_by (does channel oper after) c op e is =
+      let same : oper ≡ op = cc in
+      subst (λ (o : ChanOp). P o (λ f. answered_at (does channel oper after) o f)) same (does_held channel oper after is)
+  left_by other c op e is = absurd cc
 
-by_state : (state : PpState) (c : ℕ) (op : ChanOp) (pp : Processor) → pp.state ≡ state → need pp ≡ Channel c op → Agrees pp (λ f. shown_to op pp f)
-unfolding need processor_after
-by_state Running c op pp is e = subst (λ (s : PpState). Agrees pp (λ f. if_running s (answered (next_step pp) pp (Answer.Channel (reply_shown op (record { flags = f; register = None })))) pp)) (sym is)
-    (step_agrees (next_step pp) c op pp (sym (ap (λ (s : PpState). if_running s (need_of (next_step pp)) Need.Nothing) is) ∙ e) (step_branches pp.block pp))
-by_state Stopped c op pp is e = (let bad : Need.Nothing ≡ Channel c op = sym (ap (λ (s : PpState). if_running s (need_of (next_step pp)) Need.Nothing) is) ∙ e in absurd (cc))
-by_state (Fault number) c op pp is e = (let bad : Need.Nothing ≡ Channel c op = sym (ap (λ (s : PpState). if_running s (need_of (next_step pp)) Need.Nothing) is) ∙ e in absurd (cc))
+  by_state : (state : PpState) (c : ℕ) (op : ChanOp) → pp.state ≡ state → need pp ≡ Channel c op → P op (λ f. shown_to op pp f)
+  unfolding need processor_after
+  by_state Running c op is e = subst (λ (s : PpState). P op (λ f. if_running s (answered (next_step pp) pp (Answer.Channel (reply_shown op (record { flags = f; register = None })))) pp)) (sym is)
+      (left_by (next_step pp) c op (sym (ap (λ (s : PpState). if_running s (need_of (next_step pp)) Need.Nothing) is) ∙ e) (step_tests pp.block pp))
+  by_state state c op is e = (let bad : Need.Nothing ≡ Channel c op = sym (ap (λ (s : PpState). if_running s (need_of (next_step pp)) Need.Nothing) is) ∙ e in absurd (cc))
+
+  shown : (c : ℕ) (op : ChanOp) → need pp ≡ Channel c op → P op (λ f. shown_to op pp f)
+  shown c op e = by_state pp.state c op refl e
 
 pub agrees : (c : ℕ) (op : ChanOp) (pp : Processor) → need pp ≡ Channel c op → Agrees pp (λ f. shown_to op pp f)
-agrees c op pp e = by_state pp.state c op pp refl e
+agrees c op pp e = shown (λ o of. Agrees pp of) pp (branch_agrees pp 2 (λ f. tests_flags (code_of (operation pp)) f)) (λ o is. held_agrees pp pp.block refl) c op e
+
+-- ---- positions
+
+cut_is : (kind : BlockKind) (place : ℕ) (pp : Processor) → cut_position kind place pp ≡ position_of (cut_short kind place pp)
+cut_is (Output channel) place pp = refl
+cut_is (CentralIn left) place pp = refl
+cut_is (CentralOut left) place pp = refl
+cut_is (Input channel) place pp = ap (λ k. record { p = next_place k; in_block = false }) (by_place place (cases_eq place 0))
+  where
+    by_place : (k : ℕ) → (k ≡ 0) ⊎ (k ≡ 0 → ⊥) → (if k == 0 then 0 else word_at pp 0) ≡ slice_index (slice_set pp.memory k 0) 0
+    by_place k (inl is) =
+        ap (λ j. if j == 0 then 0 else word_at pp 0) is
+        ∙ elim (cases_lt 0 (length pp.memory)) [
+          | inl below ↦ sym (get_or-set_same pp.memory 0 0 0 below)
+          | inr past ↦ sym (ap (λ (ws : List ℕ). get_or ws 0 0) (set_past pp.memory 0 0 past) ∙ get_or_past pp.memory 0 0 past)
+        ]
+        ∙ ap (λ j. slice_index (slice_set pp.memory j 0) 0) (sym is)
+    by_place k (inr apart) =
+        ap (λ (t : Bool). if t then 0 else word_at pp 0) (ne_eqb k 0 apart)
+        ∙ sym (get_or-set_other pp.memory k 0 0 0 (λ is. apart (sym is)))
+
+held_by : (a : Bool) (kind : BlockKind) (place : ℕ) (pp : Processor) → (if a then position_of pp else cut_position kind place pp) ≡ position_of (if a then pp else cut_short kind place pp)
+held_by true kind place pp = refl
+held_by false kind place pp = cut_is kind place pp
+
+held_position_is : (b : Option Block) (pp : Processor) (f : Flags) → held_position b pp f ≡ position_of (held b pp f)
+held_position_is None pp f = refl
+held_position_is (Some block) pp f = held_by f.active block.kind block.place pp
+
+branch_by : (t : Bool) (pp : Processor) → ◌≡◌ {A = Position} (record { p = if t then second_word pp else place_after pp.p 2; in_block = is_some pp.block }) (position_of (branches_where t pp 2))
+branch_by true pp = refl
+branch_by false pp = refl
+
+held_shown : (op : ChanOp) (pp : Processor) → only_looks op ≡ false → (f : Flags) → position_shown op pp f ≡ position_of (held pp.block pp f)
+held_shown ChanOp.Probe pp is f = absurd cc
+held_shown op pp is f = held_position_is pp.block pp f
+
+pub shown_position : (c : ℕ) (op : ChanOp) (pp : Processor) (f : Flags) → need pp ≡ Channel c op → position_shown op pp f ≡ position_at op pp f
+shown_position c op pp f e =
+    shown (λ o of. (g : Flags) → position_shown o pp g ≡ position_of (of g)) pp (λ g. branch_by (tests_flags (code_of (operation pp)) g) pp) (λ o is. held_shown o pp is) c op e f

@@ -1,7 +1,7 @@
 -- A run that is watched to its end.
 use Rattle.std.proofs.Common.{◌≡◌, ℕ, zero, suc, ◌+◌, ◌<◌, ◌≤◌, Bool, true, false, IsTrue, List, [], ◌∷◌, ◌++◌, length, take, get_or, Option, Some, None, refl, sym, ap, ◌∙◌, subst, inl, inr, arith}
-use Rattle.std.specs.Prelude.{◌==◌, ◌&&◌, ◌||◌, if◌then◌else◌}
-use Rattle.std.proofs.lemmas.Bool.{and_from, cases_lt, eq-eqb}
+use Rattle.std.specs.Prelude.{◌==◌, ◌&&◌, if◌then◌else◌}
+use Rattle.std.proofs.lemmas.Bool.{and_from, cases_lt, eq-eqb, or_left, or_right}
 use Rattle.std.proofs.lemmas.List.{get_or_append_left, get_or_push, take-append-le, take_all}
 use Rattle.pp_channel.specs.Answer.{event_of, flags_of}
 use Rattle.pp_channel.specs.ChannelNo.{channel_count}
@@ -37,14 +37,6 @@ use Rattle.pp_races.proofs.Watching.{watched_checked}
 
 -- ---- one step more
 
-or_left : (a b : Bool) → a ≡ true → (a || b) ≡ true
-or_left true b is = refl
-or_left false b is = absurd cc
-
-or_right : (a b : Bool) → b ≡ true → (a || b) ≡ true
-or_right true b is = refl
-or_right false b is = is
-
 found_before_asked : (n c : ℕ) (op : ChanOp) (o : Option Event) (m : MachineState) (w : Watch) → (asked n c op o m w).findings ≡ [] → w.findings ≡ []
 found_before_asked n c op (Some event) m w is = none_first w.findings _ (none_first _ _ is)
 found_before_asked n c op None m w is = by_wait (waits_at op (processor_of n m) (flags_of (history_of c m))) is
@@ -55,24 +47,18 @@ found_before_asked n c op None m w is = by_wait (waits_at op (processor_of n m) 
 
 pub found_before : (x : Need) (n : ℕ) (m : MachineState) (w : Watch) → (watched_need x n m w).findings ≡ [] → w.findings ≡ []
 found_before (Need.Channel c op) n m w is = found_before_asked n c op (event_of op (history_of c m)) m w is
-found_before Need.Nothing n m w is = is
-found_before Need.Local n m w is = is
-found_before (Need.Read a) n m w is = is
-found_before (Need.Write a v) n m w is = is
+found_before other n m w is = is
 
 used_still : (x : Need) (n : ℕ) (m : MachineState) (w : Watch) (a q : ℕ) → w.used a q ≡ true → (watched_need x n m w).used a q ≡ true
 used_still (Need.Channel c op) n m w a q is = ap (λ (f : ℕ → ℕ → Bool). f a q) (same_asked n c op (event_of op (history_of c m)) m w).0 ∙ is
-used_still Need.Nothing n m w a q is = is
-used_still Need.Local n m w a q is = is
 used_still (Need.Read b) n m w a q is = or_left (w.used a q) (a == b && q == n) is
 used_still (Need.Write b v) n m w a q is = or_left (w.used a q) (a == b && q == n) is
+used_still other n m w a q is = is
 
 wrote_still : (x : Need) (n : ℕ) (m : MachineState) (w : Watch) (a q : ℕ) → w.wrote a q ≡ true → (watched_need x n m w).wrote a q ≡ true
 wrote_still (Need.Channel c op) n m w a q is = ap (λ (f : ℕ → ℕ → Bool). f a q) (same_asked n c op (event_of op (history_of c m)) m w).1 ∙ is
-wrote_still Need.Nothing n m w a q is = is
-wrote_still Need.Local n m w a q is = is
-wrote_still (Need.Read b) n m w a q is = is
 wrote_still (Need.Write b v) n m w a q is = or_left (w.wrote a q) (a == b && q == n) is
+wrote_still other n m w a q is = is
 
 both_same : (a n : ℕ) → (a == a && n == n) ≡ true
 both_same a n = and_from (a == a) (n == n) (eq-eqb a a refl) (eq-eqb n n refl)

@@ -1,7 +1,7 @@
 -- Processors that stay as they are.
-use Rattle.std.proofs.Common.{◌≡◌, ℕ, zero, suc, ◌+◌, ◌<◌, Bool, true, false, Option, Some, None, refl, sym, ap, ◌∙◌, subst, inl, inr, add-one, arith}
+use Rattle.std.proofs.Common.{◌≡◌, ℕ, zero, suc, ◌+◌, ◌<◌, true, false, Option, Some, None, refl, sym, ap, ◌∙◌, subst, inl, inr, add-one, arith}
 use Rattle.std.specs.Prelude.{◌==◌, ◌&&◌, is_some}
-use Rattle.std.proofs.lemmas.Bool.{and_parts, cases_lt, eq-eqb, ne_eqb}
+use Rattle.std.proofs.lemmas.Bool.{and_parts, cases_lt, eq-eqb, ne_eqb, and_right}
 use Rattle.std.proofs.lemmas.List.{ext_get_or}
 use Rattle.pp_machine.specs.Processor.{Processor, word_at}
 use Rattle.pp_machine.specs.Block.{block_word}
@@ -10,19 +10,15 @@ use Rattle.pp_machine.specs.PpMemory.{IsMemory}
 use Rattle.pp_machine.specs.Step.{need_of}
 use Rattle.pp_machine.specs.declared.block.Block.{Block}
 use Rattle.pp_machine.specs.declared.block.BlockKind.{BlockKind}
-use Rattle.pp_machine.specs.declared.block.BlockKind.TheVariants.{CentralIn, CentralOut, Input, Output}
+use Rattle.pp_machine.specs.declared.block.BlockKind.TheVariants.{Input}
 use Rattle.pp_machine.specs.declared.need.Need.{Need}
 use Rattle.pp_machine.specs.declared.pp_state.PpState.{PpState}
-use Rattle.pp_machine.specs.declared.pp_state.PpState.TheVariants.{Running, Stopped, Fault}
+use Rattle.pp_machine.specs.declared.pp_state.PpState.TheVariants.{Running}
 use Rattle.pp_machine.specs.declared.profile.Profile.{Profile}
 use Rattle.pp_races.specs.Findings.{is_running, same_profile, same_words, stays_running}
 use Rattle.pp_races.specs.OtherFlags.{is_same, position_of}
 use Rattle.pp_races.proofs.AlikeLemmas.{position_same}
 use Rattle.pp_races.proofs.EntryLemmas.{is_equal}
-
-and_false : (b : Bool) → (b && false) ≡ false
-and_false true = refl
-and_false false = refl
 
 pub words_none : (one other : Processor) → same_words 0 one other ≡ true
 unfolding same_words
@@ -42,7 +38,7 @@ words_apart one other (suc n) place low apart = elim (cases_lt place n) [
   | inr past ↦
       let here : place ≡ n = omega arith in
       ap (λ k. same_words n one other && word_at one k == word_at other k) (sym here)
-      ∙ ap (λ b. same_words n one other && b) (ne_eqb (word_at one place) (word_at other place) apart) ∙ and_false (same_words n one other)
+      ∙ ap (λ b. same_words n one other && b) (ne_eqb (word_at one place) (word_at other place) apart) ∙ and_right (same_words n one other) false refl
 ]
 
 -- ---- a processor that stays
@@ -65,21 +61,17 @@ profile_same Profile.Twenty Profile.Ten is = absurd cc
 
 runs_on : (state : PpState) → is_running state ≡ true → state ≡ Running
 runs_on Running is = refl
-runs_on Stopped is = absurd cc
-runs_on (Fault number) is = absurd cc
+runs_on other is = absurd cc
 
 no_local_block : (kind : BlockKind) (place : ℕ) (pp : Processor) → need_of (block_word kind place pp) ≡ Need.Local → ⊥
 no_local_block (Input channel) place pp is = cc
-no_local_block (Output channel) place pp is = cc
-no_local_block (CentralIn left) place pp is = cc
-no_local_block (CentralOut left) place pp is = cc
+no_local_block other place pp is = cc
 
 -- a processor whose step needs nothing from outside is running, and in no block
 local_state : (state : PpState) (pp : Processor) → pp.state ≡ state → need pp ≡ Need.Local → (pp.state ≡ Running) × (need_of (next_step pp) ≡ Need.Local)
 unfolding need
 local_state Running pp is e = (is, sym (ap (λ (s : PpState). if_running s (need_of (next_step pp)) Need.Nothing) is) ∙ e)
-local_state Stopped pp is e = (let bad : Need.Nothing ≡ Need.Local = sym (ap (λ (s : PpState). if_running s (need_of (next_step pp)) Need.Nothing) is) ∙ e in absurd (cc))
-local_state (Fault number) pp is e = (let bad : Need.Nothing ≡ Need.Local = sym (ap (λ (s : PpState). if_running s (need_of (next_step pp)) Need.Nothing) is) ∙ e in absurd (cc))
+local_state other pp is e = (let bad : Need.Nothing ≡ Need.Local = sym (ap (λ (s : PpState). if_running s (need_of (next_step pp)) Need.Nothing) is) ∙ e in absurd (cc))
 
 local_block : (b : Option Block) (pp : Processor) → pp.block ≡ b → need_of (next_step pp) ≡ Need.Local → pp.block ≡ None
 local_block None pp is e = is

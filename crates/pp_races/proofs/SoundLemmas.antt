@@ -2,7 +2,7 @@
 use Rattle.std.proofs.Common.{◌≡◌, ◌≢◌, ℕ, zero, suc, ◌+◌, ◌-◌, ◌<◌, ◌≤◌, Bool, true, false, IsTrue, List, [], ◌∷◌, ◌++◌, length, get_or, Option, Some, None, refl, sym, ap, ◌∙◌, subst, inl, inr, arith}
 use Rattle.std.specs.Prelude.{◌==◌, ◌||◌, ◌⊎◌, not, is_some, is_none, if◌then◌else◌}
 use Rattle.std.specs.Option.{option_or, option_to_list}
-use Rattle.std.proofs.lemmas.Bool.{and_parts, and_from, cases_eq, cases_lt, eq-eqb, ne_eqb}
+use Rattle.std.proofs.lemmas.Bool.{and_parts, and_from, cases_eq, cases_lt, eq-eqb, ne_eqb, cases_Bool, or_from}
 use Rattle.std.proofs.lemmas.List.{length_push}
 use Rattle.pp_channel.specs.Answer.{event_of, flags_of, flags_after}
 use Rattle.pp_channel.specs.ChannelNo.{channel_count, names_channel}
@@ -68,13 +68,9 @@ none_numbered of is q named =
 
 -- ---- tests
 
-not_true : (b : Bool) → not b ≡ false → b ≡ true
+pub not_true : (b : Bool) → not b ≡ false → b ≡ true
 not_true true is = refl
 not_true false is = absurd cc
-
-is_or_not : (b : Bool) → (b ≡ true) ⊎ (b ≡ false)
-is_or_not true = inl refl
-is_or_not false = inr refl
 
 never : (b : Bool) → b ≡ true → b ≡ false → ⊥
 never b is fails = (let bad : true ≡ false = sym is ∙ fails in cc)
@@ -100,10 +96,6 @@ open_where false c is = refl
 some_none : {X : Type 0} (o : Option X) → is_none o ≡ true → is_some o ≡ false
 some_none None is = refl
 some_none (Some x) is = absurd cc
-
-or_parts_false : (a b : Bool) → a ≡ false → b ≡ false → (a || b) ≡ false
-or_parts_false true b is also = absurd cc
-or_parts_false false b is also = also
 
 pub waits_there : (c : ℕ) (op : ChanOp) (pp : Processor) → need pp ≡ Channel c op → (f : Flags) → waits_at op pp f ≡ true → WaitsAt op pp f
 waits_there c op pp e f is =
@@ -150,7 +142,7 @@ module _ (now : MachineState) (n : ℕ) (w : Watch) (each : length now.histories
         record { none = parts.0; alike = shown_alike f (flags_of (history_of c now)) parts.1 }
 
     no_race_there : (f : Flags) → is_race (found_at op (processor_of n now) (flags_of (history_of c now)) f) ≡ false → WaitsAt op (processor_of n now) f ⊎ DoesAsAt op (processor_of n now) f (flags_of (history_of c now))
-    no_race_there f is = elim (is_or_not (is_same (position_at op (processor_of n now) f) (position_at op (processor_of n now) (flags_of (history_of c now))))) [
+    no_race_there f is = elim (cases_Bool (is_same (position_at op (processor_of n now) f) (position_at op (processor_of n now) (flags_of (history_of c now))))) [
       | inl same ↦ inr (record { none = race_none op (processor_of n now) (flags_of (history_of c now)) f is; alike = shown_alike f (flags_of (history_of c now)) same })
       | inr apart ↦ inl (record {
         none = race_none op (processor_of n now) (flags_of (history_of c now)) f is;
@@ -297,7 +289,7 @@ module _ (now : MachineState) (n : ℕ) (w : Watch) (each : length now.histories
         open_there x f other false is_not = ap (λ t. if t then is_none ((made n c op event now w).looks x c f) else true) is_not ∙ sym (ap (λ t. if t then is_none (w.looks x c f) else true) is_not)
         open_there x f other true named =
             ap (λ (o : Option AskingStep). if names_processor x then is_none o else true)
-            (looks_there now w n c op event x f ∙ ap (λ t. if t then None else w.looks x c f) (or_parts_false (x == n) (is_some (w.looks x c (flags_after event))) (ne_eqb x n other) (some_none (w.looks x c (flags_after event)) (no_look x other named))))
+            (looks_there now w n c op event x f ∙ ap (λ t. if t then None else w.looks x c f) (or_from (x == n) (is_some (w.looks x c (flags_after event))) (ne_eqb x n other) (some_none (w.looks x c (flags_after event)) (no_look x other named))))
 
         open_others : (x k : ℕ) (f : Flags) → (x ≡ n → k ≡ c → ⊥) → open_of (made n c op event now w) x k f ≡ open_of w x k f
         open_others x k f apart = elim (cases_eq k c) [
@@ -329,10 +321,7 @@ module _ (now : MachineState) (n : ℕ) (w : Watch) (each : length now.histories
 
   by_need : (x : Need) → need (processor_of n now) ≡ x → AsksLawfulChannel x now → (watched_need x n now w).findings ≡ [] → StepIsSound now n w (watched_need x n now w)
   by_need (Need.Channel c op) e well found = asked_sound c op e well.0 well.1 well.2 (event_of op (history_of c now)) refl found
-  by_need Need.Nothing e well found = elsewhere_sound w (λ c op is. (let bad : Need.Nothing ≡ Channel c op = sym e ∙ is in cc)) refl refl
-  by_need Need.Local e well found = elsewhere_sound w (λ c op is. (let bad : Need.Local ≡ Channel c op = sym e ∙ is in cc)) refl refl
-  by_need (Need.Read a) e well found = elsewhere_sound (watched_need (Need.Read a) n now w) (λ c op is. (let bad : Need.Read a ≡ Channel c op = sym e ∙ is in cc)) refl refl
-  by_need (Need.Write a v) e well found = elsewhere_sound (watched_need (Need.Write a v) n now w) (λ c op is. (let bad : Need.Write a v ≡ Channel c op = sym e ∙ is in cc)) refl refl
+  by_need other e well found = elsewhere_sound (watched_need other n now w) (λ c op is. (let bad : other ≡ Channel c op = sym e ∙ is in cc)) refl refl
 
   pub step_sound : AsksLawfulChannel (need (processor_of n now)) now → (watched_need (need (processor_of n now)) n now w).findings ≡ [] → StepIsSound now n w (watched_need (need (processor_of n now)) n now w)
   step_sound well found = by_need (need (processor_of n now)) refl well found

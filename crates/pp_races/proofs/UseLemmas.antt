@@ -2,7 +2,7 @@
 use Rattle.std.proofs.Common.{◌≡◌, ℕ, ◌*◌, ◌%◌, ◌^◌, ◌<◌, Bool, true, false, IsTrue, List, length, get_or, Option, Some, None, refl, sym, ap, ◌∙◌, inl, inr, arith}
 use Rattle.std.specs.Prelude.{◌==◌, ◌||◌, nat_eq, bit_or, replicate, if◌then◌else◌}
 use Rattle.std.specs.Int.{bit_at, w32}
-use Rattle.std.proofs.lemmas.Bool.{cases_eq, eq-eqb, ne_eqb}
+use Rattle.std.proofs.lemmas.Bool.{cases_eq, eq-eqb, ne_eqb, or_right}
 use Rattle.std.proofs.lemmas.List.{get_or-replicate, length-replicate}
 use Rattle.std.proofs.lemmas.Nat.Bits.{bit_at_set_same, bit_at_set_other, bit_at-zero}
 use Rattle.pp_channel.specs.Answer.{flags_of}
@@ -15,10 +15,6 @@ use Rattle.pp_races.specs.Tables.{AreUses, has_bit, unused}
 use Rattle.pp_races.specs.OtherFlags.{waits_at}
 use Rattle.pp_races.specs.Watch.{Watch, asked, looked, unwatched}
 use Rattle.pp_races.specs.declared.word_use.WordUse.{WordUse}
-
-or_true : (b : Bool) → true ≡ (b || true)
-or_true true = refl
-or_true false = refl
 
 or_false : (b : Bool) → b ≡ (b || false)
 or_false true = refl
@@ -34,7 +30,7 @@ bit_set mask n place n_named place_is q q_named =
           let here : processor_index q ≡ place = ap processor_index same ∙ sym place_is in
           ap (λ k. nat_eq (bit_at (bit_or mask (1 * 2 ^ place % 2 ^ 32)) k) 1) here
           ∙ ap (λ b. nat_eq b 1) (bit_at_set_same w32 mask place within)
-          ∙ or_true (has_bit mask q) ∙ ap (λ t. has_bit mask q || t) (sym (eq-eqb q n same))
+          ∙ sym (or_right (has_bit mask q) true refl) ∙ ap (λ t. has_bit mask q || t) (sym (eq-eqb q n same))
       | inr other ↦
           let apart : processor_index q ≡ place → ⊥ = λ is. other (processor_places.one_place n q n_named (is ∙ place_is)) in
           ap (λ b. nat_eq b 1) (bit_at_set_other w32 mask place within (processor_index q) apart)

@@ -23,6 +23,7 @@ use Rattle.pp_races.specs.OnePass.IsChecked.{step_waits, step_elsewhere, step_lo
 use Rattle.pp_run.specs.Determinacy.MayFind.{start, channel_advances, processor_advances, both_advance}
 use Rattle.pp_races.specs.OtherFlags.{makes_none, shown_to}
 use Rattle.pp_races.specs.OnePass.{WaitsAt, DoesAsAt, NoneBetween, IsOpen, Passed, Watched, IsLook, IsEvent, IsChecked}
+use Rattle.pp_races.proofs.EntryLemmas.{here_or_not}
 use Rattle.pp_run.proofs.StepFacts.{event_by_need, history_here, history_elsewhere, history_unless}
 use Rattle.pp_run.proofs.Moments.{moment_next, moment_past, moment_each, history_step, mono, sides}
 
@@ -269,22 +270,59 @@ one_need c e op oq x here there =
 
 module _ (ns : List ℕ) (m : MachineState) (each : length m.histories ≡ channel_count) (t : ℕ) (within : t < length ns)
     (least new_least : ℕ → ℕ → ℕ) (open_to new_open : ℕ → ℕ → Flags → Bool) (w : Watched ns m t least open_to) (c : ℕ) (op : ChanOp) where
-  here_or_not : (x e : ℕ) → ((x ≡ get_or ns t 0) × (e ≡ c)) ⊎ (x ≡ get_or ns t 0 → e ≡ c → ⊥)
-  here_or_not x e = elim (cases_eq x (get_or ns t 0)) [
-    | inl mine ↦ elim (cases_eq e c) [
-      | inl on ↦ inl (mine, on)
-      | inr off ↦ inr (λ is there. off there)
-    ]
-    | inr other ↦ inr (λ is there. other is)
-  ]
+  at_pair : (P : ℕ → ℕ → Type 0) (x e : ℕ) → (x ≡ get_or ns t 0) × (e ≡ c) → P (get_or ns t 0) c → P x e
+  at_pair P x e here at = subst (λ (k : ℕ). P k e) (sym here.0) (subst (λ (k : ℕ). P (get_or ns t 0) k) (sym here.1) at)
+
+  -- a step on channel c, of which all is said that changes for its processor there
+  watched_one : need_at ns m t ≡ Channel c op
+      → ((q e : ℕ) → (q ≡ get_or ns t 0 → e ≡ c → ⊥) → new_least q e ≡ least q e)
+      → ((q e : ℕ) (f : Flags) → (q ≡ get_or ns t 0 → e ≡ c → ⊥) → new_open q e f ≡ open_to q e f)
+      → ((q e : ℕ) → (q ≡ get_or ns t 0 → e ≡ c → ⊥) → open_to q e (flags_of (history_at ns m e (suc t))) ≡ true)
+      → ((s : ℕ) → MayFind ns m (get_or ns t 0) c t s → AdvancesAlone ns m (get_or ns t 0) c t s → new_least (get_or ns t 0) c ≤ length (history_at ns m c s))
+      → new_least (get_or ns t 0) c ≤ length (history_at ns m c (suc t))
+      → new_open (get_or ns t 0) c (flags_of (history_at ns m c (suc t))) ≡ true
+      → ((f : Flags) → new_open (get_or ns t 0) c f ≡ true → (open_to (get_or ns t 0) c f ≡ true) ⊎ (history_at ns m c (suc t) ≢ history_at ns m c t))
+      → Passed ns m (suc t) new_open t c op → Watched ns m (suc t) new_least new_open
+  watched_one needs least_others open_others opens alone end open_now open_here passed =
+      watched_next ns m each t within least new_least open_to new_open w lower stands less (λ q e other. opens q e (λ is there. other (sym is))) (inr last)
+    where
+      lower : (q e s : ℕ) → MayFind ns m q e (suc t) s → new_least q e ≤ length (history_at ns m e s)
+      lower q e s may = elim (here_or_not (get_or ns t 0) c q e) [
+        | inr other ↦ subst (λ (k : ℕ). k ≤ length (history_at ns m e s)) (sym (least_others q e other)) (least_holds ns m each t within least open_to w q e s may)
+        | inl here ↦ at_pair (λ x k. MayFind ns m x k (suc t) s → new_least x k ≤ length (history_at ns m k s)) q e here
+            (λ found. lower_next ns m each (get_or ns t 0) c (new_least (get_or ns t 0) c) t s found alone end) may
+      ]
+
+      stands : (q e : ℕ) → new_open q e (flags_of (history_at ns m e (suc t))) ≡ true
+      stands q e = elim (here_or_not (get_or ns t 0) c q e) [
+        | inr other ↦ open_others q e (flags_of (history_at ns m e (suc t))) other ∙ opens q e other
+        | inl here ↦ at_pair (λ x k. new_open x k (flags_of (history_at ns m k (suc t))) ≡ true) q e here open_now
+      ]
+
+      less : (q e : ℕ) (f : Flags) → new_open q e f ≡ true → (open_to q e f ≡ true) ⊎ ((get_or ns t 0 ≡ q) × (history_at ns m e (suc t) ≢ history_at ns m e t))
+      less q e f is = elim (here_or_not (get_or ns t 0) c q e) [
+        | inr other ↦ inl (sym (open_others q e f other) ∙ is)
+        | inl here ↦ at_pair (λ x k. new_open x k f ≡ true → (open_to x k f ≡ true) ⊎ ((get_or ns t 0 ≡ x) × (history_at ns m k (suc t) ≢ history_at ns m k t))) q e here
+            (λ opened. elim (open_here f opened) [ inl still ↦ inl still | inr changed ↦ inr (refl, changed) ]) is
+      ]
+
+      last : (e : ℕ) (oq : ChanOp) → need_at ns m t ≡ Channel e oq → Passed ns m (suc t) new_open t e oq
+      last e oq g =
+          let parts = one_need c e op oq (need_at ns m t) needs g in
+          subst (λ (j : ℕ). Passed ns m (suc t) new_open t j oq) parts.0 (subst (λ (o : ChanOp). Passed ns m (suc t) new_open t c o) parts.1 passed)
 
   pub watched_look : IsLook (at_moment ns m t) (get_or ns t 0) c op least new_least open_to new_open → Watched ns m (suc t) new_least new_open
   watched_look l =
-      watched_next ns m each t within least new_least open_to new_open w lower stands less others (inr last)
+      watched_one l.needs l.least_others l.open_others (λ q e other. open_where_unchanged ns m each t within least open_to w same q e)
+      (λ s may goes. elim (cases_lt (length (history_at ns m c s)) (new_least (get_or ns t 0) c)) [
+        | inl short ↦ absurd (high s may goes short)
+        | inr enough ↦ enough
+      ])
+      (omega (arith, l.least_most, mono ns m each c t (suc t) (omega arith)))
+      (ap (λ h. new_open (get_or ns t 0) c (flags_of h)) (same c) ∙ l.open_now)
+      (λ f is. inl (l.open_here f is).0)
+      passed_here
     where
-      n : ℕ
-      n = get_or ns t 0
-
       same : (e : ℕ) → history_at ns m e (suc t) ≡ history_at ns m e t
       same e = history_unchanged ns m each t within least open_to w e (λ oq g.
           let parts = one_need c e op oq (need_at ns m t) l.needs g in
@@ -311,42 +349,6 @@ module _ (ns : List ℕ) (m : MachineState) (each : length m.histories ≡ chann
             ]
           ]
 
-      lower : (q e s : ℕ) → MayFind ns m q e (suc t) s → new_least q e ≤ length (history_at ns m e s)
-      lower q e s may = elim (here_or_not q e) [
-        | inr other ↦ subst (λ (k : ℕ). k ≤ length (history_at ns m e s)) (sym (l.least_others q e other)) (least_holds ns m each t within least open_to w q e s may)
-        | inl here ↦
-            let may_here : MayFind ns m (get_or ns t 0) c (suc t) s = subst (λ (k : ℕ). MayFind ns m (get_or ns t 0) k (suc t) s) here.1 (subst (λ (k : ℕ). MayFind ns m k e (suc t) s) here.0 may) in
-            let bound : new_least (get_or ns t 0) c ≤ length (history_at ns m c s) = lower_next ns m each (get_or ns t 0) c (new_least (get_or ns t 0) c) t s may_here
-            (λ r found goes. elim (cases_lt (length (history_at ns m c r)) (new_least (get_or ns t 0) c)) [
-              | inl short ↦ absurd (high r found goes short)
-              | inr enough ↦ enough
-            ])
-            (omega (arith, l.least_most, mono ns m each c t (suc t) (omega arith))) in
-            subst (λ (k : ℕ). new_least k e ≤ length (history_at ns m e s)) (sym here.0) (subst (λ (k : ℕ). new_least (get_or ns t 0) k ≤ length (history_at ns m k s)) (sym here.1) bound)
-      ]
-
-      stands : (q e : ℕ) → new_open q e (flags_of (history_at ns m e (suc t))) ≡ true
-      stands q e = elim (here_or_not q e) [
-        | inr other ↦ l.open_others q e (flags_of (history_at ns m e (suc t))) other ∙ open_where_unchanged ns m each t within least open_to w same q e
-        | inl here ↦
-            let there : new_open (get_or ns t 0) c (flags_of (history_at ns m c (suc t))) ≡ true = ap (λ h. new_open (get_or ns t 0) c (flags_of h)) (same c) ∙ l.open_now in
-            subst (λ (k : ℕ). new_open k e (flags_of (history_at ns m e (suc t))) ≡ true) (sym here.0) (subst (λ (k : ℕ). new_open (get_or ns t 0) k (flags_of (history_at ns m k (suc t))) ≡ true) (sym here.1) there)
-      ]
-
-      less : (q e : ℕ) (f : Flags) → new_open q e f ≡ true → (open_to q e f ≡ true) ⊎ ((get_or ns t 0 ≡ q) × (history_at ns m e (suc t) ≢ history_at ns m e t))
-      less q e f is = elim (here_or_not q e) [
-        | inr other ↦ inl (sym (l.open_others q e f other) ∙ is)
-        | inl here ↦
-            let there : new_open (get_or ns t 0) c f ≡ true = subst (λ (k : ℕ). new_open (get_or ns t 0) k f ≡ true) here.1 (subst (λ (k : ℕ). new_open k e f ≡ true) here.0 is) in
-            inl (subst (λ (k : ℕ). open_to k e f ≡ true) (sym here.0) (subst (λ (k : ℕ). open_to (get_or ns t 0) k f ≡ true) (sym here.1) (l.open_here f there).0))
-      ]
-
-      others : (q e : ℕ) → get_or ns t 0 ≢ q → open_to q e (flags_of (history_at ns m e (suc t))) ≡ true
-      others q e other = open_where_unchanged ns m each t within least open_to w same q e
-
-      pp : Processor
-      pp = processor_at ns m (get_or ns t 0) t
-
       passed_here : Passed ns m (suc t) new_open t c op
       passed_here = record {
         exists = l.exists;
@@ -370,14 +372,13 @@ module _ (ns : List ℕ) (m : MachineState) (each : length m.histories ≡ chann
         });
       }
 
-      last : (e : ℕ) (oq : ChanOp) → need_at ns m t ≡ Channel e oq → Passed ns m (suc t) new_open t e oq
-      last e oq g =
-          let parts = one_need c e op oq (need_at ns m t) l.needs g in
-          subst (λ (j : ℕ). Passed ns m (suc t) new_open t j oq) parts.0 (subst (λ (o : ChanOp). Passed ns m (suc t) new_open t c o) parts.1 passed_here)
-
   pub watched_event : (event : Event) → IsEvent (at_moment ns m t) (get_or ns t 0) c op event least new_least open_to new_open → Watched ns m (suc t) new_least new_open
   watched_event event v =
-      watched_next ns m each t within least new_least open_to new_open w lower stands less others (inr last)
+      watched_one v.needs v.least_others v.open_others opens (λ s may goes. absurd (never s goes))
+      (omega (arith, v.least_most, ap (λ (k : List Event). length k) longer, length_push (history_at ns m c t) event))
+      (ap (λ h. new_open (get_or ns t 0) c (flags_of h)) longer ∙ v.open_now)
+      (λ f is. inr changed)
+      passed_here
     where
       longer : history_at ns m c (suc t) ≡ history_at ns m c t ++ event ∷ []
       longer = ap (λ k. history_of c k) (moment_next ns m t within)
@@ -400,39 +401,11 @@ module _ (ns : List ℕ) (m : MachineState) (each : length m.histories ≡ chann
         ]
       ]
 
-      lower : (q e s : ℕ) → MayFind ns m q e (suc t) s → new_least q e ≤ length (history_at ns m e s)
-      lower q e s may = elim (here_or_not q e) [
-        | inr other ↦ subst (λ (k : ℕ). k ≤ length (history_at ns m e s)) (sym (v.least_others q e other)) (least_holds ns m each t within least open_to w q e s may)
-        | inl here ↦
-            let may_here : MayFind ns m (get_or ns t 0) c (suc t) s = subst (λ (k : ℕ). MayFind ns m (get_or ns t 0) k (suc t) s) here.1 (subst (λ (k : ℕ). MayFind ns m k e (suc t) s) here.0 may) in
-            let bound : new_least (get_or ns t 0) c ≤ length (history_at ns m c s) = lower_next ns m each (get_or ns t 0) c (new_least (get_or ns t 0) c) t s may_here
-            (λ r found goes. absurd (never r goes))
-            (omega (arith, v.least_most, ap (λ (k : List Event). length k) longer, length_push (history_at ns m c t) event)) in
-            subst (λ (k : ℕ). new_least k e ≤ length (history_at ns m e s)) (sym here.0) (subst (λ (k : ℕ). new_least (get_or ns t 0) k ≤ length (history_at ns m k s)) (sym here.1) bound)
-      ]
-
-      others : (q e : ℕ) → get_or ns t 0 ≢ q → open_to q e (flags_of (history_at ns m e (suc t))) ≡ true
-      others q e other = elim (cases_eq e c) [
+      opens : (q e : ℕ) → (q ≡ get_or ns t 0 → e ≡ c → ⊥) → open_to q e (flags_of (history_at ns m e (suc t))) ≡ true
+      opens q e other = elim (cases_eq e c) [
         | inl on ↦ subst (λ (k : ℕ). open_to q k (flags_of (history_at ns m k (suc t))) ≡ true) (sym on)
-            (ap (λ h. open_to q c (flags_of h)) longer ∙ v.open_to_others q (λ is. other (sym is)))
+            (ap (λ h. open_to q c (flags_of h)) longer ∙ v.open_to_others q (λ is. other is on))
         | inr off ↦ ap (λ h. open_to q e (flags_of h)) (elsewhere e off) ∙ w.stands_open q e
-      ]
-
-      stands : (q e : ℕ) → new_open q e (flags_of (history_at ns m e (suc t))) ≡ true
-      stands q e = elim (here_or_not q e) [
-        | inl here ↦
-            let there : new_open (get_or ns t 0) c (flags_of (history_at ns m c (suc t))) ≡ true = ap (λ h. new_open (get_or ns t 0) c (flags_of h)) longer ∙ v.open_now in
-            subst (λ (k : ℕ). new_open k e (flags_of (history_at ns m e (suc t))) ≡ true) (sym here.0) (subst (λ (k : ℕ). new_open (get_or ns t 0) k (flags_of (history_at ns m k (suc t))) ≡ true) (sym here.1) there)
-        | inr other ↦ v.open_others q e (flags_of (history_at ns m e (suc t))) other ∙ elim (cases_eq q (get_or ns t 0)) [
-          | inl mine ↦ ap (λ h. open_to q e (flags_of h)) (elsewhere e (λ on. other mine on)) ∙ w.stands_open q e
-          | inr apart ↦ others q e (λ is. apart (sym is))
-        ]
-      ]
-
-      less : (q e : ℕ) (f : Flags) → new_open q e f ≡ true → (open_to q e f ≡ true) ⊎ ((get_or ns t 0 ≡ q) × (history_at ns m e (suc t) ≢ history_at ns m e t))
-      less q e f is = elim (here_or_not q e) [
-        | inr other ↦ inl (sym (v.open_others q e f other) ∙ is)
-        | inl here ↦ inr (sym here.0, subst (λ (k : ℕ). history_at ns m k (suc t) ≢ history_at ns m k t) (sym here.1) changed)
       ]
 
       passed_here : Passed ns m (suc t) new_open t c op
@@ -445,11 +418,6 @@ module _ (ns : List ℕ) (m : MachineState) (each : length m.histories ≡ chann
             inl (stays_at op (processor_at ns m (get_or ns t 0) t) (history_at ns m c s) (subst (λ (h : List Event). WaitsAt op (processor_at ns m (get_or ns t 0) t) (flags_of h)) part (v.before p (w.lower (get_or ns t 0) c s may) short)));
         after = inl changed;
       }
-
-      last : (e : ℕ) (oq : ChanOp) → need_at ns m t ≡ Channel e oq → Passed ns m (suc t) new_open t e oq
-      last e oq g =
-          let parts = one_need c e op oq (need_at ns m t) v.needs g in
-          subst (λ (j : ℕ). Passed ns m (suc t) new_open t j oq) parts.0 (subst (λ (o : ChanOp). Passed ns m (suc t) new_open t c o) parts.1 passed_here)
 
 module _ (ns : List ℕ) (m : MachineState) (each : length m.histories ≡ channel_count) (t : ℕ) (within : t < length ns)
     (least new_least : ℕ → ℕ → ℕ) (open_to new_open : ℕ → ℕ → Flags → Bool) (w : Watched ns m t least open_to) where

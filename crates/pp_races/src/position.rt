@@ -32,7 +32,7 @@ impl Position {
 
     /// That of a processor after its operation on a channel with these flags, if it makes no event.
     /// The processor itself is not copied.
-    #[tactic(auto, using(crate::proofs::PositionAt::shown_position))]
+    #[tactic(auto, using(crate::proofs::PositionLemmas::shown_position))]
     pub(crate) fn at(pp: &Pp, c: ChannelNo, op: &ChanOp, flags: Flags) -> Position
         requires { need pp.now ≡ Need.Channel c op.now }
         ensures { result ≡ position_at op.now pp.now flags }

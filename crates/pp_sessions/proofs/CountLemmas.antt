@@ -3,7 +3,7 @@ use Rattle.std.proofs.Common.{◌≡◌, ◌+◌, cond, List, [], ◌∷◌, len
 use Rattle.std.specs.Prelude.{count_by}
 use Rattle.std.proofs.lemmas.List.Sums.{sum_by-cons}
 use Rattle.pp_machine.specs.declared.outcome.Outcome.{Outcome}
-use Rattle.pp_machine.specs.declared.outcome.Outcome.TheVariants.{AtRest, Held, Moved}
+use Rattle.pp_machine.specs.declared.outcome.Outcome.TheVariants.{Moved}
 use Rattle.pp_sessions.specs.StepCounts.{is_at_rest, is_held, is_moved}
 
 -- each outcome is counted once
@@ -17,5 +17,4 @@ three_counts (o ∷ os) =
   where
     one : (x : Outcome) → cond (is_moved x) 1 0 + cond (is_held x) 1 0 + cond (is_at_rest x) 1 0 ≡ 1
     one Moved = refl
-    one Held = refl
-    one AtRest = refl
+    one other = refl

@@ -1,5 +1,6 @@
 -- The stretches of a channel are those of its course.
-use Rattle.std.proofs.Common.{◌≡◌, ℕ, ◌+◌, Bool, true, false, ◌||◌, cond, List, [], ◌∷◌, ◌++◌, length, map, Option, Some, None, refl, sym, ap, subst, ◌∙◌, append_assoc, arith}
+use Rattle.std.proofs.lemmas.Bool.{or_from, or_right}
+use Rattle.std.proofs.Common.{◌≡◌, ℕ, ◌+◌, Bool, true, false, cond, List, [], ◌∷◌, ◌++◌, length, map, Option, Some, None, refl, sym, ap, subst, ◌∙◌, append_assoc, arith}
 use Rattle.std.specs.Prelude.{count_by}
 use Rattle.std.specs.Option.{option_to_list}
 use Rattle.std.specs.List.{after_last, cons_option, filter_map, flat_map, last_or}
@@ -29,16 +30,9 @@ abbrev ArePlain : List Event → Type 0
 ArePlain [] = Unit {0}
 ArePlain (e ∷ events) = IsPlain e × ArePlain events
 
-neither : (a b : Bool) → a ≡ false → b ≡ false → (a || b) ≡ false
-neither a b goes stays = ap (λ (x : Bool). x || b) goes ∙ stays
-
-or_true : (a : Bool) → (a || true) ≡ true
-or_true true = refl
-or_true false = refl
-
 uncut_plain : (first : Event) (others : List Event) → ends_session first ≡ false → ArePlain others → IsUncut is_over first others
 uncut_plain first [] goes plain = tt
-uncut_plain first (next ∷ others) goes plain = (neither (ends_session first) (begins_session next) goes plain.0.1, uncut_plain next others plain.0.0 plain.1)
+uncut_plain first (next ∷ others) goes plain = (or_from (ends_session first) (begins_session next) goes plain.0.1, uncut_plain next others plain.0.0 plain.1)
 
 last_plain : (first : Event) (others : List Event) → ends_session first ≡ false → ArePlain others → ends_session (last_in first others) ≡ false
 last_plain first [] goes plain = goes
@@ -56,11 +50,8 @@ plain_codes (code ∷ codes) = ((refl, refl), plain_codes codes)
 
 cut_before_session : (last : Event) (rest : List Event) → BeginsSession rest → IsCutBefore is_over last rest
 cut_before_session last [] begins = tt
-cut_before_session last (Activate ∷ rest) begins = or_true (ends_session last)
-cut_before_session last (Disconnect ∷ rest) begins = absurd begins
-cut_before_session last (Put w ∷ rest) begins = absurd begins
-cut_before_session last (Take w ∷ rest) begins = absurd begins
-cut_before_session last (Function w ∷ rest) begins = absurd begins
+cut_before_session last (Activate ∷ rest) begins = or_right (ends_session last) true refl
+cut_before_session last other begins = absurd begins
 
 cut_idle : (codes : List ℕ) (rest : List Event) → BeginsSession rest → cut_between is_over (idle_stretch codes ++ rest) ≡ idle_part codes ++ cut_between is_over rest
 cut_idle [] rest begins = refl
@@ -85,7 +76,7 @@ no_end : (s : Session) → ends_session (last_in Activate (words s)) ≡ false
 no_end s = last_plain Activate (words s) refl (plain_words s.passed s.lone)
 
 uncut_session : (s : Session) → IsUncut is_over Activate (words s ++ Disconnect ∷ [])
-uncut_session s = uncut-push is_over Activate (words s) Disconnect (uncut_words s) (neither (ends_session (last_in Activate (words s))) false (no_end s) refl)
+uncut_session s = uncut-push is_over Activate (words s) Disconnect (uncut_words s) (or_from (ends_session (last_in Activate (words s))) false (no_end s) refl)
 
 cut_after_end : (last : Event) (rest : List Event) → last ≡ Disconnect → IsCutBefore is_over last rest
 cut_after_end last [] is = tt

@@ -1,8 +1,8 @@
 -- The lines of a channel, event by event.
-use Rattle.std.proofs.Common.{◌≡◌, ◌≢◌, ℕ, zero, suc, ◌+◌, ◌-◌, ◌<◌, ◌≤◌, Bool, true, false, ◌||◌, cond, eqb, List, [], ◌∷◌, ◌++◌, length, drop, take, get_or, Option, None, Some, refl, sym, ap, subst, ◌∙◌, append_assoc, arith}
+use Rattle.std.proofs.Common.{◌≡◌, ◌≢◌, ℕ, ◌+◌, ◌-◌, ◌<◌, ◌≤◌, Bool, true, false, ◌||◌, cond, eqb, List, [], ◌∷◌, ◌++◌, length, drop, take, get_or, Option, None, Some, refl, sym, ap, subst, ◌∙◌, append_assoc, arith}
 use Rattle.std.specs.List.{cons_option}
 use Rattle.std.proofs.lemmas.Bool.{eq-eqb, ne_eqb}
-use Rattle.std.proofs.lemmas.List.{append-nil, length-drop, take_all, take_more}
+use Rattle.std.proofs.lemmas.List.{append-nil, length-drop, take_all, take_more, drop-append-le, drop_at}
 use Rattle.std.proofs.lemmas.List.Elements.{filter_map-append}
 use Rattle.pp_channel.specs.declared.event.Event.TheVariants.{Activate}
 use Rattle.pp_machine.specs.MachineState.{MachineState, is_opened}
@@ -10,7 +10,7 @@ use Rattle.pp_machine.specs.declared.trace.Trace.{Trace}
 use Rattle.pp_sessions.specs.OpenStretch.{IsOpen, IsUncut, Open, TakesIn, open_at}
 use Rattle.pp_sessions.specs.SessionsText.{lines_from, next_number, stretch_text, line_and_words}
 use Rattle.pp_sessions.specs.Stretches.{are_parted, begins_session, ends_session, stretches, tally_of, word_of, words_in}
-use Rattle.pp_sessions.specs.TimedEvents.{opening_events, timed_event, timed_on}
+use Rattle.pp_sessions.specs.TimedEvents.{opening_events, timed_event, timed_events, timed_on}
 use Rattle.pp_sessions.specs.declared.moment.Moment.TheVariants.{DeadStart}
 use Rattle.pp_sessions.specs.declared.moment.TimedEvent.{TimedEvent}
 use Rattle.pp_sessions.specs.declared.open_stretch.OpenStretch.{OpenStretch}
@@ -178,6 +178,13 @@ takes_dead_start w c m opened told is so told_is =
     let new : Open = record { number = 1; tally = Some told; words = [] } in
     takes_these w c nothing_open new (dead_start_event ∷ []) (opening_events c m) [] (opened_there c m opened is so) (takes_first w c nothing_open new dead_start_event told refl refl refl told_is refl)
 
+-- all entries have come
+pub takes_whole : (w : Bool) (c : ℕ) (m : MachineState) (entries : List Trace) (index : ℕ) (printed : List ℕ) (current : OpenStretch) → length entries ≤ index → entries ≡ m.trace
+    → TakesIn w c nothing_open (opening_events c m ++ timed_on c (take index entries)) printed (open_at c (take index entries) current) → TakesIn w c nothing_open (timed_events c m) printed (open_at c entries current)
+takes_whole w c m entries index printed current past are takes =
+    takes_these w c nothing_open (open_at c entries current) _ _ printed (ap (λ (es : List Trace). opening_events c m ++ timed_on c es) are)
+    (subst (λ (es : List Trace). TakesIn w c nothing_open (opening_events c m ++ timed_on c es) printed (open_at c es current)) (take_all index entries past) takes)
+
 -- ---- how many events have come
 
 -- the events of an entry more
@@ -188,15 +195,6 @@ timed_more c trace i entry within is =
 
 -- ---- the words of the stretch that is open
 
-drop_more : (s : ℕ) (past : List Trace) (entry : Trace) → s ≤ length past → drop s (past ++ entry ∷ []) ≡ drop s past ++ entry ∷ []
-drop_more zero past entry low = refl
-drop_more (suc s) [] entry low = absurd (omega (arith, low))
-drop_more (suc s) (x ∷ past) entry low = drop_more s past entry (omega (arith, low))
-
-drop_all : (past : List Trace) (entry : Trace) → drop (length past) (past ++ entry ∷ []) ≡ entry ∷ []
-drop_all [] entry = refl
-drop_all (x ∷ past) entry = drop_all past entry
-
 -- the entries from a place on
 pub rest_of : (s : ℕ) (past : List Trace) → take (length past - s) (drop s past) ≡ drop s past
 rest_of s past = take_all (length past - s) (drop s past) (omega (arith, length-drop s past))
@@ -205,13 +203,13 @@ rest_of s past = take_all (length past - s) (drop s past) (omega (arith, length-
 pub open_words_more : (c s : ℕ) (past : List Trace) (entry : Trace) → s ≤ length past
     → words_in (timed_on c (drop s (past ++ entry ∷ []))) ≡ words_in (timed_on c (drop s past)) ++ words_in (timed_on c (entry ∷ []))
 open_words_more c s past entry low =
-    ap (λ (es : List Trace). words_in (timed_on c es)) (drop_more s past entry low)
+    ap (λ (es : List Trace). words_in (timed_on c es)) (drop-append-le s past (entry ∷ []) low)
     ∙ ap words_in (filter_map-append (λ (e : Trace). cond (eqb e.channel c) (Some (timed_event e)) None) (drop s past) (entry ∷ []))
     ∙ words_more (timed_on c (drop s past)) (timed_on c (entry ∷ []))
 
 -- of an entry alone
 pub open_words_first : (c : ℕ) (past : List Trace) (entry : Trace) → words_in (timed_on c (drop (length past) (past ++ entry ∷ []))) ≡ words_in (timed_on c (entry ∷ []))
-open_words_first c past entry = ap (λ (es : List Trace). words_in (timed_on c es)) (drop_all past entry)
+open_words_first c past entry = ap (λ (es : List Trace). words_in (timed_on c es)) (drop_at past (entry ∷ []) (length past) refl)
 
 -- an entry on another channel
 pub entry_off : (c : ℕ) (entry : Trace) → entry.channel ≢ c → timed_on c (entry ∷ []) ≡ []

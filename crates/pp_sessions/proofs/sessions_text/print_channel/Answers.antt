@@ -1,5 +1,5 @@
 use Rattle.std.proofs.Common.{◌≡◌, ◌<◌, ◌+◌, ◌∷◌, ◌++◌, [], List, length, take, sym, ap, subst, ◌∙◌, append_assoc, arith, rules}
-use Rattle.std.proofs.lemmas.List.{append-nil, length-take, take_all, take_more}
+use Rattle.std.proofs.lemmas.List.{append-nil, length-take, take_more}
 use Rattle.pp_text.specs.TextWriter.{Prints}
 use Rattle.pp_text.specs.PrintingLaws.{prints_nothing, prints_on, prints_then}
 use Rattle.pp_machine.specs.declared.trace.Trace.{Trace}
@@ -8,7 +8,7 @@ use Rattle.pp_sessions.specs.SessionsText.{line_and_words}
 use Rattle.pp_sessions.specs.Stretches.{words_in}
 use Rattle.pp_sessions.specs.TimedEvents.{opening_events, timed_events, timed_on}
 use Rattle.pp_sessions.specs.declared.moment.TimedEvent.{TimedEvent}
-use Rattle.pp_sessions.proofs.TakeInLemmas.{nothing_open, rest_of, takes_all, takes_nothing, takes_then, takes_these, timed_more}
+use Rattle.pp_sessions.proofs.TakeInLemmas.{nothing_open, rest_of, takes_all, takes_nothing, takes_then, takes_these, takes_whole, timed_more}
 use Rattle.pp_sessions.proofs.sessions_text.print_channel.Goals as goal
 
 pub loop-index-init : goal.loop-index-init
@@ -53,31 +53,18 @@ pub returns-in-Some : goal.returns-in-Some
 returns-in-Some g c =
     let n = c.args.c in
     let w = c.args.with_words in
-    let m = c.args.machine.now in
     let trace = c.events-entries.result.now in
     let current = c.loop-index.current in
-    let last = c.in-Some.last in
     let (printed, prints, takes) = c.loop-index.invariant.lines in
-    let all : take c.loop-index.index trace ≡ trace = take_all c.loop-index.index trace c.loop-index-test.false in
-    let events : opening_events n m ++ timed_on n trace ≡ timed_events n m = ap (λ (es : List Trace). opening_events n m ++ timed_on n es) c.events-entries.ensures in
-    let whole : TakesIn w n nothing_open (timed_events n m) printed (open_at n trace current) =
-    takes_these w n nothing_open (open_at n trace current) _ _ printed events
-    (subst (λ (es : List Trace). TakesIn w n nothing_open (opening_events n m ++ timed_on n es) printed (open_at n es current)) all takes) in
     prints_on _ _ _ _ printed _ _ prints c.print_stretch.ensures
-    (ap (λ (es : List Trace). printed ++ line_and_words w n current.number last (words_in (timed_on n es))) (rest_of current.start trace)
-    ∙ sym (takes_all w n (timed_events n m) printed (open_at n trace current) last whole c.in-Some.is))
+    (ap (λ (es : List Trace). printed ++ line_and_words w n current.number c.in-Some.last (words_in (timed_on n es))) (rest_of current.start trace)
+    ∙ sym (takes_all w n (timed_events n c.args.machine.now) printed (open_at n trace current) c.in-Some.last (takes_whole w n c.args.machine.now trace c.loop-index.index printed current c.loop-index-test.false c.events-entries.ensures takes) c.in-Some.is))
 
 pub returns-in_default : goal.returns-in_default
 returns-in_default g c =
     let n = c.args.c in
     let w = c.args.with_words in
-    let m = c.args.machine.now in
     let trace = c.events-entries.result.now in
     let current = c.loop-index.current in
     let (printed, prints, takes) = c.loop-index.invariant.lines in
-    let all : take c.loop-index.index trace ≡ trace = take_all c.loop-index.index trace c.loop-index-test.false in
-    let events : opening_events n m ++ timed_on n trace ≡ timed_events n m = ap (λ (es : List Trace). opening_events n m ++ timed_on n es) c.events-entries.ensures in
-    let whole : TakesIn w n nothing_open (timed_events n m) printed (open_at n trace current) =
-    takes_these w n nothing_open (open_at n trace current) _ _ printed events
-    (subst (λ (es : List Trace). TakesIn w n nothing_open (opening_events n m ++ timed_on n es) printed (open_at n es current)) all takes) in
-    subst (Prints _ _ _) (sym (takes_nothing w n (timed_events n m) printed (open_at n trace current) whole (search rules))) prints
+    subst (Prints _ _ _) (sym (takes_nothing w n (timed_events n c.args.machine.now) printed (open_at n trace current) (takes_whole w n c.args.machine.now trace c.loop-index.index printed current c.loop-index-test.false c.events-entries.ensures takes) (search rules))) prints
