@@ -1,5 +1,6 @@
 -- Reading a drawing: what a run decides is plain, and a reader passes over it.
-use Rattle.std.proofs.Common.{◌≡◌, ℕ, zero, suc, ◌%◌, ◌/◌, ◌&&◌, Bool, true, false, cond, eqb, List, [], ◌∷◌, ◌++◌, Option, refl, ap, ◌∙◌, arith}
+use Rattle.std.proofs.lemmas.Bool.{and_parts}
+use Rattle.std.proofs.Common.{◌≡◌, ℕ, zero, suc, ◌%◌, ◌/◌, Bool, true, false, cond, eqb, List, [], ◌∷◌, ◌++◌, Option, refl, ap, ◌∙◌, arith}
 use Rattle.std.specs.List.{list_all}
 use Rattle.std.proofs.lemmas.List.Folds.{list_all-append}
 use Rattle.std.proofs.lemmas.List.Sums.{fold-append}
@@ -20,10 +21,6 @@ is_plain_character character = is_plain_sign (sign_of character)
 
 abbrev pub is_plain : List ℕ → Bool
 is_plain text = list_all is_plain_character text
-
-both : (a b : Bool) → (a && b) ≡ true → (a ≡ true) × (b ≡ true)
-both true b h = (refl, h)
-both false b h = absurd (cc)
 
 pub plain-append : (a b : List ℕ) → is_plain a ≡ true → is_plain b ≡ true → is_plain (a ++ b) ≡ true
 plain-append a b first more = rw (list_all-append is_plain_character a b, first) more
@@ -66,13 +63,13 @@ quoted_sign sign c tag within h = absurd (cc)
 pub in_text : (text : List ℕ) → is_plain text ≡ true → (within : List (List ℕ)) → read (at within between) text ≡ at within between
 in_text [] h within = refl
 in_text (c ∷ text) h within =
-    let (here, more) = both (is_plain_character c) (is_plain text) h in
+    let (here, more) = and_parts (is_plain_character c) (is_plain text) h in
     ap (λ (r : Option Reader). read r text) (text_sign (sign_of c) c within here) ∙ in_text text more within
 
 pub in_quotes : (text : List ℕ) → is_plain text ≡ true → (within : List (List ℕ)) (tag : Tag) → read (at within (quoted tag)) text ≡ at within (quoted tag)
 in_quotes [] h within tag = refl
 in_quotes (c ∷ text) h within tag =
-    let (here, more) = both (is_plain_character c) (is_plain text) h in
+    let (here, more) = and_parts (is_plain_character c) (is_plain text) h in
     ap (λ (r : Option Reader). read r text) (quoted_sign (sign_of c) c tag within here) ∙ in_quotes text more within tag
 
 pub decimal_in_quotes : (n : ℕ) (within : List (List ℕ)) (tag : Tag) → read (at within (quoted tag)) (short_decimal n) ≡ at within (quoted tag)

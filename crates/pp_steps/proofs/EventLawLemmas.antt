@@ -35,11 +35,8 @@ use Rattle.pp_run.specs.declared.progress.Progress.TheVariants.{Moved}
 -- ---- the trace
 
 trace_by : (n : ℕ) (x : Need) (m : MachineState) → trace_after n x m ≡ m.trace ++ entry_of n x m
-trace_by n Nothing m = sym (append-nil m.trace)
-trace_by n Local m = sym (append-nil m.trace)
 trace_by n (Channel c operation) m = refl
-trace_by n (Read a) m = sym (append-nil m.trace)
-trace_by n (Write a w) m = sym (append-nil m.trace)
+trace_by n other m = sym (append-nil m.trace)
 
 trace_more : (n : ℕ) (m : MachineState) → (stepped n m).trace ≡ m.trace ++ entry_of n (need (processor_of n m)) m
 unfolding stepped
@@ -49,8 +46,7 @@ trace_more n m = trace_by n (need (processor_of n m)) m
 
 moved_by : (o : Outcome) (answer : Answer) → o ≡ outcomes.Moved → progress_by o answer ≡ Moved
 moved_by outcomes.Moved answer e = refl
-moved_by outcomes.AtRest answer e = absurd (cc)
-moved_by outcomes.Held answer e = absurd (cc)
+moved_by other answer e = absurd (cc)
 
 moved : (n : ℕ) (m : MachineState) → step_outcome n m ≡ outcomes.Moved → progress n m ≡ Moved
 unfolding progress
@@ -68,8 +64,7 @@ on_channel (HeldSteps count) n c operation m x None is made moves same =
 
 none_on : (kind : LineKind) (n : ℕ) (m : MachineState) (x : Need) → x ≡ need (processor_of n m) → entry_of n x m ≡ [] → event_on kind n m ≡ entry_of n (need (processor_of n m)) m
 none_on OneStep n m x is none = refl
-none_on NoLine n m x is none = sym (ap (λ (y : Need). entry_of n y m) (sym is) ∙ none)
-none_on (HeldSteps count) n m x is none = sym (ap (λ (y : Need). entry_of n y m) (sym is) ∙ none)
+none_on other n m x is none = sym (ap (λ (y : Need). entry_of n y m) (sym is) ∙ none)
 
 by_need : (last : Progress) (n : ℕ) (m : MachineState) (steps : List Progress) (x : Need) → x ≡ need (processor_of n m) → event_on (line_kind last (progress n m) steps) n m ≡ entry_of n (need (processor_of n m)) m
 by_need last n m steps Nothing is = none_on (line_kind last (progress n m) steps) n m Nothing is refl

@@ -12,7 +12,7 @@ use Rattle.pp_word.specs.GrowingLists.{range_append, range_more}
 use Rattle.pp_machine.specs.MachineState.{MachineState}
 use Rattle.pp_machine.specs.MachineStep.{central_after}
 use Rattle.pp_machine.specs.declared.need.Need.{Need}
-use Rattle.pp_machine.specs.declared.need.Need.TheVariants.{Nothing, Local, Channel, Read, Write}
+use Rattle.pp_machine.specs.declared.need.Need.TheVariants.{Write}
 use Rattle.pp_word.specs.Numeral.{octal}
 use Rattle.pp_text.specs.Differences.{places}
 use Rattle.pp_steps.specs.StepLine.{central_text, centrals_text, place_text, places_text, written_address}
@@ -120,19 +120,13 @@ central_one central a w = dite (dec_lt a (length central)) inside outside
 
 -- a step that writes no central word leaves them all
 pub centrals_stay : (x : Need) (m : MachineState) (before after : List ℕ) → None ≡ written_address x → before ≡ m.central → after ≡ central_after x m → centrals_text before after ≡ []
-centrals_stay Nothing m before after none old new = rw (new, old) (centrals_same m.central)
-centrals_stay Local m before after none old new = rw (new, old) (centrals_same m.central)
-centrals_stay (Channel c op) m before after none old new = rw (new, old) (centrals_same m.central)
-centrals_stay (Read a) m before after none old new = rw (new, old) (centrals_same m.central)
 centrals_stay (Write a w) m before after none old new = absurd (cc)
+centrals_stay other m before after none old new = rw (new, old) (centrals_same m.central)
 
 -- and one that writes changes one at most
 pub centrals_go : (x : Need) (m : MachineState) (before after : List ℕ) (a : ℕ) → Some a ≡ written_address x → before ≡ m.central → after ≡ central_after x m → centrals_text before after ≡ central_text before after a
-centrals_go Nothing m before after a some old new = absurd (cc)
-centrals_go Local m before after a some old new = absurd (cc)
-centrals_go (Channel c op) m before after a some old new = absurd (cc)
-centrals_go (Read b) m before after a some old new = absurd (cc)
 centrals_go (Write b w) m before after a some old new = let is : a ≡ b = cc in rw (new, old, is) (central_one m.central b w)
+centrals_go other m before after a some old new = absurd (cc)
 
 -- a central word that differs
 pub central_changed : (before after : List ℕ) (a word old : ℕ) → word ≡ slice_index after a → old ≡ slice_index before a → word ≢ old → codes " CM " ++ octal 6 a ++ codes "=" ++ octal 20 word ≡ central_text before after a

@@ -65,18 +65,13 @@ first_of g steps = ap (λ (b : Bool). cond b (1 + prefix_len (is_held_with g) st
 -- a step that is not held like the last: the last time is over
 over : (last step : Progress) (current : ℕ) (steps : List Progress) → goes_on last step ≡ false
     → current_spell last current [] ++ (current_spell step 1 steps ++ held_counts step steps) ≡ current_spell last current (step ∷ steps) ++ held_counts last (step ∷ steps)
-over AtRest AtRest current steps ends = refl
-over AtRest Moved current steps ends = refl
-over Moved AtRest current steps ends = refl
-over Moved Moved current steps ends = refl
-over (Held f) AtRest current steps ends = refl
-over (Held f) Moved current steps ends = refl
 over AtRest (Held g) current steps ends = ap (λ (k : ℕ). k ∷ held_counts (Held g) steps) (sym (first_of g steps))
 over Moved (Held g) current steps ends = ap (λ (k : ℕ). k ∷ held_counts (Held g) steps) (sym (first_of g steps))
 over (Held f) (Held g) current steps ends =
     let other : is_held_with f (Held g) ≡ false = with_other f g ∙ ends in
     let own : is_held_with g (Held g) ≡ true = with_itself g in
     rw (ends, other, own) refl
+over other next current steps ends = refl
 
 -- a step that is: it belongs to the last time
 longer : (last step : Progress) (current : ℕ) (steps : List Progress) → goes_on last step ≡ true
@@ -129,9 +124,8 @@ count_is steps time =
     at_end (n ∷ counts) (suc i) = at_end counts i
 
     or_last : (counts : List ℕ) (last : Progress) → get_or counts time current ≡ get_or (counts ++ (current_spell last current [] ++ held_counts last [])) time current
-    or_last counts AtRest = ap (λ (ks : List ℕ). get_or ks time current) (sym (append-nil counts))
-    or_last counts Moved = ap (λ (ks : List ℕ). get_or ks time current) (sym (append-nil counts))
     or_last counts (Held f) = at_end counts time
+    or_last counts other = ap (λ (ks : List ℕ). get_or ks time current) (sym (append-nil counts))
 
 -- ---- the cursor
 

@@ -28,9 +28,8 @@ told_before step steps = 0
 -- ---- held steps in a row
 
 is_same : (g : Flags) (step : Progress) → is_held_with g step ≡ true → step ≡ Held g
-is_same g AtRest e = absurd (cc)
-is_same g Moved e = absurd (cc)
 is_same g (Held f) e = ap Held (sym (with_same f g e))
+is_same g other e = absurd (cc)
 
 -- those at the front, and then the others
 with_first : (g : Flags) (step : Progress) (steps : List Progress) (b : Bool) → is_held_with g step ≡ b

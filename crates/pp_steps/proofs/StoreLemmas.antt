@@ -22,7 +22,7 @@ use Rattle.pp_machine.specs.declared.block.Block.{Block}
 use Rattle.pp_machine.specs.declared.block.BlockKind.{BlockKind}
 use Rattle.pp_machine.specs.declared.block.BlockKind.TheVariants.{CentralIn, CentralOut, Input, Output}
 use Rattle.pp_machine.specs.declared.pp_state.PpState.{PpState}
-use Rattle.pp_machine.specs.declared.pp_state.PpState.TheVariants.{Running, Stopped, Fault}
+use Rattle.pp_machine.specs.declared.pp_state.PpState.TheVariants.{Running}
 use Rattle.pp_steps.specs.Stores.{IsApart, KeepsOthers, block_stores, five_places, instruction_stores, one_place, stores_of}
 
 -- the word at a place is as before
@@ -122,10 +122,8 @@ step_same None pp place low apart =
 step_same (Some block) pp place low apart = block_same block.kind block.place pp place low apart
 
 cut_same : (kind : BlockKind) (at : ℕ) (pp : Processor) (place : ℕ) → (block_stores kind at).first < place_count → IsApart place (block_stores kind at) → Same place pp (cut_short kind at pp)
-cut_same (CentralIn left) at pp place low apart = refl
-cut_same (CentralOut left) at pp place low apart = refl
 cut_same (Input channel) at pp place low apart = stored_one pp.memory place at 0 low apart
-cut_same (Output channel) at pp place low apart = refl
+cut_same other at pp place low apart = refl
 
 held_same : (block : Option Block) (pp : Processor) (flags : Flags) (place : ℕ) → (stores_of block pp).first < place_count → IsApart place (stores_of block pp) → Same place pp (held block pp flags)
 held_same None pp flags place low apart = refl
@@ -146,8 +144,7 @@ answered_same step pp answer place holds h = refl
 
 after_same : (state : PpState) (pp : Processor) (answer : Answer) (place : ℕ) → (stores_of pp.block pp).first < place_count → IsApart place (stores_of pp.block pp) → Same place pp (if_running state (answered (next_step pp) pp answer) pp)
 after_same Running pp answer place low apart = answered_same (next_step pp) pp answer place (λ flags. held_same pp.block pp flags place low apart) (step_same pp.block pp place low apart)
-after_same Stopped pp answer place low apart = refl
-after_same (Fault number) pp answer place low apart = refl
+after_same other pp answer place low apart = refl
 
 pub others_kept : (pp : Processor) → (stores_of pp.block pp).first < place_count → KeepsOthers pp (stores_of pp.block pp)
 unfolding processor_after
