@@ -24,7 +24,7 @@ use Rattle.pp_machine.specs.declared.block.BlockKind.TheVariants.{CentralIn, Cen
 use Rattle.pp_machine.specs.declared.need.Need.{Need}
 use Rattle.pp_machine.specs.declared.need.Need.TheVariants.{Nothing, Local, Channel, Read, Write}
 use Rattle.pp_machine.specs.declared.pp_state.PpState.{PpState}
-use Rattle.pp_machine.specs.declared.pp_state.PpState.TheVariants.{Running, Stopped, Fault}
+use Rattle.pp_machine.specs.declared.pp_state.PpState.TheVariants.{Running, Fault}
 use Rattle.pp_word.specs.Address.{next_place, place_after}
 use Rattle.pp_word.specs.OnesComplement.{difference}
 use Rattle.pp_word.specs.declared.opcode.Opcode.{Opcode}
@@ -186,8 +186,7 @@ runs Running pp x is some e = record {
   state = is;
   needs = sym (ap (λ (s : PpState). if_running s (need_of (next_step pp)) Nothing) is) ∙ e;
 }
-runs Stopped pp x is some e = absurd (some (sym e ∙ ap (λ (s : PpState). if_running s (need_of (next_step pp)) Nothing) is))
-runs (Fault number) pp x is some e = absurd (some (sym e ∙ ap (λ (s : PpState). if_running s (need_of (next_step pp)) Nothing) is))
+runs other pp x is some e = absurd (some (sym e ∙ ap (λ (s : PpState). if_running s (need_of (next_step pp)) Nothing) is))
 
 after_running : (pp : Processor) (answer : Answer) → pp.state ≡ Running
     → processor_after pp answer ≡ answered (next_step pp) pp answer

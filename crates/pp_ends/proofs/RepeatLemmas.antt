@@ -64,11 +64,10 @@ state_by h other op lawful lawful_other same (Some e) is =
 
 answers_alike : (one other : MachineState) → StandAlike one other → (x : Need)
     → answer_to x other ≡ answer_to x one
-answers_alike one other a Nothing = refl
-answers_alike one other a Local = refl
 answers_alike one other a (Channel c op) = ap (λ (s : ChannelState). Answer.Channel (state_reply op s)) (a.channels c)
 answers_alike one other a (Read address) = ap (λ (ws : List ℕ). Answer.Read (slice_get ws address)) a.central
 answers_alike one other a (Write address word) = ap (λ (ws : List ℕ). Answer.Wrote (nat_lt address (length ws))) a.central
+answers_alike one other a rest = refl
 
 processor_alike : (n : ℕ) (one other : MachineState) → StandAlike one other
     → processor_of n other ≡ processor_of n one
@@ -76,11 +75,8 @@ processor_alike n one other a = ap (λ (ps : List Processor). get_or ps (process
 
 central_alike : (one other : MachineState) → StandAlike one other → (x : Need)
     → central_after x other ≡ central_after x one
-central_alike one other a Nothing = a.central
-central_alike one other a Local = a.central
-central_alike one other a (Channel c op) = a.central
-central_alike one other a (Read address) = a.central
 central_alike one other a (Write address word) = ap (λ (ws : List ℕ). slice_set ws address word) a.central
+central_alike one other a next = a.central
 
 channels_alike : (n c : ℕ) (one other : MachineState) → IsLawfulMachine one → IsLawfulMachine other
     → StandAlike one other → (x : Need) → need (processor_of n one) ≡ x → need (processor_of n other) ≡ x

@@ -25,7 +25,7 @@ use Rattle.pp_machine.specs.declared.block.Block.{Block}
 use Rattle.pp_machine.specs.declared.block.BlockKind.{BlockKind}
 use Rattle.pp_machine.specs.declared.block.BlockKind.TheVariants.{CentralIn, CentralOut, Input, Output}
 use Rattle.pp_machine.specs.declared.pp_state.PpState.{PpState}
-use Rattle.pp_machine.specs.declared.pp_state.PpState.TheVariants.{Running, Stopped, Fault}
+use Rattle.pp_machine.specs.declared.pp_state.PpState.TheVariants.{Running}
 use Rattle.pp_ends.specs.declared.stand.Stand.{Stand}
 use Rattle.pp_ends.specs.Stand.{is_running, next_in, place_before, stand_of}
 use Rattle.pp_ends.proofs.MoveLemmas.{goes_by, goes_by_two, five_on}
@@ -179,12 +179,11 @@ step_stays (Some block) pp is runs places = block_stays block.kind block.place p
 
 cut_stays : (kind : BlockKind) (at place : ℕ) (pp : Processor) → next_in pp.block ≡ Some place
     → Stays pp (cut_short kind at pp)
-cut_stays (CentralIn left) at place pp was e = refl
-cut_stays (CentralOut left) at place pp was e = refl
 cut_stays (Input channel) at place pp was e =
     let bad : None ≡ Some place = same_block pp (cut_short (Input channel) at pp) e ∙ was in absurd (cc)
 cut_stays (Output channel) at place pp was e =
     let bad : None ≡ Some place = same_block pp (cut_short (Output channel) at pp) e ∙ was in absurd (cc)
+cut_stays other at place pp was e = refl
 
 held_stays : (block : Option Block) (pp : Processor) (flags : Flags) → pp.block ≡ block
     → Stays pp (held block pp flags)
@@ -211,8 +210,7 @@ after_stays : (state : PpState) (pp : Processor) (answer : Answer) → pp.state 
     → length pp.memory ≡ place_count
     → Stays pp (if_running state (answered (next_step pp) pp answer) pp)
 after_stays Running pp answer is places = answered_stays (next_step pp) pp answer is (step_stays pp.block pp refl is places)
-after_stays Stopped pp answer is places = λ e. refl
-after_stays (Fault number) pp answer is places = λ e. refl
+after_stays other pp answer is places = λ e. refl
 
 pub stands_still : (pp : Processor) (answer : Answer) → IsMemory pp.memory
     → stand_of (processor_after pp answer) ≡ stand_of pp → processor_after pp answer ≡ pp

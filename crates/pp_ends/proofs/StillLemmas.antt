@@ -60,26 +60,17 @@ waited n m w =
 answer_later : (turns : ℕ) (m : MachineState) (x : Need)
     → answer_to x (record m { turns = turns }) ≡ answer_to x m
 answer_later turns m Nothing = refl
-answer_later turns m Local = refl
-answer_later turns m (Channel c op) = refl
-answer_later turns m (Read a) = refl
-answer_later turns m (Write a w) = refl
+answer_later turns m other = refl
 
 event_later : (turns : ℕ) (m : MachineState) (x : Need)
     → event_for x (record m { turns = turns }) ≡ event_for x m
 event_later turns m Nothing = refl
-event_later turns m Local = refl
-event_later turns m (Channel c op) = refl
-event_later turns m (Read a) = refl
-event_later turns m (Write a w) = refl
+event_later turns m other = refl
 
 central_later : (turns : ℕ) (m : MachineState) (x : Need)
     → central_after x (record m { turns = turns }) ≡ central_after x m
 central_later turns m Nothing = refl
-central_later turns m Local = refl
-central_later turns m (Channel c op) = refl
-central_later turns m (Read a) = refl
-central_later turns m (Write a w) = refl
+central_later turns m other = refl
 
 waits_later : (n turns : ℕ) (m : MachineState) → Waits n m → Waits n (record m { turns = turns })
 waits_later n turns m w =

@@ -32,6 +32,7 @@ use Rattle.pp_races.specs.declared.looks.Looks.{Looks}
 use Rattle.pp_races.specs.declared.latest.Latest.{Latest}
 use Rattle.pp_races.specs.declared.low.Low.{Low}
 use Rattle.pp_races.specs.declared.span.Span.{Span}
+use Rattle.pp_races.proofs.FlagSetLemmas.{each_flags}
 use Rattle.pp_races.proofs.EntryLemmas.{set_here, set_other}
 use Rattle.pp_races.proofs.LowLemmas.{first_race_same, missed_past, missed_push, missed_push_other, through_past, through_push, through_push_other}
 
@@ -127,13 +128,7 @@ module _ (m : MachineState) (w : Watch) (n c : ℕ) (op : ChanOp) (event : Event
   ]
 
   look_closed : (b : Bool) (l : Looks) (f : Flags) (o : Option AskingStep) → look_at l f ≡ o → look_at (if b then no_looks else l) f ≡ (if b then None else o)
-  look_closed true l f o same = no_look f.active f.full
-    where
-      no_look : (a b : Bool) → look_at no_looks (record { active = a; full = b }) ≡ None
-      no_look true true = refl
-      no_look true false = refl
-      no_look false true = refl
-      no_look false false = refl
+  look_closed true l f o same = each_flags (λ g. look_at no_looks g ≡ None) refl refl refl refl f
   look_closed false l f o same = same
 
   pub event_looks : (looks new : List Looks) → AreClosed (entry_of n c event m) (flags_after event) looks new → AreLooks w looks → AreLooks (made n c op event m w) new

@@ -16,6 +16,7 @@ use Rattle.pp_races.specs.declared.flag_set.FlagSet.{FlagSet}
 use Rattle.pp_races.specs.declared.latest.Latest.{Latest}
 use Rattle.pp_races.specs.declared.low.Low.{Low}
 use Rattle.pp_races.proofs.LowLemmas.{alike_none, alike_passed, missed_nil, missed_push, missed_push_other, through_nil, through_push, through_push_other}
+use Rattle.pp_races.proofs.FlagSetLemmas.{each_flags}
 use Rattle.pp_races.proofs.SpanLemmas.{alike_append}
 
 -- ---- one event more
@@ -29,15 +30,9 @@ nothing_past c trace from test f past = (
 pub latest_none : (c : ℕ) → IsLatest c [] no_latest
 latest_none c = record {
   after = λ from f. inl (nothing_past c [] from (λ g. false) f (omega arith)).1;
-  past = λ f. zero_past f.active f.full;
+  past = each_flags (λ f. found_past no_latest f ≤ 0) (omega arith) (omega arith) (omega arith) (omega arith);
   none = λ test from f fails low. (nothing_past c [] from test f (omega arith)).0;
 }
-  where
-    zero_past : (a b : Bool) → found_past no_latest (record { active = a; full = b }) ≤ 0
-    zero_past true true = omega arith
-    zero_past true false = omega arith
-    zero_past false true = omega arith
-    zero_past false false = omega arith
 
 pub latest_other : (c : ℕ) (trace : List Trace) (latest : Latest) (e : Trace) → e.channel ≢ c → IsLatest c trace latest → IsLatest c (trace ++ e ∷ []) latest
 latest_other c trace latest e off is = record {
@@ -131,20 +126,11 @@ all_taken trace table e place next all place_is below last_is found kept are c n
 
 -- ---- the code's values
 
-placed_at : (was next : Latest) (set : FlagSet) (place : ℕ) (a b : Bool)
-    → next.inactive ≡ (if set.inactive then place else was.inactive) → next.inactive_full ≡ (if set.inactive_full then place else was.inactive_full)
-    → next.empty ≡ (if set.empty then place else was.empty) → next.full ≡ (if set.full then place else was.full)
-    → found_past next (record { active = a; full = b }) ≡ (if has set (record { active = a; full = b }) then place else found_past was (record { active = a; full = b }))
-placed_at was next set place true true i j e u = u
-placed_at was next set place true false i j e u = e
-placed_at was next set place false true i j e u = j
-placed_at was next set place false false i j e u = i
-
 pub placed : (was next : Latest) (set : FlagSet) (place : ℕ)
     → next.inactive ≡ (if set.inactive then place else was.inactive) → next.inactive_full ≡ (if set.inactive_full then place else was.inactive_full)
     → next.empty ≡ (if set.empty then place else was.empty) → next.full ≡ (if set.full then place else was.full)
     → (f : Flags) → found_past next f ≡ (if has set f then place else found_past was f)
-placed was next set place i j e u f = placed_at was next set place f.active f.full i j e u
+placed was next set place = each_flags (λ f. found_past next f ≡ (if has set f then place else found_past was f))
 
 not_below : (s : Bool) (x y : ℕ) → (s && nat_lt x y) ≡ false → s ≡ true → y ≤ x
 not_below true x y is holds = elim (cases_lt x y) [
@@ -152,15 +138,6 @@ not_below true x y is holds = elim (cases_lt x y) [
   | inr past ↦ past
 ]
 not_below false x y is holds = absurd cc
-
-module _ (latest : Latest) (low : Low) (set : FlagSet)
-    (i : (set.inactive && nat_lt low.from latest.inactive) ≡ false) (j : (set.inactive_full && nat_lt low.from latest.inactive_full) ≡ false)
-    (e : (set.empty && nat_lt low.from latest.empty) ≡ false) (u : (set.full && nat_lt low.from latest.full) ≡ false) where
-  past_at : (a b : Bool) → has set (record { active = a; full = b }) ≡ true → found_past latest (record { active = a; full = b }) ≤ low.from
-  past_at true true holds = not_below set.full low.from latest.full u holds
-  past_at true false holds = not_below set.empty low.from latest.empty e holds
-  past_at false true holds = not_below set.inactive_full low.from latest.inactive_full j holds
-  past_at false false holds = not_below set.inactive low.from latest.inactive i holds
 
 pub none_later : (latest : Latest) (low : Low) (set : FlagSet) (b : Bool)
     → b ≡ (has set low.flags || set.inactive && nat_lt low.from latest.inactive || set.inactive_full && nat_lt low.from latest.inactive_full || set.empty && nat_lt low.from latest.empty || set.full && nat_lt low.from latest.full)
@@ -170,4 +147,6 @@ none_later latest low set b is c trace are none =
     let three = or_parts _ _ four.0 in
     let two = or_parts _ _ three.0 in
     let one = or_parts _ _ two.0 in
-    are.none (λ f. has set f) low.from low.flags one.0 (λ g holds. past_at latest low set one.1 two.1 three.1 four.1 g.active g.full holds)
+    are.none (λ f. has set f) low.from low.flags one.0 (each_flags (λ g. has set g ≡ true → found_past latest g ≤ low.from)
+    (not_below set.inactive low.from latest.inactive one.1) (not_below set.inactive_full low.from latest.inactive_full two.1)
+    (not_below set.empty low.from latest.empty three.1) (not_below set.full low.from latest.full four.1))

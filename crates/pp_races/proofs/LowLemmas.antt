@@ -2,7 +2,7 @@
 use Rattle.std.proofs.Common.{◌≡◌, ◌≢◌, ℕ, ◌+◌, ◌<◌, ◌≤◌, Bool, true, false, List, [], ◌∷◌, ◌++◌, length, drop, get_or, Option, Some, None, refl, sym, ap, ◌∙◌, subst, inl, inr, arith}
 use Rattle.std.specs.Prelude.{if◌then◌else◌, find, option_map, slice_get}
 use Rattle.std.proofs.lemmas.Bool.{cases_eq, eq-eqb, ne_eqb}
-use Rattle.std.proofs.lemmas.List.{drop_more, drop_all}
+use Rattle.std.proofs.lemmas.List.{drop_more, drop_all, append-nil}
 use Rattle.std.proofs.lemmas.Option.{slice_get_past, slice_get_read}
 use Rattle.pp_channel.specs.Answer.{flags_after}
 use Rattle.pp_channel.specs.declared.flags.Flags.{Flags}
@@ -78,53 +78,53 @@ through_other c flags trace place d low apart = ap (λ t. flags_through c flags 
 pub through_past : (c : ℕ) (flags : Flags) (trace : List Trace) (place : ℕ) → length trace ≤ place → flags_through c flags (drop place trace) ≡ flags
 through_past c flags trace place past = ap (λ t. flags_through c flags t) (drop_all place trace past) ∙ through_nil c flags
 
+-- ---- two spans, one after the other
+
+pub missed_append : (c : ℕ) (flags : Flags) (one two : List Trace) → missed_from c flags (one ++ two) ≡ missed_from c flags one ++ missed_from c (flags_through c flags one) two
+missed_append c flags [] two =
+    ap (λ f. missed_from c f two) (sym (through_nil c flags)) ∙ ap (λ k. k ++ missed_from c (flags_through c flags []) two) (sym (missed_nil c flags))
+missed_append c flags (e ∷ one) two = elim (cases_eq e.channel c) [
+  | inl on ↦
+      missed_cons_here c flags e (one ++ two) on
+      ∙ ap (λ k. missed_event flags e ∷ k) (missed_append c (flags_after e.event) one two)
+      ∙ ap (λ f. missed_event flags e ∷ (missed_from c (flags_after e.event) one ++ missed_from c f two)) (sym (through_cons_here c flags e one on))
+      ∙ ap (λ k. k ++ missed_from c (flags_through c flags (e ∷ one)) two) (sym (missed_cons_here c flags e one on))
+  | inr off ↦
+      missed_cons_other c flags e (one ++ two) off
+      ∙ missed_append c flags one two
+      ∙ ap (λ f. missed_from c flags one ++ missed_from c f two) (sym (through_cons_other c flags e one off))
+      ∙ ap (λ k. k ++ missed_from c (flags_through c flags (e ∷ one)) two) (sym (missed_cons_other c flags e one off))
+]
+
+pub through_append : (c : ℕ) (flags : Flags) (one two : List Trace) → flags_through c flags (one ++ two) ≡ flags_through c (flags_through c flags one) two
+through_append c flags [] two = ap (λ f. flags_through c f two) (sym (through_nil c flags))
+through_append c flags (e ∷ one) two = elim (cases_eq e.channel c) [
+  | inl on ↦
+      through_cons_here c flags e (one ++ two) on ∙ through_append c (flags_after e.event) one two
+      ∙ ap (λ f. flags_through c f two) (sym (through_cons_here c flags e one on))
+  | inr off ↦
+      through_cons_other c flags e (one ++ two) off ∙ through_append c flags one two
+      ∙ ap (λ f. flags_through c f two) (sym (through_cons_other c flags e one off))
+]
+
 -- ---- one event more
 
 pub missed_push : (c : ℕ) (flags : Flags) (trace : List Trace) (e : Trace) → e.channel ≡ c → missed_from c flags (trace ++ e ∷ []) ≡ missed_from c flags trace ++ missed_event (flags_through c flags trace) e ∷ []
-missed_push c flags [] e same =
-    missed_cons_here c flags e [] same
-    ∙ ap (λ k. missed_event flags e ∷ k) (missed_nil c (flags_after e.event))
-    ∙ ap (λ f. missed_event f e ∷ []) (sym (through_nil c flags))
-    ∙ ap (λ k. k ++ missed_event (flags_through c flags []) e ∷ []) (sym (missed_nil c flags))
-missed_push c flags (x ∷ trace) e same = elim (cases_eq x.channel c) [
-  | inl on ↦
-      missed_cons_here c flags x (trace ++ e ∷ []) on
-      ∙ ap (λ k. missed_event flags x ∷ k) (missed_push c (flags_after x.event) trace e same)
-      ∙ ap (λ f. missed_event flags x ∷ (missed_from c (flags_after x.event) trace ++ missed_event f e ∷ [])) (sym (through_cons_here c flags x trace on))
-      ∙ ap (λ k. k ++ missed_event (flags_through c flags (x ∷ trace)) e ∷ []) (sym (missed_cons_here c flags x trace on))
-  | inr off ↦
-      missed_cons_other c flags x (trace ++ e ∷ []) off
-      ∙ missed_push c flags trace e same
-      ∙ ap (λ f. missed_from c flags trace ++ missed_event f e ∷ []) (sym (through_cons_other c flags x trace off))
-      ∙ ap (λ k. k ++ missed_event (flags_through c flags (x ∷ trace)) e ∷ []) (sym (missed_cons_other c flags x trace off))
-]
+missed_push c flags trace e same =
+    missed_append c flags trace (e ∷ [])
+    ∙ ap (λ k. missed_from c flags trace ++ k) (missed_cons_here c (flags_through c flags trace) e [] same ∙ ap (λ k. missed_event (flags_through c flags trace) e ∷ k) (missed_nil c (flags_after e.event)))
 
 pub missed_push_other : (c : ℕ) (flags : Flags) (trace : List Trace) (e : Trace) → e.channel ≢ c → missed_from c flags (trace ++ e ∷ []) ≡ missed_from c flags trace
-missed_push_other c flags [] e apart = missed_cons_other c flags e [] apart
-missed_push_other c flags (x ∷ trace) e apart = elim (cases_eq x.channel c) [
-  | inl on ↦
-      missed_cons_here c flags x (trace ++ e ∷ []) on
-      ∙ ap (λ k. missed_event flags x ∷ k) (missed_push_other c (flags_after x.event) trace e apart)
-      ∙ sym (missed_cons_here c flags x trace on)
-  | inr off ↦
-      missed_cons_other c flags x (trace ++ e ∷ []) off
-      ∙ missed_push_other c flags trace e apart
-      ∙ sym (missed_cons_other c flags x trace off)
-]
+missed_push_other c flags trace e apart =
+    missed_append c flags trace (e ∷ [])
+    ∙ ap (λ k. missed_from c flags trace ++ k) (missed_cons_other c (flags_through c flags trace) e [] apart ∙ missed_nil c (flags_through c flags trace))
+    ∙ append-nil (missed_from c flags trace)
 
 pub through_push : (c : ℕ) (flags : Flags) (trace : List Trace) (e : Trace) → e.channel ≡ c → flags_through c flags (trace ++ e ∷ []) ≡ flags_after e.event
-through_push c flags [] e same = through_cons_here c flags e [] same ∙ through_nil c (flags_after e.event)
-through_push c flags (x ∷ trace) e same = elim (cases_eq x.channel c) [
-  | inl on ↦ through_cons_here c flags x (trace ++ e ∷ []) on ∙ through_push c (flags_after x.event) trace e same
-  | inr off ↦ through_cons_other c flags x (trace ++ e ∷ []) off ∙ through_push c flags trace e same
-]
+through_push c flags trace e same = through_append c flags trace (e ∷ []) ∙ through_cons_here c (flags_through c flags trace) e [] same ∙ through_nil c (flags_after e.event)
 
 pub through_push_other : (c : ℕ) (flags : Flags) (trace : List Trace) (e : Trace) → e.channel ≢ c → flags_through c flags (trace ++ e ∷ []) ≡ flags_through c flags trace
-through_push_other c flags [] e apart = through_cons_other c flags e [] apart
-through_push_other c flags (x ∷ trace) e apart = elim (cases_eq x.channel c) [
-  | inl on ↦ through_cons_here c flags x (trace ++ e ∷ []) on ∙ through_push_other c (flags_after x.event) trace e apart ∙ sym (through_cons_here c flags x trace on)
-  | inr off ↦ through_cons_other c flags x (trace ++ e ∷ []) off ∙ through_push_other c flags trace e apart ∙ sym (through_cons_other c flags x trace off)
-]
+through_push_other c flags trace e apart = through_append c flags trace (e ∷ []) ∙ through_cons_other c (flags_through c flags trace) e [] apart ∙ through_nil c (flags_through c flags trace)
 
 -- ---- searches, one event further
 

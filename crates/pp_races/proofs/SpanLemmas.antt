@@ -1,7 +1,6 @@
 -- The events of a channel in a span of the trace.
-use Rattle.std.proofs.Common.{◌≡◌, ◌≢◌, ℕ, ◌+◌, ◌<◌, ◌≤◌, Bool, true, false, List, [], ◌∷◌, ◌++◌, length, drop, take, Option, Some, None, refl, sym, ap, ◌∙◌, inl, inr}
+use Rattle.std.proofs.Common.{◌≡◌, ◌≢◌, ℕ, ◌+◌, ◌<◌, ◌≤◌, Bool, true, false, List, [], ◌∷◌, ◌++◌, length, drop, take, Option, Some, None, refl, sym, ap, ◌∙◌}
 use Rattle.std.specs.Prelude.{if◌then◌else◌}
-use Rattle.std.proofs.lemmas.Bool.{cases_eq}
 use Rattle.std.proofs.lemmas.List.{drop-drop, take-append-drop}
 use Rattle.pp_channel.specs.Answer.{flags_after}
 use Rattle.pp_channel.specs.declared.flags.Flags.{Flags}
@@ -13,36 +12,9 @@ use Rattle.pp_races.specs.Watch.{Missed, from_alike, missed_event}
 use Rattle.pp_races.specs.declared.flag_set.FlagSet.{FlagSet}
 use Rattle.pp_races.specs.declared.low.Low.{Low}
 use Rattle.pp_races.specs.declared.span.Span.{Span}
-use Rattle.pp_races.proofs.LowLemmas.{alike_none, alike_passed, missed_cons_here, missed_cons_other, missed_nil, missed_push, missed_push_other, through_cons_here, through_cons_other, through_nil, through_push, through_push_other}
+use Rattle.pp_races.proofs.LowLemmas.{alike_none, alike_passed, missed_append, missed_nil, missed_push, missed_push_other, through_append, through_nil, through_push, through_push_other}
 
 -- ---- two spans, one after the other
-
-pub missed_append : (c : ℕ) (flags : Flags) (one two : List Trace) → missed_from c flags (one ++ two) ≡ missed_from c flags one ++ missed_from c (flags_through c flags one) two
-missed_append c flags [] two =
-    ap (λ f. missed_from c f two) (sym (through_nil c flags)) ∙ ap (λ k. k ++ missed_from c (flags_through c flags []) two) (sym (missed_nil c flags))
-missed_append c flags (e ∷ one) two = elim (cases_eq e.channel c) [
-  | inl on ↦
-      missed_cons_here c flags e (one ++ two) on
-      ∙ ap (λ k. missed_event flags e ∷ k) (missed_append c (flags_after e.event) one two)
-      ∙ ap (λ f. missed_event flags e ∷ (missed_from c (flags_after e.event) one ++ missed_from c f two)) (sym (through_cons_here c flags e one on))
-      ∙ ap (λ k. k ++ missed_from c (flags_through c flags (e ∷ one)) two) (sym (missed_cons_here c flags e one on))
-  | inr off ↦
-      missed_cons_other c flags e (one ++ two) off
-      ∙ missed_append c flags one two
-      ∙ ap (λ f. missed_from c flags one ++ missed_from c f two) (sym (through_cons_other c flags e one off))
-      ∙ ap (λ k. k ++ missed_from c (flags_through c flags (e ∷ one)) two) (sym (missed_cons_other c flags e one off))
-]
-
-pub through_append : (c : ℕ) (flags : Flags) (one two : List Trace) → flags_through c flags (one ++ two) ≡ flags_through c (flags_through c flags one) two
-through_append c flags [] two = ap (λ f. flags_through c f two) (sym (through_nil c flags))
-through_append c flags (e ∷ one) two = elim (cases_eq e.channel c) [
-  | inl on ↦
-      through_cons_here c flags e (one ++ two) on ∙ through_append c (flags_after e.event) one two
-      ∙ ap (λ f. flags_through c f two) (sym (through_cons_here c flags e one on))
-  | inr off ↦
-      through_cons_other c flags e (one ++ two) off ∙ through_append c flags one two
-      ∙ ap (λ f. flags_through c f two) (sym (through_cons_other c flags e one off))
-]
 
 pub alike_append : (test : Flags → Bool) (one two : List Missed) → from_alike test one ≡ [] → from_alike test (one ++ two) ≡ from_alike test two
 unfolding from_alike
