@@ -13,6 +13,11 @@ use Rattle.pp_ends.proofs.RepeatLemmas.{IsLawfulMachine, after_more, run_alike, 
 
 -- ---- rounds
 
+-- what holds of rounds of ten turns and of twenty
+by_profile : (P : ℕ → Type 0) → P 10 → P 20 → (p : Profile) → P (processors_in p)
+by_profile P ten twenty Ten = ten
+by_profile P ten twenty Twenty = twenty
+
 whole : (p : Profile) (i : ℕ) → (i * processors_in p) % processors_in p ≡ 0
 whole Ten i = omega arith
 whole Twenty i = omega arith
@@ -25,44 +30,12 @@ in_rounds : (p : Profile) (u : ℕ) → u % processors_in p ≡ 0 → u ≡ (u /
 in_rounds Ten u e = omega (arith, e)
 in_rounds Twenty u e = omega (arith, e)
 
-some_rounds : (p : Profile) (u : ℕ) → u % processors_in p ≡ 0 → 0 < u → 1 ≤ u / processors_in p
-some_rounds Ten u e some = omega (arith, e, some)
-some_rounds Twenty u e some = omega (arith, e, some)
-
-few_rounds : (p : Profile) (i l turns : ℕ) → i * processors_in p + l * processors_in p ≤ turns → i + l ≤ turns / processors_in p
-few_rounds Ten i l turns h = omega (arith, h)
-few_rounds Twenty i l turns h = omega (arith, h)
-
-back : (p : Profile) (i l turns : ℕ) → i + l ≤ turns / processors_in p → i * processors_in p + l * processors_in p ≤ turns
-back Ten i l turns h = omega (arith, h)
-back Twenty i l turns h = omega (arith, h)
-
-less_rounds : (p : Profile) (s q i l : ℕ) → s + q ≤ i + l → s * processors_in p + q * processors_in p ≤ i * processors_in p + l * processors_in p
-less_rounds Ten s q i l h = omega (arith, h)
-less_rounds Twenty s q i l h = omega (arith, h)
-
-at_most : (p : Profile) (s i : ℕ) → s ≤ i → s * processors_in p ≤ i * processors_in p
-at_most Ten s i h = omega (arith, h)
-at_most Twenty s i h = omega (arith, h)
-
-some_turns : (p : Profile) (q : ℕ) → 1 ≤ q → 0 < q * processors_in p
-some_turns Ten q h = omega (arith, h)
-some_turns Twenty q h = omega (arith, h)
-
 pub in_first_round : (p : Profile) (place : ℕ) → place < processors_in p → place % processors_in p ≡ place
 in_first_round Ten place low = omega (arith, low)
 in_first_round Twenty place low = omega (arith, low)
 
-one_round : (p : Profile) → 1 * processors_in p ≡ processors_in p
-one_round Ten = refl
-one_round Twenty = refl
-
-no_round : (p : Profile) → 0 * processors_in p ≡ 0
-no_round Ten = refl
-no_round Twenty = refl
-
 pub after_none : (m : MachineState) → after_rounds 0 m ≡ m
-after_none m = ap (λ (t : ℕ). after_turns t m) (no_round m.profile)
+after_none m = let none : 0 * processors_in m.profile ≡ 0 = omega arith in ap (λ (t : ℕ). after_turns t m) none
 
 after_add : (i d : ℕ) (m : MachineState) → after_rounds (i + d) m ≡ run (barrel m.profile (d * processors_in m.profile)) (after_rounds i m)
 after_add i d m =
@@ -71,7 +44,8 @@ after_add i d m =
 
 pub after_one : (i : ℕ) (m : MachineState) → run (barrel m.profile (processors_in m.profile)) (after_rounds i m) ≡ after_rounds (i + 1) m
 after_one i m =
-    ap (λ (t : ℕ). run (barrel m.profile t) (after_rounds i m)) (sym (one_round m.profile)) ∙ sym (after_add i 1 m)
+    let one : processors_in m.profile ≡ 1 * processors_in m.profile = omega arith in
+    ap (λ (t : ℕ). run (barrel m.profile t) (after_rounds i m)) one ∙ sym (after_add i 1 m)
 
 -- ---- alike
 
@@ -158,7 +132,7 @@ module _ (m : MachineState) (lawful : IsLawfulMachine m) where
         l = l;
         start = start;
         length_is = every;
-        some = some_rounds p k r.rounds r.some;
+        some = by_profile (λ n. k % n ≡ 0 → 1 ≤ k / n) (λ whole. omega (arith, whole, r.some)) (λ whole. omega (arith, whole, r.some)) p r.rounds;
         alike = subst (λ (t : ℕ). StandAlike (after_rounds i m) (after_turns t m)) (sym (sum_of p i l))
             (subst (λ (t : ℕ). StandAlike (after_turns t m) (after_turns (i * processors_in p + l * processors_in p) m)) start
             (subst (λ (t : ℕ). StandAlike (after_turns u m) (after_turns (t + l * processors_in p) m)) start
@@ -166,7 +140,8 @@ module _ (m : MachineState) (lawful : IsLawfulMachine m) where
       }
 
   within_rounds : (u k turns : ℕ) (r : InRounds u k) → u + k ≤ turns → r.i + r.l ≤ turns / processors_in m.profile
-  within_rounds u k turns r h = few_rounds m.profile r.i r.l turns (omega (arith, h, r.start, r.length_is))
+  within_rounds u k turns r h =
+      by_profile (λ n. r.i * n + r.l * n ≤ turns → r.i + r.l ≤ turns / n) (λ low. omega (arith, low)) (λ low. omega (arith, low)) m.profile (omega (arith, h, r.start, r.length_is))
 
   pub none_without_period : (turns : ℕ)
       → ((k : ℕ) → 1 ≤ k → k ≤ turns / processors_in m.profile → ¬ AreAlikeAfter (turns / processors_in m.profile) (turns / processors_in m.profile + k) m)
@@ -215,19 +190,21 @@ module _ (m : MachineState) (lawful : IsLawfulMachine m) where
       let rounds = turns / processors_in q in
       record {
         repeats = record {
-          some = some_turns q period p.some;
+          some = by_profile (λ n. 0 < period * n) (omega (arith, p.some)) (omega (arith, p.some)) q;
           first_rounds = whole q start;
           rounds = whole q period;
           alike = subst (λ (t : ℕ). StandAlike (after_rounds start m) (after_turns t m)) (sum_of q start period) s.alike;
         };
-        within = back q start period turns (omega (arith, s.within, p.most));
+        within = by_profile (λ n. start + period ≤ turns / n → start * n + period * n ≤ turns) (λ low. omega (arith, low)) (λ low. omega (arith, low)) q (omega (arith, s.within, p.most));
         least = λ u k repeats.
             let r = by_rounds u k repeats in
-            let less = less_rounds q start period r.i r.l (no_sooner start period rounds r.i r.l p s r.some r.alike) in
+            let sooner = no_sooner start period rounds r.i r.l p s r.some r.alike in
+            let less = by_profile (λ n. start * n + period * n ≤ r.i * n + r.l * n) (omega (arith, sooner)) (omega (arith, sooner)) q in
             omega (arith, less, r.start, r.length_is);
         with_it = λ u k repeats same.
             let r = by_rounds u k repeats in
-            let less = at_most q start r.i (earliest start period rounds r.i r.l p s r.some r.alike) in
+            let early = earliest start period rounds r.i r.l p s r.some r.alike in
+            let less = by_profile (λ n. start * n ≤ r.i * n) (omega (arith, early)) (omega (arith, early)) q in
             omega (arith, less, r.start);
       }
 

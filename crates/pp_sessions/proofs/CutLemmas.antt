@@ -1,5 +1,5 @@
 -- Where a list is cut.
-use Rattle.std.proofs.Common.{◌≡◌, Bool, true, false, cond, List, [], ◌∷◌, ◌++◌, map, refl, sym, ap, ◌∙◌}
+use Rattle.std.proofs.Common.{◌≡◌, Bool, true, false, cond, List, [], ◌∷◌, ◌++◌, map, refl, ap, ◌∙◌}
 use Rattle.std.specs.Prelude.{fold}
 use Rattle.std.specs.List.{flat_map, onto_first}
 use Rattle.pp_sessions.specs.OpenStretch.{IsUncut}
@@ -14,27 +14,13 @@ abbrev pub IsCutBefore : {X : Type 0} → (X → X → Bool) → X → List X �
 IsCutBefore test last [] = Unit {0}
 IsCutBefore test last (next ∷ xs) = test last next ≡ true
 
-cut-here : {X : Type 0} (test : X → X → Bool) (x next : X) (xs : List X) → test x next ≡ true → cut_between test (x ∷ next ∷ xs) ≡ (x ∷ []) ∷ cut_between test (next ∷ xs)
-unfolding cut_between
-cut-here test x next xs e = ap (λ (b : Bool). cond b ((x ∷ []) ∷ cut_between test (next ∷ xs)) (onto_first x (cut_between test (next ∷ xs)))) e
-
-cut-on : {X : Type 0} (test : X → X → Bool) (x next : X) (xs : List X) → test x next ≡ false → cut_between test (x ∷ next ∷ xs) ≡ onto_first x (cut_between test (next ∷ xs))
-unfolding cut_between
-cut-on test x next xs e = ap (λ (b : Bool). cond b ((x ∷ []) ∷ cut_between test (next ∷ xs)) (onto_first x (cut_between test (next ∷ xs)))) e
-
-cut-one : {X : Type 0} (test : X → X → Bool) (x : X) → cut_between test (x ∷ []) ≡ (x ∷ []) ∷ []
-unfolding cut_between
-cut-one test x = refl
-
-pub cut-nil : {X : Type 0} (test : X → X → Bool) → cut_between test [] ≡ []
-unfolding cut_between
-cut-nil test = refl
-
 -- the first part, and then the others
 pub cut-append : {X : Type 0} (test : X → X → Bool) (x : X) (xs rest : List X) → IsUncut test x xs → IsCutBefore test (last_in x xs) rest → cut_between test ((x ∷ xs) ++ rest) ≡ (x ∷ xs) ∷ cut_between test rest
-cut-append test x [] [] whole cut = cut-one test x ∙ ap (λ (parts : List (List _)). (x ∷ []) ∷ parts) (sym (cut-nil test))
-cut-append test x [] (next ∷ rest) whole cut = cut-here test x next rest cut
-cut-append test x (next ∷ xs) rest whole cut = cut-on test x next (xs ++ rest) whole.0 ∙ ap (onto_first x) (cut-append test next xs rest whole.1 cut)
+cut-append test x [] [] whole cut = refl
+cut-append test x [] (next ∷ rest) whole cut = ap (λ (b : Bool). cond b ((x ∷ []) ∷ cut_between test (next ∷ rest)) (onto_first x (cut_between test (next ∷ rest)))) cut
+cut-append test x (next ∷ xs) rest whole cut =
+    ap (λ (b : Bool). cond b ((x ∷ []) ∷ cut_between test (next ∷ xs ++ rest)) (onto_first x (cut_between test (next ∷ xs ++ rest)))) whole.0
+    ∙ ap (onto_first x) (cut-append test next xs rest whole.1 cut)
 
 -- one element more
 pub uncut-push : {X : Type 0} (test : X → X → Bool) (x : X) (xs : List X) (y : X) → IsUncut test x xs → test (last_in x xs) y ≡ false → IsUncut test x (xs ++ y ∷ [])
@@ -51,7 +37,6 @@ by_test true x parts xs is = ap (λ (ys : List _). x ∷ ys) is
 by_test false x parts xs is = onto_first-together x parts ∙ ap (λ (ys : List _). x ∷ ys) is
 
 pub cut_together : {X : Type 0} (test : X → X → Bool) (xs : List X) → flat_map (λ part. part) (cut_between test xs) ≡ xs
-unfolding cut_between
 cut_together test [] = refl
 cut_together test (x ∷ []) = refl
 cut_together test (x ∷ next ∷ xs) = by_test (test x next) x (cut_between test (next ∷ xs)) (next ∷ xs) (cut_together test (next ∷ xs))
@@ -66,7 +51,6 @@ mapped f true x parts others is = ap (λ (ps : List (List _)). (f x ∷ []) ∷ 
 mapped f false x parts others is = onto_first-map f x parts ∙ ap (onto_first (f x)) is
 
 pub cut-map : {X Y : Type 0} (f : X → Y) (test : Y → Y → Bool) (xs : List X) → map (map f) (cut_between (λ x y. test (f x) (f y)) xs) ≡ cut_between test (map f xs)
-unfolding cut_between
 cut-map f test [] = refl
 cut-map f test (x ∷ []) = refl
 cut-map f test (x ∷ next ∷ xs) = mapped f (test (f x) (f next)) x (cut_between (λ x y. test (f x) (f y)) (next ∷ xs)) (cut_between test (map f (next ∷ xs))) (cut-map f test (next ∷ xs))

@@ -10,11 +10,10 @@ use Rattle.pp_machine.specs.Headline.{HoldsOnEachChannel, events_on, opening_his
 use Rattle.pp_machine.specs.MachineState.{MachineState, history_of, is_opened}
 use Rattle.pp_machine.specs.declared.trace.Trace.{Trace}
 use Rattle.pp_sessions.specs.SessionsText.{channel_lines, lines_from}
-use Rattle.pp_sessions.specs.Stretches.{are_parted, stretches}
+use Rattle.pp_sessions.specs.Stretches.{stretches}
 use Rattle.pp_sessions.specs.TimedEvents.{events_in, opening_events, timed_event, timed_events, timed_on}
 use Rattle.pp_sessions.specs.declared.moment.TimedEvent.{TimedEvent}
-use Rattle.pp_sessions.proofs.CutLemmas.{cut-nil}
-use Rattle.pp_sessions.proofs.TakeInLemmas.{dead_start_event, no_lines}
+use Rattle.pp_sessions.proofs.TakeInLemmas.{dead_start_event}
 
 opening : (b : Bool) → events_in (cond b (dead_start_event ∷ []) []) ≡ cond b (Activate ∷ []) []
 opening true = refl
@@ -46,5 +45,3 @@ none_mapped (e ∷ events) is = absurd (cc)
 pub lines_of_none : (w : Bool) (m : MachineState) (c : ℕ) (h : List Event) → h ≡ [] → h ≡ opening_history c m ++ events_on c m.trace → channel_lines w m c ≡ []
 lines_of_none w m c h none is =
     ap (λ (events : List TimedEvent). lines_from w c 1 (stretches events)) (none_mapped (timed_events c m) (timed_history c m ∙ sym is ∙ none))
-    ∙ ap (lines_from w c 1) (cut-nil are_parted)
-    ∙ no_lines w c 1

@@ -19,7 +19,7 @@ use Rattle.pp_sessions.specs.Stretches.{is_session, begins_session, cut_between,
 use Rattle.pp_sessions.specs.TimedEvents.{events_in}
 use Rattle.pp_sessions.specs.declared.moment.TimedEvent.{TimedEvent}
 use Rattle.pp_sessions.proofs.CourseLemmas.{BeginsSession, begins_with_session, course_parts, lone_word, passed_words, sessions_on, whole_then}
-use Rattle.pp_sessions.proofs.CutLemmas.{IsCutBefore, cut-append, cut-map, cut-nil, last_in, uncut-push}
+use Rattle.pp_sessions.proofs.CutLemmas.{IsCutBefore, cut-append, cut-map, last_in, uncut-push}
 
 -- ---- events that neither begin nor end a session
 
@@ -91,10 +91,9 @@ abbrev open_parts : Option Session → List (List Event)
 open_parts o = map (λ session. session_events session false) (option_to_list o)
 
 cut_open : (o : Option Session) → cut_between is_over (sessions_on [] o) ≡ open_parts o
-cut_open None = cut-nil is_over
+cut_open None = refl
 cut_open (Some s) =
     cut-append is_over Activate (words s) [] (uncut_words s) tt
-    ∙ ap (λ (parts : List (List Event)). body s ∷ parts) (cut-nil is_over)
     ∙ ap (λ (part : List Event). part ∷ []) (sym (append-nil (body s)))
 
 cut_sessions : (whole : List (Session × List ℕ)) (o : Option Session) → cut_between is_over (sessions_on whole o) ≡ flat_map whole_parts whole ++ open_parts o
@@ -233,7 +232,6 @@ idle_words codes events are = of_events events ∙ ap (filter_map word_of) are �
 -- ---- the numbers of sessions
 
 numbered_from : (w : Bool) (c number : ℕ) (before after : List (List TimedEvent)) → lines_from w c number (before ++ after) ≡ lines_from w c number before ++ lines_from w c (number + count_by is_session before) after
-unfolding lines_from
 numbered_from w c number [] after = let same : number ≡ number + 0 = omega arith in ap (λ (k : ℕ). lines_from w c k after) same
 numbered_from w c number (stretch ∷ before) after =
     let others = lines_from w c (next_number number stretch) before in

@@ -1,21 +1,21 @@
 -- The lines of a channel, event by event.
 use Rattle.std.proofs.Common.{◌≡◌, ◌≢◌, ℕ, ◌+◌, ◌-◌, ◌<◌, ◌≤◌, Bool, true, false, ◌||◌, cond, eqb, List, [], ◌∷◌, ◌++◌, length, drop, take, get_or, Option, None, Some, refl, sym, ap, subst, ◌∙◌, append_assoc, arith}
 use Rattle.std.specs.List.{cons_option}
-use Rattle.std.proofs.lemmas.Bool.{eq-eqb, ne_eqb}
+use Rattle.std.proofs.lemmas.Bool.{cond-true, eq-eqb, ne_eqb}
 use Rattle.std.proofs.lemmas.List.{append-nil, length-drop, take_all, take_more, drop-append-le, drop_at}
 use Rattle.std.proofs.lemmas.List.Elements.{filter_map-append}
 use Rattle.pp_channel.specs.declared.event.Event.TheVariants.{Activate}
 use Rattle.pp_machine.specs.MachineState.{MachineState, is_opened}
 use Rattle.pp_machine.specs.declared.trace.Trace.{Trace}
 use Rattle.pp_sessions.specs.OpenStretch.{IsOpen, IsUncut, Open, TakesIn, open_at}
-use Rattle.pp_sessions.specs.SessionsText.{lines_from, next_number, stretch_text, line_and_words}
+use Rattle.pp_sessions.specs.SessionsText.{lines_from, line_and_words}
 use Rattle.pp_sessions.specs.Stretches.{are_parted, begins_session, ends_session, stretches, tally_of, word_of, words_in}
 use Rattle.pp_sessions.specs.TimedEvents.{opening_events, timed_event, timed_events, timed_on}
 use Rattle.pp_sessions.specs.declared.moment.Moment.TheVariants.{DeadStart}
 use Rattle.pp_sessions.specs.declared.moment.TimedEvent.{TimedEvent}
 use Rattle.pp_sessions.specs.declared.open_stretch.OpenStretch.{OpenStretch}
 use Rattle.pp_sessions.specs.declared.tally.Tally.{Tally}
-use Rattle.pp_sessions.proofs.CutLemmas.{cut-append, cut-nil, last_in, uncut-push}
+use Rattle.pp_sessions.proofs.CutLemmas.{cut-append, last_in, uncut-push}
 
 -- ---- the stretch that is open
 
@@ -55,14 +55,6 @@ parted_by told first others e b is over = ap (λ (x : Bool). x || begins_session
 
 -- ---- lines
 
-lines_more : (w : Bool) (c number : ℕ) (stretch : List TimedEvent) (others : List (List TimedEvent)) → lines_from w c number (stretch ∷ others) ≡ stretch_text w c number stretch ++ lines_from w c (next_number number stretch) others
-unfolding lines_from
-lines_more w c number stretch others = refl
-
-pub no_lines : (w : Bool) (c number : ℕ) → lines_from w c number [] ≡ []
-unfolding lines_from
-no_lines w c number = refl
-
 -- the words with those of more events
 pub words_more : (events more : List TimedEvent) → words_in (events ++ more) ≡ words_in events ++ words_in more
 words_more events more = filter_map-append (λ (e : TimedEvent). word_of e.event) events more
@@ -100,7 +92,6 @@ takes_next w c old new e told next was over number is next_is has = λ stretch i
       λ rest.
           ap (λ (es : List TimedEvent). lines_from w c old.number (stretches (es ++ (e ∷ rest)))) s.is_stretch
           ∙ ap (lines_from w c old.number) (cut-append are_parted s.first s.others (e ∷ rest) s.uncut (parted_by told s.first s.others e true s.is_told over))
-          ∙ lines_more w c old.number (s.first ∷ s.others) (stretches (e ∷ rest))
           ∙ ap (λ (t : Tally). line_and_words w c old.number t (words_in (s.first ∷ s.others)) ++ lines_from w c (cond (begins_session s.first.event) (old.number + 1) old.number) (stretches (e ∷ rest))) (sym s.is_told)
           ∙ ap (λ (ws : List ℕ). line_and_words w c old.number told ws ++ lines_from w c (cond (begins_session s.first.event) (old.number + 1) old.number) (stretches (e ∷ rest))) (sym s.has_words)
           ∙ ap (λ (b : Bool). line_and_words w c old.number told old.words ++ lines_from w c (cond b (old.number + 1) old.number) (stretches (e ∷ rest))) (sym (tells_session s.first s.others) ∙ sym (ap (λ (t : Tally). t.is_session) s.is_told))
@@ -139,8 +130,8 @@ takes_all w c events printed last told takes is =
     ap (λ (es : List TimedEvent). lines_from w c 1 (stretches es)) (sym (append-nil events))
     ∙ lines []
     ∙ ap (λ (es : List TimedEvent). printed ++ lines_from w c last.number (stretches (es ++ []))) s.is_stretch
-    ∙ ap (λ (parts : List (List TimedEvent)). printed ++ lines_from w c last.number parts) (cut-append are_parted s.first s.others [] s.uncut tt ∙ ap (λ (parts : List (List TimedEvent)). (s.first ∷ s.others) ∷ parts) (cut-nil are_parted))
-    ∙ ap (λ (text : List ℕ). printed ++ text) (lines_more w c last.number (s.first ∷ s.others) [] ∙ ap (λ (text : List ℕ). line_and_words w c last.number (tally_of s.first s.others) (words_in (s.first ∷ s.others)) ++ text) (no_lines w c (next_number last.number (s.first ∷ s.others))) ∙ append-nil (line_and_words w c last.number (tally_of s.first s.others) (words_in (s.first ∷ s.others))))
+    ∙ ap (λ (parts : List (List TimedEvent)). printed ++ lines_from w c last.number parts) (cut-append are_parted s.first s.others [] s.uncut tt)
+    ∙ ap (λ (text : List ℕ). printed ++ text) (append-nil (line_and_words w c last.number (tally_of s.first s.others) (words_in (s.first ∷ s.others))))
     ∙ ap (λ (t : Tally). printed ++ line_and_words w c last.number t (words_in (s.first ∷ s.others))) (sym s.is_told)
     ∙ ap (λ (ws : List ℕ). printed ++ line_and_words w c last.number told ws) (sym s.has_words)
 
@@ -151,8 +142,6 @@ takes_nothing w c events printed last takes is =
     ap (λ (es : List TimedEvent). lines_from w c 1 (stretches es)) (sym (append-nil events))
     ∙ lines []
     ∙ ap (λ (es : List TimedEvent). printed ++ lines_from w c last.number (stretches (es ++ []))) (none_open last.tally last.words stretch is is_open)
-    ∙ ap (λ (parts : List (List TimedEvent)). printed ++ lines_from w c last.number parts) (cut-nil are_parted)
-    ∙ ap (λ (text : List ℕ). printed ++ text) (no_lines w c last.number)
     ∙ append-nil printed
 
 -- ---- an entry of the trace, and what dead start made
@@ -163,12 +152,6 @@ takes_these w c old new es fs printed same takes = subst (λ (gs : List TimedEve
 pub entry_on : (c : ℕ) (entry : Trace) → entry.channel ≡ c → timed_event entry ∷ [] ≡ timed_on c (entry ∷ [])
 entry_on c entry here = ap (λ (b : Bool). cons_option (cond b (Some (timed_event entry)) None) []) (sym (eq-eqb entry.channel c here))
 
-pub opened_there : (c : ℕ) (m : MachineState) (opened : Bool) → opened ≡ is_opened c m → opened ≡ true → record { moment = DeadStart; event = Activate } ∷ [] ≡ opening_events c m
-opened_there c m opened is so = ap (λ (b : Bool). cond b (let e : TimedEvent = record { moment = DeadStart; event = Activate } in e ∷ []) []) (sym so ∙ is)
-
-pub not_opened : (c : ℕ) (m : MachineState) (opened : Bool) → opened ≡ is_opened c m → opened ≡ false → [] ≡ opening_events c m
-not_opened c m opened is so = ap (λ (b : Bool). cond b (let e : TimedEvent = record { moment = DeadStart; event = Activate } in e ∷ []) []) (sym so ∙ is)
-
 -- the Activate that dead start made
 abbrev pub dead_start_event : TimedEvent
 dead_start_event = record { moment = DeadStart; event = Activate }
@@ -176,7 +159,7 @@ dead_start_event = record { moment = DeadStart; event = Activate }
 pub takes_dead_start : (w : Bool) (c : ℕ) (m : MachineState) (opened : Bool) (told : Tally) → opened ≡ is_opened c m → opened ≡ true → told ≡ tally_of dead_start_event [] → TakesIn w c nothing_open (opening_events c m) [] (record { number = 1; tally = Some told; words = [] })
 takes_dead_start w c m opened told is so told_is =
     let new : Open = record { number = 1; tally = Some told; words = [] } in
-    takes_these w c nothing_open new (dead_start_event ∷ []) (opening_events c m) [] (opened_there c m opened is so) (takes_first w c nothing_open new dead_start_event told refl refl refl told_is refl)
+    takes_these w c nothing_open new (dead_start_event ∷ []) (opening_events c m) [] (sym (cond-true (is_opened c m) (dead_start_event ∷ []) [] (sym is ∙ so))) (takes_first w c nothing_open new dead_start_event told refl refl refl told_is refl)
 
 -- all entries have come
 pub takes_whole : (w : Bool) (c : ℕ) (m : MachineState) (entries : List Trace) (index : ℕ) (printed : List ℕ) (current : OpenStretch) → length entries ≤ index → entries ≡ m.trace

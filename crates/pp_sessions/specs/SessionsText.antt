@@ -85,7 +85,7 @@ abbrev pub next_number : ℕ → List TimedEvent → ℕ
 next_number number stretch = if is_session stretch then number + 1 else number
 
 -- the lines of stretches, if the first session among them has this number
-unfoldable pub lines_from : Bool → ℕ → ℕ → List (List TimedEvent) → List ℕ
+abbrev pub lines_from : Bool → ℕ → ℕ → List (List TimedEvent) → List ℕ
 lines_from with_words c number [] = []
 lines_from with_words c number (stretch ∷ others) =
     stretch_text with_words c number stretch

@@ -22,7 +22,7 @@ abbrev pub is_over : Event → Event → Bool
 is_over event next = ends_session event || begins_session next
 
 -- a list, cut between any two neighbours that pass a test
-unfoldable pub cut_between : {X : Type 0} → (X → X → Bool) → List X → List (List X)
+abbrev pub cut_between : {X : Type 0} → (X → X → Bool) → List X → List (List X)
 cut_between test [] = []
 cut_between test (x ∷ []) = (x ∷ []) ∷ []
 cut_between test (x ∷ next ∷ xs) =
