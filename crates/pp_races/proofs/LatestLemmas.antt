@@ -15,7 +15,7 @@ use Rattle.pp_races.specs.Watch.{from_alike, missed_event}
 use Rattle.pp_races.specs.declared.flag_set.FlagSet.{FlagSet}
 use Rattle.pp_races.specs.declared.latest.Latest.{Latest}
 use Rattle.pp_races.specs.declared.low.Low.{Low}
-use Rattle.pp_races.proofs.LowLemmas.{alike_none, alike_passed, missed_nil, missed_push, missed_push_other, through_nil, through_push, through_push_other}
+use Rattle.pp_races.proofs.LowLemmas.{alike_passed, missed_push, missed_push_other, through_push, through_push_other}
 use Rattle.pp_races.proofs.FlagSetLemmas.{each_flags}
 use Rattle.pp_races.proofs.SpanLemmas.{alike_append}
 
@@ -23,8 +23,8 @@ use Rattle.pp_races.proofs.SpanLemmas.{alike_append}
 
 nothing_past : (c : ℕ) (trace : List Trace) (from : ℕ) (test : Flags → Bool) (f : Flags) → length trace ≤ from → (from_alike test (missed_from c f (drop from trace)) ≡ []) × (flags_through c f (drop from trace) ≡ f)
 nothing_past c trace from test f past = (
-  ap (λ t. from_alike test (missed_from c f t)) (drop_all from trace past) ∙ ap (λ x. from_alike test x) (missed_nil c f) ∙ alike_none test,
-  ap (λ t. flags_through c f t) (drop_all from trace past) ∙ through_nil c f,
+  ap (λ t. from_alike test (missed_from c f t)) (drop_all from trace past),
+  ap (λ t. flags_through c f t) (drop_all from trace past),
 )
 
 pub latest_none : (c : ℕ) → IsLatest c [] no_latest
@@ -92,7 +92,7 @@ module _ (c : ℕ) (trace : List Trace) (latest next : Latest) (e : Trace) (on :
           ∙ ap (λ x. from_alike test x) (missed_push c f (drop from trace) e on)
           ∙ alike_append test (missed_from c f (drop from trace)) (missed_event (flags_through c f (drop from trace)) e ∷ [])
           (is.none test from f fails (λ g holds. omega (arith, low g holds, no_less g)))
-          ∙ alike_passed test (missed_event (flags_through c f (drop from trace)) e) [] (fails_now test from f (omega arith) fails low) ∙ alike_none test
+          ∙ alike_passed test (missed_event (flags_through c f (drop from trace)) e) [] (fails_now test from f (omega arith) fails low)
     ];
   }
 

@@ -14,7 +14,6 @@ use Rattle.pp_races.specs.declared.low.Low.{Low}
 -- ---- tests that agree
 
 pub from_alike_same : (a b : Flags → Bool) → ((f : Flags) → a f ≡ b f) → (missed : List Missed) → from_alike a missed ≡ from_alike b missed
-unfolding from_alike
 from_alike_same a b same [] = refl
 from_alike_same a b same (e ∷ missed) =
     ap (λ (t : Bool). if t then e ∷ missed else from_alike a missed) (same e.found)
@@ -32,28 +31,16 @@ first_race_same a b same missed = ap (λ (o : Option Missed). option_map (λ (e 
 -- ---- one event of the trace
 
 pub missed_cons_here : (c : ℕ) (flags : Flags) (e : Trace) (trace : List Trace) → e.channel ≡ c → missed_from c flags (e ∷ trace) ≡ missed_event flags e ∷ missed_from c (flags_after e.event) trace
-unfolding missed_from
 missed_cons_here c flags e trace same = ap (λ (t : Bool). if t then missed_event flags e ∷ missed_from c (flags_after e.event) trace else missed_from c flags trace) (eq-eqb e.channel c same)
 
 pub missed_cons_other : (c : ℕ) (flags : Flags) (e : Trace) (trace : List Trace) → e.channel ≢ c → missed_from c flags (e ∷ trace) ≡ missed_from c flags trace
-unfolding missed_from
 missed_cons_other c flags e trace apart = ap (λ (t : Bool). if t then missed_event flags e ∷ missed_from c (flags_after e.event) trace else missed_from c flags trace) (ne_eqb e.channel c apart)
 
-pub missed_nil : (c : ℕ) (flags : Flags) → missed_from c flags [] ≡ []
-unfolding missed_from
-missed_nil c flags = refl
-
 pub through_cons_here : (c : ℕ) (flags : Flags) (e : Trace) (trace : List Trace) → e.channel ≡ c → flags_through c flags (e ∷ trace) ≡ flags_through c (flags_after e.event) trace
-unfolding flags_through
 through_cons_here c flags e trace same = ap (λ (t : Bool). if t then flags_through c (flags_after e.event) trace else flags_through c flags trace) (eq-eqb e.channel c same)
 
 pub through_cons_other : (c : ℕ) (flags : Flags) (e : Trace) (trace : List Trace) → e.channel ≢ c → flags_through c flags (e ∷ trace) ≡ flags_through c flags trace
-unfolding flags_through
 through_cons_other c flags e trace apart = ap (λ (t : Bool). if t then flags_through c (flags_after e.event) trace else flags_through c flags trace) (ne_eqb e.channel c apart)
-
-pub through_nil : (c : ℕ) (flags : Flags) → flags_through c flags [] ≡ flags
-unfolding flags_through
-through_nil c flags = refl
 
 -- the same from a place on
 pub missed_here : (c : ℕ) (flags : Flags) (trace : List Trace) (place : ℕ) (d : Trace) → place < length trace → (get_or trace place d).channel ≡ c
@@ -65,7 +52,7 @@ pub missed_other : (c : ℕ) (flags : Flags) (trace : List Trace) (place : ℕ) 
 missed_other c flags trace place d low apart = ap (λ t. missed_from c flags t) (drop_more trace place d low) ∙ missed_cons_other c flags (get_or trace place d) (drop (place + 1) trace) apart
 
 pub missed_past : (c : ℕ) (flags : Flags) (trace : List Trace) (place : ℕ) → length trace ≤ place → missed_from c flags (drop place trace) ≡ []
-missed_past c flags trace place past = ap (λ t. missed_from c flags t) (drop_all place trace past) ∙ missed_nil c flags
+missed_past c flags trace place past = ap (λ t. missed_from c flags t) (drop_all place trace past)
 
 pub through_here : (c : ℕ) (flags : Flags) (trace : List Trace) (place : ℕ) (d : Trace) → place < length trace → (get_or trace place d).channel ≡ c
     → flags_through c flags (drop place trace) ≡ flags_through c (flags_after (get_or trace place d).event) (drop (place + 1) trace)
@@ -76,13 +63,12 @@ pub through_other : (c : ℕ) (flags : Flags) (trace : List Trace) (place : ℕ)
 through_other c flags trace place d low apart = ap (λ t. flags_through c flags t) (drop_more trace place d low) ∙ through_cons_other c flags (get_or trace place d) (drop (place + 1) trace) apart
 
 pub through_past : (c : ℕ) (flags : Flags) (trace : List Trace) (place : ℕ) → length trace ≤ place → flags_through c flags (drop place trace) ≡ flags
-through_past c flags trace place past = ap (λ t. flags_through c flags t) (drop_all place trace past) ∙ through_nil c flags
+through_past c flags trace place past = ap (λ t. flags_through c flags t) (drop_all place trace past)
 
 -- ---- two spans, one after the other
 
 pub missed_append : (c : ℕ) (flags : Flags) (one two : List Trace) → missed_from c flags (one ++ two) ≡ missed_from c flags one ++ missed_from c (flags_through c flags one) two
-missed_append c flags [] two =
-    ap (λ f. missed_from c f two) (sym (through_nil c flags)) ∙ ap (λ k. k ++ missed_from c (flags_through c flags []) two) (sym (missed_nil c flags))
+missed_append c flags [] two = refl
 missed_append c flags (e ∷ one) two = elim (cases_eq e.channel c) [
   | inl on ↦
       missed_cons_here c flags e (one ++ two) on
@@ -97,7 +83,7 @@ missed_append c flags (e ∷ one) two = elim (cases_eq e.channel c) [
 ]
 
 pub through_append : (c : ℕ) (flags : Flags) (one two : List Trace) → flags_through c flags (one ++ two) ≡ flags_through c (flags_through c flags one) two
-through_append c flags [] two = ap (λ f. flags_through c f two) (sym (through_nil c flags))
+through_append c flags [] two = refl
 through_append c flags (e ∷ one) two = elim (cases_eq e.channel c) [
   | inl on ↦
       through_cons_here c flags e (one ++ two) on ∙ through_append c (flags_after e.event) one two
@@ -112,19 +98,19 @@ through_append c flags (e ∷ one) two = elim (cases_eq e.channel c) [
 pub missed_push : (c : ℕ) (flags : Flags) (trace : List Trace) (e : Trace) → e.channel ≡ c → missed_from c flags (trace ++ e ∷ []) ≡ missed_from c flags trace ++ missed_event (flags_through c flags trace) e ∷ []
 missed_push c flags trace e same =
     missed_append c flags trace (e ∷ [])
-    ∙ ap (λ k. missed_from c flags trace ++ k) (missed_cons_here c (flags_through c flags trace) e [] same ∙ ap (λ k. missed_event (flags_through c flags trace) e ∷ k) (missed_nil c (flags_after e.event)))
+    ∙ ap (λ k. missed_from c flags trace ++ k) (missed_cons_here c (flags_through c flags trace) e [] same)
 
 pub missed_push_other : (c : ℕ) (flags : Flags) (trace : List Trace) (e : Trace) → e.channel ≢ c → missed_from c flags (trace ++ e ∷ []) ≡ missed_from c flags trace
 missed_push_other c flags trace e apart =
     missed_append c flags trace (e ∷ [])
-    ∙ ap (λ k. missed_from c flags trace ++ k) (missed_cons_other c (flags_through c flags trace) e [] apart ∙ missed_nil c (flags_through c flags trace))
+    ∙ ap (λ k. missed_from c flags trace ++ k) (missed_cons_other c (flags_through c flags trace) e [] apart)
     ∙ append-nil (missed_from c flags trace)
 
 pub through_push : (c : ℕ) (flags : Flags) (trace : List Trace) (e : Trace) → e.channel ≡ c → flags_through c flags (trace ++ e ∷ []) ≡ flags_after e.event
-through_push c flags trace e same = through_append c flags trace (e ∷ []) ∙ through_cons_here c (flags_through c flags trace) e [] same ∙ through_nil c (flags_after e.event)
+through_push c flags trace e same = through_append c flags trace (e ∷ []) ∙ through_cons_here c (flags_through c flags trace) e [] same
 
 pub through_push_other : (c : ℕ) (flags : Flags) (trace : List Trace) (e : Trace) → e.channel ≢ c → flags_through c flags (trace ++ e ∷ []) ≡ flags_through c flags trace
-through_push_other c flags trace e apart = through_append c flags trace (e ∷ []) ∙ through_cons_other c (flags_through c flags trace) e [] apart ∙ through_nil c (flags_through c flags trace)
+through_push_other c flags trace e apart = through_append c flags trace (e ∷ []) ∙ through_cons_other c (flags_through c flags trace) e [] apart
 
 -- ---- searches, one event further
 
@@ -135,16 +121,10 @@ pub race_passed : (test : Flags → Bool) (e : Missed) (missed : List Missed) �
 race_passed test e missed is = ap (λ (t : Bool). option_map (λ (x : Missed). x.entry) (if t then Some e else find (λ (x : Missed). test x.found) missed)) is
 
 pub alike_found : (test : Flags → Bool) (e : Missed) (missed : List Missed) → test e.found ≡ true → from_alike test (e ∷ missed) ≡ e ∷ missed
-unfolding from_alike
 alike_found test e missed is = ap (λ (t : Bool). if t then e ∷ missed else from_alike test missed) is
 
 pub alike_passed : (test : Flags → Bool) (e : Missed) (missed : List Missed) → test e.found ≡ false → from_alike test (e ∷ missed) ≡ from_alike test missed
-unfolding from_alike
 alike_passed test e missed is = ap (λ (t : Bool). if t then e ∷ missed else from_alike test missed) is
-
-pub alike_none : (test : Flags → Bool) → from_alike test [] ≡ []
-unfolding from_alike
-alike_none test = refl
 
 -- ---- a loop over the trace, by its next event
 
@@ -178,7 +158,7 @@ module _ (alike : Flags → Bool) (c : ℕ) (flags : Flags) (trace : List Trace)
 
   pub alike_end : length trace ≤ place → (last : ℕ) → length trace ≤ last → missed_from c flags (drop last trace) ≡ whole
   alike_end past last also =
-      missed_past c flags trace last also ∙ sym (alike_none alike) ∙ ap (λ x. from_alike alike x) (sym (missed_past c flags trace place past)) ∙ so_far
+      missed_past c flags trace last also ∙ ap (λ x. from_alike alike x) (sym (missed_past c flags trace place past)) ∙ so_far
 
 pub flags_next : (c : ℕ) (flags : Flags) (trace : List Trace) (place : ℕ) (whole : Flags) (e : Trace) (next : Flags) → flags_through c flags (drop place trace) ≡ whole
     → place < length trace → e ≡ get_or trace place e → e.channel ≡ c → next ≡ flags_after e.event → flags_through c next (drop (place + 1) trace) ≡ whole
@@ -194,7 +174,7 @@ flags_skip c flags trace place whole e next so_far low is off next_is =
 
 -- where the flags at a place pass, no event is passed over
 pub alike_here : (alike : Flags → Bool) (c : ℕ) (flags : Flags) (trace : List Trace) → alike flags ≡ true → missed_from c flags trace ≡ from_alike alike (missed_from c flags trace)
-alike_here alike c flags [] is = missed_nil c flags ∙ sym (alike_none alike) ∙ ap (λ x. from_alike alike x) (sym (missed_nil c flags))
+alike_here alike c flags [] is = refl
 alike_here alike c flags (e ∷ trace) is = elim (cases_eq e.channel c) [
   | inl on ↦
       missed_cons_here c flags e trace on
@@ -213,7 +193,7 @@ first_entry (e ∷ missed) = Some e.entry
 
 race_first : (test : Flags → Bool) (missed : List Missed) → first_race test missed ≡ first_entry (from_alike test missed)
 unfolding first_entry
-race_first test [] = ap first_entry (sym (alike_none test))
+race_first test [] = refl
 race_first test (e ∷ missed) = by_test (race_first test missed) (test e.found) refl
   where
     by_test : first_race test missed ≡ first_entry (from_alike test missed) → (b : Bool) → test e.found ≡ b → first_race test (e ∷ missed) ≡ first_entry (from_alike test (e ∷ missed))

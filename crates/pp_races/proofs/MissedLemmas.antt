@@ -75,7 +75,6 @@ left_all : (test : Flags → Bool) (missed : List Missed) → AreLeft test misse
 left_all test missed = record { dropped = 0; sum = omega arith; not_alike = λ k d low. absurd (omega arith); same = λ k d. (let is : k ≡ 0 + k = omega arith in ap (λ j. get_or missed j d) is) }
 
 pub left_by : (test : Flags → Bool) (missed : List Missed) → AreLeft test missed (from_alike test missed)
-unfolding from_alike
 left_by test [] = left_all test []
 left_by test (e ∷ missed) = at_head (left_by test missed) (test e.found) refl
   where

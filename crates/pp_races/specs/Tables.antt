@@ -23,14 +23,14 @@ abbrev pub entry_place : ℕ → ℕ → ℕ
 entry_place q c = processor_index q * channel_count + channel_index c
 
 -- the events of a trace on channel c, if it has these flags before them
-unfoldable pub missed_from : ℕ → Flags → List Trace → List Missed
+abbrev pub missed_from : ℕ → Flags → List Trace → List Missed
 missed_from c flags [] = []
 missed_from c flags (e ∷ trace) =
     if e.channel == c then missed_event flags e ∷ missed_from c (flags_after e.event) trace
     else missed_from c flags trace
 
 -- the flags of channel c after these events, if it had those before them
-unfoldable pub flags_through : ℕ → Flags → List Trace → Flags
+abbrev pub flags_through : ℕ → Flags → List Trace → Flags
 flags_through c flags [] = flags
 flags_through c flags (e ∷ trace) =
     if e.channel == c then flags_through c (flags_after e.event) trace

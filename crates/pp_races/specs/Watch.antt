@@ -77,7 +77,7 @@ race_after None entry = []
 race_after (Some look) entry = After look entry ∷ []
 
 -- the events from the first on before which the look would have done the same
-unfoldable pub from_alike : (Flags → Bool) → List Missed → List Missed
+abbrev pub from_alike : (Flags → Bool) → List Missed → List Missed
 from_alike alike [] = []
 from_alike alike (e ∷ missed) = if alike e.found then e ∷ missed else from_alike alike missed
 
