@@ -1,8 +1,8 @@
 -- A lane, phase by phase.
-use Rattle.std.proofs.Common.{◌≡◌, ℕ, ◌+◌, ◌<◌, ◌≤◌, Bool, true, false, cond, List, [], ◌∷◌, ◌++◌, length, drop, get_or, Option, None, Some, sym, ap, ◌∙◌, append_assoc}
+use Rattle.std.proofs.Common.{◌≡◌, ℕ, ◌+◌, ◌<◌, ◌≤◌, Bool, true, false, cond, List, [], ◌∷◌, ◌++◌, length, drop, get_or, Option, Some, sym, ap, ◌∙◌, append_assoc}
 use Rattle.std.specs.Prelude.{option_to_list}
 use Rattle.std.specs.List.{filter_map}
-use Rattle.std.proofs.lemmas.List.{append-nil, at_drop_all, at_drop_more}
+use Rattle.std.proofs.lemmas.List.{at_drop_all, at_drop_more}
 use Rattle.std.proofs.lemmas.List.Elements.{filter_map-append}
 use Rattle.pp_word.specs.GrowingLists.{filter_map_one}
 use Rattle.pp_text.specs.PrintingLaws.{prints_on, prints_then}
@@ -42,13 +42,6 @@ goes_by contents start now whole lane current next rest is on =
   where
     drawn : Option Phase → List Phase → List ℕ
     drawn o phases = drawn_from lane.window lane.name lane.free (phases_from o phases)
-
--- it is the first
-pub begins : {W : Type 0} (contents : W → Option (List ℕ)) (start now : TextWriter W) (whole : List ℕ) (lane : Lane) (next : Phase) (rest : List Phase)
-    → lane.current ≡ None → LeadsTo contents start now whole lane (next ∷ rest) → LeadsTo contents start now whole (record lane { current = Some next }) rest
-begins contents start now whole lane next rest is =
-    leads_on contents start now whole lane (record lane { current = Some next }) (next ∷ rest) rest
-    (ap (λ (o : Option Phase). drawn_from lane.window lane.name lane.free (phases_from o (next ∷ rest))) (sym is))
 
 -- the phase before is over
 pub comes_next : {W : Type 0} (contents : W → Option (List ℕ)) (start old now : TextWriter W) (whole : List ℕ) (lane : Lane) (current next : Phase) (part : Part) (free : ℕ) (rest : List Phase)
@@ -96,10 +89,3 @@ pub comes_to_end : {W T : Type 0} (contents : W → Option (List ℕ)) (start ol
 comes_to_end contents start old new whole lane phase xs i past h last =
     prints_on contents start old new h.printed (still_drawn lane []) whole h.prints last
     (ap (λ (ps : List Phase). h.printed ++ still_drawn lane ps) (sym (at_drop_all (filter_map phase) xs i past)) ∙ h.rest)
-
--- the last phase, if there is one
-pub last_drawn : (lane : Lane) (current : Phase) (part : Part) → lane.current ≡ Some current → part ≡ part_of lane.window current None → part_elements lane.name lane.free part ≡ still_drawn lane []
-last_drawn lane current part is part_is =
-    ap (part_elements lane.name lane.free) part_is
-    ∙ sym (append-nil (part_elements lane.name lane.free (part_of lane.window current None)))
-    ∙ ap (λ (o : Option Phase). drawn_from lane.window lane.name lane.free (phases_from o [])) (sym is)

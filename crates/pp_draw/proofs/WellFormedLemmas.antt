@@ -4,7 +4,7 @@ use Rattle.std.proofs.lemmas.List.Sums.{fold-append}
 use Rattle.pp_channel.specs.History.{active, waiting}
 use Rattle.pp_machine.specs.MachineState.{MachineState, history_of, processor_of}
 use Rattle.pp_machine.specs.declared.pp_state.PpState.{PpState}
-use Rattle.pp_machine.specs.declared.pp_state.PpState.TheVariants.{Running, Stopped, Fault}
+use Rattle.pp_machine.specs.declared.pp_state.PpState.TheVariants.{Fault}
 use Rattle.pp_word.specs.Numeral.{octal}
 use Rattle.pp_channel.specs.ChannelNo.{channel_count, channel_index, channel_number}
 use Rattle.pp_machine.specs.PpNo.{processor_count, processor_index, processor_number}
@@ -50,9 +50,8 @@ plain_standing true None = refl
 plain_standing false None = refl
 
 plain_state : (state : PpState) → is_plain (state_text state) ≡ true
-plain_state Running = refl
-plain_state Stopped = refl
 plain_state (Fault number) = plain-append (codes "FAULT ") (octal 1 number) refl (plain_octal 1 number)
+plain_state other = refl
 
 balanced_channel : (w : Window) (m : MachineState) (c : ℕ) → IsBalanced (channel_lane w m c)
 unfolding channel_lane

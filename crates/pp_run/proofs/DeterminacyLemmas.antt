@@ -15,7 +15,7 @@ use Rattle.pp_machine.specs.PpNo.{processor_count}
 use Rattle.pp_machine.specs.Run.{run}
 use Rattle.pp_machine.specs.declared.answer.Answer.{Answer}
 use Rattle.pp_machine.specs.declared.need.Need.{Need}
-use Rattle.pp_machine.specs.declared.need.Need.TheVariants.{Nothing, Local, Channel, Read, Write}
+use Rattle.pp_machine.specs.declared.need.Need.TheVariants.{Local, Channel, Read, Write}
 use Rattle.pp_machine.proofs.MachineStepLemmas.{stepped_at_rest, event_at_rest}
 use Rattle.pp_run.specs.Determinacy.{Waits, IsQuiet, IsDeterminate, IsNoRaceAt, IsRaceFreeOn, Stays, TurnsInPlace, WaitsForGood, WritesAt, IsEmbeddedIn, ShowsParts, made_on, AreAlike, at_moment, processor_at, history_at, need_at, MayFind}
 use Rattle.pp_run.specs.Determinacy.IsEmbeddedIn.{over, next, beside}
@@ -60,8 +60,6 @@ module _ (ns : List ℕ) (m : MachineState) (all : length m.processors ≡ proce
       sizes = f.stands.size ∙ sym (run_central (take (reached q) ns) m)
 
       by_need : (x : Need) → need (processor_at ns m q (reached q)) ≡ x → Advances ns m (stepped q now) reached q ⊎ FindsEarly ns m reached stood q
-      by_need Nothing e = inl (off_channel ns m all each d now reached stood f q Nothing go e (λ c op g. cc) refl)
-      by_need Local e = inl (off_channel ns m all each d now reached stood f q Local go e (λ c op g. cc) refl)
       by_need (Read a) e =
           let same : slice_get now.central a ≡ slice_get (at_moment ns m (reached q)).central a = elim (cases_lt a (length m.central)) [
             | inl low ↦
@@ -86,6 +84,7 @@ module _ (ns : List ℕ) (m : MachineState) (all : length m.processors ≡ proce
               | inr waits ↦ inr (record { channel = c; operation = op; needs = e; exists = timely.exists; early = waits.0; stays = waits.1 })
             ]
           ]
+      by_need other e = inl (off_channel ns m all each d now reached stood f q other go e (λ c op g. cc) refl)
 
   -- a step of any processor keeps what all have come to
   comes_still : (now : MachineState) (t n : ℕ) → ComesTo ns m now t → ComesTo ns m (stepped n now) t

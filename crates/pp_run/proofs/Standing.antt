@@ -13,7 +13,7 @@ use Rattle.pp_machine.specs.NeedAndEffect.{need, processor_after}
 use Rattle.pp_machine.specs.Processor.{Processor}
 use Rattle.pp_machine.specs.PpNo.{processor_count}
 use Rattle.pp_machine.specs.declared.need.Need.{Need}
-use Rattle.pp_machine.specs.declared.need.Need.TheVariants.{Nothing, Local, Channel, Read, Write}
+use Rattle.pp_machine.specs.declared.need.Need.TheVariants.{Channel, Read, Write}
 use Rattle.pp_run.specs.Determinacy.{Waits, IsDeterminate, IsRaceFree, Stays, at_moment, processor_at, history_at, need_at, made_on, MayFind}
 use Rattle.pp_run.specs.Determinacy.MayFind.{processor_advances}
 use Rattle.pp_run.proofs.StepFacts.{own_step, other_step, word_unless, central_by, event_by_need}
@@ -109,14 +109,13 @@ words_alike q a one other pp lengths same = by_need (need (processor_of q other)
     kept none = word_unless q a one (λ w e. none w (ap (λ p. need p) (sym pp) ∙ e)) ∙ same ∙ sym (word_unless q a other none)
 
     by_need : (x : Need) → need (processor_of q other) ≡ x → word_of a (stepped q one) ≡ word_of a (stepped q other)
-    by_need Nothing e = kept (λ w f. let g : Nothing ≡ Write a w = sym e ∙ f in cc)
-    by_need Local e = kept (λ w f. let g : Local ≡ Write a w = sym e ∙ f in cc)
     by_need (Read b) e = kept (λ w f. let g : Read b ≡ Write a w = sym e ∙ f in cc)
     by_need (Channel c op) e = kept (λ w f. let g : Channel c op ≡ Write a w = sym e ∙ f in cc)
     by_need (Write b w) e =
         ap (λ (ws : List ℕ). get_or ws a 0) (central_by q one (Write b w) (ap (λ p. need p) pp ∙ e))
         ∙ set_alike one.central other.central b w a lengths same
         ∙ ap (λ (ws : List ℕ). get_or ws a 0) (sym (central_by q other (Write b w) e))
+    by_need other e = kept (λ w f. let g : other ≡ Write a w = sym e ∙ f in cc)
 
 pub read_alike : (a : ℕ) (one other : MachineState) → length one.central ≡ length other.central → word_of a one ≡ word_of a other → slice_get one.central a ≡ slice_get other.central a
 read_alike a one other lengths same = elim (cases_lt a (length one.central)) [

@@ -120,14 +120,11 @@ grows n c m each = by_need (need (processor_of n m)) refl
     ]
 
     by_need : (x : Need) → need (processor_of n m) ≡ x → (history_of c (stepped n m) ≡ history_of c m) ⊎ ((e : Event) × (history_of c (stepped n m) ≡ history_of c m ++ e ∷ []))
-    by_need Nothing e = inl (ap (λ (hs : List (List Event)). get_or hs (channel_index c) []) (histories_by n m Nothing e))
-    by_need Local e = inl (ap (λ (hs : List (List Event)). get_or hs (channel_index c) []) (histories_by n m Local e))
-    by_need (Read a) e = inl (ap (λ (hs : List (List Event)). get_or hs (channel_index c) []) (histories_by n m (Read a) e))
-    by_need (Write a w) e = inl (ap (λ (hs : List (List Event)). get_or hs (channel_index c) []) (histories_by n m (Write a w) e))
     by_need (Channel d op) e = elim (cases_eq d c) [
       | inl same ↦ made op (event_of op (history_of c m)) (subst (λ (k : ℕ). need (processor_of n m) ≡ Channel k op) same e) refl
       | inr apart ↦ inl (history_elsewhere n c d op m each e (λ is. apart (sym is)))
     ]
+    by_need other e = inl (ap (λ (hs : List (List Event)). get_or hs (channel_index c) []) (histories_by n m other e))
 
 length_by : (x : Need) (m : MachineState) → length (histories_after x m) ≡ length m.histories
 length_by (Channel c op) m = length-set m.histories (channel_index c) (history_after op (history_of c m))
@@ -208,11 +205,8 @@ made_unless n c m none = by_need (need (processor_of n m)) refl
     ]
 
     by_need : (x : Need) → need (processor_of n m) ≡ x → made_on c (stepped n m).trace ≡ made_on c m.trace
-    by_need Nothing e = ap (λ (t : List Trace). made_on c t) (trace_by n m Nothing e)
-    by_need Local e = ap (λ (t : List Trace). made_on c t) (trace_by n m Local e)
-    by_need (Read a) e = ap (λ (t : List Trace). made_on c t) (trace_by n m (Read a) e)
-    by_need (Write a w) e = ap (λ (t : List Trace). made_on c t) (trace_by n m (Write a w) e)
     by_need (Channel k op) e = by_event k op (event_of op (history_of k m)) e refl
+    by_need other e = ap (λ (t : List Trace). made_on c t) (trace_by n m other e)
 
 -- so it is the same where the history of the channel is, if there is such a channel
 pub made_as_history : (n c : ℕ) (m : MachineState) → length m.histories ≡ channel_count → IsTrue (names_channel c) → history_of c (stepped n m) ≡ history_of c m → made_on c (stepped n m).trace ≡ made_on c m.trace

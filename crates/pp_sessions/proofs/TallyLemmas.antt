@@ -7,7 +7,7 @@ use Rattle.std.proofs.lemmas.List.{append-nil, length-append, length_push, map-a
 use Rattle.std.proofs.lemmas.List.Elements.{filter_map-append}
 use Rattle.pp_channel.specs.Session.{puts, takes, word_put, word_taken}
 use Rattle.pp_channel.specs.declared.event.Event.{Event}
-use Rattle.pp_channel.specs.declared.event.Event.TheVariants.{Activate, Disconnect, Put, Take, Function}
+use Rattle.pp_channel.specs.declared.event.Event.TheVariants.{Put, Take}
 use Rattle.pp_word.specs.LastElements.{after_last-found, after_last-push, last_or-push}
 use Rattle.pp_sessions.specs.OpenStretch.{untaken_after}
 use Rattle.pp_sessions.specs.SessionsLaw.{TellsMoments}
@@ -34,11 +34,9 @@ stays events e other none =
     after_no_take events e other ∙ ap (λ (ws : List ℕ). last_or None (puts (after_last is_take events) ++ ws)) none ∙ ap (last_or None) (append-nil (puts (after_last is_take events)))
 
 pub untaken_more : (events : List Event) (e : Event) → untaken (events ++ e ∷ []) ≡ untaken_after e (untaken events)
-untaken_more events Activate = stays events Activate refl refl
-untaken_more events Disconnect = stays events Disconnect refl refl
-untaken_more events (Function w) = stays events (Function w) refl refl
 untaken_more events (Put w) = after_no_take events (Put w) refl ∙ last_or-push None (puts (after_last is_take events)) w
 untaken_more events (Take w) = ap (λ (es : List Event). last_or None (puts es)) (after_last-found is_take events (Take w) refl)
+untaken_more events other = stays events other refl refl
 
 -- a stretch with an event more
 abbrev with_event : Tally → TimedEvent → Tally

@@ -66,7 +66,7 @@ one_word count word =
     ++ (if count == 7 then line_end else [])
 
 -- words, eight a line, after `count` others on the first line
-unfoldable pub words_from : ℕ → List ℕ → List ℕ
+abbrev pub words_from : ℕ → List ℕ → List ℕ
 words_from count [] = if count == 0 then [] else line_end
 words_from count (word ∷ words) = one_word count word ++ words_from ((count + 1) % 8) words
 

@@ -1,8 +1,11 @@
-use Rattle.std.proofs.Common.{◌≡◌, ◌≢◌, ◌++◌, ℕ, List, sym, ap, subst, ◌∙◌, arith}
+use Rattle.std.proofs.Common.{◌≡◌, ◌≢◌, ◌++◌, [], ℕ, List, eqb, sym, ap, subst, ◌∙◌, arith}
+use Rattle.std.proofs.lemmas.Bool.{cond-false, ne_eqb}
 use Rattle.std.proofs.lemmas.List.{append-nil}
+use Rattle.pp_text.specs.PrintedText.{line_end}
 use Rattle.pp_text.specs.TextWriter.{Prints}
+use Rattle.pp_sessions.specs.SessionsText.{words_from}
 use Rattle.pp_text.specs.PrintingLaws.{prints_on, prints_then}
-use Rattle.pp_sessions.proofs.WordLemmas.{all_printed, entry_printed, line_ended, no_words}
+use Rattle.pp_sessions.proofs.WordLemmas.{all_printed, entry_printed}
 use Rattle.pp_sessions.proofs.words.print_words.Goals as goal
 
 pub loop-entry-preserved : goal.loop-entry-preserved
@@ -24,7 +27,7 @@ returns-then-count-gt0 g c =
     let count = c.loop-entry.count in
     let other : count ≢ 0 = λ e. omega (arith, e, c.if-count-gt0.true) in
     prints_on _ _ _ _ printed _ _ prints c.print.ensures
-    (ap (λ (text : List ℕ). printed ++ text) (sym (line_ended count other)) ∙ all_printed c.args.c c.loop-entry.entry-index count c.args.entries.now printed c.loop-entry-test.false told)
+    (ap (λ (text : List ℕ). printed ++ text) (sym (cond-false (eqb count 0) [] line_end (ne_eqb count 0 other))) ∙ all_printed c.args.c c.loop-entry.entry-index count c.args.entries.now printed c.loop-entry-test.false told)
 
 pub returns-else-count-gt0 : goal.returns-else-count-gt0
 returns-else-count-gt0 g c =
@@ -32,4 +35,4 @@ returns-else-count-gt0 g c =
     let count = c.loop-entry.count in
     let none : count ≡ 0 = omega (arith, c.if-count-gt0.false) in
     subst (Prints _ _ _)
-    (sym (append-nil printed) ∙ ap (λ (text : List ℕ). printed ++ text) (sym (no_words count none)) ∙ all_printed c.args.c c.loop-entry.entry-index count c.args.entries.now printed c.loop-entry-test.false told) prints
+    (sym (append-nil printed) ∙ ap (λ (text : List ℕ). printed ++ text) (ap (λ (k : ℕ). words_from k []) (sym none)) ∙ all_printed c.args.c c.loop-entry.entry-index count c.args.entries.now printed c.loop-entry-test.false told) prints
