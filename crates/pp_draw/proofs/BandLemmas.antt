@@ -14,12 +14,11 @@ use Rattle.pp_text.specs.PrintedText.{each_below}
 use Rattle.pp_draw.specs.Condition.{is_sent}
 use Rattle.pp_draw.specs.DrawingLaw.{Adjoin, GoesToEnd, IsTurnOf, StandsWithin}
 use Rattle.pp_draw.specs.DrawingText.{channel_lane, count_below, drawing, is_flagged, is_used, lanes, lanes_above, processor_lane, used_among}
-use Rattle.pp_draw.specs.Frame.{foot_text, head_text, ticks_text}
+use Rattle.pp_draw.specs.Frame.{foot_text}
 use Rattle.pp_draw.specs.Elements.{band_element, free_after, label_element, part_elements}
 use Rattle.pp_draw.specs.Lane.{drawn_from, next_in}
 use Rattle.pp_draw.specs.Part.{is_visible, label_from, part_of, until}
 use Rattle.pp_draw.specs.Window.{place}
-use Rattle.pp_draw.specs.declared.frame.TheConstants.{LEGEND, STYLE}
 use Rattle.pp_draw.specs.declared.part.Phase.{Phase}
 use Rattle.pp_draw.specs.declared.seen_step.SeenStep.{SeenStep}
 use Rattle.pp_draw.specs.declared.window.Window.{Window}
@@ -75,31 +74,6 @@ visible_where w phase next =
           lt-ltb (place w since) (place w end) (wider narrow (turns_before w since) (turns_before w end) (shown_turn w since end turn is.in_window.0 is.in_window.1 is.in_part.0 is.in_part.1)),
     )
 
-pub band_stands : (w : Window) (name : List ℕ) (free : ℕ) (before : List Phase) (phase : Phase) (more : List Phase) → IsTrue (is_visible (part_of w phase (next_in more)))
-    → StandsWithin (band_element name (part_of w phase (next_in more))) (drawn_from w name free (before ++ phase ∷ more))
-band_stands w name free [] phase more seen =
-    let part = part_of w phase (next_in more) in
-    let label = label_element part (label_from free part) in
-    let rest = drawn_from w name (free_after free part) more in (
-      [],
-      label ++ rest,
-      ap (λ (b : Bool). (cond b (band_element name part) [] ++ label) ++ rest) seen
-          ∙ append_assoc (band_element name part) label rest,
-    )
-band_stands w name free (first ∷ before) phase more seen =
-    let part = part_of w first (next_in (before ++ phase ∷ more)) in
-    let band = band_element name (part_of w phase (next_in more)) in
-    let drawn = part_elements name free part in
-    let (front, back, is) = band_stands w name (free_after free part) before phase more seen in (
-      drawn ++ front,
-      back,
-      ap (λ (text : List ℕ). drawn ++ text) is
-          ∙ sym (append_assoc drawn (front ++ band) back)
-          ∙ ap (λ (text : List ℕ). text ++ back) (sym (append_assoc drawn front band)),
-    )
-
--- ---- and lanes
-
 stands_front : (text whole more : List ℕ) → StandsWithin text whole → StandsWithin text (whole ++ more)
 stands_front text whole more h =
     let (front, back, is) = h in
@@ -115,6 +89,23 @@ stands_back text before whole h =
           ∙ ap (λ (t : List ℕ). t ++ back) (sym (append_assoc before front text)),
     )
 
+pub band_stands : (w : Window) (name : List ℕ) (free : ℕ) (before : List Phase) (phase : Phase) (more : List Phase) → IsTrue (is_visible (part_of w phase (next_in more)))
+    → StandsWithin (band_element name (part_of w phase (next_in more))) (drawn_from w name free (before ++ phase ∷ more))
+band_stands w name free [] phase more seen =
+    let part = part_of w phase (next_in more) in
+    let label = label_element part (label_from free part) in
+    let rest = drawn_from w name (free_after free part) more in (
+      [],
+      label ++ rest,
+      ap (λ (b : Bool). (cond b (band_element name part) [] ++ label) ++ rest) seen
+          ∙ append_assoc (band_element name part) label rest,
+    )
+band_stands w name free (first ∷ before) phase more seen =
+    let part = part_of w first (next_in (before ++ phase ∷ more)) in
+    stands_back (band_element name (part_of w phase (next_in more))) (part_elements name free part) _ (band_stands w name (free_after free part) before phase more seen)
+
+-- ---- and lanes
+
 one_of_each : (count : ℕ) (said : ℕ → List ℕ) (k : ℕ) → k < count → StandsWithin (said k) (each_below count said)
 unfolding each_below
 one_of_each zero said k less = absurd (omega (arith, less))
@@ -126,29 +117,23 @@ one_of_each (suc n) said k less =
     stands_back (said k) (each_below n said) (said n) (subst (λ (j : ℕ). StandsWithin (said k) (said j)) is ([], [], sym (append-nil (said k)))))
     (cases_lt k n)
 
+-- what is printed of one number stands in what is printed of all
+each_stands : (front back : List ℕ) (count : ℕ) (said : ℕ → List ℕ) (k : ℕ) (text : List ℕ) → k < count → said k ≡ text → StandsWithin text (front ++ each_below count said ++ back)
+each_stands front back count said k text less is =
+    subst (λ (t : List ℕ). StandsWithin t (front ++ each_below count said ++ back)) is
+    (stands_front (said k) (front ++ each_below count said) back (stands_back (said k) front (each_below count said) (one_of_each count said k less)))
+
 pub channel_stands : (w : Window) (shown : List Bool) (m : MachineState) (steps : List SeenStep) (c : ℕ) → IsTrue (names_channel c) → StandsWithin (channel_lane w m c) (drawing w shown m steps)
 unfolding drawing
 channel_stands w shown m steps c names =
-    let rows = lanes shown m in
-    let lane = λ (p : ℕ). channel_lane w m (channel_number p) in
-    let above = head_text w rows ++ STYLE.now ++ LEGEND.now ++ ticks_text w rows in
-    let channels = each_below channel_count lane in
-    let processors = each_below processor_count (λ (p : ℕ). processor_lane w shown m steps (processor_number p)) in
-    subst (λ (n : ℕ). StandsWithin (channel_lane w m n) (above ++ channels ++ processors ++ foot_text rows)) (channel_places.number_of_place c names)
-    (stands_front (lane (channel_index c)) (above ++ channels ++ processors) (foot_text rows)
-    (stands_front (lane (channel_index c)) (above ++ channels) processors
-    (stands_back (lane (channel_index c)) above channels (one_of_each channel_count lane (channel_index c) (channel_places.place_below c names)))))
+    stands_front (channel_lane w m c) _ (foot_text (lanes shown m))
+    (each_stands _ _ channel_count (λ (p : ℕ). channel_lane w m (channel_number p)) (channel_index c) (channel_lane w m c) (channel_places.place_below c names) (ap (channel_lane w m) (channel_places.number_of_place c names)))
 
 pub processor_stands : (w : Window) (shown : List Bool) (m : MachineState) (steps : List SeenStep) (n : ℕ) → IsTrue (names_processor n) → StandsWithin (processor_lane w shown m steps n) (drawing w shown m steps)
 unfolding drawing
 processor_stands w shown m steps n names =
-    let rows = lanes shown m in
-    let lane = λ (p : ℕ). processor_lane w shown m steps (processor_number p) in
-    let above = head_text w rows ++ STYLE.now ++ LEGEND.now ++ ticks_text w rows ++ each_below channel_count (λ (p : ℕ). channel_lane w m (channel_number p)) in
-    let processors = each_below processor_count lane in
-    subst (λ (k : ℕ). StandsWithin (processor_lane w shown m steps k) (above ++ processors ++ foot_text rows)) (processor_places.number_of_place n names)
-    (stands_front (lane (processor_index n)) (above ++ processors) (foot_text rows)
-    (stands_back (lane (processor_index n)) above processors (one_of_each processor_count lane (processor_index n) (processor_places.place_below n names))))
+    each_stands _ (foot_text (lanes shown m)) processor_count (λ (p : ℕ). processor_lane w shown m steps (processor_number p)) (processor_index n) (processor_lane w shown m steps n) (processor_places.place_below n names)
+    (ap (processor_lane w shown m steps) (processor_places.number_of_place n names))
 
 -- ---- and below one another
 

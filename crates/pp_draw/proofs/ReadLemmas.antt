@@ -6,7 +6,7 @@ use Rattle.std.proofs.lemmas.List.Folds.{list_all-append}
 use Rattle.std.proofs.lemmas.List.Sums.{fold-append}
 use Rattle.pp_word.specs.Numeral.{digit, octal, short_decimal, unpadded}
 use Rattle.pp_word.specs.NumeralLaws.{Pass, digits_pass}
-use Rattle.pp_draw.specs.WellFormed.{Reader, Sign, Tag, at, between, letter, other, quoted, read, read_at, read_on, sign_of, space}
+use Rattle.pp_draw.specs.WellFormed.{Place, Reader, Sign, Tag, at, between, letter, other, quoted, read, read_at, read_on, sign_of, space}
 
 -- ---- plain texts: of letters, digits and spaces
 
@@ -54,23 +54,24 @@ text_sign other c within h = refl
 text_sign space c within h = refl
 text_sign sign c within h = absurd (cc)
 
-quoted_sign : (s : Sign) (c : ℕ) (tag : Tag) (within : List (List ℕ)) → is_plain_sign s ≡ true → read_at (quoted tag) s c within ≡ at within (quoted tag)
-quoted_sign letter c tag within h = refl
-quoted_sign other c tag within h = refl
-quoted_sign space c tag within h = refl
-quoted_sign sign c tag within h = absurd (cc)
+quoted_sign : (tag : Tag) (s : Sign) (c : ℕ) (within : List (List ℕ)) → is_plain_sign s ≡ true → read_at (quoted tag) s c within ≡ at within (quoted tag)
+quoted_sign tag letter c within h = refl
+quoted_sign tag other c within h = refl
+quoted_sign tag space c within h = refl
+quoted_sign tag sign c within h = absurd (cc)
+
+stays_at : (place : Place) (within : List (List ℕ)) → ((s : Sign) (c : ℕ) (names : List (List ℕ)) → is_plain_sign s ≡ true → read_at place s c names ≡ at names place)
+    → (text : List ℕ) → is_plain text ≡ true → read (at within place) text ≡ at within place
+stays_at place within stays [] h = refl
+stays_at place within stays (c ∷ text) h =
+    let (here, more) = and_parts (is_plain_character c) (is_plain text) h in
+    ap (λ (r : Option Reader). read r text) (stays (sign_of c) c within here) ∙ stays_at place within stays text more
 
 pub in_text : (text : List ℕ) → is_plain text ≡ true → (within : List (List ℕ)) → read (at within between) text ≡ at within between
-in_text [] h within = refl
-in_text (c ∷ text) h within =
-    let (here, more) = and_parts (is_plain_character c) (is_plain text) h in
-    ap (λ (r : Option Reader). read r text) (text_sign (sign_of c) c within here) ∙ in_text text more within
+in_text text h within = stays_at between within text_sign text h
 
 pub in_quotes : (text : List ℕ) → is_plain text ≡ true → (within : List (List ℕ)) (tag : Tag) → read (at within (quoted tag)) text ≡ at within (quoted tag)
-in_quotes [] h within tag = refl
-in_quotes (c ∷ text) h within tag =
-    let (here, more) = and_parts (is_plain_character c) (is_plain text) h in
-    ap (λ (r : Option Reader). read r text) (quoted_sign (sign_of c) c tag within here) ∙ in_quotes text more within tag
+in_quotes text h within tag = stays_at (quoted tag) within (quoted_sign tag) text h
 
 pub decimal_in_quotes : (n : ℕ) (within : List (List ℕ)) (tag : Tag) → read (at within (quoted tag)) (short_decimal n) ≡ at within (quoted tag)
 decimal_in_quotes n = in_quotes (short_decimal n) (plain_decimal n)

@@ -22,7 +22,7 @@ use Rattle.pp_machine.specs.Profile.{processor_in_turn, processors_in}
 use Rattle.pp_machine.specs.Run.{barrel, run}
 use Rattle.pp_machine.specs.declared.answer.Answer.{Answer}
 use Rattle.pp_machine.specs.declared.need.Need.{Need}
-use Rattle.pp_machine.specs.declared.need.Need.TheVariants.{Nothing, Local, Channel, Read, Write}
+use Rattle.pp_machine.specs.declared.need.Need.TheVariants.{Channel, Read, Write}
 use Rattle.pp_machine.specs.declared.profile.Profile.{Profile}
 use Rattle.pp_machine.specs.declared.profile.Profile.TheVariants.{Ten, Twenty}
 use Rattle.pp_machine.proofs.RunLawLemmas.{run_keeps}
@@ -81,18 +81,6 @@ central_alike one other a next = a.central
 channels_alike : (n c : ℕ) (one other : MachineState) → IsLawfulMachine one → IsLawfulMachine other
     → StandAlike one other → (x : Need) → need (processor_of n one) ≡ x → need (processor_of n other) ≡ x
     → channel_state (history_of c (stepped n other)) ≡ channel_state (history_of c (stepped n one))
-channels_alike n c one other l k a Nothing e f =
-    ap (λ (hs : List (List Event)). channel_state (get_or hs (channel_index c) [])) (histories_by n other Nothing f) ∙ a.channels c
-    ∙ ap (λ (hs : List (List Event)). channel_state (get_or hs (channel_index c) [])) (sym (histories_by n one Nothing e))
-channels_alike n c one other l k a Local e f =
-    ap (λ (hs : List (List Event)). channel_state (get_or hs (channel_index c) [])) (histories_by n other Local f) ∙ a.channels c
-    ∙ ap (λ (hs : List (List Event)). channel_state (get_or hs (channel_index c) [])) (sym (histories_by n one Local e))
-channels_alike n c one other l k a (Read b) e f =
-    ap (λ (hs : List (List Event)). channel_state (get_or hs (channel_index c) [])) (histories_by n other (Read b) f) ∙ a.channels c
-    ∙ ap (λ (hs : List (List Event)). channel_state (get_or hs (channel_index c) [])) (sym (histories_by n one (Read b) e))
-channels_alike n c one other l k a (Write b v) e f =
-    ap (λ (hs : List (List Event)). channel_state (get_or hs (channel_index c) [])) (histories_by n other (Write b v) f) ∙ a.channels c
-    ∙ ap (λ (hs : List (List Event)). channel_state (get_or hs (channel_index c) [])) (sym (histories_by n one (Write b v) e))
 channels_alike n c one other l k a (Channel d op) e f = elim (cases_lt (channel_index c) channel_count) [
   | inr past ↦
       ap channel_state (get_or_past (stepped n other).histories (channel_index c) [] (omega (arith, past, length_histories n other, k.channels)))
@@ -111,6 +99,9 @@ channels_alike n c one other l k a (Channel d op) e f = elim (cases_lt (channel_
             ∙ ap channel_state (sym (history_here n c op one l.channels names on))
       ]
 ]
+channels_alike n c one other l k a rest e f =
+    ap (λ (hs : List (List Event)). channel_state (get_or hs (channel_index c) [])) (histories_by n other rest f) ∙ a.channels c
+    ∙ ap (λ (hs : List (List Event)). channel_state (get_or hs (channel_index c) [])) (sym (histories_by n one rest e))
 
 stepped_alike : (n : ℕ) (one other : MachineState) → IsLawfulMachine one → IsLawfulMachine other
     → StandAlike one other → StandAlike (stepped n one) (stepped n other)

@@ -12,7 +12,7 @@ use Rattle.pp_machine.specs.PpNo.{processor_index}
 use Rattle.pp_machine.specs.Run.{run}
 use Rattle.pp_machine.specs.RunLaws.{barrel_more}
 use Rattle.pp_machine.specs.declared.need.Need.{Need}
-use Rattle.pp_machine.specs.declared.need.Need.TheVariants.{Nothing, Local, Channel, Read, Write}
+use Rattle.pp_machine.specs.declared.need.Need.TheVariants.{Nothing, Channel}
 use Rattle.pp_machine.specs.declared.trace.Trace.{Trace}
 use Rattle.pp_run.specs.Determinacy.{IsQuiet, Waits}
 use Rattle.pp_run.proofs.StepFacts.{central_by, event_by, event_by_need, histories_by, histories_none, own_step, processors_by, trace_by, trace_with}
@@ -21,21 +21,15 @@ use Rattle.pp_ends.specs.Endings.{AreSameButTurns, EndsQuietFrom, IsStillFrom, M
 -- a step that waits keeps histories and trace
 histories_kept : (n : ℕ) (m : MachineState) → Waits n m → (x : Need) → need (processor_of n m) ≡ x
     → (stepped n m).histories ≡ m.histories
-histories_kept n m w Nothing e = histories_by n m Nothing e
-histories_kept n m w Local e = histories_by n m Local e
-histories_kept n m w (Read a) e = histories_by n m (Read a) e
-histories_kept n m w (Write a v) e = histories_by n m (Write a v) e
 histories_kept n m w (Channel c op) e =
     histories_none n c op m e (sym (event_by_need n c op m e) ∙ w.event)
+histories_kept n m w other e = histories_by n m other e
 
 trace_kept : (n : ℕ) (m : MachineState) → Waits n m → (x : Need) → need (processor_of n m) ≡ x
     → (stepped n m).trace ≡ m.trace
-trace_kept n m w Nothing e = trace_by n m Nothing e
-trace_kept n m w Local e = trace_by n m Local e
-trace_kept n m w (Read a) e = trace_by n m (Read a) e
-trace_kept n m w (Write a v) e = trace_by n m (Write a v) e
 trace_kept n m w (Channel c op) e =
     trace_with n c op m None e (sym (event_by_need n c op m e) ∙ w.event) ∙ append-nil m.trace
+trace_kept n m w other e = trace_by n m other e
 
 -- and so it counts a turn, and changes nothing else
 with_fields : (n : ℕ) (m : MachineState) (ps : List Processor) (hs : List (List Event))
