@@ -1,5 +1,5 @@
 -- Something of each of the four flags is something of all flags.
-use Rattle.std.proofs.lemmas.Bool.{or_left, or_right, or_parts}
+use Rattle.std.proofs.lemmas.Bool.{or_left, or_parts}
 use Rattle.std.proofs.Common.{Bool, true, false, ◌≡◌, Some, None, refl, sym, ◌∙◌}
 use Rattle.std.specs.Prelude.{◌||◌, ◌&&◌, not, if◌then◌else◌}
 use Rattle.std.specs.Option.{option_or}
@@ -45,15 +45,6 @@ module _ (set new : FlagSet) (flags : Flags)
   pub wider : (f : Flags) → has set f ≡ true → has new f ≡ true
   wider = each_flags (λ g. has set g ≡ true → has new g ≡ true)
       (λ is. i ∙ or_left set.inactive _ is) (λ is. j ∙ or_left set.inactive_full _ is) (λ is. e ∙ or_left set.empty _ is) (λ is. u ∙ or_left set.full _ is)
-
-pub added : (set new : FlagSet) (flags : Flags)
-    → new.inactive ≡ (set.inactive || (not flags.active && not flags.full)) → new.inactive_full ≡ (set.inactive_full || (not flags.active && flags.full))
-    → new.empty ≡ (set.empty || (flags.active && not flags.full)) → new.full ≡ (set.full || (flags.active && flags.full))
-    → has new flags ≡ true
-added set new =
-    each_flags (λ g. new.inactive ≡ (set.inactive || (not g.active && not g.full)) → new.inactive_full ≡ (set.inactive_full || (not g.active && g.full))
-    → new.empty ≡ (set.empty || (g.active && not g.full)) → new.full ≡ (set.full || (g.active && g.full)) → has new g ≡ true)
-    (λ i j e u. i ∙ or_right set.inactive _ refl) (λ i j e u. j ∙ or_right set.inactive_full _ refl) (λ i j e u. e ∙ or_right set.empty _ refl) (λ i j e u. u ∙ or_right set.full _ refl)
 
 off : (a b : Bool) → (a && b) ≡ false → b ≡ true → a ≡ false
 off false b both is = refl

@@ -23,13 +23,9 @@ use Rattle.pp_races.specs.declared.word_use.WordUse.{WordUse}
 -- ---- one step more
 
 pub watched_push : (ns : List ℕ) (n : ℕ) (m : MachineState) (w : Watch) → watched (ns ++ n ∷ []) m w ≡ watched_need (need (processor_of n (run ns m))) n (run ns m) (watched ns m w)
-unfolding watched watched_step
+unfolding watched_step
 watched_push [] n m w = refl
 watched_push (k ∷ ns) n m w = watched_push ns n (stepped k m) (watched_step k m w)
-
-pub watched_none : (m : MachineState) (w : Watch) → watched [] m w ≡ w
-unfolding watched
-watched_none m w = refl
 
 -- ---- what is found of a step
 

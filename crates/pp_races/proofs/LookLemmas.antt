@@ -182,10 +182,7 @@ waits_watched m w n c op low looks found e none waits are =
 -- a step that asks no channel
 trace_off : (x : Need) (m : MachineState) (n : ℕ) → x ≡ need (processor_of n m) → ((c : ℕ) (op : ChanOp) → x ≡ Channel c op → ⊥) → (stepped n m).trace ≡ m.trace
 trace_off (Channel c op) m n e off = absurd (off c op refl)
-trace_off Need.Nothing m n e off = trace_by n m Need.Nothing (sym e)
-trace_off Need.Local m n e off = trace_by n m Need.Local (sym e)
-trace_off (Need.Read a) m n e off = trace_by n m (Need.Read a) (sym e)
-trace_off (Need.Write a v) m n e off = trace_by n m (Need.Write a v) (sym e)
+trace_off other m n e off = trace_by n m other (sym e)
 
 pub off_indexed : (x : Need) (m : MachineState) (n : ℕ) (latest : List Latest) (short long : List (List Span)) → x ≡ need (processor_of n m) → ((c : ℕ) (op : ChanOp) → x ≡ Channel c op → ⊥) → IsIndex m.trace latest short long → IsIndex (stepped n m).trace latest short long
 off_indexed x m n latest short long e off is = subst (λ (t : List Trace). IsIndex t latest short long) (sym (trace_off x m n e off)) is
@@ -193,7 +190,6 @@ off_indexed x m n latest short long e off is = subst (λ (t : List Trace). IsInd
 pub off_watched : (x : Need) (m : MachineState) (w : Watch) (n : ℕ) (low : List Low) (looks : List Looks) (found : List Finding) → x ≡ need (processor_of n m) → ((c : ℕ) (op : ChanOp) → x ≡ Channel c op → ⊥)
     → AreWatched m w low looks found → AreWatched (stepped n m) (watched_need x n m w) low looks found
 off_watched (Channel c op) m w n low looks found e off are = absurd (off c op refl)
-off_watched Need.Nothing m w n low looks found e off are = kept_watched m (stepped n m) w w low looks found (trace_by n m Need.Nothing (sym e)) (λ c. ap (λ (hs : List (List Event)). get_or hs (channel_index c) []) (histories_by n m Need.Nothing (sym e))) refl refl refl are
-off_watched Need.Local m w n low looks found e off are = kept_watched m (stepped n m) w w low looks found (trace_by n m Need.Local (sym e)) (λ c. ap (λ (hs : List (List Event)). get_or hs (channel_index c) []) (histories_by n m Need.Local (sym e))) refl refl refl are
 off_watched (Need.Read a) m w n low looks found e off are = kept_watched m (stepped n m) w (watched_need (Need.Read a) n m w) low looks found (trace_by n m (Need.Read a) (sym e)) (λ c. ap (λ (hs : List (List Event)). get_or hs (channel_index c) []) (histories_by n m (Need.Read a) (sym e))) refl refl refl are
 off_watched (Need.Write a v) m w n low looks found e off are = kept_watched m (stepped n m) w (watched_need (Need.Write a v) n m w) low looks found (trace_by n m (Need.Write a v) (sym e)) (λ c. ap (λ (hs : List (List Event)). get_or hs (channel_index c) []) (histories_by n m (Need.Write a v) (sym e))) refl refl refl are
+off_watched other m w n low looks found e off are = kept_watched m (stepped n m) w w low looks found (trace_by n m other (sym e)) (λ c. ap (λ (hs : List (List Event)). get_or hs (channel_index c) []) (histories_by n m other (sym e))) refl refl refl are

@@ -29,7 +29,7 @@ use Rattle.pp_races.specs.WatchTables.{AreTables}
 use Rattle.pp_races.specs.declared.finding.Finding.{Finding}
 use Rattle.pp_races.specs.declared.watch_tables.WatchTables.{WatchTables}
 use Rattle.pp_races.proofs.FinalLemmas.{determinate}
-use Rattle.pp_races.proofs.GrowLemmas.{behind, findings_are, forgets, forgotten, uses_forgotten, uses_remembered, watched_none, watched_push}
+use Rattle.pp_races.proofs.GrowLemmas.{behind, findings_are, forgets, forgotten, uses_forgotten, uses_remembered, watched_push}
 use Rattle.pp_races.proofs.MissedLemmas.{none_missed}
 use Rattle.pp_races.proofs.UseLemmas.{same_asked}
 use Rattle.pp_races.proofs.SoundLemmas.{none_first, none_second, step_sound}
@@ -141,8 +141,8 @@ both_true false = refl
 pub run_begins : {A : Type 0} (p : Profile) (turns : ℕ) (m : MachineState) (tables : WatchTables A) → length m.histories ≡ channel_count → AreTables tables m unwatched → IsWatchedRun p turns 0 m m tables
 run_begins p turns m tables each are = record {
   ran = refl;
-  kept = subst (λ (w : Watch). AreTables tables m (forgotten w)) (sym (watched_none m unwatched)) are;
-  sound = λ none. subst (λ (w : Watch). IsSound (barrel p turns) m 0 w) (sym (watched_none m unwatched)) (record {
+  kept = are;
+  sound = λ none. (record {
     watched = record {
       lower = λ q c s may. omega (arith, mono (barrel p turns) m each c zero s (omega arith));
       stands_open = λ q c. both_true (names_processor q);

@@ -2,7 +2,6 @@
 use Rattle.std.proofs.Common.{◌≡◌, ℕ, Bool, true, false, List, [], ◌∷◌, ◌++◌, get_or, reverse, refl, sym, ap, ◌∙◌, arith}
 use Rattle.std.specs.Prelude.{◌&&◌, flat_map, if◌then◌else◌}
 use Rattle.std.specs.List.{list_all}
-use Rattle.std.proofs.lemmas.List.Folds.{list_all-append}
 use Rattle.pp_races.specs.RacesText.{finding_line, findings_text, is_going_on, verdict_line, verdict_of}
 use Rattle.pp_races.specs.declared.finding.Finding.{Finding}
 use Rattle.pp_races.specs.declared.finding.Finding.TheVariants.{Before, After, GoingOn, HeldBefore, Shared}
@@ -29,12 +28,6 @@ one_all (Shared address writers users) = refl
 both_of : (all one : Bool) → of_some (all && one) ≡ verdict_with (of_some all) one
 both_of true one = refl
 both_of false one = refl
-
-pub with_more : (all : List Finding) (finding : Finding) → verdict_of (all ++ finding ∷ []) ≡ verdict_with (verdict_of all) (is_going_on finding)
-with_more [] finding = ap of_some (one_all finding)
-with_more (first ∷ others) finding =
-    ap of_some (list_all-append is_going_on (first ∷ others) (finding ∷ []) ∙ ap (λ b. list_all is_going_on (first ∷ others) && b) (one_all finding))
-    ∙ both_of (list_all is_going_on (first ∷ others)) (is_going_on finding)
 
 -- ---- none
 

@@ -154,6 +154,6 @@ unfoldable pub watched_step : ℕ → MachineState → Watch → Watch
 watched_step n m w = watched_need (need (processor_of n m)) n m w
 
 -- and after these steps
-unfoldable pub watched : List ℕ → MachineState → Watch → Watch
+abbrev pub watched : List ℕ → MachineState → Watch → Watch
 watched [] m w = w
 watched (n ∷ ns) m w = watched ns (stepped n m) (watched_step n m w)

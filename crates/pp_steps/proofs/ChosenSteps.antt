@@ -20,10 +20,6 @@ use Rattle.pp_steps.specs.declared.choice.Choice.{Choice}
 abbrev pub step_in : Profile → ℕ → MachineState → ℕ → RunStep
 step_in p turn m k = record { processor = k; before = run (barrel p turn) m }
 
-pub none_chosen : (choice : Choice) (p : Profile) (m : MachineState) → chosen_steps choice (barrel p 0) m ≡ []
-unfolding chosen_steps
-none_chosen choice p m = refl
-
 -- the place of a processor in turn
 pub place_low : (p : Profile) (turn place round : ℕ) → round ≡ processors_in p → place ≡ turn % round → place < processor_count
 place_low p turn place round is at = omega (arith, at ∙ ap (λ (r : ℕ). turn % r) is, rest_within p turn, most_processors p)
@@ -32,7 +28,6 @@ place_low p turn place round is at = omega (arith, at ∙ ap (λ (r : ℕ). turn
 pub chosen_more : (choice : Choice) (p : Profile) (turn : ℕ) (m : MachineState) (k : ℕ) → k ≡ processor_in_turn p turn
     → cond (is_chosen choice (step_in p turn m k)) (chosen_steps choice (barrel p turn) m ++ step_in p turn m k ∷ []) (chosen_steps choice (barrel p turn) m)
     ≡ chosen_steps choice (barrel p (turn + 1)) m
-unfolding chosen_steps
 chosen_more choice p turn m k is =
     let past = filter (is_chosen choice) (run_steps (barrel p turn) m) in
     let step = step_in p turn m k in
@@ -45,7 +40,6 @@ chosen_more choice p turn m k is =
 
 -- no more than turns
 pub few_chosen : (choice : Choice) (p : Profile) (turns : ℕ) (m : MachineState) → length (chosen_steps choice (barrel p turns) m) ≤ turns
-unfolding chosen_steps
 few_chosen choice p turns m =
     omega (arith, length-filter (is_chosen choice) (run_steps (barrel p turns) m), count_by-le-length (is_chosen choice) (run_steps (barrel p turns) m), length-barrel_steps p turns m)
 
@@ -68,12 +62,11 @@ come_to p turn (suc more) =
     ∙ come_to p (turn + 1) more ∙ ap (barrel p) same
 
 -- the steps chosen after so many turns of all
-unfoldable pub chosen_from : Choice → Profile → ℕ → ℕ → MachineState → List RunStep
+abbrev pub chosen_from : Choice → Profile → ℕ → ℕ → MachineState → List RunStep
 chosen_from choice p turn turns m = filter (is_chosen choice) (run_steps (to_come p turn (turns - turn)) (run (barrel p turn) m))
 
 -- those so far and those to come
 pub chosen_parts : (choice : Choice) (p : Profile) (turn turns : ℕ) (m : MachineState) → turn ≤ turns → chosen_steps choice (barrel p turn) m ++ chosen_from choice p turn turns m ≡ chosen_steps choice (barrel p turns) m
-unfolding chosen_from chosen_steps
 chosen_parts choice p turn turns m within =
     let rest = to_come p turn (turns - turn) in
     let same : turn + (turns - turn) ≡ turns = omega (arith, within) in
@@ -82,11 +75,9 @@ chosen_parts choice p turn turns m within =
     ∙ ap (λ (ks : List ℕ). filter (is_chosen choice) (run_steps ks m)) (come_to p turn (turns - turn) ∙ ap (barrel p) same)
 
 pub all_chosen : (choice : Choice) (p : Profile) (turns : ℕ) (m : MachineState) → chosen_from choice p 0 turns m ≡ chosen_steps choice (barrel p turns) m
-unfolding chosen_steps
 all_chosen choice p turns m = chosen_parts choice p 0 turns m (omega arith)
 
 pub none_left : (choice : Choice) (p : Profile) (turns : ℕ) (m : MachineState) → chosen_from choice p turns turns m ≡ []
-unfolding chosen_from
 none_left choice p turns m =
     let none : turns - turns ≡ 0 = omega arith in
     ap (λ (more : ℕ). filter (is_chosen choice) (run_steps (to_come p turns more) (run (barrel p turns) m))) none
@@ -94,7 +85,6 @@ none_left choice p turns m =
 pub next_chosen : (choice : Choice) (p : Profile) (turn turns : ℕ) (m : MachineState) (k : ℕ) → k ≡ processor_in_turn p turn → turn < turns
     → chosen_from choice p turn turns m
     ≡ cond (is_chosen choice (step_in p turn m k)) (step_in p turn m k ∷ chosen_from choice p (turn + 1) turns m) (chosen_from choice p (turn + 1) turns m)
-unfolding chosen_from
 next_chosen choice p turn turns m k is before =
     let old = run (barrel p turn) m in
     let step = step_in p turn m k in

@@ -15,7 +15,7 @@ use Rattle.pp_machine.specs.NeedAndEffect.{need}
 use Rattle.pp_machine.specs.Run.{run}
 use Rattle.pp_machine.specs.declared.answer.Answer.{Answer}
 use Rattle.pp_machine.specs.declared.need.Need.{Need}
-use Rattle.pp_machine.specs.declared.need.Need.TheVariants.{Nothing, Local, Channel, Read, Write}
+use Rattle.pp_machine.specs.declared.need.Need.TheVariants.{Channel}
 use Rattle.pp_machine.specs.declared.outcome.Outcome.{Outcome}
 use Rattle.pp_machine.specs.declared.outcome.Outcome.TheVariants as outcomes
 use Rattle.pp_machine.specs.declared.trace.Trace.{Trace}
@@ -67,14 +67,11 @@ none_on OneStep n m x is none = refl
 none_on other n m x is none = sym (ap (λ (y : Need). entry_of n y m) (sym is) ∙ none)
 
 by_need : (last : Progress) (n : ℕ) (m : MachineState) (steps : List Progress) (x : Need) → x ≡ need (processor_of n m) → event_on (line_kind last (progress n m) steps) n m ≡ entry_of n (need (processor_of n m)) m
-by_need last n m steps Nothing is = none_on (line_kind last (progress n m) steps) n m Nothing is refl
-by_need last n m steps Local is = none_on (line_kind last (progress n m) steps) n m Local is refl
-by_need last n m steps (Read a) is = none_on (line_kind last (progress n m) steps) n m (Read a) is refl
-by_need last n m steps (Write a w) is = none_on (line_kind last (progress n m) steps) n m (Write a w) is refl
 by_need last n m steps (Channel c operation) is =
     on_channel (line_kind last (progress n m) steps) n c operation m (Channel c operation) (event_of operation (history_of c m)) refl refl
     (λ e made. ap (λ (p : Progress). line_kind last p steps) (moved n m (moves_where_made n c operation m e (sym is) made)))
     (ap (λ (y : Need). entry_of n y m) (sym is))
+by_need last n m steps other is = none_on (line_kind last (progress n m) steps) n m other is refl
 
 -- the event of a step, as an entry of the trace
 abbrev entries_of : RunStep → List Trace
@@ -119,13 +116,10 @@ by_channel None c operation = refl
 by_channel (Some channels) c operation = refl
 
 chosen_entry : (choice : Choice) (n : ℕ) (m : MachineState) (x : Need) → filter (is_chosen_event choice) (entry_of n x m) ≡ cond (chooses_turn choice n m.turns && chooses_need choice.channels x) (entry_of n x m) []
-chosen_entry choice n m Nothing = sym (nothing (chooses_turn choice n m.turns && chooses_need choice.channels Nothing) [])
-chosen_entry choice n m Local = sym (nothing (chooses_turn choice n m.turns && chooses_need choice.channels Local) [])
-chosen_entry choice n m (Read a) = sym (nothing (chooses_turn choice n m.turns && chooses_need choice.channels (Read a)) [])
-chosen_entry choice n m (Write a w) = sym (nothing (chooses_turn choice n m.turns && chooses_need choice.channels (Write a w)) [])
 chosen_entry choice n m (Channel c operation) =
     all_or_none (is_chosen_event choice) (chooses_turn choice n m.turns && chooses_need choice.channels (Channel c operation)) n c m (event_of operation (history_of c m))
     (λ e. ap (λ (b : Bool). chooses_turn choice n m.turns && b) (by_channel choice.channels c operation))
+chosen_entry choice n m other = sym (nothing (chooses_turn choice n m.turns && chooses_need choice.channels other) [])
 
 with_first : (b : Bool) (step : RunStep) (rest : List RunStep) → cond b (entries_of step) [] ++ flat_map entries_of rest ≡ flat_map entries_of (cond b (step ∷ rest) rest)
 with_first true step rest = refl
@@ -141,7 +135,6 @@ chosen_events choice (step ∷ steps) =
 
 pub events_told : (choice : Choice) (steps : List ℕ) (load : MachineState)
     → flat_map line_event (with_lines (chosen_steps choice steps load)) ≡ filter (is_chosen_event choice) (drop (length load.trace) (run steps load).trace)
-unfolding chosen_steps with_lines
 events_told choice steps load =
     lines_events [] (filter (is_chosen choice) (run_steps steps load))
     ∙ sym (chosen_events choice (run_steps steps load))

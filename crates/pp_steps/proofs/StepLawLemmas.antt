@@ -72,25 +72,21 @@ gone_on f g steps same rest =
 apart : (f g : Flags) (steps : List Progress) → is_held_with g (Held f) ≡ false → prefix_len (is_held_with f) (Held g ∷ steps) ≡ 0
 apart f g steps other = ap (λ (b : Bool). cond b (1 + prefix_len (is_held_with f) steps) 0) (with_other f g ∙ other)
 
+after_held : (f g : Flags) (steps : List Progress) (b : Bool) → is_held_with g (Held f) ≡ b → steps_told (Held g) steps ≡ filter is_running (drop (prefix_len (is_held_with g) steps) steps)
+    → steps_told (Held f) (Held g ∷ steps) ≡ filter is_running (drop (prefix_len (is_held_with f) (Held g ∷ steps)) (Held g ∷ steps))
+after_held f g steps true e rest = gone_on f g steps e rest
+after_held f g steps false e rest =
+    begun (Held f) g steps e rest ∙ ap (λ (j : ℕ). filter is_running (drop j (Held g ∷ steps))) (sym (apart f g steps e))
+
 told_all : (last : Progress) (steps : List Progress) → steps_told last steps ≡ filter is_running (drop (told_before last steps) steps)
-told_all AtRest [] = refl
-told_all Moved [] = refl
 told_all (Held f) [] = refl
-told_all AtRest (AtRest ∷ steps) = told_all AtRest steps
-told_all Moved (AtRest ∷ steps) = told_all AtRest steps
 told_all (Held f) (AtRest ∷ steps) = told_all AtRest steps
-told_all AtRest (Moved ∷ steps) = ap (λ (ss : List Progress). Moved ∷ ss) (told_all Moved steps)
-told_all Moved (Moved ∷ steps) = ap (λ (ss : List Progress). Moved ∷ ss) (told_all Moved steps)
 told_all (Held f) (Moved ∷ steps) = ap (λ (ss : List Progress). Moved ∷ ss) (told_all Moved steps)
-told_all AtRest (Held g ∷ steps) = begun AtRest g steps refl (told_all (Held g) steps)
-told_all Moved (Held g ∷ steps) = begun Moved g steps refl (told_all (Held g) steps)
-told_all (Held f) (Held g ∷ steps) = by_test f g steps (is_held_with g (Held f)) refl (told_all (Held g) steps)
-  where
-    by_test : (f g : Flags) (steps : List Progress) (b : Bool) → is_held_with g (Held f) ≡ b → steps_told (Held g) steps ≡ filter is_running (drop (prefix_len (is_held_with g) steps) steps)
-        → steps_told (Held f) (Held g ∷ steps) ≡ filter is_running (drop (prefix_len (is_held_with f) (Held g ∷ steps)) (Held g ∷ steps))
-    by_test f g steps true e rest = gone_on f g steps e rest
-    by_test f g steps false e rest =
-        begun (Held f) g steps e rest ∙ ap (λ (j : ℕ). filter is_running (drop j (Held g ∷ steps))) (sym (apart f g steps e))
+told_all (Held f) (Held g ∷ steps) = after_held f g steps (is_held_with g (Held f)) refl (told_all (Held g) steps)
+told_all last [] = refl
+told_all last (AtRest ∷ steps) = told_all AtRest steps
+told_all last (Moved ∷ steps) = ap (λ (ss : List Progress). Moved ∷ ss) (told_all Moved steps)
+told_all last (Held g ∷ steps) = begun last g steps refl (told_all (Held g) steps)
 
 -- ---- the lines of one processor
 
@@ -127,5 +123,4 @@ told_from n past [] = refl
 told_from n past (step ∷ steps) = by_number n past step steps (cases_eq step.processor n) (told_from n (past ++ step ∷ []) steps)
 
 pub steps_all_told : (n : ℕ) (steps : List RunStep) → flat_map line_steps (filter (is_by n) (with_lines steps)) ≡ filter is_running (seen_of progress_of n steps)
-unfolding with_lines
 steps_all_told n steps = told_from n [] steps ∙ told_all AtRest (seen_of progress_of n steps)

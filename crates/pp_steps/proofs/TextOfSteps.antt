@@ -43,7 +43,6 @@ abbrev pub IsSoFar : List RunStep → List RunStep → List RunStep → List ℕ
 IsSoFar all past future text = text ++ flat_map line_text (lines_from past future) ≡ flat_map line_text (with_lines all)
 
 pub nothing_so_far : (all : List RunStep) → IsSoFar all [] all []
-unfolding with_lines
 nothing_so_far all = refl
 
 -- a turn more

@@ -33,5 +33,5 @@ is_chosen choice step =
     && chooses_need choice.channels (need (processor_of step.processor step.before))
 
 -- the steps of a run that are chosen, in order
-unfoldable pub chosen_steps : Choice → List ℕ → MachineState → List RunStep
+abbrev pub chosen_steps : Choice → List ℕ → MachineState → List RunStep
 chosen_steps choice steps load = filter (is_chosen choice) (run_steps steps load)

@@ -43,7 +43,7 @@ lines_from past (step ∷ future) =
     with_line past step future ∷ lines_from (past ++ step ∷ []) future
 
 -- some steps, each with the line that it has among them
-unfoldable pub with_lines : List RunStep → List StepWithLine
+abbrev pub with_lines : List RunStep → List StepWithLine
 with_lines steps = lines_from [] steps
 
 -- the line of a step of processor n of a machine. A held step leaves the machine as it is

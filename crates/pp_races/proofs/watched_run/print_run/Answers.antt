@@ -10,14 +10,12 @@ use Rattle.pp_machine.specs.MachineStep.{stepped}
 use Rattle.pp_machine.specs.NeedAndEffect.{need}
 use Rattle.pp_machine.specs.Run.{barrel}
 use Rattle.pp_run.proofs.Moments.{run_central}
-use Rattle.pp_races.specs.Printing.{PrintsFindings}
 use Rattle.pp_races.specs.Tables.{AreUses, AreWatched}
 use Rattle.pp_races.specs.Watch.{Watch, unwatched, watched, watched_need}
 use Rattle.pp_races.specs.declared.looks.Looks.{Looks}
 use Rattle.pp_races.specs.declared.low.Low.{Low}
 use Rattle.pp_races.specs.declared.word_use.WordUse.{WordUse}
-use Rattle.pp_races.specs.declared.verdict.Verdict.TheVariants.{Same}
-use Rattle.pp_races.proofs.GrowLemmas.{forgotten, watched_none}
+use Rattle.pp_races.proofs.GrowLemmas.{forgotten}
 use Rattle.pp_races.proofs.PrintingLemmas.{findings_none, findings_on, findings_then, first_printed}
 use Rattle.pp_races.proofs.RunLemmas.{run_begins, run_finds, run_goes_on, run_tells}
 use Rattle.pp_races.proofs.watched_run.print_run.Goals as goal
@@ -25,7 +23,7 @@ use Rattle.pp_races.proofs.watched_run.print_run.Goals as goal
 pub loop-turn-init : goal.loop-turn-init
 loop-turn-init g c = record {
   run = run_begins c.args.machine.now.profile c.args.turns c.args.machine.now c.args.tables.now c.turns-sound.ensures.sound.channels c.requires;
-  printed = subst (λ (w : Watch). PrintsFindings g.W.Write.contents c.args.text.now c.args.text.now Same Same w.findings) (sym (watched_none c.args.machine.now unwatched)) (findings_none _ _ _);
+  printed = findings_none _ _ _;
 }
 
 pub loop-turn-preserved : goal.loop-turn-preserved

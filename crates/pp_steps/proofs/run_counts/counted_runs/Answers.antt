@@ -11,7 +11,7 @@ use Rattle.pp_run.specs.BareMachine.{StandsFor}
 use Rattle.pp_run.specs.RunSteps.{RunStep}
 use Rattle.pp_steps.specs.Choice.{chosen_steps, is_chosen}
 use Rattle.pp_steps.specs.HeldRuns.{HeldSpells, each_spells, no_spells, with_step}
-use Rattle.pp_steps.proofs.ChosenSteps.{chosen_more, few_chosen, none_chosen, place_low, step_in}
+use Rattle.pp_steps.proofs.ChosenSteps.{chosen_more, few_chosen, place_low, step_in}
 use Rattle.pp_steps.proofs.CountedRuns.{made_few, made_more, none_made}
 use Rattle.pp_steps.proofs.RunCountLemmas.{current_grows}
 use Rattle.pp_steps.proofs.run_counts.counted_runs.Goals as goal
@@ -19,7 +19,7 @@ use Rattle.pp_steps.proofs.run_counts.counted_runs.Goals as goal
 pub loop-turn-init : goal.loop-turn-init
 loop-turn-init g c = record {
   stands = c.in_ok-bare.ensures;
-  counted = c.in_ok-runs.ensures ∙ none_made with_step no_spells ∙ ap each_spells (sym (none_chosen c.args.choice.now c.args.machine.now.profile c.args.machine.now));
+  counted = c.in_ok-runs.ensures ∙ none_made with_step no_spells;
 }
 
 pub note_step-requires-clause-as_many : goal.note_step-requires-clause-as_many
