@@ -1,6 +1,5 @@
 pub mod Watching
 pub mod VerdictLemmas
-mod PrintingLemmas
 mod TextLemmas
 mod GrowLemmas
 mod FlagSetLemmas
@@ -16,7 +15,6 @@ mod MissedLemmas
 mod SoundLemmas
 mod RunLemmas
 mod FinalLemmas
-mod AlikeLemmas
 mod PositionLemmas
 mod SettledLemmas
 mod EndLemmas

@@ -17,7 +17,7 @@ use Rattle.pp_machine.specs.declared.pp_state.PpState.TheVariants.{Running}
 use Rattle.pp_machine.specs.declared.profile.Profile.{Profile}
 use Rattle.pp_races.specs.Findings.{is_running, same_profile, same_words, stays_running}
 use Rattle.pp_races.specs.OtherFlags.{is_same, position_of}
-use Rattle.pp_races.proofs.AlikeLemmas.{position_same}
+use Rattle.pp_races.proofs.PositionLemmas.{position_same}
 use Rattle.pp_races.proofs.EntryLemmas.{is_equal}
 
 pub words_none : (one other : Processor) → same_words 0 one other ≡ true

@@ -28,12 +28,11 @@ use Rattle.pp_races.specs.OnePass.IsChecked.{step_waits, step_elsewhere, step_lo
 use Rattle.pp_races.specs.Soundness.{AreLastOf, AsksLawfulChannel, least_of, open_of}
 use Rattle.pp_races.specs.Watch.{Missed, Watch, asked, asking_step, each_below, each_number, entry_of, first_race, from_alike, looked, made, missed_event, race_after, race_before, watched_need}
 use Rattle.pp_races.specs.declared.asking_step.AskingStep.{AskingStep}
-use Rattle.pp_races.proofs.AlikeLemmas.{alike_is, alike_parts, none_made_makes_none, race_none, race_waits, same_itself}
+use Rattle.pp_races.proofs.PositionLemmas.{alike_is, alike_parts, none_made_makes_none, race_none, race_waits, same_itself, agrees}
 use Rattle.pp_races.proofs.EntryLemmas.{here_or_not, put_here, put_other}
 use Rattle.pp_races.proofs.EventLemmas.{looks_elsewhere, looks_there, missed_elsewhere, missed_others, missed_own}
 use Rattle.pp_races.proofs.LookLemmas.{history_kept}
 use Rattle.pp_races.proofs.MissedLemmas.{AreLeft, left_by, left_missed, none_missed, none_races, one_missed}
-use Rattle.pp_races.proofs.PositionLemmas.{agrees}
 use Rattle.pp_races.proofs.Watching.{stays_at}
 
 -- ---- findings that are none

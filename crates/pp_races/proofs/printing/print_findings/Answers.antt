@@ -1,7 +1,7 @@
 use Rattle.std.proofs.Common.{◌++◌, ◌∷◌, [], take, subst, sym, ap, ◌∙◌}
 use Rattle.std.proofs.lemmas.List.{take_all, take_more}
 use Rattle.pp_races.specs.Printing.{PrintsFindings}
-use Rattle.pp_races.proofs.PrintingLemmas.{findings_none, findings_on}
+use Rattle.pp_races.proofs.TextLemmas.{findings_none, findings_on}
 use Rattle.pp_races.proofs.printing.print_findings.Goals as goal
 
 pub loop-finding-init : goal.loop-finding-init

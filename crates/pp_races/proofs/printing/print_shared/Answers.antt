@@ -4,7 +4,7 @@ use Rattle.pp_races.specs.Findings.{sharing_of}
 use Rattle.pp_races.specs.Printing.{PrintsFindings}
 use Rattle.pp_races.specs.Watch.{each_below}
 use Rattle.pp_races.proofs.EndLemmas.{each_more, each_none}
-use Rattle.pp_races.proofs.PrintingLemmas.{findings_none, findings_on}
+use Rattle.pp_races.proofs.TextLemmas.{findings_none, findings_on}
 use Rattle.pp_races.proofs.printing.print_shared.Goals as goal
 use Rattle.pp_races.proofs.printing.print_shared.Goals.{in-Some, in_default}
 

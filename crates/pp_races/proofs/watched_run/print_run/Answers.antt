@@ -16,7 +16,7 @@ use Rattle.pp_races.specs.declared.looks.Looks.{Looks}
 use Rattle.pp_races.specs.declared.low.Low.{Low}
 use Rattle.pp_races.specs.declared.word_use.WordUse.{WordUse}
 use Rattle.pp_races.proofs.GrowLemmas.{forgotten}
-use Rattle.pp_races.proofs.PrintingLemmas.{findings_none, findings_on, findings_then, first_printed}
+use Rattle.pp_races.proofs.TextLemmas.{findings_none, findings_on, findings_then, first_printed}
 use Rattle.pp_races.proofs.RunLemmas.{run_begins, run_finds, run_goes_on, run_tells}
 use Rattle.pp_races.proofs.watched_run.print_run.Goals as goal
 
