@@ -3,7 +3,6 @@ pub mod StillLemmas
 pub mod RepeatLemmas
 pub mod StandLemmas
 pub mod QuietLemmas
-pub mod AlikeLemmas
 pub mod FoundLemmas
 pub mod OneEnding
 pub mod LoopLemmas

@@ -1,9 +1,9 @@
 -- Machines that stand alike go on alike.
-use Rattle.std.proofs.Common.{◌≡◌, ℕ, zero, suc, ◌+◌, ◌*◌, ◌%◌, List, [], ◌∷◌, ◌++◌, length, append_assoc, append-nil, slice_set, get_or, Option, Some, None, refl, sym, ap, ◌∙◌, subst, inl, inr, arith}
+use Rattle.std.proofs.Common.{◌≡◌, ℕ, zero, suc, ◌+◌, ◌*◌, ◌%◌, List, [], ◌∷◌, ◌++◌, length, append_assoc, append-nil, slice_set, get_or, Option, Some, None, refl, sym, ap, ◌∙◌, subst, inl, inr, arith, ◌<◌}
 use Rattle.std.specs.Prelude.{slice_get, nat_lt}
 use Rattle.std.specs.Option.{option_to_list}
 use Rattle.std.proofs.lemmas.Bool.{cases_eq, cases_lt}
-use Rattle.std.proofs.lemmas.List.{get_or_past}
+use Rattle.std.proofs.lemmas.List.{get_or_past, ext_get_or}
 use Rattle.pp_channel.specs.Answer.{channel_state, event_by, event_of, history_after, state_reply}
 use Rattle.pp_channel.specs.ChannelNo.{channel_count, channel_index}
 use Rattle.pp_channel.specs.ChannelPlaces as channel_places
@@ -17,7 +17,7 @@ use Rattle.pp_machine.specs.MachineState.{MachineState, processor_of, history_of
 use Rattle.pp_machine.specs.MachineStep.{answer_to, central_after, stepped}
 use Rattle.pp_machine.specs.NeedAndEffect.{need, processor_after}
 use Rattle.pp_machine.specs.Processor.{Processor, no_processor}
-use Rattle.pp_machine.specs.PpNo.{processor_index, processor_number}
+use Rattle.pp_machine.specs.PpNo.{processor_index, processor_number, processor_count}
 use Rattle.pp_machine.specs.Profile.{processor_in_turn, processors_in}
 use Rattle.pp_machine.specs.Run.{barrel, run}
 use Rattle.pp_machine.specs.declared.answer.Answer.{Answer}
@@ -29,6 +29,7 @@ use Rattle.pp_machine.proofs.RunLawLemmas.{run_keeps}
 use Rattle.pp_run.proofs.StepFacts.{central_by, histories_by, history_elsewhere, history_here, length_histories, processors_by}
 use Rattle.pp_run.proofs.Moments.{run_histories}
 use Rattle.pp_ends.specs.Endings.{Repeats, StandAlike, after_turns}
+use Rattle.pp_machine.specs.ProcessorPlaces.{place_of_number}
 
 -- ---- channels
 
@@ -201,3 +202,24 @@ stands_on (suc k) t n m l r =
 pub repeats_on : (t n k : ℕ) (m : MachineState) → length m.histories ≡ channel_count
     → HoldsOnEachChannel m → Repeats t n m → StandAlike (after_turns t m) (after_turns (t + k * n) m)
 repeats_on t n k m all headline r = (stands_on k t n m (record { channels = all; headline = headline }) r).alike
+
+pub alike_by_places : (m k : MachineState) → length m.histories ≡ channel_count
+    → length k.histories ≡ channel_count → length m.processors ≡ processor_count
+    → length k.processors ≡ processor_count
+    → ((j : ℕ) → j < channel_count → channel_state (get_or k.histories j []) ≡ channel_state (get_or m.histories j []))
+    → ((j : ℕ) → j < processor_count → processor_of (processor_number j) m ≡ processor_of (processor_number j) k)
+    → m.central ≡ k.central → StandAlike m k
+alike_by_places m k hm hk pm pk channels processors central = record {
+  processors = ext_get_or no_processor k.processors m.processors (pk ∙ sym pm) (λ j low.
+      let below : j < processor_count = omega (arith, low, pk) in
+      let place : processor_index (processor_number j) ≡ j = place_of_number j below in
+      ap (λ (i : ℕ). get_or k.processors i no_processor) (sym place)
+      ∙ sym (processors j below) ∙ ap (λ (i : ℕ). get_or m.processors i no_processor) place);
+  central = sym central;
+  channels = λ c. elim (cases_lt (channel_index c) channel_count) [
+    | inl below ↦ channels (channel_index c) below
+    | inr past ↦
+        ap channel_state (get_or_past k.histories (channel_index c) [] (omega (arith, hk, past)))
+        ∙ ap channel_state (sym (get_or_past m.histories (channel_index c) [] (omega (arith, hm, past))))
+  ];
+}

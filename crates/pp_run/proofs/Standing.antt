@@ -13,7 +13,7 @@ use Rattle.pp_machine.specs.NeedAndEffect.{need, processor_after}
 use Rattle.pp_machine.specs.Processor.{Processor}
 use Rattle.pp_machine.specs.PpNo.{processor_count}
 use Rattle.pp_machine.specs.declared.need.Need.{Need}
-use Rattle.pp_machine.specs.declared.need.Need.TheVariants.{Channel, Read, Write}
+use Rattle.pp_machine.specs.declared.need.Need.TheVariants.{Write}
 use Rattle.pp_run.specs.Determinacy.{Waits, IsDeterminate, IsRaceFree, Stays, at_moment, processor_at, history_at, need_at, made_on, MayFind}
 use Rattle.pp_run.specs.Determinacy.MayFind.{processor_advances}
 use Rattle.pp_run.proofs.StepFacts.{own_step, other_step, word_unless, central_by, event_by_need}
@@ -109,8 +109,6 @@ words_alike q a one other pp lengths same = by_need (need (processor_of q other)
     kept none = word_unless q a one (λ w e. none w (ap (λ p. need p) (sym pp) ∙ e)) ∙ same ∙ sym (word_unless q a other none)
 
     by_need : (x : Need) → need (processor_of q other) ≡ x → word_of a (stepped q one) ≡ word_of a (stepped q other)
-    by_need (Read b) e = kept (λ w f. let g : Read b ≡ Write a w = sym e ∙ f in cc)
-    by_need (Channel c op) e = kept (λ w f. let g : Channel c op ≡ Write a w = sym e ∙ f in cc)
     by_need (Write b w) e =
         ap (λ (ws : List ℕ). get_or ws a 0) (central_by q one (Write b w) (ap (λ p. need p) pp ∙ e))
         ∙ set_alike one.central other.central b w a lengths same

@@ -1,5 +1,5 @@
 use Rattle.std.proofs.Common.{refl, sym, ◌∙◌, arith}
-use Rattle.pp_ends.proofs.AlikeLemmas.{alike_by_places}
+use Rattle.pp_ends.proofs.RepeatLemmas.{alike_by_places}
 use Rattle.pp_ends.proofs.alike.difference.Goals as goal
 
 pub returns-in-None-clause-alike : goal.returns-in-None-clause-alike
