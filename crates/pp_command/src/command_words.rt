@@ -278,8 +278,8 @@ fn drawn_text_of(matches: &ArgMatches<'_>, profile: Profile) -> Option<TextOf>
     Some(TextOf::Draw(window))
 }
 
-/// The text of a deck that a command asks for, if its numbers are in range: but for `list`, of a run
-/// of some turns.
+/// The text of a deck that a command asks for, if its numbers are in range. All but `list` make a
+/// run of some turns.
 #[tactic(auto, using(crate::proofs::CommandLemmas::no_turns))]
 fn text_of(name: &str, matches: &ArgMatches<'_>, profile: Profile) -> Option<TextOf>
     ensures { Finds (AsksForText name.now (value_in matches.now) profile) result }

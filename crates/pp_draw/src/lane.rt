@@ -41,7 +41,8 @@ impl Lane {
     /// turns.
     pub(crate) fn print_head<W: Write>(&self, text: &mut TextWriter<W>, row: u64)
         requires { row ≤ 128 }
-        ensures { Prints W.contents text.old text.new (lane_head self.now.window row self.now.name) }
+        ensures { Prints W.contents text.old text.new
+            (lane_head self.now.window row self.now.name) }
     {
         text.print(b"<g transform='translate(80,");
         print_short_decimal(text, lane_top(row));

@@ -62,10 +62,6 @@ pub no_rounds : (p : Profile) → 0 * processors_in p ≡ 0
 no_rounds Ten = omega arith
 no_rounds Twenty = omega arith
 
-pub one_round : (p : Profile) → 1 * processors_in p ≡ processors_in p
-one_round Ten = omega arith
-one_round Twenty = omega arith
-
 pub next_round : (p : Profile) (rounds : ℕ) → suc rounds * processors_in p ≡ rounds * processors_in p + processors_in p
 next_round Ten rounds = omega arith
 next_round Twenty rounds = omega arith

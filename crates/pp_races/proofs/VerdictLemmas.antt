@@ -9,27 +9,10 @@ use Rattle.pp_races.specs.declared.verdict.Verdict.{Verdict}
 use Rattle.pp_races.specs.declared.verdict.Verdict.TheVariants.{Same, NoRaceSoFar, MayDiffer}
 use Rattle.std.proofs.lemmas.List.{reverse-append}
 
--- ---- one finding more
-
-abbrev pub verdict_with : Verdict → Bool → Verdict
-verdict_with MayDiffer going_on = MayDiffer
-verdict_with verdict going_on = if going_on then NoRaceSoFar else MayDiffer
+-- ---- none
 
 abbrev of_some : Bool → Verdict
 of_some going_on = if going_on then NoRaceSoFar else MayDiffer
-
-one_all : (finding : Finding) → list_all is_going_on (finding ∷ []) ≡ is_going_on finding
-one_all (Before step entry) = refl
-one_all (After step entry) = refl
-one_all (GoingOn n) = refl
-one_all (HeldBefore step entry) = refl
-one_all (Shared address writers users) = refl
-
-both_of : (all one : Bool) → of_some (all && one) ≡ verdict_with (of_some all) one
-both_of true one = refl
-both_of false one = refl
-
--- ---- none
 
 some_found : (going_on : Bool) → of_some going_on ≡ Same → ⊥
 some_found true is = cc
