@@ -12,8 +12,7 @@ use mathlib.Core.Logic.{dite}
 use native.Mathlib.Decide.{dec_lt}
 use Rattle.pp_channel.specs.ChannelNo.{channel_count, channel_index, names_channel}
 use Rattle.pp_channel.specs.ChannelPlaces as channel_places
-use Rattle.pp_deck.proofs.FieldLemmas.{at_position, no_position}
-use Rattle.pp_deck.specs.DeckText.{Field, Fields}
+use Rattle.pp_word.specs.Pieces.{split_first, split_last}
 use Rattle.pp_machine.specs.PpNo.{is_named, names_processor, processor_count, processor_index}
 use Rattle.pp_machine.specs.ProcessorPlaces as processor_places
 use Rattle.pp_command.specs.ChannelList.{is_flagged_channel}
@@ -23,26 +22,19 @@ use Rattle.pp_command.specs.NumberList.{AreFlagged, is_among, is_comma, numbered
 
 pub numbers_first : (text rest : List ℕ) (i : ℕ) → Some i ≡ position is_comma text → rest ≡ drop (i + 1) text → numbers_of text ≡ take i text ∷ numbers_of rest
 unfolding numbers_of
-numbers_first text rest i e h =
-    let here = at_position is_comma text _ i (sym e) in
-    let there = position-Some is_comma text i 0 (sym e) in
-    slice_split_first is_comma text 0 (omega (arith, here, there.0))
-    ∙ ap (λ (k : ℕ). take k text ∷ slice_split is_comma (drop (k + 1) text)) (sym here)
-    ∙ ap (λ (l : List ℕ). take i text ∷ slice_split is_comma l) (sym h)
+numbers_first = split_first is_comma
 
 pub numbers_last : (text : List ℕ) → None ≡ position is_comma text → numbers_of text ≡ text ∷ []
 unfolding numbers_of
-numbers_last text e =
-    let past = no_position is_comma text _ refl (sym e) in
-    slice_split_none is_comma text (λ k d lt. fails_before_first is_comma text k d (omega (arith, lt, past)))
+numbers_last = split_last is_comma
 
 -- ---- flags of the numbers so far
 
-abbrev pub IsNumber : (ℕ → Bool) → Field → Type 0
+abbrev pub IsNumber : (ℕ → Bool) → List ℕ → Type 0
 IsNumber names number = IsSome (numbered names number)
 
 -- of a list of numbers all but some more are flagged
-pub record HasFlagged (names : ℕ → Bool) (places : ℕ) (is_flagged : List Bool → ℕ → Bool) (numbers : Fields) (flags : List Bool) (more : Fields) : Type 0 where
+pub record HasFlagged (names : ℕ → Bool) (places : ℕ) (is_flagged : List Bool → ℕ → Bool) (numbers : List (List ℕ)) (flags : List Bool) (more : List (List ℕ)) : Type 0 where
   pub each_place : length flags ≡ places
   pub all_if_more : All (IsNumber names) more → All (IsNumber names) numbers
   pub more_if_all : All (IsNumber names) numbers → All (IsNumber names) more
@@ -64,14 +56,14 @@ and_false : (b : Bool) → (b && false) ≡ false
 and_false true = refl
 and_false false = refl
 
-among_more : (names : ℕ → Bool) (n m : ℕ) (number : Field) (more : Fields) → numbered names number ≡ Some m → is_among names n (number ∷ more) ≡ ((m == n) || is_among names n more)
+among_more : (names : ℕ → Bool) (n m : ℕ) (number : List ℕ) (more : List (List ℕ)) → numbered names number ≡ Some m → is_among names n (number ∷ more) ≡ ((m == n) || is_among names n more)
 among_more names n m number more is = rw is refl
 
-some : (names : ℕ → Bool) (number : Field) (m : ℕ) → numbered names number ≡ Some m → IsNumber names number
+some : (names : ℕ → Bool) (number : List ℕ) (m : ℕ) → numbered names number ≡ Some m → IsNumber names number
 some names number m is = rw is refl
 
 -- the next number is flagged
-pub flag_more : (names : ℕ → Bool) (places : ℕ) (is_flagged : List Bool → ℕ → Bool) (numbers : Fields) (flags : List Bool) (place : ℕ) (number : Field) (more : Fields) (m : ℕ) → HasFlagged names places is_flagged numbers flags (number ∷ more) → numbered names number ≡ Some m → ((n : ℕ) → is_flagged (slice_set flags place true) n ≡ (is_flagged flags n || (m == n))) → HasFlagged names places is_flagged numbers (slice_set flags place true) more
+pub flag_more : (names : ℕ → Bool) (places : ℕ) (is_flagged : List Bool → ℕ → Bool) (numbers : List (List ℕ)) (flags : List Bool) (place : ℕ) (number : List ℕ) (more : List (List ℕ)) (m : ℕ) → HasFlagged names places is_flagged numbers flags (number ∷ more) → numbered names number ≡ Some m → ((n : ℕ) → is_flagged (slice_set flags place true) n ≡ (is_flagged flags n || (m == n))) → HasFlagged names places is_flagged numbers (slice_set flags place true) more
 flag_more names places is_flagged numbers flags place number more m has is one_more = record {
   each_place = length-set flags place true ∙ has.each_place;
   all_if_more = λ all. has.all_if_more (All-cons (IsNumber names) number more (some names number m is) all);

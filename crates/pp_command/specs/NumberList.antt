@@ -2,14 +2,13 @@
 use Rattle.std.specs.Prelude.{◌≡◌, ℕ, ◌==◌, All, Bool, IsSome, List, length, Option, None, Some, if◌then◌else◌}
 use Rattle.std.specs.List.{filter_map, list_any, slice_split}
 use Rattle.pp_word.specs.Numeral.{numeral}
-use Rattle.pp_deck.specs.DeckText.{Field, Fields}
 
 -- a comma is 44 in ASCII (decimal)
 abbrev pub is_comma : ℕ → Bool
 is_comma byte = byte == 44
 
 -- the numbers of a list
-unfoldable pub numbers_of : List ℕ → Fields
+unfoldable pub numbers_of : List ℕ → List (List ℕ)
 numbers_of text = slice_split is_comma text
 
 -- a number, if it names something
@@ -17,12 +16,12 @@ abbrev pub naming : (ℕ → Bool) → Option ℕ → Option ℕ
 naming names None = None
 naming names (Some n) = if names n then Some n else None
 
--- the number in a field, if it names something
-unfoldable pub numbered : (ℕ → Bool) → Field → Option ℕ
+-- the number in a text, if it names something
+unfoldable pub numbered : (ℕ → Bool) → List ℕ → Option ℕ
 numbered names field = naming names (numeral 8 2 field)
 
--- whether n is among the numbers in some fields
-abbrev pub is_among : (ℕ → Bool) → ℕ → Fields → Bool
+-- whether n is among some numbers
+abbrev pub is_among : (ℕ → Bool) → ℕ → List (List ℕ) → Bool
 is_among names n numbers = list_any (λ m. m == n) (filter_map (numbered names) numbers)
 
 -- A text lists the numbers that flags name: each of its numbers names something, and a number is

@@ -1,7 +1,7 @@
 //! Reading the words of a command line.
 
 ghost use Rattle.std.specs.Prelude.{◌≡◌, ◌≢◌, ◌-◌, ◌≤◌, ◌↔◌, [], IsTrue, codes, map, option_map, IfOk, IfErr, IfSome, IsSome, OnOk};
-ghost use Rattle.pp_runner.specs.Limits.{AreLimits};
+ghost use Rattle.pp_bounds.specs.Limits.{AreLimits};
 ghost use Rattle.pp_command.specs.CommandLine.{AskFor, AsksForMore, AsksForText, Finds, IsFaultBy, IsRefused, IsWorkOf, Name, ReadsAddress, ReadsBounds, ReadsChannels, ReadsChosen, ReadsEnd, ReadsFile, ReadsNumber, ReadsProcessor, ReadsProcessors, ReadsProfile, ReadsTurn, ReadsFlag, ReadsTurns, ReadsWindow, refusals, value_in};
 
 use crate::channel_list::listed_channels;
@@ -13,11 +13,9 @@ use crate::text_of::{ChosenSteps, TextOf};
 use crate::work::{Asked, Work};
 use clap::error::ErrorKind;
 use clap::{ArgMatches, Error};
+use pp_bounds::{Bounds, Limits, MOST_TURNS, Window};
 use pp_channel::CHANNELS;
-use pp_draw::{MOST_TURNS, Window};
 use pp_machine::{PROCESSORS, PpNo, Profile};
-use pp_runner::Limits;
-use pp_state::Bounds;
 use std::alloc::Global;
 
 /// How many places a processor's memory has.

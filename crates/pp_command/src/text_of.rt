@@ -1,9 +1,8 @@
 //! Which text of a deck is asked for.
 
+use pp_bounds::{Bounds, Window};
 use pp_channel::CHANNELS;
-use pp_draw::Window;
 use pp_machine::{PROCESSORS, PpNo};
-use pp_state::Bounds;
 
 /// Which steps of a run are chosen: those that all four fields choose.
 #[derive(Clone, Copy)]

@@ -3,10 +3,11 @@ use Rattle.std.proofs.Common.{◌≡◌, ℕ, suc, ◌+◌, ◌<◌, ◌≤◌, 
 use Rattle.std.specs.Prelude.{position, unwrap_or, nat_lt, filter, slice_index, ◌==◌}
 use Rattle.std.specs.List.{position_or_len, slice_split, onto_first, take_while}
 use Rattle.std.proofs.lemmas.List.{drop_all, length-drop, get_or-drop, drop_more, length-map}
-use Rattle.std.proofs.lemmas.List.Sums.{prefix_len-le-length, take_while-cons, fails_before_first, count_by-le-length}
-use Rattle.std.proofs.lemmas.List.Splits.{slice_split-cons_yes, slice_split-cons_no, slice_split_first, slice_split_none, length-slice_split}
+use Rattle.std.proofs.lemmas.List.Sums.{prefix_len-le-length, take_while-cons, count_by-le-length}
+use Rattle.std.proofs.lemmas.List.Splits.{slice_split-cons_yes, slice_split-cons_no, length-slice_split}
 use Rattle.std.proofs.lemmas.List.Quantifiers.{position-Some}
 use Rattle.std.proofs.lemmas.Bool.{ltb-false, cond-true, cond-false, eq-eqb, ne_eqb, not-true}
+use Rattle.pp_word.specs.Pieces.{at_position, no_position, split_first, split_last}
 use Rattle.pp_deck.specs.DeckText.{is_blank, is_comment, is_nonempty, fields_in, is_line_feed, fields_of, lines_of}
 
 -- ---- the first element that passes
@@ -20,14 +21,6 @@ or_length p xs false e =
 -- where it stands, or the length
 pub unwrap_or_position : (p : ℕ → Bool) (xs : List ℕ) → unwrap_or (position p xs) (length xs) ≡ position_or_len p xs
 unwrap_or_position p xs = or_length p xs (nat_lt (position_or_len p xs) (length xs)) refl
-
-pub at_position : (p : ℕ → Bool) (xs : List ℕ) (b : Bool) (i : ℕ) → cond b (Some (position_or_len p xs)) None ≡ Some i → i ≡ position_or_len p xs
-at_position p xs true i e = cc
-at_position p xs false i e = absurd (cc)
-
-pub no_position : (p : ℕ → Bool) (xs : List ℕ) (b : Bool) → nat_lt (position_or_len p xs) (length xs) ≡ b → cond b (Some (position_or_len p xs)) None ≡ None → length xs ≤ position_or_len p xs
-no_position p xs true e n = absurd (cc)
-no_position p xs false e n = ltb-false (position_or_len p xs) (length xs) e
 
 -- ---- blanks
 
@@ -147,18 +140,11 @@ field_length-le n text e = omega (arith, e, prefix_len-le-length (λ x. not (is_
 
 pub line_first : (text rest : List ℕ) (i : ℕ) → Some i ≡ position is_line_feed text → rest ≡ drop (i + 1) text → lines_of text ≡ fields_of (take i text) ∷ lines_of rest
 unfolding lines_of
-line_first text rest i e h =
-    let here = at_position is_line_feed text _ i (sym e) in
-    let there = position-Some is_line_feed text i 0 (sym e) in
-    ap (map fields_of) (slice_split_first is_line_feed text 0 (omega (arith, here, there.0)))
-    ∙ ap (λ (k : ℕ). fields_of (take k text) ∷ map fields_of (slice_split is_line_feed (drop (k + 1) text))) (sym here)
-    ∙ ap (λ (l : List ℕ). fields_of (take i text) ∷ map fields_of (slice_split is_line_feed l)) (sym h)
+line_first text rest i e h = ap (map fields_of) (split_first is_line_feed text rest i e h)
 
 pub line_last : (text : List ℕ) → None ≡ position is_line_feed text → lines_of text ≡ fields_of text ∷ []
 unfolding lines_of
-line_last text e =
-    let past = no_position is_line_feed text _ refl (sym e) in
-    ap (map fields_of) (slice_split_none is_line_feed text (λ k d lt. fails_before_first is_line_feed text k d (omega (arith, lt, past))))
+line_last text e = ap (map fields_of) (split_last is_line_feed text e)
 
 pub length-lines_of : (text : List ℕ) → length (lines_of text) ≤ length text + 1
 unfolding lines_of

@@ -21,7 +21,7 @@ use Rattle.pp_draw.specs.Part.{is_visible, label_from, part_of, until}
 use Rattle.pp_draw.specs.Window.{place}
 use Rattle.pp_draw.specs.declared.part.Phase.{Phase}
 use Rattle.pp_draw.specs.declared.seen_step.SeenStep.{SeenStep}
-use Rattle.pp_draw.specs.declared.window.Window.{Window}
+use Rattle.pp_bounds.specs.declared.window.Window.{Window}
 
 -- ---- where they begin and end
 

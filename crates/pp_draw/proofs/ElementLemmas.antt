@@ -4,16 +4,15 @@ use Rattle.std.proofs.lemmas.List.Sums.{fold-append}
 use Rattle.pp_word.specs.Numeral.{octal}
 use Rattle.pp_channel.specs.declared.event.Event.TheVariants.{Put, Function}
 use Rattle.pp_draw.specs.Elements.{band_element, label_element, label_text, lane_foot_tag, lane_head, lost_text, part_class, rectangle_tag, text_element, text_tag, title_text}
-use Rattle.pp_draw.specs.Frame.{foot_text, head_text, tick_element}
+use Rattle.pp_draw.specs.Frame.{foot_text, head_text, legend_text, style_text, tick_element}
 use Rattle.pp_draw.specs.Condition.{channel_name, face_of, processor_name}
 use Rattle.pp_draw.specs.Part.{is_visible, label_from}
 use Rattle.pp_draw.specs.WellFormed.{at, before, behind, between, read}
 use Rattle.pp_draw.specs.declared.condition.Condition.TheVariants.{HeldBy}
 use Rattle.pp_draw.specs.declared.condition.Look.{Look}
 use Rattle.pp_draw.specs.declared.condition.Look.TheVariants.{Channel, Processor}
-use Rattle.pp_draw.specs.declared.frame.TheConstants.{LEGEND, STYLE}
 use Rattle.pp_draw.specs.declared.part.Part.{Part}
-use Rattle.pp_draw.specs.declared.window.Window.{Window}
+use Rattle.pp_bounds.specs.declared.window.Window.{Window}
 use Rattle.pp_draw.proofs.ReadLemmas.{IsBalanced, decimal_in_quotes, decimal_in_text, in_quotes, in_text, is_plain, plain-append, plain_octal}
 
 -- ---- plain texts
@@ -101,10 +100,12 @@ pub head_read : (w : Window) (rows : ℕ) → read (at [] before) (head_text w r
 unfolding head_text
 head_read w rows = simp (fold-append, decimal_in_quotes, decimal_in_text)
 
-pub balanced_style : IsBalanced STYLE.now
+pub balanced_style : IsBalanced style_text
+unfolding style_text
 balanced_style outer others = refl
 
-pub balanced_legend : IsBalanced LEGEND.now
+pub balanced_legend : IsBalanced legend_text
+unfolding legend_text
 balanced_legend outer others = refl
 
 -- its end

@@ -17,7 +17,7 @@ use Rattle.pp_draw.specs.declared.condition.Look.{Look}
 use Rattle.pp_draw.specs.declared.condition.Look.TheVariants.{Processor}
 use Rattle.pp_draw.specs.declared.part.Phase.{Phase}
 use Rattle.pp_draw.specs.declared.seen_step.SeenStep.{SeenStep}
-use Rattle.pp_draw.specs.declared.window.Window.{Window}
+use Rattle.pp_bounds.specs.declared.window.Window.{Window}
 use Rattle.pp_draw.proofs.ConditionLemmas.{last_is_drawn}
 
 -- ---- phases that have begun by a turn

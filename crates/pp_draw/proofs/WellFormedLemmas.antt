@@ -11,16 +11,15 @@ use Rattle.pp_machine.specs.PpNo.{processor_count, processor_index, processor_nu
 use Rattle.pp_text.specs.PrintedText.{channel_text, each_below, state_text}
 use Rattle.pp_draw.specs.DrawingText.{channel_lane, drawing, is_flagged, is_used, lane_text, lanes, lanes_above, processor_lane, used_among}
 use Rattle.pp_draw.specs.Elements.{band_element, free_after, label_element}
-use Rattle.pp_draw.specs.Frame.{foot_text, head_text, tick_element, tick_text, tick_turns, ticks_text}
+use Rattle.pp_draw.specs.Frame.{foot_text, head_text, legend_text, style_text, tick_element, tick_text, tick_turns, ticks_text}
 use Rattle.pp_draw.specs.Lane.{drawn_from, next_in}
 use Rattle.pp_draw.specs.Condition.{channel_name, processor_name}
 use Rattle.pp_draw.specs.Part.{is_visible, label_from, part_of}
 use Rattle.pp_draw.specs.Phases.{channel_phases, phases_from, processor_phases}
 use Rattle.pp_draw.specs.WellFormed.{IsWellFormed, at, before, behind, between, read}
-use Rattle.pp_draw.specs.declared.frame.TheConstants.{LEGEND, STYLE}
 use Rattle.pp_draw.specs.declared.part.Phase.{Phase}
 use Rattle.pp_draw.specs.declared.seen_step.SeenStep.{SeenStep}
-use Rattle.pp_draw.specs.declared.window.Window.{Window}
+use Rattle.pp_bounds.specs.declared.window.Window.{Window}
 use Rattle.pp_draw.proofs.ElementLemmas.{balanced_band, balanced_label, balanced_legend, balanced_style, balanced_tick, foot_read, head_read, lane_foot_read, lane_head_read, plain_channel, plain_processor, svg}
 use Rattle.pp_draw.proofs.ReadLemmas.{IsBalanced, balanced-append, balanced-if, in_text, is_plain, plain-append, plain_octal}
 
@@ -90,7 +89,7 @@ drawing_read w shown m steps =
     let rows = lanes shown m in
     let channel = λ (p : ℕ). channel_lane w m (channel_number p) in
     let processor = λ (p : ℕ). processor_lane w shown m steps (processor_number p) in
-    parts_read (head_text w rows) STYLE.now LEGEND.now (ticks_text w rows) (each_below channel_count channel) (each_below processor_count processor) (foot_text rows)
+    parts_read (head_text w rows) style_text legend_text (ticks_text w rows) (each_below channel_count channel) (each_below processor_count processor) (foot_text rows)
     (head_read w rows) balanced_style balanced_legend (balanced_ticks w rows)
     (balanced_each channel_count channel (λ p. balanced_channel w m (channel_number p)))
     (balanced_each processor_count processor (λ p. balanced_processor w shown m steps (processor_number p)))

@@ -11,15 +11,14 @@ use Rattle.pp_deck.specs.DeckMeaning.{LoadedDeck}
 use Rattle.pp_deck.specs.InUse.{in_use}
 use Rattle.pp_text.specs.PrintedText.{channel_text, each_below, state_text}
 use Rattle.pp_draw.specs.Elements.{lane_foot_tag, lane_head}
-use Rattle.pp_draw.specs.Frame.{foot_text, head_text, ticks_text}
+use Rattle.pp_draw.specs.Frame.{foot_text, head_text, legend_text, style_text, ticks_text}
 use Rattle.pp_draw.specs.Lane.{drawn}
 use Rattle.pp_draw.specs.Condition.{channel_name, processor_name}
 use Rattle.pp_draw.specs.Phases.{channel_phases, processor_phases}
 use Rattle.pp_draw.specs.SeenStep.{seen_in_window}
-use Rattle.pp_draw.specs.declared.frame.TheConstants.{LEGEND, STYLE}
 use Rattle.pp_draw.specs.declared.part.Phase.{Phase}
 use Rattle.pp_draw.specs.declared.seen_step.SeenStep.{SeenStep}
-use Rattle.pp_draw.specs.declared.window.Window.{Window}
+use Rattle.pp_bounds.specs.declared.window.Window.{Window}
 
 -- how many of 0, 1, .. and count - 1 pass a test
 unfoldable pub count_below : ℕ → (ℕ → Bool) → ℕ
@@ -71,7 +70,7 @@ lanes shown m = lanes_above processor_count shown m
 -- window were these. Numbers have two octal digits
 unfoldable pub drawing : Window → List Bool → MachineState → List SeenStep → List ℕ
 drawing w shown m steps =
-    head_text w (lanes shown m) ++ STYLE.now ++ LEGEND.now ++ ticks_text w (lanes shown m)
+    head_text w (lanes shown m) ++ style_text ++ legend_text ++ ticks_text w (lanes shown m)
     ++ each_below channel_count (λ place. channel_lane w m (channel_number place))
     ++ each_below processor_count
     (λ place. processor_lane w shown m steps (processor_number place))

@@ -1,10 +1,10 @@
--- What stands round the lanes: the head of the picture, the scale of turns.
+-- What stands round the lanes: the head of the picture, its style sheet, the legend, the scale.
 use Rattle.std.specs.Prelude.{ℕ, ◌+◌, ◌-◌, ◌*◌, ◌%◌, ◌==◌, List, [], ◌++◌, codes, max, nat_le, if◌then◌else◌}
 use Rattle.pp_word.specs.Numeral.{short_decimal}
 use Rattle.pp_text.specs.PrintedText.{each_below}
-use Rattle.pp_draw.specs.Elements.{lane_top, rectangle_tag, text_element}
+use Rattle.pp_draw.specs.Elements.{lane_top, rectangle_tag, text_element, text_tag}
 use Rattle.pp_draw.specs.Window.{band_width, place}
-use Rattle.pp_draw.specs.declared.window.Window.{Window}
+use Rattle.pp_bounds.specs.declared.window.Window.{Window}
 
 -- the size of a picture with this many lanes; it has room for the legend
 abbrev pub picture_width : Window → ℕ
@@ -21,6 +21,42 @@ head_text w rows =
     ++ short_decimal (picture_width w) ++ codes " " ++ short_decimal (picture_height rows)
     ++ codes "'>\n<title>Channels and processors, turns " ++ short_decimal w.from
     ++ codes " to " ++ short_decimal w.to ++ codes "</title>\n"
+
+-- colours, light and dark, the classes that have them, and the ground
+unfoldable pub style_text : List ℕ
+style_text =
+    codes "<style>\n:root{--ink:#1b1f24;--soft:#5c6570;--line:#d5d9de;--ground:#fff;"
+    ++ codes "--full:#2f6fb3;--empty:#cfe1f4;--lost:#c0392b;--code:#7d4fa8;--run:#9bb8a0;"
+    ++ codes "--block:#4f8159;--held:#e3a63b}\n"
+    ++ codes "@media(prefers-color-scheme:dark){:root{--ink:#e6e9ed;--soft:#9aa3ad;--line:#3a414a;"
+    ++ codes "--ground:#15181c;--full:#5b9bdc;--empty:#22384f;--lost:#e06757;--code:#b48ad6;"
+    ++ codes "--run:#4f7257;--block:#7fb38a;--held:#c98d2a}}\n"
+    ++ codes "text{font:11px ui-monospace,Menlo,Consolas,monospace;fill:var(--ink)}\n"
+    ++ codes "rect.z{fill:var(--ground)}rect.g{fill:var(--line)}rect.u{fill:var(--soft)}"
+    ++ codes "rect.i,rect.s{fill:transparent}rect.a{fill:var(--empty)}rect.f{fill:var(--full)}"
+    ++ codes "rect.l,rect.x{fill:var(--lost)}rect.c{fill:var(--code)}rect.r{fill:var(--run)}"
+    ++ codes "rect.b{fill:var(--block)}rect.h{fill:var(--held)}\n"
+    ++ codes "text.e,text.t{fill:var(--soft)}text.t{text-anchor:middle}text.l{fill:var(--lost);"
+    ++ codes "text-decoration:line-through}\n</style>\n"
+    ++ codes "<rect class='z' width='100%' height='100%'/>\n"
+
+-- what the colours mean
+unfoldable pub legend_text : List ℕ
+legend_text =
+    codes "<g transform='translate(8,8)'>\n<rect class='a' width='12' height='12'/>"
+    ++ codes "<text class='e' x='16' y='10'>active</text>\n"
+    ++ codes "<rect class='f' x='72' width='12' height='12'/><text class='e' x='88' y='10'>"
+    ++ codes "full</text>\n<rect class='l' x='131' width='12' height='12'/>"
+    ++ codes "<text class='e' x='147' y='10'>lost</text>\n"
+    ++ codes "<rect class='c' x='190' width='12' height='12'/><text class='e' x='206' y='10'>"
+    ++ codes "function code</text>\n"
+    ++ codes "<rect class='r' x='308' width='12' height='12'/><text class='e' x='324' y='10'>"
+    ++ codes "running</text>\n<rect class='b' x='387' width='12' height='12'/>"
+    ++ codes "<text class='e' x='403' y='10'>in a block</text>\n"
+    ++ codes "<rect class='h' x='485' width='12' height='12'/><text class='e' x='501' y='10'>"
+    ++ codes "held</text>\n<rect class='x' x='544' width='12' height='12'/>"
+    ++ codes "<text class='e' x='560' y='10'>fault</text>\n"
+    ++ codes "</g>\n"
 
 -- turns with a line: each tenth, or each twentieth where turns are narrow
 abbrev pub tick_turns : Window → ℕ
@@ -41,4 +77,4 @@ ticks_text w rows = each_below (w.to + 1 - w.from) (λ i. tick_text w rows (w.fr
 
 -- what the scale counts, and the end
 abbrev pub foot_text : ℕ → List ℕ
-foot_text rows = text_element (codes "e") 8 (lane_top rows + 18) (codes "turn") ++ codes "</svg>\n"
+foot_text rows = text_tag (codes "e") 8 (lane_top rows + 18) ++ codes "turn</text>\n</svg>\n"

@@ -19,7 +19,7 @@ use Rattle.pp_draw.specs.declared.condition.Condition.TheVariants.{InBlock, Held
 use Rattle.pp_draw.specs.declared.condition.Condition.TheVariants as conditions
 use Rattle.pp_draw.specs.declared.seen_step.Found.{Found}
 use Rattle.pp_draw.specs.declared.seen_step.SeenStep.{SeenStep}
-use Rattle.pp_draw.specs.declared.window.Window.{Window}
+use Rattle.pp_bounds.specs.declared.window.Window.{Window}
 
 -- by the state of a processor: a running one is held by the channel that it needs, or else in a
 -- block or not

@@ -7,11 +7,11 @@ ghost use Rattle.pp_text.specs.TextWriter.{Prints};
 ghost use Rattle.pp_text.specs.Written.{IsWritten};
 ghost use Rattle.pp_draw.specs.DrawingText.{channel_lane, drawing, processor_lane};
 
-use crate::frame::{LEGEND, STYLE, print_foot, print_head, print_ticks};
+use crate::frame::{print_foot, print_head, print_legend, print_style, print_ticks};
 use crate::lanes::{print_channel_lane, print_processor_lane};
 use crate::rows::lanes_above;
 use crate::seen_step::SeenStep;
-use crate::window::Window;
+use pp_bounds::Window;
 use pp_channel::{CHANNELS, ChannelNo};
 use pp_machine::{Machine, PROCESSORS, PpNo};
 use pp_text::{TextWriter, WriteFault};
@@ -36,8 +36,8 @@ pub fn write_drawing<A: Allocator, W: Write>(
     let rows = lanes_above(machine, shown, PROCESSORS);
     let mut text = TextWriter::new(writer);
     print_head(&mut text, window, rows);
-    text.print(STYLE);
-    text.print(LEGEND);
+    print_style(&mut text);
+    print_legend(&mut text);
     print_ticks(&mut text, window, rows);
     print_channel_lanes(&mut text, window, machine);
     print_processor_lanes(&mut text, window, shown, machine, steps);

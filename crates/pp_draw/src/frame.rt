@@ -3,10 +3,11 @@
 ghost use Rattle.std.specs.Prelude.{◌≡◌, ◌≤◌};
 ghost use Rattle.pp_text.specs.TextWriter.{Prints};
 ghost use Rattle.pp_draw.specs.Elements.{lane_top};
-ghost use Rattle.pp_draw.specs.Frame.{foot_text, head_text, tick_text, tick_turns, ticks_text};
+ghost use Rattle.pp_draw.specs.Frame.{foot_text, head_text, legend_text, style_text, tick_text, tick_turns, ticks_text};
 
 use crate::elements::{print_rectangle_tag, print_text_tag};
-use crate::window::Window;
+use crate::window::{band_width, place};
+use pp_bounds::Window;
 use pp_text::{TextWriter, print_short_decimal};
 use std::io::Write;
 
@@ -23,7 +24,7 @@ pub(crate) fn print_head<W: Write>(text: &mut TextWriter<W>, window: Window, row
     requires { rows ≤ 128 }
     ensures { Prints W.contents text.old text.new (head_text window rows) }
 {
-    let width = (window.band_width() + 220).max(640);
+    let width = (band_width(window) + 220).max(640);
     let height = lane_top(rows) + 28;
     text.print(b"<svg xmlns='http://www.w3.org/2000/svg' width='");
     print_short_decimal(text, width);
@@ -40,39 +41,51 @@ pub(crate) fn print_head<W: Write>(text: &mut TextWriter<W>, window: Window, row
     text.print(b"</title>\n");
 }
 
-/// Colours, light and dark, the classes that have them, and the ground.
-pub(crate) const STYLE: &[u8] =
-    b"<style>\n:root{--ink:#1b1f24;--soft:#5c6570;--line:#d5d9de;--ground:#fff;\
-    --full:#2f6fb3;--empty:#cfe1f4;--lost:#c0392b;--code:#7d4fa8;--run:#9bb8a0;\
-    --block:#4f8159;--held:#e3a63b}\n\
-    @media(prefers-color-scheme:dark){:root{--ink:#e6e9ed;--soft:#9aa3ad;--line:#3a414a;\
-    --ground:#15181c;--full:#5b9bdc;--empty:#22384f;--lost:#e06757;--code:#b48ad6;\
-    --run:#4f7257;--block:#7fb38a;--held:#c98d2a}}\n\
-    text{font:11px ui-monospace,Menlo,Consolas,monospace;fill:var(--ink)}\n\
-    rect.z{fill:var(--ground)}rect.g{fill:var(--line)}rect.u{fill:var(--soft)}\
-    rect.i,rect.s{fill:transparent}rect.a{fill:var(--empty)}rect.f{fill:var(--full)}\
-    rect.l,rect.x{fill:var(--lost)}rect.c{fill:var(--code)}rect.r{fill:var(--run)}\
-    rect.b{fill:var(--block)}rect.h{fill:var(--held)}\n\
-    text.e,text.t{fill:var(--soft)}text.t{text-anchor:middle}text.l{fill:var(--lost);\
-    text-decoration:line-through}\n</style>\n\
-    <rect class='z' width='100%' height='100%'/>\n";
+/// Prints colours, light and dark, the classes that have them, and the ground.
+#[tactic(auto, unfolding(crate::specs::Frame::style_text))]
+pub(crate) fn print_style<W: Write>(text: &mut TextWriter<W>)
+    ensures { Prints W.contents text.old text.new style_text }
+{
+    text.print(
+        b"<style>\n:root{--ink:#1b1f24;--soft:#5c6570;--line:#d5d9de;--ground:#fff;\
+          --full:#2f6fb3;--empty:#cfe1f4;--lost:#c0392b;--code:#7d4fa8;--run:#9bb8a0;\
+          --block:#4f8159;--held:#e3a63b}\n\
+          @media(prefers-color-scheme:dark){:root{--ink:#e6e9ed;--soft:#9aa3ad;--line:#3a414a;\
+          --ground:#15181c;--full:#5b9bdc;--empty:#22384f;--lost:#e06757;--code:#b48ad6;\
+          --run:#4f7257;--block:#7fb38a;--held:#c98d2a}}\n\
+          text{font:11px ui-monospace,Menlo,Consolas,monospace;fill:var(--ink)}\n\
+          rect.z{fill:var(--ground)}rect.g{fill:var(--line)}rect.u{fill:var(--soft)}\
+          rect.i,rect.s{fill:transparent}rect.a{fill:var(--empty)}rect.f{fill:var(--full)}\
+          rect.l,rect.x{fill:var(--lost)}rect.c{fill:var(--code)}rect.r{fill:var(--run)}\
+          rect.b{fill:var(--block)}rect.h{fill:var(--held)}\n\
+          text.e,text.t{fill:var(--soft)}text.t{text-anchor:middle}text.l{fill:var(--lost);\
+          text-decoration:line-through}\n</style>\n\
+          <rect class='z' width='100%' height='100%'/>\n",
+    );
+}
 
-/// What the colours mean.
-pub(crate) const LEGEND: &[u8] =
-    b"<g transform='translate(8,8)'>\n<rect class='a' width='12' height='12'/>\
-    <text class='e' x='16' y='10'>active</text>\n\
-    <rect class='f' x='72' width='12' height='12'/><text class='e' x='88' y='10'>\
-    full</text>\n<rect class='l' x='131' width='12' height='12'/>\
-    <text class='e' x='147' y='10'>lost</text>\n\
-    <rect class='c' x='190' width='12' height='12'/><text class='e' x='206' y='10'>\
-    function code</text>\n\
-    <rect class='r' x='308' width='12' height='12'/><text class='e' x='324' y='10'>\
-    running</text>\n<rect class='b' x='387' width='12' height='12'/>\
-    <text class='e' x='403' y='10'>in a block</text>\n\
-    <rect class='h' x='485' width='12' height='12'/><text class='e' x='501' y='10'>\
-    held</text>\n<rect class='x' x='544' width='12' height='12'/>\
-    <text class='e' x='560' y='10'>fault</text>\n\
-    </g>\n";
+/// Prints what the colours mean.
+#[tactic(auto, unfolding(crate::specs::Frame::legend_text))]
+pub(crate) fn print_legend<W: Write>(text: &mut TextWriter<W>)
+    ensures { Prints W.contents text.old text.new legend_text }
+{
+    text.print(
+        b"<g transform='translate(8,8)'>\n<rect class='a' width='12' height='12'/>\
+          <text class='e' x='16' y='10'>active</text>\n\
+          <rect class='f' x='72' width='12' height='12'/><text class='e' x='88' y='10'>\
+          full</text>\n<rect class='l' x='131' width='12' height='12'/>\
+          <text class='e' x='147' y='10'>lost</text>\n\
+          <rect class='c' x='190' width='12' height='12'/><text class='e' x='206' y='10'>\
+          function code</text>\n\
+          <rect class='r' x='308' width='12' height='12'/><text class='e' x='324' y='10'>\
+          running</text>\n<rect class='b' x='387' width='12' height='12'/>\
+          <text class='e' x='403' y='10'>in a block</text>\n\
+          <rect class='h' x='485' width='12' height='12'/><text class='e' x='501' y='10'>\
+          held</text>\n<rect class='x' x='544' width='12' height='12'/>\
+          <text class='e' x='560' y='10'>fault</text>\n\
+          </g>\n",
+    );
+}
 
 /// Prints the lines of the scale.
 pub(crate) fn print_ticks<W: Write>(text: &mut TextWriter<W>, window: Window, rows: u64)
@@ -93,7 +106,7 @@ fn print_tick<W: Write>(text: &mut TextWriter<W>, window: Window, rows: u64, tur
     if turn % tick_turns(window) != 0 {
         return;
     }
-    let x = window.place(turn) + 80;
+    let x = place(window, turn) + 80;
     print_rectangle_tag(text, *b"g", x, 32, 1, 36 * rows + 8);
     text.print(b"/>\n");
     print_text_tag(text, *b"t", x, lane_top(rows) + 18);
@@ -119,7 +132,5 @@ pub(crate) fn print_foot<W: Write>(text: &mut TextWriter<W>, rows: u64)
     ensures { Prints W.contents text.old text.new (foot_text rows) }
 {
     print_text_tag(text, *b"e", 8, lane_top(rows) + 18);
-    text.print(b"turn");
-    text.print(b"</text>\n");
-    text.print(b"</svg>\n");
+    text.print(b"turn</text>\n</svg>\n");
 }

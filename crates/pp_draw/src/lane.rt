@@ -10,7 +10,8 @@ ghost use Rattle.pp_draw.specs.declared.part.Phase.{Phase};
 use crate::elements::{print_band, print_label};
 use crate::frame::lane_top;
 use crate::part::{Part, Phase};
-use crate::window::Window;
+use crate::window::band_width;
+use pp_bounds::Window;
 use pp_text::{TextWriter, print_short_decimal};
 use std::io::Write;
 
@@ -49,7 +50,7 @@ impl Lane {
         text.print(b")'>\n<text x='-72' y='26'>");
         text.print(&self.name);
         text.print(b"</text>\n<rect class='u' y='30' width='");
-        print_short_decimal(text, self.window.band_width());
+        print_short_decimal(text, band_width(self.window));
         text.print(b"' height='1'/>\n");
     }
 

@@ -11,7 +11,8 @@ use crate::lane::Lane;
 use crate::part::Phase;
 use crate::rows::{is_used, lanes_above, used_among};
 use crate::seen_step::SeenStep;
-use crate::window::Window;
+use crate::window::band_width;
+use pp_bounds::Window;
 use pp_channel::{ChannelNo, Event};
 use pp_machine::{Machine, PROCESSORS, PpNo, Trace};
 use pp_text::{TextWriter, channel_name, print_channel_text, print_state_text, processor_name};
@@ -39,7 +40,7 @@ pub(crate) fn print_channel_lane<A: Allocator, W: Write>(
         lane.take(text, phase_on(c, entry));
     }
     lane.finish(text);
-    print_text_tag(text, *b"e", window.band_width() + 8, 26);
+    print_text_tag(text, *b"e", band_width(window) + 8, 26);
     print_channel_text(text, machine.channel(c));
     text.print(b"</text>\n</g>\n");
 }
@@ -92,7 +93,7 @@ pub(crate) fn print_processor_lane<A: Allocator, W: Write>(
         lane.take(text, phase_for(n, step));
     }
     lane.finish(text);
-    print_text_tag(text, *b"e", window.band_width() + 8, 26);
+    print_text_tag(text, *b"e", band_width(window) + 8, 26);
     print_state_text(text, machine.pp(n).state());
     text.print(b"</text>\n</g>\n");
 }

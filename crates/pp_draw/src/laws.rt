@@ -27,7 +27,7 @@ ghost use Rattle.pp_draw.specs.declared.condition.Look.{Look};
 ghost use Rattle.pp_draw.specs.declared.condition.Look.TheVariants.{Channel, Processor};
 ghost use Rattle.pp_draw.specs.declared.part.Phase.{Phase};
 ghost use Rattle.pp_draw.specs.declared.seen_step.SeenStep.{SeenStep};
-ghost use Rattle.pp_draw.specs.declared.window.Window.{Window};
+ghost use Rattle.pp_bounds.specs.declared.window.Window.{Window};
 
 /// What is drawn of processors is seen in the very steps of the run that the text of steps tells.
 /// A channel has a phase for each event of its history, in order and from the turn of the event on,

@@ -4,7 +4,8 @@ ghost use Rattle.std.specs.Prelude.{◌≡◌, ◌<◌, ◌^◌};
 ghost use Rattle.pp_draw.specs.Part.{is_visible, label_from, part_of};
 
 use crate::condition::Look;
-use crate::window::Window;
+use crate::window::place;
+use pp_bounds::Window;
 
 /// How a channel or a processor stands from a turn on (decimal), until its next phase.
 #[derive(Clone, Copy)]
@@ -41,8 +42,8 @@ impl Part {
             next_since
         };
         Part {
-            start: window.place(phase.since),
-            end: window.place(until),
+            start: place(window, phase.since),
+            end: place(window, until),
             since: phase.since,
             until,
             look: phase.look,

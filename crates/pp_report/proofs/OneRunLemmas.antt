@@ -21,7 +21,7 @@ use Rattle.pp_run.specs.Determinacy.{AreAlike, IsQuiet, ShowsParts, Stays, Turns
 use Rattle.pp_run.proofs.Moments.{run_histories, run_processors}
 use Rattle.pp_run.proofs.StepFacts.{central_by, event_by, event_by_need, own_step}
 use Rattle.pp_runner.specs.End.{IsEnd}
-use Rattle.pp_runner.specs.Limits.{RunLimits}
+use Rattle.pp_bounds.specs.Limits.{RunLimits}
 use Rattle.pp_runner.specs.Report.{IsReportOf}
 use Rattle.pp_runner.specs.WorkerReport.{AreWorkers}
 use Rattle.pp_report.specs.Serial.{LeadsTo, processors_left}

@@ -17,7 +17,7 @@ use Rattle.pp_deck.specs.DeckText.{lines_of}
 use Rattle.pp_machine.specs.Headline.{opening_history}
 use Rattle.pp_machine.specs.MachineState.{MachineState}
 use Rattle.pp_machine.specs.PpNo.{all_processors, names_processor, processor_index, processor_number, is_named}
-use Rattle.pp_runner.specs.Limits.{RunLimits}
+use Rattle.pp_bounds.specs.Limits.{RunLimits}
 use Rattle.pp_runner.specs.WorkerReport.{logs_of}
 use Rattle.pp_report.proofs.ReportLawLemmas.{line_is, numbered_channel_events, told_after, told_body, unnamed_line, with_number}
 use Rattle.pp_report.specs.PrintedReport.{author_place, channel_events, end_text, line_by, named_worker_line, numbered_event_line, printed_report, worker_line}

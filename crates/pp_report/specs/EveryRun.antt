@@ -10,7 +10,7 @@ use Rattle.pp_report.specs.Types.{Access, Report}
 use Rattle.pp_machine.specs.Headline.{HoldsOnChannel, HoldsOnEachChannel, opening_history}
 use Rattle.pp_machine.specs.MachineState.{MachineState}
 use Rattle.pp_machine.specs.Run.{run}
-use Rattle.pp_runner.specs.Limits.{RunLimits}
+use Rattle.pp_bounds.specs.Limits.{RunLimits}
 use Rattle.pp_runner.specs.Report.{IsReportOf}
 use Rattle.pp_report.specs.Serial.{IsSerialRunOf}
 

@@ -6,7 +6,7 @@ use Rattle.pp_channel.specs.History.{HasTwelveBitWord, history_on}
 use Rattle.pp_report.specs.Types.{End, Event, Report, Worker}
 use Rattle.pp_machine.specs.MachineState.{MachineState}
 use Rattle.pp_machine.specs.PpNo.{names_processor, processor_index, processor_number, is_named}
-use Rattle.pp_runner.specs.Limits.{RunLimits}
+use Rattle.pp_bounds.specs.Limits.{RunLimits}
 use Rattle.pp_runner.specs.Report.{IsReportOf}
 use Rattle.pp_report.specs.PrintedReport.{author_place}
 use Rattle.pp_text.specs.TextLaw.{HistoryFits, ShowSameChannel}

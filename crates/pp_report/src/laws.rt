@@ -10,7 +10,7 @@ ghost use Rattle.pp_line.specs.Merge.{Merges};
 ghost use Rattle.pp_machine.specs.Headline.{opening_history};
 ghost use Rattle.pp_machine.specs.MachineState.{MachineState};
 ghost use Rattle.pp_runner.specs.End.{HasEndNumber};
-ghost use Rattle.pp_runner.specs.Limits.{RunLimits};
+ghost use Rattle.pp_bounds.specs.Limits.{RunLimits};
 ghost use Rattle.pp_runner.specs.WorkerReport.{logs_of};
 ghost use Rattle.pp_check.specs.LawfulTrace.{AreLawful, history, parsed_lines};
 ghost use Rattle.pp_check.specs.PrintedTrace.{AreOpenedBy};

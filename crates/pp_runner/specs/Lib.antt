@@ -1,5 +1,4 @@
 pub mod Types
-pub mod Limits
 pub mod End
 pub mod WorkerReport
 pub mod Accesses

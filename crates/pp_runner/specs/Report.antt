@@ -14,7 +14,7 @@ use Rattle.pp_machine.specs.Headline.{opening_history}
 use Rattle.pp_machine.specs.MachineState.{MachineState}
 use Rattle.pp_machine.specs.Profile.{processors_in}
 use Rattle.pp_runner.specs.Accesses.{HaveAccessed}
-use Rattle.pp_runner.specs.Limits.{RunLimits}
+use Rattle.pp_bounds.specs.Limits.{RunLimits}
 use Rattle.pp_runner.specs.End.{WornWithCause}
 use Rattle.pp_runner.specs.WorkerReport.{AreWorkers, logs_of}
 use Rattle.pp_runner.specs.contracts.report.Report.{the_row}

@@ -7,7 +7,6 @@ mod crew;
 mod end;
 mod gate;
 mod labour;
-mod limits;
 mod locked_central;
 mod opening;
 mod report;
@@ -19,8 +18,8 @@ mod worker;
 
 pub use end::End;
 pub use gate::{Gate, NoGate};
-pub use limits::Limits;
 pub use locked_central::LockedCentral;
+pub use pp_bounds::Limits;
 pub use report::Report;
 pub use run_fault::RunFault;
 pub use threads::run_threads;

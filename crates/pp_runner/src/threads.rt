@@ -8,13 +8,13 @@ ghost use Rattle.pp_runner.specs.Report.{IsReportOf};
 
 use crate::crew::run_first;
 use crate::gate::Gate;
-use crate::limits::Limits;
 use crate::opening::opening_line;
 use crate::report::Report;
 use crate::run_fault::RunFault;
 use crate::site::Site;
 use crate::spinning::Spinning;
 use crate::worker::workers;
+use pp_bounds::Limits;
 use pp_channel::Memory;
 use pp_line::{Closed, Line};
 use pp_machine::Machine;

@@ -12,7 +12,7 @@ use Rattle.pp_machine.specs.Profile.{processors_in, has_processor}
 use Rattle.pp_machine.specs.declared.profile.Profile.{Profile}
 use Rattle.pp_deck.specs.DeckLaw.{NamesWithin}
 use Rattle.pp_runner.specs.Report.{IsReportOf}
-use Rattle.pp_runner.specs.Limits.{RunLimits}
+use Rattle.pp_bounds.specs.Limits.{RunLimits}
 use Rattle.pp_runner.specs.End.{HasEndNumber}
 use Rattle.pp_runner.specs.WorkerReport.{IsWorker}
 use Rattle.pp_runner.specs.declared.report.Report.{Report}

@@ -5,11 +5,11 @@ use Rattle.pp_machine.specs.MachineState.{processor_of}
 use Rattle.pp_machine.specs.Run.{barrel, run}
 use Rattle.pp_deck.specs.DeckMeaning.{LoadedDeck}
 use Rattle.pp_draw.specs.DrawingText.{drawing_of_run}
-use Rattle.pp_draw.specs.declared.window.Window.{Window}
+use Rattle.pp_bounds.specs.declared.window.Window.{Window}
 use Rattle.pp_listing.specs.declared.going_on.Busy.{Busy}
 use Rattle.pp_state.specs.CentralText.{central_text}
 use Rattle.pp_state.specs.MemoryText.{memory_text}
-use Rattle.pp_state.specs.declared.bounds.Bounds.{Bounds}
+use Rattle.pp_bounds.specs.declared.bounds.Bounds.{Bounds}
 use Rattle.pp_sessions.specs.SessionsText.{sessions_after}
 use Rattle.pp_sim.specs.BarrelText.{IsBarrelText}
 use Rattle.pp_sim.specs.DumpText.{PreventsDump, IsDumpText}

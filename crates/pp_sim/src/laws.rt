@@ -14,7 +14,7 @@ ghost use Rattle.pp_report.specs.OneRun.{IsOver, ShowsPartsOf};
 ghost use Rattle.pp_report.specs.Serial.{LeadsTo};
 ghost use Rattle.pp_races.specs.RacesText.{verdict_line};
 ghost use Rattle.pp_races.specs.declared.verdict.Verdict.TheVariants.{Same};
-ghost use Rattle.pp_runner.specs.Limits.{RunLimits};
+ghost use Rattle.pp_bounds.specs.Limits.{RunLimits};
 ghost use Rattle.pp_runner.specs.Report.{IsReportOf};
 ghost use Rattle.pp_runner.specs.declared.report.Report.{Report};
 ghost use Rattle.pp_sim.specs.BarrelText.{IsBarrelText};

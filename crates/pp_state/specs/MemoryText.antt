@@ -7,15 +7,12 @@ use Rattle.pp_machine.specs.Processor.{Processor, word_at}
 use Rattle.pp_word.specs.Numeral.{octal}
 use Rattle.pp_text.specs.PrintedText.{each_below, line_end}
 use Rattle.pp_state.specs.DisplayCode.{displayed}
-use Rattle.pp_state.specs.declared.bounds.Bounds.{Bounds}
+use Rattle.pp_bounds.specs.Bounds.{meets}
+use Rattle.pp_bounds.specs.declared.bounds.Bounds.{Bounds}
 
 -- a line without the spaces at its end
 unfoldable pub trimmed : List ℕ → List ℕ
 trimmed line = take (length line - suffix_len is_ascii_whitespace line) line
-
--- some number between these two, both included, is within the bounds
-abbrev pub meets : Bounds → ℕ → ℕ → Bool
-meets bounds from to = nat_le bounds.first to && nat_le from bounds.last
 
 -- eight words from a place on, in octal digits, with a space before each
 unfoldable pub octal_words : Processor → ℕ → List ℕ

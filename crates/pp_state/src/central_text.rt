@@ -5,8 +5,8 @@ ghost use Rattle.pp_text.specs.TextWriter.{Prints};
 ghost use Rattle.pp_text.specs.Written.{IsWritten};
 ghost use Rattle.pp_state.specs.CentralText.{central_line, central_text, shown_word};
 
-use crate::bounds::Bounds;
 use crate::display_code::print_displayed;
+use pp_bounds::Bounds;
 use pp_machine::Central;
 use pp_text::{TextWriter, WriteFault, print_octal};
 use std::alloc::Allocator;

@@ -2,7 +2,6 @@
 //! load, the channels; and the words in memory, in octal and in display code.
 #![tactic(auto)]
 
-mod bounds;
 mod central_text;
 mod changes;
 mod display_code;
@@ -12,10 +11,10 @@ mod memory_laws;
 mod memory_text;
 mod whole_text;
 
-pub use bounds::Bounds;
 pub use central_text::write_central;
 pub use held_steps::run_counting_held;
 pub use laws::state_law;
 pub use memory_laws::{central_law, memory_law};
 pub use memory_text::write_memory;
+pub use pp_bounds::Bounds;
 pub use whole_text::write_state;

@@ -9,6 +9,7 @@ pub mod Numeral
 pub mod LastElements
 pub mod Tables
 pub mod GrowingLists
+pub mod Pieces
 pub mod WrittenNumbers
 pub mod Subsequence
 pub mod Subsequences

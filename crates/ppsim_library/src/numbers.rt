@@ -5,7 +5,7 @@ ghost use Rattle.ppsim_library.specs.Numbers.{AreChannels, only_of, profile_of, 
 
 use pp_channel::CHANNELS;
 use pp_command::listed_channels;
-use pp_draw::{MOST_TURNS, Window};
+use pp_bounds::{MOST_TURNS, Window};
 use pp_machine::{PROCESSORS, Profile};
 
 /// The last turn of a run (decimal).

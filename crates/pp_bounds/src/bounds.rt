@@ -1,7 +1,7 @@
-//! Which words are shown.
+//! Which words of memory are shown.
 
 ghost use Rattle.std.specs.Prelude.{◌≡◌, ◌<◌, ◌≤◌, ◌↔◌, IsSome, IfSome};
-ghost use Rattle.pp_state.specs.MemoryText.{meets};
+ghost use Rattle.pp_bounds.specs.Bounds.{meets};
 
 /// The first and the last of the places or addresses that are shown.
 #[derive(Clone, Copy)]
@@ -21,7 +21,7 @@ impl Bounds {
     }
 
     /// Whether some number from `from` to `to` is within.
-    pub(crate) fn meets(&self, from: u32, to: u32) -> bool
+    pub fn meets(&self, from: u32, to: u32) -> bool
         ensures { result ≡ meets self.now from to }
     {
         self.first <= to && from <= self.last
