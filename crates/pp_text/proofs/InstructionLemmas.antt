@@ -2,7 +2,7 @@
 use Rattle.std.proofs.Common.{◌≡◌, ℕ, suc, ◌+◌, ◌-◌, ◌/◌, ◌%◌, ◌^◌, List, [], ◌∷◌, ◌++◌, codes, length, length-append, get_or, replicate, refl, sym, ap, ◌∙◌, arith}
 use Rattle.pp_word.specs.Opcode.{opcode_at, row_of}
 use Rattle.pp_word.specs.declared.opcode.Opcode.{Opcode}
-use Rattle.pp_word.specs.declared.opcode.Opcode.TheVariants.{PSN, LJM, RJM, UJN, ZJN, NJN, PJN, MJN, SHN, LMN, LPN, SCN, LDN, LCN, ADN, SBN, LDC, ADC, LPC, LMC, PSN24, PSN25, EXN, RPN, LDD, ADD, SBD, LMD, STD, RAD, AOD, SOD, LDI, ADI, SBI, LMI, STI, RAI, AOI, SOI, LDM, ADM, SBM, LMM, STM, RAM, AOM, SOM, CRD, CRM, CWD, CWM, AJM, IJM, FJM, EJM, IAN, IAM, OAN, OAM, ACN, DCN, FAN, FNC}
+use Rattle.pp_word.specs.declared.opcode.Opcode.TheVariants.{PSN}
 use Rattle.pp_word.specs.Tables.{tabulate, tabulate_is}
 use Rattle.pp_text.specs.InstructionText.{instruction_text, operands_of, operands_text}
 use Rattle.pp_text.specs.PrintedText.{padded}
@@ -18,71 +18,9 @@ unfolding tabulate
 three xs long = sym (tabulate_is 0 xs 3 (λ i. get_or xs i 0) long (λ i below. refl))
 
 -- a mnemonic has three letters
-three_letters : (op : Opcode) → length ((row_of op).mnemonic) ≡ 3
+pub three_letters : (op : Opcode) → length ((row_of op).mnemonic) ≡ 3
 three_letters PSN = refl
-three_letters LJM = refl
-three_letters RJM = refl
-three_letters UJN = refl
-three_letters ZJN = refl
-three_letters NJN = refl
-three_letters PJN = refl
-three_letters MJN = refl
-three_letters SHN = refl
-three_letters LMN = refl
-three_letters LPN = refl
-three_letters SCN = refl
-three_letters LDN = refl
-three_letters LCN = refl
-three_letters ADN = refl
-three_letters SBN = refl
-three_letters LDC = refl
-three_letters ADC = refl
-three_letters LPC = refl
-three_letters LMC = refl
-three_letters PSN24 = refl
-three_letters PSN25 = refl
-three_letters EXN = refl
-three_letters RPN = refl
-three_letters LDD = refl
-three_letters ADD = refl
-three_letters SBD = refl
-three_letters LMD = refl
-three_letters STD = refl
-three_letters RAD = refl
-three_letters AOD = refl
-three_letters SOD = refl
-three_letters LDI = refl
-three_letters ADI = refl
-three_letters SBI = refl
-three_letters LMI = refl
-three_letters STI = refl
-three_letters RAI = refl
-three_letters AOI = refl
-three_letters SOI = refl
-three_letters LDM = refl
-three_letters ADM = refl
-three_letters SBM = refl
-three_letters LMM = refl
-three_letters STM = refl
-three_letters RAM = refl
-three_letters AOM = refl
-three_letters SOM = refl
-three_letters CRD = refl
-three_letters CRM = refl
-three_letters CWD = refl
-three_letters CWM = refl
-three_letters AJM = refl
-three_letters IJM = refl
-three_letters FJM = refl
-three_letters EJM = refl
-three_letters IAN = refl
-three_letters IAM = refl
-three_letters OAN = refl
-three_letters OAM = refl
-three_letters ACN = refl
-three_letters DCN = refl
-three_letters FAN = refl
-three_letters FNC = refl
+three_letters op = refl
 
 -- after a mnemonic nine of thirteen columns are left
 padded_more : (a b c : ℕ) (text : List ℕ) → padded 13 ((a ∷ b ∷ c ∷ []) ++ codes " " ++ text) ≡ a ∷ b ∷ c ∷ 32 ∷ padded 9 text

@@ -2,11 +2,12 @@
 use Rattle.std.proofs.Common.{◌≡◌, ℕ, true, false, List, [], ◌++◌, Option, Result, Ok, Err, ap}
 use Rattle.std.proofs.lemmas.List.{append-nil}
 use Rattle.std.specs.Io.KnownBytes.{Appends}
+use Rattle.std.proofs.KnownBytes.{Appends-trans}
 use Rattle.std.specs.Result.{is_err}
 use Rattle.pp_text.specs.TextWriter.{Prints}
 use Rattle.pp_text.specs.Written.{AppendsFront, IsWritten}
 use Rattle.pp_text.specs.declared.text_writer.TextWriter.{TextWriter}
-use Rattle.pp_text.proofs.WriteLemmas.{appends_then, front_then}
+use Rattle.pp_text.proofs.WriteLemmas.{front_then}
 
 -- a writer that failed stays as it is
 pub prints_lost : {W : Type 0} (contents : W → Option (List ℕ)) (a b : TextWriter W) → a.failed ≡ true → b.failed ≡ true → b.writer ≡ a.writer → Prints contents a b []
@@ -26,7 +27,7 @@ prints_out contents a b going same goes empty out = record {
   goes_on = λ start before so_far. record {
     whole = λ not.
         let (written, all, had) = so_far.whole going in
-        (written ++ a.piece, rw (append-nil before, empty, append-nil (written ++ a.piece)) all, appends_then start (contents a.writer.now) (contents b.writer.now) written a.piece had out);
+        (written ++ a.piece, rw (append-nil before, empty, append-nil (written ++ a.piece)) all, Appends-trans start (contents a.writer.now) (contents b.writer.now) written a.piece had out);
     front = λ is. absurd (cc);
   };
 }

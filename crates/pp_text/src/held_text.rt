@@ -42,7 +42,7 @@ pub fn print_flags_text<W: Write>(text: &mut TextWriter<W>, flags: Flags)
 fn print_count<W: Write>(text: &mut TextWriter<W>, count: u32)
     ensures { Prints W.contents text.old text.new (count_text count) }
 {
-    if count > 0 {
+    if count != 0 {
         text.print(b" x");
         print_unpadded(text, 10, u64::from(count));
     }

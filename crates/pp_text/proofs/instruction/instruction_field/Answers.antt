@@ -1,11 +1,24 @@
-use Rattle.std.proofs.Common.{◌≡◌, ℕ, ◌/◌, ◌^◌, ◌++◌, codes, length, ap, ◌∙◌, rules}
+use Rattle.std.proofs.Common.{◌≡◌, ℕ, ◌/◌, ◌^◌, ◌++◌, codes, length, ap, ◌∙◌, arith, rules}
 use Rattle.pp_word.specs.Opcode.{opcode_at, row_of}
 use Rattle.pp_word.specs.declared.opcode.Opcode.{Opcode}
 use Rattle.pp_text.specs.InstructionText.{instruction_text, operands_of, operands_text}
 use Rattle.pp_text.specs.PrintedText.{padded}
 use Rattle.pp_text.specs.declared.operands.Operands.{Operands}
-use Rattle.pp_text.proofs.InstructionLemmas.{instruction_in_pieces}
+use Rattle.pp_text.proofs.InstructionLemmas.{instruction_in_pieces, three_letters}
 use Rattle.pp_text.proofs.instruction.instruction_field.Goals as goal
+use Rattle.pp_text.proofs.instruction.instruction_field.Goals.{After-as_bytes-name}
+
+three : (c : After-as_bytes-name) → length c.as_bytes-name.result.now ≡ 3
+three c = ap length (c.as_bytes-name.ensures.value ∙ c.mnemonic.ensures) ∙ three_letters c.decode-operation.result.0
+
+pub bounds-name-0 : goal.bounds-name-0
+bounds-name-0 c = omega (arith, three (goal.at.bounds-name-0 c).After-as_bytes-name)
+
+pub bounds-name-1 : goal.bounds-name-1
+bounds-name-1 c = omega (arith, three (goal.at.bounds-name-1 c).After-as_bytes-name)
+
+pub bounds-name-2 : goal.bounds-name-2
+bounds-name-2 c = omega (arith, three (goal.at.bounds-name-2 c).After-as_bytes-name)
 
 pub returns : goal.returns
 unfolding instruction_text
