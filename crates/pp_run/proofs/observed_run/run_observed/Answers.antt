@@ -1,13 +1,33 @@
-use Rattle.std.proofs.Common.{◌≡◌, ◌<◌, ◌+◌, ◌%◌, ◌^◌, ℕ, List, length, refl, sym, ap, ◌∙◌, subst, arith}
-use Rattle.pp_machine.specs.MachineState.{MachineState}
-use Rattle.pp_machine.specs.MachineStep.{step_outcome, stepped}
+use Rattle.std.proofs.Common.{◌≡◌, ◌<◌, ◌+◌, ◌%◌, ◌^◌, ℕ, List, inr, length, refl, sym, ap, ◌∙◌, subst, arith}
 use Rattle.pp_machine.specs.PpNo.{processor_number}
 use Rattle.pp_machine.specs.Profile.{processor_in_turn, processors_in}
 use Rattle.pp_machine.specs.Run.{barrel, run}
 use Rattle.pp_machine.specs.RunLaws.{barrel_more}
-use Rattle.pp_run.specs.RunSteps.{IsMade, RunStep, run_steps}
+use Rattle.pp_run.specs.RunSteps.{IsMade, RunStep, barrel_step, run_steps}
 use Rattle.pp_run.specs.RunStepLaws.{barrel_steps_more, length-barrel_steps}
 use Rattle.pp_run.proofs.observed_run.run_observed.Goals as goal
+use Rattle.pp_run.proofs.observed_run.run_observed.Goals.{In-Ok}
+
+number : (g : _) (c : In-Ok g) → c.at-n.result ≡ processor_in_turn c.args.machine.now.profile c.loop-turn.turn
+number g c = c.at-n.ensures.number ∙ ap (λ (r : ℕ). processor_number (c.loop-turn.turn % r)) (c.processors-round.ensures ∙ ap processors_in c.profile.ensures)
+
+noted : (g : _) (c : In-Ok g) → g.O.Observer.IsNote c.note-note.result (barrel_step c.args.machine.now c.loop-turn.turn)
+noted g c = rw (number g c, c.loop-turn.invariant.ran) at c.note-note.ensures
+
+made : (g : _) (c : In-Ok g) → IsMade (barrel_step c.args.machine.now c.loop-turn.turn) c.at-n.result c.in-Ok.outcome c.step.new.self
+made g c = record {
+  processor_is = sym (number g c);
+  outcome_is = rw (number g c, c.loop-turn.invariant.ran) at c.in-Ok.ensures.outcome;
+  after_is = rw (number g c, c.loop-turn.invariant.ran) at c.in-Ok.ensures.ok;
+}
+
+ran : (g : _) (c : In-Ok g) → c.step.new.self ≡ run (barrel c.args.machine.now.profile (c.loop-turn.turn + 1)) c.args.machine.now
+ran g c = (made g c).after_is ∙ sym (barrel_more c.args.machine.now.profile c.loop-turn.turn c.args.machine.now)
+
+kept : (g : _) (c : goal.After-drop-note-in_default-see g) → g.O.Observer.Keeps c.args.observer.now (barrel_step c.args.machine.now c.loop-turn.turn)
+kept g c =
+    let d = (goal.at.returns-in_default-see-clause-cut_at g c).In-Ok in
+    c.in_default-see.ensures.refused c.args.observer.now _ _ (noted g d) (made g d) c.loop-turn.invariant.seen
 
 pub loop-turn-init : goal.loop-turn-init
 loop-turn-init g c = record {
@@ -18,40 +38,22 @@ loop-turn-init g c = record {
 
 pub loop-turn-preserved : goal.loop-turn-preserved
 loop-turn-preserved g c =
-    let p = c.args.machine.now.profile in
     let m = c.args.machine.now in
     let t = c.loop-turn.turn in
-    let n = c.at-n.result in
-    let before = run (barrel p t) m in
-    let step : RunStep = record { processor = n; before = before } in
-    let ran = c.loop-turn.invariant.ran in
-    let round : c.processors-round.result ≡ processors_in p = c.processors-round.ensures ∙ ap processors_in c.profile.ensures in
-    let is : n ≡ processor_in_turn p t = c.at-n.ensures.number ∙ ap (λ (r : ℕ). processor_number (t % r)) round in
-    let note : g.O.Observer.IsNote c.note-note.result step = subst (λ (x : MachineState). g.O.Observer.IsNote c.note-note.result (record { processor = n; before = x })) ran c.note-note.ensures in
-    let made : IsMade step n c.in-Ok.outcome c.step.new.self = record {
-      processor_is = refl;
-      outcome_is = c.in-Ok.ensures.outcome ∙ ap (step_outcome n) ran;
-      after_is = c.in-Ok.ensures.ok ∙ ap (stepped n) ran;
-    } in
-    let few : length (run_steps (barrel p t) m) + 1 < 2 ^ 32 = omega (arith, length-barrel_steps p t m, c.loop-turn-test.true, c.ranges.turns.fits) in
+    let d = (goal.at.loop-turn-preserved g c).In-Ok in
+    let few : length (run_steps (barrel m.profile t) m) + 1 < 2 ^ 32 = omega (arith, length-barrel_steps m.profile t m, c.loop-turn-test.true, c.ranges.turns.fits) in
     record {
-      ran = made.after_is ∙ ap (λ (k : ℕ). stepped k before) is ∙ sym (barrel_more p t m);
-      seen = subst (λ (ss : List RunStep). g.O.Observer.HasSeen c.args.observer.now ss c.see.new.self) (sym (barrel_steps_more p t n m is))
-          (c.in-Ok-see.ensures.seen c.args.observer.now (run_steps (barrel p t) m) step note made few c.loop-turn.invariant.seen);
+      ran = ran g d;
+      seen = subst (λ (ss : List RunStep). g.O.Observer.HasSeen c.args.observer.now ss c.see.new.self) (sym (barrel_steps_more m.profile t _ m refl))
+          (c.in-Ok-see.ensures.seen c.args.observer.now _ _ (noted g d) (made g d) few c.loop-turn.invariant.seen);
       headline = c.step.ensures.headline;
     }
 
+pub returns-in_default-see-clause-cut : goal.returns-in_default-see-clause-cut
+returns-in_default-see-clause-cut g c = rw c.from-in_default-see.ensures (ran g (goal.at.returns-in_default-see-clause-cut g c).In-Ok)
+
+pub returns-in_default-see-clause-cut_at : goal.returns-in_default-see-clause-cut_at
+returns-in_default-see-clause-cut_at g c = inr (c.loop-turn.turn, ap (λ (t : ℕ). t + 1) c.from-in_default-see.ensures, c.loop-turn-test.true, kept g c)
+
 pub returns-in_default-see-clause-unkept : goal.returns-in_default-see-clause-unkept
-returns-in_default-see-clause-unkept g c = λ keeps_none.
-    let m = c.args.machine.now in
-    let n = c.at-n.result in
-    let ran = c.loop-turn.invariant.ran in
-    let before = run (barrel m.profile c.loop-turn.turn) m in
-    let step : RunStep = record { processor = n; before = before } in
-    let note : g.O.Observer.IsNote c.note-note.result step = subst (λ (x : MachineState). g.O.Observer.IsNote c.note-note.result (record { processor = n; before = x })) ran c.note-note.ensures in
-    let made : IsMade step n c.in-Ok.outcome c.step.new.self = record {
-      processor_is = refl;
-      outcome_is = c.in-Ok.ensures.outcome ∙ ap (step_outcome n) ran;
-      after_is = c.in-Ok.ensures.ok ∙ ap (stepped n) ran;
-    } in
-    absurd (keeps_none step (c.in_default-see.ensures.refused c.args.observer.now (run_steps (barrel m.profile c.loop-turn.turn) m) step note made c.loop-turn.invariant.seen))
+returns-in_default-see-clause-unkept g c = λ keeps_none. absurd (keeps_none _ (kept g c))
