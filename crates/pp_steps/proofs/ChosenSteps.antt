@@ -1,13 +1,11 @@
 -- The steps chosen of a run, turn by turn of the barrel.
-use Rattle.std.proofs.Common.{◌≡◌, ℕ, ◌+◌, ◌-◌, ◌%◌, ◌<◌, ◌≤◌, length, zero, suc, add-one, Bool, true, false, cond, List, [], ◌∷◌, ◌++◌, refl, sym, ap, ◌∙◌, append-nil, append_assoc, arith}
+use Rattle.std.proofs.Common.{◌≡◌, ℕ, ◌+◌, ◌-◌, ◌<◌, ◌≤◌, length, zero, suc, add-one, Bool, true, false, cond, List, [], ◌∷◌, ◌++◌, refl, sym, ap, ◌∙◌, append-nil, append_assoc, arith}
 use Rattle.std.specs.List.{filter}
 use Rattle.std.proofs.lemmas.List.Elements.{filter-append}
 use Rattle.std.proofs.lemmas.List.Sums.{count_by-le-length, length-filter}
 use Rattle.pp_machine.specs.MachineState.{MachineState}
 use Rattle.pp_machine.specs.MachineStep.{stepped}
-use Rattle.pp_machine.specs.Profile.{processor_in_turn, processors_in}
-use Rattle.pp_machine.specs.PpNo.{processor_count}
-use Rattle.pp_machine.specs.ProfilePlaces.{most_processors, rest_within}
+use Rattle.pp_machine.specs.Profile.{processor_in_turn}
 use Rattle.pp_machine.specs.Run.{barrel, run}
 use Rattle.pp_machine.specs.declared.profile.Profile.{Profile}
 use Rattle.pp_machine.specs.RunLaws.{barrel_more}
@@ -19,10 +17,6 @@ use Rattle.pp_steps.specs.declared.choice.Choice.{Choice}
 -- the step of processor k after so many turns of the barrel
 abbrev pub step_in : Profile → ℕ → MachineState → ℕ → RunStep
 step_in p turn m k = record { processor = k; before = run (barrel p turn) m }
-
--- the place of a processor in turn
-pub place_low : (p : Profile) (turn place round : ℕ) → round ≡ processors_in p → place ≡ turn % round → place < processor_count
-place_low p turn place round is at = omega (arith, at ∙ ap (λ (r : ℕ). turn % r) is, rest_within p turn, most_processors p)
 
 -- with one turn more
 pub chosen_more : (choice : Choice) (p : Profile) (turn : ℕ) (m : MachineState) (k : ℕ) → k ≡ processor_in_turn p turn

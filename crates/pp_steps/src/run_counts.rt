@@ -2,6 +2,7 @@
 
 ghost use Rattle.std.specs.Prelude.{◌≡◌, ◌+◌, ◌<◌, ◌^◌, length, IfOk, OnOk, replicate, slice_index_or, slice_set, if◌then◌else◌};
 ghost use Rattle.pp_machine.specs.PpNo.{processor_count, processor_index};
+ghost use Rattle.pp_machine.specs.Profile.{processor_in_turn};
 ghost use Rattle.pp_machine.specs.Run.{barrel};
 ghost use Rattle.pp_steps.specs.Choice.{chosen_steps};
 ghost use Rattle.pp_steps.specs.HeldRuns.{each_spells, no_spells, with_step};
@@ -26,14 +27,23 @@ pub(crate) fn counted_runs<A: Allocator + Copy>(
 {
     let mut runs = no_runs(alloc)?;
     let mut bare = BareMachine::of(alloc, machine)?;
-    let round = machine.profile().processors() as u32;
     for turn in 0..turns {
-        let n = PpNo::at((turn % round) as usize);
+        let n = in_turn(machine, turn);
         let is_chosen = choice.has(&bare, n);
         let step = bare.step(n);
         note_step(&mut runs, is_chosen, n, step)?;
     }
     Ok(runs)
+}
+
+/// The processor whose turn it is.
+#[tactic(auto, using(pp_machine::specs::ProfilePlaces::rest_within, pp_machine::specs::ProfilePlaces::most_processors))]
+pub(crate) fn in_turn<A: Allocator>(machine: &Machine<A>, turn: u32) -> PpNo
+    ensures is { result ≡ processor_in_turn machine.now.profile turn }
+    ensures place { processor_index result < processor_count }
+{
+    let round = machine.profile().processors() as u32;
+    PpNo::at((turn % round) as usize)
 }
 
 /// Counts a step of a processor, where it is chosen.

@@ -15,7 +15,7 @@ use crate::choice::Choice;
 use crate::cursor::{Cursor, pass_step};
 use crate::held_runs::HeldRuns;
 use crate::line_kind::LineKind;
-use crate::run_counts::counted_runs;
+use crate::run_counts::{counted_runs, in_turn};
 use crate::step_line::{print_held_line, print_step_line};
 use pp_machine::{Machine, PROCESSORS, PpNo};
 use pp_run::BareMachine;
@@ -77,10 +77,9 @@ fn print_steps<A: Allocator, W: Write>(
     ensures { Prints W.contents text.old text.new
         (steps_text choice.now (barrel machine.now.profile turns) machine.now) }
 {
-    let round = machine.profile().processors() as u32;
     let mut cursors = [Cursor::new(); PROCESSORS];
     for turn in 0..turns {
-        let n = PpNo::at((turn % round) as usize);
+        let n = in_turn(machine, turn);
         let is_chosen = choice.has(after, n);
         let step = after.step(n);
         let kind = pass_step(&mut cursors, runs, is_chosen, n, step);

@@ -1,17 +1,16 @@
-use Rattle.std.proofs.Common.{◌≡◌, ◌<◌, ◌+◌, ◌%◌, ◌∷◌, ◌++◌, ℕ, [], length, sym, subst, ap, ◌∙◌, cond, arith}
+use Rattle.std.proofs.Common.{◌≡◌, ◌+◌, ◌∷◌, ◌++◌, ℕ, [], length, sym, subst, ap, ◌∙◌, cond, arith}
 use Rattle.std.specs.Prelude.{Bool}
 use Rattle.pp_word.specs.Tables.{length-tabulate}
 use Rattle.pp_machine.specs.MachineState.{MachineState}
 use Rattle.pp_machine.specs.MachineStep.{stepped}
-use Rattle.pp_machine.specs.PpNo.{processor_count, processor_index, processor_number}
-use Rattle.pp_machine.specs.Profile.{processor_in_turn, processors_in}
+use Rattle.pp_machine.specs.PpNo.{processor_count}
 use Rattle.pp_machine.specs.Run.{barrel, run}
 use Rattle.pp_machine.specs.RunLaws.{barrel_more}
 use Rattle.pp_run.specs.BareMachine.{StandsFor}
 use Rattle.pp_run.specs.RunSteps.{RunStep}
 use Rattle.pp_steps.specs.Choice.{chosen_steps, is_chosen}
 use Rattle.pp_steps.specs.HeldRuns.{HeldSpells, each_spells, no_spells, with_step}
-use Rattle.pp_steps.proofs.ChosenSteps.{chosen_more, few_chosen, place_low, step_in}
+use Rattle.pp_steps.proofs.ChosenSteps.{chosen_more, few_chosen, step_in}
 use Rattle.pp_steps.proofs.CountedRuns.{made_few, made_more, none_made}
 use Rattle.pp_steps.proofs.RunCountLemmas.{current_grows}
 use Rattle.pp_steps.proofs.run_counts.counted_runs.Goals as goal
@@ -30,11 +29,9 @@ note_step-requires-clause-low g c =
     let p = c.args.machine.now.profile in
     let m = c.args.machine.now in
     let t = c.loop-turn.turn in
-    let round : c.processors-round.result ≡ processors_in p = c.processors-round.ensures ∙ ap processors_in c.profile.ensures in
-    let place : processor_index c.at-n.result < processor_count = place_low p t _ _ round c.at-n.ensures.place in
     omega (
       arith,
-      made_few with_step no_spells (λ (x : HeldSpells). x.current) current_grows c.loop-turn.runs.items (chosen_steps c.args.choice.now (barrel p t) m) c.at-n.result place c.loop-turn.invariant.counted,
+      made_few with_step no_spells (λ (x : HeldSpells). x.current) current_grows c.loop-turn.runs.items (chosen_steps c.args.choice.now (barrel p t) m) c.in_turn-n.result c.in_turn-n.ensures.place c.loop-turn.invariant.counted,
       few_chosen c.args.choice.now p t m,
       c.loop-turn-test.true,
     )
@@ -45,12 +42,11 @@ loop-turn-preserved g c =
     let m = c.args.machine.now in
     let choice = c.args.choice.now in
     let t = c.loop-turn.turn in
-    let n = c.at-n.result in
+    let n = c.in_turn-n.result in
     let old = run (barrel p t) m in
     let past = chosen_steps choice (barrel p t) m in
-    let round : c.processors-round.result ≡ processors_in p = c.processors-round.ensures ∙ ap processors_in c.profile.ensures in
-    let is : n ≡ processor_in_turn p t = c.at-n.ensures.number ∙ ap (λ (r : ℕ). processor_number (t % r)) round in
-    let place : processor_index n < processor_count = place_low p t _ _ round c.at-n.ensures.place in
+    let is = c.in_turn-n.ensures.is in
+    let place = c.in_turn-n.ensures.place in
     let after : run (barrel p (t + 1)) m ≡ stepped n old = barrel_more p t m ∙ ap (λ (k : ℕ). stepped k old) (sym is) in
     let step : RunStep = step_in p t m n in
     let chosen : c.has-is_chosen.result ≡ is_chosen choice step = c.has-is_chosen.ensures old c.loop-turn.invariant.stands in

@@ -1,9 +1,8 @@
-use Rattle.std.proofs.Common.{◌≡◌, ◌<◌, ◌+◌, ◌%◌, ◌++◌, ℕ, [], ◌∷◌, List, length, sym, subst, ap, ◌∙◌, cond, arith}
+use Rattle.std.proofs.Common.{◌≡◌, ◌<◌, ◌+◌, ◌++◌, ℕ, [], ◌∷◌, List, length, sym, subst, ap, ◌∙◌, cond, arith}
 use Rattle.std.specs.Prelude.{Bool, replicate}
 use Rattle.pp_machine.specs.MachineState.{MachineState}
 use Rattle.pp_machine.specs.MachineStep.{stepped}
-use Rattle.pp_machine.specs.PpNo.{processor_count, processor_index, processor_number}
-use Rattle.pp_machine.specs.Profile.{processor_in_turn, processors_in}
+use Rattle.pp_machine.specs.PpNo.{processor_count}
 use Rattle.pp_machine.specs.Run.{barrel, run}
 use Rattle.pp_machine.specs.RunLaws.{barrel_more}
 use Rattle.pp_run.specs.RunSteps.{RunStep}
@@ -15,7 +14,7 @@ use Rattle.pp_steps.specs.Cursor.{each_cursor, no_cursor, past_step}
 use Rattle.pp_steps.specs.declared.cursor.Cursor.{Cursor}
 use Rattle.pp_word.specs.Tables.{length-tabulate}
 use Rattle.pp_steps.specs.StepsText.{kind_text, steps_text}
-use Rattle.pp_steps.proofs.ChosenSteps.{all_chosen, chosen_from, chosen_more, chosen_parts, few_chosen, next_chosen, none_left, place_low, step_in}
+use Rattle.pp_steps.proofs.ChosenSteps.{all_chosen, chosen_from, chosen_more, chosen_parts, few_chosen, next_chosen, none_left, step_in}
 use Rattle.pp_steps.proofs.TextOfSteps.{IsSoFar, everything, nothing_so_far, turn_told}
 use Rattle.pp_steps.proofs.CountedRuns.{made_few, made_more, none_made}
 use Rattle.pp_steps.proofs.RunCountLemmas.{times_grow}
@@ -47,12 +46,10 @@ pass_step-kind-requires-clause-low g c =
     let p = c.args.machine.now.profile in
     let m = c.args.machine.now in
     let t = c.loop-turn.turn in
-    let n = c.at-n.result in
-    let round : c.processors-round.result ≡ processors_in p = c.processors-round.ensures ∙ ap processors_in c.profile.ensures in
-    let place : processor_index n < processor_count = place_low p t _ _ round c.at-n.ensures.place in
+    let n = c.in_turn-n.result in
     omega (
       arith,
-      made_few past_step no_cursor (λ (x : Cursor). x.times) times_grow c.loop-turn.cursors (chosen_steps c.args.choice.now (barrel p t) m) n place c.loop-turn.invariant.followed,
+      made_few past_step no_cursor (λ (x : Cursor). x.times) times_grow c.loop-turn.cursors (chosen_steps c.args.choice.now (barrel p t) m) n c.in_turn-n.ensures.place c.loop-turn.invariant.followed,
       few_chosen c.args.choice.now p t m,
       c.loop-turn-test.true,
     )
@@ -64,11 +61,10 @@ loop-turn-preserved g c =
     let choice = c.args.choice.now in
     let t = c.loop-turn.turn in
     let old = run (barrel p t) m in
-    let n = c.at-n.result in
+    let n = c.in_turn-n.result in
     let low : t < c.args.turns = omega (arith, c.loop-turn-test.true) in
-    let round : c.processors-round.result ≡ processors_in p = c.processors-round.ensures ∙ ap processors_in c.profile.ensures in
-    let is : n ≡ processor_in_turn p t = c.at-n.ensures.number ∙ ap (λ (r : ℕ). processor_number (t % r)) round in
-    let place : processor_index n < processor_count = place_low p t _ _ round c.at-n.ensures.place in
+    let is = c.in_turn-n.ensures.is in
+    let place = c.in_turn-n.ensures.place in
     let after : run (barrel p (t + 1)) m ≡ stepped n old = barrel_more p t m ∙ ap (λ (k : ℕ). stepped k old) (sym is) in
     let stands = c.step-step.ensures.stepped old c.loop-turn.invariant.after in
     let made : c.step-step.result ≡ progress n old = c.step-step.ensures.progress old c.loop-turn.invariant.after in

@@ -1,0 +1,13 @@
+use Rattle.std.proofs.Common.{ap}
+use Rattle.pp_channel.specs.declared.channel_state.ChannelState.{ChannelState}
+use Rattle.pp_machine.specs.MachineState.{history_of}
+use Rattle.pp_text.specs.PrintingLaws.{◌▹◌}
+use Rattle.pp_steps.proofs.step_line.print_channel.Goals as goal
+
+pub returns-in-Channel : goal.returns-in-Channel
+returns-in-Channel g c = λ m stands.
+    let state = c.channel-state.ensures m stands in
+    let event = c.next_event.ensures.event (history_of c.in-Channel.c m) state in
+    rw c.in-Channel.is
+    (c.print.ensures ▹ (rw c.channel_name.ensures at c.print-in-Channel.ensures) ▹ c.print-in-Channel-2.ensures
+    ▹ (rw (event, ap (λ (s : ChannelState). s.flags) state) at c.print_event_or_flags.ensures))
