@@ -6,7 +6,7 @@ use Rattle.std.specs.Option.{option_to_list}
 use Rattle.std.specs.List.{after_last, cons_option, filter_map, flat_map, last_or}
 use Rattle.std.proofs.lemmas.List.{append-nil, length-append, length-map}
 use Rattle.std.proofs.lemmas.List.Elements.{filter_map-append}
-use Rattle.std.proofs.lemmas.List.Sums.{sum_by-cons}
+use Rattle.std.proofs.lemmas.List.Sums.{fold_push, sum_by-cons}
 use Rattle.pp_channel.specs.History.{Course, events_of, idle_stretch}
 use Rattle.pp_channel.specs.Session.{Session, body, puts, takes, word_put}
 use Rattle.pp_channel.specs.declared.event.Event.{Event}
@@ -37,10 +37,6 @@ uncut_plain first (next ∷ others) goes plain = (or_from (ends_session first) (
 last_plain : (first : Event) (others : List Event) → ends_session first ≡ false → ArePlain others → ends_session (last_in first others) ≡ false
 last_plain first [] goes plain = goes
 last_plain first (next ∷ others) goes plain = last_plain next others plain.0.0 plain.1
-
-last_in-push : {X : Type 0} (x : X) (xs : List X) (y : X) → last_in x (xs ++ y ∷ []) ≡ y
-last_in-push x [] y = refl
-last_in-push x (next ∷ xs) y = last_in-push next xs y
 
 -- ---- an idle stretch
 
@@ -83,7 +79,7 @@ cut_after_end last [] is = tt
 cut_after_end last (next ∷ rest) is = ap (λ (e : Event). is_over e next) is
 
 cut_whole : (s : Session) (rest : List Event) → cut_between is_over ((body s ++ Disconnect ∷ []) ++ rest) ≡ session_events s true ∷ cut_between is_over rest
-cut_whole s rest = cut-append is_over Activate (words s ++ Disconnect ∷ []) rest (uncut_session s) (cut_after_end (last_in Activate (words s ++ Disconnect ∷ [])) rest (last_in-push Activate (words s) Disconnect))
+cut_whole s rest = cut-append is_over Activate (words s ++ Disconnect ∷ []) rest (uncut_session s) (cut_after_end (last_in Activate (words s ++ Disconnect ∷ [])) rest (fold_push (λ before event. event) Activate (words s) Disconnect))
 
 -- ---- a course
 
@@ -180,7 +176,7 @@ last_alone first [] = refl
 last_alone first (next ∷ others) = last_alone next others
 
 end_is : (s : Session) (ended : Bool) → ends_session (last_in Activate (words s ++ cond ended (Disconnect ∷ []) [])) ≡ ended
-end_is s true = ap ends_session (last_in-push Activate (words s) Disconnect)
+end_is s true = ap ends_session (fold_push (λ before event. event) Activate (words s) Disconnect)
 end_is s false = ap (λ (es : List Event). ends_session (last_in Activate es)) (append-nil (words s)) ∙ no_end s
 
 pub session_told : (s : Session) (ended : Bool) (first : TimedEvent) (others : List TimedEvent) → events_in (first ∷ others) ≡ session_events s ended → TellsSession s ended (tally_of first others)

@@ -1,10 +1,10 @@
 -- What the line of a stretch tells, with an event more.
 use Rattle.std.proofs.Common.{◌≡◌, ℕ, ◌+◌, Bool, false, List, [], ◌∷◌, ◌++◌, length, Option, None, Some, refl, sym, ap, ◌∙◌}
-use Rattle.std.specs.Prelude.{fold}
 use Rattle.std.specs.List.{after_last, last_or}
 use Rattle.std.specs.Option.{option_map}
 use Rattle.std.proofs.lemmas.List.{append-nil, length-append, length_push, map-append}
 use Rattle.std.proofs.lemmas.List.Elements.{filter_map-append}
+use Rattle.std.proofs.lemmas.List.Sums.{fold_push}
 use Rattle.pp_channel.specs.Session.{puts, takes, word_put, word_taken}
 use Rattle.pp_channel.specs.declared.event.Event.{Event}
 use Rattle.pp_channel.specs.declared.event.Event.TheVariants.{Put, Take}
@@ -15,13 +15,7 @@ use Rattle.pp_sessions.specs.Stretches.{begins_session, ends_session, is_take, t
 use Rattle.pp_sessions.specs.TimedEvents.{events_in}
 use Rattle.pp_sessions.specs.declared.moment.TimedEvent.{TimedEvent}
 use Rattle.pp_sessions.specs.declared.tally.Tally.{Tally}
-
-abbrev pub last_event : TimedEvent → List TimedEvent → TimedEvent
-last_event first others = fold (λ before event. event) first others
-
-pub last_pushed : (first : TimedEvent) (others : List TimedEvent) (e : TimedEvent) → last_event first (others ++ e ∷ []) ≡ e
-last_pushed first [] e = refl
-last_pushed first (next ∷ others) e = last_pushed next others e
+use Rattle.pp_sessions.proofs.CutLemmas.{last_in}
 
 -- the word put and not taken
 after_no_take : (events : List Event) (e : Event) → is_take e ≡ false → untaken (events ++ e ∷ []) ≡ last_or None (puts (after_last is_take events) ++ puts (e ∷ []))
@@ -53,11 +47,11 @@ with_event told e = record {
 
 tally_more : (first : TimedEvent) (others : List TimedEvent) (e : TimedEvent) → tally_of first (others ++ e ∷ []) ≡ with_event (tally_of first others) e
 unfolding tally_of
-tally_more first others e = with_fields (last_event first (others ++ e ∷ [])) (events_in (first ∷ others ++ e ∷ [])) (last_pushed first others e) (map-append (λ (x : TimedEvent). x.event) (first ∷ others) (e ∷ []))
+tally_more first others e = with_fields (last_in first (others ++ e ∷ [])) (events_in (first ∷ others ++ e ∷ [])) (fold_push (λ before event. event) first others e) (map-append (λ (x : TimedEvent). x.event) (first ∷ others) (e ∷ []))
   where
     with_fields : (last : TimedEvent) (events : List Event) → last ≡ e → events ≡ events_in (first ∷ others) ++ e.event ∷ [] →
         record { is_session = begins_session first.event; has_ended = ends_session last.event; from = first.moment; to = last.moment; events = length events; put = length (puts events); taken = length (takes events); untaken = untaken events }
-        ≡ with_event (record { is_session = begins_session first.event; has_ended = ends_session (last_event first others).event; from = first.moment; to = (last_event first others).moment; events = length (events_in (first ∷ others)); put = length (puts (events_in (first ∷ others))); taken = length (takes (events_in (first ∷ others))); untaken = untaken (events_in (first ∷ others)) }) e
+        ≡ with_event (record { is_session = begins_session first.event; has_ended = ends_session (last_in first others).event; from = first.moment; to = (last_in first others).moment; events = length (events_in (first ∷ others)); put = length (puts (events_in (first ∷ others))); taken = length (takes (events_in (first ∷ others))); untaken = untaken (events_in (first ∷ others)) }) e
     with_fields last events is_last are = rw (
       is_last,
       are,
@@ -80,7 +74,7 @@ pub tally_alone : (e : TimedEvent) (begins ended : Bool) (put taken : ℕ) (word
 unfolding tally_of
 tally_alone e begins ended put taken word e1 e2 e3 e4 e5 = rw (e1, e2, e3, e4, e5) (ap (λ (o : Option ℕ). record { is_session = begins_session e.event; has_ended = ends_session e.event; from = e.moment; to = e.moment; events = 1; put = length (puts (e.event ∷ [])); taken = length (takes (e.event ∷ [])); untaken = o }) (sym (untaken_more [] e.event)))
 
-last_is : (first : TimedEvent) (others : List TimedEvent) → last_or (Some first) others ≡ Some (last_event first others)
+last_is : (first : TimedEvent) (others : List TimedEvent) → last_or (Some first) others ≡ Some (last_in first others)
 last_is first [] = refl
 last_is first (next ∷ others) = last_is next others
 
