@@ -1,5 +1,5 @@
 -- Finding the authors of events, log after log. (Only private contracts cite this.)
-use Rattle.std.specs.Prelude.{◌≡◌, ℕ, ◌<◌, Bool, List, [], length, slice_index_or, Option, Some, None, option_map, IsTrue, if◌then◌else◌}
+use Rattle.std.specs.Prelude.{◌≡◌, ℕ, ◌<◌, Bool, List, [], length, replicate, slice_index_or, Option, Some, None, option_map, IsTrue, if◌then◌else◌}
 use Rattle.pp_channel.specs.ChannelNo.{channel_count, channel_index, names_channel}
 use Rattle.pp_channel.specs.History.{history_on}
 use Rattle.pp_report.specs.Types.{Event, Worker}
@@ -10,6 +10,10 @@ use Rattle.pp_report.specs.PrintedReport.{author_place}
 abbrev pub or_known : Option ℕ → Bool → ℕ → Option ℕ
 or_known (Some known) told author = Some known
 or_known None told author = if told then Some author else None
+
+-- the authors of a channel's events while none is known
+abbrev pub no_authors : List Event → List (Option ℕ)
+no_authors history = replicate (length history) None
 
 -- the authors of the events of channel c, of those of all channels in order
 abbrev pub authors_on : ℕ → List (List (Option ℕ)) → List (Option ℕ)

@@ -1,11 +1,10 @@
 //! Who made the events of the channels.
 
-ghost use Rattle.std.specs.Prelude.{◌≡◌, ◌<◌, ◌≤◌, ◌==◌, ℕ, None, length, slice_index_or, IfOk, IsTrue, nat_lt};
-ghost use Rattle.pp_channel.specs.ChannelNo.{channel_count, names_channel};
+ghost use Rattle.std.specs.Prelude.{◌≡◌, ◌<◌, ◌≤◌, ◌==◌, ℕ, None, length, map, replicate, slice_index_or, IfOk, nat_lt};
+ghost use Rattle.pp_channel.specs.ChannelNo.{channel_count};
 ghost use Rattle.pp_line.specs.Merge.{logs_event, times_logged};
-ghost use Rattle.pp_channel.specs.History.{history_on};
 ghost use Rattle.pp_machine.specs.PpNo.{processor_count};
-ghost use Rattle.pp_report.specs.Authors.{AreAuthors, AreMarked, authors_on, or_known};
+ghost use Rattle.pp_report.specs.Authors.{AreAuthors, AreMarked, no_authors, or_known};
 
 use pp_channel::{CHANNELS, Channel, Seen};
 use pp_line::Entry;
@@ -32,9 +31,7 @@ impl<A: Allocator> Model for ChannelAuthors<A> {
 impl<A: Allocator> ChannelAuthors<A> {
     /// The authors of `count` events, none of them known.
     fn unknown(alloc: A, count: usize) -> Result<Self, AllocError>
-        ensures length { IfOk result (λ authors. length authors ≡ count) }
-        ensures none { IfOk result (λ authors. (number : ℕ)
-            → slice_index_or authors number None ≡ None) }
+        ensures { IfOk result (λ authors. authors ≡ replicate count None) }
     {
         let by_number = vec![in alloc; None; count]?;
         Ok(ChannelAuthors { by_number })
@@ -85,11 +82,7 @@ fn unknown_authors<A: Allocator + Copy>(
     alloc: A,
     channels: &[Channel<A>; CHANNELS],
 ) -> Result<Vec<ChannelAuthors<A>, A>, AllocError>
-    ensures each_channel { IfOk result (λ authors. length authors.items ≡ channel_count) }
-    ensures each_event { IfOk result (λ authors. (c : ℕ)
-        → length (authors_on c authors.items) ≡ length (history_on c channels.now)) }
-    ensures none { IfOk result (λ authors. (c number : ℕ)
-        → slice_index_or (authors_on c authors.items) number None ≡ None) }
+    ensures { IfOk result (λ authors. authors.items ≡ map no_authors channels.now) }
 {
     let mut authors = Vec::with_capacity(alloc, CHANNELS)?;
     for channel in channels {

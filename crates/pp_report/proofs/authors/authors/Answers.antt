@@ -1,9 +1,24 @@
-use Rattle.std.proofs.Common.{rules, ◌∙◌, ap, None, slice_index_or, arith}
+use Rattle.std.proofs.Common.{rules, ◌≡◌, ℕ, [], length, map, ◌∙◌, ap, None, slice_index_or, arith}
+use Rattle.std.proofs.Math.ListN.{get_or-map}
+use Rattle.std.proofs.lemmas.List.{get_or-replicate, length-map, length-replicate}
+use Rattle.pp_channel.specs.ChannelNo.{channel_index}
+use Rattle.pp_channel.specs.History.{history_on}
 use Rattle.pp_line.specs.Merge.{times_logged}
 use Rattle.pp_report.proofs.AuthorLemmas.{author_push}
-use Rattle.pp_report.specs.Authors.{authors_on, or_known}
+use Rattle.pp_report.specs.Authors.{authors_on, no_authors, or_known}
 use Rattle.pp_report.proofs.authors.authors.Goals as goal
 use Rattle.std.specs.Prelude.{nat_lt}
+
+pub loop-place-init : goal.loop-place-init
+loop-place-init g c =
+    let made = c.in_ok-authors.ensures in
+    let on : (k : ℕ) → authors_on k (map no_authors c.args.channels.now) ≡ no_authors (history_on k c.args.channels.now) =
+    λ k. get_or-map no_authors c.args.channels.now (channel_index k) [] in record {
+      each = ap length made ∙ length-map c.args.channels.now no_authors ∙ search rules;
+      each_event = λ k. ap (λ all. length (authors_on k all)) made ∙ ap length (on k) ∙ length-replicate _ _;
+      found = λ k number names l. ap (λ all. slice_index_or (authors_on k all) number None) made ∙ ap (λ one. slice_index_or one number None) (on k)
+          ∙ get_or-replicate _ number None None l;
+    }
 
 pub loop-place-preserved : goal.loop-place-preserved
 loop-place-preserved g c =
