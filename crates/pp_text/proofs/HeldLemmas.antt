@@ -49,15 +49,8 @@ goes_on (Some block) is_active = is_active
 
 not_where_made : (block : Option Block) (e : Event) → is_held block (answers.Channel (reply_made e)) ≡ false
 not_where_made None events.Activate = refl
-not_where_made None events.Disconnect = refl
-not_where_made None (events.Put w) = refl
-not_where_made None (events.Take w) = refl
-not_where_made None (events.Function w) = refl
 not_where_made (Some block) events.Activate = refl
-not_where_made (Some block) events.Disconnect = refl
-not_where_made (Some block) (events.Put w) = refl
-not_where_made (Some block) (events.Take w) = refl
-not_where_made (Some block) (events.Function w) = refl
+not_where_made block e = refl
 
 not_unless_held : (block : Option Block) (reply : Reply) → ((f : Flags) → reply ≢ replies.Held f) → is_held block (answers.Channel reply) ≡ false
 not_unless_held None (replies.Held f) other = absurd (other f refl)
@@ -97,13 +90,7 @@ held_where_none n c op m need_is other none =
 -- ---- the test that the code makes
 
 not_held : (o : Outcome) → o ≡ Moved → (IsTrue false → o ≡ Held) × (o ≡ Held → IsTrue false)
-not_held o moved = (λ (f : IsTrue false). absurd (false_is_not f), λ (held : o ≡ Held). absurd (apart o moved held))
-  where
-    false_is_not : IsTrue false → ⊥
-    false_is_not f = cc
-
-    apart : (o : Outcome) → o ≡ Moved → o ≡ Held → ⊥
-    apart o moved held = cc
+not_held o moved = (λ (f : IsTrue false). absurd (cc), λ (held : o ≡ Held). absurd (cc))
 
 held_by : (b : Bool) (o : Outcome) → o ≡ cond b Held Moved → (IsTrue b → o ≡ Held) × (o ≡ Held → IsTrue b)
 held_by true o is = (λ (f : IsTrue true). is, λ (held : o ≡ Held). refl)
@@ -133,11 +120,3 @@ test_none n c op m o h block b need_is other here is none block_is on =
     ∙ ap (λ (k : Option Block). cond (goes_on k (active (history_of c m))) Held Moved) (sym block_is)
     ∙ ap (λ (g : List Event). cond (goes_on block (active g)) Held Moved) (sym here)
     ∙ ap (λ (x : Bool). cond x Held Moved) on)
-
-pub alone_goes_on : (is_active : Bool) → goes_on None is_active ≡ true
-unfolding goes_on
-alone_goes_on is_active = refl
-
-pub block_goes_on : (block : Block) (is_active : Bool) → goes_on (Some block) is_active ≡ is_active
-unfolding goes_on
-block_goes_on block is_active = refl

@@ -4,7 +4,7 @@ use Rattle.std.proofs.Common.{◌≡◌, ◌∙◌, Bool, true, false, List, [],
 use Rattle.std.specs.Prelude.{if◌then◌else◌}
 use Rattle.pp_channel.specs.History.{IsLawful}
 use Rattle.pp_channel.specs.declared.event.Event.{Event}
-use Rattle.pp_channel.specs.declared.event.Event.TheVariants.{Activate, Disconnect, Put, Take, Function}
+use Rattle.pp_channel.specs.declared.event.Event.TheVariants.{Activate, Function}
 use Rattle.pp_channel.proofs.HistoryLemmas.{state_at}
 use Rattle.pp_channel.proofs.HistoryWalk.{State, Inactive, Empty, step, walk, walk_none}
 use Rattle.pp_machine.specs.Headline.{HoldsOnEachChannel, events_on, opening_history}
@@ -23,10 +23,8 @@ goes_on o events s is none =
 -- no event is allowed both on an inactive channel and on one that was just opened
 not_both : (e : Event) → (step Inactive e ≡ None → ⊥) → (step Empty e ≡ None → ⊥) → ⊥
 not_both Activate inactive empty = empty refl
-not_both Disconnect inactive empty = inactive refl
-not_both (Put w) inactive empty = inactive refl
-not_both (Take w) inactive empty = inactive refl
 not_both (Function w) inactive empty = empty refl
+not_both e inactive empty = inactive refl
 
 -- so one of two histories with the same later events can't be opened alone
 not_opened_alone : (events : List Event) → IsLawful (Activate ∷ events) → IsLawful events → is_used (Activate ∷ events) ≡ is_used events → ⊥

@@ -417,8 +417,7 @@ above_octal width n more above = above-append 10 (octal width n) more (above_les
 
 plain_state : (state : PpState) → Above 10 (state_text state)
 plain_state Running = (omega arith, (omega arith, (omega arith, (omega arith, (omega arith, (omega arith, (omega arith, tt)))))))
-plain_state Stopped = (omega arith, (omega arith, (omega arith, (omega arith, (omega arith, (omega arith, (omega arith, tt)))))))
-plain_state (Fault number) = (omega arith, (omega arith, (omega arith, (omega arith, (omega arith, (omega arith, (omega arith, tt)))))))
+plain_state state = (omega arith, (omega arith, (omega arith, (omega arith, (omega arith, (omega arith, (omega arith, tt)))))))
 
 pub plain_channel : (b : Bool) (w : Option ℕ) → Above 10 (channel_text b w)
 plain_channel b (Some w) = above-append 10 (codes "ACTIVE FULL ") (octal 4 w)

@@ -1,11 +1,10 @@
 -- What a text writer has printed.
 use Rattle.std.proofs.Common.{◌≡◌, ℕ, true, false, List, [], ◌++◌, Option, Result, Ok, Err, ap}
 use Rattle.std.proofs.lemmas.List.{append-nil}
-use Rattle.std.specs.Io.KnownBytes.{Appends}
 use Rattle.std.proofs.KnownBytes.{Appends-trans}
 use Rattle.std.specs.Result.{is_err}
 use Rattle.pp_text.specs.TextWriter.{Prints}
-use Rattle.pp_text.specs.Written.{AppendsFront, IsWritten}
+use Rattle.pp_text.specs.Written.{IsWritten}
 use Rattle.pp_text.specs.declared.text_writer.TextWriter.{TextWriter}
 use Rattle.pp_text.proofs.WriteLemmas.{front_then}
 
@@ -19,10 +18,10 @@ prints_lost contents a b failed fails same = record {
   };
 }
 
--- the piece that was held back goes out
-pub prints_out : {W : Type 0} (contents : W → Option (List ℕ)) (a b : TextWriter W) → a.failed ≡ false → b.writer.ghost_name ≡ a.writer.ghost_name → b.failed ≡ false → b.piece ≡ []
-    → Appends (contents a.writer.now) (contents b.writer.now) a.piece → Prints contents a b []
-prints_out contents a b going same goes empty out = record {
+-- the piece that was held back goes out, or a front of it, where the writer fails
+pub prints_sent : {W E : Type 0} (contents : W → Option (List ℕ)) (a b : TextWriter W) (r : Result (Unit {0}) E) → a.failed ≡ false → b.writer.ghost_name ≡ a.writer.ghost_name → b.failed ≡ is_err r → b.piece ≡ []
+    → IsWritten a.piece r (contents a.writer.now) (contents b.writer.now) → Prints contents a b []
+prints_sent contents a b (Ok done) going same goes empty out = record {
   same_writer = same;
   goes_on = λ start before so_far. record {
     whole = λ not.
@@ -31,11 +30,7 @@ prints_out contents a b going same goes empty out = record {
     front = λ is. absurd (cc);
   };
 }
-
--- or a front of it, where the writer fails
-pub prints_front : {W : Type 0} (contents : W → Option (List ℕ)) (a b : TextWriter W) → a.failed ≡ false → b.writer.ghost_name ≡ a.writer.ghost_name → b.failed ≡ true
-    → AppendsFront (contents a.writer.now) (contents b.writer.now) a.piece → Prints contents a b []
-prints_front contents a b going same fails out = record {
+prints_sent contents a b (Err fault) going same fails empty out = record {
   same_writer = same;
   goes_on = λ start before so_far. record {
     whole = λ not. absurd (cc);
@@ -44,9 +39,3 @@ prints_front contents a b going same fails out = record {
         rw (append-nil before, all) (front_then start (contents a.writer.now) (contents b.writer.now) written a.piece had out);
   };
 }
-
--- the piece is written, or the writer fails
-pub prints_sent : {W E : Type 0} (contents : W → Option (List ℕ)) (a b : TextWriter W) (r : Result (Unit {0}) E) → a.failed ≡ false → b.writer.ghost_name ≡ a.writer.ghost_name → b.failed ≡ is_err r → b.piece ≡ []
-    → IsWritten a.piece r (contents a.writer.now) (contents b.writer.now) → Prints contents a b []
-prints_sent contents a b (Ok done) going same goes empty out = prints_out contents a b going same goes empty out
-prints_sent contents a b (Err fault) going same fails empty out = prints_front contents a b going same fails out

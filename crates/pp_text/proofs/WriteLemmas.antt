@@ -1,14 +1,10 @@
 -- What successive writes do to known bytes.
-use Rattle.std.proofs.Common.{ℕ, ◌+◌, List, ◌++◌, length, take, drop, Option, Result, Ok, Err, length-append, arith}
+use Rattle.std.proofs.Common.{ℕ, ◌+◌, List, ◌++◌, length, take, Option, Result, Ok, Err, length-append, arith}
 use Rattle.std.specs.Io.KnownBytes.{Appends, Keeps}
 use Rattle.std.proofs.KnownBytes.{Appends-kept, Appends-trans}
-use Rattle.std.proofs.Math.Seq.{take-add, take-append-add}
+use Rattle.std.proofs.Math.Seq.{take-append-add}
 use Rattle.std.proofs.lemmas.List.{take_all}
 use Rattle.pp_text.specs.Written.{AppendsFront, IsWritten}
-
--- a front of a text was written, and then a front of the rest
-pub appends_more : (a b c : Option (List ℕ)) (text : List ℕ) (done count : ℕ) → Appends a b (take done text) → Appends b c (take count (drop done text)) → Appends a c (take (done + count) text)
-appends_more a b c text done count h k = rw (take-add done count text) (Appends-trans a b c (take done text) (take count (drop done text)) h k)
 
 -- all of a text is written, whatever comes of flushing
 pub flushed : {E : Type 0} (r : Result (Unit {0}) E) (a b c : Option (List ℕ)) (xs : List ℕ) → Appends a b xs → Keeps b c → IsWritten xs r a c
