@@ -1,5 +1,5 @@
 -- The tables before the first step.
-use Rattle.std.proofs.Common.{◌≡◌, ℕ, ◌%◌, ◌<◌, List, [], length, get_or, sym, ap, ◌∙◌, subst, arith}
+use Rattle.std.proofs.Common.{◌≡◌, ℕ, ◌%◌, ◌<◌, List, [], length, get_or, None, refl, sym, ap, ◌∙◌, subst, arith}
 use Rattle.std.specs.Prelude.{replicate}
 use Rattle.std.proofs.lemmas.List.{get_or-replicate}
 use Rattle.pp_channel.specs.Answer.{flags_of}
@@ -8,12 +8,13 @@ use Rattle.pp_channel.specs.ChannelPlaces as channel_places
 use Rattle.pp_machine.specs.MachineState.{MachineState, history_of}
 use Rattle.pp_machine.specs.PpNo.{processor_index}
 use Rattle.pp_machine.specs.ProcessorPlaces as processor_places
-use Rattle.pp_races.specs.FlagSets.{no_looks}
-use Rattle.pp_races.specs.Tables.{AreLow, AreNoLooks, IsLow, entry_count, entry_place, no_low}
+use Rattle.pp_races.specs.FlagSets.{look_at, no_looks}
+use Rattle.pp_races.specs.Tables.{AreLooks, AreLow, IsLow, entry_count, entry_place, looks_of, no_low}
 use Rattle.pp_races.specs.Watch.{unwatched}
 use Rattle.pp_races.specs.declared.looks.Looks.{Looks}
 use Rattle.pp_races.specs.declared.low.Low.{Low}
 use Rattle.pp_races.proofs.EntryLemmas.{entry_within}
+use Rattle.pp_races.proofs.FlagSetLemmas.{each_flags}
 use Rattle.pp_races.proofs.LowLemmas.{missed_past, through_past}
 
 abbrev pub first_low_of : MachineState → ℕ → Low
@@ -32,5 +33,7 @@ begins_low m table each q c q_named c_named =
       flags_now = through_past c (flags_of (history_of c m)) m.trace (length m.trace) (omega arith);
     })
 
-pub replicate_looks : (table : List Looks) (look : Looks) → look ≡ no_looks → table ≡ replicate entry_count look → AreNoLooks table
-replicate_looks table look is all = record { each = λ entry low. ap (λ t. get_or t entry no_looks) all ∙ get_or-replicate entry_count entry look no_looks low ∙ is }
+pub no_look_yet : (table : List Looks) (look : Looks) → look ≡ no_looks → table ≡ replicate entry_count look → AreLooks unwatched table
+no_look_yet table look is all q c q_named c_named f =
+    ap (λ t. look_at (looks_of t q c) f) all ∙ ap (λ l. look_at l f) (get_or-replicate entry_count (entry_place q c) look no_looks (entry_within q c q_named c_named) ∙ is)
+    ∙ each_flags (λ g. look_at no_looks g ≡ None) refl refl refl refl f

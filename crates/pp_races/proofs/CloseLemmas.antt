@@ -2,6 +2,7 @@
 use Rattle.std.proofs.Common.{◌≡◌, ◌≢◌, ℕ, ◌+◌, ◌<◌, ◌≤◌, IsTrue, List, [], ◌++◌, length, slice_set, refl, sym, ap, ◌∙◌, subst, inl, inr, append_assoc, add-one, arith}
 use Rattle.std.specs.Prelude.{◌==◌, ◌||◌, is_some, if◌then◌else◌}
 use Rattle.std.proofs.lemmas.Bool.{cases_eq, cases_lt}
+use Rattle.std.proofs.lemmas.List.{get_or-set_same}
 use Rattle.pp_channel.specs.ChannelNo.{names_channel}
 use Rattle.pp_channel.specs.declared.flags.Flags.{Flags}
 use Rattle.pp_machine.specs.PpNo.{names_processor, processor_count, processor_index, processor_number}
@@ -12,7 +13,7 @@ use Rattle.pp_races.specs.Tables.{closing_findings, entry_count, entry_place, lo
 use Rattle.pp_races.specs.Watch.{each_below, race_after}
 use Rattle.pp_races.specs.declared.finding.Finding.{Finding}
 use Rattle.pp_races.specs.declared.looks.Looks.{Looks}
-use Rattle.pp_races.proofs.EntryLemmas.{entry_within, set_here, set_other}
+use Rattle.pp_races.proofs.EntryLemmas.{entry_within, set_other}
 
 -- the looks of the processors at the first places are closed
 pub record AreClosedBelow (made : Trace) (after : Flags) (old new : List Looks) (place : ℕ) : Type 0 where
@@ -41,7 +42,7 @@ closed_more made after old now next place q c_named low q_is so_far next_is long
       below = λ x x_named h. elim (cases_eq x q) [
         | inl same ↦
             subst (λ (k : ℕ). looks_of next k c ≡ looks_after_event made.pp after k old c) (sym same)
-            (ap (λ t. looks_of t q c) next_is ∙ set_here now q c (looks_after_event made.pp after q now c) no_looks within
+            (ap (λ t. looks_of t q c) next_is ∙ get_or-set_same now (entry_place q c) (looks_after_event made.pp after q now c) no_looks within
             ∙ ap (λ (l : Looks). if q == made.pp || is_some (look_at l after) then no_looks else l) (so_far.above q q_named (omega (arith, index))))
         | inr other ↦ ap (λ t. looks_of t x c) next_is ∙ set_other now q c x c (looks_after_event made.pp after q now c) no_looks x_named q_named c_named c_named (λ is on. other is)
             ∙ so_far.below x x_named (elim (cases_lt (processor_index x) place) [

@@ -1,8 +1,8 @@
 -- The entries of the tables: what a new one changes.
-use Rattle.std.proofs.Common.{◌≡◌, ℕ, ◌*◌, ◌<◌, Bool, true, false, IsTrue, List, length, slice_set, get_or, refl, sym, ap, ◌∙◌, inl, inr, arith}
+use Rattle.std.proofs.Common.{◌≡◌, ℕ, ◌*◌, ◌<◌, Bool, true, false, IsTrue, List, slice_set, get_or, refl, ap, ◌∙◌, inl, inr, arith}
 use Rattle.std.specs.Prelude.{◌==◌, ◌&&◌, ◌⊎◌, if◌then◌else◌}
-use Rattle.std.proofs.lemmas.Bool.{cases_eq, eq-eqb, ne_eqb}
-use Rattle.std.proofs.lemmas.List.{get_or-set_same, get_or-set_other}
+use Rattle.std.proofs.lemmas.Bool.{cases_eq, eq-eqb, eqb-true}
+use Rattle.std.proofs.lemmas.List.{get_or-set_other}
 use Rattle.pp_channel.specs.ChannelNo.{channel_count, channel_index, names_channel}
 use Rattle.pp_channel.specs.ChannelPlaces as channel_places
 use Rattle.pp_machine.specs.PpNo.{processor_count, processor_index, names_processor}
@@ -25,9 +25,6 @@ one_entry x n e c x_named n_named e_named c_named same =
     let first : processor_index x ≡ processor_index n = omega arith in
     let second : channel_index e ≡ channel_index c = omega arith in
     (processor_places.one_place n x n_named first, channel_places.one_place c e c_named second)
-
-pub set_here : {X : Type 0} (table : List X) (n c : ℕ) (v d : X) → entry_place n c < length table → get_or (slice_set table (entry_place n c) v) (entry_place n c) d ≡ v
-set_here table n c v d within = get_or-set_same table (entry_place n c) v d within
 
 pub set_other : {X : Type 0} (table : List X) (n c x e : ℕ) (v d : X) → IsTrue (names_processor x) → IsTrue (names_processor n) → IsTrue (names_channel e) → IsTrue (names_channel c)
     → (x ≡ n → e ≡ c → ⊥) → get_or (slice_set table (entry_place n c) v) (entry_place x e) d ≡ get_or table (entry_place x e) d
@@ -55,12 +52,6 @@ both_off true true off = absurd (off refl refl)
 both_off true false off = refl
 both_off false b off = refl
 
-pub is_equal : (a b : ℕ) → (a == b) ≡ true → a ≡ b
-is_equal a b is = elim (cases_eq a b) [
-  | inl same ↦ same
-  | inr apart ↦ (let bad : true ≡ false = sym is ∙ ne_eqb a b apart in absurd (cc))
-]
-
 pub put_other : {X : Type 0} (n c q e : ℕ) (x : X) (entries : ℕ → ℕ → X) → (q ≡ n → e ≡ c → ⊥) → put n c x entries q e ≡ entries q e
 put_other n c q e x entries apart =
-    ap (λ (t : Bool). if t then x else entries q e) (both_off (q == n) (e == c) (λ a b. apart (is_equal q n a) (is_equal e c b)))
+    ap (λ (t : Bool). if t then x else entries q e) (both_off (q == n) (e == c) (λ a b. apart (eqb-true q n a) (eqb-true e c b)))

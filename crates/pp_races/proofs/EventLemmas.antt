@@ -3,7 +3,7 @@ use Rattle.std.proofs.Common.{◌≡◌, ◌≢◌, ℕ, zero, suc, ◌+◌, ◌
 use Rattle.std.specs.Prelude.{◌==◌, ◌||◌, is_some, not, if◌then◌else◌}
 use Rattle.std.specs.Option.{option_to_list}
 use Rattle.std.proofs.lemmas.Bool.{cases_eq, eq-eqb, ne_eqb}
-use Rattle.std.proofs.lemmas.List.{drop-append-le, length_push}
+use Rattle.std.proofs.lemmas.List.{drop-append-le, length_push, get_or-set_same}
 use Rattle.pp_channel.specs.Answer.{event_of, flags_of, flags_after}
 use Rattle.pp_channel.specs.ChannelNo.{channel_count, names_channel}
 use Rattle.pp_channel.specs.History.{IsLawful}
@@ -33,7 +33,7 @@ use Rattle.pp_races.specs.declared.latest.Latest.{Latest}
 use Rattle.pp_races.specs.declared.low.Low.{Low}
 use Rattle.pp_races.specs.declared.span.Span.{Span}
 use Rattle.pp_races.proofs.FlagSetLemmas.{each_flags}
-use Rattle.pp_races.proofs.EntryLemmas.{set_here, set_other}
+use Rattle.pp_races.proofs.EntryLemmas.{set_other}
 use Rattle.pp_races.proofs.LowLemmas.{first_race_same, missed_past, missed_push, missed_push_other, through_past, through_push, through_push_other}
 
 -- ---- the watch after an event, case by case
@@ -118,7 +118,7 @@ module _ (m : MachineState) (w : Watch) (n c : ℕ) (op : ChanOp) (event : Event
         (low_elsewhere (low_of low q k) k (w.missed q k) off (are q k q_named k_named)))
     | inl on ↦ subst (λ (x : ℕ). IsLow x (low_of (slice_set low (entry_place n c) first) q x) (stepped n m) ((made n c op event m w).missed q x)) (sym on) (elim (cases_eq q n) [
       | inl mine ↦ subst (λ (x : ℕ). IsLow c (low_of (slice_set low (entry_place n c) first) x c) (stepped n m) ((made n c op event m w).missed x c)) (sym mine)
-          (subst (λ (l : Low). IsLow c l (stepped n m) ((made n c op event m w).missed n c)) (sym (set_here low n c first _ within))
+          (subst (λ (l : Low). IsLow c l (stepped n m) ((made n c op event m w).missed n c)) (sym (get_or-set_same low (entry_place n c) first _ within))
           (subst (λ (x : List Missed). IsLow c first (stepped n m) x) (sym (missed_own m w n c op event)) (low_own first from flags)))
       | inr other ↦
           subst (λ (l : Low). IsLow c l (stepped n m) ((made n c op event m w).missed q c)) (sym (set_other low n c q c first _ q_named n_named c_named c_named (λ mine there. other mine)))

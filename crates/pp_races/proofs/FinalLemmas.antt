@@ -1,7 +1,7 @@
 -- Where nothing is found of a run, it tells the result of every order.
 use Rattle.std.proofs.Common.{◌≡◌, ◌≢◌, ℕ, zero, suc, ◌+◌, ◌-◌, ◌<◌, ◌≤◌, Bool, true, false, IsTrue, List, [], ◌∷◌, length, take, get_or, Option, Some, None, refl, sym, ap, ◌∙◌, inl, inr, arith}
 use Rattle.std.specs.Prelude.{not, count_by, nat_lt, if◌then◌else◌}
-use Rattle.std.proofs.lemmas.Bool.{and_from, cases_eq, cases_lt, lt-ltb}
+use Rattle.std.proofs.lemmas.Bool.{and_from, cases_eq, cases_lt, lt-ltb, not-false}
 use Rattle.std.proofs.lemmas.List.{get_or_past, take_all}
 use Rattle.std.proofs.lemmas.List.Sums.{sum_by-cons}
 use Rattle.pp_word.specs.Tables.{get_or-tabulate}
@@ -30,7 +30,7 @@ use Rattle.pp_races.specs.declared.asking_step.AskingStep.{AskingStep}
 use Rattle.pp_races.specs.declared.finding.Finding.{Finding}
 use Rattle.pp_races.specs.declared.finding.Finding.TheVariants.{GoingOn, Shared}
 use Rattle.pp_races.proofs.MissedLemmas.{none_races}
-use Rattle.pp_races.proofs.SoundLemmas.{none_below, none_numbered, not_true, waits_there}
+use Rattle.pp_races.proofs.SoundLemmas.{none_below, none_numbered, waits_there}
 use Rattle.pp_races.proofs.Watching.{watched_settled, watched_steps}
 
 -- ---- flags that are set
@@ -116,7 +116,7 @@ module _ (ns : List ℕ) (m : MachineState) (w : Watch) (all : length m.processo
             let k : ℕ = p + length (w.missed q c) - length (history_of c (run ns m)) in
             let d : Missed = missed_event (flags_of (history_of c (run ns m))) (entry_of q c Event.Activate (run ns m)) in
             let within : k < length (w.missed q c) = omega arith in
-            not_true (waits_at op (processor_of q (run ns m)) (flags_of (take p (history_of c (run ns m)))))
+            not-false (waits_at op (processor_of q (run ns m)) (flags_of (take p (history_of c (run ns m)))))
             (ap (λ h. not (waits_at op (processor_of q (run ns m)) (flags_of (take p h)))) (sym end)
             ∙ ap (λ f. not (waits_at op (processor_of q (run ns m)) f)) (sym (missed.each p k d within (omega arith)))
             ∙ none_races (λ f. not (waits_at op (processor_of q (run ns m)) f)) (w.missed q c) none k d within)

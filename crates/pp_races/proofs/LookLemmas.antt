@@ -2,7 +2,7 @@
 use Rattle.std.proofs.Common.{◌≡◌, ℕ, ◌<◌, ◌≤◌, Bool, true, IsTrue, List, [], ◌++◌, length, drop, slice_set, get_or, Option, Some, None, refl, sym, ap, ◌∙◌, subst, inl, inr, append-nil, arith}
 use Rattle.std.specs.Prelude.{if◌then◌else◌}
 use Rattle.std.specs.Option.{option_or}
-use Rattle.std.proofs.lemmas.List.{get_or_default}
+use Rattle.std.proofs.lemmas.List.{get_or_default, get_or-set_same}
 use Rattle.pp_channel.specs.Answer.{event_of, flags_of}
 use Rattle.pp_channel.specs.ChannelNo.{channel_index, names_channel}
 use Rattle.pp_channel.specs.declared.chan_op.ChanOp.{ChanOp}
@@ -19,6 +19,7 @@ use Rattle.pp_machine.specs.declared.trace.Trace.{Trace}
 use Rattle.pp_run.proofs.StepFacts.{histories_by, histories_none, trace_by, trace_with}
 use Rattle.pp_races.specs.FlagSets.{has, look_at, no_looks}
 use Rattle.pp_races.specs.OtherFlags.{found_at, is_alike, is_race, waits_at}
+use Rattle.pp_races.specs.Soundness.{AsksLawfulChannel}
 use Rattle.pp_races.specs.Spans.{IsIndex}
 use Rattle.pp_races.specs.Tables.{AreLow, AreLooks, AreWatched, IsLow, entry_count, entry_place, flags_through, looks_of, low_of, missed_at, no_low}
 use Rattle.pp_races.specs.Watch.{Missed, Watch, asked, asking_step, first_race, from_alike, looked, race_before, watched_need}
@@ -29,7 +30,7 @@ use Rattle.pp_races.specs.declared.looks.Looks.{Looks}
 use Rattle.pp_races.specs.declared.latest.Latest.{Latest}
 use Rattle.pp_races.specs.declared.low.Low.{Low}
 use Rattle.pp_races.specs.declared.span.Span.{Span}
-use Rattle.pp_races.proofs.EntryLemmas.{here_or_not, put_here, put_other, set_here, set_other}
+use Rattle.pp_races.proofs.EntryLemmas.{here_or_not, put_here, put_other, set_other}
 use Rattle.pp_races.proofs.LowLemmas.{first_race_same, from_alike_same}
 
 -- a step that makes no event leaves what may be missed
@@ -77,7 +78,7 @@ look_low m w n c op low first alike n_named c_named within e none first_within f
 
     at_entry : IsLow c (low_of (slice_set low (entry_place n c) first) n c) m ((looked n c op m w).missed n c)
     at_entry =
-        let same_low : low_of (slice_set low (entry_place n c) first) n c ≡ first = set_here low n c first _ within in
+        let same_low : low_of (slice_set low (entry_place n c) first) n c ≡ first = get_or-set_same low (entry_place n c) first _ within in
         subst (λ (l : Low). IsLow c l m ((looked n c op m w).missed n c)) (sym same_low) (record {
           within = first_within;
           missed_are =
@@ -105,7 +106,7 @@ look_looks m w n c op looks new alike step n_named c_named within step_is new_is
   where
     at_entry : look_at (looks_of (slice_set looks (entry_place n c) new) n c) f ≡ (looked n c op m w).looks n c f
     at_entry =
-        ap (λ (l : Looks). look_at l f) (set_here looks n c new _ within)
+        ap (λ (l : Looks). look_at l f) (get_or-set_same looks (entry_place n c) new _ within)
         ∙ new_is f
         ∙ ap (λ (o : Option AskingStep). option_or o (if has alike f then None else Some step)) (are n c n_named c_named f)
         ∙ ap (λ (t : Bool). option_or (w.looks n c f) (if t then None else Some step)) (alike_is f)
@@ -186,6 +187,10 @@ trace_off other m n e off = trace_by n m other (sym e)
 
 pub off_indexed : (x : Need) (m : MachineState) (n : ℕ) (latest : List Latest) (short long : List (List Span)) → x ≡ need (processor_of n m) → ((c : ℕ) (op : ChanOp) → x ≡ Channel c op → ⊥) → IsIndex m.trace latest short long → IsIndex (stepped n m).trace latest short long
 off_indexed x m n latest short long e off is = subst (λ (t : List Trace). IsIndex t latest short long) (sym (trace_off x m n e off)) is
+
+pub off_sound : (x : Need) (m : MachineState) → ((c : ℕ) (op : ChanOp) → x ≡ Channel c op → ⊥) → AsksLawfulChannel x m
+off_sound (Channel c op) m off = absurd (off c op refl)
+off_sound other m off = tt
 
 pub off_watched : (x : Need) (m : MachineState) (w : Watch) (n : ℕ) (low : List Low) (looks : List Looks) (found : List Finding) → x ≡ need (processor_of n m) → ((c : ℕ) (op : ChanOp) → x ≡ Channel c op → ⊥)
     → AreWatched m w low looks found → AreWatched (stepped n m) (watched_need x n m w) low looks found

@@ -3,7 +3,7 @@
 use Rattle.std.proofs.Common.{◌≡◌, ℕ, Bool, true, false, List, length, get_or, inl, inr, Option, Some, None, refl, sym, ap, ◌∙◌, subst}
 use Rattle.std.proofs.Math.Path.{fun_ext}
 use Rattle.std.specs.Prelude.{◌&&◌, ◌==◌, ◌⊎◌, not, is_some, slice_index, slice_set, if◌then◌else◌, option_map}
-use Rattle.std.proofs.lemmas.Bool.{cases_eq, cases_lt, ne_eqb, and_parts, and_from, eq-eqb}
+use Rattle.std.proofs.lemmas.Bool.{cases_eq, cases_lt, ne_eqb, and_parts, and_from, eq-eqb, eqb-true}
 use Rattle.std.proofs.lemmas.List.{get_or-set_other, get_or-set_same, get_or_past, set_past}
 use Rattle.pp_channel.specs.Answer.{only_looks, reply_shown, event_of, flags_of, ready_at}
 use Rattle.pp_channel.specs.declared.chan_op.ChanOp.{ChanOp}
@@ -35,15 +35,13 @@ use Rattle.pp_channel.specs.History.{IsLawful, HasTwelveBitWords, waiting}
 use Rattle.pp_channel.specs.declared.event.Event.{Event}
 use Rattle.pp_channel.proofs.AnswerLemmas.{full_register}
 use Rattle.pp_races.specs.declared.found.Found.TheVariants.{Alike, Waits, Races}
-use Rattle.pp_races.proofs.EntryLemmas.{is_equal}
 
 -- ---- a position that is the same
 
 equal_bools : (a b : Bool) → (if a then b else not b) ≡ true → a ≡ b
 equal_bools true true is = refl
-equal_bools true false is = absurd cc
-equal_bools false true is = absurd cc
 equal_bools false false is = refl
+equal_bools a b is = absurd cc
 
 same_bool : (a : Bool) → (if a then a else not a) ≡ true
 same_bool true = refl
@@ -52,7 +50,7 @@ same_bool false = refl
 pub position_same : (one other : Position) → is_same one other ≡ true → (one.p ≡ other.p) × (one.in_block ≡ other.in_block)
 position_same one other is =
     let parts = and_parts (one.p == other.p) (if one.in_block then other.in_block else not other.in_block) is in
-    (is_equal one.p other.p parts.0, equal_bools one.in_block other.in_block parts.1)
+    (eqb-true one.p other.p parts.0, equal_bools one.in_block other.in_block parts.1)
 
 pub same_itself : (one : Position) → is_same one one ≡ true
 same_itself one = and_from (one.p == one.p) (if one.in_block then one.in_block else not one.in_block) (eq-eqb one.p one.p refl) (same_bool one.in_block)
@@ -62,8 +60,7 @@ same_itself one = and_from (one.p == one.p) (if one.in_block then one.in_block e
 found_where : (b same waits : Bool) → b ≡ true → is_race (if not b then Races else if same then Alike else if waits then Waits else Races) ≡ false → (same ≡ true → ⊥) → waits ≡ true
 found_where true true waits b_is is apart = absurd (apart refl)
 found_where true false true b_is is apart = refl
-found_where true false false b_is is apart = absurd cc
-found_where false same waits b_is is apart = absurd cc
+found_where b same waits b_is is apart = absurd cc
 
 none_where : (b same waits : Bool) → is_race (if not b then Races else if same then Alike else if waits then Waits else Races) ≡ false → b ≡ true
 none_where true same waits is = refl
@@ -72,8 +69,7 @@ none_where false same waits is = absurd cc
 alike_where : (b same waits : Bool) → is_alike (if not b then Races else if same then Alike else if waits then Waits else Races) ≡ true → (b ≡ true) × (same ≡ true)
 alike_where true true waits is = (refl, refl)
 alike_where true false true is = absurd cc
-alike_where true false false is = absurd cc
-alike_where false same waits is = absurd cc
+alike_where b same waits is = absurd cc
 
 alike_from : (b same waits : Bool) → b ≡ true → same ≡ true → is_alike (if not b then Races else if same then Alike else if waits then Waits else Races) ≡ true
 alike_from true true waits b_is is = refl
@@ -237,9 +233,6 @@ agrees c op pp e = shown (λ o of. Agrees pp of) pp (branch_agrees pp 2 (λ f. t
 -- ---- positions
 
 cut_is : (kind : BlockKind) (place : ℕ) (pp : Processor) → cut_position kind place pp ≡ position_of (cut_short kind place pp)
-cut_is (Output channel) place pp = refl
-cut_is (CentralIn left) place pp = refl
-cut_is (CentralOut left) place pp = refl
 cut_is (Input channel) place pp = ap (λ k. record { p = next_place k; in_block = false }) (by_place place (cases_eq place 0))
   where
     by_place : (k : ℕ) → (k ≡ 0) ⊎ (k ≡ 0 → ⊥) → (if k == 0 then 0 else word_at pp 0) ≡ slice_index (slice_set pp.memory k 0) 0
@@ -253,6 +246,7 @@ cut_is (Input channel) place pp = ap (λ k. record { p = next_place k; in_block 
     by_place k (inr apart) =
         ap (λ (t : Bool). if t then 0 else word_at pp 0) (ne_eqb k 0 apart)
         ∙ sym (get_or-set_other pp.memory k 0 0 0 (λ is. apart (sym is)))
+cut_is other place pp = refl
 
 held_by : (a : Bool) (kind : BlockKind) (place : ℕ) (pp : Processor) → (if a then position_of pp else cut_position kind place pp) ≡ position_of (if a then pp else cut_short kind place pp)
 held_by true kind place pp = refl

@@ -22,7 +22,7 @@ use Rattle.pp_races.proofs.SpanLemmas.{empty_span, goes_past, longer_span, same_
 
 -- ---- numbers of spans
 
-in_row : (size place rows : ℕ) → place < rows * size → place / size < rows
+pub in_row : (size place rows : ℕ) → place < rows * size → place / size < rows
 in_row size place rows low = lt_of_mul-lt-mul_right size (omega (arith, div-mul-le_self place size))
 
 whole_rows : (size place : ℕ) → place % size ≡ 0 → place / size * size ≡ place

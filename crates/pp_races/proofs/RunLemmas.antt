@@ -32,7 +32,7 @@ use Rattle.pp_races.proofs.FinalLemmas.{determinate}
 use Rattle.pp_races.proofs.GrowLemmas.{behind, findings_are, forgets, forgotten, uses_forgotten, uses_remembered, watched_push}
 use Rattle.pp_races.proofs.MissedLemmas.{none_missed}
 use Rattle.pp_races.proofs.UseLemmas.{same_asked}
-use Rattle.pp_races.proofs.SoundLemmas.{none_first, none_second, step_sound}
+use Rattle.pp_races.proofs.SoundLemmas.{none_first, none_second, open_where, step_sound}
 use Rattle.pp_races.proofs.Watching.{watched_checked}
 
 -- ---- one step more
@@ -134,10 +134,6 @@ turn_of_barrel p (suc turns) t h = elim (cases_lt t turns) [
 
 -- ---- the loop
 
-both_true : (b : Bool) → (if b then true else true) ≡ true
-both_true true = refl
-both_true false = refl
-
 pub run_begins : {A : Type 0} (p : Profile) (turns : ℕ) (m : MachineState) (tables : WatchTables A) → length m.histories ≡ channel_count → AreTables tables m unwatched → IsWatchedRun p turns 0 m m tables
 run_begins p turns m tables each are = record {
   ran = refl;
@@ -145,7 +141,7 @@ run_begins p turns m tables each are = record {
   sound = λ none. (record {
     watched = record {
       lower = λ q c s may. omega (arith, mono (barrel p turns) m each c zero s (omega arith));
-      stands_open = λ q c. both_true (names_processor q);
+      stands_open = λ q c. open_where (names_processor q) _ (λ named. refl);
       passed = λ u h. absurd (omega arith);
     };
     missed = λ q c. none_missed (history_of c m);

@@ -1,7 +1,7 @@
 -- Processors that stay as they are.
 use Rattle.std.proofs.Common.{◌≡◌, ℕ, zero, suc, ◌+◌, ◌<◌, true, false, Option, Some, None, refl, sym, ap, ◌∙◌, subst, inl, inr, add-one, arith}
 use Rattle.std.specs.Prelude.{◌==◌, ◌&&◌, is_some}
-use Rattle.std.proofs.lemmas.Bool.{and_parts, cases_lt, eq-eqb, ne_eqb, and_right}
+use Rattle.std.proofs.lemmas.Bool.{and_parts, cases_lt, eq-eqb, ne_eqb, and_right, eqb-true}
 use Rattle.std.proofs.lemmas.List.{ext_get_or}
 use Rattle.pp_machine.specs.Processor.{Processor, word_at}
 use Rattle.pp_machine.specs.Block.{block_word}
@@ -18,7 +18,6 @@ use Rattle.pp_machine.specs.declared.profile.Profile.{Profile}
 use Rattle.pp_races.specs.Findings.{is_running, same_profile, same_words, stays_running}
 use Rattle.pp_races.specs.OtherFlags.{is_same, position_of}
 use Rattle.pp_races.proofs.PositionLemmas.{position_same}
-use Rattle.pp_races.proofs.EntryLemmas.{is_equal}
 
 pub words_none : (one other : Processor) → same_words 0 one other ≡ true
 unfolding same_words
@@ -50,7 +49,7 @@ words_same one other (suc n) is place low =
     let parts = and_parts (same_words n one other) (word_at one n == word_at other n) is in
     elim (cases_lt place n) [
       | inl below ↦ words_same one other n parts.0 place below
-      | inr past ↦ (let here : place ≡ n = omega arith in subst (λ (k : ℕ). word_at one k ≡ word_at other k) (sym here) (is_equal (word_at one n) (word_at other n) parts.1))
+      | inr past ↦ (let here : place ≡ n = omega arith in subst (λ (k : ℕ). word_at one k ≡ word_at other k) (sym here) (eqb-true (word_at one n) (word_at other n) parts.1))
     ]
 
 profile_same : (one other : Profile) → same_profile one other ≡ true → one ≡ other
@@ -94,7 +93,7 @@ turned pp after e before_memory after_memory is =
     let memory : after.memory ≡ pp.memory = ext_get_or 0 after.memory pp.memory (after_memory.each_place ∙ sym before_memory.each_place) (λ k low. words_same after pp 4096 p4.1 k (omega (arith, after_memory.each_place))) in
     ap (λ x. record { profile = x; memory = after.memory; a = after.a; p = after.p; state = after.state; block = after.block }) (profile_same after.profile pp.profile p1.0)
     ∙ ap (λ x. record { profile = pp.profile; memory = x; a = after.a; p = after.p; state = after.state; block = after.block }) memory
-    ∙ ap (λ x. record { profile = pp.profile; memory = pp.memory; a = x; p = after.p; state = after.state; block = after.block }) (is_equal after.a pp.a p3.0)
+    ∙ ap (λ x. record { profile = pp.profile; memory = pp.memory; a = x; p = after.p; state = after.state; block = after.block }) (eqb-true after.a pp.a p3.0)
     ∙ ap (λ x. record { profile = pp.profile; memory = pp.memory; a = pp.a; p = x; state = after.state; block = after.block }) place.0
     ∙ ap (λ x. record { profile = pp.profile; memory = pp.memory; a = pp.a; p = pp.p; state = x; block = after.block }) (runs_on after.state p2.0 ∙ sym runs.0)
     ∙ ap (λ x. record { profile = pp.profile; memory = pp.memory; a = pp.a; p = pp.p; state = pp.state; block = x }) (still_none ∙ sym no_block)

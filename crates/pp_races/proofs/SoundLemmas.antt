@@ -2,7 +2,7 @@
 use Rattle.std.proofs.Common.{◌≡◌, ◌≢◌, ℕ, zero, suc, ◌+◌, ◌-◌, ◌<◌, ◌≤◌, Bool, true, false, IsTrue, List, [], ◌∷◌, ◌++◌, length, get_or, Option, Some, None, refl, sym, ap, ◌∙◌, subst, inl, inr, arith}
 use Rattle.std.specs.Prelude.{◌==◌, ◌||◌, ◌⊎◌, not, is_some, is_none, if◌then◌else◌}
 use Rattle.std.specs.Option.{option_or, option_to_list}
-use Rattle.std.proofs.lemmas.Bool.{and_parts, and_from, cases_eq, cases_lt, eq-eqb, ne_eqb, cases_Bool, or_from}
+use Rattle.std.proofs.lemmas.Bool.{and_parts, and_from, cases_eq, cases_lt, eq-eqb, ne_eqb, cases_Bool, or_from, not-false, cond-true}
 use Rattle.std.proofs.lemmas.List.{length_push}
 use Rattle.pp_channel.specs.Answer.{event_of, flags_of, flags_after}
 use Rattle.pp_channel.specs.ChannelNo.{channel_count, names_channel}
@@ -67,10 +67,6 @@ none_numbered of is q named =
 
 -- ---- tests
 
-pub not_true : (b : Bool) → not b ≡ false → b ≡ true
-not_true true is = refl
-not_true false is = absurd cc
-
 never : (b : Bool) → b ≡ true → b ≡ false → ⊥
 never b is fails = (let bad : true ≡ false = sym is ∙ fails in cc)
 
@@ -84,11 +80,7 @@ none_or_from None true x is also = refl
 none_or_from None false x is also = absurd cc
 none_or_from (Some y) alike x is also = absurd cc
 
-open_named : (b c : Bool) → b ≡ true → (if b then c else true) ≡ c
-open_named true c named = refl
-open_named false c named = absurd cc
-
-open_where : (b c : Bool) → (b ≡ true → c ≡ true) → (if b then c else true) ≡ true
+pub open_where : (b c : Bool) → (b ≡ true → c ≡ true) → (if b then c else true) ≡ true
 open_where true c is = is refl
 open_where false c is = refl
 
@@ -197,12 +189,12 @@ module _ (now : MachineState) (n : ℕ) (w : Watch) (each : length now.histories
         least_others = λ x k apart. ap (λ (l : List Missed). length (history_of k (stepped n now)) - length l) (put_other n c x k _ w.missed apart) ∙ least_unchanged same x k;
         open_here = λ f is.
             let parts = none_or (w.looks n c f) (is_alike (found_at op (processor_of n now) (flags_of (history_of c now)) f)) (asking_step n c now)
-            (ap (λ (l : Flags → Option AskingStep). is_none (l f)) (sym (put_here n c _ w.looks)) ∙ sym (open_named (names_processor n) _ n_named) ∙ is) in
-            (open_named (names_processor n) (is_none (w.looks n c f)) n_named ∙ parts.0, alike_there f parts.1);
-        open_now = open_named (names_processor n) _ n_named
+            (ap (λ (l : Flags → Option AskingStep). is_none (l f)) (sym (put_here n c _ w.looks)) ∙ sym (cond-true (names_processor n) _ true n_named) ∙ is) in
+            (cond-true (names_processor n) (is_none (w.looks n c f)) true n_named ∙ parts.0, alike_there f parts.1);
+        open_now = cond-true (names_processor n) _ true n_named
             ∙ ap (λ (l : Flags → Option AskingStep). is_none (l (flags_of (history_of c now)))) (put_here n c _ w.looks)
             ∙ none_or_from (w.looks n c (flags_of (history_of c now))) _ (asking_step n c now)
-            (sym (open_named (names_processor n) (is_none (w.looks n c (flags_of (history_of c now)))) n_named) ∙ stands_open n c)
+            (sym (cond-true (names_processor n) (is_none (w.looks n c (flags_of (history_of c now)))) true n_named) ∙ stands_open n c)
             (alike_is op (processor_of n now) (flags_of (history_of c now)) (flags_of (history_of c now)) quiet (same_itself (position_at op (processor_of n now) (flags_of (history_of c now)))));
         open_others = λ x k f apart. ap (λ (l : Flags → Option AskingStep). if names_processor x then is_none (l f) else true) (put_other n c x k _ w.looks apart);
       });
@@ -238,7 +230,7 @@ module _ (now : MachineState) (n : ℕ) (w : Watch) (each : length now.histories
         exists = c_named;
         made = is;
         before = λ p low high. waits_there c op (processor_of n now) e (flags_at (history_of c now) p)
-            (not_true (waits_at op (processor_of n now) (flags_at (history_of c now) p)) (at_missed (λ f. not (waits_at op (processor_of n now) f)) false (none_races _ (w.missed n c) no_race) p low high));
+            (not-false (waits_at op (processor_of n now) (flags_at (history_of c now) p)) (at_missed (λ f. not (waits_at op (processor_of n now) f)) false (none_races _ (w.missed n c) no_race) p low high));
         least_most = omega (arith, length_push (history_of c now) event, ap (λ (x : List Event). length x) history_made);
         least_others = λ x k apart. least_others x k apart;
         open_now = open_where (names_processor n) _ (λ named. ap is_none (looks_own (flags_of (history_of c now ++ event ∷ []))));

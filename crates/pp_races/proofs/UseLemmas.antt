@@ -1,9 +1,10 @@
 -- The bits of processors, and the central words that they use.
-use Rattle.std.proofs.Common.{◌≡◌, ℕ, ◌*◌, ◌%◌, ◌^◌, ◌<◌, Bool, true, false, IsTrue, List, length, get_or, Option, Some, None, refl, sym, ap, ◌∙◌, inl, inr, arith}
-use Rattle.std.specs.Prelude.{◌==◌, ◌||◌, nat_eq, bit_or, replicate, if◌then◌else◌}
+use Rattle.std.proofs.Common.{◌≡◌, ℕ, ◌*◌, ◌%◌, ◌^◌, ◌<◌, Bool, true, false, IsTrue, List, length, get_or, slice_set, Option, Some, None, refl, sym, ap, ◌∙◌, inl, inr, arith}
+use Rattle.std.specs.Prelude.{◌==◌, ◌&&◌, ◌||◌, nat_eq, bit_or, replicate, if◌then◌else◌}
 use Rattle.std.specs.Int.{bit_at, w32}
+use Rattle.std.proofs.Math.Bool.{or-false}
 use Rattle.std.proofs.lemmas.Bool.{cases_eq, eq-eqb, ne_eqb, or_right}
-use Rattle.std.proofs.lemmas.List.{get_or-replicate, length-replicate}
+use Rattle.std.proofs.lemmas.List.{get_or-replicate, get_or-set_other, get_or-set_same, length-replicate}
 use Rattle.std.proofs.lemmas.Nat.Bits.{bit_at_set_same, bit_at_set_other, bit_at-zero}
 use Rattle.pp_channel.specs.Answer.{flags_of}
 use Rattle.pp_channel.specs.declared.chan_op.ChanOp.{ChanOp}
@@ -15,10 +16,6 @@ use Rattle.pp_races.specs.Tables.{AreUses, has_bit, unused}
 use Rattle.pp_races.specs.OtherFlags.{waits_at}
 use Rattle.pp_races.specs.Watch.{Watch, asked, looked, unwatched}
 use Rattle.pp_races.specs.declared.word_use.WordUse.{WordUse}
-
-or_false : (b : Bool) → b ≡ (b || false)
-or_false true = refl
-or_false false = refl
 
 pub bit_set : (mask n place : ℕ) → IsTrue (names_processor n) → place ≡ processor_index n → (q : ℕ) → IsTrue (names_processor q)
     → has_bit (bit_or mask (1 * 2 ^ place % 2 ^ 32)) q ≡ (has_bit mask q || q == n)
@@ -34,7 +31,7 @@ bit_set mask n place n_named place_is q q_named =
       | inr other ↦
           let apart : processor_index q ≡ place → ⊥ = λ is. other (processor_places.one_place n q n_named (is ∙ place_is)) in
           ap (λ b. nat_eq b 1) (bit_at_set_other w32 mask place within (processor_index q) apart)
-          ∙ or_false (has_bit mask q) ∙ ap (λ t. has_bit mask q || t) (sym (ne_eqb q n other))
+          ∙ sym (or-false (has_bit mask q)) ∙ ap (λ t. has_bit mask q || t) (sym (ne_eqb q n other))
     ]
 
 no_bit : (q : ℕ) → has_bit 0 q ≡ false
@@ -62,3 +59,19 @@ uses_asked n c op o m w table are a low = record {
   wrote = λ q named. (are a low).wrote q named ∙ ap (λ (f : ℕ → ℕ → Bool). f a q) (sym (same_asked n c op o m w).1);
   used = λ q named. (are a low).used q named ∙ ap (λ (f : ℕ → ℕ → Bool). f a q) (sym (same_asked n c op o m w).0);
 }
+
+-- a word's bits after a step of processor n that uses it
+pub bits_marked : (of : WordUse → ℕ) (was : ℕ → ℕ → Bool) (table : List WordUse) (place a n : ℕ) (next : WordUse) → place ≡ a → place < length table
+    → ((b : ℕ) → b < length table → (q : ℕ) → IsTrue (names_processor q) → has_bit (of (get_or table b unused)) q ≡ was b q)
+    → ((q : ℕ) → IsTrue (names_processor q) → has_bit (of next) q ≡ (has_bit (of (get_or table place unused)) q || q == n))
+    → (b : ℕ) → b < length table → (q : ℕ) → IsTrue (names_processor q) → has_bit (of (get_or (slice_set table place next) b unused)) q ≡ (was b q || (b == a && q == n))
+bits_marked of was table place a n next is within were more b low q named = elim (cases_eq b a) [
+  | inl same ↦
+      ap (λ k. has_bit (of (get_or (slice_set table place next) k unused)) q) (same ∙ sym is)
+      ∙ ap (λ (u : WordUse). has_bit (of u) q) (get_or-set_same table place next unused within)
+      ∙ more q named ∙ ap (λ t. t || q == n) (were place within q named)
+      ∙ ap (λ k. was k q || q == n) (is ∙ sym same) ∙ ap (λ t. was b q || (t && q == n)) (sym (eq-eqb b a same))
+  | inr other ↦
+      ap (λ (u : WordUse). has_bit (of u) q) (get_or-set_other table place b next unused (λ on. other (on ∙ is)))
+      ∙ were b low q named ∙ sym (or-false (was b q)) ∙ ap (λ t. was b q || (t && q == n)) (sym (ne_eqb b a other))
+]

@@ -1,10 +1,9 @@
 -- What findings come to, and what the last line of the text says.
 use Rattle.std.proofs.Common.{◌≡◌, ℕ, Bool, true, false, List, [], ◌∷◌, ◌++◌, get_or, reverse, refl, sym, ap, ◌∙◌, arith}
-use Rattle.std.specs.Prelude.{◌&&◌, flat_map, if◌then◌else◌}
+use Rattle.std.specs.Prelude.{flat_map, if◌then◌else◌}
 use Rattle.std.specs.List.{list_all}
 use Rattle.pp_races.specs.RacesText.{finding_line, findings_text, is_going_on, verdict_line, verdict_of}
 use Rattle.pp_races.specs.declared.finding.Finding.{Finding}
-use Rattle.pp_races.specs.declared.finding.Finding.TheVariants.{Before, After, GoingOn, HeldBefore, Shared}
 use Rattle.pp_races.specs.declared.verdict.Verdict.{Verdict}
 use Rattle.pp_races.specs.declared.verdict.Verdict.TheVariants.{Same, NoRaceSoFar, MayDiffer}
 use Rattle.std.proofs.lemmas.List.{reverse-append}

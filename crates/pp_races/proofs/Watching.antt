@@ -172,14 +172,6 @@ module _ (ns : List ℕ) (m : MachineState) (each : length m.histories ≡ chann
           let w_there : WaitsAt op (processor_of q (run ns m)) (flags_of (history_at ns m c k)) = subst (λ (x : List Event). WaitsAt op (processor_of q (run ns m)) (flags_of x)) part (at (length (history_at ns m c k)) lows fits) in
           stays_at op (processor_of q (run ns m)) (history_at ns m c s) (subst (λ (x : List Event). WaitsAt op (processor_of q (run ns m)) (flags_of x)) (sym same) w_there)
 
-  -- before the first step
-  pub watched_start : Watched ns m zero (λ q c. length (history_of c m)) (λ q c f. true)
-  watched_start = record {
-    lower = λ q c s may. mono ns m each c zero s (omega arith);
-    stands_open = λ q c. refl;
-    passed = λ u h. absurd (omega arith);
-  }
-
   lower_next : (q c k : ℕ) (t s : ℕ) → MayFind ns m q c (suc t) s → ((r : ℕ) → MayFind ns m q c t r → AdvancesAlone ns m q c t r → k ≤ length (history_at ns m c r)) → k ≤ length (history_at ns m c (suc t)) → k ≤ length (history_at ns m c s)
   lower_next q c k t s (channel_advances t2 s2 may none) alone end =
       let before = lower_next q c k t s2 may alone end in

@@ -56,10 +56,6 @@ low_of table q c = slice_index_or table (entry_place q c) no_low
 abbrev pub looks_of : List Looks → ℕ → ℕ → Looks
 looks_of table q c = slice_index_or table (entry_place q c) no_looks
 
--- a table without a look
-pub record AreNoLooks (table : List Looks) : Type 0 where
-  pub each : (entry : ℕ) → entry < entry_count → slice_index_or table entry no_looks ≡ no_looks
-
 -- a word that no step used
 abbrev pub unused : WordUse
 unused = record { writers = 0; users = 0 }

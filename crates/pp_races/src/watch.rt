@@ -249,10 +249,7 @@ pub(crate) fn take_step<A: Allocator>(
 {
     match asked {
         Need::Channel(c, op) => take_asked(machine, n, *c, op, index, low, looks, findings),
-        Need::Nothing => Ok(()),
-        Need::Local => Ok(()),
-        Need::Read(_) => Ok(()),
-        Need::Write(_, _) => Ok(()),
+        _ => Ok(()),
     }
 }
 

@@ -1,7 +1,7 @@
 //! The tables by which a run is watched.
 
 ghost use Rattle.std.specs.Prelude.{◌≡◌, List, IfOk, length};
-ghost use Rattle.pp_races.specs.Tables.{entry_count, AreLow, AreNoLooks, AreUses};
+ghost use Rattle.pp_races.specs.Tables.{entry_count, AreLooks, AreLow, AreUses};
 ghost use Rattle.pp_races.specs.Watch.{unwatched};
 ghost use Rattle.pp_races.specs.WatchTables.{AreTables};
 
@@ -62,10 +62,9 @@ fn first_low<A: Allocator + Copy>(alloc: A, machine: &Machine<A>) -> Result<Vec<
 }
 
 /// No look was made.
-#[tactic(auto, using(crate::proofs::BeginLemmas::replicate_looks))]
 fn first_looks<A: Allocator + Copy>(alloc: A) -> Result<Vec<Looks, A>, Memory>
     ensures entries { IfOk result (λ table. length table.items ≡ entry_count) }
-    ensures looks { IfOk result (λ table. AreNoLooks table.items) }
+    ensures looks { IfOk result (λ table. AreLooks unwatched table.items) }
 {
     Ok(vec![in alloc; Looks::none(); ENTRIES]?)
 }

@@ -1,6 +1,7 @@
-use Rattle.std.proofs.Common.{ℕ, IsTrue, subst}
+use Rattle.std.proofs.Common.{◌≡◌, ℕ, IsTrue, subst, arith}
 use Rattle.pp_channel.specs.ChannelNo.{names_channel}
-use Rattle.pp_machine.specs.PpNo.{processor_number}
+use Rattle.pp_machine.specs.PpNo.{processor_count, processor_number}
+use Rattle.pp_machine.specs.ProcessorPlaces.{place_below}
 use Rattle.pp_races.specs.Tables.{closing_findings}
 use Rattle.pp_races.proofs.CloseLemmas.{closed_more, closed_none, found_more}
 use Rattle.pp_races.proofs.EndLemmas.{each_none}
@@ -19,3 +20,14 @@ loop-place-preserved g c = record {
   found = found_more c.args.made.now c.args.after c.args.looks.now c.loop-place.looks c.loop-place.place c.at.result c.args.findings.now.items c.loop-place.findings.items c.close_looks.new.findings.items
       c.loop-place-test.true c.at.ensures.number c.loop-place.invariant.closed c.loop-place.invariant.found c.in_ok-close_looks.ensures.findings;
 }
+
+pub returns-clause-looks : goal.returns-clause-looks
+returns-clause-looks g c = record {
+  here = λ q named. c.loop-place.invariant.closed.below q named (omega (arith, place_below q named));
+  elsewhere = c.loop-place.invariant.closed.elsewhere;
+}
+
+pub returns-clause-findings : goal.returns-clause-findings
+returns-clause-findings g c =
+    let all : c.loop-place.place ≡ processor_count = omega arith in
+    rw all at c.loop-place.invariant.found

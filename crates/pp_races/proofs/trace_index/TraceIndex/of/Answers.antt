@@ -1,5 +1,5 @@
 use Rattle.std.proofs.Common.{refl, arith}
-use Rattle.std.proofs.lemmas.List.{length-replicate}
+use Rattle.std.proofs.lemmas.List.{length-replicate, take_all, take_more}
 use Rattle.pp_channel.specs.ChannelNo.{channel_count}
 use Rattle.pp_races.proofs.LatestLemmas.{all_none}
 use Rattle.pp_races.proofs.RowLemmas.{no_rows}
@@ -12,3 +12,10 @@ loop-place-init g c = record {
   of_short = no_rows 128 _ (omega arith) c.in_ok-with_capacity.ensures.items;
   of_long = no_rows 8192 _ (omega arith) c.in_ok-with_capacity-2.ensures.items;
 }
+
+pub loop-place-preserved : goal.loop-place-preserved
+loop-place-preserved g c =
+    rw (take_more c.args.trace.now c.loop-place.place c.index-trace-place.result c.loop-place-test.true, ← c.index-trace-place.is) c.in_ok-push.ensures
+
+pub returns : goal.returns
+returns g c = rw (take_all c.loop-place.place c.args.trace.now c.loop-place-test.false) at c.loop-place.invariant
