@@ -28,7 +28,7 @@ use Rattle.pp_runner.proofs.EndLemmas.{worn_later}
 use Rattle.pp_runner.proofs.LateAccesses.{is_late, late_accessed, late_entries, late_finds, made_late}
 use Rattle.pp_runner.specs.Accesses.{HaveAccessed}
 use Rattle.pp_runner.specs.Crew.{IsEnded, HasEnded, AreEnded, HasOpened, worker_of}
-use Rattle.pp_runner.specs.Limits.{RunLimits}
+use Rattle.pp_bounds.specs.Limits.{RunLimits}
 use Rattle.pp_runner.specs.Report.{IsReportOf}
 use Rattle.pp_runner.specs.Labour.{HasSeen, NoneOlder}
 use Rattle.pp_runner.specs.End.{WornWithCause}
