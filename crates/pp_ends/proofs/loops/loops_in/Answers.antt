@@ -1,11 +1,12 @@
-use Rattle.std.proofs.Common.{◌≡◌, ℕ, ◌+◌, ◌%◌, List, length, sym, ap, ◌∙◌, subst, arith}
-use Rattle.std.specs.Prelude.{IsTrue, Option}
+use Rattle.std.proofs.Common.{◌≡◌, ℕ, ◌+◌, ◌%◌, List, length, refl, sym, ap, ◌∙◌, subst, arith}
+use Rattle.std.specs.Prelude.{IsTrue, None, Option}
+use Rattle.std.proofs.lemmas.List.{get_or-replicate}
 use Rattle.pp_run.specs.BareMachine.{StandsFor}
 use Rattle.pp_machine.specs.MachineState.{MachineState}
 use Rattle.pp_machine.specs.MachineStep.{stepped}
 use Rattle.pp_machine.specs.Processor.{Processor}
-use Rattle.pp_machine.specs.PpNo.{names_processor, processor_number}
-use Rattle.pp_machine.specs.ProcessorPlaces.{named_below}
+use Rattle.pp_machine.specs.PpNo.{names_processor, processor_count, processor_index, processor_number}
+use Rattle.pp_machine.specs.ProcessorPlaces.{named_below, place_below}
 use Rattle.pp_machine.specs.Profile.{processor_in_turn}
 use Rattle.pp_machine.specs.RunLaws.{barrel_more}
 use Rattle.pp_ends.specs.Endings.{after_turns}
@@ -13,6 +14,16 @@ use Rattle.pp_ends.specs.Loops.{TellLoops}
 use Rattle.pp_ends.specs.declared.loops.Loop.{Loop}
 use Rattle.pp_ends.proofs.LoopLemmas.{loops_more, noted_places}
 use Rattle.pp_ends.proofs.loops.loops_in.Goals as goal
+
+pub loop-turn-init : goal.loop-turn-init
+loop-turn-init g c =
+    rw c.from-start.ensures
+    (record {
+      ran = c.run_telling-still.ensures.ran c.args.machine.now c.round_of-round.ensures.turns c.in_ok-bare.ensures;
+      on = omega arith;
+      places = refl;
+      loops = λ n names. rw (get_or-replicate {A = Option Loop} processor_count (processor_index n) None None (place_below n names)) (λ turn i. omega (arith, i.from_on, i.before));
+    })
 
 pub loop-turn-preserved : goal.loop-turn-preserved
 loop-turn-preserved g c =
@@ -34,3 +45,6 @@ loop-turn-preserved g c =
           (loops_more c.loop-turn.loops c.args.from turn n c.p-p.result m c.step_telling-moved.result c.loop-turn.invariant.places on is names p
           (c.step_telling-moved.ensures.moved (after_turns turn m) c.loop-turn.invariant.ran) c.loop-turn.invariant.loops);
     }
+
+pub returns : goal.returns
+returns g c = let all : c.loop-turn.turn ≡ c.args.from + c.args.every = omega (arith, c.loop-turn.auto.turn-end) in rw all at c.loop-turn.invariant.loops

@@ -1,6 +1,6 @@
-use Rattle.std.proofs.Common.{ℕ, sym, ap, ◌∙◌, subst, inl, inr, arith}
+use Rattle.std.proofs.Common.{ℕ, subst, arith}
 use Rattle.std.specs.Prelude.{Bool}
-use Rattle.std.proofs.lemmas.Bool.{cases_eq}
+use borrow.Author.Count.{below_more}
 use Rattle.pp_machine.specs.PpNo.{processor_number}
 use Rattle.pp_run.specs.Determinacy.{Waits}
 use Rattle.pp_ends.specs.Endings.{TellsMove}
@@ -12,13 +12,9 @@ returns-then-would_move g c = λ m stands.
     moves_at c.at.result m (subst (λ (b : Bool). TellsMove b c.at.result m) c.if-would_move.true (c.would_move.ensures m stands))
 
 pub loop-place-preserved : goal.loop-place-preserved
-loop-place-preserved g c = λ m stands k low. elim (cases_eq k c.loop-place.place) [
-  | inl same ↦
-      let told : TellsMove _ c.at.result m = subst (λ (b : Bool). TellsMove b c.at.result m) c.if-would_move.false (c.would_move.ensures m stands) in
-      subst (λ (n : ℕ). Waits n m)
-      (c.at.ensures.number ∙ ap processor_number (sym same)) told.waits
-  | inr other ↦ c.loop-place.invariant m stands k (omega (arith, low, other))
-]
+loop-place-preserved g c = λ m stands.
+    let told : TellsMove _ c.at.result m = subst (λ (b : Bool). TellsMove b c.at.result m) c.if-would_move.false (c.would_move.ensures m stands) in
+    below_more (λ (k : ℕ). Waits (processor_number k) m) c.loop-place.place (c.loop-place.invariant m stands) (rw c.at.ensures.number at told.waits)
 
 pub returns : goal.returns
 returns g c = λ m stands.

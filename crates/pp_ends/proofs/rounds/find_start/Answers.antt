@@ -1,5 +1,5 @@
-use Rattle.std.proofs.Common.{◌≡◌, ℕ, ◌+◌, sym, subst, inl, inr, arith}
-use Rattle.std.proofs.lemmas.Bool.{cases_eq}
+use Rattle.std.proofs.Common.{◌≡◌, ℕ, ◌+◌, subst, arith}
+use borrow.Author.Count.{below_more}
 use Rattle.pp_run.specs.BareMachine.{StandsFor}
 use Rattle.pp_ends.specs.Rounds.{AreAlikeAfter, after_rounds}
 use Rattle.pp_ends.proofs.rounds.find_start.Goals as goal
@@ -34,9 +34,9 @@ loop-start-preserved g c =
           let same : (start + period) + 1 ≡ start + 1 + period = omega arith in
           subst (λ (t : ℕ). StandsFor c.run_round-in-loop-start.new.bare (after_rounds t m)) same
           (c.run_round-in-loop-start.ensures (start + period) m round was.late);
-      none = λ k low. elim (cases_eq k start) [
-        | inl same ↦ subst (λ (j : ℕ). ¬ AreAlikeAfter j (j + period) m) (sym same)
-            (c.stand_alike.ensures.differ c.if-stand_alike.false (after_rounds start m) (after_rounds (start + period) m) was.early was.late)
-        | inr other ↦ was.none k (omega (arith, low, other))
-      ];
+      none = below_more (λ (k : ℕ). ¬ AreAlikeAfter k (k + period) m) start was.none
+          (c.stand_alike.ensures.differ c.if-stand_alike.false (after_rounds start m) (after_rounds (start + period) m) was.early was.late);
     }
+
+pub returns : goal.returns
+returns g c = λ k low. c.loop-start.invariant.none k (omega (arith, low, c.loop-start-test.false))

@@ -1,7 +1,22 @@
-use Rattle.std.proofs.Common.{ℕ, ◌/◌, ap, refl, sym, subst}
+use Rattle.std.proofs.Common.{ℕ, ◌*◌, ◌/◌, ◌≤◌, ap, arith, refl, sym, subst}
+use Rattle.std.proofs.Math.Nat.{div-mul-le_self, mul-le-mul_right}
 use Rattle.std.specs.Prelude.{IsNone}
 use Rattle.pp_ends.proofs.FoundLemmas.{goes_on_without_period, goes_on_without_start, repeats_first}
 use Rattle.pp_ends.proofs.run.find_ending.Goals as goal
+
+-- rounds of a run are turns of it
+in_turns : (k turns round : ℕ) → k ≤ turns / round → k * round ≤ turns
+in_turns k turns round low = omega (arith, mul-le-mul_right round low, div-mul-le_self turns round)
+
+pub overflow_mul-result : goal.overflow_mul-result
+overflow_mul-result g c =
+    let start = rw c.in-Some-3.is at c.in_ok-start.ensures in
+    let within : c.in-Some-3.start ≤ c.args.turns / c.round_of-round.result = omega (arith, start.within) in
+    omega (arith, in_turns _ _ _ within, c.ranges.turns.fits)
+
+pub overflow_mul-result-2 : goal.overflow_mul-result-2
+overflow_mul-result-2 g c =
+    let period = rw c.in-Some-2.is at c.in_ok-period.ensures in omega (arith, in_turns _ _ _ period.most, c.ranges.turns.fits)
 
 pub returns-in_default-2 : goal.returns-in_default-2
 returns-in_default-2 g c =

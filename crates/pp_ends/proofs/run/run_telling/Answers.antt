@@ -38,5 +38,4 @@ loop-turn-preserved g c =
 
 pub returns-clause-ran : goal.returns-clause-ran
 returns-clause-ran g c = λ m round stands.
-    let all : c.loop-turn.turn ≡ c.args.turns = omega (arith, c.loop-turn-test.false, c.loop-turn.auto.turn-end) in
-    subst (λ (t : ℕ). StandsFor c.loop-turn.bare (after_turns t m)) all (c.loop-turn.invariant.ran m round stands)
+    let all : c.loop-turn.turn ≡ c.args.turns = omega (arith, c.loop-turn.auto.turn-end) in rw all at (c.loop-turn.invariant.ran m round stands)
