@@ -83,13 +83,9 @@ whole_then s codes whole open_one =
 
 same_sessions : (one other : List (Session × List ℕ)) (a b : Option Session) → sessions_on one a ≡ sessions_on other b → (one ≡ other) × (a ≡ b)
 same_sessions [] [] None None e = (refl, refl)
-same_sessions [] [] None (Some t) e = absurd (cc)
-same_sessions [] [] (Some s) None e = absurd (cc)
 same_sessions [] [] (Some s) (Some t) e = let (same, rest) = same_body s t [] [] tt tt e in (refl, ap Some same)
-same_sessions [] ((t, codes) ∷ other) None b e = absurd (cc)
 same_sessions [] ((t, codes) ∷ other) (Some s) b e =
     let (same, rest) = same_body s t [] (Disconnect ∷ (idle_stretch codes ++ sessions_on other b)) tt tt (e ∙ whole_then t codes other b) in absurd (cc)
-same_sessions ((s, codes) ∷ one) [] a None e = absurd (cc)
 same_sessions ((s, codes) ∷ one) [] a (Some t) e =
     let (same, rest) = same_body s t (Disconnect ∷ (idle_stretch codes ++ sessions_on one a)) [] tt tt (sym (whole_then s codes one a) ∙ e) in absurd (cc)
 same_sessions ((s, codes) ∷ one) ((t, others) ∷ other) a b e =
@@ -98,6 +94,7 @@ same_sessions ((s, codes) ∷ one) ((t, others) ∷ other) a b e =
     let (idle, on) = same_idle codes others (sessions_on one a) (sessions_on other b) (begins_with_session one a) (begins_with_session other b) behind in
     let (wholes, opens) = same_sessions one other a b on in
     (ap (λ (x : Session). (x, codes) ∷ one) same ∙ ap (λ (ks : List ℕ). (t, ks) ∷ one) idle ∙ ap (λ (ps : List (Session × List ℕ)). (t, others) ∷ ps) wholes, opens)
+same_sessions one other a b e = absurd (cc)
 
 pub course_parts : (c : Course) → events_of c ≡ idle_stretch c.first_stretch ++ sessions_on c.whole_sessions c.open_session
 course_parts c = append_assoc (idle_stretch c.first_stretch) (flat_map whole_session c.whole_sessions) (flat_map body (option_to_list c.open_session))

@@ -114,16 +114,14 @@ stretches_are events c is = cut-map (λ (e : TimedEvent). e.event) is_over event
 
 puts_words : (passed : List ℕ) (lone : Option ℕ) (ended : Bool) → puts ((passed_words passed ++ lone_word lone) ++ cond ended (Disconnect ∷ []) []) ≡ passed ++ option_to_list lone
 puts_words [] None true = refl
-puts_words [] None false = refl
 puts_words [] (Some w) true = refl
-puts_words [] (Some w) false = refl
+puts_words [] word ended = refl
 puts_words (w ∷ passed) lone ended = ap (λ (ws : List ℕ). w ∷ ws) (puts_words passed lone ended)
 
 takes_words : (passed : List ℕ) (lone : Option ℕ) (ended : Bool) → takes ((passed_words passed ++ lone_word lone) ++ cond ended (Disconnect ∷ []) []) ≡ passed
 takes_words [] None true = refl
-takes_words [] None false = refl
 takes_words [] (Some w) true = refl
-takes_words [] (Some w) false = refl
+takes_words [] word ended = refl
 takes_words (w ∷ passed) lone ended = ap (λ (ws : List ℕ). w ∷ ws) (takes_words passed lone ended)
 
 -- no word was put after the last Take
@@ -156,9 +154,8 @@ no_take_behind (Some w) false = (refl, tt)
 
 lone_is : (lone : Option ℕ) (ended : Bool) → last_or None (puts (lone_word lone ++ cond ended (Disconnect ∷ []) [])) ≡ lone
 lone_is None true = refl
-lone_is None false = refl
 lone_is (Some w) true = refl
-lone_is (Some w) false = refl
+lone_is word ended = refl
 
 untaken_is : (s : Session) (ended : Bool) → untaken (session_events s ended) ≡ s.lone
 untaken_is s ended =
@@ -210,9 +207,8 @@ of_events (e ∷ events) = ap (cons_option (word_of e.event)) (of_events events)
 
 all_words : (passed : List ℕ) (lone : Option ℕ) (ended : Bool) → filter_map word_of ((passed_words passed ++ lone_word lone) ++ cond ended (Disconnect ∷ []) []) ≡ passed ++ option_to_list lone
 all_words [] None true = refl
-all_words [] None false = refl
 all_words [] (Some w) true = refl
-all_words [] (Some w) false = refl
+all_words [] word ended = refl
 all_words (w ∷ passed) lone ended = ap (λ (ws : List ℕ). w ∷ ws) (all_words passed lone ended)
 
 pub session_words : (s : Session) (ended : Bool) (events : List TimedEvent) → events_in events ≡ session_events s ended → words_in events ≡ s.passed ++ option_to_list s.lone
