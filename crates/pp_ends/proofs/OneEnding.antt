@@ -5,7 +5,7 @@ use Rattle.pp_machine.specs.MachineState.{MachineState}
 use Rattle.pp_ends.specs.declared.ending.Ending.{Ending}
 use Rattle.pp_ends.specs.declared.ending.Ending.TheVariants as endings
 use Rattle.pp_ends.specs.declared.ending.Ending.TheVariants.{AtRest, GoingOn, Stuck}
-use Rattle.pp_ends.specs.Endings.{EndsAtRestFrom, EndsStuckFrom, FirstRepeats, IsEnding, IsStillFrom}
+use Rattle.pp_ends.specs.Endings.{FirstRepeats, IsEnding, IsStillFrom}
 
 no_sooner : (t u turns : ℕ) (m : MachineState) → IsStillFrom t turns m → IsStillFrom u turns m → u ≤ t
 no_sooner t u turns m s other = elim (cases_lt t u) [
@@ -24,9 +24,6 @@ one_repetition t n u k turns m one other =
     let starts : t ≡ u = omega (arith, one.with_it u k other.repeats (sym sums), other.with_it t n one.repeats sums) in
     (starts, omega (arith, sums, starts))
 
-at_rest_and_stuck : (t u turns : ℕ) (m : MachineState) → EndsAtRestFrom t turns m → EndsStuckFrom u turns m → ⊥
-at_rest_and_stuck t u turns m rest stuck = rest.at_rest stuck.running.0 stuck.running.1
-
 pub one_ending : (one other : Ending) (turns : ℕ) (m : MachineState) → IsEnding one turns m → IsEnding other turns m → one ≡ other
 one_ending (AtRest t) (AtRest u) turns m a b = ap (λ (k : ℕ). AtRest k) (one_turn t u turns m a.ends.still b.ends.still)
 one_ending (Stuck t) (Stuck u) turns m a b = ap (λ (k : ℕ). Stuck k) (one_turn t u turns m a.ends.still b.ends.still)
@@ -34,8 +31,8 @@ one_ending (endings.Repeats t n) (endings.Repeats u k) turns m a b =
     let same = one_repetition t n u k turns m a.1 b.1 in
     ap (λ (i : ℕ). endings.Repeats i n) same.0 ∙ ap (λ (i : ℕ). endings.Repeats u i) same.1
 one_ending GoingOn GoingOn turns m a b = refl
-one_ending (AtRest t) (Stuck u) turns m a b = absurd (at_rest_and_stuck t u turns m a b)
-one_ending (Stuck t) (AtRest u) turns m a b = absurd (at_rest_and_stuck u t turns m b a)
+one_ending (AtRest t) (Stuck u) turns m a b = absurd (a.at_rest b.running.0 b.running.1)
+one_ending (Stuck t) (AtRest u) turns m a b = absurd (b.at_rest a.running.0 a.running.1)
 one_ending (AtRest t) (endings.Repeats u k) turns m a b = absurd (b.0 a.ends.quiet)
 one_ending (AtRest t) GoingOn turns m a b = absurd (b.moves a.ends.quiet)
 one_ending (Stuck t) (endings.Repeats u k) turns m a b = absurd (b.0 a.ends.quiet)

@@ -4,7 +4,7 @@ use Rattle.std.specs.Prelude.{◌↔◌}
 use Rattle.std.proofs.lemmas.Bool.{cases_lt}
 use Rattle.std.proofs.lemmas.List.{get_or_past}
 use Rattle.pp_machine.specs.MachineState.{MachineState, processor_of}
-use Rattle.pp_machine.specs.MachineStep.{answer_to, stepped}
+use Rattle.pp_machine.specs.MachineStep.{answer_to}
 use Rattle.pp_machine.specs.NeedAndEffect.{need, processor_after}
 use Rattle.pp_machine.specs.PpMemory.{IsMemory}
 use Rattle.pp_machine.specs.PpNo.{processor_count, processor_index, processor_number}
@@ -19,7 +19,7 @@ use Rattle.pp_ends.specs.Stand.{stand_of}
 use Rattle.pp_ends.proofs.MoveLemmas.{kept_waits}
 use Rattle.pp_ends.proofs.StandLemmas.{stands_still}
 
-by_same : (n : ℕ) (m : MachineState) (before after : Stand) (same : Bool)
+pub by_same : (n : ℕ) (m : MachineState) (before after : Stand) (same : Bool)
     → IsMemory (processor_of n m).memory → before ≡ stand_of (processor_of n m)
     → after ≡ stand_of (processor_after (processor_of n m) (answer_to (need (processor_of n m)) m))
     → IsTrue same ↔ (after ≡ before) → TellsMove (not same) n m
@@ -37,23 +37,6 @@ by_same n m before after false memory was is same = record {
       let bad : false ≡ true = same.1 (is ∙ ap stand_of stays ∙ sym was) in absurd (cc);
   waits = tt;
 }
-
--- by the processor after the step
-pub told_by_step : (n : ℕ) (m : MachineState) (before after : Stand) (same : Bool)
-    → IsMemory (processor_of n m).memory → before ≡ stand_of (processor_of n m)
-    → after ≡ stand_of (processor_of n (stepped n m)) → IsTrue same ↔ (after ≡ before)
-    → TellsMove (not same) n m
-told_by_step n m before after same memory was is told =
-    by_same n m before after same memory was (is ∙ ap stand_of (own_step n m)) told
-
--- by a copy to which the answer was given
-pub told_by_copy : (n : ℕ) (m : MachineState) (after : Processor) (one other : Stand) (same : Bool)
-    → IsMemory (processor_of n m).memory
-    → after ≡ processor_after (processor_of n m) (answer_to (need (processor_of n m)) m)
-    → one ≡ stand_of after → other ≡ stand_of (processor_of n m) → IsTrue same ↔ (one ≡ other)
-    → TellsMove (not same) n m
-told_by_copy n m after one other same memory is stood was told =
-    by_same n m other one same memory was (stood ∙ ap stand_of is) told
 
 -- a processor that no machine has waits
 pub waits_unnamed : (n : ℕ) (m : MachineState) → length m.processors ≤ processor_index n → Waits n m

@@ -5,7 +5,7 @@ use Rattle.pp_machine.specs.NeedAndEffect.{need, processor_after}
 use Rattle.pp_machine.specs.PpMemory.{IsMemory}
 use Rattle.pp_machine.specs.Processor.{Processor}
 use Rattle.pp_ends.specs.Stand.{stand_of}
-use Rattle.pp_ends.proofs.QuietLemmas.{told_by_copy}
+use Rattle.pp_ends.proofs.QuietLemmas.{by_same}
 use Rattle.pp_ends.proofs.quiet.would_move.Goals as goal
 
 pub returns : goal.returns
@@ -15,10 +15,10 @@ returns g c = λ m stands.
     let answer : c.answer_shown-answer.result ≡ answer_to (need (processor_of n m)) m =
     c.answer_shown-answer.ensures.answer m stands
     ∙ ap (λ x. answer_to x m) (c.wants.ensures.need ∙ ap need is) in
-    told_by_copy n m c.give-outcome.new.self c.of.result c.of-2.result c.is_same.result
+    by_same n m c.of-2.result c.of.result c.is_same.result
     (subst (λ (pp : Processor). IsMemory pp.memory) is c.of-2.ensures.widths.memory)
-    (c.give-outcome.ensures.after ∙ ap (λ pp. processor_after pp c.answer_shown-answer.result) (c.copy-after.ensures ∙ is)
-    ∙ ap (processor_after (processor_of n m)) answer)
-    c.of.ensures.stand
     (c.of-2.ensures.stand ∙ ap stand_of is)
+    (c.of.ensures.stand
+    ∙ ap stand_of (c.give-outcome.ensures.after ∙ ap (λ pp. processor_after pp c.answer_shown-answer.result) (c.copy-after.ensures ∙ is)
+    ∙ ap (processor_after (processor_of n m)) answer))
     c.is_same.ensures
