@@ -100,10 +100,7 @@ returns g c =
     let p = c.args.machine.now.profile in
     let m = c.args.machine.now in
     let choice = c.args.choice.now in
-    let all = chosen_steps choice (barrel p c.args.turns) m in
-    let last : c.loop-turn.turn ≡ c.args.turns = omega (arith, c.loop-turn.auto.turn-end, c.loop-turn-test.false) in
+    let last : c.loop-turn.turn ≡ c.args.turns = omega (arith, c.loop-turn.auto.turn-end) in
     let (text, prints, so_far) = c.loop-turn.invariant.printed in
-    let at_end : IsSoFar all (chosen_steps choice (barrel p c.args.turns) m) (chosen_from choice p c.args.turns c.args.turns m) text =
-    subst (λ (k : ℕ). IsSoFar all (chosen_steps choice (barrel p k) m) (chosen_from choice p k c.args.turns m) text) last so_far in
-    subst (λ (x : List ℕ). Prints g.W.Write.contents c.args.text.now c.loop-turn.text x)
-    (everything all (chosen_steps choice (barrel p c.args.turns) m) text (subst (λ (steps : List RunStep). IsSoFar all (chosen_steps choice (barrel p c.args.turns) m) steps text) (none_left choice p c.args.turns m) at_end)) prints
+    let at_end = rw (last, none_left choice p c.args.turns m) at so_far in
+    subst (Prints _ _ _) (everything (chosen_steps choice (barrel p c.args.turns) m) (chosen_steps choice (barrel p c.args.turns) m) text at_end) prints
