@@ -51,31 +51,22 @@ waited n m w =
     (trace_kept n m w (need (processor_of n m)) refl)
 
 -- the turns counted make no difference
-answer_later : (turns : ℕ) (m : MachineState) (x : Need)
-    → answer_to x (record m { turns = turns }) ≡ answer_to x m
-answer_later turns m Nothing = refl
-answer_later turns m other = refl
-
-event_later : (turns : ℕ) (m : MachineState) (x : Need)
-    → event_for x (record m { turns = turns }) ≡ event_for x m
-event_later turns m Nothing = refl
-event_later turns m other = refl
-
-central_later : (turns : ℕ) (m : MachineState) (x : Need)
-    → central_after x (record m { turns = turns }) ≡ central_after x m
-central_later turns m Nothing = refl
-central_later turns m other = refl
+all_later : (turns : ℕ) (m : MachineState) (x : Need) → let later : MachineState = record m { turns = turns } in
+    (answer_to x later ≡ answer_to x m) × (event_for x later ≡ event_for x m) × (central_after x later ≡ central_after x m)
+all_later turns m Nothing = (refl, refl, refl)
+all_later turns m other = (refl, refl, refl)
 
 waits_later : (n turns : ℕ) (m : MachineState) → Waits n m → Waits n (record m { turns = turns })
 waits_later n turns m w =
     let pp = processor_of n m in
     let x = need pp in
     let later : MachineState = record m { turns = turns } in
+    let (answer, event, central) = all_later turns m x in
     record {
-      processor = own_step n later ∙ ap (processor_after pp) (answer_later turns m x)
+      processor = own_step n later ∙ ap (processor_after pp) answer
           ∙ sym (own_step n m) ∙ w.processor;
-      event = event_by n later x refl ∙ event_later turns m x ∙ sym (event_by n m x refl) ∙ w.event;
-      central = central_by n later x refl ∙ central_later turns m x ∙ sym (central_by n m x refl)
+      event = event_by n later x refl ∙ event ∙ sym (event_by n m x refl) ∙ w.event;
+      central = central_by n later x refl ∙ central ∙ sym (central_by n m x refl)
           ∙ w.central;
     }
 
