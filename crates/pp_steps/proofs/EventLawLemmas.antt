@@ -28,7 +28,7 @@ use Rattle.pp_steps.specs.StepsLaw.{entry_of, event_on, is_chosen_event, line_ev
 use Rattle.pp_steps.specs.StepsText.{line_kind, lines_from, with_line, with_lines}
 use Rattle.pp_steps.specs.declared.choice.Choice.{Choice}
 use Rattle.pp_steps.specs.declared.line_kind.LineKind.{LineKind}
-use Rattle.pp_steps.specs.declared.line_kind.LineKind.TheVariants.{NoLine, OneStep, HeldSteps}
+use Rattle.pp_steps.specs.declared.line_kind.LineKind.TheVariants.{OneStep}
 use Rattle.pp_run.specs.declared.progress.Progress.{Progress}
 use Rattle.pp_run.specs.declared.progress.Progress.TheVariants.{Moved}
 
@@ -55,11 +55,8 @@ moved n m e = moved_by (step_outcome n m) (answer_to (need (processor_of n m)) m
 on_channel : (kind : LineKind) (n c : ℕ) (operation : ChanOp) (m : MachineState) (x : Need) (o : Option Event) → x ≡ Channel c operation → event_of operation (history_of c m) ≡ o → ((e : Event) → o ≡ Some e → kind ≡ OneStep)
     → entry_of n (need (processor_of n m)) m ≡ entry_of n x m → event_on kind n m ≡ entry_of n (need (processor_of n m)) m
 on_channel OneStep n c operation m x o is made moves same = refl
-on_channel NoLine n c operation m x (Some e) is made moves same = absurd (let wrong : NoLine ≡ OneStep = moves e refl in cc)
-on_channel (HeldSteps count) n c operation m x (Some e) is made moves same = absurd (let wrong : HeldSteps count ≡ OneStep = moves e refl in cc)
-on_channel NoLine n c operation m x None is made moves same =
-    sym (same ∙ ap (λ (y : Need). entry_of n y m) is ∙ ap (λ (o : Option Event). map (λ (e : Event). record { turn = m.turns; pp = n; channel = c; event = e }) (option_to_list o)) made)
-on_channel (HeldSteps count) n c operation m x None is made moves same =
+on_channel kind n c operation m x (Some e) is made moves same = absurd (let wrong : kind ≡ OneStep = moves e refl in cc)
+on_channel kind n c operation m x None is made moves same =
     sym (same ∙ ap (λ (y : Need). entry_of n y m) is ∙ ap (λ (o : Option Event). map (λ (e : Event). record { turn = m.turns; pp = n; channel = c; event = e }) (option_to_list o)) made)
 
 none_on : (kind : LineKind) (n : ℕ) (m : MachineState) (x : Need) → x ≡ need (processor_of n m) → entry_of n x m ≡ [] → event_on kind n m ≡ entry_of n (need (processor_of n m)) m
@@ -104,8 +101,7 @@ all_or_none : (test : Trace → Bool) (b : Bool) (n c : ℕ) (m : MachineState) 
     → filter test (map (λ (e : Event). record { turn = m.turns; pp = n; channel = c; event = e }) (option_to_list o)) ≡ cond b (map (λ (e : Event). record { turn = m.turns; pp = n; channel = c; event = e }) (option_to_list o)) []
 all_or_none test true n c m None is = refl
 all_or_none test false n c m None is = refl
-all_or_none test true n c m (Some e) is = rw (is e) refl
-all_or_none test false n c m (Some e) is = rw (is e) refl
+all_or_none test chosen n c m (Some e) is = rw (is e) refl
 
 nothing : (b : Bool) (entries : List Trace) → cond b entries entries ≡ entries
 nothing true entries = refl

@@ -130,9 +130,8 @@ all_pass counts cursor (step ∷ own) coming h = all_pass counts (past_step curs
 
 last_is : (cursor : Cursor) (own : List Progress) → (fold past_step cursor own).last ≡ fold (λ last step. step) cursor.last own
 last_is cursor [] = refl
-last_is cursor (AtRest ∷ own) = last_is (past_step cursor AtRest) own
-last_is cursor (Moved ∷ own) = last_is (past_step cursor Moved) own
 last_is cursor (Held f ∷ own) = last_is (past_step cursor (Held f)) own
+last_is cursor (other ∷ own) = last_is (past_step cursor other) own
 
 -- the line of a step that comes after some steps of its processor and before others
 pub line_is : (own : List Progress) (step : Progress) (coming : List Progress) → line_at (fold with_step no_spells (own ++ step ∷ coming)) (fold past_step no_cursor own) step ≡ line_kind (last_of own) step coming
