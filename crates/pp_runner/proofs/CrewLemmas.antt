@@ -1,13 +1,9 @@
 -- A worker and its line more.
-use Rattle.std.proofs.Common.{◌≡◌, ℕ, suc, ◌+◌, ◌-◌, ◌*◌, ◌<◌, ◌≤◌, List, [], ◌∷◌, ◌++◌, length, take, refl, sym, ap, ◌∙◌, subst, arith}
-use Rattle.std.specs.Prelude.{All, slice_index_or}
-use Rattle.std.specs.List.{AllZip}
-use Rattle.std.specs.PromisedHandle.{KeepsEach}
-use Rattle.std.specs.declared.thread.Promise as Promise
-use Rattle.std.specs.declared.thread.PromisedHandle.{PromisedHandle}
+use Rattle.std.proofs.Common.{◌≡◌, ℕ, ◌+◌, ◌-◌, ◌*◌, ◌<◌, ◌≤◌, List, [], ◌∷◌, ◌++◌, length, take, sym, ap, ◌∙◌, subst, arith}
+use Rattle.std.specs.Prelude.{Some, All, slice_index_or}
 use Rattle.pp_line.proofs.JoinedLines.{zip_push}
-use Rattle.std.proofs.lemmas.List.{take_more}
-use Rattle.std.proofs.lemmas.List.Elements.{All-push, All-weaker}
+use Rattle.std.proofs.lemmas.List.{take_more, length-append}
+use Rattle.std.proofs.lemmas.List.Elements.{All-pop, All-push, All-weaker}
 use Rattle.pp_word.specs.Subsequence.{IsSubsequence}
 use Rattle.pp_word.specs.Subsequences.{stands_more}
 use Rattle.pp_line.specs.LineState.{LineState, IsSplitFrom}
@@ -19,14 +15,13 @@ use Rattle.pp_runner.specs.Types.{End, Ended, Entry}
 use Rattle.pp_machine.specs.Headline.{opening_history}
 use Rattle.pp_machine.specs.MachineState.{MachineState, processor_of}
 use Rattle.pp_machine.specs.Processor.{Processor, no_processor}
-use Rattle.pp_machine.specs.PpNo.{processor_count, processor_index}
+use Rattle.pp_machine.specs.PpNo.{processor_count, processor_index, processor_number}
+use Rattle.pp_machine.specs.ProcessorPlaces.{place_of_number}
 use Rattle.pp_machine.specs.Replay.{looks_and_events}
 use Rattle.pp_runner.proofs.LabourLemmas.{work_begun}
 use Rattle.pp_runner.proofs.LogLemmas.{stands_done}
 use Rattle.pp_runner.proofs.LineLemmas.{operated_least, same_line_still, same_line_twice}
-use Rattle.pp_runner.specs.Crew.{IsEnded, IsPromised, HasEnded, HasOpened}
-use Rattle.pp_runner.specs.declared.crew.EndOf.{EndOf}
-use Rattle.pp_runner.specs.declared.site.Site.{Site}
+use Rattle.pp_runner.specs.Crew.{AreReady, IsEnded, HasEnded, AreEnded, HasOpened}
 use Rattle.pp_runner.specs.Labour.{IsAtWork, IsUnused, HasSeen, IsSameLine, HasOperated}
 use Rattle.pp_runner.specs.End.{IsEnd, WornWithCause}
 use Rattle.pp_runner.specs.WorkerReport.{events_in, sights_in}
@@ -86,49 +81,82 @@ pub not_given_up : {A : Type 0} (patience : ℕ) (line : LineState) (finish : En
     → ended.0.finish ≡ finish → (ended.0.finish ≡ Patience → length line.view.found + patience ≤ length ended.1.view.found)
 not_given_up patience line finish ended other was = λ is. absurd (other (sym was ∙ is))
 
+-- the processor of the place behind so many
+place_behind : (n place : ℕ) → n ≡ processor_number place → place < processor_count → processor_index n ≡ place
+place_behind n place is below = ap processor_index is ∙ place_of_number place below
+
 -- the first processors, with the one that comes next
 processors_push : (m : MachineState) (n place : ℕ) → processor_index n ≡ place → place < length m.processors → take (place + 1) m.processors ≡ take place m.processors ++ processor_of n m ∷ []
 processors_push m n place at below =
     take_more m.processors place no_processor below ∙ ap (λ k. take place m.processors ++ slice_index_or m.processors k no_processor ∷ []) (sym at)
 
--- nothing was asked of a line that was just split from another
-pub split_unused : (size steps : ℕ) (family line : LineState) → IsSplitFrom family (2 * steps + 1) line → length family.view.central ≡ size → IsUnused size steps line
-split_unused size steps family line fresh central = record {
-  log = fresh.log;
-  central = ap (λ v. length v.central) fresh.view ∙ central;
-  written = ap (λ v. v.written) fresh.view;
-  program_orders = ap (λ v. v.program_orders) fresh.view;
+-- the last line, and those before it
+pub record IsTaken (m : MachineState) (size room : ℕ) (family line : LineState) (others : List LineState) : Type 0 where
+  pub each : length m.processors ≡ processor_count
+  pub count : length others < processor_count
+  pub fresh : IsSplitFrom family room line
+  pub fresh_others : All (IsSplitFrom family room) others
+  pub central : length family.view.central ≡ size
+
+pub taken_of : (m : MachineState) (size room : ℕ) (family line : LineState) (lines others : List LineState) → lines ≡ others ++ line ∷ [] → AreReady m size room family lines → IsTaken m size room family line others
+taken_of m size room family line lines others is ready =
+    let parts = All-pop (IsSplitFrom family room) lines others (Some line) is ready.fresh in record {
+      each = ready.each;
+      count = omega (arith, ready.count, ap length is, length-append others (line ∷ []));
+      fresh = parts.1;
+      fresh_others = parts.0;
+      central = ready.central;
+    }
+
+-- nothing was asked of the last line
+pub taken_unused : (m : MachineState) (size steps : ℕ) (family line : LineState) (others : List LineState) → IsTaken m size (2 * steps + 1) family line others → IsUnused size steps line
+taken_unused m size steps family line others taken = record {
+  log = taken.fresh.log;
+  central = ap (λ v. length v.central) taken.fresh.view ∙ taken.central;
+  written = ap (λ v. v.written) taken.fresh.view;
+  program_orders = ap (λ v. v.program_orders) taken.fresh.view;
 }
 
--- what goes with the first processors, and what goes with the next
-pub beside_more : {X : Type 0} (R : Processor → X → Type 0) (m : MachineState) (n place total : ℕ) (xs after : List X) (x : X) → length m.processors ≡ processor_count → processor_index n ≡ place → place < processor_count
-    → total ≡ place + 1 → after ≡ xs ++ x ∷ [] → AllZip R (take place m.processors) xs → R (processor_of n m) x → AllZip R (take total m.processors) after
-beside_more R m n place total xs after x each at below sum is all one =
-    rw (sum, is, processors_push m n place at (omega (arith, below, each))) (zip_push R (take place m.processors) xs (processor_of n m) x all one)
+-- where there were several lines, some are left
+pub some_left : (lines others : List LineState) (line : LineState) → lines ≡ others ++ line ∷ [] → 1 < length lines → 0 < length others
+some_left lines others line is several = omega (arith, several, ap length is, length-append others (line ∷ []))
 
--- each thread has kept its promise
-pub each_kept : {X T P : Type 0} (g : Promise.Ghosts P T) (Q : X → PromisedHandle T P → Type 0) (R : X → T → Type 0) → ((x : X) (h : PromisedHandle T P) (r : T) → Q x h → g.kept_by h.promise r → R x r)
-    → (xs : List X) (hs : List (PromisedHandle T P)) (rs : List T) → AllZip Q xs hs → length rs ≡ length hs → KeepsEach g (length hs) hs rs → AllZip R xs rs
-each_kept g Q R says [] [] [] all same kept = tt
-each_kept g Q R says [] [] (r ∷ rs) all same kept = cc
-each_kept g Q R says [] (h ∷ hs) rs all same kept = absurd all
-each_kept g Q R says (x ∷ xs) [] rs all same kept = absurd all
-each_kept g Q R says (x ∷ xs) (h ∷ hs) [] all same kept = cc
-each_kept {P = P} g Q R says (x ∷ xs) (h ∷ hs) (r ∷ rs) all same kept =
-    let first = (kept 0 r (omega arith)).1 in (
-      says x h r all.0 (subst (λ one. g.kept_by one.promise r) first.handle_is first.kept),
-      each_kept g Q R says xs hs rs all.1 (omega (arith, same))
-          (λ i d below. let next = (kept (suc i) d (omega (arith, below))).1 in (refl, record { handle = next.handle; handle_is = next.handle_is; kept = next.kept })),
-    )
-
--- a worker that promised to end, and did
-pub ended_as_promised : {A : Type 0} (site : Site A) (family : LineState) (load : Processor) (promise : EndOf A) (ended : Ended A × LineState) → IsPromised site family load promise
-    → IsEnded promise.load.now promise.site.now.size promise.site.now.limits.steps promise.line.value ended.0 ended.1 → HasEnded load site.size site.limits.steps (2 * site.limits.steps + 1) family ended
-ended_as_promised site family load promise ended is has = record {
-  line = promise.line.value;
-  fresh = is.fresh;
-  has = rw (is.load_is, is.site_is) at has;
+-- those before the last are ready too
+pub ready_before : (m : MachineState) (size room : ℕ) (family line : LineState) (others : List LineState) → IsTaken m size room family line others → 0 < length others → AreReady m size room family others
+ready_before m size room family line others taken some = record {
+  each = taken.each;
+  count = omega (arith, taken.count);
+  some = some;
+  fresh = taken.fresh_others;
+  central = taken.central;
 }
+
+-- workers, and the one behind them
+pub ended_beside : {A : Type 0} (m : MachineState) (n room size steps left total : ℕ) (family line : LineState) (others : List LineState) (crew after : List (Ended A × LineState)) (last : Ended A × LineState)
+    → IsTaken m size room family line others → n ≡ processor_number left → left ≡ length others → total ≡ left + 1
+    → IsEnded (processor_of n m) size steps line last.0 last.1 → AreEnded (take left m.processors) size steps room family crew → after ≡ crew ++ last ∷ []
+    → AreEnded (take total m.processors) size steps room family after
+ended_beside {A} m n room size steps left total family line others crew after last taken at those sum one all after_is =
+    let below : left < processor_count = omega (arith, taken.count, those) in
+    let loads : take (left + 1) m.processors ≡ take left m.processors ++ processor_of n m ∷ [] =
+    processors_push m n left (place_behind n left at below) (omega (arith, below, taken.each)) in
+    let ended : AreEnded (take left m.processors ++ processor_of n m ∷ []) size steps room family (crew ++ last ∷ []) =
+    zip_push (λ load pair. HasEnded load size steps room family pair) (take left m.processors) crew (processor_of n m) last all (record { line = line; fresh = taken.fresh; has = one }) in
+    rw (sum, loads, after_is) ended
+
+-- the first worker, behind which there is none
+pub ended_alone : {A : Type 0} (m : MachineState) (n room size steps total : ℕ) (load : Processor) (family line : LineState) (lines others : List LineState) (crew after : List (Ended A × LineState)) (last : Ended A × LineState)
+    → AreReady m size room family lines → lines ≡ others ++ line ∷ [] → total ≡ length lines → total ≤ 1 → n ≡ processor_number (length others) → load ≡ processor_of n m
+    → IsEnded load size steps line last.0 last.1 → crew ≡ [] → after ≡ crew ++ last ∷ [] → AreEnded (take total m.processors) size steps room family after
+ended_alone {A} m n room size steps total load family line lines others crew after last ready is sum few at load_is one nobody after_is =
+    let none : length others ≡ 0 = omega (arith, ap length is, length-append others (line ∷ []), sum, few) in
+    ended_beside m n room size steps 0 total family line others crew after last (taken_of m size room family line lines others is ready) (at ∙ ap processor_number none) (sym none) (omega (arith, sum, few, ready.some))
+    (subst (λ (p : Processor). IsEnded p size steps line last.0 last.1) load_is one) (rw nobody tt) after_is
+
+-- what a promise says, in the words of what it was made from
+pub promised : {A : Type 0} (load was : Processor) (size steps steps_was : ℕ) (line line_was : LineState) (ended : Ended A × LineState) → was ≡ load → steps_was ≡ steps → line_was ≡ line
+    → IsEnded was size steps_was line_was ended.0 ended.1 → IsEnded load size steps line ended.0 ended.1
+promised load was size steps steps_was line line_was ended a b c h = rw (← a, ← b, ← c) h
 
 -- a line that gives a share to another has one less, and has opened what it had
 pub opened_split : (m : MachineState) (all some : ℕ) (first after : LineState) → after ≡ record first { view = parent_view first.view } → HasOpened m all some first → HasOpened m all (some - 1) after

@@ -1,38 +1,25 @@
 -- Workers that have ended, each with the log of its line.
-use Rattle.std.proofs.Common.{◌≡◌, ℕ, ◌+◌, ◌*◌, ◌≤◌, take, List, [], ◌∷◌, ◌++◌, map, length, refl, sym, ap, ◌∙◌, subst, arith}
+use Rattle.std.proofs.Common.{◌≡◌, ℕ, ◌+◌, ◌≤◌, List, [], ◌∷◌, ◌++◌, map, length, refl, sym, ap, ◌∙◌, subst, arith}
 use Rattle.std.specs.Prelude.{All}
 use Rattle.std.specs.List.{AllZip, filter, flat_map}
 use Rattle.std.specs.declared.vec.Vec.{Vec}
-use Rattle.std.proofs.lemmas.List.Elements.{All-append, All-cons, All-head, All-nil, All-tail, All-weaker}
-use Rattle.std.proofs.lemmas.List.{length-take-le}
-use Rattle.std.proofs.lemmas.List.Folds.{flat_map-map}
+use Rattle.std.proofs.lemmas.List.Elements.{All-append, All-cons, All-head, All-nil, All-tail}
 use Rattle.std.proofs.lemmas.Slice.Zip.{AllZip-long}
-use Rattle.pp_line.specs.LineState.{LineState, joined, all_joined, lines_of, IsLogBeside, SeesAtLeast, AreClosed, AreInOneOrder}
-use Rattle.pp_line.specs.Merge.{IsRecordedBy, Merges, no_opening}
-use Rattle.pp_line.proofs.JoinedLines.{joined_entries, joined_whole, same_logs}
-use Rattle.pp_line.proofs.OpeningLemmas.{merges_after}
-use Rattle.pp_line.proofs.OrderLemmas.{order_later}
+use Rattle.pp_line.specs.LineState.{LineState, joined, all_joined, lines_of, IsLogBeside}
 use Rattle.pp_channel.specs.History.{history_on}
 use Rattle.pp_channel.specs.Law.{IsPrefix}
-use Rattle.pp_line.specs.Order.{AreMade, ExtendsEach, FindsWords, IsDrawnFrom, IsTotalOrderOf, entries_among, writes_among}
-use Rattle.pp_runner.specs.Types.{Access, Ended, Entry, Event, Report, Worker}
+use Rattle.pp_line.specs.Order.{ExtendsEach, IsDrawnFrom, writes_among}
+use Rattle.pp_runner.specs.Types.{Access, Ended, Entry, Event, Worker}
 use Rattle.pp_line.specs.LineLog.{seen_on}
-use Rattle.pp_machine.specs.Headline.{opening_history}
-use Rattle.pp_machine.specs.MachineState.{MachineState}
-use Rattle.pp_machine.specs.PpNo.{processor_count}
 use Rattle.pp_machine.specs.Processor.{Processor}
-use Rattle.pp_machine.specs.Profile.{processors_in}
-use Rattle.pp_machine.specs.ProfilePlaces.{most_processors}
 use Rattle.pp_runner.proofs.CrewLemmas.{same_seen}
 use Rattle.pp_runner.proofs.EndLemmas.{worn_later}
-use Rattle.pp_runner.proofs.LateAccesses.{is_late, late_accessed, late_entries, late_finds, made_late}
+use Rattle.pp_runner.proofs.LateAccesses.{is_late, late_accessed}
 use Rattle.pp_runner.specs.Accesses.{HaveAccessed}
-use Rattle.pp_runner.specs.Crew.{IsEnded, HasEnded, AreEnded, HasOpened, worker_of}
-use Rattle.pp_bounds.specs.Limits.{RunLimits}
-use Rattle.pp_runner.specs.Report.{IsReportOf}
+use Rattle.pp_runner.specs.Crew.{IsEnded, HasEnded, AreEnded, worker_of}
 use Rattle.pp_runner.specs.Labour.{HasSeen, NoneOlder}
 use Rattle.pp_runner.specs.End.{WornWithCause}
-use Rattle.pp_runner.specs.WorkerReport.{AreWorkers, IsWorker, logs_of}
+use Rattle.pp_runner.specs.WorkerReport.{AreWorkers}
 
 module _ {A : Type 0} (size steps room : ℕ) (family : LineState) where
   -- what holds of each that has ended
@@ -122,47 +109,3 @@ module _ {A : Type 0} (size steps room : ℕ) (family : LineState) (opening : �
         );
         written = λ j. one.made.written j ++ more.written j;
       }
-
--- what the line that opened channels and the workers leave, when all lines are closed together
-pub report_of : {A : Type 0} (m : MachineState) (limits : RunLimits) (first : LineState) (crew : List (Ended A × LineState)) (logs : List (Ended A × Vec Entry A)) (report : Report A) → length m.processors ≡ processor_count
-    → HasOpened m (processors_in m.profile + 1) 1 first → AreEnded (take (processors_in m.profile) m.processors) (length m.central) limits.steps (2 * limits.steps + 1) first crew → AreClosed (all_joined first (lines_of crew)) report.channels
-    → AreInOneOrder first.view.central report.channels (first ∷ lines_of crew) → AllZip (λ ended log. IsLogBeside ended log) crew logs → All (λ l. SeesAtLeast l (all_joined first (lines_of crew))) (lines_of crew) → report.ends.items ≡ map worker_of logs
-    → IsReportOf limits m report
-report_of {A} m limits first crew logs report processors opened ended closed in_order beside forgotten given =
-    let p = m.profile in
-    let size = length m.central in
-    let room = 2 * limits.steps + 1 in
-    let loads = take (processors_in p) m.processors in
-    let lines = lines_of crew in
-    let ws : List (Worker A) = map worker_of logs in
-    let channels = report.channels in
-    let few = most_processors p in
-    let each : length loads ≡ processors_in p = length-take-le (processors_in p) m.processors (omega (arith, processors, few)) in
-    let shares = ended_shares size limits.steps room first loads crew first ended in
-    let whole = joined_whole first lines in
-    let known : IsRecordedBy (all_joined first lines).log.entries (all_joined first lines).view.seen channels = closed.known.all_known (omega (arith, shares, whole, each, opened.shares, opened.whole)) in
-    let opening : ℕ → List Event = λ k. opening_history k m in
-    let same : logs_of ws ≡ flat_map (λ l. l.log.entries) lines = flat_map-map (λ w. w.log.items) worker_of logs ∙ same_logs crew logs beside in
-    let seen : All (HasFew (λ k. length (history_on k channels))) lines =
-    All-weaker (λ (l : LineState). SeesAtLeast l (all_joined first lines)) (HasFew (λ k. length (history_on k channels))) (λ l less k. let all = known.counted k in let here = less k in omega (arith, all, here)) lines forgotten in
-    let merged = merges_after opening channels first.log.entries (flat_map (λ l. l.log.entries) lines) opened.opening (subst (Merges no_opening channels) (joined_entries first lines) closed.merged) in
-    let order = in_order.order in
-    let left = ended_left size limits.steps room first opening channels merged.begins opened.seen (λ k. length (history_on k channels)) order loads crew logs beside seen
-    (All-tail (IsExtended order) first lines in_order.program_orders) (All-tail IsDrawn first lines in_order.logs) ended in
-    let writes : flat_map (λ l. l.view.written) (first ∷ lines) ≡ flat_map writes_among left.accesses = (λ j. opened.no_write j ++ left.written j) in record {
-      each_processor = ap length given ∙ (AllZip-long (λ load w. IsWorker load size limits.steps w) loads ws left.workers ∙ each);
-      workers = rw given left.workers;
-      each_channel = closed.known.sound.each_channel;
-      lawful = closed.known.sound.lawful;
-      law = closed.law;
-      twelve_bits = closed.known.sound.twelve_bits;
-      merged = rw (given, same) merged;
-      begun = rw (given, same) (ended_begun size limits.steps room first loads crew (λ k. length (opening k)) opened.seen ended);
-      order = filter (is_late opening channels merged.begins) order;
-      total = subst (IsTotalOrderOf opening channels) (sym (late_entries opening channels merged.begins order)) (order_later opening channels (entries_among order) merged.begins in_order.total);
-      finds = late_finds opening channels merged.begins m.central order (subst (λ (words : List ℕ). FindsWords words order) opened.central in_order.finds);
-      accesses = left.accesses;
-      accessed = rw given left.accessed;
-      made = made_late opening channels merged.begins (flat_map writes_among left.accesses) order (subst (λ (ws : List ℕ). AreMade ws order) writes in_order.made);
-      worn = rw given left.worn;
-    }

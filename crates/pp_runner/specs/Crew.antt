@@ -1,7 +1,6 @@
 -- Workers that run at once, with their lines. (Only private contracts cite this.)
-use Rattle.std.specs.Prelude.{◌≡◌, ◌+◌, ◌*◌, ◌≤◌, ℕ, List, [], All, length}
+use Rattle.std.specs.Prelude.{◌≡◌, ◌<◌, ◌≤◌, ℕ, List, [], All, length}
 use Rattle.std.specs.List.{AllZip}
-use Rattle.std.specs.declared.thread.PromisedHandle.{PromisedHandle}
 use Rattle.std.specs.declared.vec.Vec.{Vec}
 use Rattle.pp_line.specs.LineState.{LineState, IsSplitFrom}
 use Rattle.pp_line.specs.LineLog.{seen_on}
@@ -14,8 +13,6 @@ use Rattle.pp_machine.specs.PpNo.{processor_count}
 use Rattle.pp_runner.specs.Labour.{HasMade, HasSeen, IsSameLine}
 use Rattle.pp_runner.specs.End.{WornWithCause}
 use Rattle.pp_runner.specs.WorkerReport.{IsWorker}
-use Rattle.pp_runner.specs.declared.crew.EndOf.{EndOf}
-use Rattle.pp_runner.specs.declared.site.Site.{Site}
 
 -- The workers of the barrel's first processors are ready, each on one of lines split from one,
 -- beside central memory of this size.
@@ -23,6 +20,7 @@ pub record AreReady (m : MachineState) (size room : ℕ) (family : LineState)
     (lines : List LineState) : Type 0 where
   pub each : length m.processors ≡ processor_count
   pub count : length lines ≤ processor_count
+  pub some : 0 < length lines
   pub central : length family.view.central ≡ size
   pub fresh : All (IsSplitFrom family room) lines
 
@@ -63,17 +61,3 @@ abbrev pub AreEnded : {A : Type 0} → List Processor → ℕ → ℕ → ℕ �
     → List (Ended A × LineState) → Type 0
 AreEnded loads size steps room family crew =
     AllZip (λ load ended. HasEnded load size steps room family ended) loads crew
-
--- A thread promises to end as a worker on this site that began with this processor, and with a line
--- that was split from this family's.
-pub record IsPromised {A : Type 0} (site : Site A) (family : LineState) (load : Processor)
-    (promise : EndOf A) : Type 0 where
-  pub load_is : promise.load.now ≡ load
-  pub site_is : promise.site.now ≡ site
-  pub fresh : IsSplitFrom family (2 * site.limits.steps + 1) promise.line.value
-
--- for each of these processors a thread, in their order
-abbrev pub ArePromised : {A T : Type 0} → Site A → LineState → List Processor
-    → List (PromisedHandle T (EndOf A)) → Type 0
-ArePromised site family loads threads =
-    AllZip (λ load thread. IsPromised site family load thread.promise) loads threads

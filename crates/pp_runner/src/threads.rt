@@ -19,6 +19,7 @@ use pp_channel::Memory;
 use pp_line::{Closed, Line};
 use pp_machine::Machine;
 use std::alloc::Allocator;
+use std::snapshot::Snapshot;
 use std::sync::Wait;
 use std::thread::Threads;
 
@@ -71,7 +72,8 @@ pub fn run_threads<R: Threads + Wait + Sync, G: Gate + Sync, A: Allocator + Copy
     };
     // Two entries an answer at most, and a look at which the worker gives up.
     let (first, lines) = open_family(alloc, machine, 2 * limits.steps() + 1)?;
-    let crew = run_first(rt, &site, gate, machine, &first, lines)?;
+    let family = Snapshot::of(&first);
+    let crew = run_first(rt, &site, gate, machine, family, lines)?;
     // The events of the line that opened channels stand in no worker's log.
     let Closed { logs, channels } = first.close_with(crew)?;
     Ok(Report {

@@ -1,5 +1,0 @@
-use Rattle.std.proofs.Common.{rules}
-use Rattle.pp_runner.proofs.crew.fn.run_first.scope+FnOnce.call_once.Goals as goal
-
-pub scope-requires : goal.scope-requires
-scope-requires g c = search rules
